@@ -1,0 +1,7 @@
+pub mod Whole
+pub mod Written
+pub mod Grow
+pub mod Join
+pub mod Begins
+pub mod Only
+mod Rows

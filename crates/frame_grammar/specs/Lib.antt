@@ -1,0 +1,3 @@
+pub mod Frame
+pub mod Found
+pub mod Cut

@@ -1,0 +1,43 @@
+// The bytes of a frame that its kind, or the bytes before them, determine.
+ghost use Rattle.std.specs.Prelude.{◌≡◌, ◌%◌, sum};
+ghost use Rattle.frame_grammar.specs.Frame.{opening, trailer};
+
+use crate::Kind;
+use crate::frame::SOH;
+
+/// `8=`, the BeginString of a kind, SOH and `9=`.
+pub fn opening_of(kind: Kind) -> &'static [u8]
+    ensures { result.now ≡ opening kind }
+{
+    match kind {
+        Kind::Fix42 => b"8=FIX.4.2\x019=",
+        Kind::Fixt11 => b"8=FIXT.1.1\x019=",
+    }
+}
+
+// The sum of the bytes, modulo 256.
+fn sum_of(bytes: &[u8]) -> u8
+    ensures { result ≡ sum bytes.now % 256 }
+{
+    let mut total: u8 = 0;
+    for byte in bytes {
+        total = total.wrapping_add(*byte);
+    }
+    total
+}
+
+/// CheckSum (10) after these bytes, with its tag and SOH.
+pub fn trailer_of(before: &[u8]) -> [u8; 7]
+    ensures { result ≡ trailer before.now }
+{
+    let total = sum_of(before);
+    [
+        b'1',
+        b'0',
+        b'=',
+        b'0' + total / 100,
+        b'0' + total / 10 % 10,
+        b'0' + total % 10,
+        SOH,
+    ]
+}
