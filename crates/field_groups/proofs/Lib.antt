@@ -1,0 +1,6 @@
+pub mod Places
+pub mod Reading
+pub mod Taking
+pub mod Front
+pub mod Determined
+pub mod Whole

@@ -1,0 +1,17 @@
+//! The fields of a body: `tag=value`, each ended by SOH (byte 1), in order.
+//!
+//! FIX 4.2, "FIX Message Format and Delivery", "Message Format" and "Field Delimiter";
+//! FIX 5.0 SP2, volume 1, "FIX Tag=Value Syntax", the same parts.
+#![tactic(auto)]
+
+mod fault;
+mod fields;
+mod laws;
+mod splitting;
+#[cfg(test)]
+mod tests;
+
+pub use fault::SplitFault;
+pub use fields::{Fields, Split};
+pub use laws::{every_body_splits, fields_are_determined, fields_read_again};
+pub use splitting::split;
