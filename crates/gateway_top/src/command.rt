@@ -1,0 +1,40 @@
+//! The forms of the command line.
+
+ghost use Rattle.std.specs.Prelude.{◌≡◌, map};
+ghost use Rattle.std.specs.String.{string_bytes};
+ghost use Rattle.gateway_top.specs.Words.{command_of};
+
+/// What the words of the command line ask for.
+#[derive(Clone, Copy, Debug, PartialEq, Eq)]
+pub enum Command {
+    /// `--help`: how the program is called.
+    Help,
+    /// `--version`: which program this is.
+    Version,
+    /// `translate up`: the orders of a client as the venue takes them.
+    TranslateUp,
+    /// `check client`: what stands in a stream of FIX 4.2.
+    CheckClient,
+    /// `check venue`: what stands in a stream of FIXT 1.1.
+    CheckVenue,
+}
+
+/// The command of these words; `None` where they are none of the forms.
+pub(crate) fn read_command(words: &[String]) -> Option<Command>
+    ensures { result ≡ command_of (map string_bytes words.now) }
+{
+    match words {
+        [word] if word.as_str() == "--help" => Some(Command::Help),
+        [word] if word.as_str() == "--version" => Some(Command::Version),
+        [first, second] if first.as_str() == "translate" && second.as_str() == "up" => {
+            Some(Command::TranslateUp)
+        }
+        [first, second] if first.as_str() == "check" && second.as_str() == "client" => {
+            Some(Command::CheckClient)
+        }
+        [first, second] if first.as_str() == "check" && second.as_str() == "venue" => {
+            Some(Command::CheckVenue)
+        }
+        _ => None,
+    }
+}
