@@ -4,3 +4,4 @@ pub mod Taking
 pub mod Front
 pub mod Determined
 pub mod Whole
+pub mod Rows

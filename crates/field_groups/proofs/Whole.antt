@@ -1,5 +1,5 @@
 -- Each body has a list of fields, and a fault or none.
-use Rattle.std.proofs.Common.{◌≡◌, ◌≢◌, ℕ, zero, suc, ◌+◌, ◌<◌, ◌≤◌, Bool, true, false, List, [], ◌∷◌, ◌++◌, length, get_or, take, drop, Option, Some, None, refl, sym, ap, subst, ◌∙◌, arith, rules, append_assoc, length-append, length-take, eqb, inl, inr, ⊎_elim}
+use Rattle.std.proofs.Common.{◌≡◌, ℕ, zero, suc, ◌+◌, ◌<◌, ◌≤◌, Bool, true, false, List, [], ◌∷◌, ◌++◌, length, get_or, take, Option, Some, None, refl, sym, ap, subst, ◌∙◌, arith, append_assoc, length-append, length-take, ⊎_elim}
 use Rattle.std.specs.Prelude.{All}
 use Rattle.std.specs.Fmt.{decimal}
 use Rattle.std.specs.List.{list_any, position_or_len, before_first, after_first}
@@ -26,8 +26,8 @@ before-none : (bytes : List ℕ) → list_any is_soh (before_first is_soh bytes)
 before-none bytes =
     let place = position_or_len is_soh bytes in
     list_any_none is_soh (take place bytes) (All-from_get_or (λ (b : ℕ). is_soh b ≡ false) (take place bytes) 0 (λ k lt.
-      let below : k < place = omega (arith, length-take place bytes) in
-      rw (get_or-take place bytes k 0 below) (fails_before_first is_soh bytes k 0 below)))
+    let below : k < place = omega (arith, length-take place bytes) in
+    rw (get_or-take place bytes k 0 below) (fails_before_first is_soh bytes k 0 below)))
 
 value_written : (bytes : List ℕ) → list_any is_soh bytes ≡ true → bytes ≡ before_first is_soh bytes ++ 1 ∷ after_first is_soh bytes
 value_written bytes some =
@@ -80,8 +80,8 @@ more room count place left f after good is way = record {
   at_most = omega (arith, way.at_most);
   written = is ∙ ap (λ (bs : List ℕ). field_bytes f ++ bs) way.written ∙ sym (append_assoc (field_bytes f) (body_of way.fields) way.rest);
   stopped =
-    moved (count + 1 + length way.fields) (count + length (f ∷ way.fields)) (place + length (field_bytes f) + length (body_of way.fields)) (place + length (body_of (f ∷ way.fields)))
-    way.rest way.fault (omega arith) (omega (arith, length-append (field_bytes f) (body_of way.fields))) way.stopped;
+      moved (count + 1 + length way.fields) (count + length (f ∷ way.fields)) (place + length (field_bytes f) + length (body_of way.fields)) (place + length (body_of (f ∷ way.fields)))
+      way.rest way.fault (omega arith) (omega (arith, length-append (field_bytes f) (body_of way.fields))) way.stopped;
 }
 
 -- by the three tests of the field at the front

@@ -1,5 +1,7 @@
 //! The fields of a body, in order.
 
+ghost use Rattle.std.specs.Prelude.{◌≡◌, ◌==◌, position};
+
 use crate::fault::SplitFault;
 use std::alloc::{AllocError, Global};
 use std::marker::Model;
@@ -73,8 +75,6 @@ impl<'a> Fields<'a> {
         first_place(&self.parts, tag)
     }
 }
-
-ghost use Rattle.std.specs.Prelude.{◌≡◌, ◌==◌, position};
 
 /// The place of the first part with this tag.
 fn first_place(parts: &[Part<'_>], tag: u32) -> Option<usize>

@@ -28,7 +28,7 @@ expect_text (t ∷ text) rest cause go = if_true (t == t) _ _ (same_byte t) ∙ 
 is_digit-true : (b : ℕ) → IsDigit b → is_digit b ≡ true
 is_digit-true b is = let low = is.0 in let high = is.1 in grind (arith, nat_tests)
 
-expect_digits : (text rest : List ℕ) (go : List ℕ → Found) → All IsDigit text → expect_sum text go (text ++ rest) ≡ go rest
+pub expect_digits : (text rest : List ℕ) (go : List ℕ → Found) → All IsDigit text → expect_sum text go (text ++ rest) ≡ go rest
 expect_digits [] rest go each = refl
 expect_digits (t ∷ text) rest go each =
     if_true (is_digit t) _ _ (is_digit-true t (All-head IsDigit t text each)) ∙ if_true (t == t) _ _ (same_byte t) ∙ expect_digits text rest go (All-tail IsDigit t text each)
@@ -51,7 +51,7 @@ get_front [] ys k within = absurd (omega arith)
 get_front (x ∷ xs) ys zero within = refl
 get_front (x ∷ xs) ys (suc k) within = get_front xs ys k (omega arith)
 
-three_digits-digits : (n : ℕ) → n < 256 → All IsDigit (three_digits n)
+pub three_digits-digits : (n : ℕ) → n < 256 → All IsDigit (three_digits n)
 three_digits-digits n small zero d within = omega arith
 three_digits-digits n small (suc zero) d within = omega arith
 three_digits-digits n small (suc (suc zero)) d within = omega arith
@@ -69,7 +69,7 @@ module _ (before body after : List ℕ) (is_body : IsBody body) where
       ∙ expect_digits tens (1 ∷ after) (expect (1 ∷ []) Trailer (λ a. Whole body a)) (three_digits-digits n (omega arith))
       ∙ expect_text (1 ∷ []) after Trailer (λ a. Whole body a)
 
-  found_body-body : found_body before (length body) rest ≡ Whole body after
+  pub found_body-body : found_body before (length body) rest ≡ Whole body after
   found_body-body =
       let w = is_body.writable in
       let begins : rest ≡ codes "35=" ++ (drop 3 body ++ (trailer (before ++ body) ++ after)) =

@@ -1,47 +1,15 @@
 -- The pieces of a stream do not depend on how it was cut.
-use Rattle.std.proofs.Common.{◌≡◌, ℕ, zero, suc, ◌+◌, ◌-◌, ◌≤◌, Bool, true, false, List, [], ◌∷◌, ◌++◌, length, take, drop, refl, sym, ◌∙◌, ap, subst, arith, length-append, length-take, append_assoc, take-append-drop, Some, None}
-use Rattle.std.specs.Prelude.{nat_eq, if◌then◌else◌, codes}
-use Rattle.std.specs.List.{starts_with, flat_map}
+use Rattle.std.proofs.Common.{◌≡◌, ℕ, zero, suc, ◌+◌, ◌-◌, ◌≤◌, List, [], ◌∷◌, ◌++◌, length, take, drop, refl, sym, ◌∙◌, ap, subst, arith, length-append, length-take, append_assoc, take-append-drop, Some, None}
+use Rattle.std.specs.List.{flat_map}
 use Rattle.std.specs.Option.{option_map}
 use Rattle.std.specs.declared.option.Option.{Option}
 use Rattle.std.proofs.lemmas.List.{take-append-le, drop-append-le}
-use Rattle.std.proofs.lemmas.Slice.Eq.{bytes_eq-Decides}
 use Rattle.frame_grammar.specs.declared.frame.Kind.{Kind}
 use Rattle.frame_grammar.specs.declared.frame.Garble.{Garble}
 use Rattle.frame_grammar.specs.Found.{Found, Whole, Short, Broken, found}
 use Rattle.frame_grammar.specs.Cut.{start_in, Piece, Good, Bad, bytes_of, garbled, piece_at, first_piece, ComeFirst, Cut}
 use Rattle.frame_grammar.proofs.Grow.{Grows, found_grows}
-
-mapped : (o : Option ℕ) (k : ℕ) → option_map suc o ≡ Some k → (j : ℕ) × (o ≡ Some j) × (k ≡ suc j)
-mapped None k is = absurd (cc is)
-mapped (Some j) k is = let same : k ≡ suc j = cc is in (j, refl, same)
-
--- whether `8=FIX` stands at the front
-abbrev here : List ℕ → Bool
-here xs = starts_with nat_eq xs (codes "8=FIX")
-
-here_long : (xs : List ℕ) → here xs ≡ true → 5 ≤ length xs
-here_long xs is = let same = (bytes_eq-Decides (codes "8=FIX") (take 5 xs)).0 is in omega (arith, ap length same, length-take 5 xs)
-
-here_grows : (xs t : List ℕ) → 5 ≤ length xs → here (xs ++ t) ≡ here xs
-here_grows xs t long = let same : take 5 (xs ++ t) ≡ take 5 xs = take-append-le 5 xs t long in rw same refl
-
-pub start_grows : (xs t : List ℕ) (k : ℕ) → start_in xs ≡ Some k → (k + 5 ≤ length xs) × (start_in (xs ++ t) ≡ Some k)
-start_grows [] t k is = absurd (cc is)
-start_grows (b ∷ xs) t k is = at (λ j e. start_grows xs t j e) (here (b ∷ xs)) refl
-  where
-    at : ((j : ℕ) → start_in xs ≡ Some j → (j + 5 ≤ length xs) × (start_in (xs ++ t) ≡ Some j)) → (c : Bool) → here (b ∷ xs) ≡ c → (k + 5 ≤ length (b ∷ xs)) × (start_in (b ∷ (xs ++ t)) ≡ Some k)
-    at later_grows true found_here =
-        let long = here_long (b ∷ xs) found_here in
-        let zero_is : Some 0 ≡ Some k = sym (ap (λ c. if c then Some 0 else option_map suc (start_in xs)) found_here) ∙ is in
-        let same : 0 ≡ k = cc zero_is in
-        (omega (arith, long), ap (λ c. if c then Some 0 else option_map suc (start_in (xs ++ t))) (here_grows (b ∷ xs) t long ∙ found_here) ∙ zero_is)
-    at later_grows false not_here =
-        let later : option_map suc (start_in xs) ≡ Some k = sym (ap (λ c. if c then Some 0 else option_map suc (start_in xs)) not_here) ∙ is in
-        let m = mapped (start_in xs) k later in
-        let more = later_grows m.0 m.1 in
-        let stays : here (b ∷ (xs ++ t)) ≡ false = here_grows (b ∷ xs) t (omega (arith, more.0)) ∙ not_here in
-        (omega (arith, more.0, m.2), ap (λ c. if c then Some 0 else option_map suc (start_in (xs ++ t))) stays ∙ ap (option_map suc) more.1 ∙ ap (λ (x : ℕ). Some x) (sym m.2))
+use Rattle.frame_grammar.proofs.Starts.{start_grows}
 
 bad_grows : (cause : Garble) (x : ℕ) (xs t : List ℕ) (p : Piece) (o : Option ℕ) → start_in xs ≡ o → option_map (λ k. Bad cause (take (k + 1) (x ∷ xs))) o ≡ Some p → garbled cause ((x ∷ xs) ++ t) ≡ Some p
 bad_grows cause x xs t p None e h = absurd (cc h)

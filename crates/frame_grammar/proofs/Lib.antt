@@ -1,7 +1,14 @@
-pub mod Whole
 pub mod Written
+pub mod Every
 pub mod Grow
 pub mod Join
+pub mod Awaits
 pub mod Begins
+pub mod Breaks
 pub mod Only
+pub mod Scanned
+pub mod Starts
+pub mod Bounded
+pub mod Sums
+pub mod Stands
 mod Rows

@@ -1,7 +1,10 @@
 -- Worked rows, by computation.
-use Rattle.std.specs.Prelude.{◌≡◌, ℕ, ◌==◌, if◌then◌else◌, List, [], ◌∷◌, ◌++◌, map, codes, refl, Some, replicate}
+use Rattle.std.specs.Prelude.{◌≡◌, ℕ, ◌==◌, if◌then◌else◌, List, [], ◌∷◌, ◌++◌, map, codes, refl, Some, None, replicate}
 use Rattle.frame_grammar.specs.declared.frame.Kind.TheVariants.{Fix42, Fixt11}
 use Rattle.frame_grammar.specs.declared.frame.Garble.TheVariants.{BeginString, LengthField, TooLong, TypeField, Trailer, Sum}
+use Rattle.frame_grammar.specs.declared.pieces.Lost.{Lost}
+use Rattle.frame_grammar.specs.declared.pieces.Next.TheVariants as next
+use Rattle.frame_grammar.specs.Held.{Held, past, found_by}
 use Rattle.frame_grammar.specs.Found.{found, Whole, Short, Broken}
 use Rattle.frame_grammar.specs.Cut.{first_piece, Good, Bad, Cut}
 
@@ -85,3 +88,22 @@ two_digits = refl
 -- a body of 8,192 bytes is awaited
 longest : found Fix42 (wire (codes "8=FIX.4.2|9=8192|35=0|58=") ++ replicate 8183 120 ++ 1 ∷ []) ≡ Short
 longest = refl
+
+-- places beyond 2^32, and where they are no longer counted
+abbrev far : ℕ → Held
+far at = record { kind = Fix42; read = []; unread = codes "8="; at = at; lost = None }
+
+far_place : (past 2 (far 5000000000)).at ≡ 5000000002
+far_place = refl
+
+last_place : (past 2 (far 18446744073709551614)).at ≡ 18446744073709551615
+last_place = refl
+
+abbrev gone : Lost
+gone = record { at = 5000000000; cause = Sum; dropped = 18446744073709551610 }
+
+far_garbled : found_by gone 5 ≡ next.Garbled 5000000000 18446744073709551615 Sum
+far_garbled = refl
+
+far_garbled_on : found_by gone 6 ≡ next.Garbled 5000000000 18446744073709551615 Sum
+far_garbled_on = refl

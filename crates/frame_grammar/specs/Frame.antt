@@ -1,5 +1,5 @@
 -- A frame, as a relation on whole texts (FIX 4.2 and FIXT 1.1, "Message Format" and "Data Integrity").
-use Rattle.std.specs.Prelude.{◌≡◌, ◌≢◌, ℕ, ◌+◌, ◌-◌, ◌*◌, ◌/◌, ◌%◌, ◌≤◌, ◌<◌, List, [], ◌∷◌, ◌++◌, length, take, sum, All, slice_index, codes, decimal, drop}
+use Rattle.std.specs.Prelude.{◌≡◌, ◌≢◌, ℕ, ◌+◌, ◌-◌, ◌*◌, ◌/◌, ◌%◌, ◌≤◌, List, [], ◌∷◌, ◌++◌, length, take, sum, All, slice_index, codes, decimal}
 use Rattle.frame_grammar.specs.declared.frame.Kind.{Kind}
 use Rattle.frame_grammar.specs.declared.frame.Kind.TheVariants.{Fix42, Fixt11}
 
@@ -57,9 +57,3 @@ pub record IsFrame (kind : Kind) (body bytes : List ℕ) : Type 0 where
 -- the frame as it is written: no leading zero in BodyLength
 abbrev pub frame_of : Kind → List ℕ → List ℕ
 frame_of kind body = front kind (decimal (length body)) body ++ trailer (front kind (decimal (length body)) body)
-
--- The number of digits and what they say, up to the first SOH.
-pub record ReadsLength (bytes : List ℕ) (count said : ℕ) : Type 0 where
-  pub within : count < length bytes
-  pub says : SaysLength (take count bytes) said
-  pub split : bytes ≡ take count bytes ++ 1 ∷ drop (count + 1) bytes

@@ -1,6 +1,6 @@
 // The bytes of a frame that its kind, or the bytes before them, determine.
-ghost use Rattle.std.specs.Prelude.{◌≡◌, ◌%◌, sum};
-ghost use Rattle.frame_grammar.specs.Frame.{opening, trailer};
+ghost use Rattle.std.specs.Prelude.{◌≡◌, ◌%◌, ◌++◌, ◌∷◌, [], codes, sum};
+ghost use Rattle.frame_grammar.specs.Frame.{opening, three_digits, trailer};
 
 use crate::Kind;
 use crate::frame::SOH;
@@ -16,7 +16,7 @@ pub fn opening_of(kind: Kind) -> &'static [u8]
 }
 
 // The sum of the bytes, modulo 256.
-fn sum_of(bytes: &[u8]) -> u8
+pub fn sum_of(bytes: &[u8]) -> u8
     ensures { result ≡ sum bytes.now % 256 }
 {
     let mut total: u8 = 0;
@@ -30,7 +30,13 @@ fn sum_of(bytes: &[u8]) -> u8
 pub fn trailer_of(before: &[u8]) -> [u8; 7]
     ensures { result ≡ trailer before.now }
 {
-    let total = sum_of(before);
+    trailer_by(sum_of(before))
+}
+
+/// CheckSum (10) that says this sum, with its tag and SOH.
+pub fn trailer_by(total: u8) -> [u8; 7]
+    ensures { result ≡ codes "10=" ++ three_digits total ++ 1 ∷ [] }
+{
     [
         b'1',
         b'0',

@@ -11,11 +11,18 @@ pub enum Command {
     Help,
     /// `--version`: which program this is.
     Version,
-    /// `translate up`: the orders of a client as the venue takes them.
+    /// What is done to a stream of frames.
+    Stream(Task),
+}
+
+/// What is done to a stream of frames.
+#[derive(Clone, Copy, Debug, PartialEq, Eq)]
+pub enum Task {
+    /// `translate up`: the orders of a client, FIX 4.2, are written as the venue takes them.
     TranslateUp,
-    /// `check client`: what stands in a stream of FIX 4.2.
+    /// `check client`: a line is written for each piece of a stream of FIX 4.2.
     CheckClient,
-    /// `check venue`: what stands in a stream of FIXT 1.1.
+    /// `check venue`: a line is written for each piece of a stream of FIXT 1.1.
     CheckVenue,
 }
 
@@ -27,13 +34,13 @@ pub(crate) fn read_command(words: &[String]) -> Option<Command>
         [word] if word.as_str() == "--help" => Some(Command::Help),
         [word] if word.as_str() == "--version" => Some(Command::Version),
         [first, second] if first.as_str() == "translate" && second.as_str() == "up" => {
-            Some(Command::TranslateUp)
+            Some(Command::Stream(Task::TranslateUp))
         }
         [first, second] if first.as_str() == "check" && second.as_str() == "client" => {
-            Some(Command::CheckClient)
+            Some(Command::Stream(Task::CheckClient))
         }
         [first, second] if first.as_str() == "check" && second.as_str() == "venue" => {
-            Some(Command::CheckVenue)
+            Some(Command::Stream(Task::CheckVenue))
         }
         _ => None,
     }

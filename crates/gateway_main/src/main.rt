@@ -1,0 +1,47 @@
+//! The program `fixgate`: it makes the input and the output of the standard streams, and hands them to
+//! [`gateway_top::run`] with the words of the command line. All that it does is said there.
+#![tactic(auto)]
+
+mod streams;
+
+use crate::streams::{Reading, Writing};
+use gateway_top::{Status, code, run};
+use std::env;
+use std::io;
+use std::process::ExitCode;
+use std::rt::Env;
+
+/// The words of the command line behind the program's name.
+fn read_words(rt: &(impl Env + AllocGlobal)) -> Result<Vec<String>, Status> {
+    let args = match env::args(rt) {
+        Ok(args) => args,
+        Err(error) => {
+            return Err(match error.kind() {
+                io::ErrorKind::OutOfMemory => Status::NoMemory,
+                _ => Status::Usage,
+            });
+        }
+    };
+    let mut words = Vec::new(rt.alloc());
+    for word in args.skip(1) {
+        if words.push(word).is_err() {
+            return Err(Status::NoMemory);
+        }
+    }
+    Ok(words)
+}
+
+fn main(rt: HostRuntime) -> ExitCode {
+    let status = match read_words(&rt) {
+        Ok(words) => {
+            let mut input = Reading::new(rt.stdin());
+            let mut out = Writing::new(rt.stdout());
+            run(rt.alloc(), &words, &mut input, &mut out)
+        }
+        Err(status) => status,
+    };
+    if status != Status::Done {
+        let _ = eprintln!(rt; "fixgate: {status}");
+    }
+    ExitCode::from(code(&status))
+}

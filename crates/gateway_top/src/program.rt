@@ -1,0 +1,85 @@
+//! The one call that the program makes.
+
+ghost use Rattle.std.specs.Prelude.{◌≡◌, ◌↔◌, map, None, MatchOption, OnOk, OnErr};
+ghost use Rattle.std.specs.String.{string_bytes};
+ghost use Rattle.outside.specs.Causes.{Rose};
+ghost use Rattle.gateway_top.specs.Words.{command_of};
+ghost use Rattle.gateway_top.specs.Run.{Wrote, Does, Leaves};
+
+use crate::Status;
+use crate::command::{Command, read_command};
+use crate::stream::{put_text, run_stream};
+use outside::{Sink, Source};
+use std::alloc::Global;
+
+/// What `--help` prints.
+const HELP: &str = "\
+fixgate keeps a trading client of FIX 4.2 connected to a venue of FIX 5.0 SP2 over FIXT 1.1.
+
+Usage: fixgate COMMAND
+
+  translate up    reads FIX 4.2 orders from standard input and writes them to standard output as
+                  the venue takes them; ends at the first piece of the input that it refuses
+  check client    reads a stream of FIX 4.2 and prints a line for each frame and each garbled piece
+  check venue     the same of a stream of FIXT 1.1
+  --help          prints this text
+  --version       prints the version
+
+A translated order is a NewOrderSingle with the fields 35=D 49 56 34 52 11 [109] 21 55 54 60 38 40 [44]
+in this order. Frames are read as they are on the wire, with SOH (byte 1) behind each field.
+
+Exit status:
+   0  done
+   1  refused: a piece of the input is garbled, unfinished or not translated; its place is printed
+   2  usage: the words are none of the above
+   4  the input failed
+   5  the output failed
+  11  out of memory
+  12  the input has more than 67,108,864 bytes
+On any status but 0 a line with the reason goes to standard error.
+";
+
+/// What `--version` prints.
+const VERSION: &str = "fixgate 0.1.0\n";
+
+/// Writes a text.
+fn write_text<O: Sink>(out: &mut O, text: &str) -> Status
+    ensures wrote { Wrote result text.now (O.bytes out.old) (O.bytes out.new) }
+    ensures output_fault { result ≡ Status.OutputFault → Rose (O.faults out.old) (O.faults out.new) }
+{
+    match put_text(out, text.as_bytes()) {
+        Ok(()) => Status::Done,
+        Err(_) => Status::OutputFault,
+    }
+}
+
+/// Does what the words of the command line ask for: reads `input`, writes to `out`, and says how that ended.
+///
+/// The clauses on the content of the input and the output hold where the source and the sink tell it.
+/// [`Status::Usage`] comes exactly where the words are none of the forms, and then nothing was read or put.
+/// [`Status::InputFault`] and [`Status::OutputFault`] come only where the source or the sink counted a fault in this call.
+/// Each other status says of the input what it is named for, and what was put.
+pub fn run<I: Source, O: Sink>(
+    alloc: Global,
+    words: &[String],
+    input: &mut I,
+    out: &mut O,
+) -> Status
+    ensures usage { (result ≡ Status.Usage) ↔ (command_of (map string_bytes words.now) ≡ None) }
+    ensures unused { result ≡ Status.Usage → (input.new ≡ input.old) × (out.new ≡ out.old) }
+
+    // What the command read and put, by the status.
+    ensures does { MatchOption (command_of (map string_bytes words.now)) (Unit {0})
+        (λ command. Does HELP.now VERSION.now command result (I.left input.old) (I.left input.new) (O.bytes out.old) (O.bytes out.new)) }
+    ensures leaves { MatchOption (command_of (map string_bytes words.now)) (Unit {0}) (λ command. Leaves command input.old input.new) }
+
+    ensures input_fault { result ≡ Status.InputFault → Rose (I.faults input.old) (I.faults input.new) }
+    ensures output_fault { result ≡ Status.OutputFault → Rose (O.faults out.old) (O.faults out.new) }
+{
+    match read_command(words) {
+        Some(Command::Stream(task)) => run_stream(alloc, task, input, out),
+        Some(Command::Help) => write_text(out, HELP),
+        Some(Command::Version) => write_text(out, VERSION),
+        None => Status::Usage,
+    }
+}

@@ -1,0 +1,205 @@
+use crate::{Status, code, run};
+use outside::{MemSink, MemSource};
+use std::alloc::Global;
+use std::process::Abort;
+use std::test::Fail;
+
+/// A plain order, and the same as the venue takes it.
+const ORDER: &[u8] = b"8=FIX.4.2\x019=120\x0135=D\x0149=CLNT\x0156=GATE\x0134=2\x0152=20240102-10:00:00\x0111=A1\x01109=FUND\x0121=1\x0155=IBM\x0154=1\x0160=20240102-10:00:00\x0138=100\x0140=2\x0144=10.5\x0110=044\x01";
+
+const UP: &[u8] = b"8=FIXT.1.1\x019=138\x0135=D\x0149=CLNT\x0156=GATE\x0134=2\x0152=20240102-10:00:00\x0111=A1\x01453=1\x01448=FUND\x01447=D\x01452=3\x0121=1\x0155=IBM\x0154=1\x0160=20240102-10:00:00\x0138=100\x0140=2\x0144=10.5\x0110=195\x01";
+
+/// The order with another OrdType, which is not plain.
+const STOP_ORDER: &[u8] = b"8=FIX.4.2\x019=120\x0135=D\x0149=CLNT\x0156=GATE\x0134=2\x0152=20240102-10:00:00\x0111=A1\x01109=FUND\x0121=1\x0155=IBM\x0154=1\x0160=20240102-10:00:00\x0138=100\x0140=3\x0144=10.5\x0110=045\x01";
+
+/// A Heartbeat whose sum is one too high, and a TestRequest.
+const WRONG_SUM: &[u8] = b"8=FIX.4.2\x019=47\x0135=0\x0149=CLNT\x0156=GATE\x0134=2\x0152=20240102-10:00:00\x0110=071\x018=FIX.4.2\x019=57\x0135=1\x0149=CLNT\x0156=GATE\x0134=3\x0152=20240102-10:00:00\x01112=8=FIX\x0110=119\x01";
+
+/// A Heartbeat of the venue's session, and the front of another.
+const VENUE: &[u8] = b"8=FIXT.1.1\x019=47\x0135=0\x0149=VENU\x0156=GATE\x0134=2\x0152=20240102-10:00:00\x0110=163\x018=FIXT.1.1\x019=4";
+
+/// A run with these words separated by a space, over this input and a sink, each of which fails at the listed calls.
+fn ran(
+    alloc: Global,
+    line: &str,
+    input: &[u8],
+    input_fails: &[u64],
+    sink_fails: &[u64],
+) -> Result<(Status, MemSink), Fail> {
+    let mut words = Vec::new(alloc);
+    for word in line.split(' ') {
+        words.push(String::from_str(alloc, word)?)?;
+    }
+    let mut source = MemSource::new(input.to_vec(alloc)?, input_fails.to_vec(alloc)?);
+    let mut sink = MemSink::new(alloc, sink_fails.to_vec(alloc)?);
+    let status = run(alloc, &words, &mut source, &mut sink);
+    Ok((status, sink))
+}
+
+/// The run ends like this, and puts this.
+fn ends(
+    rt: &impl Abort,
+    alloc: Global,
+    line: &str,
+    input: &[u8],
+    status: Status,
+    put: &[u8],
+) -> Result<(), Fail> {
+    let (ended, sink) = ran(alloc, line, input, &[], &[])?;
+    assert_eq!(rt; ended, status, "{line}");
+    assert_eq!(rt; sink.bytes(), put, "{line}");
+    Ok(())
+}
+
+#[test]
+fn orders_go_up(rt: HostRuntime) -> Result<(), Fail> {
+    let alloc = rt.alloc();
+    let twice = [ORDER, ORDER].concat(alloc)?;
+    let up_twice = [UP, UP].concat(alloc)?;
+    ends(&rt, alloc, "translate up", ORDER, Status::Done, UP)?;
+    ends(&rt, alloc, "translate up", &twice, Status::Done, &up_twice)?;
+    ends(&rt, alloc, "translate up", b"", Status::Done, b"")?;
+    ends(
+        &rt,
+        alloc,
+        "translate up",
+        &ORDER[..142],
+        Status::Refused { at: 0 },
+        b"",
+    )?;
+    ends(
+        &rt,
+        alloc,
+        "translate up",
+        &twice[..285],
+        Status::Refused { at: 143 },
+        UP,
+    )?;
+    ends(
+        &rt,
+        alloc,
+        "translate up",
+        STOP_ORDER,
+        Status::Refused { at: 0 },
+        b"",
+    )?;
+    ends(
+        &rt,
+        alloc,
+        "translate up",
+        &[ORDER, WRONG_SUM, ORDER].concat(alloc)?,
+        Status::Refused { at: 143 },
+        UP,
+    )?;
+    Ok(())
+}
+
+#[test]
+fn streams_are_checked(rt: HostRuntime) -> Result<(), Fail> {
+    let alloc = rt.alloc();
+    ends(
+        &rt,
+        alloc,
+        "check client",
+        WRONG_SUM,
+        Status::Refused { at: 0 },
+        b"0 garbled 69 Sum\n69 frame 79 1 session\n",
+    )?;
+    ends(
+        &rt,
+        alloc,
+        "check client",
+        &[ORDER, b"8=FIX.4.2\x019=8193\x01", ORDER].concat(alloc)?,
+        Status::Refused { at: 143 },
+        b"0 frame 143 D unread\n143 garbled 17 TooLong\n160 frame 143 D unread\n",
+    )?;
+    ends(
+        &rt,
+        alloc,
+        "check venue",
+        VENUE,
+        Status::Refused { at: 70 },
+        b"0 frame 70 0 session\n70 inside 14\n",
+    )?;
+    ends(
+        &rt,
+        alloc,
+        "check venue",
+        &VENUE[..70],
+        Status::Done,
+        b"0 frame 70 0 session\n",
+    )?;
+    ends(
+        &rt,
+        alloc,
+        "check client",
+        b"x",
+        Status::Refused { at: 0 },
+        b"0 garbled 1 BeginString\n",
+    )?;
+    Ok(())
+}
+
+#[test]
+fn words_and_faults(rt: HostRuntime) -> Result<(), Fail> {
+    let alloc = rt.alloc();
+    for line in ["", "translate", "translate sideways", "translate up up", "check", "check gate", "--help up"] {
+        ends(&rt, alloc, line, ORDER, Status::Usage, b"")?;
+    }
+    ends(&rt, alloc, "--version", b"", Status::Done, b"fixgate 0.1.0\n")?;
+    let (help, text) = ran(alloc, "--help", b"", &[], &[])?;
+    assert_eq!(rt; help, Status::Done);
+    assert!(rt; text.bytes().starts_with(b"fixgate "));
+
+    // The second read finds the end of input.
+    let (first, nothing) = ran(alloc, "translate up", ORDER, &[1], &[])?;
+    assert_eq!(rt; first, Status::InputFault);
+    assert_eq!(rt; nothing.bytes(), b"".as_slice());
+    let (second, put) = ran(alloc, "translate up", ORDER, &[2], &[])?;
+    assert_eq!(rt; second, Status::InputFault);
+    assert_eq!(rt; put.bytes(), UP);
+    for line in ["translate up", "check client", "--help", "--version"] {
+        let (unput, full) = ran(alloc, line, ORDER, &[], &[1])?;
+        assert_eq!(rt; unput, Status::OutputFault, "{line}");
+        assert_eq!(rt; full.bytes(), b"".as_slice(), "{line}");
+    }
+    Ok(())
+}
+
+#[test]
+fn an_input_has_a_limit(rt: HostRuntime) -> Result<(), Fail> {
+    let alloc = rt.alloc();
+    let mut input = vec![in alloc; 0u8; 67_108_864]?;
+    ends(&rt, alloc, "translate up", &input, Status::Refused { at: 0 }, b"")?;
+    ends(
+        &rt,
+        alloc,
+        "check client",
+        &input,
+        Status::Refused { at: 0 },
+        b"0 garbled 67108864 BeginString\n",
+    )?;
+    input.push(0)?;
+    ends(&rt, alloc, "translate up", &input, Status::InputTooLong, b"")?;
+    ends(&rt, alloc, "check client", &input, Status::InputTooLong, b"")?;
+    Ok(())
+}
+
+#[test]
+fn a_status_has_a_code_and_a_line(rt: HostRuntime) -> Result<(), Fail> {
+    let alloc = rt.alloc();
+    for (status, number, line) in [
+        (Status::Done, 0, "done"),
+        (Status::Refused { at: 143 }, 1, "refused at 143"),
+        (Status::Usage, 2, "usage"),
+        (Status::InputFault, 4, "input fault"),
+        (Status::OutputFault, 5, "output fault"),
+        (Status::NoMemory, 11, "out of memory"),
+        (Status::InputTooLong, 12, "input too long"),
+    ] {
+        assert_eq!(rt; code(&status), number);
+        let shown = format!(in alloc; "{status}")?;
+        assert_eq!(rt; shown.as_str(), line);
+    }
+    Ok(())
+}

@@ -1,0 +1,9 @@
+pub mod Forms
+pub mod Parties
+pub mod Sense42
+pub mod Sense50
+pub mod Rules
+pub mod Plain
+pub mod Content
+pub mod Up
+pub mod Rows

@@ -1,0 +1,373 @@
+-- The laws of the session table, each by its rows.
+use Rattle.std.proofs.Common.{◌≡◌, ℕ, ◌+◌, ◌==◌, ◌⊎◌, Bool, true, false, Some, None, refl, nat_lt, nat_le, ap, ◌∙◌, sym, List, [], ◌∷◌, ◌++◌, if◌then◌else◌, subst, IfOk, inl, inr, IsSome, is_none}
+use Rattle.std.specs.List.{Contains, list_any, Any}
+use Rattle.std.proofs.lemmas.List.Folds.{list_any_at, Any-from_list_any}
+use Rattle.std.proofs.lemmas.Bool.{eqb-true}
+use Rattle.std.specs.declared.option.Option.{Option}
+use Rattle.std.specs.declared.cmp.Ordering.{Ordering}
+use Rattle.std.specs.declared.cmp.Ordering.TheVariants.{Less, Equal, Greater}
+use Rattle.std.specs.Ordering.{nat_cmp}
+use Rattle.order_meaning.specs.declared.Side.{Side}
+use Rattle.order_meaning.specs.declared.Side.TheVariants.{Client, Venue}
+use Rattle.session_core.specs.declared.types.LinkState.{LinkState}
+use Rattle.session_core.specs.declared.types.LinkState.TheVariants.{Down, Wait, Asked, Active}
+use Rattle.session_core.specs.declared.types.Ask.{Ask}
+use Rattle.session_core.specs.declared.types.Session.{Session}
+use Rattle.session_core.specs.declared.types.Step.{Step}
+use Rattle.session_core.specs.declared.types.Head.{Head}
+use Rattle.session_core.specs.declared.types.What.{What}
+use Rattle.session_core.specs.declared.types.What.TheVariants as what
+use Rattle.session_core.specs.declared.types.Why.TheVariants as why
+use Rattle.session_core.specs.declared.types.Admin.TheVariants as admin
+use Rattle.session_core.specs.declared.types.Act.{Act}
+use Rattle.session_core.specs.declared.types.Act.TheVariants.{Take, Skip, Say, HangUp}
+use Rattle.session_core.specs.Step.{Input, Opened, Closed, Message, Tick, End, Row, S3, S4, S5, S6, S8, S9, S11, S13, S14, S15, S16, S17, S19, S21, S22, S23, S24, S25, S26, S27, S28, S29, S30, S31, S32, S33, S34, S35, S36, Quiet, number_of, message_row, opened_row, tick_row, end_row, is_unanswered, elapsed, logon_wait, effect_of, taken_or_skipped, take_or_skip, expects, counted, says, does, heard, step, numbered_row, early_row, expected_row, active_case, only, asking, logout, reject, is_asked_for, tick_acts, is_test_due, is_heartbeat_due, is_ask_due}
+use Rattle.session_core.specs.Laws.{Always, IsExpected, ResetsFrom, IsReset, HangsUpAfterLogout}
+use Rattle.session_core.proofs.Premise.{Premise, Numbered, number_of-Message, message_premise}
+use Rattle.session_core.proofs.Kept.{if_settled}
+
+-- ---- the premise of the row of any input. Where there is no message, the row speaks of none.
+
+abbrev no_message : Head
+no_message = record { number = None; dup = false; comp = None; time = None; what = what.Heartbeat }
+
+opened_premise : (side : Side) (expected : ℕ) → Premise (opened_row side) expected no_message
+opened_premise Client expected = tt
+opened_premise Venue expected = tt
+
+late_premise : (b : Bool) (expected : ℕ) → Premise (if b then S32 else Quiet) expected no_message
+late_premise true expected = tt
+late_premise false expected = tt
+
+unanswered_premise : (b : Bool) (expected : ℕ) → Premise (if b then S33 else S34) expected no_message
+unanswered_premise true expected = tt
+unanswered_premise false expected = tt
+
+tick_premise : (link : LinkState) (now : ℕ) (s : Session) → Premise (tick_row link now s) s.numbers.next_in no_message
+tick_premise Down now s = tt
+tick_premise Wait now s = late_premise (nat_lt logon_wait (elapsed now s.seen)) s.numbers.next_in
+tick_premise Asked now s = late_premise (nat_lt logon_wait (elapsed now s.seen)) s.numbers.next_in
+tick_premise Active now s = unanswered_premise (is_unanswered s.tested now s.heart) s.numbers.next_in
+
+end_premise : (link : LinkState) (expected : ℕ) → Premise (end_row link) expected no_message
+end_premise Down expected = tt
+end_premise Wait expected = tt
+end_premise Asked expected = tt
+end_premise Active expected = tt
+
+-- what a row's effect makes of the session before, once its messages are counted
+abbrev After : (Session → ℕ → ℕ → Step → Type 0) → Row → ℕ → Session → Head → Type 0
+After P r now s head = let t = effect_of r (number_of (Message head)) now s in
+    P s (number_of (Message head)) now (does t.acts (counted now (says t.acts) t.next))
+
+-- what holds of each row with its premise holds of each step; it may speak of the number and of the session that heard
+by_rows : (P : Session → ℕ → ℕ → Step → Type 0)
+    → ((r : Row) (now : ℕ) (s : Session) (head : Head) → Premise r s.numbers.next_in head → After P r now s head)
+    → (s : Session) (input : Input) (now : ℕ) → IfOk (step s input now) (P (heard input now s) (number_of input) now)
+by_rows P each s Opened now =
+    if_settled now (effect_of (opened_row s.side) 0 now s) (P s 0 now) (each (opened_row s.side) now s no_message (opened_premise s.side s.numbers.next_in))
+by_rows P each s Closed now = if_settled now (effect_of S3 0 now s) (P s 0 now) (each S3 now s no_message tt)
+by_rows P each s (Message head) now =
+    let h : Session = heard (Message head) now s in
+    if_settled now (effect_of (message_row h.link head h) (number_of (Message head)) now h) (P h (number_of (Message head)) now)
+    (each (message_row h.link head h) now h head (message_premise h.link head h))
+by_rows P each s Tick now =
+    if_settled now (effect_of (tick_row s.link now s) 0 now s) (P s 0 now) (each (tick_row s.link now s) now s no_message (tick_premise s.link now s))
+by_rows P each s End now =
+    if_settled now (effect_of (end_row s.link) 0 now s) (P s 0 now) (each (end_row s.link) now s no_message (end_premise s.link s.numbers.next_in))
+
+-- the same, of a fact that speaks of the numbers, the link and the request of the session before, which hearing leaves alone
+abbrev ByRows : (Session → Step → Type 0) → Type 0
+ByRows P = (r : Row) (now : ℕ) (s : Session) (head : Head) → Premise r s.numbers.next_in head → After (λ s n now t. P s t) r now s head
+
+-- ---- an act of a list is found by a test
+
+found : (test : Act → Bool) (acts : List Act) (act : Act) → test act ≡ true → Contains acts act → list_any test acts ≡ true
+found test acts act passes c = list_any_at test acts c.0 act c.1 (ap test c.2 ∙ passes)
+
+abbrev is_take : Act → Bool
+is_take Take = true
+is_take act = false
+
+-- ---- a message is taken in turn
+
+abbrev TakenInTurn : Session → Head → Type 0
+TakenInTurn s head = Numbered s.numbers.next_in head ⊎ ResetsFrom s.numbers.next_in head.what
+
+-- the number is the expected one where it is not passed over
+taken_number : (n : ℕ) (s : Session) → list_any is_take (take_or_skip n s ∷ []) ≡ true → n ≡ s.numbers.next_in
+taken_number n s h =
+    elim (n == s.numbers.next_in) as (λ b. (n == s.numbers.next_in) ≡ b → list_any is_take ((if b then Take else Skip) ∷ []) ≡ true → n ≡ s.numbers.next_in)
+    [ true ↦ λ e _. eqb-true n s.numbers.next_in e | false ↦ λ e h'. absurd (cc h') ] refl h
+
+taken_head : (head : Head) (s : Session) → ((n : ℕ) × Numbered n head)
+    → list_any is_take (take_or_skip (number_of (Message head)) s ∷ []) ≡ true → TakenInTurn s head
+taken_head head s p h =
+    let same : number_of (Message head) ≡ s.numbers.next_in = taken_number (number_of (Message head)) s h in
+    inl (p.1 ∙ ap Some (sym (number_of-Message p.0 head p.1) ∙ same))
+
+-- an act that may be missing is none that the test finds, where it is none itself
+only_other : (test : Act → Bool) (b : Bool) (act : Act) → test act ≡ false → list_any test (only b act) ≡ false
+only_other test true act h = rw h refl
+only_other test false act h = refl
+
+tick_other : (test : Act → Bool) (now : ℕ) (s : Session) → test (Say admin.TestRequest) ≡ false → test (Say (admin.Heartbeat false)) ≡ false
+    → test (asking s) ≡ false → list_any test (tick_acts now s) ≡ false
+tick_other test now s a b c = three (is_test_due now s) (is_heartbeat_due now s) (is_ask_due s.ask now s.heart)
+  where
+    three : (x y z : Bool) → list_any test (only x (Say admin.TestRequest) ++ only y (Say (admin.Heartbeat false)) ++ only z (asking s)) ≡ false
+    three true true true = rw (a, b, c) refl
+    three true true false = rw (a, b) refl
+    three true false true = rw (a, c) refl
+    three true false false = rw a refl
+    three false true true = rw (b, c) refl
+    three false true false = rw b refl
+    three false false true = rw c refl
+    three false false false = refl
+
+taken_row : (r : Row) (now : ℕ) (s : Session) (head : Head) → Premise r s.numbers.next_in head
+    → list_any is_take (effect_of r (number_of (Message head)) now s).acts ≡ true → TakenInTurn s head
+taken_row (S4 true) now s head p h = absurd (cc h)
+taken_row (S4 false) now s head p h = absurd (cc h)
+taken_row (S6 tag) now s head p h = taken_head head s p h
+taken_row (S9 heart reset) now s head p h = inl p
+taken_row S11 now s head p h = inl p
+taken_row (S14 tag) now s head p h = taken_head head s p h
+taken_row (S15 reason) now s head p h = taken_head head s p h
+taken_row (S16 to) now s head p h = inr (subst (ResetsFrom s.numbers.next_in) (sym p.0) p.1)
+taken_row (S22 from to dup) now s head p h = let none : list_any is_take (only (is_asked_for dup s.ask) (asking s)) ≡ false = only_other is_take (is_asked_for dup s.ask) (asking s) refl in absurd (cc (none, h))
+taken_row (S23 dup) now s head p h = let none : list_any is_take (only (is_asked_for dup s.ask) (asking s)) ≡ false = only_other is_take (is_asked_for dup s.ask) (asking s) refl in absurd (cc (none, h))
+taken_row S24 now s head p h = inl p
+taken_row S25 now s head p h = inl p
+taken_row (S26 from to) now s head p h = inl p
+taken_row (S27 to) now s head p h = inl p.1
+taken_row S28 now s head p h = inl p
+taken_row (S29 tag reason) now s head p h = inl p
+taken_row S30 now s head p h = inl p
+taken_row S31 now s head p h = inl p
+taken_row S34 now s head p h = let none : list_any is_take (tick_acts now s) ≡ false = tick_other is_take now s refl refl refl in absurd (cc (none, h))
+taken_row other now s head p h = absurd (cc h)
+
+-- where there is no message nothing is taken
+none_taken : (s : Session) → TakenInTurn s no_message → ⊥
+none_taken s h = elim h [ inl e ↦ absurd (cc e) | inr e ↦ e ]
+
+pub takes_in_turn : Always (λ s input now t. Contains t.acts Take → IsExpected s input ⊎ IsReset s input)
+takes_in_turn s Opened now =
+    if_settled now (effect_of (opened_row s.side) 0 now s) (λ t. Contains t.acts Take → ⊥ ⊎ ⊥)
+    (λ c. absurd (none_taken s (taken_row (opened_row s.side) now s no_message (opened_premise s.side s.numbers.next_in) (found is_take _ Take refl c))))
+takes_in_turn s Closed now = if_settled now (effect_of S3 0 now s) (λ t. Contains t.acts Take → ⊥ ⊎ ⊥) (λ c. absurd (cc (found is_take [] Take refl c)))
+takes_in_turn s (Message head) now =
+    let h : Session = heard (Message head) now s in
+    if_settled now (effect_of (message_row h.link head h) (number_of (Message head)) now h) (λ t. Contains t.acts Take → TakenInTurn s head)
+    (λ c. taken_row (message_row h.link head h) now h head (message_premise h.link head h) (found is_take _ Take refl c))
+takes_in_turn s Tick now =
+    if_settled now (effect_of (tick_row s.link now s) 0 now s) (λ t. Contains t.acts Take → ⊥ ⊎ ⊥)
+    (λ c. absurd (none_taken s (taken_row (tick_row s.link now s) now s no_message (tick_premise s.link now s) (found is_take _ Take refl c))))
+takes_in_turn s End now =
+    if_settled now (effect_of (end_row s.link) 0 now s) (λ t. Contains t.acts Take → ⊥ ⊎ ⊥)
+    (λ c. absurd (none_taken s (taken_row (end_row s.link) now s no_message (end_premise s.link s.numbers.next_in) (found is_take _ Take refl c))))
+
+-- ---- only a taken message counts
+
+-- what the test finds stands in the list
+take_found : (act : Act) → is_take act ≡ true → act ≡ Take
+take_found Take h = refl
+take_found other h = absurd (cc h)
+
+is_found : (acts : List Act) → list_any is_take acts ≡ true → Contains acts Take
+is_found acts h =
+    let c : Any (λ act. is_take act ≡ true) acts = Any-from_list_any is_take acts h in
+    let P : Act → Type 0 = Contains acts in
+    subst P (take_found c.1 c.4) (c.0, c.2, c.3)
+
+-- what does not stand in the list is not found
+not_found : (acts : List Act) → ¬ Contains acts Take → list_any is_take acts ≡ false
+not_found acts none = elim (list_any is_take acts) as (λ b. list_any is_take acts ≡ b → b ≡ false) [ true ↦ λ h. absurd (none (is_found acts h)) | false ↦ λ h. refl ] refl
+
+taken_or_skipped-skipped : (n : ℕ) (s : Session) → list_any is_take (take_or_skip n s ∷ []) ≡ false → (taken_or_skipped n s).numbers.next_in ≡ s.numbers.next_in
+taken_or_skipped-skipped n s =
+    elim (n == s.numbers.next_in) as (λ b. list_any is_take ((if b then Take else Skip) ∷ []) ≡ false → (if b then expects (n + 1) s else s).numbers.next_in ≡ s.numbers.next_in)
+    [ true ↦ λ h. absurd (cc h) | false ↦ λ h. refl ]
+
+skipped_row : (r : Row) (n now : ℕ) (s : Session) → list_any is_take (effect_of r n now s).acts ≡ false → (effect_of r n now s).next.numbers.next_in ≡ s.numbers.next_in
+skipped_row (S6 tag) n now s h = taken_or_skipped-skipped n s h
+skipped_row (S9 heart reset) n now s h = absurd (cc h)
+skipped_row S11 n now s h = absurd (cc h)
+skipped_row (S14 tag) n now s h = taken_or_skipped-skipped n s h
+skipped_row (S15 reason) n now s h = taken_or_skipped-skipped n s h
+skipped_row (S16 to) n now s h = absurd (cc h)
+skipped_row S24 n now s h = absurd (cc h)
+skipped_row S25 n now s h = absurd (cc h)
+skipped_row (S26 from to) n now s h = absurd (cc h)
+skipped_row (S27 to) n now s h = absurd (cc h)
+skipped_row S28 n now s h = absurd (cc h)
+skipped_row (S29 tag reason) n now s h = absurd (cc h)
+skipped_row S30 n now s h = absurd (cc h)
+skipped_row S31 n now s h = absurd (cc h)
+skipped_row other n now s h = refl
+
+abbrev SkippedStays : Session → Step → Type 0
+SkippedStays s t = ¬ Contains t.acts Take → t.next.numbers.next_in ≡ s.numbers.next_in
+
+skipped_each : ByRows SkippedStays
+skipped_each r now s head p none =
+    skipped_row r (number_of (Message head)) now s (not_found (effect_of r (number_of (Message head)) now s).acts none)
+
+pub only_taken_counts : Always (λ s input now t. SkippedStays s t)
+only_taken_counts s (Message head) now = by_rows (λ s n now t. SkippedStays s t) skipped_each s (Message head) now
+only_taken_counts s other now = by_rows (λ s n now t. SkippedStays s t) skipped_each s other now
+
+-- ---- a hang up ends
+
+abbrev is_hang_up : Act → Bool
+is_hang_up HangUp = true
+is_hang_up act = false
+
+abbrev IsEnded : Session → Type 0
+IsEnded s = (s.link ≡ Down) × (s.tested ≡ None) × (s.ask ≡ None)
+
+ended_row : (r : Row) (n now sent : ℕ) (s : Session) → list_any is_hang_up (effect_of r n now s).acts ≡ true → IsEnded (counted now sent (effect_of r n now s).next)
+ended_row S5 n now sent s h = (refl, refl, refl)
+ended_row (S6 tag) n now sent s h = (refl, refl, refl)
+ended_row S8 n now sent s h = (refl, refl, refl)
+ended_row S13 n now sent s h = (refl, refl, refl)
+ended_row (S14 tag) n now sent s h = (refl, refl, refl)
+ended_row (S15 reason) n now sent s h = (refl, refl, refl)
+ended_row S19 n now sent s h = (refl, refl, refl)
+ended_row S21 n now sent s h = (refl, refl, refl)
+ended_row S30 n now sent s h = (refl, refl, refl)
+ended_row S32 n now sent s h = (refl, refl, refl)
+ended_row S33 n now sent s h = (refl, refl, refl)
+ended_row S35 n now sent s h = (refl, refl, refl)
+ended_row S36 n now sent s h = (refl, refl, refl)
+ended_row (S4 true) n now sent s h = absurd (cc h)
+ended_row (S4 false) n now sent s h = absurd (cc h)
+ended_row (S22 from to dup) n now sent s h =
+    let none : list_any is_hang_up (only (is_asked_for dup s.ask) (asking s)) ≡ false = only_other is_hang_up (is_asked_for dup s.ask) (asking s) refl in absurd (cc (none, h))
+ended_row (S23 dup) n now sent s h =
+    let none : list_any is_hang_up (only (is_asked_for dup s.ask) (asking s)) ≡ false = only_other is_hang_up (is_asked_for dup s.ask) (asking s) refl in absurd (cc (none, h))
+ended_row S34 n now sent s h =
+    let none : list_any is_hang_up (tick_acts now s) ≡ false = tick_other is_hang_up now s refl refl refl in absurd (cc (none, h))
+ended_row other n now sent s h = absurd (cc h)
+
+abbrev Ends : Session → Step → Type 0
+Ends s t = Contains t.acts HangUp → IsEnded t.next
+
+ends_row : ByRows Ends
+ends_row r now s head p c =
+    let acts : List Act = (effect_of r (number_of (Message head)) now s).acts in
+    ended_row r (number_of (Message head)) now (says acts) s (found is_hang_up acts HangUp refl c)
+
+pub hang_up_ends : Always (λ s input now t. Contains t.acts HangUp → (t.next.link ≡ Down) × (t.next.tested ≡ None) × (t.next.ask ≡ None))
+hang_up_ends s (Message head) now = by_rows (λ s n now t. Ends s t) ends_row s (Message head) now
+hang_up_ends s other now = by_rows (λ s n now t. Ends s t) ends_row s other now
+
+-- ---- a Logout hangs up
+
+logout_after : (n : ℕ) (s : Session) (acts : List Act) → HangsUpAfterLogout acts → HangsUpAfterLogout (take_or_skip n s ∷ acts)
+logout_after n s acts h = elim (n == s.numbers.next_in) as (λ b. HangsUpAfterLogout ((if b then Take else Skip) ∷ acts)) [ true ↦ h | false ↦ h ]
+
+only_asks : (b : Bool) (s : Session) → HangsUpAfterLogout (only b (asking s))
+only_asks true s = tt
+only_asks false s = tt
+
+tick_logout : (now : ℕ) (s : Session) → HangsUpAfterLogout (tick_acts now s)
+tick_logout now s = three (is_test_due now s) (is_heartbeat_due now s) (is_ask_due s.ask now s.heart)
+  where
+    three : (x y z : Bool) → HangsUpAfterLogout (only x (Say admin.TestRequest) ++ only y (Say (admin.Heartbeat false)) ++ only z (asking s))
+    three true true true = tt
+    three true true false = tt
+    three true false true = tt
+    three true false false = tt
+    three false true true = tt
+    three false true false = tt
+    three false false true = tt
+    three false false false = tt
+
+abbrev HangsUp : Session → Step → Type 0
+HangsUp s t = HangsUpAfterLogout t.acts
+
+logout_row : ByRows HangsUp
+logout_row (S4 true) now s head p = tt
+logout_row (S4 false) now s head p = tt
+logout_row (S6 tag) now s head p = logout_after (number_of (Message head)) s (logout (why.Logon tag) ∷ HangUp ∷ []) refl
+logout_row S8 now s head p = refl
+logout_row S13 now s head p = refl
+logout_row (S14 tag) now s head p = logout_after (number_of (Message head)) s (reject tag 9 ∷ logout why.CompId ∷ HangUp ∷ []) refl
+logout_row (S15 reason) now s head p = logout_after (number_of (Message head)) s (reject 52 reason ∷ logout why.Clock ∷ HangUp ∷ []) refl
+logout_row S19 now s head p = refl
+logout_row S21 now s head p = refl
+logout_row (S22 from to dup) now s head p = only_asks (is_asked_for dup s.ask) s
+logout_row (S23 dup) now s head p = only_asks (is_asked_for dup s.ask) s
+logout_row S30 now s head p = refl
+logout_row S34 now s head p = tick_logout now s
+logout_row S35 now s head p = refl
+logout_row other now s head p = tt
+
+pub logout_hangs_up : Always (λ s input now t. HangsUpAfterLogout t.acts)
+logout_hangs_up s (Message head) now = by_rows (λ s n now t. HangsUp s t) logout_row s (Message head) now
+logout_hangs_up s other now = by_rows (λ s n now t. HangsUp s t) logout_row s other now
+
+-- ---- one request at a time
+
+abbrev is_request : Act → Bool
+is_request (Say (admin.ResendRequest from)) = true
+is_request act = false
+
+unasked : (s : Session) → is_none s.ask ≡ false → list_any is_request (only (is_asked_for false s.ask) (asking s)) ≡ false
+unasked s unclosed = rw unclosed refl
+
+early_request : (w : What) (n now : ℕ) (s : Session) → is_none s.ask ≡ false → list_any is_request (effect_of (early_row w false) n now s).acts ≡ false
+early_request what.Logout n now s unclosed = refl
+early_request (what.ResendRequest from to) n now s unclosed = unasked s unclosed
+early_request other n now s unclosed = unasked s unclosed
+
+expected_request : (w : What) (m n now : ℕ) (s : Session) → list_any is_request (effect_of (expected_row w m) n now s).acts ≡ false
+expected_request (what.GapFill to) m n now s =
+    elim (nat_lt m to) as (λ b. list_any is_request (effect_of (if b then S27 to else S28) n now s).acts ≡ false) [ true ↦ refl | false ↦ refl ]
+expected_request other m n now s = refl
+
+numbered_request : (w : What) (place : Ordering) (m n now : ℕ) (s : Session) → is_none s.ask ≡ false
+    → list_any is_request (effect_of (numbered_row w place false m s.numbers.next_in) n now s).acts ≡ false
+numbered_request (what.Reset to) place m n now s unclosed =
+    elim (nat_le s.numbers.next_in to) as (λ b. list_any is_request (effect_of (if b then S16 to else S17) n now s).acts ≡ false) [ true ↦ refl | false ↦ refl ]
+numbered_request (what.FaultyReset tag reason) place m n now s unclosed = refl
+numbered_request other Less m n now s unclosed = refl
+numbered_request other Greater m n now s unclosed = early_request other n now s unclosed
+numbered_request other Equal m n now s unclosed = expected_request other m n now s
+
+taken_no_request : (n : ℕ) (s : Session) → list_any is_request (take_or_skip n s ∷ []) ≡ false
+taken_no_request n s = elim (n == s.numbers.next_in) as (λ b. list_any is_request ((if b then Take else Skip) ∷ []) ≡ false) [ true ↦ refl | false ↦ refl ]
+
+active_request : (number comp time : Option ℕ) (w : What) (dup : Bool) (n now : ℕ) (s : Session) → dup ≡ false → is_none s.ask ≡ false
+    → list_any is_request (effect_of (active_case number comp time w dup s) n now s).acts ≡ false
+active_request None comp time w dup n now s first unclosed = refl
+active_request (Some m) (Some tag) time w dup n now s first unclosed = taken_no_request n s
+active_request (Some m) None (Some reason) w dup n now s first unclosed = taken_no_request n s
+active_request (Some m) None None w dup n now s first unclosed =
+    rw first (numbered_request w (nat_cmp m s.numbers.next_in) m n now s unclosed)
+
+abbrev AsksForNothing : Step → Type 0
+AsksForNothing t = (from : ℕ) → ¬ Contains t.acts (Say (admin.ResendRequest from))
+
+asks_for_nothing : (t : Step) → list_any is_request t.acts ≡ false → AsksForNothing t
+asks_for_nothing t none from c =
+    let some : list_any is_request t.acts ≡ true = found is_request t.acts (Say (admin.ResendRequest from)) refl c in absurd (cc (none, some))
+
+is_open : (ask : Option Ask) → IsSome ask → is_none ask ≡ false
+is_open None h = absurd (cc h)
+is_open (Some ask) h = refl
+
+message_request : (link : LinkState) (head : Head) (now : ℕ) (s : Session) → link ≡ Active → head.dup ≡ false → is_none s.ask ≡ false
+    → list_any is_request (effect_of (message_row link head s) (number_of (Message head)) now s).acts ≡ false
+message_request link head now s active first unclosed =
+    rw active (active_request head.number head.comp head.time head.what head.dup (number_of (Message head)) now s first unclosed)
+
+pub one_request : (s : Session) (head : Head) (now : ℕ) → s.link ≡ Active → IsSome s.ask → head.dup ≡ false
+    → IfOk (step s (Message head) now) (λ t. (from : ℕ) → ¬ Contains t.acts (Say (admin.ResendRequest from)))
+one_request s head now active unclosed first =
+    let h : Session = heard (Message head) now s in
+    let t : Step = effect_of (message_row h.link head h) (number_of (Message head)) now h in
+    if_settled now t AsksForNothing
+    (asks_for_nothing (does t.acts (counted now (says t.acts) t.next)) (message_request h.link head now h active first (is_open s.ask unclosed)))

@@ -1,0 +1,3 @@
+pub mod Always
+pub mod Kept
+pub mod Premise

@@ -1,0 +1,4 @@
+pub mod Bounds
+pub mod Laws
+pub mod Rows
+pub mod Step

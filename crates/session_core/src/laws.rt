@@ -1,0 +1,76 @@
+//! What the session table keeps, whatever happens to a session. Each law is a contract: its function does nothing.
+ghost use Rattle.std.specs.Prelude.{◌≡◌, ℕ, ◌+◌, ◌≤◌, ◌⊎◌, Contains, IfOk, IfSome, IsSome, length, Some, None, true, false};
+ghost use Rattle.session_core.specs.Laws.{Always, IsExpected, IsReset, HangsUpAfterLogout};
+ghost use Rattle.session_core.specs.Step.{Message, Tick, step, says};
+ghost use Rattle.session_core.specs.declared.types.Session.{Session};
+ghost use Rattle.session_core.specs.declared.types.Head.{Head};
+
+use crate::{Act, Admin, LinkState};
+
+/// The expected number never falls.
+pub fn expected_number_never_falls()
+    ensures { Always (λ s input now t. s.numbers.next_in ≤ t.next.numbers.next_in) }
+{}
+
+/// A message is taken only at the expected number, or as a SequenceReset that is no gap fill and sets the
+/// expected number to itself or a higher one.
+pub fn taken_in_turn()
+    ensures { Always (λ s input now t.
+        Contains t.acts Act.Take → IsExpected s input ⊎ IsReset s input) }
+{}
+
+/// The expected number stays where no message is taken.
+pub fn only_a_taken_message_counts()
+    ensures { Always (λ s input now t.
+        ¬ Contains t.acts Act.Take → t.next.numbers.next_in ≡ s.numbers.next_in) }
+{}
+
+/// Each session message that a step sends takes one number, and nothing else does.
+pub fn each_message_takes_a_number()
+    ensures { Always (λ s input now t.
+        t.next.numbers.next_out ≡ s.numbers.next_out + says t.acts) }
+{}
+
+/// A step has at most five acts.
+pub fn five_acts_at_most()
+    ensures { Always (λ s input now t. length t.acts ≤ 5) }
+{}
+
+/// Every Logout is followed by a hang up, and nothing comes after it.
+pub fn logout_hangs_up()
+    ensures { Always (λ s input now t. HangsUpAfterLogout t.acts) }
+{}
+
+/// A hang up leaves no link, and nothing outstanding.
+pub fn hang_up_ends()
+    ensures { Always (λ s input now t. Contains t.acts Act.HangUp
+        → (t.next.link ≡ LinkState.Down) × (t.next.tested ≡ None) × (t.next.ask ≡ None)) }
+{}
+
+/// One tick never sends both a TestRequest and a Heartbeat.
+pub fn test_request_or_heartbeat()
+    ensures { (s : Session) (now : ℕ) → IfOk (step s Tick now) (λ t.
+        Contains t.acts (Act.Say Admin.TestRequest)
+        → ¬ Contains t.acts (Act.Say (Admin.Heartbeat false))) }
+{}
+
+/// A session that is logged on and gets the expected message leaves its open request as it was, or closes it.
+/// So with no request open none is opened.
+pub fn expected_message_opens_no_request()
+    ensures { Always (λ s input now t. s.link ≡ LinkState.Active → IsExpected s input
+        → (t.next.ask ≡ s.ask) ⊎ (t.next.ask ≡ None)) }
+{}
+
+/// A request that is open after a step is for a gap that is open: the expected number is not past its top.
+pub fn open_request_has_a_gap()
+    ensures { Always (λ s input now t.
+        IfSome t.next.ask (λ ask. t.next.numbers.next_in ≤ ask.top)) }
+{}
+
+/// While a request is open, a message without PossDupFlag has no second one sent.
+pub fn one_request_at_a_time()
+    ensures { (s : Session) (head : Head) (now : ℕ)
+        → s.link ≡ LinkState.Active → IsSome s.ask → head.dup ≡ false
+        → IfOk (step s (Message head) now) (λ t.
+        (from : ℕ) → ¬ Contains t.acts (Act.Say (Admin.ResendRequest from))) }
+{}

@@ -1,0 +1,11 @@
+pub mod DigitsLemmas
+pub mod DateLemmas
+pub mod SpellingLemmas
+pub mod NumberLaws
+pub mod DayLaws
+pub mod StampLaws
+pub mod DecLaws
+pub mod LawLemmas
+pub mod Rows
+pub mod StampLemmas
+pub mod DecLemmas

@@ -1,0 +1,10 @@
+pub mod Reading
+pub mod Digits
+pub mod Number
+pub mod Flag
+pub mod MonthYear
+pub mod Day
+pub mod Stamp
+pub mod Dec
+pub mod Laws
+pub mod Kinds

@@ -1,0 +1,75 @@
+//! Days.
+
+ghost use Rattle.std.specs.Prelude.{◌≡◌, ◌≤◌, ◌<◌, ◌++◌, pos, take, length, IsTrue, OnOk, OnErr, IfOk, if◌then◌else◌};
+ghost use Rattle.typed_fields.specs.Digits.{are_digits};
+ghost use Rattle.typed_fields.specs.Day.{read_day, spells_date, day_number, day_digits, day_text, IsDayNumber, IsDay};
+
+use crate::digits::{four_digits, has_pattern, number_at, two_digits};
+use crate::fault::FieldFault;
+use jiff::civil::Date;
+use std::alloc::AllocError;
+
+/// A day from 1 January 0000 to 31 December 9999 of the Gregorian calendar, as the data types LocalMktDate and UTCDate of
+/// FIX 4.2.
+///
+/// Its form is `YYYYMMDD`, which is also its spelling.
+#[derive(Clone, Copy, Debug, PartialEq, Eq, PartialOrd, Ord, Hash)]
+pub struct Day {
+    /// The days since 1 January 1970.
+    pub day: i32,
+}
+
+/// The number of the day that `YYYYMMDD..` spells, if the calendar has it.
+pub(crate) fn day_number(bytes: &[u8]) -> Option<i32>
+    requires long { 8 ≤ length bytes.now }
+    requires digits { IsTrue (are_digits (take 8 bytes.now)) }
+    ensures { result ≡ (if spells_date bytes.now then Some (day_number bytes.now) else None) }
+{
+    let year = number_at(bytes, 0, 4) as i16;
+    let month = number_at(bytes, 4, 6) as i8;
+    let day = number_at(bytes, 6, 8) as i8;
+    match Date::new(year, month, day) {
+        Ok(date) => Some(date.to_plain().to_unix_epoch_day()),
+        Err(_) => None,
+    }
+}
+
+/// The spelling of a day.
+pub(crate) fn day_digits(day: i32) -> [u8; 8]
+    requires { IsDayNumber day }
+    ensures { result ≡ day_digits day }
+{
+    let date = jiff_core::civil::Date::from_unix_epoch_day(i64::from(day)).unwrap();
+    let [y1, y2, y3, y4] = four_digits(date.year as u16);
+    let [m1, m2] = two_digits(date.month);
+    let [d1, d2] = two_digits(date.day);
+    [y1, y2, y3, y4, m1, m2, d1, d2]
+}
+
+impl Day {
+    /// Reads a day. `Form` is anything but eight digits, and `Range` a date that the calendar lacks.
+    pub fn read(value: &[u8]) -> Result<Day, FieldFault>
+        ensures value { result ≡ read_day value.now }
+        ensures bound { IfOk result IsDay }
+    {
+        if value.is_empty() {
+            return Err(FieldFault::Empty);
+        }
+        if !has_pattern(b"YYYYMMDD", value) {
+            return Err(FieldFault::Form);
+        }
+        match day_number(value) {
+            Some(day) => Ok(Day { day }),
+            None => Err(FieldFault::Range),
+        }
+    }
+
+    /// Appends the eight digits. Where memory is wanting `out` is unchanged.
+    pub fn write(&self, out: &mut Vec<u8>) -> Result<(), AllocError>
+        requires { IsDay self.now }
+        ensures ok { OnOk result (out.new.items ≡ out.old.items ++ day_text self.now) }
+        ensures err { OnErr result (out.new.items ≡ out.old.items) }
+    {
+        out.extend_from_slice(&day_digits(self.day))
+    }
+}

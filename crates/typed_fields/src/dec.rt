@@ -1,0 +1,172 @@
+//! Decimal numbers.
+
+ghost use Rattle.std.specs.Prelude.{◌≡◌, ◌+◌, ◌/◌, ◌^◌, ◌<◌, ◌≤◌, ◌++◌, unsigned_abs, length, IsTrue, OnOk, OnErr, IfOk};
+ghost use Rattle.std.specs.List.{before_first, after_first, position};
+ghost use Rattle.typed_fields.specs.Digits.{are_digits};
+ghost use Rattle.typed_fields.specs.Dec.{read_dec, dec_text, IsDec, has_minus, without_minus, is_point, units_of, signed, sign_text};
+ghost use Rattle.std.specs.Fmt.{decimal};
+ghost use Rattle.std.specs.Int.{is_negative};
+ghost use Rattle.arrayvec.specs.ArrayVec.{array_vec_len};
+
+use crate::digits::{
+    append, are_digits, eight_digits, number, without_leading_zeros, without_trailing_zeros,
+};
+use crate::fault::FieldFault;
+use arrayvec::ArrayVec;
+use itoa::Buffer;
+use std::alloc::AllocError;
+
+/// The units of one.
+const ONE: u128 = 100_000_000;
+
+/// An exact decimal number, as the data types float, Price and Qty of FIX 4.2.
+///
+/// Its form is an optional `-`, digits and an optional `.` with digits before or behind it, in at most 32 bytes. Without needless
+/// zeros it has at most 15 digits, of which at most 8 stand behind the point.
+#[derive(Clone, Copy, Debug, PartialEq, Eq, PartialOrd, Ord, Hash)]
+pub struct Dec {
+    /// The units of 10^-8.
+    pub units: i128,
+}
+
+/// Whether the bytes begin with a minus sign.
+fn has_minus(bytes: &[u8]) -> bool
+    ensures { result ≡ has_minus bytes.now }
+{
+    bytes.first() == Some(&b'-')
+}
+
+/// What stands behind the minus sign, if there is one.
+fn without_minus(bytes: &[u8]) -> &[u8]
+    ensures { result.now ≡ without_minus bytes.now }
+{
+    if has_minus(bytes) { &bytes[1..] } else { bytes }
+}
+
+/// The place of the first point.
+fn point_in(bytes: &[u8]) -> Option<usize>
+    ensures { result ≡ position is_point bytes.now }
+{
+    bytes.iter().position(|byte| *byte == b'.')
+}
+
+/// What stands before the point, or all where there is none.
+fn before_point(bytes: &[u8]) -> &[u8]
+    ensures { result.now ≡ before_first is_point bytes.now }
+{
+    match point_in(bytes) {
+        Some(point) => &bytes[..point],
+        None => bytes,
+    }
+}
+
+/// What stands behind the point, if there is one.
+fn behind_point(bytes: &[u8]) -> &[u8]
+    ensures { result.now ≡ after_first is_point bytes.now }
+{
+    match point_in(bytes) {
+        Some(point) => &bytes[point + 1..],
+        None => &[],
+    }
+}
+
+/// The units of a whole part and a fraction.
+fn units_of(whole: &[u8], fraction: &[u8]) -> u128
+    requires whole { IsTrue (are_digits whole.now) }
+    requires fraction { IsTrue (are_digits fraction.now) }
+    requires few { length whole.now + length fraction.now ≤ 15 }
+    requires places { length fraction.now ≤ 8 }
+    ensures value { result ≡ units_of whole.now fraction.now }
+    ensures bound { result < 10 ^ 23 }
+{
+    let places = fraction.len() as u32;
+    u128::from(number(whole)) * ONE + u128::from(number(fraction)) * 10u128.pow(8 - places)
+}
+
+/// A magnitude with its sign.
+fn signed(minus: bool, magnitude: u128) -> i128
+    requires { magnitude < 10 ^ 23 }
+    ensures { result ≡ signed minus magnitude }
+{
+    let magnitude = magnitude as i128;
+    if minus { -magnitude } else { magnitude }
+}
+
+impl Dec {
+    /// Reads a decimal number. `Form` is anything but the form, and `Range` a number with more digits than the bound has.
+    pub fn read(value: &[u8]) -> Result<Dec, FieldFault>
+        ensures value { result ≡ read_dec value.now }
+        ensures bound { IfOk result IsDec }
+    {
+        if value.is_empty() {
+            return Err(FieldFault::Empty);
+        }
+        let whole = before_point(without_minus(value));
+        let fraction = behind_point(without_minus(value));
+        if value.len() > 32
+            || !are_digits(whole)
+            || !are_digits(fraction)
+            || whole.len() + fraction.len() == 0
+        {
+            return Err(FieldFault::Form);
+        }
+        let whole = without_leading_zeros(whole);
+        let fraction = without_trailing_zeros(fraction);
+        if whole.len() + fraction.len() > 15 || fraction.len() > 8 {
+            return Err(FieldFault::Range);
+        }
+        Ok(Dec {
+            units: signed(has_minus(value), units_of(whole, fraction)),
+        })
+    }
+
+    /// Appends the canonical spelling: no needless zeros, no minus sign of zero, a digit before the point, and no point
+    /// without a digit behind it. Where memory is wanting `out` is unchanged.
+    pub fn write(&self, out: &mut Vec<u8>) -> Result<(), AllocError>
+        requires { IsDec self.now }
+        ensures ok { OnOk result (out.new.items ≡ out.old.items ++ dec_text self.now) }
+        ensures err { OnErr result (out.new.items ≡ out.old.items) }
+    {
+        out.extend_from_slice(self.text().as_slice())
+    }
+
+    /// The sign, where there is one.
+    fn sign(&self) -> &'static [u8]
+        ensures value { result.now ≡ sign_text (is_negative self.now.units) }
+        ensures len { length result.now ≤ 1 }
+    {
+        if self.units < 0 { b"-" } else { b"" }
+    }
+
+    /// The sign and the whole part.
+    fn whole_text(&self) -> ArrayVec<u8, 32>
+        requires { IsDec self.now }
+        ensures items { result.items ≡ sign_text (is_negative self.now.units) ++ decimal (unsigned_abs self.now.units / 10 ^ 8) }
+        ensures len { array_vec_len result ≤ 16 }
+    {
+        let mut buffer = Buffer::new();
+        let whole = buffer.format((self.units.unsigned_abs() / ONE) as u64);
+        let mut text = ArrayVec::new();
+        append(&mut text, self.sign());
+        append(&mut text, whole.as_bytes());
+        text
+    }
+
+    /// The spelling.
+    fn text(&self) -> ArrayVec<u8, 32>
+        requires { IsDec self.now }
+        ensures { result.items ≡ dec_text self.now }
+    {
+        let digits = eight_digits((self.units.unsigned_abs() % ONE) as u32);
+        let fraction = without_trailing_zeros(&digits);
+        let mut text = self.whole_text();
+        match fraction {
+            [] => text,
+            _ => {
+                append(&mut text, b".");
+                append(&mut text, fraction);
+                text
+            }
+        }
+    }
+}

@@ -1,0 +1,38 @@
+//! Yes and no.
+
+ghost use Rattle.std.specs.Prelude.{◌≡◌, ◌++◌, OnOk, OnErr};
+ghost use Rattle.typed_fields.specs.Flag.{read_flag, flag_text};
+
+use crate::fault::FieldFault;
+use std::alloc::AllocError;
+
+/// Yes or no, as the data type Boolean of FIX 4.2.
+///
+/// Its form is `Y` or `N`, which is also its spelling.
+#[derive(Clone, Copy, Debug, PartialEq, Eq, Hash)]
+pub struct Flag {
+    /// Whether it is yes.
+    pub yes: bool,
+}
+
+impl Flag {
+    /// Reads a flag. `Form` is anything but `Y` or `N`.
+    pub fn read(value: &[u8]) -> Result<Flag, FieldFault>
+        ensures { result ≡ read_flag value.now }
+    {
+        match value {
+            [] => Err(FieldFault::Empty),
+            [b'Y'] => Ok(Flag { yes: true }),
+            [b'N'] => Ok(Flag { yes: false }),
+            _ => Err(FieldFault::Form),
+        }
+    }
+
+    /// Appends `Y` or `N`. Where memory is wanting `out` is unchanged.
+    pub fn write(&self, out: &mut Vec<u8>) -> Result<(), AllocError>
+        ensures ok { OnOk result (out.new.items ≡ out.old.items ++ flag_text self.now) }
+        ensures err { OnErr result (out.new.items ≡ out.old.items) }
+    {
+        out.extend_from_slice(&[if self.yes { b'Y' } else { b'N' }])
+    }
+}

@@ -1,0 +1,26 @@
+//! The values of FIX fields: read exactly, and written in their one canonical spelling.
+//!
+//! Each type reads its value from the bytes of a field, with a [`FieldFault`] where they are none: `Empty` exactly for no bytes,
+//! `Form` exactly where the form is broken, and `Range` exactly where the form holds and the bound does not. `write` appends the
+//! one canonical spelling, which is read as the same value.
+#![tactic(auto)]
+
+mod day;
+mod dec;
+mod digits;
+mod fault;
+mod flag;
+pub mod laws;
+mod month_year;
+mod number;
+mod stamp;
+#[cfg(test)]
+mod tests;
+
+pub use day::Day;
+pub use dec::Dec;
+pub use fault::FieldFault;
+pub use flag::Flag;
+pub use month_year::MonthYear;
+pub use number::Number;
+pub use stamp::Stamp;

@@ -1,0 +1,51 @@
+//! Months of years.
+
+ghost use Rattle.std.specs.Prelude.{◌≡◌, ◌++◌, OnOk, OnErr, IfOk};
+ghost use Rattle.typed_fields.specs.MonthYear.{read_month_year, month_year_text, IsMonthYear};
+
+use crate::digits::{four_digits, has_pattern, number_at, two_digits};
+use crate::fault::FieldFault;
+use std::alloc::AllocError;
+
+/// A month of a year from 0000 to 9999, as the data type month-year of FIX 4.2.
+///
+/// Its form is `YYYYMM`, which is also its spelling. The month is 1 to 12.
+#[derive(Clone, Copy, Debug, PartialEq, Eq, PartialOrd, Ord, Hash)]
+pub struct MonthYear {
+    /// The year, from 0000 to 9999.
+    pub year: u16,
+    /// The month, from 1 to 12.
+    pub month: u8,
+}
+
+impl MonthYear {
+    /// Reads a month. `Form` is anything but six digits, and `Range` a month that is not 01 to 12.
+    pub fn read(value: &[u8]) -> Result<MonthYear, FieldFault>
+        ensures value { result ≡ read_month_year value.now }
+        ensures bound { IfOk result IsMonthYear }
+    {
+        if value.is_empty() {
+            return Err(FieldFault::Empty);
+        }
+        if !has_pattern(b"YYYYMM", value) {
+            return Err(FieldFault::Form);
+        }
+        let year = number_at(value, 0, 4);
+        let month = number_at(value, 4, 6) as u8;
+        if month < 1 || month > 12 {
+            return Err(FieldFault::Range);
+        }
+        Ok(MonthYear { year, month })
+    }
+
+    /// Appends the six digits. Where memory is wanting `out` is unchanged.
+    pub fn write(&self, out: &mut Vec<u8>) -> Result<(), AllocError>
+        requires { IsMonthYear self.now }
+        ensures ok { OnOk result (out.new.items ≡ out.old.items ++ month_year_text self.now) }
+        ensures err { OnErr result (out.new.items ≡ out.old.items) }
+    {
+        let [y1, y2, y3, y4] = four_digits(self.year);
+        let [m1, m2] = two_digits(self.month);
+        out.extend_from_slice(&[y1, y2, y3, y4, m1, m2])
+    }
+}

@@ -1,0 +1,52 @@
+//! Whole numbers.
+
+ghost use Rattle.std.specs.Prelude.{◌≡◌, ◌++◌, OnOk, OnErr, IfOk};
+ghost use Rattle.typed_fields.specs.Number.{read_number, number_text, IsNumber};
+
+use crate::digits::{are_digits, number};
+use crate::fault::FieldFault;
+use itoa::Buffer;
+use std::alloc::AllocError;
+
+/// The greatest number that a field may have.
+const MAX: u64 = 1_000_000_000;
+
+/// A whole number from 0 to 1,000,000,000, as the data type int of FIX 4.2 without a sign.
+///
+/// Its form is 1 to 10 digits, and its canonical spelling has no leading zeros.
+#[derive(Clone, Copy, Debug, PartialEq, Eq, PartialOrd, Ord, Hash)]
+pub struct Number {
+    /// The number.
+    pub value: u32,
+}
+
+impl Number {
+    /// Reads a number. `Form` is anything but 1 to 10 digits, and `Range` a number above 1,000,000,000.
+    pub fn read(value: &[u8]) -> Result<Number, FieldFault>
+        ensures value { result ≡ read_number value.now }
+        ensures bound { IfOk result IsNumber }
+    {
+        if value.is_empty() {
+            return Err(FieldFault::Empty);
+        }
+        if !are_digits(value) || value.len() > 10 {
+            return Err(FieldFault::Form);
+        }
+        let value = number(value);
+        if value > MAX {
+            return Err(FieldFault::Range);
+        }
+        Ok(Number {
+            value: value as u32,
+        })
+    }
+
+    /// Appends the canonical spelling. Where memory is wanting `out` is unchanged.
+    pub fn write(&self, out: &mut Vec<u8>) -> Result<(), AllocError>
+        requires { IsNumber self.now }
+        ensures ok { OnOk result (out.new.items ≡ out.old.items ++ number_text self.now) }
+        ensures err { OnErr result (out.new.items ≡ out.old.items) }
+    {
+        out.extend_from_slice(Buffer::new().format(self.value).as_bytes())
+    }
+}

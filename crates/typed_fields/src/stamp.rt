@@ -1,0 +1,149 @@
+//! Moments.
+
+ghost use Rattle.std.specs.Prelude.{◌≡◌, ◌^◌, ◌<◌, ◌≤◌, ◌++◌, codes, take, length, pos, IsTrue, OnOk, OnErr, IfOk, unwrap_or, if◌then◌else◌};
+ghost use Rattle.arrayvec.specs.ArrayVec.{array_vec_len};
+ghost use Rattle.typed_fields.specs.Digits.{has_pattern};
+ghost use Rattle.typed_fields.specs.Stamp.{read_stamp, milli_in, spells_moment, stamp_in, seconds_text, stamp_text, millis_of_day, stamp_millis, stamp_at, IsStamp};
+
+use crate::day::{day_digits, day_number};
+use crate::digits::{append, has_pattern, number_at, three_digits, two_digits};
+use crate::fault::FieldFault;
+use arrayvec::ArrayVec;
+use std::alloc::AllocError;
+
+/// A moment of universal time, as the data type UTCTimestamp of FIX 4.2.
+///
+/// Its form is `YYYYMMDD-HH:MM:SS` or `YYYYMMDD-HH:MM:SS.sss`, which is also its spelling. A second of 60 is a leap second.
+#[derive(Clone, Copy, Debug, PartialEq, Eq, Hash)]
+pub struct Stamp {
+    /// The days since 1 January 1970.
+    pub day: i32,
+    /// The hour, from 0 to 23.
+    pub hour: u8,
+    /// The minute, from 0 to 59.
+    pub minute: u8,
+    /// The second, from 0 to 60.
+    pub second: u8,
+    /// The milliseconds of the second, from 0 to 999, where the spelling has them.
+    pub milli: Option<u16>,
+}
+
+/// The moment that bytes of one of the two forms spell, if it is within the bound.
+fn read_moment(bytes: &[u8], milli: Option<u16>) -> Result<Stamp, FieldFault>
+    requires form { IsTrue (has_pattern (codes "YYYYMMDD-HH:MM:SS") (take 17 bytes.now)) }
+    requires milli { milli ≡ milli_in bytes.now }
+    requires small { unwrap_or milli 0 ≤ 999 }
+    ensures value { result ≡ (if spells_moment bytes.now then Ok (stamp_in bytes.now) else Err FieldFault.Range) }
+    ensures bound { IfOk result IsStamp }
+{
+    let hour = number_at(bytes, 9, 11) as u8;
+    let minute = number_at(bytes, 12, 14) as u8;
+    let second = number_at(bytes, 15, 17) as u8;
+    match day_number(bytes) {
+        Some(day) if hour <= 23 && minute <= 59 && second <= 60 => Ok(Stamp {
+            day,
+            hour,
+            minute,
+            second,
+            milli,
+        }),
+        _ => Err(FieldFault::Range),
+    }
+}
+
+impl Stamp {
+    /// Reads a moment. `Form` is anything but the two forms, and `Range` a date that the calendar lacks or a time past
+    /// hour 23, minute 59 or second 60.
+    pub fn read(value: &[u8]) -> Result<Stamp, FieldFault>
+        ensures value { result ≡ read_stamp value.now }
+        ensures bound { IfOk result IsStamp }
+    {
+        if value.is_empty() {
+            return Err(FieldFault::Empty);
+        }
+        if has_pattern(b"YYYYMMDD-HH:MM:SS", value) {
+            return read_moment(value, None);
+        }
+        if has_pattern(b"YYYYMMDD-HH:MM:SS.sss", value) {
+            return read_moment(value, Some(number_at(value, 18, 21)));
+        }
+        Err(FieldFault::Form)
+    }
+
+    /// Appends the spelling, with three digits of the second where the stamp has them. Where memory is wanting `out` is
+    /// unchanged.
+    pub fn write(&self, out: &mut Vec<u8>) -> Result<(), AllocError>
+        requires { IsStamp self.now }
+        ensures ok { OnOk result (out.new.items ≡ out.old.items ++ stamp_text self.now) }
+        ensures err { OnErr result (out.new.items ≡ out.old.items) }
+    {
+        out.extend_from_slice(self.text().as_slice())
+    }
+
+    /// The spelling without the milliseconds.
+    fn seconds_text(&self) -> ArrayVec<u8, 21>
+        requires { IsStamp self.now }
+        ensures items { result.items ≡ seconds_text self.now }
+        ensures len { array_vec_len result ≡ 17 }
+    {
+        let mut text = ArrayVec::new();
+        append(&mut text, &day_digits(self.day));
+        append(&mut text, b"-");
+        append(&mut text, &two_digits(self.hour));
+        append(&mut text, b":");
+        append(&mut text, &two_digits(self.minute));
+        append(&mut text, b":");
+        append(&mut text, &two_digits(self.second));
+        text
+    }
+
+    /// The spelling.
+    fn text(&self) -> ArrayVec<u8, 21>
+        requires { IsStamp self.now }
+        ensures { result.items ≡ stamp_text self.now }
+    {
+        let mut text = self.seconds_text();
+        match self.milli {
+            None => text,
+            Some(milli) => {
+                append(&mut text, b".");
+                append(&mut text, &three_digits(milli));
+                text
+            }
+        }
+    }
+
+    /// The milliseconds of the time of day.
+    fn millis_of_day(&self) -> u32
+        ensures value { result ≡ millis_of_day self.now }
+        ensures bound { result < 10 ^ 9 }
+    {
+        3_600_000 * u32::from(self.hour)
+            + 60_000 * u32::from(self.minute)
+            + 1000 * u32::from(self.second)
+            + u32::from(self.milli.unwrap_or(0))
+    }
+
+    /// The milliseconds from 1 January 1970, 00:00, to the moment: its day, hour, minute, second and milliseconds added up.
+    pub fn millis(&self) -> i64
+        ensures { result ≡ stamp_millis self.now }
+    {
+        i64::from(self.day) * 86_400_000 + i64::from(self.millis_of_day())
+    }
+
+    /// The stamp of a moment, with three digits of the second. `millis` is the time since 1 January 1970, 00:00, in
+    /// milliseconds, before the year 2100.
+    pub fn of_millis(millis: u64) -> Stamp
+        requires { millis ≤ 4_102_444_799_999 }
+        ensures value { result ≡ stamp_at millis }
+        ensures bound { IsStamp result }
+    {
+        Stamp {
+            day: (millis / 86_400_000) as i32,
+            hour: (millis / 3_600_000 % 24) as u8,
+            minute: (millis / 60_000 % 60) as u8,
+            second: (millis / 1000 % 60) as u8,
+            milli: Some((millis % 1000) as u16),
+        }
+    }
+}
