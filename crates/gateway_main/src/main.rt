@@ -6,10 +6,9 @@ mod streams;
 
 use crate::streams::{Reading, Writing};
 use gateway_top::{Status, code, run};
-use std::env;
-use std::io;
 use std::process::ExitCode;
 use std::rt::Env;
+use std::{env, io};
 
 /// The words of the command line behind the program's name.
 fn read_words(rt: &(impl Env + AllocGlobal)) -> Result<Vec<String>, Status> {

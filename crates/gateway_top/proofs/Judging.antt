@@ -53,23 +53,31 @@ either false P Q p q = q
 pub judges_more : (task : Task) (before ps : List Piece) (refused : Option ℕ) (said : List ℕ) (piece : Piece) (at : Option ℕ) (now : List ℕ) →
     JudgesAll task before ps refused said → has_ended task refused ≡ false → Judges task (before ++ ps) piece at now →
     JudgesAll task before (ps ++ piece ∷ []) (first_of refused at) (said ++ now)
-judges_more task before [] refused said piece at now (none, nothing) going judges =
-    (at, now, None, [],
-    subst (λ (b : List Piece). Judges task b piece at now) (append-nil before) judges,
-    ap (λ (r : Option ℕ). first_of r at) none ∙ sym (first_of-none at),
-    ap (λ (l : List ℕ). l ++ now) nothing ∙ sym (append-nil now),
-    either (has_ended task at) _ _ (refl, refl) (refl, refl))
+judges_more task before [] refused said piece at now (none, nothing) going judges = (
+  at,
+  now,
+  None,
+  [],
+  subst (λ (b : List Piece). Judges task b piece at now) (append-nil before) judges,
+  ap (λ (r : Option ℕ). first_of r at) none ∙ sym (first_of-none at),
+  ap (λ (l : List ℕ). l ++ now) nothing ∙ sym (append-nil now),
+  either (has_ended task at) _ _ (refl, refl) (refl, refl),
+)
 judges_more task before (p ∷ ps) refused said piece at now (at0, now0, later_at, later, first, is, joined, rest) going judges =
     let going' = subst (λ (r : Option ℕ). has_ended task r ≡ false) is going in
     let still = ended_by_first task at0 later_at going' in
     let more = judges_more task (before ++ p ∷ []) ps later_at later piece at now
-        (in_false _ _ _ still rest) (ended_by_second task at0 later_at going')
-        (subst (λ (b : List Piece). Judges task b piece at now) (sym (append_assoc before (p ∷ []) ps)) judges) in
-    (at0, now0, first_of later_at at, later ++ now,
-    first,
-    ap (λ (r : Option ℕ). first_of r at) is ∙ first_of-assoc at0 later_at at,
-    ap (λ (l : List ℕ). l ++ now) joined ∙ append_assoc now0 later now,
-    to_false _ _ _ still more)
+    (in_false _ _ _ still rest) (ended_by_second task at0 later_at going')
+    (subst (λ (b : List Piece). Judges task b piece at now) (sym (append_assoc before (p ∷ []) ps)) judges) in (
+      at0,
+      now0,
+      first_of later_at at,
+      later ++ now,
+      first,
+      ap (λ (r : Option ℕ). first_of r at) is ∙ first_of-assoc at0 later_at at,
+      ap (λ (l : List ℕ). l ++ now) joined ∙ append_assoc now0 later now,
+      to_false _ _ _ still more,
+    )
 
 -- nothing more was judged yet
 pub judging_none : (task : Task) (framer : Held) (stream : List ℕ) (answered : List Piece) (refused : Option ℕ) (before old : List ℕ) →

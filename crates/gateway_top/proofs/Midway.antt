@@ -175,15 +175,17 @@ module _ (task : Task) where
 
     -- one byte more than the input may have was taken
     pub too_long : (left : Option (List ℕ)) (piece : List ℕ) → taken ≡ input_limit → length piece ≡ 1 → Ran task InputTooLong (m.bytes ++ piece) left out_old out
-    too_long left piece full one =
-        (omega (arith, length-append m.bytes piece, m.taken_is),
-        (refused, m.said, subst (λ (l : List ℕ). Waits task l refused m.said) (sym (take_front m.bytes piece input_limit (m.taken_is ∙ full))) waits, m.put))
+    too_long left piece full one = (
+      omega (arith, length-append m.bytes piece, m.taken_is),
+      (refused, m.said, subst (λ (l : List ℕ). Waits task l refused m.said) (sym (take_front m.bytes piece input_limit (m.taken_is ∙ full))) waits, m.put),
+    )
 
     -- the next bytes were taken, and memory was wanting to judge them
     pub no_memory : (left put : Option (List ℕ)) (piece : List ℕ) → taken + length piece ≤ input_limit → Keeps out put → Ran task NoMemory (m.bytes ++ piece) left out_old put
-    no_memory left put piece within kept =
-        (omega (arith, length-append m.bytes piece, m.taken_is),
-        (length m.bytes, refused, m.said, subst (λ (l : List ℕ). Waits task l refused m.said) (sym (take_front m.bytes piece (length m.bytes) refl)) waits, Appends-kept out_old out put m.said m.put kept))
+    no_memory left put piece within kept = (
+      omega (arith, length-append m.bytes piece, m.taken_is),
+      (length m.bytes, refused, m.said, subst (λ (l : List ℕ). Waits task l refused m.said) (sym (take_front m.bytes piece (length m.bytes) refl)) waits, Appends-kept out_old out put m.said m.put kept),
+    )
 
     -- the source failed
     pub input_failed : (left : Option (List ℕ)) → taken ≤ input_limit → Ran task InputFault m.bytes left out_old out

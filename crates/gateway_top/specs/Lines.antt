@@ -18,7 +18,7 @@ type_in body = up_to (position (λ byte. byte == 1) (drop 3 body)) (drop 3 body)
 abbrev pub result_of : List ℕ → List ℕ
 result_of msg_type =
     if bytes_eq msg_type (codes "0") || bytes_eq msg_type (codes "1") || bytes_eq msg_type (codes "2")
-        || bytes_eq msg_type (codes "4") || bytes_eq msg_type (codes "5") || bytes_eq msg_type (codes "A")
+    || bytes_eq msg_type (codes "4") || bytes_eq msg_type (codes "5") || bytes_eq msg_type (codes "A")
     then codes " session" ++ 10 ∷ [] else codes " unread" ++ 10 ∷ []
 
 abbrev pub cause_name : Garble → List ℕ

@@ -85,10 +85,6 @@ pub record Judged (task : Task) (framer : Held) (stream : List ℕ) (answered : 
   pub written : new ≡ old ++ said
   pub waits : has_ended task refused ≡ false → (rest : List ℕ) × Cut framer.kind stream (answered ++ more) rest
 
--- a framer stands for some stream
-abbrev pub StandsForSome : Held → Type 0
-StandsForSome framer = (stream : List ℕ) × (answered : List Piece) × StandsFor framer stream answered
-
 -- The bytes that came next were fed and judged, for whatever stream and pieces the framer stood.
 abbrev pub IsJudged : Task → Held → Held → Option ℕ → Option ℕ → List ℕ → List ℕ → Type 0
 IsJudged task old new refused_old refused_new bytes said =

@@ -4,7 +4,7 @@ ghost use Rattle.std.specs.Prelude.{◌≡◌, ◌++◌, ◌≤◌, ◌∷◌, [
 ghost use Rattle.frame_grammar.specs.Cut.{Piece, Cut, Good, Bad};
 ghost use Rattle.frame_grammar.specs.Framer.{StandsFor, place_after};
 ghost use Rattle.frame_grammar.specs.Held.{room, capped};
-ghost use Rattle.gateway_top.specs.Stream.{Judges, JudgesAll, Judged, StandsForSome, has_ended, kind_of, stops, first_of};
+ghost use Rattle.gateway_top.specs.Stream.{Judges, JudgesAll, Judged, has_ended, kind_of, stops, first_of};
 
 use crate::command::Task;
 use crate::line::{append_frame, append_garbled};
@@ -107,7 +107,6 @@ pub(crate) fn judge_pieces(
     refused: &mut Option<u64>,
     text: &mut Vec<u8>,
 ) -> Result<(), AllocError>
-    requires stands { StandsForSome framer.old }
     ensures judged { OnOk result ((stream : List ℕ) (answered : List Piece) (before : List ℕ) → StandsFor framer.old stream answered →
         has_ended task refused.old ≡ false → JudgesAll task [] answered refused.old before →
         Judged task framer.new stream answered refused.new before text.old.items text.new.items) }

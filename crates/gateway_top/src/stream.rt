@@ -7,7 +7,7 @@ ghost use Rattle.outside.specs.Bytes.{AppendsFront};
 ghost use Rattle.frame_grammar.specs.Cut.{Piece, Cut};
 ghost use Rattle.frame_grammar.specs.Framer.{StandsFor, EndsIn, place_after};
 ghost use Rattle.frame_grammar.specs.Held.{room};
-ghost use Rattle.gateway_top.specs.Stream.{JudgesAll, Judged, IsJudged, StandsForSome, has_ended, end_said, unfinished};
+ghost use Rattle.gateway_top.specs.Stream.{JudgesAll, Judged, IsJudged, has_ended, end_said, unfinished};
 ghost use Rattle.gateway_top.specs.Run.{Ran, Ends};
 
 use crate::Status;
@@ -68,8 +68,7 @@ fn take_bytes<O: Sink>(
     text: &mut Vec<u8>,
     out: &mut O,
 ) -> Result<(), Stop>
-    requires stands { StandsForSome framer.old }
-    requires room { length bytes.now ≤ room framer.old }
+    requires { length bytes.now ≤ room framer.old }
     ensures judged { OnOk result (IsJudged task framer.old framer.new refused.old refused.new bytes.now text.new.items) }
     ensures put { OnOk result (Appends (O.bytes out.old) (O.bytes out.new) text.new.items) }
     ensures fault { IsErrOf result Stop.OutputFault → IsJudged task framer.old framer.new refused.old refused.new bytes.now text.new.items }
@@ -169,7 +168,15 @@ pub(crate) fn run_stream<I: Source, O: Sink>(
         }
         taken += count;
         let bytes = &buf[..count];
-        match take_bytes(task, &mut framer, &mut translator, &mut refused, bytes, &mut text, out) {
+        match take_bytes(
+            task,
+            &mut framer,
+            &mut translator,
+            &mut refused,
+            bytes,
+            &mut text,
+            out,
+        ) {
             Ok(()) => {}
             Err(Stop::OutputFault) => return Status::OutputFault,
             Err(Stop::NoMemory) => return Status::NoMemory,

@@ -5,18 +5,23 @@ use std::process::Abort;
 use std::test::Fail;
 
 /// A plain order, and the same as the venue takes it.
-const ORDER: &[u8] = b"8=FIX.4.2\x019=120\x0135=D\x0149=CLNT\x0156=GATE\x0134=2\x0152=20240102-10:00:00\x0111=A1\x01109=FUND\x0121=1\x0155=IBM\x0154=1\x0160=20240102-10:00:00\x0138=100\x0140=2\x0144=10.5\x0110=044\x01";
+const ORDER: &[u8] =
+    b"8=FIX.4.2\x019=120\x0135=D\x0149=CLNT\x0156=GATE\x0134=2\x0152=20240102-10:00:00\x0111=A1\x01109=FUND\x0121=1\x0155=IBM\x0154=1\x0160=20240102-10:00:00\x0138=100\x0140=2\x0144=10.5\x0110=044\x01";
 
-const UP: &[u8] = b"8=FIXT.1.1\x019=138\x0135=D\x0149=CLNT\x0156=GATE\x0134=2\x0152=20240102-10:00:00\x0111=A1\x01453=1\x01448=FUND\x01447=D\x01452=3\x0121=1\x0155=IBM\x0154=1\x0160=20240102-10:00:00\x0138=100\x0140=2\x0144=10.5\x0110=195\x01";
+const UP: &[u8] =
+    b"8=FIXT.1.1\x019=138\x0135=D\x0149=CLNT\x0156=GATE\x0134=2\x0152=20240102-10:00:00\x0111=A1\x01453=1\x01448=FUND\x01447=D\x01452=3\x0121=1\x0155=IBM\x0154=1\x0160=20240102-10:00:00\x0138=100\x0140=2\x0144=10.5\x0110=195\x01";
 
 /// The order with another OrdType, which is not plain.
-const STOP_ORDER: &[u8] = b"8=FIX.4.2\x019=120\x0135=D\x0149=CLNT\x0156=GATE\x0134=2\x0152=20240102-10:00:00\x0111=A1\x01109=FUND\x0121=1\x0155=IBM\x0154=1\x0160=20240102-10:00:00\x0138=100\x0140=3\x0144=10.5\x0110=045\x01";
+const STOP_ORDER: &[u8] =
+    b"8=FIX.4.2\x019=120\x0135=D\x0149=CLNT\x0156=GATE\x0134=2\x0152=20240102-10:00:00\x0111=A1\x01109=FUND\x0121=1\x0155=IBM\x0154=1\x0160=20240102-10:00:00\x0138=100\x0140=3\x0144=10.5\x0110=045\x01";
 
 /// A Heartbeat whose sum is one too high, and a TestRequest.
-const WRONG_SUM: &[u8] = b"8=FIX.4.2\x019=47\x0135=0\x0149=CLNT\x0156=GATE\x0134=2\x0152=20240102-10:00:00\x0110=071\x018=FIX.4.2\x019=57\x0135=1\x0149=CLNT\x0156=GATE\x0134=3\x0152=20240102-10:00:00\x01112=8=FIX\x0110=119\x01";
+const WRONG_SUM: &[u8] =
+    b"8=FIX.4.2\x019=47\x0135=0\x0149=CLNT\x0156=GATE\x0134=2\x0152=20240102-10:00:00\x0110=071\x018=FIX.4.2\x019=57\x0135=1\x0149=CLNT\x0156=GATE\x0134=3\x0152=20240102-10:00:00\x01112=8=FIX\x0110=119\x01";
 
 /// A Heartbeat of the venue's session, and the front of another.
-const VENUE: &[u8] = b"8=FIXT.1.1\x019=47\x0135=0\x0149=VENU\x0156=GATE\x0134=2\x0152=20240102-10:00:00\x0110=163\x018=FIXT.1.1\x019=4";
+const VENUE: &[u8] =
+    b"8=FIXT.1.1\x019=47\x0135=0\x0149=VENU\x0156=GATE\x0134=2\x0152=20240102-10:00:00\x0110=163\x018=FIXT.1.1\x019=4";
 
 /// A run with these words separated by a space, over this input and a sink, each of which fails at the listed calls.
 fn ran(
@@ -56,6 +61,7 @@ fn orders_go_up(rt: HostRuntime) -> Result<(), Fail> {
     let alloc = rt.alloc();
     let twice = [ORDER, ORDER].concat(alloc)?;
     let up_twice = [UP, UP].concat(alloc)?;
+    let cut = [ORDER, &ORDER[..142]].concat(alloc)?;
     ends(&rt, alloc, "translate up", ORDER, Status::Done, UP)?;
     ends(&rt, alloc, "translate up", &twice, Status::Done, &up_twice)?;
     ends(&rt, alloc, "translate up", b"", Status::Done, b"")?;
@@ -71,7 +77,7 @@ fn orders_go_up(rt: HostRuntime) -> Result<(), Fail> {
         &rt,
         alloc,
         "translate up",
-        &twice[..285],
+        &cut,
         Status::Refused { at: 143 },
         UP,
     )?;
@@ -143,10 +149,25 @@ fn streams_are_checked(rt: HostRuntime) -> Result<(), Fail> {
 #[test]
 fn words_and_faults(rt: HostRuntime) -> Result<(), Fail> {
     let alloc = rt.alloc();
-    for line in ["", "translate", "translate sideways", "translate up up", "check", "check gate", "--help up"] {
+    for line in [
+        "",
+        "translate",
+        "translate sideways",
+        "translate up up",
+        "check",
+        "check gate",
+        "--help up",
+    ] {
         ends(&rt, alloc, line, ORDER, Status::Usage, b"")?;
     }
-    ends(&rt, alloc, "--version", b"", Status::Done, b"fixgate 0.1.0\n")?;
+    ends(
+        &rt,
+        alloc,
+        "--version",
+        b"",
+        Status::Done,
+        b"fixgate 0.1.0\n",
+    )?;
     let (help, text) = ran(alloc, "--help", b"", &[], &[])?;
     assert_eq!(rt; help, Status::Done);
     assert!(rt; text.bytes().starts_with(b"fixgate "));
@@ -170,7 +191,14 @@ fn words_and_faults(rt: HostRuntime) -> Result<(), Fail> {
 fn an_input_has_a_limit(rt: HostRuntime) -> Result<(), Fail> {
     let alloc = rt.alloc();
     let mut input = vec![in alloc; 0u8; 67_108_864]?;
-    ends(&rt, alloc, "translate up", &input, Status::Refused { at: 0 }, b"")?;
+    ends(
+        &rt,
+        alloc,
+        "translate up",
+        &input,
+        Status::Refused { at: 0 },
+        b"",
+    )?;
     ends(
         &rt,
         alloc,
@@ -180,8 +208,22 @@ fn an_input_has_a_limit(rt: HostRuntime) -> Result<(), Fail> {
         b"0 garbled 67108864 BeginString\n",
     )?;
     input.push(0)?;
-    ends(&rt, alloc, "translate up", &input, Status::InputTooLong, b"")?;
-    ends(&rt, alloc, "check client", &input, Status::InputTooLong, b"")?;
+    ends(
+        &rt,
+        alloc,
+        "translate up",
+        &input,
+        Status::InputTooLong,
+        b"",
+    )?;
+    ends(
+        &rt,
+        alloc,
+        "check client",
+        &input,
+        Status::InputTooLong,
+        b"",
+    )?;
     Ok(())
 }
 

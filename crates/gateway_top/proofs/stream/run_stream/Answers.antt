@@ -23,11 +23,12 @@ returns-in-Ok-eq0-clause-ran g c =
     let kind = c.loop-framer.invariant.kind in
     let cut = subst (λ (k : Kind). Cut k m.bytes m.answered m.rest) (sym kind) m.cut in
     let ends = subst (λ (k : Kind). EndsIn c.finish.result k (place_after m.answered) m.rest) kind (c.finish.ensures m.bytes m.rest m.answered m.stands cut) in
-    let none = take_none c.read_some.new.buf c.in-Ok-eq0.field-0 c.in-Ok-eq0.field-0-test in
-    (m.bytes,
-    consumed_all _ _ _ _ _ _ _ _ m _ _ none c.in-Ok-eq0.ensures.bytes,
-    ran_to_end _ _ _ _ _ _ _ _ m (g.I.Source.left c.read_some.new.input) c.finish.result (c.in-Ok-eq0.ensures.end c.in-Ok-eq0.field-0-test) c.loop-framer.invariant.limit ends
-      c.end_stream.result (g.O.Sink.bytes c.end_stream.new.out) c.end_stream.ensures.ends)
+    let none = take_none c.read_some.new.buf c.in-Ok-eq0.field-0 c.in-Ok-eq0.field-0-test in (
+      m.bytes,
+      consumed_all _ _ _ _ _ _ _ _ m _ _ none c.in-Ok-eq0.ensures.bytes,
+      ran_to_end _ _ _ _ _ _ _ _ m (g.I.Source.left c.read_some.new.input) c.finish.result (c.in-Ok-eq0.ensures.end c.in-Ok-eq0.field-0-test) c.loop-framer.invariant.limit ends
+          c.end_stream.result (g.O.Sink.bytes c.end_stream.new.out) c.end_stream.ensures.ends,
+    )
 
 pub returns-then-count-taken-clause-ran : goal.returns-then-count-taken-clause-ran
 returns-then-count-taken-clause-ran g c =
@@ -36,9 +37,11 @@ returns-then-count-taken-clause-ran g c =
     let most = c.in-Ok-read_some.ensures.bound in
     let full : c.loop-framer.taken ≡ 67108864 = omega (arith, c.clamp-most.ensures, c.if-count-taken.true, most, c.loop-framer.invariant.limit) in
     let one : count ≡ 1 = omega (arith, c.clamp-most.ensures, c.if-count-taken.true, most, c.loop-framer.invariant.limit) in
-    let long = length_front c.read_some.new.buf count (omega (arith, one, c.loop-framer.invariant.buf)) in
-    (_, consumed_more _ _ _ _ _ _ _ _ m _ _ c.in-Ok-read_some.ensures.bytes,
-    too_long _ _ _ _ _ _ _ _ m (g.I.Source.left c.read_some.new.input) (take count c.read_some.new.buf) full (long ∙ one))
+    let long = length_front c.read_some.new.buf count (omega (arith, one, c.loop-framer.invariant.buf)) in (
+      _,
+      consumed_more _ _ _ _ _ _ _ _ m _ _ c.in-Ok-read_some.ensures.bytes,
+      too_long _ _ _ _ _ _ _ _ m (g.I.Source.left c.read_some.new.input) (take count c.read_some.new.buf) full (long ∙ one),
+    )
 
 pub returns-in-Err-OutputFault-clause-ran : goal.returns-in-Err-OutputFault-clause-ran
 returns-in-Err-OutputFault-clause-ran g c =
@@ -49,11 +52,18 @@ returns-in-Err-OutputFault-clause-ran g c =
     let long = length_front c.read_some.new.buf count (omega (arith, c.in-Ok-read_some.ensures.bound, c.clamp-most.ensures, c.loop-framer.invariant.buf)) in
     let failed = ap (λ e. Err e) c.in-Err-OutputFault.field-0-is in
     let judged = c.in-Err-OutputFault.ensures.fault failed in
-    let put = c.in-Err-OutputFault.ensures.fault_put failed in
-    (m.bytes ++ bytes, consumed_more _ _ _ _ _ _ _ _ m _ _ c.in-Ok-read_some.ensures.bytes,
-    (omega (arith, length-append m.bytes bytes, long, m.taken_is, c.if-count-taken.false, c.loop-framer.invariant.limit),
-    (_, said_now _ _ _ _ _ _ _ _ m _ _ bytes _ kind judged (g.I.Source.left c.read_some.new.input),
-    appended_front _ _ _ _ _ m.put put)))
+    let put = c.in-Err-OutputFault.ensures.fault_put failed in (
+      m.bytes ++ bytes,
+      consumed_more _ _ _ _ _ _ _ _ m _ _ c.in-Ok-read_some.ensures.bytes,
+      (
+        omega (arith, length-append m.bytes bytes, long, m.taken_is, c.if-count-taken.false, c.loop-framer.invariant.limit),
+        (
+          _,
+          said_now _ _ _ _ _ _ _ _ m _ _ bytes _ kind judged (g.I.Source.left c.read_some.new.input),
+          appended_front _ _ _ _ _ m.put put,
+        ),
+      ),
+    )
 
 pub returns-in-Err-NoMemory-clause-ran : goal.returns-in-Err-NoMemory-clause-ran
 returns-in-Err-NoMemory-clause-ran g c =
@@ -61,10 +71,12 @@ returns-in-Err-NoMemory-clause-ran g c =
     let count = c.in-Ok-read_some.count in
     let bytes = take count c.read_some.new.buf in
     let long = length_front c.read_some.new.buf count (omega (arith, c.in-Ok-read_some.ensures.bound, c.clamp-most.ensures, c.loop-framer.invariant.buf)) in
-    let failed = ap (λ e. Err e) c.in-Err-NoMemory.field-0-is in
-    (m.bytes ++ bytes, consumed_more _ _ _ _ _ _ _ _ m _ _ c.in-Ok-read_some.ensures.bytes,
-    no_memory _ _ _ _ _ _ _ _ m (g.I.Source.left c.read_some.new.input) (g.O.Sink.bytes c.take_bytes.new.out) bytes
-      (omega (arith, long, c.if-count-taken.false, c.loop-framer.invariant.limit)) (c.in-Err-NoMemory.ensures.memory failed))
+    let failed = ap (λ e. Err e) c.in-Err-NoMemory.field-0-is in (
+      m.bytes ++ bytes,
+      consumed_more _ _ _ _ _ _ _ _ m _ _ c.in-Ok-read_some.ensures.bytes,
+      no_memory _ _ _ _ _ _ _ _ m (g.I.Source.left c.read_some.new.input) (g.O.Sink.bytes c.take_bytes.new.out) bytes
+          (omega (arith, long, c.if-count-taken.false, c.loop-framer.invariant.limit)) (c.in-Err-NoMemory.ensures.memory failed),
+    )
 
 pub returns-in-Some-clause-ran : goal.returns-in-Some-clause-ran
 returns-in-Some-clause-ran g c =
@@ -73,11 +85,18 @@ returns-in-Some-clause-ran g c =
     let count = c.in-Ok-read_some.count in
     let bytes = take count c.read_some.new.buf in
     let long = length_front c.read_some.new.buf count (omega (arith, c.in-Ok-read_some.ensures.bound, c.clamp-most.ensures, c.loop-framer.invariant.buf)) in
-    let at = c.in-Some.ensures.some in
-    (m.bytes ++ bytes, consumed_more _ _ _ _ _ _ _ _ m _ _ c.in-Ok-read_some.ensures.bytes,
-    (omega (arith, length-append m.bytes bytes, long, m.taken_is, c.if-count-taken.false, c.loop-framer.invariant.limit),
-    (_, inl (stopped _ _ _ _ _ _ _ _ m _ _ bytes _ kind c.in-Ok-take_bytes.ensures.judged c.in-Some.at at.0 at.1),
-    Appends-trans _ _ _ _ _ m.put c.in-Ok-take_bytes.ensures.put)))
+    let at = c.in-Some.ensures.some in (
+      m.bytes ++ bytes,
+      consumed_more _ _ _ _ _ _ _ _ m _ _ c.in-Ok-read_some.ensures.bytes,
+      (
+        omega (arith, length-append m.bytes bytes, long, m.taken_is, c.if-count-taken.false, c.loop-framer.invariant.limit),
+        (
+          _,
+          inl (stopped _ _ _ _ _ _ _ _ m _ _ bytes _ kind c.in-Ok-take_bytes.ensures.judged c.in-Some.at at.0 at.1),
+          Appends-trans _ _ _ _ _ m.put c.in-Ok-take_bytes.ensures.put,
+        ),
+      ),
+    )
 
 pub loop-framer-preserved : goal.loop-framer-preserved
 loop-framer-preserved g c =

@@ -40,7 +40,8 @@ pub returns-in-Ok-clause-ok : goal.returns-in-Ok-clause-ok
 returns-in-Ok-clause-ok c =
     let up = c.write_up.new.up.items in
     let stands = c.in_ok-write_up.ensures.ok in
-    let frame = subst (λ (b : List ℕ). IsFrame Fixt11 b (frame_of Fixt11 b)) c.deref.ensures.value c.in-Ok.ensures.frame in
-    (frame_of Fixt11 up,
-    record { up = up; stands = stands; written = refl; frame = frame; keeps = frame_keeps c.args.body.now up (frame_of Fixt11 up) stands frame },
-    c.in-Ok.ensures.ok ∙ ap (λ (b : List ℕ). c.args.out.now.items ++ frame_of Fixt11 b) c.deref.ensures.value)
+    let frame = subst (λ (b : List ℕ). IsFrame Fixt11 b (frame_of Fixt11 b)) c.deref.ensures.value c.in-Ok.ensures.frame in (
+      frame_of Fixt11 up,
+      record { up = up; stands = stands; written = refl; frame = frame; keeps = frame_keeps c.args.body.now up (frame_of Fixt11 up) stands frame },
+      c.in-Ok.ensures.ok ∙ ap (λ (b : List ℕ). c.args.out.now.items ++ frame_of Fixt11 b) c.deref.ensures.value,
+    )
