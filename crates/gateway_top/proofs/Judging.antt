@@ -1,6 +1,6 @@
 -- What is judged piece by piece.
 use Rattle.std.proofs.Common.{◌≡◌, ℕ, Bool, true, false, ◌&&◌, List, [], ◌∷◌, ◌++◌, refl, sym, ◌∙◌, ap, subst, Some, None, Option, append_assoc, append-nil}
-use Rattle.std.specs.Prelude.{MatchBool, is_some}
+use Rattle.std.specs.Prelude.{MatchBool}
 use Rattle.frame_grammar.specs.Held.{Held}
 use Rattle.frame_grammar.specs.Cut.{Piece}
 use Rattle.frame_grammar.specs.Framer.{StandsFor}

@@ -1,22 +1,18 @@
 -- What a command makes of a stream of frames.
-use Rattle.std.specs.Prelude.{◌≡◌, ◌≢◌, ℕ, ◌+◌, ◌<◌, ◌≤◌, Bool, true, false, not, ◌&&◌, is_some, List, [], ◌∷◌, ◌++◌, length, take, ◌⊎◌, Some, None, MatchBool}
+use Rattle.std.specs.Prelude.{◌≡◌, ℕ, Bool, true, false, ◌&&◌, is_some, List, [], ◌∷◌, ◌++◌, length, Some, None, MatchBool}
 use Rattle.std.specs.declared.option.Option.{Option}
-use Rattle.std.specs.Io.KnownBytes.{Appends, IsAtEnd}
-use Rattle.outside.specs.Bytes.{AppendsFront}
 use Rattle.frame_grammar.specs.declared.frame.Kind.{Kind}
 use Rattle.frame_grammar.specs.declared.frame.Kind.TheVariants.{Fix42, Fixt11}
 use Rattle.frame_grammar.specs.declared.pieces.Rest.{Rest}
 use Rattle.frame_grammar.specs.declared.pieces.Rest.TheVariants as rests
-use Rattle.frame_grammar.specs.Cut.{Piece, Good, Bad, ComeFirst, Cut}
+use Rattle.frame_grammar.specs.Cut.{Piece, Good, Bad, Cut}
 use Rattle.frame_grammar.specs.Held.{Held, capped}
-use Rattle.frame_grammar.specs.Framer.{StandsFor, place_after, EndsIn}
+use Rattle.frame_grammar.specs.Framer.{StandsFor, place_after}
 use Rattle.request_translate.specs.Plain.{IsPlain}
 use Rattle.request_translate.specs.Up.{IsTranslation}
 use Rattle.gateway_top.specs.Lines.{frame_line, garbled_line, inside_line}
 use Rattle.gateway_top.specs.declared.command.Task.{Task}
 use Rattle.gateway_top.specs.declared.command.Task.TheVariants.{TranslateUp, CheckClient, CheckVenue}
-use Rattle.gateway_top.specs.declared.status.Status.{Status}
-use Rattle.gateway_top.specs.declared.status.Status.TheVariants.{Done, Refused, Usage, InputFault, OutputFault, NoMemory, InputTooLong}
 
 -- the most bytes that an input may have
 abbrev pub input_limit : ℕ
@@ -38,7 +34,7 @@ stops CheckVenue = false
 -- A translation is written for a plain order, and any other piece is refused. A check writes a line for each piece, and
 -- refuses those that are garbled.
 abbrev pub Judges : Task → List Piece → Piece → Option ℕ → List ℕ → Type 0
-Judges TranslateUp before (Good body bytes) None said = IsTranslation body said
+Judges TranslateUp before (Good body bytes) None said = IsPlain body × IsTranslation body said
 Judges TranslateUp before (Good body bytes) (Some at) said = (¬ IsPlain body) × (at ≡ place_after before) × (said ≡ [])
 Judges TranslateUp before (Bad cause bytes) refused said = (refused ≡ Some (place_after before)) × (said ≡ [])
 Judges task before (Good body bytes) refused said =

@@ -14,7 +14,8 @@ use std::alloc::Global;
 
 /// What `--help` prints.
 const HELP: &str = "\
-fixgate keeps a trading client of FIX 4.2 connected to a venue of FIX 5.0 SP2 over FIXT 1.1.
+fixgate is a gateway from a trading client of FIX 4.2 to a venue of FIX 5.0 SP2 over FIXT 1.1.
+So far it translates plain orders and checks streams.
 
 Usage: fixgate COMMAND
 
@@ -25,8 +26,9 @@ Usage: fixgate COMMAND
   --help          prints this text
   --version       prints the version
 
-A translated order is a NewOrderSingle with the fields 35=D 49 56 34 52 11 [109] 21 55 54 60 38 40 [44]
-in this order. Frames are read as they are on the wire, with SOH (byte 1) behind each field.
+A plain order is a NewOrderSingle with the fields 35=D 49 56 34 52 11 [109] 21 55 54 60 38 40 [44] in
+this order; docs/DEFINITIONS.md has the form of each. Frames are read as they are on the wire, with
+SOH (byte 1) behind each field.
 
 Exit status:
    0  done

@@ -1,4 +1,4 @@
-use Rattle.std.proofs.Common.{◌∙◌, [], List, ℕ, refl, sym, ap, subst, Some, Err, append-nil}
+use Rattle.std.proofs.Common.{◌∙◌, [], refl, sym, ap, subst, Some, Err, append-nil}
 use Rattle.frame_grammar.specs.Cut.{Good}
 use Rattle.gateway_top.specs.declared.command.Task.{Task}
 use Rattle.gateway_top.specs.Stream.{Judges}

@@ -1,6 +1,6 @@
-use Rattle.std.proofs.Common.{◌≡◌, ◌++◌, ◌∷◌, [], true, false, List, ℕ, refl, sym, ◌∙◌, ap, subst}
-use Rattle.frame_grammar.specs.Cut.{Piece, Good, Bad}
-use Rattle.gateway_top.specs.Stream.{Judges, Judged, has_ended}
+use Rattle.std.proofs.Common.{◌≡◌, ◌++◌, true, false, List, ℕ, refl, sym, ◌∙◌, subst}
+use Rattle.frame_grammar.specs.Cut.{Good, Bad}
+use Rattle.gateway_top.specs.Stream.{Judges, has_ended}
 use Rattle.gateway_top.proofs.Judging.{Judging, judging_none, judging_more}
 use Rattle.gateway_top.proofs.judge.judge_pieces.Goals as goal
 

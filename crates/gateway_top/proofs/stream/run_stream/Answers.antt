@@ -1,9 +1,9 @@
-use Rattle.std.proofs.Common.{◌≡◌, ◌+◌, ◌≤◌, ◌++◌, [], false, ℕ, List, refl, sym, ◌∙◌, ap, subst, Some, None, Option, inl, take, length, arith, length-take, length-append, Err}
+use Rattle.std.proofs.Common.{◌≡◌, ◌≤◌, ◌++◌, [], ℕ, List, sym, ◌∙◌, ap, subst, None, inl, take, length, arith, length-take, length-append, Err}
 use Rattle.std.proofs.KnownBytes.{Appends-nil, Appends-trans, Consumes-nil}
 use Rattle.frame_grammar.specs.declared.frame.Kind.{Kind}
 use Rattle.frame_grammar.specs.Cut.{Cut}
 use Rattle.frame_grammar.specs.Framer.{EndsIn, place_after}
-use Rattle.gateway_top.proofs.Midway.{waits_at_start, at_start, midway_more, consumed_more, consumed_all, too_long, no_memory, input_failed, stopped, said_now, ran_to_end, appended_front}
+use Rattle.gateway_top.proofs.Midway.{waits_at_start, midway_more, consumed_more, consumed_all, too_long, no_memory, stopped, said_now, ran_to_end, appended_front}
 use Rattle.gateway_top.proofs.stream.run_stream.Goals as goal
 
 -- so many bytes of a buffer that has them

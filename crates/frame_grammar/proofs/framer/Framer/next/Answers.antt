@@ -1,4 +1,4 @@
-use Rattle.std.proofs.Common.{◌≡◌, ◌+◌, ◌-◌, ◌≤◌, ◌<◌, ◌++◌, length-append, ◌∙◌, ap, subst, sym, List, ℕ, length, drop, min, arith, None, MatchOption}
+use Rattle.std.proofs.Common.{◌≡◌, ◌+◌, ◌-◌, ◌≤◌, ◌<◌, length-append, ◌∙◌, ap, subst, sym, List, ℕ, length, drop, min, arith, None, MatchOption}
 use Rattle.std.specs.Prelude.{slice_range}
 use Rattle.frame_grammar.specs.declared.frame.Kind.{Kind}
 use Rattle.frame_grammar.specs.declared.pieces.Next.TheVariants as next
@@ -66,5 +66,5 @@ pub returns-in-Frame-clause-progress : goal.returns-in-Frame-clause-progress
 returns-in-Frame-clause-progress c more =
     let shorter = frame_shortens c.self.inside.kind (slice_range c.unread.result.now c.in-Frame.start (c.in-Frame.start + c.in-Frame.len)) c.unread.result.now c.in-Frame.end c.in-Frame.ensures.2 in
     let less : length (drop c.in-Frame.end c.args.self.now.unread) < length c.args.self.now.unread =
-        subst (λ (l : List ℕ). length (drop c.in-Frame.end l) < length l) c.unread.ensures shorter in
+    subst (λ (l : List ℕ). length (drop c.in-Frame.end l) < length l) c.unread.ensures shorter in
     rw c.next_frame.ensures.after (omega (arith, less))
