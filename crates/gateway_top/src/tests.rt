@@ -188,6 +188,30 @@ fn words_and_faults(rt: HostRuntime) -> Result<(), Fail> {
 }
 
 #[test]
+fn a_fault_in_the_middle_leaves_what_was_said(rt: HostRuntime) -> Result<(), Fail> {
+    let alloc = rt.alloc();
+    let mut stream = Vec::new(alloc);
+    for _ in 0..40 {
+        stream.extend_from_slice(ORDER)?;
+    }
+    // Of 40 orders of 143 bytes, 28 stand whole in the first 4,096 bytes.
+    let mut up = Vec::new(alloc);
+    for _ in 0..28 {
+        up.extend_from_slice(UP)?;
+    }
+    let (unread, put) = ran(alloc, "translate up", &stream, &[2], &[])?;
+    assert_eq!(rt; unread, Status::InputFault);
+    assert_eq!(rt; put.bytes(), up.as_slice());
+    let (unput, some) = ran(alloc, "translate up", &stream, &[], &[2])?;
+    assert_eq!(rt; unput, Status::OutputFault);
+    assert_eq!(rt; some.bytes(), up.as_slice());
+    let (checked, lines) = ran(alloc, "check client", &stream, &[2], &[])?;
+    assert_eq!(rt; checked, Status::InputFault);
+    assert!(rt; lines.bytes().ends_with(b"3861 frame 143 D unread\n"));
+    Ok(())
+}
+
+#[test]
 fn an_input_has_a_limit(rt: HostRuntime) -> Result<(), Fail> {
     let alloc = rt.alloc();
     let mut input = vec![in alloc; 0u8; 67_108_864]?;

@@ -79,7 +79,7 @@ abbrev pub parts_of : List Field → Option Parts
 parts_of fields =
     with_group (take_while (λ f. not (f.0 == 453)) fields) (drop (length (take_while (λ f. not (f.0 == 453)) fields)) fields)
 
--- the group of these parties, as it is written: PartyIDSource D is a code of the venue's own
+-- the group of these parties, as it is written: PartyIDSource D is a proprietary code, one that the two firms agreed on
 abbrev pub line_fields : Party → List Field
 line_fields party = (448, party.id) ∷ (447, codes "D") ∷ (452, decimal party.role) ∷ []
 
