@@ -3,7 +3,6 @@ use Rattle.std.specs.Prelude.{◌≡◌, pos, false, List, [], ◌∷◌, ◌++�
 use Rattle.std.specs.Fmt.{digits}
 use Rattle.typed_fields.specs.Kinds.{spelled, units_in, number_in}
 use Rattle.typed_fields.specs.Digits.{are_digits, number_of, has_pattern, zero_padded, without_leading_zeros, without_trailing_zeros}
-use Rattle.std.specs.declared.option.Option.{Option}
 use Rattle.field_groups.specs.Field.{Field}
 use Rattle.order_meaning.specs.Request.{Request, New, Limit}
 use Rattle.request_translate.specs.Sense42.{sense42}
