@@ -118,23 +118,26 @@ module _ (task : Task) where
         put = Appends-trans out_old out put m.said now m.put appended;
       }
 
-      pub stopped : (at : ℕ) → next ≡ Some at → stops task ≡ true → Stopped task (m.bytes ++ piece) at (m.said ++ now)
-      stopped at is ends = record {
+      pub stopped : length piece ≤ 4096 → (at : ℕ) → next ≡ Some at → stops task ≡ true → Stopped task (m.bytes ++ piece) at (m.said ++ now)
+      stopped few at is ends = record {
         pieces = m.answered ++ j.more;
         left = j.stands.dropped ++ after.unread;
         come = subst (λ (k : Kind). ComeFirst k (m.bytes ++ piece) (m.answered ++ j.more) (j.stands.dropped ++ after.unread)) kind j.stands.come;
         judges = subst (λ (r : Option ℕ). JudgesAll task [] (m.answered ++ j.more) r (m.said ++ now)) is said_more;
         stops = ends;
+        before = length m.bytes;
+        near = omega (arith, length-append m.bytes piece, few);
+        waited = (refused, m.said, subst (λ (l : List ℕ). Waits task l refused m.said) (sym (take_front m.bytes piece (length m.bytes) refl)) waits);
       }
 
       -- whether the task has ended or not
-      by_end : (b : Bool) → stops task ≡ b → (r : Option ℕ) → next ≡ r → (left : Option (List ℕ)) → Said task (m.bytes ++ piece) left (m.said ++ now)
-      by_end true ends (Some at) is left = inr (inl (at, stopped at is ends))
-      by_end true ends None is left = inl (next, waits_more (subst (λ (r : Option ℕ). has_ended task r ≡ false) (sym is) (going_none task)))
-      by_end false goes_on r is left = inl (next, waits_more (ap (λ (b : Bool). b && is_some next) goes_on))
+      by_end : length piece ≤ 4096 → (b : Bool) → stops task ≡ b → (r : Option ℕ) → next ≡ r → (left : Option (List ℕ)) → Said task (m.bytes ++ piece) left (m.said ++ now)
+      by_end few true ends (Some at) is left = inr (inl (at, stopped few at is ends))
+      by_end few true ends None is left = inl (next, waits_more (subst (λ (r : Option ℕ). has_ended task r ≡ false) (sym is) (going_none task)))
+      by_end few false goes_on r is left = inl (next, waits_more (ap (λ (b : Bool). b && is_some next) goes_on))
 
-      pub said_now : (left : Option (List ℕ)) → Said task (m.bytes ++ piece) left (m.said ++ now)
-      said_now left = by_end (stops task) refl next refl left
+      pub said_now : length piece ≤ 4096 → (left : Option (List ℕ)) → Said task (m.bytes ++ piece) left (m.said ++ now)
+      said_now few left = by_end few (stops task) refl next refl left
 
     -- the input has ended
     module _ (left : Option (List ℕ)) (end : Rest) (at_end : IsAtEnd left) (within : taken ≤ input_limit) (ends : EndsIn end (kind_of task) (place_after m.answered) m.rest) where

@@ -22,13 +22,17 @@ pub record Waits (task : Task) (bytes : List ℕ) (refused : Option ℕ) (said :
   pub judges : JudgesAll task [] pieces refused said
   pub going : has_ended task refused ≡ false
 
--- The task has ended at a piece that stands whole in these bytes, which is the first that it refused and begins here.
+-- The task has ended at a piece that stands whole in these bytes, which is the first that it refused and begins here. Before the
+-- last read, of 4,096 bytes at most, it had judged every piece that stood whole, and had not ended.
 pub record Stopped (task : Task) (bytes : List ℕ) (at : ℕ) (said : List ℕ) : Type 0 where
   pub pieces : List Piece
   pub left : List ℕ
   pub come : ComeFirst (kind_of task) bytes pieces left
   pub judges : JudgesAll task [] pieces (Some at) said
   pub stops : stops task ≡ true
+  pub before : ℕ
+  pub near : length bytes ≤ before + 4096
+  pub waited : (refused : Option ℕ) × (earlier : List ℕ) × Waits task (take before bytes) refused earlier
 
 -- The task has judged every piece of these bytes, after which the input ends, and said how they end. The first piece that it
 -- refused, or the unfinished one at the end, begins here.

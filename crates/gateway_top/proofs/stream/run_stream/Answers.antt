@@ -50,6 +50,7 @@ returns-in-Err-OutputFault-clause-ran g c =
     let count = c.in-Ok-read_some.count in
     let bytes = take count c.read_some.new.buf in
     let long = length_front c.read_some.new.buf count (omega (arith, c.in-Ok-read_some.ensures.bound, c.clamp-most.ensures, c.loop-framer.invariant.buf)) in
+    let few : length bytes ≤ 4096 = omega (arith, long, c.in-Ok-read_some.ensures.bound, c.clamp-most.ensures) in
     let failed = ap (λ e. Err e) c.in-Err-OutputFault.field-0-is in
     let judged = c.in-Err-OutputFault.ensures.fault failed in
     let put = c.in-Err-OutputFault.ensures.fault_put failed in (
@@ -59,7 +60,7 @@ returns-in-Err-OutputFault-clause-ran g c =
         omega (arith, length-append m.bytes bytes, long, m.taken_is, c.if-count-taken.false, c.loop-framer.invariant.limit),
         (
           _,
-          said_now _ _ _ _ _ _ _ _ m _ _ bytes _ kind judged (g.I.Source.left c.read_some.new.input),
+          said_now _ _ _ _ _ _ _ _ m _ _ bytes _ kind judged few (g.I.Source.left c.read_some.new.input),
           appended_front _ _ _ _ _ m.put put,
         ),
       ),
@@ -85,6 +86,7 @@ returns-in-Some-clause-ran g c =
     let count = c.in-Ok-read_some.count in
     let bytes = take count c.read_some.new.buf in
     let long = length_front c.read_some.new.buf count (omega (arith, c.in-Ok-read_some.ensures.bound, c.clamp-most.ensures, c.loop-framer.invariant.buf)) in
+    let few : length bytes ≤ 4096 = omega (arith, long, c.in-Ok-read_some.ensures.bound, c.clamp-most.ensures) in
     let at = c.in-Some.ensures.some in (
       m.bytes ++ bytes,
       consumed_more _ _ _ _ _ _ _ _ m _ _ c.in-Ok-read_some.ensures.bytes,
@@ -92,7 +94,7 @@ returns-in-Some-clause-ran g c =
         omega (arith, length-append m.bytes bytes, long, m.taken_is, c.if-count-taken.false, c.loop-framer.invariant.limit),
         (
           _,
-          inl (stopped _ _ _ _ _ _ _ _ m _ _ bytes _ kind c.in-Ok-take_bytes.ensures.judged c.in-Some.at at.0 at.1),
+          inl (stopped _ _ _ _ _ _ _ _ m _ _ bytes _ kind c.in-Ok-take_bytes.ensures.judged few c.in-Some.at at.0 at.1),
           Appends-trans _ _ _ _ _ m.put c.in-Ok-take_bytes.ensures.put,
         ),
       ),
