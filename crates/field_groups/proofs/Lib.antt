@@ -5,3 +5,5 @@ pub mod Front
 pub mod Determined
 pub mod Whole
 pub mod Rows
+pub mod Clean
+pub mod Again

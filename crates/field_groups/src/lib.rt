@@ -8,6 +8,7 @@ mod fault;
 mod fields;
 mod laws;
 mod splitting;
+mod table_fault;
 #[cfg(test)]
 mod tests;
 
@@ -15,3 +16,4 @@ pub use fault::SplitFault;
 pub use fields::{Fields, Split};
 pub use laws::{every_body_splits, fields_are_determined, fields_read_again};
 pub use splitting::split;
+pub use table_fault::{Mark, TableFault};

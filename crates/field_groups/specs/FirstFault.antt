@@ -1,0 +1,195 @@
+-- Own: the first fault of a message's fields beside its table, stage by stage; the reasons are those
+-- of SessionRejectReason(373), FIX 4.2 and FIXT 1.1, Reject.
+use Rattle.std.specs.Prelude.{ℕ, ◌==◌, ◌&&◌, ◌||◌, Bool, true, false, not, List, [], ◌∷◌, ◌++◌, map, filter, take_while, length, nat_le, unwrap_or, Some, None, Result, Ok, Err, if◌then◌else◌}
+use Rattle.std.specs.declared.option.Option.{Option}
+use Rattle.std.specs.Option.{option_map}
+use Rattle.std.specs.List.{list_any, list_all, flat_map}
+use Rattle.std.specs.Char.{is_ascii_digit}
+use Rattle.std.specs.Str.Parse.{digits_value}
+use Rattle.field_groups.specs.declared.table_fault.TableFault.{TableFault}
+use Rattle.field_groups.specs.declared.table_fault.TableFault.TheVariants as faults
+use Rattle.field_groups.specs.declared.table_fault.Mark.{Mark}
+use Rattle.field_groups.specs.declared.table_fault.Mark.TheVariants as marks
+use Rattle.field_groups.specs.Field.{Field}
+use Rattle.field_groups.specs.Tables.{Cell, Verdict, Spells, Outside, Wrong, Need, Lenient, Fixed, Row, Group, Item, One, Party, Lines, Table, Message, Judge, or_else, first_of, value_at, has_tag, is_one_of, is_needed, row_at, rows_in, groups_in, tags_of, first_tag, lines_in, group_says, flag_of, cells_of}
+
+-- a field, with the fields before it, from it backwards, and those after it
+pub record Placed : Type 0 where
+  pub before : List Field
+  pub field : Field
+  pub after : List Field
+
+abbrev pub placed_from : List Field → List Field → List Placed
+placed_from before [] = []
+placed_from before (f ∷ fs) =
+    record { before = before; field = f; after = fs } ∷ placed_from (f ∷ before) fs
+
+abbrev pub fault_if : Bool → TableFault → Option TableFault
+fault_if true fault = Some fault
+fault_if false fault = None
+
+-- ---- a tag twice
+
+-- the tags that stand at most once in a message; members of groups are not counted
+abbrev pub once_of : {Kind : Type 0} → Item Kind → List ℕ
+once_of (One row) = row.tag ∷ []
+once_of (Party role) = []
+once_of (Lines group) = group.count ∷ []
+
+abbrev pub once_in : {Kind : Type 0} → Table Kind → List ℕ
+once_in table = tags_of table.header ++ flat_map once_of table.items
+
+-- a tag of the profile that stands again (13)
+abbrev pub twice : List ℕ → Placed → Option TableFault
+twice once p =
+    fault_if (is_one_of once p.field.0 && has_tag p.field.0 p.before) (faults.Reason p.field.0 13)
+
+-- ---- groups
+
+-- the number that a count says: 1 to 10 digits, and at most 1,000,000,000
+abbrev pub counted : List ℕ → Option ℕ
+counted [] = None
+counted (byte ∷ bytes) =
+    if list_all is_ascii_digit (byte ∷ bytes) && nat_le (length (byte ∷ bytes)) 10
+    && nat_le (digits_value 10 (byte ∷ bytes)) 1_000_000_000
+    then Some (digits_value 10 (byte ∷ bytes)) else None
+
+abbrev pub is_count : Option ℕ → ℕ → Bool
+is_count None lines = false
+is_count (Some said) lines = said == lines
+
+-- a group has at most so many lines
+abbrev pub most_lines : ℕ
+most_lines = 32
+
+-- whether a tag is inside a group, as a member or as one that says nothing
+abbrev pub is_inside : {Kind : Type 0} → Group Kind → ℕ → Bool
+is_inside group tag = is_one_of (tags_of group.rows) tag || is_one_of group.skipped tag
+
+-- the fields of a group at the front, and how many of them begin a line
+abbrev pub run : {Kind : Type 0} → Group Kind → List Field → List Field
+run group fields = take_while (λ f. is_inside group f.0) fields
+
+abbrev pub lines_begun : {Kind : Type 0} → Group Kind → List Field → ℕ
+lines_begun group fields = length (filter (λ f. f.0 == first_tag group.rows) (run group fields))
+
+-- the fields of the line that a field stands in, from it backwards to the one that begins it, which
+-- is left out
+abbrev pub line_before : {Kind : Type 0} → Group Kind → List Field → List Field
+line_before group before = take_while (λ f. not (f.0 == first_tag group.rows)) before
+
+-- whether the fields before one, from it backwards, are of a group after its count
+abbrev pub is_opened : {Kind : Type 0} → Group Kind → List Field → Bool
+is_opened group [] = false
+is_opened group (f ∷ fs) =
+    if f.0 == group.count then true else (if is_inside group f.0 then is_opened group fs else false)
+
+-- The fault of a field that a group has: a count that is no number or not the number of lines (16);
+-- a member outside its group, before the first line, or again in its line (15); a line past the last
+-- that may be (5, of the count).
+abbrev pub misplaced : {Kind : Type 0} → Placed → Group Kind → Option TableFault
+misplaced p group =
+    if p.field.0 == group.count
+    then fault_if (not (is_count (counted p.field.1) (lines_begun group p.after))) (faults.Reason p.field.0 16)
+    else (if not (is_inside group p.field.0) then None
+    else (if not (is_opened group p.before) then Some (faults.Reason p.field.0 15)
+    else (if is_one_of group.skipped p.field.0 then None
+    else (if p.field.0 == first_tag group.rows
+    then fault_if (nat_le most_lines (lines_begun group p.before)) (faults.Reason group.count 5)
+    else fault_if (lines_begun group p.before == 0 || has_tag p.field.0 (line_before group p.before))
+        (faults.Reason p.field.0 15)))))
+
+abbrev pub in_groups : {Kind : Type 0} → List (Group Kind) → Placed → Option TableFault
+in_groups groups p = first_of (misplaced p) groups
+
+-- ---- values
+
+-- What a field is beside its row: good where its value is one of the profile, or where the row says
+-- something whatever stands there.
+abbrev pub mark_by : Need → Verdict → Mark
+mark_by need (Spells text) = marks.Good
+mark_by need (Wrong reason) = marks.Wrong reason
+mark_by Lenient Outside = marks.Good
+mark_by (Fixed text) Outside = marks.Good
+mark_by need Outside = marks.Outside
+
+-- A field without a row is at fault where it is empty (4), and else outside the profile, where it may
+-- not be passed over.
+abbrev pub mark_of : {Kind : Type 0} → Judge Kind → Bool → List Field → List ℕ → Option (Row Kind) → Mark
+mark_of judge passed fields value (Some row) = mark_by row.need (judge fields row.kind value)
+mark_of judge passed fields [] None = marks.Wrong 4
+mark_of judge passed fields value None = if passed then marks.Good else marks.Outside
+
+-- a tag, and what its field is
+abbrev pub Marked : Type 0
+Marked = ℕ × Mark
+
+-- a version of the application that is not spoken (18)
+abbrev pub wrong_version : Marked → Option TableFault
+wrong_version (tag, marks.Wrong reason) = fault_if (reason == 18) (faults.Reason tag reason)
+wrong_version (tag, mark) = None
+
+abbrev pub wrong : Marked → Option TableFault
+wrong (tag, marks.Wrong reason) = Some (faults.Reason tag reason)
+wrong (tag, mark) = None
+
+abbrev pub beyond : Marked → Option TableFault
+beyond (tag, marks.Outside) = Some (faults.Outside tag)
+beyond (tag, mark) = None
+
+-- ---- presence
+
+-- a row that has to be said and has no field (1)
+abbrev pub missing : {Kind : Type 0} → List Field → Row Kind → Option TableFault
+missing fields row =
+    fault_if (is_needed row.need fields && not (has_tag row.tag fields)) (faults.Reason row.tag 1)
+
+abbrev pub missing_of : {Kind : Type 0} → List Field → Item Kind → Option TableFault
+missing_of fields (One row) = missing fields row
+missing_of fields (Party role) = None
+missing_of fields (Lines group) =
+    first_of (λ line. first_of (missing line) group.rows) (lines_in group fields)
+
+-- ---- a message, by its table and the judge of its values
+
+abbrev pub unless : {A : Type 0} → Option TableFault → A → Result A TableFault
+unless None x = Ok x
+unless (Some fault) x = Err fault
+
+module _ {Kind : Type 0} (judge : Judge Kind) where
+  -- whether a field without a row is passed over: in a table that is not strict, and where it is of a
+  -- group, which judges it by its place
+  abbrev pub is_passed : Table Kind → Field → Bool
+  is_passed table f =
+      not table.strict || list_any (λ group. group.count == f.0 || is_inside group f.0) (groups_in table)
+
+  -- what a field of these fields is
+  abbrev pub marked : Table Kind → List Field → Field → Marked
+  marked table fields f =
+      (f.0, mark_of judge (is_passed table f) fields f.1 (row_at f.0 (table.header ++ rows_in table)))
+
+  -- THE FIRST FAULT: stage by stage, and within a stage by the first place, or the first row.
+  unfoldable pub first_fault : Table Kind → List Field → Option TableFault
+  first_fault table fields =
+      or_else (first_of (twice (once_in table)) (placed_from [] fields))
+      (or_else (first_of wrong_version (map (marked table fields) fields))
+      (or_else (first_of (in_groups (groups_in table)) (placed_from [] fields))
+      (or_else (first_of wrong (map (marked table fields) fields))
+      (or_else (first_of (missing_of fields) table.items)
+      (first_of beyond (map (marked table fields) fields))))))
+
+  -- what the fields say by the rows of the table
+  abbrev pub message_in : Table Kind → List Field → Message
+  message_in table fields = record {
+    letter = table.letter;
+    resend = unwrap_or (option_map flag_of (value_at 97 fields)) false;
+    cells = flat_map (cells_of judge fields groups) table.items;
+    groups = groups;
+  }
+    where
+      groups : List (ℕ × List (List Cell))
+      groups = map (group_says judge fields) (groups_in table)
+
+  -- THE MESSAGE that the fields are, or its first fault
+  unfoldable pub message_of : Table Kind → List Field → Result Message TableFault
+  message_of table fields = unless (first_fault table fields) (message_in table fields)
