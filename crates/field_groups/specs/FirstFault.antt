@@ -97,7 +97,7 @@ misplaced p group =
     else (if p.field.0 == first_tag group.rows
     then fault_if (nat_le most_lines (lines_begun group p.before)) (faults.Reason group.count 5)
     else fault_if (lines_begun group p.before == 0 || has_tag p.field.0 (line_before group p.before))
-        (faults.Reason p.field.0 15)))))
+    (faults.Reason p.field.0 15)))))
 
 abbrev pub in_groups : {Kind : Type 0} → List (Group Kind) → Placed → Option TableFault
 in_groups groups p = first_of (misplaced p) groups

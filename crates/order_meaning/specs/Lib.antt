@@ -1,3 +1,4 @@
 pub mod Names
+pub mod PlainRequest
 pub mod Request
 pub mod Rows

@@ -11,7 +11,7 @@ use Rattle.typed_fields.specs.Dec.{dec_text}
 use Rattle.field_groups.specs.Field.{Field, IsField, body_of, field_bytes, is_soh}
 use Rattle.field_groups.specs.Fields.{SplitsInto}
 use Rattle.field_groups.proofs.Determined.{determined}
-use Rattle.order_meaning.specs.Request.{Request}
+use Rattle.order_meaning.specs.PlainRequest.{Request}
 use Rattle.typed_fields.specs.Stamp.{read_stamp, second_in}
 use Rattle.typed_fields.specs.Day.{day_in}
 use Rattle.request_translate.specs.Forms.{is_id, is_price, is_moment}

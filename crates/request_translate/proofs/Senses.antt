@@ -4,7 +4,7 @@ use Rattle.std.specs.Fmt.{digits}
 use Rattle.typed_fields.specs.Digits.{are_digits, number_of, has_pattern, without_leading_zeros}
 use Rattle.typed_fields.specs.Kinds.{Filled, Id, OneByte, Code, Number, Qty, Price, Stamp, spelled, units_in, number_in}
 use Rattle.field_groups.specs.Field.{Field}
-use Rattle.order_meaning.specs.Request.{Request, New, OrderType, Market, Limit}
+use Rattle.order_meaning.specs.PlainRequest.{Request, New, OrderType, Market, Limit}
 use Rattle.request_translate.specs.Sense42.{sense42}
 use Rattle.request_translate.specs.Sense50.{sense50}
 use Rattle.request_translate.specs.Plain.{PlainOrder, plain_fields, terms}

@@ -6,7 +6,7 @@ use Rattle.std.specs.List.{flat_map}
 use Rattle.typed_fields.specs.Dec.{dec_text}
 use Rattle.field_groups.specs.Field.{Field}
 use Rattle.order_meaning.specs.Rows.{Party}
-use Rattle.order_meaning.specs.Request.{Amount, Request, OrderType, Market, Limit}
+use Rattle.order_meaning.specs.PlainRequest.{Amount, Request, OrderType, Market, Limit}
 use Rattle.request_translate.specs.Parties.{group_fields}
 use Rattle.request_translate.specs.Plain.{field_if}
 

@@ -4,7 +4,7 @@ use Rattle.std.specs.Fmt.{digits}
 use Rattle.typed_fields.specs.Kinds.{spelled, units_in, number_in}
 use Rattle.typed_fields.specs.Digits.{are_digits, number_of, has_pattern, zero_padded, without_leading_zeros, without_trailing_zeros}
 use Rattle.field_groups.specs.Field.{Field}
-use Rattle.order_meaning.specs.Request.{Request, New, Limit}
+use Rattle.order_meaning.specs.PlainRequest.{Request, New, Limit}
 use Rattle.request_translate.specs.Sense42.{sense42}
 use Rattle.request_translate.specs.Sense50.{sense50}
 use Rattle.request_translate.specs.Content.{content_of, carried}

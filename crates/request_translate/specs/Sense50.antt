@@ -7,7 +7,7 @@ use Rattle.std.specs.List.{list_all}
 use Rattle.std.specs.Str.{bytes_eq}
 use Rattle.typed_fields.specs.Kinds.{Kind, Filled, Id, Code, Flag, Qty, Price, Stamp, spelled, units_in}
 use Rattle.order_meaning.specs.Rows.{Field, Place, Tag, Role, Required, Optional, Row, Cell, ◌>>=◌, cells_of, said_at, code_of, flag_of}
-use Rattle.order_meaning.specs.Request.{Amount, Request, New, OrderType, Market, Limit}
+use Rattle.order_meaning.specs.PlainRequest.{Amount, Request, New, OrderType, Market, Limit}
 use Rattle.request_translate.specs.Parties.{parts_of}
 
 abbrev required : Place → Kind → Row Kind

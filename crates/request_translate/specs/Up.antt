@@ -4,7 +4,7 @@ use Rattle.frame_grammar.specs.declared.frame.Kind.TheVariants.{Fix42, Fixt11}
 use Rattle.frame_grammar.specs.Frame.{IsFrame, frame_of}
 use Rattle.field_groups.specs.Field.{Field, body_of}
 use Rattle.field_groups.specs.Fields.{SplitsInto}
-use Rattle.order_meaning.specs.Request.{Request}
+use Rattle.order_meaning.specs.PlainRequest.{Request}
 use Rattle.request_translate.specs.Sense42.{sense42}
 use Rattle.request_translate.specs.Sense50.{sense50}
 use Rattle.request_translate.specs.Content.{content_of, carried}

@@ -4,7 +4,7 @@ ghost use Rattle.std.specs.Prelude.{◌≡◌, ◌∷◌, ℕ, List, Some, codes
 ghost use Rattle.frame_grammar.specs.declared.frame.Kind.TheVariants.{Fix42};
 ghost use Rattle.frame_grammar.specs.Frame.{IsFrame};
 ghost use Rattle.field_groups.specs.Field.{Field};
-ghost use Rattle.order_meaning.specs.Request.{Request};
+ghost use Rattle.order_meaning.specs.PlainRequest.{Request};
 ghost use Rattle.request_translate.specs.Plain.{ArePlain};
 ghost use Rattle.request_translate.specs.Sense42.{sense42};
 ghost use Rattle.request_translate.specs.Sense50.{sense50};

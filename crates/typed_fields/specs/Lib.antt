@@ -8,3 +8,4 @@ pub mod Stamp
 pub mod Dec
 pub mod Laws
 pub mod Kinds
+pub mod ValueKind
