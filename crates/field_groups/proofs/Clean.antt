@@ -8,8 +8,8 @@ use Rattle.field_groups.specs.declared.table_fault.TableFault.{TableFault}
 use Rattle.field_groups.specs.declared.table_fault.TableFault.TheVariants as faults
 use Rattle.field_groups.specs.declared.table_fault.Mark.TheVariants as marks
 use Rattle.field_groups.specs.Field.{Field}
-use Rattle.field_groups.specs.Tables.{Verdict, Spells, Outside, Wrong, Need, Required, Optional, Lenient, Fixed, When, Row, Item, One, Table, Judge, Message, ◌>>=◌, or_else, first_of, value_at, value_if, has_tag, is_needed, row_at, rows_of, rows_in, groups_in, tags_of, text_of}
-use Rattle.field_groups.specs.FirstFault.{Marked, twice, once_in, placed_from, in_groups, wrong_version, wrong, beyond, missing, missing_of, mark_by, marked, fault_if, unless, first_fault, message_in, message_of}
+use Rattle.field_groups.specs.Tables.{Verdict, Spells, Outside, Wrong, Need, Required, Optional, Lenient, Fixed, When, Row, Item, One, Table, Judge, Message, ◌>>=◌, or_else, first_of, value_at, value_if, has_tag, is_needed, row_at, rows_of, all_rows, groups_in, tags_of, text_of}
+use Rattle.field_groups.specs.FirstFault.{Marked, twice, once_in, placed_from, in_groups, wrong_version, wrong, beyond, missing, missing_of, mark_of, allowed, marked, fault_if, unless, first_fault, message_in, message_of}
 
 or_none : {A : Type 0} (a b : Option A) → or_else a b ≡ None → (a ≡ None) × (b ≡ None)
 or_none None b h = (refl, h)
@@ -81,17 +81,24 @@ module _ {Kind : Type 0} (judge : Judge Kind) (table : Table Kind) (fields : Lis
 
   -- a value outside the profile is a fault of a row with this need
   pub IsStrict : Need → Type 0
-  IsStrict need = mark_by need Outside ≡ marks.Outside
+  IsStrict need = allowed need marks.Outside ≡ marks.Outside
 
-  spells : (need : Need) (tag : ℕ) (v : Verdict) → IsStrict need → wrong (tag, mark_by need v) ≡ None → beyond (tag, mark_by need v) ≡ None → IsSome (text_of v)
+  spells : (need : Need) (tag : ℕ) (v : Verdict) → IsStrict need → wrong (tag, allowed need (mark_of v)) ≡ None → beyond (tag, allowed need (mark_of v)) ≡ None → IsSome (text_of v)
   unfolding IsStrict
   spells need tag (Spells text) strict w o = refl
   spells need tag Outside strict w o = absurd (let no : Some (faults.Outside tag) ≡ None = rw strict at o in cc)
-  spells need tag (Wrong reason) strict w o = absurd cc
+  spells need tag (Wrong reason) strict w o = absurd (stays_wrong need w)
+    where
+      stays_wrong : (need : Need) → wrong (tag, allowed need (marks.Wrong reason)) ≡ None → ⊥
+      stays_wrong Required h = absurd cc
+      stays_wrong Optional h = absurd cc
+      stays_wrong Lenient h = absurd cc
+      stays_wrong (Fixed text) h = absurd cc
+      stays_wrong (When condition) h = absurd cc
 
   -- a needed row of a message at no fault is said
   pub is_said : (i : ℕ) (row : Row Kind) → first_fault judge table fields ≡ None → slice_get table.items i ≡ Some (One row)
-      → row_at row.tag (table.header ++ rows_in table) ≡ Some row → is_needed row.need fields ≡ true → IsStrict row.need
+      → row_at row.tag (all_rows table) ≡ Some row → is_needed row.need fields ≡ true → IsStrict row.need
       → IsSome (value_at row.tag fields >>= (λ bytes. text_of (judge fields row.kind bytes)))
   is_said i row h at its needed strict =
       let c = clean h in

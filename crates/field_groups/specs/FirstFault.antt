@@ -3,7 +3,7 @@
 use Rattle.std.specs.Prelude.{ℕ, ◌==◌, ◌&&◌, ◌||◌, Bool, true, false, not, List, [], ◌∷◌, ◌++◌, map, filter, take_while, length, nat_le, unwrap_or, Some, None, Result, Ok, Err, if◌then◌else◌}
 use Rattle.std.specs.declared.option.Option.{Option}
 use Rattle.std.specs.Option.{option_map}
-use Rattle.std.specs.List.{list_any, list_all, flat_map}
+use Rattle.std.specs.List.{list_any, flat_map, list_all}
 use Rattle.std.specs.Char.{is_ascii_digit}
 use Rattle.std.specs.Str.Parse.{digits_value}
 use Rattle.field_groups.specs.declared.table_fault.TableFault.{TableFault}
@@ -11,7 +11,7 @@ use Rattle.field_groups.specs.declared.table_fault.TableFault.TheVariants as fau
 use Rattle.field_groups.specs.declared.table_fault.Mark.{Mark}
 use Rattle.field_groups.specs.declared.table_fault.Mark.TheVariants as marks
 use Rattle.field_groups.specs.Field.{Field}
-use Rattle.field_groups.specs.Tables.{Cell, Verdict, Spells, Outside, Wrong, Need, Lenient, Fixed, Row, Group, Item, One, Party, Lines, Table, Message, Judge, or_else, first_of, value_at, has_tag, is_one_of, is_needed, row_at, rows_in, groups_in, tags_of, first_tag, lines_in, group_says, flag_of, cells_of}
+use Rattle.field_groups.specs.Tables.{Cell, Verdict, Spells, Outside, Wrong, Need, Lenient, Fixed, Row, RepeatingGroup, Item, One, Party, Lines, Table, Message, Judge, or_else, first_of, value_at, has_tag, is_one_of, is_needed, row_at, all_rows, groups_in, tags_of, first_tag, is_inside, run, lines_in, group_says, flag_of, cells_of}
 
 -- a field, with the fields before it, from it backwards, and those after it
 pub record Placed : Type 0 where
@@ -62,24 +62,17 @@ is_count (Some said) lines = said == lines
 abbrev pub most_lines : ℕ
 most_lines = 32
 
--- whether a tag is inside a group, as a member or as one that says nothing
-abbrev pub is_inside : {Kind : Type 0} → Group Kind → ℕ → Bool
-is_inside group tag = is_one_of (tags_of group.rows) tag || is_one_of group.skipped tag
-
--- the fields of a group at the front, and how many of them begin a line
-abbrev pub run : {Kind : Type 0} → Group Kind → List Field → List Field
-run group fields = take_while (λ f. is_inside group f.0) fields
-
-abbrev pub lines_begun : {Kind : Type 0} → Group Kind → List Field → ℕ
+-- how many of the fields of a group at the front begin a line
+abbrev pub lines_begun : {Kind : Type 0} → RepeatingGroup Kind → List Field → ℕ
 lines_begun group fields = length (filter (λ f. f.0 == first_tag group.rows) (run group fields))
 
 -- the fields of the line that a field stands in, from it backwards to the one that begins it, which
 -- is left out
-abbrev pub line_before : {Kind : Type 0} → Group Kind → List Field → List Field
+abbrev pub line_before : {Kind : Type 0} → RepeatingGroup Kind → List Field → List Field
 line_before group before = take_while (λ f. not (f.0 == first_tag group.rows)) before
 
 -- whether the fields before one, from it backwards, are of a group after its count
-abbrev pub is_opened : {Kind : Type 0} → Group Kind → List Field → Bool
+abbrev pub is_opened : {Kind : Type 0} → RepeatingGroup Kind → List Field → Bool
 is_opened group [] = false
 is_opened group (f ∷ fs) =
     if f.0 == group.count then true else (if is_inside group f.0 then is_opened group fs else false)
@@ -87,7 +80,7 @@ is_opened group (f ∷ fs) =
 -- The fault of a field that a group has: a count that is no number or not the number of lines (16);
 -- a member outside its group, before the first line, or again in its line (15); a line past the last
 -- that may be (5, of the count).
-abbrev pub misplaced : {Kind : Type 0} → Placed → Group Kind → Option TableFault
+abbrev pub misplaced : {Kind : Type 0} → Placed → RepeatingGroup Kind → Option TableFault
 misplaced p group =
     if p.field.0 == group.count
     then fault_if (not (is_count (counted p.field.1) (lines_begun group p.after))) (faults.Reason p.field.0 16)
@@ -99,26 +92,32 @@ misplaced p group =
     else fault_if (lines_begun group p.before == 0 || has_tag p.field.0 (line_before group p.before))
     (faults.Reason p.field.0 15)))))
 
-abbrev pub in_groups : {Kind : Type 0} → List (Group Kind) → Placed → Option TableFault
+abbrev pub in_groups : {Kind : Type 0} → List (RepeatingGroup Kind) → Placed → Option TableFault
 in_groups groups p = first_of (misplaced p) groups
 
 -- ---- values
 
--- What a field is beside its row: good where its value is one of the profile, or where the row says
--- something whatever stands there.
-abbrev pub mark_by : Need → Verdict → Mark
-mark_by need (Spells text) = marks.Good
-mark_by need (Wrong reason) = marks.Wrong reason
-mark_by Lenient Outside = marks.Good
-mark_by (Fixed text) Outside = marks.Good
-mark_by need Outside = marks.Outside
+-- what a value is to its kind
+abbrev pub mark_of : Verdict → Mark
+mark_of (Spells text) = marks.Good
+mark_of Outside = marks.Outside
+mark_of (Wrong reason) = marks.Wrong reason
+
+-- a value outside the profile may stand where the row says something else, or nothing, instead
+abbrev pub allowed : Need → Mark → Mark
+allowed Lenient marks.Outside = marks.Good
+allowed (Fixed text) marks.Outside = marks.Good
+allowed need mark = mark
 
 -- A field without a row is at fault where it is empty (4), and else outside the profile, where it may
 -- not be passed over.
-abbrev pub mark_of : {Kind : Type 0} → Judge Kind → Bool → List Field → List ℕ → Option (Row Kind) → Mark
-mark_of judge passed fields value (Some row) = mark_by row.need (judge fields row.kind value)
-mark_of judge passed fields [] None = marks.Wrong 4
-mark_of judge passed fields value None = if passed then marks.Good else marks.Outside
+abbrev pub without_row : Bool → List ℕ → Mark
+without_row passed [] = marks.Wrong 4
+without_row passed (byte ∷ bytes) = if passed then marks.Good else marks.Outside
+
+abbrev pub by_row : {Kind : Type 0} → Judge Kind → Bool → List Field → List ℕ → Option (Row Kind) → Mark
+by_row judge passed fields value (Some row) = allowed row.need (mark_of (judge fields row.kind value))
+by_row judge passed fields value None = without_row passed value
 
 -- a tag, and what its field is
 abbrev pub Marked : Type 0
@@ -159,14 +158,14 @@ unless (Some fault) x = Err fault
 module _ {Kind : Type 0} (judge : Judge Kind) where
   -- whether a field without a row is passed over: in a table that is not strict, and where it is of a
   -- group, which judges it by its place
-  abbrev pub is_passed : Table Kind → Field → Bool
-  is_passed table f =
-      not table.strict || list_any (λ group. group.count == f.0 || is_inside group f.0) (groups_in table)
+  abbrev pub is_passed : Table Kind → ℕ → Bool
+  is_passed table tag =
+      not table.strict || list_any (λ group. group.count == tag || is_inside group tag) (groups_in table)
 
   -- what a field of these fields is
   abbrev pub marked : Table Kind → List Field → Field → Marked
   marked table fields f =
-      (f.0, mark_of judge (is_passed table f) fields f.1 (row_at f.0 (table.header ++ rows_in table)))
+      (f.0, by_row judge (is_passed table f.0) fields f.1 (row_at f.0 (all_rows table)))
 
   -- THE FIRST FAULT: stage by stage, and within a stage by the first place, or the first row.
   unfoldable pub first_fault : Table Kind → List Field → Option TableFault

@@ -1,7 +1,7 @@
 -- Own: how the tables of messages are written as data, and what the fields of a body say by their rows.
-use Rattle.std.specs.Prelude.{ℕ, ◌==◌, ◌&&◌, ◌||◌, Bool, true, false, List, [], ◌∷◌, map, filter, codes, unwrap_or, Some, None, if◌then◌else◌}
+use Rattle.std.specs.Prelude.{ℕ, ◌==◌, ◌&&◌, ◌||◌, Bool, true, false, List, [], ◌∷◌, ◌++◌, map, take_while, codes, unwrap_or, Some, None, if◌then◌else◌}
 use Rattle.std.specs.declared.option.Option.{Option}
-use Rattle.std.specs.List.{list_any, flat_map}
+use Rattle.std.specs.List.{list_any, list_all, flat_map}
 use Rattle.std.specs.Str.{bytes_eq}
 use Rattle.std.specs.Fmt.{decimal}
 use Rattle.field_groups.specs.Field.{Field}
@@ -15,14 +15,16 @@ pub data Verdict : Type 0 where
   Outside : Verdict
   Wrong : (reason : ℕ) → Verdict
 
--- what makes a row required
-pub data Condition : Type 0 where
+-- what a condition looks at
+pub data Test : Type 0 where
   -- a field of the tag stands
-  Stands : (tag : ℕ) → Condition
+  Stands : (tag : ℕ) → Test
   -- the field of the tag has one of these bytes
-  Is : (tag : ℕ) → (listed : List ℕ) → Condition
-  Both : Condition → Condition → Condition
-  Either : Condition → Condition → Condition
+  Is : (tag : ℕ) → (listed : List ℕ) → Test
+
+-- what makes a row required: in one of these lists each test holds
+abbrev pub Condition : Type 0
+Condition = List (List Test)
 
 -- Whether each message says a row. A value outside the profile is a fault; but a lenient row then
 -- says nothing, and a fixed one says its text, whatever stands there.
@@ -41,7 +43,7 @@ pub record Row (Kind : Type 0) : Type 0 where
 
 -- A repeating group: the tag of its count, the rows of a line, of which the first begins it, and
 -- the tags that stand in its lines and say nothing.
-pub record Group (Kind : Type 0) : Type 0 where
+pub record RepeatingGroup (Kind : Type 0) : Type 0 where
   pub count : ℕ
   pub rows : List (Row Kind)
   pub skipped : List ℕ
@@ -50,7 +52,7 @@ pub record Group (Kind : Type 0) : Type 0 where
 pub data Item (Kind : Type 0) : Type 0 where
   One : (row : Row Kind) → Item Kind
   Party : (role : ℕ) → Item Kind
-  Lines : (group : Group Kind) → Item Kind
+  Lines : (group : RepeatingGroup Kind) → Item Kind
 
 -- A table: the letter of the message's type, the rows of the header, the items in the order of
 -- writing, and whether a field that has no row is outside the profile, or passed over.
@@ -122,11 +124,12 @@ abbrev pub is_listed : List ℕ → Option (List ℕ) → Bool
 is_listed listed (Some (byte ∷ [])) = is_one_of listed byte
 is_listed listed value = false
 
+abbrev pub passes : List Field → Test → Bool
+passes fields (Stands tag) = has_tag tag fields
+passes fields (Is tag listed) = is_listed listed (value_at tag fields)
+
 abbrev pub holds : Condition → List Field → Bool
-holds (Stands tag) fields = has_tag tag fields
-holds (Is tag listed) fields = is_listed listed (value_at tag fields)
-holds (Both a b) fields = holds a fields && holds b fields
-holds (Either a b) fields = holds a fields || holds b fields
+holds condition fields = list_any (λ tests. list_all (passes fields) tests) condition
 
 abbrev pub is_needed : Need → List Field → Bool
 is_needed Required fields = true
@@ -144,7 +147,7 @@ rows_of (One row) = row ∷ []
 rows_of (Party role) = []
 rows_of (Lines group) = group.rows
 
-abbrev pub groups_of : {Kind : Type 0} → Item Kind → List (Group Kind)
+abbrev pub groups_of : {Kind : Type 0} → Item Kind → List (RepeatingGroup Kind)
 groups_of (One row) = []
 groups_of (Party role) = []
 groups_of (Lines group) = group ∷ []
@@ -153,7 +156,10 @@ groups_of (Lines group) = group ∷ []
 abbrev pub rows_in : {Kind : Type 0} → Table Kind → List (Row Kind)
 rows_in table = flat_map rows_of table.items
 
-abbrev pub groups_in : {Kind : Type 0} → Table Kind → List (Group Kind)
+abbrev pub all_rows : {Kind : Type 0} → Table Kind → List (Row Kind)
+all_rows table = table.header ++ rows_in table
+
+abbrev pub groups_in : {Kind : Type 0} → Table Kind → List (RepeatingGroup Kind)
 groups_in table = flat_map groups_of table.items
 
 abbrev pub tags_of : {Kind : Type 0} → List (Row Kind) → List ℕ
@@ -164,6 +170,19 @@ first_tag [] = 0
 first_tag (row ∷ rows) = row.tag
 
 -- ---- the lines of a group
+
+-- whether a tag is inside a group, as a member or as one that says nothing
+abbrev pub is_inside : {Kind : Type 0} → RepeatingGroup Kind → ℕ → Bool
+is_inside group tag = is_one_of (tags_of group.rows) tag || is_one_of group.skipped tag
+
+-- the fields of a group at the front
+abbrev pub run : {Kind : Type 0} → RepeatingGroup Kind → List Field → List Field
+run group fields = take_while (λ f. is_inside group f.0) fields
+
+-- the fields after the first of a tag
+abbrev pub after_tag : ℕ → List Field → List Field
+after_tag tag [] = []
+after_tag tag (f ∷ fs) = if f.0 == tag then fs else after_tag tag fs
 
 abbrev pub with_member : ℕ → Field → List (List Field) → List (List Field)
 with_member first f [] = (f ∷ []) ∷ []
@@ -176,10 +195,9 @@ abbrev pub in_lines : ℕ → List Field → List (List Field)
 in_lines first [] = []
 in_lines first (f ∷ fs) = with_member first f (in_lines first fs)
 
--- the lines of a group, in a message in which it is at no fault
-abbrev pub lines_in : {Kind : Type 0} → Group Kind → List Field → List (List Field)
-lines_in group fields =
-    in_lines (first_tag group.rows) (filter (λ f. is_one_of (tags_of group.rows) f.0) fields)
+-- the lines of a group, which stand after its count
+abbrev pub lines_in : {Kind : Type 0} → RepeatingGroup Kind → List Field → List (List Field)
+lines_in group fields = in_lines (first_tag group.rows) (run group (after_tag group.count fields))
 
 -- ---- what fields say
 
@@ -202,7 +220,7 @@ lines_of count [] = []
 lines_of count (group ∷ groups) = if group.0 == count then group.1 else lines_of count groups
 
 -- a kind is judged in a line beside the fields of that line
-abbrev pub group_says : {Kind : Type 0} → Judge Kind → List Field → Group Kind → ℕ × List (List Cell)
+abbrev pub group_says : {Kind : Type 0} → Judge Kind → List Field → RepeatingGroup Kind → ℕ × List (List Cell)
 group_says judge fields group =
     (group.count, map (λ line. map (cell_of judge line) group.rows) (lines_in group fields))
 
