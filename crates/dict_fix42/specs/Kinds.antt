@@ -1,0 +1,53 @@
+-- Standard: FIX 4.2, Data Types; MaturityDay(205) is a day of the month of MaturityMonthYear(200).
+-- What a value is beside the profile: the reasons are those of SessionRejectReason(373).
+use Rattle.std.specs.Prelude.{ℕ, List, ◌++◌, Some, None, Ok, Err, if◌then◌else◌}
+use Rattle.std.specs.declared.option.Option.{Option}
+use Rattle.typed_fields.specs.declared.fault.FieldFault.{FieldFault}
+use Rattle.typed_fields.specs.declared.fault.FieldFault.TheVariants.{Empty, Form, Range}
+use Rattle.typed_fields.specs.Day.{spells_date}
+use Rattle.typed_fields.specs.ValueKind.{ValueKind, MonthYear, DayOfMonth, Spelling, spelling}
+use Rattle.field_groups.specs.Field.{Field}
+use Rattle.field_groups.specs.Tables.{Verdict, Spells, Outside, Wrong, Said, Judge, Need, Required, Optional, When, Condition, Row, Item, One, ◌>>=◌, text_of, value_at}
+
+-- the kinds of values: those of the single fields, and a day of the month that another field names
+pub data Kind42 : Type 0 where
+  Value : (kind : ValueKind) → Kind42
+  DayOf : (month : ℕ) → Kind42
+
+-- 4 Tag specified without a value, 6 Incorrect data format for value, 5 Value is incorrect (out of
+-- range) for this tag
+abbrev pub reason_of : FieldFault → ℕ
+reason_of Empty = 4
+reason_of Form = 6
+reason_of Range = 5
+
+abbrev pub verdict_of : Spelling → Verdict
+verdict_of (Ok (Some text)) = Spells text
+verdict_of (Ok None) = Outside
+verdict_of (Err fault) = Wrong (reason_of fault)
+
+-- a day that its month has; where no month can be read, the month is at fault
+abbrev pub in_month : Said → Verdict → Verdict
+in_month (Some month) (Spells day) = if spells_date (month ++ day) then Spells day else Wrong 5
+in_month month day = day
+
+-- THE JUDGE of a value beside the other fields of its message
+unfoldable pub judge : Judge Kind42
+judge fields (Value kind) bytes = verdict_of (spelling kind bytes)
+judge fields (DayOf month) bytes =
+    in_month (value_at month fields >>= (λ text. text_of (verdict_of (spelling MonthYear text))))
+    (verdict_of (spelling DayOfMonth bytes))
+
+-- ---- rows
+
+abbrev pub row : Need → ℕ → ValueKind → Row Kind42
+row need tag kind = record { tag = tag; kind = Value kind; need = need }
+
+abbrev pub required : ℕ → ValueKind → Item Kind42
+required tag kind = One (row Required tag kind)
+
+abbrev pub optional : ℕ → ValueKind → Item Kind42
+optional tag kind = One (row Optional tag kind)
+
+abbrev pub needed : Condition → ℕ → ValueKind → Item Kind42
+needed condition tag kind = One (row (When condition) tag kind)

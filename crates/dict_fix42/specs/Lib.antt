@@ -1,0 +1,4 @@
+pub mod Kinds
+pub mod Message
+pub mod Requests
+pub mod Sense

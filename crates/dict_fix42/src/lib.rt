@@ -1,0 +1,2 @@
+//! The order messages of FIX 4.2.
+#![tactic(auto)]
