@@ -1,3 +1,4 @@
+pub mod CodeTables
 pub mod Content
 pub mod Field
 pub mod Fields

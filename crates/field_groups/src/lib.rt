@@ -8,12 +8,14 @@ mod fault;
 mod fields;
 mod laws;
 mod splitting;
+mod table;
 mod table_fault;
 #[cfg(test)]
 mod tests;
 
 pub use fault::SplitFault;
-pub use fields::{Fields, Split};
+pub use fields::{Field, Fields, Split};
 pub use laws::{every_body_splits, fields_are_determined, fields_read_again};
 pub use splitting::split;
+pub use table::{Item, Need, RepeatingGroup, Row, Table, Test};
 pub use table_fault::{Mark, TableFault};

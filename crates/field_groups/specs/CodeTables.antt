@@ -1,0 +1,47 @@
+-- Inside: the table that a table of the code is; a dictionary's contract says that it is its own.
+use Rattle.std.specs.Prelude.{ℕ, List, map}
+use Rattle.field_groups.specs.declared.table.Test.{Test as CodeTest}
+use Rattle.field_groups.specs.declared.table.Test.TheVariants as tests
+use Rattle.field_groups.specs.declared.table.Need.{Need as CodeNeed}
+use Rattle.field_groups.specs.declared.table.Need.TheVariants as needs
+use Rattle.field_groups.specs.declared.table.Row.{Row as CodeRow}
+use Rattle.field_groups.specs.declared.table.RepeatingGroup.{RepeatingGroup as CodeGroup}
+use Rattle.field_groups.specs.declared.table.Item.{Item as CodeItem}
+use Rattle.field_groups.specs.declared.table.Item.TheVariants as items
+use Rattle.field_groups.specs.declared.table.Table.{Table as CodeTable}
+use Rattle.field_groups.specs.Tables.{Test, Stands, Is, Need, Required, Optional, Lenient, Fixed, When, Row, RepeatingGroup, Item, One, Party, Lines, Table}
+
+abbrev pub test_of : CodeTest → Test
+test_of (tests.Stands tag) = Stands tag
+test_of (tests.Is tag listed) = Is tag listed.now
+
+abbrev pub need_of : CodeNeed → Need
+need_of needs.Required = Required
+need_of needs.Optional = Optional
+need_of needs.Lenient = Lenient
+need_of (needs.Fixed text) = Fixed text.now
+need_of (needs.When condition) = When (map (λ tests. map test_of tests.now) condition.now)
+
+-- the kinds of the code as those of a dictionary
+abbrev pub row_of : {K Kind : Type 0} → (K → Kind) → CodeRow K → Row Kind
+row_of kind row = record { tag = row.tag; kind = kind row.kind; need = need_of row.need }
+
+abbrev pub group_of : {K Kind : Type 0} → (K → Kind) → CodeGroup K → RepeatingGroup Kind
+group_of kind group = record {
+  count = group.count;
+  rows = map (row_of kind) group.rows.now;
+  skipped = group.skipped.now;
+}
+
+abbrev pub item_of : {K Kind : Type 0} → (K → Kind) → CodeItem K → Item Kind
+item_of kind (items.One row) = One (row_of kind row)
+item_of kind (items.Party role) = Party role
+item_of kind (items.Lines group) = Lines (group_of kind group)
+
+abbrev pub table_of : {K Kind : Type 0} → (K → Kind) → CodeTable K → Table Kind
+table_of kind table = record {
+  letter = table.letter;
+  header = map (row_of kind) table.header.now;
+  items = map (item_of kind) table.items.now;
+  strict = table.strict;
+}
