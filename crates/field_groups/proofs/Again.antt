@@ -1,11 +1,12 @@
 -- What is written of cells is read as these cells, over any judge.
 use Rattle.std.proofs.Common.{◌≡◌, ◌⊎◌, ℕ, List, [], ◌∷◌, ◌++◌, map, Option, Some, None, Bool, true, false, cond, eqb, eq-eqb, refl, sym, ap, subst, inl, inr, ◌∙◌, arith}
 use Rattle.std.specs.Prelude.{IsSome, ◌==◌}
-use Rattle.std.specs.List.{AllByRecursion, flat_map}
+use Rattle.std.specs.Option.{option_map}
+use Rattle.std.specs.List.{AllByRecursion, find, flat_map}
 use Rattle.std.proofs.lemmas.Bool.{eqb-true}
 use Rattle.std.proofs.lemmas.Bool.Decides.{nat_tests}
 use Rattle.field_groups.specs.Field.{Field}
-use Rattle.field_groups.specs.Tables.{Verdict, Spells, Judge, Row, Place, Tag, Role, Said, Cell, said_at, is_place, ◌>>=◌, or_else, first_of, value_at, value_if, cell_of, says, text_of}
+use Rattle.field_groups.specs.Tables.{Verdict, Spells, Judge, Row, Place, Tag, Role, Said, Cell, said_at, is_place, ◌>>=◌, or_else, first_of, value_at, cell_of, says, text_of}
 use Rattle.field_groups.specs.Content.{cell_fields}
 
 -- each place stands once
@@ -28,7 +29,7 @@ none_or (Some x) p h = refl
 value_at-cell : (tag t : ℕ) (o : Said) (fs : List Field) → value_at tag (cell_fields (Tag t, o) ++ fs) ≡ or_else (cond (eqb t tag) o None) (value_at tag fs)
 unfolding first_of
 value_at-cell tag t None fs = elim (eqb t tag) as (λ b. value_at tag fs ≡ or_else (cond b None None) (value_at tag fs)) [ true ↦ refl | false ↦ refl ]
-value_at-cell tag t (Some v) fs = refl
+value_at-cell tag t (Some v) fs = elim (eqb t tag) as (λ b. option_map (λ (f : Field). f.1) (cond b (Some (t, v)) (find (λ f. eqb f.0 tag) fs)) ≡ or_else (cond b (Some v) None) (value_at tag fs)) [ true ↦ refl | false ↦ refl ]
 
 value_at-fresh : (tag : ℕ) (cs : List Cell) → IsFresh tag cs → value_at tag (flat_map cell_fields cs) ≡ None
 unfolding first_of

@@ -8,7 +8,7 @@ use Rattle.field_groups.specs.declared.table_fault.TableFault.{TableFault}
 use Rattle.field_groups.specs.declared.table_fault.TableFault.TheVariants as faults
 use Rattle.field_groups.specs.declared.table_fault.Mark.TheVariants as marks
 use Rattle.field_groups.specs.Field.{Field}
-use Rattle.field_groups.specs.Tables.{Verdict, Spells, Outside, Wrong, Need, Required, Optional, Lenient, Fixed, When, Row, Item, One, Table, Judge, Message, ◌>>=◌, or_else, first_of, value_at, value_if, has_tag, is_needed, row_at, rows_of, all_rows, groups_in, tags_of, text_of}
+use Rattle.field_groups.specs.Tables.{Verdict, Spells, Outside, Wrong, Need, Required, Optional, Lenient, Fixed, When, Row, Item, One, Table, Judge, Message, ◌>>=◌, or_else, first_of, value_at, has_tag, is_needed, row_at, rows_of, all_rows, groups_in, tags_of, text_of}
 use Rattle.field_groups.specs.FirstFault.{Marked, twice, once_in, placed_from, in_groups, wrong_version, wrong, beyond, missing, missing_of, mark_of, allowed, marked, fault_if, unless, first_fault, message_in, message_of}
 
 or_none : {A : Type 0} (a b : Option A) → or_else a b ≡ None → (a ≡ None) × (b ≡ None)
@@ -35,15 +35,14 @@ pub record Stands (tag : ℕ) (fields : List Field) : Type 0 where
   pub field : slice_get fields place ≡ Some (tag, value)
 
 pub stands : (tag : ℕ) (fields : List Field) → has_tag tag fields ≡ true → Stands tag fields
-unfolding first_of
 stands tag [] h = absurd cc
 stands tag (f ∷ fs) h = here (eqb f.0 tag) refl (λ there. stands tag fs there)
   where
     here : (b : Bool) → eqb f.0 tag ≡ b → (has_tag tag fs ≡ true → Stands tag fs) → Stands tag (f ∷ fs)
     here true e later = let same : f.0 ≡ tag = grind (arith, nat_tests) in
-        record { value = f.1; place = 0; first = rw e refl; field = ap (λ (t : ℕ). Some (t, f.1)) same }
+      record { value = f.1; place = 0; first = rw e refl; field = ap (λ (t : ℕ). Some (t, f.1)) same }
     here false e later = let s = later (rw e at h) in
-        record { value = s.value; place = suc s.place; first = rw e s.first; field = s.field }
+      record { value = s.value; place = suc s.place; first = rw e s.first; field = s.field }
 
 module _ {Kind : Type 0} (judge : Judge Kind) (table : Table Kind) (fields : List Field) where
   -- no stage finds a fault

@@ -7,3 +7,5 @@ pub mod Whole
 pub mod Rows
 pub mod Clean
 pub mod Again
+pub mod Seen
+pub mod Loops

@@ -1,5 +1,7 @@
 -- Inside: the table that a table of the code is; a dictionary's contract says that it is its own.
 use Rattle.std.specs.Prelude.{ℕ, List, map}
+use Rattle.std.specs.Borrow.{Bor}
+use Rattle.field_groups.specs.Field.{Field}
 use Rattle.field_groups.specs.declared.table.Test.{Test as CodeTest}
 use Rattle.field_groups.specs.declared.table.Test.TheVariants as tests
 use Rattle.field_groups.specs.declared.table.Need.{Need as CodeNeed}
@@ -45,3 +47,7 @@ table_of kind table = record {
   items = map (item_of kind) table.items.now;
   strict = table.strict;
 }
+
+-- fields of the code, with the bytes that their values point to
+abbrev pub seen : List (ℕ × Bor (List ℕ)) → List Field
+seen fields = map (λ f. (f.0, f.1.now)) fields

@@ -155,13 +155,16 @@ abbrev pub unless : {A : Type 0} → Option TableFault → A → Result A TableF
 unless None x = Ok x
 unless (Some fault) x = Err fault
 
-module _ {Kind : Type 0} (judge : Judge Kind) where
-  -- whether a field without a row is passed over: in a table that is not strict, and where it is of a
-  -- group, which judges it by its place
-  abbrev pub is_passed : Table Kind → ℕ → Bool
-  is_passed table tag =
-      not table.strict || list_any (λ group. group.count == tag || is_inside group tag) (groups_in table)
+abbrev pub is_of_group : {Kind : Type 0} → ℕ → RepeatingGroup Kind → Bool
+is_of_group tag group = group.count == tag || is_inside group tag
 
+-- whether a field without a row is passed over: in a table that is not strict, and where it is of a
+-- group, which judges it by its place
+abbrev pub is_passed : {Kind : Type 0} → Table Kind → ℕ → Bool
+is_passed table tag =
+    not table.strict || list_any (is_of_group tag) (groups_in table)
+
+module _ {Kind : Type 0} (judge : Judge Kind) where
   -- what a field of these fields is
   abbrev pub marked : Table Kind → List Field → Field → Marked
   marked table fields f =

@@ -1,7 +1,8 @@
 -- Own: how the tables of messages are written as data, and what the fields of a body say by their rows.
 use Rattle.std.specs.Prelude.{ℕ, ◌==◌, ◌&&◌, ◌||◌, Bool, true, false, List, [], ◌∷◌, ◌++◌, map, take_while, codes, unwrap_or, Some, None, if◌then◌else◌}
 use Rattle.std.specs.declared.option.Option.{Option}
-use Rattle.std.specs.List.{list_any, list_all, flat_map}
+use Rattle.std.specs.Option.{option_map}
+use Rattle.std.specs.List.{find, list_any, list_all, flat_map}
 use Rattle.std.specs.Str.{bytes_eq}
 use Rattle.std.specs.Fmt.{decimal}
 use Rattle.field_groups.specs.Field.{Field}
@@ -106,12 +107,9 @@ unfoldable pub first_of : {X A : Type 0} → (X → Option A) → List X → Opt
 first_of f [] = None
 first_of f (x ∷ xs) = or_else (f x) (first_of f xs)
 
-abbrev pub value_if : ℕ → Field → Option (List ℕ)
-value_if tag f = if f.0 == tag then Some f.1 else None
-
 -- the first value of a tag
 abbrev pub value_at : ℕ → List Field → Option (List ℕ)
-value_at tag fields = first_of (value_if tag) fields
+value_at tag fields = option_map (λ f. f.1) (find (λ f. f.0 == tag) fields)
 
 abbrev pub has_tag : ℕ → List Field → Bool
 has_tag tag fields = list_any (λ f. f.0 == tag) fields
@@ -136,11 +134,8 @@ is_needed Required fields = true
 is_needed (When condition) fields = holds condition fields
 is_needed need fields = false
 
-abbrev pub row_if : {Kind : Type 0} → ℕ → Row Kind → Option (Row Kind)
-row_if tag row = if row.tag == tag then Some row else None
-
 abbrev pub row_at : {Kind : Type 0} → ℕ → List (Row Kind) → Option (Row Kind)
-row_at tag rows = first_of (row_if tag) rows
+row_at tag rows = find (λ row. row.tag == tag) rows
 
 abbrev pub rows_of : {Kind : Type 0} → Item Kind → List (Row Kind)
 rows_of (One row) = row ∷ []

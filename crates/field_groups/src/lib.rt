@@ -7,6 +7,7 @@
 mod fault;
 mod fields;
 mod laws;
+mod lookup;
 mod splitting;
 mod table;
 mod table_fault;
@@ -16,6 +17,7 @@ mod tests;
 pub use fault::SplitFault;
 pub use fields::{Field, Fields, Split};
 pub use laws::{every_body_splits, fields_are_determined, fields_read_again};
+pub use lookup::{stands, value};
 pub use splitting::split;
 pub use table::{Item, Need, RepeatingGroup, Row, Table, Test};
 pub use table_fault::{Mark, TableFault};
