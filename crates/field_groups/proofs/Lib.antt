@@ -1,7 +1,0 @@
-pub mod Places
-pub mod Reading
-pub mod Taking
-pub mod Front
-pub mod Determined
-pub mod Whole
-pub mod Rows

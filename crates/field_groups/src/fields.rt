@@ -1,22 +1,20 @@
 //! The fields of a body, in order.
 
-ghost use Rattle.std.specs.Prelude.{◌≡◌, ◌==◌, position};
+ghost use Rattle.std.specs.Prelude.{◌≡◌, ◌==◌, map, position};
+ghost use Rattle.std.specs.Slice.Iter.{iter_rest};
 
 use crate::fault::SplitFault;
 use std::alloc::{AllocError, Global};
 use std::marker::Model;
+use std::slice::Iter;
 
-/// One field, its value a part of the body.
-#[derive(Clone, Copy, Debug)]
-struct Part<'a> {
-    tag: u32,
-    value: &'a [u8],
-}
+/// A field: its tag and its value, a part of the body.
+pub type Field<'a> = (u32, &'a [u8]);
 
 /// The fields of a body in order, seen as the list of their tags and values.
 #[derive(Debug, Drop)]
 pub struct Fields<'a> {
-    parts: Vec<Part<'a>>,
+    parts: Vec<Field<'a>>,
 }
 
 impl<'a> Model for Fields<'a> {
@@ -25,12 +23,14 @@ impl<'a> Model for Fields<'a> {
 
     ghost Value = { List Field };
 
-    ghost view = { λ f. map (λ p. (p.tag, p.value.now)) f.parts.items };
+    ghost view = { λ f. map (λ p. (p.0, p.1.now)) f.parts.items };
 }
 
 impl<'a> Fields<'a> {
-    ghost use Rattle.std.specs.Prelude.{◌≡◌, ◌==◌, ◌++◌, ◌∷◌, [], length, slice_get, IfOk, OnOk, OnErr, position};
+    ghost use Rattle.std.specs.Prelude.{◌≡◌, ◌==◌, ◌++◌, ◌∷◌, [], None, length, map, slice_get, IfOk, OnOk, OnErr, position};
     ghost use Rattle.std.specs.Option.{option_map};
+    ghost use Rattle.std.specs.List.{last_or};
+    ghost use Rattle.std.specs.Slice.Iter.{iter_rest};
 
     /// No fields yet, with room for so many.
     pub(crate) fn with_capacity(alloc: Global, capacity: usize) -> Result<Fields<'a>, AllocError>
@@ -46,7 +46,7 @@ impl<'a> Fields<'a> {
         ensures ok { OnOk result (self.new ≡ self.old ++ (tag, value.now) ∷ []) }
         ensures err { OnErr result (self.new ≡ self.old) }
     {
-        self.parts.push(Part { tag, value })?;
+        self.parts.push((tag, value))?;
         Ok(())
     }
 
@@ -57,15 +57,26 @@ impl<'a> Fields<'a> {
         self.parts.len()
     }
 
+    /// Whether there is no field.
+    pub fn is_empty(&self) -> bool
+        ensures { result ≡ (length self.now == 0) }
+    {
+        self.parts.is_empty()
+    }
+
     /// The tag and the value of the field at a place, counted from 0; `None` past the last.
     /// The value is a part of the body.
-    pub fn at(&self, place: usize) -> Option<(u32, &'a [u8])>
+    pub fn at(&self, place: usize) -> Option<Field<'a>>
         ensures { option_map (λ field. (field.0, field.1.now)) result ≡ slice_get self.now place }
     {
-        match self.parts.get(place) {
-            Some(part) => Some((part.tag, part.value)),
-            None => None,
-        }
+        self.parts.get(place).copied()
+    }
+
+    /// The field that stands last; `None` where there is none.
+    pub(crate) fn last(&self) -> Option<Field<'a>>
+        ensures { option_map (λ field. (field.0, field.1.now)) result ≡ last_or None self.now }
+    {
+        self.parts.last().copied()
     }
 
     /// The place of the first field with this tag; `None` where no field has it.
@@ -74,13 +85,39 @@ impl<'a> Fields<'a> {
     {
         first_place(&self.parts, tag)
     }
+
+    /// All fields, in order.
+    pub fn as_slice(&self) -> &[Field<'a>]
+        ensures { map (λ field. (field.0, field.1.now)) result.now ≡ self.now }
+    {
+        &self.parts
+    }
+
+    /// The fields one after another.
+    pub fn iter(&self) -> Iter<'_, Field<'a>>
+        ensures { map (λ field. (field.0, field.1.now)) (iter_rest result) ≡ self.now }
+    {
+        self.parts.iter()
+    }
+}
+
+impl<'f, 'a> IntoIterator for &'f Fields<'a> {
+    type Item = &'f Field<'a>;
+
+    type IntoIter = Iter<'f, Field<'a>>;
+
+    ghost into_iter_gives = { λ fields iter. map (λ field. (field.0, field.1.now)) (iter_rest iter) ≡ fields.now };
+
+    fn into_iter(self) -> Iter<'f, Field<'a>> {
+        self.iter()
+    }
 }
 
 /// The place of the first part with this tag.
-fn first_place(parts: &[Part<'_>], tag: u32) -> Option<usize>
-    ensures { result ≡ position (λ part. part.tag == tag) parts.now }
+fn first_place(parts: &[Field<'_>], tag: u32) -> Option<usize>
+    ensures { result ≡ position (λ part. part.0 == tag) parts.now }
 {
-    parts.iter().position(|part| part.tag == tag)
+    parts.iter().position(|part| part.0 == tag)
 }
 
 /// The fields of a body, and the fault that stopped them, if any.
