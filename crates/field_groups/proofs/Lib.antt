@@ -1,0 +1,8 @@
+pub mod Places
+pub mod Digits
+pub mod Reading
+pub mod Taking
+pub mod Front
+pub mod Determined
+pub mod Whole
+pub mod Lines

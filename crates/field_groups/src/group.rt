@@ -1,8 +1,10 @@
 //! The lines of a repeating group.
 
-ghost use Rattle.std.specs.Prelude.{◌≡◌, ◌==◌, ◌+◌, ◌<◌, ◌≤◌, ◌++◌, ◌∷◌, [], ℕ, List, Some, None, length, map, count_by, slice_get, IfOk, IfErr, OnOk, OnErr, HoldsAt};
-ghost use Rattle.std.specs.List.{list_any, prefix_len};
-ghost use Rattle.field_groups.specs.Group.{Member, tags_of, is_one_of, is_inside, is_skipped, lines_of, has_member, misplaced, group_fault, group_lines, TellsFault};
+ghost use Rattle.std.specs.Prelude.{◌≡◌, ◌==◌, ◌+◌, ◌-◌, ◌^◌, ◌<◌, ◌≤◌, ◌++◌, ◌∷◌, [], ℕ, List, Some, None, length, map, count_by, slice_get, option_and_then, IfOk, IfErr, OnOk, OnErr};
+ghost use Rattle.std.specs.List.{list_any, prefix_len, last_or, slice_set, slice_index_or};
+ghost use Rattle.field_groups.specs.HeadValues.{number_in};
+ghost use Rattle.field_groups.specs.Field.{says};
+ghost use Rattle.field_groups.specs.Group.{Member, placed, run, members_of, first_misplaced, tags_of, is_one_of, is_inside, is_skipped, lines_of, has_member, is_astray, misplaced, group_fault, group_lines, TellsFault};
 
 use crate::fields::{Field, Fields};
 use crate::head_values::number_in;
@@ -118,6 +120,16 @@ impl Group {
         self.end
     }
 
+    /// No line yet, in a group that ends here.
+    fn with_end(alloc: Global, end: usize) -> Group
+        ensures { result ≡ record { lines = []; end = end } }
+    {
+        Group {
+            lines: Vec::new(alloc),
+            end,
+        }
+    }
+
     /// Begins a line with its first member.
     fn begin(&mut self, alloc: Global, tag: u32, place: usize) -> Result<(), GroupFault>
         ensures ok { OnOk result (self.new.lines ≡ self.old.lines ++ ((tag, place) ∷ []) ∷ []) }
@@ -130,6 +142,28 @@ impl Group {
         match self.lines.push(line) {
             Ok(()) => Ok(()),
             Err(_) => Err(GroupFault::NoMemory),
+        }
+    }
+
+    /// Takes a member into the line that stands last.
+    fn extend(&mut self, tag: u32, place: usize) -> Result<(), GroupFault>
+        requires { 0 < length self.old.lines }
+        ensures ok { OnOk result (self.new.lines ≡ slice_set self.old.lines (length self.old.lines - 1)
+            (slice_index_or self.old.lines (length self.old.lines - 1) [] ++ (tag, place) ∷ [])) }
+        ensures err { IfErr result (λ e. e ≡ GroupFault.NoMemory) }
+        ensures end { self.new.end ≡ self.old.end }
+    {
+        let last = self.len() - 1;
+        self.lines[last].push(tag, place)
+    }
+
+    /// Whether a member of this tag is out of order: no line has begun, or the last one has it.
+    fn is_astray(&self, tag: u32) -> bool
+        ensures { result ≡ is_astray tag (last_or None self.now.lines) }
+    {
+        match self.lines.last() {
+            Some(line) => line.has(tag),
+            None => true,
         }
     }
 
@@ -155,10 +189,10 @@ impl Group {
             }
             return self.begin(alloc, tag, place);
         }
-        match self.lines.last_mut() {
-            Some(line) if !line.has(tag) => line.push(tag, place),
-            _ => Err(GroupFault::Order { tag }),
+        if self.is_astray(tag) {
+            return Err(GroupFault::Order { tag });
         }
+        self.extend(tag, place)
     }
 }
 
@@ -191,24 +225,75 @@ impl Line {
     }
 }
 
-/// How many parts from the front on belong to the group.
-fn run_len(parts: &[Field<'_>], shape: &Shape) -> usize
-    ensures value { result ≡ prefix_len (λ part. is_inside (tags_of shape.now) part.0) parts.now }
-    ensures within { result ≤ length parts.now }
+/// How many fields from the front on belong to the group.
+fn run_len(fields: &[Field<'_>], shape: &Shape) -> usize
+    ensures value { result ≡ prefix_len (λ field. is_inside (tags_of shape.now) field.0) fields.now }
+    ensures within { result ≤ length fields.now }
 {
-    for (i, part) in parts.iter().enumerate() {
-        if !shape.is_inside(part.0) {
-            return i;
-        }
-    }
-    parts.len()
+    fields
+        .iter()
+        .take_while(|field| shape.is_inside(field.0))
+        .count()
 }
 
-/// How many parts have this tag.
-fn count_of(parts: &[Field<'_>], tag: u32) -> usize
-    ensures value { result ≡ count_by (λ part. part.0 == tag) parts.now }
+/// The fields of the group behind its count field.
+fn run_of<'f, 'a>(fields: &'f Fields<'a>, from: usize, shape: &Shape) -> &'f [Field<'a>]
+    requires { from < length fields.now }
+    ensures run { placed (from + 1) (map (λ field. (field.0, field.1.now)) result.now) ≡ run (tags_of shape.now) from fields.now }
+    ensures within { from + 1 + length result.now ≤ length fields.now }
+    ensures bound { length fields.now < 2 ^ 63 }
 {
-    parts.iter().filter(|part| part.0 == tag).count()
+    let after = &fields.as_slice()[from + 1..];
+    &after[..run_len(after, shape)]
+}
+
+/// How many fields have this tag.
+fn count_of(fields: &[Field<'_>], tag: u32) -> usize
+    ensures { result ≡ count_by (λ field. field.0 == tag) fields.now }
+{
+    fields.iter().filter(|field| field.0 == tag).count()
+}
+
+/// The number that the field at a place says, if it says one.
+fn count_said(fields: &Fields<'_>, place: usize) -> Option<u32>
+    ensures { result ≡ option_and_then (λ field. number_in field.1) (slice_get fields.now place) }
+{
+    number_in(fields.at(place)?.1)
+}
+
+/// Whether the number is said.
+fn says(said: Option<u32>, number: usize) -> bool
+    ensures { result ≡ says said number }
+{
+    match said {
+        Some(said) => said as usize == number,
+        None => false,
+    }
+}
+
+/// The lines of fields of a group, the first of them at this place.
+fn read_lines(
+    alloc: Global,
+    run: &[Field<'_>],
+    place: usize,
+    shape: &Shape,
+) -> Result<Group, GroupFault>
+    requires { place + length run.now < 2 ^ 63 }
+    ensures in_order { OnOk result (first_misplaced (tags_of shape.now) []
+        (members_of (tags_of shape.now) (placed place (map (λ field. (field.0, field.1.now)) run.now))) ≡ None) }
+    ensures lines { IfOk result (λ group. group.lines ≡ lines_of shape.now.first
+        (members_of (tags_of shape.now) (placed place (map (λ field. (field.0, field.1.now)) run.now)))) }
+    ensures end { IfOk result (λ group. group.end ≡ place + length run.now) }
+    ensures fault { IfErr result (λ e. TellsFault e (first_misplaced (tags_of shape.now) []
+        (members_of (tags_of shape.now) (placed place (map (λ field. (field.0, field.1.now)) run.now))))) }
+{
+    let mut group = Group::with_end(alloc, place + run.len());
+    for (i, field) in run.iter().enumerate() {
+        if !shape.is_skipped(field.0) {
+            group.add(alloc, shape, field.0, place + i)?;
+        }
+    }
+    Ok(group)
 }
 
 /// Reads the group whose count field stands at a place among the fields, counted from 0.
@@ -227,29 +312,14 @@ pub fn read_group(
     from: usize,
     shape: &Shape,
 ) -> Result<Group, GroupFault>
-    requires { HoldsAt (λ field. field.0 ≡ shape.now.count) fields.now from }
+    requires { from < length fields.now }
     ensures in_order { OnOk result (group_fault (tags_of shape.now) from fields.now ≡ None) }
     ensures lines { IfOk result (λ group. group ≡ group_lines (tags_of shape.now) from fields.now) }
     ensures fault { IfErr result (λ e. TellsFault e (group_fault (tags_of shape.now) from fields.now)) }
 {
-    let parts = fields.as_slice();
-    let after = &parts[from + 1..];
-    let run = &after[..run_len(after, shape)];
-    let lines = count_of(run, shape.first);
-    if number_in(parts[from].1) != Some(lines as u32) {
+    let run = run_of(fields, from, shape);
+    if !says(count_said(fields, from), count_of(run, shape.first)) {
         return Err(GroupFault::Count { tag: shape.count });
     }
-    let mut group = Group {
-        lines: match Vec::with_capacity(alloc, lines.min(MAX_LINES)) {
-            Ok(lines) => lines,
-            Err(_) => return Err(GroupFault::NoMemory),
-        },
-        end: from + 1 + run.len(),
-    };
-    for (i, part) in run.iter().enumerate() {
-        if !shape.is_skipped(part.0) {
-            group.add(alloc, shape, part.0, from + 1 + i)?;
-        }
-    }
-    Ok(group)
+    read_lines(alloc, run, from + 1, shape)
 }

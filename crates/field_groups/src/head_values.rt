@@ -12,6 +12,13 @@ const MAX_NUMBER: u64 = 1_000_000_000;
 /// The most digits of a length or a count.
 const MAX_DIGITS: usize = 10;
 
+/// Whether each byte is a digit.
+fn are_digits(bytes: &[u8]) -> bool
+    ensures { result ≡ list_all is_ascii_digit bytes.now }
+{
+    bytes.iter().all(|byte| byte.is_ascii_digit())
+}
+
 /// The number that at most 18 digits write.
 pub(crate) fn value_of(digits: &[u8]) -> u64
     requires digits { IsTrue (list_all is_ascii_digit digits.now) }
@@ -31,7 +38,7 @@ pub(crate) fn value_of(digits: &[u8]) -> u64
 pub(crate) fn number_in(value: &[u8]) -> Option<u32>
     ensures { result ≡ number_in value.now }
 {
-    if value.is_empty() || value.len() > MAX_DIGITS || !value.iter().all(u8::is_ascii_digit) {
+    if value.is_empty() || value.len() > MAX_DIGITS || !are_digits(value) {
         return None;
     }
     let number = value_of(value);

@@ -41,7 +41,7 @@ fn digit_count(bytes: &[u8]) -> usize
 }
 
 /// The tag at the front, and what is left after its `=`. The field begins at this place of the body.
-#[tactic(auto, unfolding(crate::specs::Fields::has_tag, crate::specs::Fields::is_tag_good))]
+#[tactic(auto, using(crate::proofs::Reading::tag_written, crate::proofs::Reading::tag_range), unfolding(crate::specs::Fields::has_tag, crate::specs::Fields::is_tag_good))]
 fn tag_at(place: usize, bytes: &[u8]) -> Result<(u32, &[u8]), SplitFault>
     ensures good { OnOk result ((has_tag bytes.now ≡ true) × (is_tag_good bytes.now ≡ true)) }
     ensures tag { IfOk result (λ tag. tag.0 ≡ front_tag bytes.now) }
