@@ -1,21 +1,21 @@
 -- What stands at the front of the bytes of a field and more.
-use Rattle.std.proofs.Common.{◌≡◌, ℕ, ◌+◌, ◌^◌, ◌<◌, ◌≤◌, true, false, List, [], ◌∷◌, ◌++◌, length, get_or, take, drop, sym, ap, ◌∙◌, arith, append_assoc, length-append}
+use Rattle.std.proofs.Common.{◌≡◌, ℕ, ◌+◌, ◌^◌, ◌<◌, ◌≤◌, Bool, true, false, Option, Some, None, unwrap_or, if◌then◌else◌, eq-eqb, List, [], ◌∷◌, ◌++◌, length, get_or, take, drop, sym, ap, ◌∙◌, arith, append_assoc, length-append}
 use Rattle.std.specs.Prelude.{not, nat_lt, nat_le, ◌&&◌, ◌==◌}
-use Rattle.std.specs.List.{list_any, position_or_len, before_first, after_first}
+use Rattle.std.specs.List.{list_any, position_or_len}
 use Rattle.std.specs.Char.{is_ascii_digit}
 use Rattle.std.specs.Fmt.{decimal}
 use Rattle.std.specs.Int.{IsInRange}
 use Rattle.std.specs.Str.Parse.{digits_value}
-use Rattle.std.proofs.lemmas.Bool.{false_from_ne_true, false≢true}
+use Rattle.std.proofs.lemmas.Bool.{false_from_ne_true, false≢true, eqb-true, not-true}
 use Rattle.std.proofs.lemmas.Bool.Decides.{nat_tests}
 use Rattle.std.proofs.lemmas.Fmt.{digits_decimal, digits_value-decimal, first_decimal, length-decimal-le, decimal_nonempty}
 use Rattle.std.proofs.lemmas.List.{get_or_append_left}
 use Rattle.std.proofs.lemmas.List.Folds.{list_any_at}
 use Rattle.std.proofs.lemmas.List.Sums.{prefix_len_is, position_or_len_is}
 use Rattle.std.proofs.Math.Seq.{get_or-append_seam, take-append_seam, drop-append-add}
-use Rattle.field_groups.specs.Field.{Field, IsField, field_bytes, is_soh}
-use Rattle.field_groups.specs.Fields.{digit_count, has_tag, is_tag_good, after_tag, has_end}
-use Rattle.field_groups.proofs.Reading.{AllInRange, own, front_tag}
+use Rattle.field_groups.specs.Field.{Field, IsField, field_bytes, is_soh, is_data, is_value, said_length, says}
+use Rattle.field_groups.specs.Fields.{digit_count, front_tag, has_tag, is_tag_good, after_tag, has_soh, has_soh_after}
+use Rattle.field_groups.proofs.Reading.{AllInRange, own}
 
 passes : (c : ℕ) → IsInRange 48 57 c → is_ascii_digit c ≡ true
 passes c h = grind (arith, nat_tests)
@@ -25,10 +25,18 @@ pub field_apart : (f : Field) (more : List ℕ) → field_bytes f ++ more ≡ de
 unfolding field_bytes
 field_apart f more = append_assoc (decimal f.0 ++ 61 ∷ f.1) (1 ∷ []) more ∙ append_assoc (decimal f.0) (61 ∷ f.1) (1 ∷ more)
 
-small : (f : Field) → IsField f → f.0 < 2 ^ 64
+-- the bounds of the tag of a field
+record HasTag (f : Field) : Type 0 where
+  positive : 1 ≤ f.0
+  nine_digits : f.0 ≤ 999_999_999
+
+tag_of : {before : Option Field} {f : Field} → IsField before f → HasTag f
+tag_of is = record { positive = is.positive; nine_digits = is.nine_digits }
+
+small : (f : Field) → HasTag f → f.0 < 2 ^ 64
 small f is = omega (arith, is.nine_digits)
 
-count_apart : (f : Field) (more : List ℕ) → IsField f → digit_count (decimal f.0 ++ 61 ∷ more) ≡ length (decimal f.0)
+count_apart : (f : Field) (more : List ℕ) → HasTag f → digit_count (decimal f.0 ++ 61 ∷ more) ≡ length (decimal f.0)
 count_apart f more is =
     let digits : AllInRange (decimal f.0) = digits_decimal own f.0 (small f is) in
     prefix_len_is is_ascii_digit (decimal f.0 ++ 61 ∷ more) (length (decimal f.0)) 0
@@ -44,41 +52,53 @@ soh_apart value more none =
     (λ k lt. rw (get_or_append_left value (1 ∷ more) 0 k lt) (false_from_ne_true _ (λ yes. false≢true (sym none ∙ list_any_at is_soh value k 0 lt yes))))
     (λ _. ap is_soh (get_or-append_seam value 1 more 0))
 
--- the field at the front, and what is left after it
-abbrev pub front_field : List ℕ → Field × List ℕ
-front_field bytes = ((front_tag bytes, before_first is_soh (after_tag bytes)), after_first is_soh (after_tag bytes))
+-- how many bytes the value at the front of these has
+abbrev pub value_len : Option Field → ℕ → List ℕ → ℕ
+value_len before tag bytes = if is_data before tag then unwrap_or (said_length before) 0 else position_or_len is_soh bytes
 
-after_apart : (f : Field) (more : List ℕ) → IsField f → after_tag (decimal f.0 ++ 61 ∷ more) ≡ more
+-- the field at the front, and what is left after it
+abbrev pub front_field : Option Field → List ℕ → Field × List ℕ
+front_field before bytes =
+    let len = value_len before (front_tag bytes) (after_tag bytes) in
+    ((front_tag bytes, take len (after_tag bytes)), drop (len + 1) (after_tag bytes))
+
+after_apart : (f : Field) (more : List ℕ) → HasTag f → after_tag (decimal f.0 ++ 61 ∷ more) ≡ more
 after_apart f more is =
     ap (λ (n : ℕ). drop (n + 1) (decimal f.0 ++ 61 ∷ more)) (count_apart f more is) ∙ drop-append-add (decimal f.0) (61 ∷ more) 1
 
-tag_apart : (f : Field) (more : List ℕ) → IsField f → front_tag (decimal f.0 ++ 61 ∷ more) ≡ f.0
+tag_apart : (f : Field) (more : List ℕ) → HasTag f → front_tag (decimal f.0 ++ 61 ∷ more) ≡ f.0
 tag_apart f more is =
     ap (λ (n : ℕ). digits_value 10 (take n (decimal f.0 ++ 61 ∷ more))) (count_apart f more is)
     ∙ ap (λ (ds : List ℕ). digits_value 10 ds) (take-append_seam (decimal f.0) (61 ∷ more))
     ∙ digits_value-decimal own f.0 (small f is)
 
-value_apart : (value more : List ℕ) → list_any is_soh value ≡ false → before_first is_soh (value ++ 1 ∷ more) ≡ value
-value_apart value more none =
-    ap (λ (n : ℕ). take n (value ++ 1 ∷ more)) (soh_apart value more none) ∙ take-append_seam value (1 ∷ more)
+-- where a value stands as the field before and its bytes have it, and SOH behind it, its length is that value's
+by_data : (raw : Bool) (said : Option ℕ) (value more : List ℕ) → (if raw then says said (length value) else not (list_any is_soh value)) ≡ true →
+    (if raw then unwrap_or said 0 else position_or_len is_soh (value ++ 1 ∷ more)) ≡ length value
+by_data true None value more is = absurd (false≢true is)
+by_data true (Some said) value more is = eqb-true said (length value) is
+by_data false said value more is = soh_apart value more (not-true _ is)
 
-left_apart : (value more : List ℕ) → list_any is_soh value ≡ false → after_first is_soh (value ++ 1 ∷ more) ≡ more
-left_apart value more none =
-    ap (λ (n : ℕ). drop (n + 1) (value ++ 1 ∷ more)) (soh_apart value more none) ∙ drop-append-add value (1 ∷ more) 1
+len_apart : (before : Option Field) (f : Field) (more : List ℕ) → IsField before f → value_len before f.0 (f.1 ++ 1 ∷ more) ≡ length f.1
+len_apart before f more is = by_data (is_data before f.0) (said_length before) f.1 more is.value
 
 -- the bytes of a field are read as that field
-pub front_field-bytes : (f : Field) (more : List ℕ) → IsField f → front_field (field_bytes f ++ more) ≡ (f, more)
-front_field-bytes f more is =
-    let after : after_tag (field_bytes f ++ more) ≡ f.1 ++ 1 ∷ more = ap (λ (bs : List ℕ). after_tag bs) (field_apart f more) ∙ after_apart f (f.1 ++ 1 ∷ more) is in
-    let tag : front_tag (field_bytes f ++ more) ≡ f.0 = ap (λ (bs : List ℕ). front_tag bs) (field_apart f more) ∙ tag_apart f (f.1 ++ 1 ∷ more) is in
-    let value : before_first is_soh (after_tag (field_bytes f ++ more)) ≡ f.1 = ap (λ (bs : List ℕ). before_first is_soh bs) after ∙ value_apart f.1 more is.no_soh in
-    let left : after_first is_soh (after_tag (field_bytes f ++ more)) ≡ more = ap (λ (bs : List ℕ). after_first is_soh bs) after ∙ left_apart f.1 more is.no_soh in
+pub front_field-bytes : (before : Option Field) (f : Field) (more : List ℕ) → IsField before f → front_field before (field_bytes f ++ more) ≡ (f, more)
+front_field-bytes before f more is =
+    let after : after_tag (field_bytes f ++ more) ≡ f.1 ++ 1 ∷ more = ap (λ (bs : List ℕ). after_tag bs) (field_apart f more) ∙ after_apart f (f.1 ++ 1 ∷ more) (tag_of is) in
+    let tag : front_tag (field_bytes f ++ more) ≡ f.0 = ap (λ (bs : List ℕ). front_tag bs) (field_apart f more) ∙ tag_apart f (f.1 ++ 1 ∷ more) (tag_of is) in
+    let len : value_len before (front_tag (field_bytes f ++ more)) (after_tag (field_bytes f ++ more)) ≡ length f.1 =
+    (λ i. value_len before (tag i) (after i)) ∙ len_apart before f more is in
+    let value : take (value_len before (front_tag (field_bytes f ++ more)) (after_tag (field_bytes f ++ more))) (after_tag (field_bytes f ++ more)) ≡ f.1 =
+    (λ i. take (len i) (after i)) ∙ take-append_seam f.1 (1 ∷ more) in
+    let left : drop (value_len before (front_tag (field_bytes f ++ more)) (after_tag (field_bytes f ++ more)) + 1) (after_tag (field_bytes f ++ more)) ≡ more =
+    (λ i. drop (len i + 1) (after i)) ∙ drop-append-add f.1 (1 ∷ more) 1 in
     λ i. ((tag i, value i), left i)
 
 -- two fields that begin the same bytes are one
-pub same_front : (f g : Field) (more rest : List ℕ) → IsField f → IsField g → field_bytes f ++ more ≡ field_bytes g ++ rest → (f ≡ g) × (more ≡ rest)
-same_front f g more rest is also same =
-    let pair : (f, more) ≡ (g, rest) = sym (front_field-bytes f more is) ∙ ap (λ (bs : List ℕ). front_field bs) same ∙ front_field-bytes g rest also in
+pub same_front : (before : Option Field) (f g : Field) (more rest : List ℕ) → IsField before f → IsField before g → field_bytes f ++ more ≡ field_bytes g ++ rest → (f ≡ g) × (more ≡ rest)
+same_front before f g more rest is also same =
+    let pair : (f, more) ≡ (g, rest) = sym (front_field-bytes before f more is) ∙ ap (λ (bs : List ℕ). front_field before bs) same ∙ front_field-bytes before g rest also in
     (ap (λ (p : Field × List ℕ). p.0) pair, ap (λ (p : Field × List ℕ). p.1) pair)
 
 tag_test : (n next : ℕ) → 0 < n → next ≡ 61 → (nat_lt 0 n && (next == 61)) ≡ true
@@ -87,24 +107,44 @@ tag_test n next some is = grind (arith, nat_tests)
 good_test : (n first : ℕ) → n ≤ 9 → 48 < first → (not (first == 48) && nat_le n 9) ≡ true
 good_test n first nine above = grind (arith, nat_tests)
 
-pub has_tag-bytes : (f : Field) (more : List ℕ) → IsField f → has_tag (field_bytes f ++ more) ≡ true
+has_tag-apart : (f : Field) (more : List ℕ) → HasTag f → has_tag (field_bytes f ++ more) ≡ true
 unfolding has_tag
-has_tag-bytes f more is =
+has_tag-apart f more is =
     let tail = f.1 ++ 1 ∷ more in
     let count = count_apart f tail is in
     rw (field_apart f more, count)
     (tag_test (length (decimal f.0)) (get_or (decimal f.0 ++ 61 ∷ tail) (length (decimal f.0)) 0) (decimal_nonempty f.0 (small f is)) (get_or-append_seam (decimal f.0) 61 tail 0))
 
-pub is_tag_good-bytes : (f : Field) (more : List ℕ) → IsField f → is_tag_good (field_bytes f ++ more) ≡ true
+is_tag_good-apart : (f : Field) (more : List ℕ) → HasTag f → is_tag_good (field_bytes f ++ more) ≡ true
 unfolding is_tag_good
-is_tag_good-bytes f more is =
+is_tag_good-apart f more is =
     let tail = f.1 ++ 1 ∷ more in
     let count = count_apart f tail is in
     let first : get_or (decimal f.0 ++ 61 ∷ tail) 0 0 ≡ get_or (decimal f.0) 0 0 = get_or_append_left (decimal f.0) (61 ∷ tail) 0 0 (decimal_nonempty f.0 (small f is)) in
     rw (field_apart f more, count)
     (good_test (length (decimal f.0)) (get_or (decimal f.0 ++ 61 ∷ tail) 0 0) (length-decimal-le 9 f.0 (omega arith) (omega (arith, is.nine_digits)) (small f is)) (omega (arith, first, first_decimal f.0 is.positive (small f is))))
 
-pub has_end-bytes : (f : Field) (more : List ℕ) → IsField f → has_end (field_bytes f ++ more) ≡ true
-has_end-bytes f more is =
-    let after : after_tag (field_bytes f ++ more) ≡ f.1 ++ 1 ∷ more = ap (λ (bs : List ℕ). after_tag bs) (field_apart f more) ∙ after_apart f (f.1 ++ 1 ∷ more) is in
+pub has_tag-bytes : (before : Option Field) (f : Field) (more : List ℕ) → IsField before f → has_tag (field_bytes f ++ more) ≡ true
+has_tag-bytes before f more is = has_tag-apart f more (tag_of is)
+
+pub is_tag_good-bytes : (before : Option Field) (f : Field) (more : List ℕ) → IsField before f → is_tag_good (field_bytes f ++ more) ≡ true
+is_tag_good-bytes before f more is = is_tag_good-apart f more (tag_of is)
+
+-- SOH stands behind a field
+pub has_soh-bytes : (before : Option Field) (f : Field) (more : List ℕ) → IsField before f → has_soh (after_tag (field_bytes f ++ more)) ≡ true
+has_soh-bytes before f more is =
+    let after : after_tag (field_bytes f ++ more) ≡ f.1 ++ 1 ∷ more = ap (λ (bs : List ℕ). after_tag bs) (field_apart f more) ∙ after_apart f (f.1 ++ 1 ∷ more) (tag_of is) in
     rw after (list_any_at is_soh (f.1 ++ 1 ∷ more) (length f.1) 0 (omega (arith, length-append f.1 (1 ∷ more))) (ap is_soh (get_or-append_seam f.1 1 more 0)))
+
+said_apart : (raw : Bool) (said : Option ℕ) (value more : List ℕ) → raw ≡ true → (if raw then says said (length value) else not (list_any is_soh value)) ≡ true → has_soh_after said (value ++ 1 ∷ more) ≡ true
+said_apart false said value more given is = absurd (false≢true given)
+said_apart true None value more given is = absurd (false≢true is)
+said_apart true (Some said) value more given is =
+    rw (eqb-true said (length value) is) (eq-eqb _ _ (get_or-append_seam value 1 more 0))
+
+-- SOH stands where the length field before a field of raw bytes says
+pub has_soh_after-bytes : (before : Option Field) (f : Field) (more : List ℕ) → IsField before f → is_data before (front_tag (field_bytes f ++ more)) ≡ true → has_soh_after (said_length before) (after_tag (field_bytes f ++ more)) ≡ true
+has_soh_after-bytes before f more is given =
+    let after : after_tag (field_bytes f ++ more) ≡ f.1 ++ 1 ∷ more = ap (λ (bs : List ℕ). after_tag bs) (field_apart f more) ∙ after_apart f (f.1 ++ 1 ∷ more) (tag_of is) in
+    let tag : front_tag (field_bytes f ++ more) ≡ f.0 = ap (λ (bs : List ℕ). front_tag bs) (field_apart f more) ∙ tag_apart f (f.1 ++ 1 ∷ more) (tag_of is) in
+    rw after (said_apart (is_data before f.0) (said_length before) f.1 more (sym (ap (λ (t : ℕ). is_data before t) tag) ∙ given) is.value)

@@ -1,10 +1,11 @@
 pub mod Places
+pub mod Digits
 pub mod Reading
 pub mod Taking
 pub mod Front
 pub mod Determined
 pub mod Whole
-pub mod Rows
+pub mod Lines
 pub mod Clean
 pub mod Again
 pub mod Seen

@@ -1,7 +1,7 @@
 -- The first place that passes a test.
-use Rattle.std.proofs.Common.{◌≡◌, ℕ, ◌+◌, ◌<◌, Bool, false, cond, List, [], ◌∷◌, take, length-take, Some, None, refl, ap, arith}
+use Rattle.std.proofs.Common.{◌-◌, Option, option_map, length, ◌≡◌, ℕ, ◌+◌, ◌<◌, Bool, false, cond, List, [], ◌∷◌, take, length-take, Some, None, refl, ap, arith}
 use Rattle.std.specs.Prelude.{map, position, not}
-use Rattle.std.specs.List.{list_any, position_or_len}
+use Rattle.std.specs.List.{list_any, position_or_len, last_or, slice_get}
 use Rattle.std.proofs.lemmas.List.{get_or-take}
 use Rattle.std.proofs.lemmas.List.Elements.{All-from_get_or}
 use Rattle.std.proofs.lemmas.List.Folds.{list_any_none}
@@ -27,3 +27,12 @@ none_before test hay place found =
     list_any_none test (take place hay) (All-from_get_or (λ (x : ℕ). test x ≡ false) (take place hay) 0 (λ k lt.
     let below : k < place = omega (arith, length-take place hay) in
     rw (get_or-take place hay k 0 below) (false_from_ne_true _ (found.0.before k (omega arith) below))))
+
+last_is : {X Y : Type 0} (view : X → Y) (o : Option Y) (x : X) (xs : List X) → option_map view (slice_get (x ∷ xs) (length xs)) ≡ last_or o (map view (x ∷ xs))
+last_is view o x [] = refl
+last_is view o x (y ∷ xs) = last_is view (Some (view x)) y xs
+
+-- the element that stands last
+pub last_seen : {X Y : Type 0} (view : X → Y) (xs : List X) → option_map view (slice_get xs (length xs - 1)) ≡ last_or None (map view xs)
+last_seen view [] = refl
+last_seen view (x ∷ xs) = let one : length (x ∷ xs) - 1 ≡ length xs = omega arith in rw one (last_is view None x xs)

@@ -13,7 +13,7 @@ use Rattle.std.proofs.lemmas.List.{take-append-drop, get_or-take, get_or_past, t
 use Rattle.std.proofs.lemmas.List.Folds.{length-prefix_len}
 use Rattle.std.proofs.lemmas.List.Sums.{prefix_len_passes}
 use Rattle.std.proofs.lemmas.Str.Parse.{IsNumeralModel, numerals_by_value, tells_by_index, digits_value_short}
-use Rattle.field_groups.specs.Fields.{digit_count, has_tag, is_tag_good, after_tag}
+use Rattle.field_groups.specs.Fields.{digit_count, has_tag, is_tag_good, after_tag, front_tag}
 
 -- the bounds of a digit
 range : (c : ℕ) → is_ascii_digit c ≡ true → IsInRange 48 57 c
@@ -51,13 +51,12 @@ tag_facts bytes tag good =
     let facts = tests (digit_count bytes) (get_or bytes 0 0) (get_or bytes (digit_count bytes) 0) tag good in
     record { some = facts.0; equals = facts.1; no_zero = facts.2; nine = facts.3 }
 
--- a place where a byte that is not 0 stands lies inside
-inside : (bytes : List ℕ) (n : ℕ) → get_or bytes n 0 ≡ 61 → n < length bytes
-inside bytes n is = ⊎_elim (λ lt. lt) (λ le. absurd (omega (arith, get_or_past bytes n 0 le))) (cases_lt n (length bytes))
-
--- the tag of the digits at the front
-abbrev pub front_tag : List ℕ → ℕ
-front_tag bytes = digits_value 10 (front_digits bytes)
+-- bytes are cut where a byte that is not 0 stands
+pub cut_at : (bytes : List ℕ) (n byte : ℕ) → 0 < byte → get_or bytes n 0 ≡ byte → (n < length bytes) × (bytes ≡ take n bytes ++ byte ∷ drop (n + 1) bytes)
+cut_at bytes n byte some is =
+    let within : n < length bytes = ⊎_elim (λ lt. lt) (λ le. absurd (omega (arith, get_or_past bytes n 0 le))) (cases_lt n (length bytes)) in
+    let next : suc n ≡ n + 1 = omega arith in
+    (within, sym (take-append-drop n bytes) ∙ ap (λ (bs : List ℕ). take n bytes ++ bs) (drop-cons bytes n 0 within ∙ ap (λ (b : ℕ). b ∷ drop (suc n) bytes) is ∙ ap (λ (i : ℕ). byte ∷ drop i bytes) next))
 
 front_tag-decimal : (bytes : List ℕ) → Tag bytes → decimal (front_tag bytes) ≡ front_digits bytes
 front_tag-decimal bytes tag =
@@ -78,10 +77,7 @@ tag_range bytes has good =
 pub tag_written : (bytes : List ℕ) → has_tag bytes ≡ true → is_tag_good bytes ≡ true → bytes ≡ decimal (front_tag bytes) ++ 61 ∷ after_tag bytes
 tag_written bytes has good =
     let tag = tag_facts bytes has good in
-    let n = digit_count bytes in
-    let next : suc n ≡ n + 1 = omega arith in
-    let seam : drop n bytes ≡ 61 ∷ after_tag bytes = drop-cons bytes n 0 (inside bytes n tag.equals) ∙ ap (λ (b : ℕ). b ∷ drop (suc n) bytes) tag.equals ∙ ap (λ (i : ℕ). 61 ∷ drop i bytes) next in
-    sym (take-append-drop n bytes) ∙ ap (λ (bs : List ℕ). take n bytes ++ bs) seam ∙ ap (λ (ds : List ℕ). ds ++ 61 ∷ after_tag bytes) (sym (front_tag-decimal bytes tag))
+    (cut_at bytes (digit_count bytes) 61 (omega arith) tag.equals).1 ∙ ap (λ (ds : List ℕ). ds ++ 61 ∷ after_tag bytes) (sym (front_tag-decimal bytes tag))
 
 -- what the slice after the tag and its `=` holds
 pub rest_is : (bytes : List ℕ) (n : ℕ) → n ≡ digit_count bytes → take (length bytes - (n + 1)) (drop (n + 1) bytes) ≡ after_tag bytes

@@ -1,10 +1,16 @@
 -- The fields that were taken from the front of a body.
-use Rattle.std.proofs.Common.{◌≡◌, ℕ, ◌≤◌, List, ◌++◌, length}
-use Rattle.std.specs.Prelude.{All}
-use Rattle.field_groups.specs.Field.{Field, IsField, body_of}
+use Rattle.std.proofs.Common.{◌≡◌, ℕ, ◌≤◌, List, [], ◌∷◌, ◌++◌, length, Option, Some, None}
+use Rattle.std.specs.List.{last_or}
+use Rattle.field_groups.specs.Field.{Field, IsField, AreFields, body_of}
+use Rattle.field_groups.specs.Fields.{max_fields}
 
 -- these fields were taken from the front of a body, and this is left of it
 pub record Taken (body : List ℕ) (fields : List Field) (left : List ℕ) : Type 0 where
-  pub good : All IsField fields
-  pub at_most : length fields ≤ 256
+  pub good : AreFields None fields
+  pub at_most : length fields ≤ max_fields
   pub written : body ≡ body_of fields ++ left
+
+-- one more field
+pub one_more : (before : Option Field) (fs : List Field) (f : Field) → AreFields before fs → IsField (last_or before fs) f → AreFields before (fs ++ f ∷ [])
+one_more before [] f are is = (is, tt)
+one_more before (g ∷ fs) f are is = (are.0, one_more (Some g) fs f are.1 is)

@@ -27,8 +27,9 @@ impl<'a> Model for Fields<'a> {
 }
 
 impl<'a> Fields<'a> {
-    ghost use Rattle.std.specs.Prelude.{◌≡◌, ◌==◌, ◌++◌, ◌∷◌, [], length, map, slice_get, IfOk, OnOk, OnErr, position};
+    ghost use Rattle.std.specs.Prelude.{◌≡◌, ◌==◌, ◌++◌, ◌∷◌, [], None, length, map, slice_get, IfOk, OnOk, OnErr, position};
     ghost use Rattle.std.specs.Option.{option_map};
+    ghost use Rattle.std.specs.List.{last_or};
     ghost use Rattle.std.specs.Slice.Iter.{iter_rest};
 
     /// No fields yet, with room for so many.
@@ -69,6 +70,13 @@ impl<'a> Fields<'a> {
         ensures { option_map (λ field. (field.0, field.1.now)) result ≡ slice_get self.now place }
     {
         self.parts.get(place).copied()
+    }
+
+    /// The field that stands last; `None` where there is none.
+    pub(crate) fn last(&self) -> Option<Field<'a>>
+        ensures { option_map (λ field. (field.0, field.1.now)) result ≡ last_or None self.now }
+    {
+        self.parts.last().copied()
     }
 
     /// The place of the first field with this tag; `None` where no field has it.

@@ -1,12 +1,16 @@
-//! The fields of a body: `tag=value`, each ended by SOH (byte 1), in order.
+//! The fields of a body, `tag=value`, each ended by SOH (byte 1), in order; and the lines of its
+//! repeating groups.
 //!
-//! FIX 4.2, "FIX Message Format and Delivery", "Message Format" and "Field Delimiter";
-//! FIX 5.0 SP2, volume 1, "FIX Tag=Value Syntax", the same parts.
+//! FIX 4.2, "FIX Message Format and Delivery", "Message Format", "Field Delimiter" and "Repeating
+//! Groups"; FIX 5.0 SP2, volume 1, "FIX Tag=Value Syntax", the same parts.
 #![tactic(auto)]
 
+mod data;
 mod fault;
 mod fields;
-mod laws;
+mod group;
+mod head_values;
+pub mod laws;
 mod lookup;
 mod splitting;
 mod table;
@@ -16,7 +20,7 @@ mod tests;
 
 pub use fault::SplitFault;
 pub use fields::{Field, Fields, Split};
-pub use laws::{every_body_splits, fields_are_determined, fields_read_again};
+pub use group::{Group, GroupFault, Shape, read_group};
 pub use lookup::{stands, value};
 pub use splitting::split;
 pub use table::{Item, Need, RepeatingGroup, Row, Table, Test};

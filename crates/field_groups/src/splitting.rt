@@ -1,72 +1,70 @@
 //! The fields of a body, from the front.
 
-ghost use Rattle.std.specs.Prelude.{◌≡◌, ◌≤◌, ◌++◌, ◌∷◌, false, true, length, take, IfOk, IfErr, IfNone, IfSome, OnOk};
-ghost use Rattle.std.specs.List.{list_any, prefix_len};
+ghost use Rattle.std.specs.Prelude.{◌≡◌, ◌≤◌, ◌^◌, ◌++◌, ◌∷◌, ℕ, false, true, Option, None, length, take, IfOk, IfErr, IfNone, IfSome, OnOk, IsTrue};
+ghost use Rattle.std.specs.List.{list_any, list_all, prefix_len};
+ghost use Rattle.std.specs.Option.{option_map};
 ghost use Rattle.std.specs.Char.{is_ascii_digit};
 ghost use Rattle.std.specs.Fmt.{decimal};
 ghost use Rattle.std.specs.Str.Parse.{digits_value};
-ghost use Rattle.field_groups.specs.Field.{IsField, field_bytes, is_soh};
-ghost use Rattle.field_groups.specs.Fields.{NoField, SplitsInto, after_tag, has_tag, is_tag_good};
+ghost use Rattle.field_groups.specs.Field.{Field, IsField, field_bytes, is_soh, is_data, says, said_length};
+ghost use Rattle.field_groups.specs.HeadValues.{number_in};
+ghost use Rattle.field_groups.specs.Fields.{NoField, SplitsInto, after_tag, front_tag, has_tag, is_tag_good, digit_count, has_soh, has_soh_after};
 
+use crate::data::is_data_pair;
 use crate::fault::SplitFault;
 use crate::fields::{Fields, Split};
+use crate::head_values::{number_in, value_of};
 use memchr::memchr;
 use std::alloc::{AllocError, Global};
 
 /// The most fields of one body.
-const MOST_FIELDS: usize = 256;
+const MAX_FIELDS: usize = 256;
 
 /// The fields that the first growth of the list has room for: most messages have no more.
 const FIRST_ROOM: usize = 32;
 
 /// The most digits of a tag.
-const MOST_DIGITS: usize = 9;
+const MAX_DIGITS: usize = 9;
 
 /// The byte that ends a field.
 const SOH: u8 = 1;
 
-/// How many digits stand at the front, and the number that they write, if there are at most nine.
-fn digits(bytes: &[u8]) -> (usize, u32)
-    ensures len { result.0 ≡ prefix_len is_ascii_digit bytes.now }
-    ensures within { result.0 ≤ length bytes.now }
-    ensures number { result.0 ≤ 9 → result.1 ≡ digits_value 10 (take result.0 bytes.now) }
+/// How many digits stand at the front.
+fn digit_count(bytes: &[u8]) -> usize
+    ensures value { result ≡ digit_count bytes.now }
+    ensures within { result ≤ length bytes.now }
 {
-    let mut number = 0;
-    for (i, byte) in bytes.iter().enumerate() {
-        if !byte.is_ascii_digit() {
-            return (i, number);
-        }
-        if i < MOST_DIGITS {
-            number = 10 * number + u32::from(*byte - b'0');
-        }
-    }
-    (bytes.len(), number)
+    bytes
+        .iter()
+        .take_while(|byte| byte.is_ascii_digit())
+        .count()
 }
 
 /// The tag at the front, and what is left after its `=`. The field begins at this place of the body.
 #[tactic(auto, using(crate::proofs::Reading::tag_written, crate::proofs::Reading::tag_range), unfolding(crate::specs::Fields::has_tag, crate::specs::Fields::is_tag_good))]
 fn tag_at(place: usize, bytes: &[u8]) -> Result<(u32, &[u8]), SplitFault>
     ensures good { OnOk result ((has_tag bytes.now ≡ true) × (is_tag_good bytes.now ≡ true)) }
-    ensures range { IfOk result (λ tag. (1 ≤ tag.0) × (tag.0 ≤ 999999999)) }
+    ensures tag { IfOk result (λ tag. tag.0 ≡ front_tag bytes.now) }
+    ensures range { IfOk result (λ tag. (1 ≤ tag.0) × (tag.0 ≤ 999_999_999)) }
     ensures written { IfOk result (λ tag. bytes.now ≡ decimal tag.0 ++ 61 ∷ tag.1.now) }
     ensures rest { IfOk result (λ tag. tag.1.now ≡ after_tag bytes.now) }
-    ensures fault { IfErr result (NoField place bytes.now) }
+    ensures fault { IfErr result (λ e. (before : Option Field) → NoField place before bytes.now e) }
 {
-    let (len, number) = digits(bytes);
+    let len = digit_count(bytes);
     if len == 0 || bytes.get(len) != Some(&b'=') {
         return Err(SplitFault::NoTag { at: place });
     }
-    if bytes[0] == b'0' || len > MOST_DIGITS {
+    if bytes[0] == b'0' || len > MAX_DIGITS {
         return Err(SplitFault::BadTag { at: place });
     }
-    Ok((number, &bytes[len + 1..]))
+    Ok((value_of(&bytes[..len]) as u32, &bytes[len + 1..]))
 }
 
 /// The value before the first SOH, and what is left after that SOH; `None` where there is no SOH.
 fn value_at(bytes: &[u8]) -> Option<(&[u8], &[u8])>
     ensures no_soh { IfSome result (λ value. list_any is_soh value.0.now ≡ false) }
     ensures written { IfSome result (λ value. bytes.now ≡ value.0.now ++ 1 ∷ value.1.now) }
-    ensures none { IfNone result (list_any is_soh bytes.now ≡ false) }
+    ensures none { IfNone result (has_soh bytes.now ≡ false) }
 {
     match memchr(SOH, bytes) {
         None => None,
@@ -74,23 +72,54 @@ fn value_at(bytes: &[u8]) -> Option<(&[u8], &[u8])>
     }
 }
 
+/// The value of as many bytes as a length field says, and what is left after the SOH behind it;
+/// `None` where no number is said or no SOH stands there.
+fn data_at<'a>(said: &[u8], bytes: &'a [u8]) -> Option<(&'a [u8], &'a [u8])>
+    ensures len { IfSome result (λ value. says (number_in said.now) (length value.0.now) ≡ true) }
+    ensures written { IfSome result (λ value. bytes.now ≡ value.0.now ++ 1 ∷ value.1.now) }
+    ensures none { IfNone result (has_soh_after (number_in said.now) bytes.now ≡ false) }
+{
+    let end = number_in(said)? as usize;
+    if bytes.get(end) != Some(&SOH) {
+        return None;
+    }
+    Some((&bytes[..end], &bytes[end + 1..]))
+}
+
 /// The tag and the value of the field at the front, and what is left after it. The field begins at
-/// this place of the body.
+/// this place of the body, directly behind the field before.
 #[tactic(auto, unfolding(crate::specs::Field::field_bytes))]
-fn field_at(place: usize, bytes: &[u8]) -> Result<(u32, &[u8], &[u8]), SplitFault>
-    ensures good { IfOk result (λ field. IsField (field.0, field.1.now)) }
-    ensures written { IfOk result (λ field. bytes.now ≡ field_bytes (field.0, field.1.now) ++ field.2.now) }
-    ensures fault { IfErr result (NoField place bytes.now) }
+fn field_at<'a>(
+    place: usize,
+    before: Option<(u32, &[u8])>,
+    bytes: &'a [u8],
+) -> Result<(u32, &'a [u8], &'a [u8]), SplitFault>
+    ensures good { IfOk result (λ field.
+        IsField (option_map (λ f. (f.0, f.1.now)) before.entry) (field.0, field.1.now)) }
+    ensures written { IfOk result (λ field.
+        bytes.now ≡ field_bytes (field.0, field.1.now) ++ field.2.now) }
+    ensures fault { IfErr result
+        (NoField place (option_map (λ f. (f.0, f.1.now)) before.entry) bytes.now) }
 {
     let (tag, rest) = tag_at(place, bytes)?;
-    match value_at(rest) {
-        None => Err(SplitFault::NoEnd { at: place }),
-        Some((value, after)) => Ok((tag, value, after)),
+    match before {
+        Some((len, said)) if is_data_pair(len, tag) => match data_at(said, rest) {
+            None => Err(SplitFault::DataLength { tag }),
+            Some((value, after)) => Ok((tag, value, after)),
+        },
+        _ => match value_at(rest) {
+            None => Err(SplitFault::NoEnd { at: place }),
+            Some((value, after)) => Ok((tag, value, after)),
+        },
     }
 }
 
 /// The longest list of whole fields from the front of a body, at most 256, and the fault that
-/// stopped it. An empty value is a value, and a body with no bytes has no fields and no fault.
+/// stopped it.
+///
+/// An empty value is a value, and a body with no bytes has no fields and no fault. A field of raw
+/// bytes directly behind its length field has as many bytes as that says, which may be SOH; anywhere
+/// else its tag is like any other.
 ///
 /// # Errors
 ///
@@ -101,13 +130,13 @@ pub fn split(alloc: Global, body: &[u8]) -> Result<Split<'_>, AllocError>
     let mut fields = Fields::with_capacity(alloc, FIRST_ROOM)?;
     let mut rest = body;
     while !rest.is_empty() {
-        if fields.len() == MOST_FIELDS {
+        if fields.len() == MAX_FIELDS {
             return Ok(Split {
                 fields,
                 fault: Some(SplitFault::TooMany),
             });
         }
-        match field_at(body.len() - rest.len(), rest) {
+        match field_at(body.len() - rest.len(), fields.last(), rest) {
             Ok((tag, value, after)) => {
                 fields.push(tag, value)?;
                 rest = after;

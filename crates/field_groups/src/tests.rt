@@ -1,6 +1,7 @@
 //! Bodies with their fields and faults, as the standard gives them.
 
-use crate::{SplitFault, every_body_splits, fields_are_determined, fields_read_again, split};
+use crate::laws::{every_body_splits, fields_are_determined, fields_read_again};
+use crate::{SplitFault, split};
 use std::alloc::{AllocError, Global};
 use std::test::Fail;
 

@@ -1,0 +1,31 @@
+//! Fields of raw bytes, whose values may hold SOH.
+
+ghost use Rattle.std.specs.Prelude.{◌≡◌};
+ghost use Rattle.field_groups.specs.Data.{is_data_pair};
+
+/// Whether the first tag is that of the length field of the second, a field of raw bytes.
+#[tactic(auto, unfolding(crate::specs::Data::is_data_pair))]
+#[rattlefmt::skip]
+pub(crate) fn is_data_pair(len: u32, tag: u32) -> bool
+    ensures { result ≡ is_data_pair len tag }
+{
+    match len {
+        93 => tag == 89,   // SignatureLength, Signature
+        90 => tag == 91,   // SecureDataLen, SecureData
+        95 => tag == 96,   // RawDataLength, RawData
+        212 => tag == 213, // XmlDataLen, XmlData
+        348 => tag == 349, // EncodedIssuerLen, EncodedIssuer
+        350 => tag == 351, // EncodedSecurityDescLen, EncodedSecurityDesc
+        352 => tag == 353, // EncodedListExecInstLen, EncodedListExecInst
+        354 => tag == 355, // EncodedTextLen, EncodedText
+        356 => tag == 357, // EncodedSubjectLen, EncodedSubject
+        358 => tag == 359, // EncodedHeadlineLen, EncodedHeadline
+        360 => tag == 361, // EncodedAllocTextLen, EncodedAllocText
+        362 => tag == 363, // EncodedUnderlyingIssuerLen, EncodedUnderlyingIssuer
+        364 => tag == 365, // EncodedUnderlyingSecurityDescLen, EncodedUnderlyingSecurityDesc
+        445 => tag == 446, // EncodedListStatusTextLen, EncodedListStatusText
+        618 => tag == 619, // EncodedLegIssuerLen, EncodedLegIssuer
+        621 => tag == 622, // EncodedLegSecurityDescLen, EncodedLegSecurityDesc
+        _ => false,
+    }
+}
