@@ -1,5 +1,5 @@
 -- Inside: the table that a table of the code is; a dictionary's contract says that it is its own.
-use Rattle.std.specs.Prelude.{ℕ, List, map}
+use Rattle.std.specs.Prelude.{ℕ, List, [], ◌∷◌, map, slice_index_or}
 use Rattle.std.specs.Borrow.{Bor}
 use Rattle.field_groups.specs.Field.{Field}
 use Rattle.field_groups.specs.declared.table.Test.{Test as CodeTest}
@@ -51,3 +51,7 @@ table_of kind table = record {
 -- fields of the code, with the bytes that their values point to
 abbrev pub seen : List (ℕ × Bor (List ℕ)) → List Field
 seen fields = map (λ f. (f.0, f.1.now)) fields
+
+-- the field at a place
+abbrev pub seen_at : List (ℕ × Bor (List ℕ)) → ℕ → Field
+seen_at fields place = slice_index_or (seen fields) place (0, [])

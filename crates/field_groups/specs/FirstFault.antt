@@ -1,16 +1,15 @@
 -- Own: the first fault of a message's fields beside its table, stage by stage; the reasons are those
 -- of SessionRejectReason(373), FIX 4.2 and FIXT 1.1, Reject.
-use Rattle.std.specs.Prelude.{ℕ, ◌==◌, ◌&&◌, ◌||◌, Bool, true, false, not, List, [], ◌∷◌, ◌++◌, map, filter, take_while, length, nat_le, unwrap_or, Some, None, Result, Ok, Err, if◌then◌else◌}
+use Rattle.std.specs.Prelude.{ℕ, ◌+◌, take, drop, reverse, ◌==◌, ◌&&◌, ◌||◌, Bool, true, false, not, List, [], ◌∷◌, ◌++◌, map, filter, take_while, length, nat_le, unwrap_or, Some, None, Result, Ok, Err, if◌then◌else◌}
 use Rattle.std.specs.declared.option.Option.{Option}
 use Rattle.std.specs.Option.{option_map}
-use Rattle.std.specs.List.{list_any, flat_map, list_all}
-use Rattle.std.specs.Char.{is_ascii_digit}
-use Rattle.std.specs.Str.Parse.{digits_value}
+use Rattle.std.specs.List.{list_any, flat_map}
 use Rattle.field_groups.specs.declared.table_fault.TableFault.{TableFault}
 use Rattle.field_groups.specs.declared.table_fault.TableFault.TheVariants as faults
 use Rattle.field_groups.specs.declared.table_fault.Mark.{Mark}
 use Rattle.field_groups.specs.declared.table_fault.Mark.TheVariants as marks
 use Rattle.field_groups.specs.Field.{Field}
+use Rattle.field_groups.specs.HeadValues.{number_in}
 use Rattle.field_groups.specs.Tables.{Cell, Verdict, Spells, Outside, Wrong, Need, Lenient, Fixed, Row, RepeatingGroup, Item, One, Party, Lines, Table, Message, Judge, or_else, first_of, value_at, has_tag, is_one_of, is_needed, row_at, all_rows, groups_in, tags_of, first_tag, is_inside, run, lines_in, group_says, flag_of, cells_of}
 
 -- a field, with the fields before it, from it backwards, and those after it
@@ -27,6 +26,14 @@ placed_from before (f ∷ fs) =
 abbrev pub fault_if : Bool → TableFault → Option TableFault
 fault_if true fault = Some fault
 fault_if false fault = None
+
+-- the place of a field among fields
+abbrev pub place_in : List Field → ℕ → Field → Placed
+place_in fields place f = record {
+  before = reverse (take place fields);
+  field = f;
+  after = drop (place + 1) fields;
+}
 
 -- ---- a tag twice
 
@@ -46,14 +53,7 @@ twice once p =
 
 -- ---- groups
 
--- the number that a count says: 1 to 10 digits, and at most 1,000,000,000
-abbrev pub counted : List ℕ → Option ℕ
-counted [] = None
-counted (byte ∷ bytes) =
-    if list_all is_ascii_digit (byte ∷ bytes) && nat_le (length (byte ∷ bytes)) 10
-    && nat_le (digits_value 10 (byte ∷ bytes)) 1_000_000_000
-    then Some (digits_value 10 (byte ∷ bytes)) else None
-
+-- a count says so many lines
 abbrev pub is_count : Option ℕ → ℕ → Bool
 is_count None lines = false
 is_count (Some said) lines = said == lines
@@ -77,20 +77,23 @@ is_opened group [] = false
 is_opened group (f ∷ fs) =
     if f.0 == group.count then true else (if is_inside group f.0 then is_opened group fs else false)
 
--- The fault of a field that a group has: a count that is no number or not the number of lines (16);
--- a member outside its group, before the first line, or again in its line (15); a line past the last
--- that may be (5, of the count).
+-- The fault of a member beside the fields before it, from it backwards: outside its group, before the
+-- first line, or again in its line (15); a line past the last that may be (5, of the count).
+abbrev pub misplaced_member : {Kind : Type 0} → RepeatingGroup Kind → List Field → ℕ → Option TableFault
+misplaced_member group before tag =
+    if not (is_opened group before) then Some (faults.Reason tag 15)
+    else (if is_one_of group.skipped tag then None
+    else (if tag == first_tag group.rows
+    then fault_if (nat_le most_lines (lines_begun group before)) (faults.Reason group.count 5)
+    else fault_if (lines_begun group before == 0 || has_tag tag (line_before group before)) (faults.Reason tag 15)))
+
+-- The fault of a field that a group has: a count that is no number or not the number of lines (16),
+-- or that of a member.
 abbrev pub misplaced : {Kind : Type 0} → Placed → RepeatingGroup Kind → Option TableFault
 misplaced p group =
     if p.field.0 == group.count
-    then fault_if (not (is_count (counted p.field.1) (lines_begun group p.after))) (faults.Reason p.field.0 16)
-    else (if not (is_inside group p.field.0) then None
-    else (if not (is_opened group p.before) then Some (faults.Reason p.field.0 15)
-    else (if is_one_of group.skipped p.field.0 then None
-    else (if p.field.0 == first_tag group.rows
-    then fault_if (nat_le most_lines (lines_begun group p.before)) (faults.Reason group.count 5)
-    else fault_if (lines_begun group p.before == 0 || has_tag p.field.0 (line_before group p.before))
-    (faults.Reason p.field.0 15)))))
+    then fault_if (not (is_count (number_in p.field.1) (lines_begun group p.after))) (faults.Reason p.field.0 16)
+    else (if is_inside group p.field.0 then misplaced_member group p.before p.field.0 else None)
 
 abbrev pub in_groups : {Kind : Type 0} → List (RepeatingGroup Kind) → Placed → Option TableFault
 in_groups groups p = first_of (misplaced p) groups

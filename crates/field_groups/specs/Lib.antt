@@ -5,6 +5,7 @@ pub mod HeadValues
 pub mod Data
 pub mod Fields
 pub mod FirstFault
+pub mod Stages
 pub mod TableLaws
 pub mod Tables
 pub mod Group

@@ -179,6 +179,11 @@ abbrev pub after_tag : ℕ → List Field → List Field
 after_tag tag [] = []
 after_tag tag (f ∷ fs) = if f.0 == tag then fs else after_tag tag fs
 
+-- the fields from the first of a tag on
+abbrev pub from_tag : ℕ → List Field → List Field
+from_tag tag [] = []
+from_tag tag (f ∷ fs) = if f.0 == tag then f ∷ fs else from_tag tag fs
+
 abbrev pub with_member : ℕ → Field → List (List Field) → List (List Field)
 with_member first f [] = (f ∷ []) ∷ []
 with_member first f ([] ∷ lines) = (f ∷ []) ∷ lines
@@ -190,9 +195,13 @@ abbrev pub in_lines : ℕ → List Field → List (List Field)
 in_lines first [] = []
 in_lines first (f ∷ fs) = with_member first f (in_lines first fs)
 
--- the lines of a group, which stand after its count
+-- the fields of the lines of a group: those after its count, from the one that begins a line
+abbrev pub line_fields_in : {Kind : Type 0} → RepeatingGroup Kind → List Field → List Field
+line_fields_in group fields = from_tag (first_tag group.rows) (run group (after_tag group.count fields))
+
+-- the lines of a group; tags in them that are passed over stand in no row
 abbrev pub lines_in : {Kind : Type 0} → RepeatingGroup Kind → List Field → List (List Field)
-lines_in group fields = in_lines (first_tag group.rows) (run group (after_tag group.count fields))
+lines_in group fields = in_lines (first_tag group.rows) (line_fields_in group fields)
 
 -- ---- what fields say
 

@@ -9,3 +9,4 @@ pub mod Dec
 pub mod Laws
 pub mod Kinds
 pub mod ValueKind
+pub mod CodeKinds

@@ -126,6 +126,14 @@ spelling Day bytes = spelt (λ _. bytes) (read_day bytes)
 spelling MonthYear bytes = spelt (λ _. bytes) (read_month_year bytes)
 spelling DayOfMonth bytes = two_digits bytes
 
+-- the canonical spelling of a value of a kind, where it is of the profile
+abbrev pub text_of : Spelling → Option (List ℕ)
+text_of (Ok text) = text
+text_of (Err fault) = None
+
+unfoldable pub spelled : ValueKind → List ℕ → Option (List ℕ)
+spelled kind bytes = text_of (spelling kind bytes)
+
 -- the units of 10^-8 that a decimal number spells
 unfoldable pub units_of_text : List ℕ → Option ℤ
 units_of_text bytes = option_map (λ d. d.units) (result_ok (read_dec bytes))

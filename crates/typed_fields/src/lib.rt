@@ -16,6 +16,7 @@ mod number;
 mod stamp;
 #[cfg(test)]
 mod tests;
+pub mod value_kind;
 
 pub use day::Day;
 pub use dec::Dec;
@@ -24,3 +25,4 @@ pub use flag::Flag;
 pub use month_year::MonthYear;
 pub use number::Number;
 pub use stamp::Stamp;
+pub use value_kind::ValueKind;

@@ -1,0 +1,58 @@
+-- Inside: the kind that a kind of the code is, and what its judgement says.
+use Rattle.std.specs.Prelude.{ℕ, ◌+◌, ◌/◌, ◌%◌, List, [], ◌∷◌, Bool, true, false, map, Result, Ok, Err, is_some, if◌then◌else◌}
+use Rattle.typed_fields.specs.declared.fault.FieldFault.{FieldFault}
+use Rattle.typed_fields.specs.declared.value_kind.ValueKind.{ValueKind as CodeKind}
+use Rattle.typed_fields.specs.declared.value_kind.ValueKind.TheVariants as kinds
+use Rattle.typed_fields.specs.ValueKind.{ValueKind, Filled, Id, Text, OneByte, Code, Known, Codes, Word, Currency, Flag, Number, Reason, Qty, Price, Stamp, Day, MonthYear, DayOfMonth, Spelling, spelling}
+
+abbrev pub kind_of : CodeKind → ValueKind
+kind_of kinds.Filled = Filled
+kind_of kinds.Id = Id
+kind_of kinds.Text = Text
+kind_of kinds.OneByte = OneByte
+kind_of (kinds.Code listed) = Code listed.now
+kind_of (kinds.Known listed) = Known listed.now
+kind_of (kinds.Codes listed) = Codes listed.now
+kind_of (kinds.Word words) = Word (map (λ word. word.now) words.now)
+kind_of kinds.Currency = Currency
+kind_of kinds.Flag = Flag
+kind_of kinds.Number = Number
+kind_of kinds.Reason = Reason
+kind_of kinds.Qty = Qty
+kind_of kinds.Price = Price
+kind_of kinds.Stamp = Stamp
+kind_of kinds.Day = Day
+kind_of kinds.MonthYear = MonthYear
+kind_of kinds.DayOfMonth = DayOfMonth
+
+-- whether a value is of the profile, or why it is none
+abbrev pub judged : Spelling → Result Bool FieldFault
+judged (Ok text) = Ok (is_some text)
+judged (Err fault) = Err fault
+
+-- whether the canonical spelling of each value of a kind is that value
+abbrev pub is_verbatim : ValueKind → Bool
+is_verbatim Filled = true
+is_verbatim Id = true
+is_verbatim Text = true
+is_verbatim (Codes listed) = true
+is_verbatim (Word listed) = true
+is_verbatim Currency = true
+is_verbatim kind = false
+
+-- whether each value of a kind is one byte
+abbrev pub is_byte_kind : ValueKind → Bool
+is_byte_kind OneByte = true
+is_byte_kind (Code listed) = true
+is_byte_kind (Known listed) = true
+is_byte_kind kind = false
+
+-- the spellings of a code, of yes or no, and of a day of a month
+abbrev pub code_text : ℕ → List ℕ
+code_text code = code ∷ []
+
+abbrev pub yes_text : Bool → List ℕ
+yes_text yes = (if yes then 89 else 78) ∷ []
+
+abbrev pub two_digit_text : ℕ → List ℕ
+two_digit_text n = (48 + n / 10) ∷ (48 + n % 10) ∷ []

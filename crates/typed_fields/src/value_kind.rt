@@ -1,0 +1,311 @@
+//! The kinds of values of which the tables of messages speak.
+
+ghost use Rattle.std.specs.Prelude.{◌≡◌, ◌==◌, ℕ, List, not, nat_le, length, IsTrue, Ok, Err, true, if◌then◌else◌};
+ghost use Rattle.std.specs.Int.{is_negative};
+ghost use Rattle.std.specs.Option.{option_map};
+ghost use Rattle.std.specs.List.{list_any, list_all, slice_split};
+ghost use Rattle.std.specs.Str.{bytes_eq};
+ghost use Rattle.std.specs.Char.{is_ascii_uppercase};
+ghost use Rattle.typed_fields.specs.Number.{read_number, number_text};
+ghost use Rattle.typed_fields.specs.Dec.{read_dec, dec_text};
+ghost use Rattle.typed_fields.specs.Stamp.{stamp_text};
+ghost use Rattle.typed_fields.specs.Day.{day_text};
+ghost use Rattle.typed_fields.specs.MonthYear.{month_year_text};
+ghost use Rattle.typed_fields.specs.ValueKind as kinds;
+ghost use Rattle.typed_fields.specs.ValueKind.{Qty, Price, Reason, DayOfMonth, spelling, spelled, spelt, if_in_range, is_code, codes_among, two_digits};
+ghost use Rattle.typed_fields.specs.CodeKinds.{kind_of, judged, is_verbatim, is_byte_kind, code_text, yes_text, two_digit_text};
+
+use crate::laws::spellings_are_plain;
+use crate::{Day, Dec, FieldFault, Flag, MonthYear, Number, Stamp};
+
+/// The most bytes of an id.
+const MAX_ID: usize = 128;
+
+/// The most bytes of a text.
+const MAX_TEXT: usize = 2048;
+
+/// The greatest reason.
+const MAX_REASON: u32 = 9999;
+
+/// A kind of values.
+#[derive(Clone, Copy, Debug)]
+pub enum ValueKind {
+    /// Any bytes, and at least one.
+    Filled,
+    /// 1 to 128 bytes.
+    Id,
+    /// 1 to 2,048 bytes.
+    Text,
+    /// One byte, whichever.
+    OneByte,
+    /// One of these bytes; any other value is outside the profile.
+    Code(&'static [u8]),
+    /// One of these bytes; any other value is out of range.
+    Known(&'static [u8]),
+    /// Some of these bytes, parted by single spaces; any other such value is outside the profile.
+    Codes(&'static [u8]),
+    /// One of these words; any other value is outside the profile.
+    Word(&'static [&'static [u8]]),
+    /// Three capital letters.
+    Currency,
+    /// `Y` or `N`.
+    Flag,
+    /// 0 to 1,000,000,000.
+    Number,
+    /// A number of at most 9,999.
+    Reason,
+    /// A decimal number that is not negative.
+    Qty,
+    /// A decimal number.
+    Price,
+    /// A moment of universal time.
+    Stamp,
+    /// A day.
+    Day,
+    /// A month of a year.
+    MonthYear,
+    /// One or two digits.
+    DayOfMonth,
+}
+
+/// Whether bytes are one byte, which is among these.
+fn is_code(listed: &[u8], bytes: &[u8]) -> bool
+    ensures { result ≡ is_code listed.now bytes.now }
+{
+    match bytes {
+        [byte] => listed.contains(byte),
+        _ => false,
+    }
+}
+
+/// Whether bytes are one of these words.
+fn is_word(words: &[&[u8]], bytes: &[u8]) -> bool
+    ensures { result ≡ list_any (λ word. bytes_eq bytes.now word.now) words.now }
+{
+    words.iter().any(|word| bytes == *word)
+}
+
+/// Whether a part of bytes between spaces has no byte.
+fn has_empty_part(bytes: &[u8]) -> bool
+    ensures { result ≡ list_any (λ part. length part == 0) (slice_split (λ byte. byte == 32) bytes.now) }
+{
+    bytes.split(|byte| *byte == b' ').any(|part| part.is_empty())
+}
+
+/// Whether each part of bytes between spaces is among these.
+fn are_codes(listed: &[u8], bytes: &[u8]) -> bool
+    ensures { result ≡ list_all (is_code listed.now) (slice_split (λ byte. byte == 32) bytes.now) }
+{
+    bytes.split(|byte| *byte == b' ').all(|part| is_code(listed, part))
+}
+
+/// Whether each byte is a capital letter.
+fn are_capitals(bytes: &[u8]) -> bool
+    ensures { result ≡ list_all is_ascii_uppercase bytes.now }
+{
+    bytes.iter().all(|byte| byte.is_ascii_uppercase())
+}
+
+/// A value of the profile, where its form is good.
+fn formed(good: bool) -> Result<bool, FieldFault>
+    ensures { result ≡ (if good then Ok true else Err FieldFault.Form) }
+{
+    if good { Ok(true) } else { Err(FieldFault::Form) }
+}
+
+/// A value of the profile, where its bound holds.
+fn within(good: bool) -> Result<bool, FieldFault>
+    ensures { result ≡ (if good then Ok true else Err FieldFault.Range) }
+{
+    if good { Ok(true) } else { Err(FieldFault::Range) }
+}
+
+/// A value of the profile, where it was read.
+fn is_read<T: Drop>(read: Result<T, FieldFault>) -> Result<bool, FieldFault>
+    ensures { (text : T → List ℕ) → result ≡ judged (spelt text read) }
+{
+    match read {
+        Ok(_) => Ok(true),
+        Err(fault) => Err(fault),
+    }
+}
+
+/// Whether codes between single spaces are all among these.
+fn judge_codes(listed: &[u8], value: &[u8]) -> Result<bool, FieldFault>
+    ensures { result ≡ judged (codes_among listed.now value.now) }
+{
+    if has_empty_part(value) {
+        Err(FieldFault::Form)
+    } else {
+        Ok(are_codes(listed, value))
+    }
+}
+
+/// Whether bytes are one or two digits.
+fn judge_day(value: &[u8]) -> Result<bool, FieldFault>
+    ensures { result ≡ judged (two_digits value.now) }
+{
+    match value {
+        [one] => formed(one.is_ascii_digit()),
+        [ten, one] => formed(ten.is_ascii_digit() && one.is_ascii_digit()),
+        _ => Err(FieldFault::Form),
+    }
+}
+
+/// Whether bytes are a number of at most 9,999.
+fn judge_reason(value: &[u8]) -> Result<bool, FieldFault>
+    ensures { result ≡ judged (spelt number_text (if_in_range (λ n. nat_le n.value 9999) (read_number value.now))) }
+{
+    match Number::read(value) {
+        Ok(number) => within(number.value <= MAX_REASON),
+        Err(fault) => Err(fault),
+    }
+}
+
+/// Whether bytes are a decimal number that is not negative.
+fn judge_qty(value: &[u8]) -> Result<bool, FieldFault>
+    ensures { result ≡ judged (spelt dec_text (if_in_range (λ d. not (is_negative d.units)) (read_dec value.now))) }
+{
+    match Dec::read(value) {
+        Ok(dec) => within(dec.units >= 0),
+        Err(fault) => Err(fault),
+    }
+}
+
+impl ValueKind {
+    /// Whether a value of this kind is of the profile.
+    ///
+    /// # Errors
+    ///
+    /// `Empty` for no bytes, `Form` and `Range` where the bytes are no value of the kind.
+    #[tactic(auto, unfolding(crate::specs::ValueKind::spelling))]
+    pub fn judge(&self, value: &[u8]) -> Result<bool, FieldFault>
+        ensures { result ≡ judged (spelling (kind_of self.now) value.now) }
+    {
+        if value.is_empty() {
+            return Err(FieldFault::Empty);
+        }
+        match self {
+            ValueKind::Filled => Ok(true),
+            ValueKind::Id => within(value.len() <= MAX_ID),
+            ValueKind::Text => within(value.len() <= MAX_TEXT),
+            ValueKind::OneByte => formed(value.len() == 1),
+            ValueKind::Code(listed) => Ok(is_code(listed, value)),
+            ValueKind::Known(listed) => within(is_code(listed, value)),
+            ValueKind::Codes(listed) => judge_codes(listed, value),
+            ValueKind::Word(words) => Ok(is_word(words, value)),
+            ValueKind::Currency => formed(value.len() == 3 && are_capitals(value)),
+            ValueKind::Flag => is_read(Flag::read(value)),
+            ValueKind::Number => is_read(Number::read(value)),
+            ValueKind::Reason => judge_reason(value),
+            ValueKind::Qty => judge_qty(value),
+            ValueKind::Price => is_read(Dec::read(value)),
+            ValueKind::Stamp => is_read(Stamp::read(value)),
+            ValueKind::Day => is_read(Day::read(value)),
+            ValueKind::MonthYear => is_read(MonthYear::read(value)),
+            ValueKind::DayOfMonth => judge_day(value),
+        }
+    }
+}
+
+/// The bytes of a value of a kind whose values have one spelling each.
+pub fn text<'a>(kind: &ValueKind, value: &'a [u8]) -> Option<&'a [u8]>
+    requires { IsTrue (is_verbatim (kind_of kind.now)) }
+    ensures { option_map (λ text. text.now) result ≡ spelled (kind_of kind.now) value.now }
+{
+    match kind.judge(value) {
+        Ok(true) => Some(value),
+        _ => None,
+    }
+}
+
+/// The byte of a code.
+pub fn code(kind: &ValueKind, value: &[u8]) -> Option<u8>
+    requires { IsTrue (is_byte_kind (kind_of kind.now)) }
+    ensures { option_map code_text result ≡ spelled (kind_of kind.now) value.now }
+{
+    match (kind.judge(value), value) {
+        (Ok(true), [byte]) => Some(*byte),
+        _ => None,
+    }
+}
+
+/// A decimal number that is not negative.
+pub fn qty(value: &[u8]) -> Option<Dec>
+    ensures { option_map dec_text result ≡ spelled Qty value.now }
+{
+    match Dec::read(value) {
+        Ok(dec) if dec.units >= 0 => Some(dec),
+        _ => None,
+    }
+}
+
+/// A decimal number.
+pub fn price(value: &[u8]) -> Option<Dec>
+    ensures { option_map dec_text result ≡ spelled Price value.now }
+{
+    Dec::read(value).ok()
+}
+
+/// A moment.
+pub fn stamp(value: &[u8]) -> Option<Stamp>
+    ensures { option_map stamp_text result ≡ spelled kinds.Stamp value.now }
+{
+    spellings_are_plain();
+    Stamp::read(value).ok()
+}
+
+/// A day.
+pub fn day(value: &[u8]) -> Option<Day>
+    ensures { option_map day_text result ≡ spelled kinds.Day value.now }
+{
+    spellings_are_plain();
+    Day::read(value).ok()
+}
+
+/// A month of a year.
+pub fn month_year(value: &[u8]) -> Option<MonthYear>
+    ensures { option_map month_year_text result ≡ spelled kinds.MonthYear value.now }
+{
+    spellings_are_plain();
+    MonthYear::read(value).ok()
+}
+
+/// Yes or no.
+pub fn flag(value: &[u8]) -> Option<bool>
+    ensures { option_map yes_text result ≡ spelled kinds.Flag value.now }
+{
+    match value {
+        [b'Y'] => Some(true),
+        [b'N'] => Some(false),
+        _ => None,
+    }
+}
+
+/// A number.
+pub fn number(value: &[u8]) -> Option<Number>
+    ensures { option_map number_text result ≡ spelled kinds.Number value.now }
+{
+    Number::read(value).ok()
+}
+
+/// A number of at most 9,999.
+pub fn reason(value: &[u8]) -> Option<Number>
+    ensures { option_map number_text result ≡ spelled Reason value.now }
+{
+    match Number::read(value) {
+        Ok(number) if number.value <= MAX_REASON => Some(number),
+        _ => None,
+    }
+}
+
+/// A day of a month, of one or two digits.
+pub fn day_of_month(value: &[u8]) -> Option<u8>
+    ensures { option_map two_digit_text result ≡ spelled DayOfMonth value.now }
+{
+    match value {
+        [one] if one.is_ascii_digit() => Some(*one - b'0'),
+        [ten, one] if ten.is_ascii_digit() && one.is_ascii_digit() => Some(10 * (*ten - b'0') + (*one - b'0')),
+        _ => None,
+    }
+}
