@@ -1,1 +1,2 @@
+mod Means
 mod Worked

@@ -5,7 +5,7 @@ use Rattle.std.specs.declared.option.Option.{Option}
 use Rattle.std.specs.Str.{bytes_eq}
 use Rattle.typed_fields.specs.ValueKind.{Filled, Flag}
 use Rattle.field_groups.specs.declared.fault.SplitFault.{SplitFault}
-use Rattle.field_groups.specs.declared.fault.SplitFault.TheVariants.{NoTag, BadTag, NoEnd, TooMany}
+use Rattle.field_groups.specs.declared.fault.SplitFault.TheVariants.{NoTag, BadTag, NoEnd, DataLength, TooMany}
 use Rattle.field_groups.specs.declared.table_fault.TableFault.{TableFault}
 use Rattle.field_groups.specs.declared.table_fault.TableFault.TheVariants.{Reason, Outside}
 use Rattle.field_groups.specs.Field.{Field}
@@ -53,6 +53,7 @@ abbrev pub of_split : SplitFault → Fault
 of_split (NoTag at) = Session None 0
 of_split (BadTag at) = Session None 0
 of_split (NoEnd at) = Session None 6
+of_split (DataLength tag) = Session (Some tag) 6
 of_split TooMany = Session None 5
 
 abbrev pub of_table : TableFault → Fault

@@ -1,7 +1,8 @@
 -- What it means that a message is at no fault, over any table and judge.
 use Rattle.std.proofs.Common.{◌≡◌, ◌≢◌, ℕ, zero, suc, List, [], ◌∷◌, ◌++◌, Option, Some, None, Bool, true, false, cond, eqb, map, refl, sym, ap, ◌∙◌, arith}
 use Rattle.std.specs.Prelude.{IsSome, ◌↔◌, not, ◌&&◌, ◌||◌, ◌==◌, Result, Ok, Err}
-use Rattle.std.specs.List.{slice_get, flat_map, list_any}
+use Rattle.std.specs.Option.{option_map}
+use Rattle.std.specs.List.{find, slice_get, flat_map, list_any}
 use Rattle.std.proofs.lemmas.Bool.Decides.{nat_tests}
 use Rattle.field_groups.specs.TableLaws.{ReadsAs}
 use Rattle.field_groups.specs.declared.table_fault.TableFault.{TableFault}
@@ -43,6 +44,15 @@ stands tag (f ∷ fs) h = here (eqb f.0 tag) refl (λ there. stands tag fs there
       record { value = f.1; place = 0; first = rw e refl; field = ap (λ (t : ℕ). Some (t, f.1)) same }
     here false e later = let s = later (rw e at h) in
       record { value = s.value; place = suc s.place; first = rw e s.first; field = s.field }
+
+-- a tag that no field has has no value
+pub value_at-none : (tag : ℕ) (fields : List Field) → has_tag tag fields ≡ false → value_at tag fields ≡ None
+value_at-none tag [] h = refl
+value_at-none tag (f ∷ fs) h = here (eqb f.0 tag) h (value_at-none tag fs)
+  where
+    here : (b : Bool) → (b || has_tag tag fs) ≡ false → (has_tag tag fs ≡ false → value_at tag fs ≡ None) → option_map (λ (g : Field). g.1) (cond b (Some f) (find (λ g. eqb g.0 tag) fs)) ≡ None
+    here true e later = absurd cc
+    here false e later = later e
 
 module _ {Kind : Type 0} (judge : Judge Kind) (table : Table Kind) (fields : List Field) where
   -- no stage finds a fault

@@ -10,3 +10,5 @@ pub mod Clean
 pub mod Again
 pub mod Seen
 pub mod Loops
+pub mod Cuts
+pub mod Placed

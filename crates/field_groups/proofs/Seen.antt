@@ -1,8 +1,9 @@
 -- What tests and searches find in fields of the code, and in their view.
-use Rattle.std.proofs.Common.{◌≡◌, ℕ, List, [], ◌∷◌, ◌++◌, map, Option, Some, None, Bool, true, false, cond, eqb, refl, sym, ap, ◌∙◌}
+use Rattle.std.proofs.Common.{◌≡◌, ◌<◌, ◌≤◌, ℕ, zero, suc, length, get_or, take, drop, arith, List, [], ◌∷◌, ◌++◌, map, Option, Some, None, Bool, true, false, cond, eqb, refl, sym, ap, ◌∙◌}
 use Rattle.std.specs.Prelude.{◌||◌, ◌==◌}
 use Rattle.std.specs.Option.{option_map, option_or}
-use Rattle.std.specs.List.{find, list_any, list_all, flat_map}
+use Rattle.std.specs.List.{find, list_any, list_all, flat_map, take-map, drop-map}
+use Rattle.std.proofs.lemmas.List.{length-map}
 use Rattle.std.proofs.lemmas.List.Folds.{list_any-append, find-append, list_all-map}
 use Rattle.std.specs.Borrow.{Bor}
 use Rattle.field_groups.specs.Field.{Field}
@@ -12,7 +13,7 @@ use Rattle.field_groups.specs.declared.table.Item.{Item as CodeItem}
 use Rattle.field_groups.specs.declared.table.Table.{Table as CodeTable}
 use Rattle.field_groups.specs.Tables.{Row, Item, Table, or_else, first_of, value_at, has_tag, is_one_of, tags_of, row_at, rows_of, groups_of, groups_in, all_rows, passes, holds}
 use Rattle.field_groups.specs.FirstFault.{once_of, once_in, is_of_group}
-use Rattle.field_groups.specs.CodeTables.{seen, test_of, row_of, item_of, table_of}
+use Rattle.field_groups.specs.CodeTables.{seen, seen_at, test_of, row_of, item_of, table_of}
 
 pub any-map : {X Y : Type 0} (p : Y → Bool) (f : X → Y) (xs : List X) → list_any p (map f xs) ≡ list_any (λ x. p (f x)) xs
 any-map p f [] = refl
@@ -39,6 +40,23 @@ value_at_seen tag fs = ap (option_map (λ (f : Field). f.1)) (find-map (λ (f : 
     again : (o : Option (ℕ × Bor (List ℕ))) → option_map (λ (f : Field). f.1) (option_map (λ f. (f.0, f.1.now)) o) ≡ option_map (λ f. f.1.now) o
     again None = refl
     again (Some f) = refl
+
+pub front_seen : (n : ℕ) (fs : List (ℕ × Bor (List ℕ))) → take n (seen fs) ≡ seen (take n fs)
+front_seen n fs = take-map (λ f. (f.0, f.1.now)) n fs
+
+pub rest_seen : (n : ℕ) (fs : List (ℕ × Bor (List ℕ))) → drop n (seen fs) ≡ seen (drop n fs)
+rest_seen n fs = drop-map (λ f. (f.0, f.1.now)) n fs
+
+pub seen_at_is : (fs : List (ℕ × Bor (List ℕ))) (i : ℕ) (d : ℕ × Bor (List ℕ)) → i < length fs → seen_at fs i ≡ ((get_or fs i d).0, (get_or fs i d).1.now)
+seen_at_is [] i d lt = absurd (omega arith)
+seen_at_is (f ∷ fs) zero d lt = refl
+seen_at_is (f ∷ fs) (suc i) d lt = seen_at_is fs i d (omega arith)
+
+pub seen_lt : (fs : List (ℕ × Bor (List ℕ))) (i : ℕ) → i < length fs → i < length (seen fs)
+seen_lt fs i lt = rw (length-map {B = Field} fs (λ f. (f.0, f.1.now))) lt
+
+pub seen_le : (fs : List (ℕ × Bor (List ℕ))) (i : ℕ) → length fs ≤ i → length (seen fs) ≤ i
+seen_le fs i le = rw (length-map {B = Field} fs (λ f. (f.0, f.1.now))) le
 
 module _ {K : Type 0} where
   -- ---- rows of the code

@@ -1,6 +1,6 @@
 -- Own: the first fault of a message's fields beside its table, stage by stage; the reasons are those
 -- of SessionRejectReason(373), FIX 4.2 and FIXT 1.1, Reject.
-use Rattle.std.specs.Prelude.{ℕ, ◌+◌, take, drop, reverse, ◌==◌, ◌&&◌, ◌||◌, Bool, true, false, not, List, [], ◌∷◌, ◌++◌, map, filter, take_while, length, nat_le, unwrap_or, Some, None, Result, Ok, Err, if◌then◌else◌}
+use Rattle.std.specs.Prelude.{ℕ, ◌+◌, take, drop, reverse, ◌==◌, ◌&&◌, ◌||◌, Bool, true, false, not, List, [], ◌∷◌, ◌++◌, map, take_while, count_by, nat_le, unwrap_or, Some, None, Result, Ok, Err, if◌then◌else◌}
 use Rattle.std.specs.declared.option.Option.{Option}
 use Rattle.std.specs.Option.{option_map}
 use Rattle.std.specs.List.{list_any, flat_map}
@@ -64,7 +64,7 @@ most_lines = 32
 
 -- how many of the fields of a group at the front begin a line
 abbrev pub lines_begun : {Kind : Type 0} → RepeatingGroup Kind → List Field → ℕ
-lines_begun group fields = length (filter (λ f. f.0 == first_tag group.rows) (run group fields))
+lines_begun group fields = count_by (λ f. f.0 == first_tag group.rows) (run group fields)
 
 -- the fields of the line that a field stands in, from it backwards to the one that begins it, which
 -- is left out

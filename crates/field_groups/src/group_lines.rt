@@ -1,26 +1,31 @@
 //! The lines of a repeating group.
 
-ghost use Rattle.std.specs.Prelude.{◌≡◌, ◌==◌, ◌-◌, ◌<◌, ◌≤◌, ◌∷◌, length, drop, take, position};
-ghost use Rattle.field_groups.specs.Tables.{run, after_tag, from_tag, line_fields_in, in_lines};
+ghost use Rattle.std.specs.Prelude.{◌≡◌, ◌==◌, ◌-◌, ◌<◌, ◌≤◌, ◌∷◌, not, length, drop, take};
+ghost use Rattle.std.specs.List.{prefix_len};
+ghost use Rattle.field_groups.specs.Tables.{is_inside, run, after_tag, from_tag, line_fields_in, in_lines};
 ghost use Rattle.field_groups.specs.CodeTables.{seen, group_of};
 
 use crate::fields::Field;
+use crate::lookup::{field_at, front, rest};
 use crate::table::RepeatingGroup;
 
-/// The place of the first field with this tag.
-fn place_of(fields: &[Field<'_>], tag: u32) -> Option<usize>
-    ensures { result ≡ position (λ field. field.0 == tag) fields.now }
+/// How many fields stand before the first one with this tag.
+fn before_tag(fields: &[Field<'_>], tag: u32) -> usize
+    ensures value { result ≡ prefix_len (λ field. not (field.0 == tag)) fields.now }
+    ensures within { result ≤ length fields.now }
 {
-    fields.iter().position(|field| field.0 == tag)
+    fields.iter().take_while(|field| field.0 != tag).count()
 }
 
 /// The fields after the first one with this tag.
 fn after<'f, 'a>(fields: &'f [Field<'a>], tag: u32) -> &'f [Field<'a>]
     ensures { seen result.now ≡ after_tag tag (seen fields.now) }
 {
-    match place_of(fields, tag) {
-        Some(place) => &fields[place + 1..],
-        None => &fields[fields.len()..],
+    let place = before_tag(fields, tag);
+    if place < fields.len() {
+        rest(fields, place + 1)
+    } else {
+        rest(fields, place)
     }
 }
 
@@ -28,23 +33,29 @@ fn after<'f, 'a>(fields: &'f [Field<'a>], tag: u32) -> &'f [Field<'a>]
 fn from<'f, 'a>(fields: &'f [Field<'a>], tag: u32) -> &'f [Field<'a>]
     ensures { seen result.now ≡ from_tag tag (seen fields.now) }
 {
-    match place_of(fields, tag) {
-        Some(place) => &fields[place..],
-        None => &fields[fields.len()..],
-    }
+    rest(fields, before_tag(fields, tag))
 }
 
 impl<K> RepeatingGroup<K> {
+    /// How many fields at the front are inside the group.
+    fn run_len(&self, fields: &[Field<'_>]) -> usize
+        ensures value { result ≡ prefix_len (λ field. is_inside (group_of (λ k. k) self.now) field.0) (seen fields.now) }
+        ensures within { result ≤ length fields.now }
+    {
+        for place in 0..fields.len() {
+            let (tag, _) = field_at(fields, place);
+            if !self.has(tag) {
+                return place;
+            }
+        }
+        fields.len()
+    }
+
     /// The fields of the group at the front.
     pub(crate) fn run<'f, 'a>(&self, fields: &'f [Field<'a>]) -> &'f [Field<'a>]
         ensures { seen result.now ≡ run (group_of (λ k. k) self.now) (seen fields.now) }
     {
-        for place in 0..fields.len() {
-            if !self.has(fields[place].0) {
-                return &fields[..place];
-            }
-        }
-        fields
+        front(fields, self.run_len(fields))
     }
 
     /// The fields of the lines of the group, which stand after its count.
@@ -62,8 +73,5 @@ pub fn line_end(fields: &[Field<'_>], from: usize, first: u32) -> usize
     ensures within { result ≤ length fields.now }
     ensures line { in_lines first (drop from (seen fields.now)) ≡ take (result - from) (drop from (seen fields.now)) ∷ in_lines first (drop result (seen fields.now)) }
 {
-    match place_of(&fields[from + 1..], first) {
-        Some(place) => from + 1 + place,
-        None => fields.len(),
-    }
+    from + 1 + before_tag(rest(fields, from + 1), first)
 }

@@ -1,13 +1,13 @@
 //! The faults of groups: counts, members that stand elsewhere, and too many lines.
 
-ghost use Rattle.std.specs.Prelude.{◌≡◌, ◌==◌, ◌<◌, [], length, reverse, filter};
+ghost use Rattle.std.specs.Prelude.{◌≡◌, ◌==◌, ◌<◌, [], length, reverse, count_by};
 ghost use Rattle.field_groups.specs.Tables.{has_tag, first_of, groups_of, groups_in};
 ghost use Rattle.field_groups.specs.FirstFault.{placed_from, in_groups, misplaced, misplaced_member, place_in, lines_begun, line_before, is_opened};
 ghost use Rattle.field_groups.specs.CodeTables.{seen, seen_at, group_of, item_of, table_of};
 
 use crate::fields::Field;
 use crate::head_values::number_in;
-use crate::lookup::{is_among};
+use crate::lookup::{field_at, front, is_among, rest};
 use crate::table::{Item, RepeatingGroup, Table};
 use crate::table_fault::TableFault;
 
@@ -25,7 +25,7 @@ const RANGE: u8 = 5;
 
 /// How many fields have this tag.
 fn count_of(fields: &[Field<'_>], tag: u32) -> usize
-    ensures { result ≡ length (filter (λ f. f.0 == tag) (seen fields.now)) }
+    ensures { result ≡ count_by (λ field. field.0 == tag) fields.now }
 {
     fields.iter().filter(|field| field.0 == tag).count()
 }
@@ -38,7 +38,7 @@ impl<K> RepeatingGroup<K> {
         let mut place = before.len();
         while place > 0 {
             place -= 1;
-            let tag = before[place].0;
+            let (tag, _) = field_at(before, place);
             if tag == self.count {
                 return true;
             }
@@ -57,7 +57,7 @@ impl<K> RepeatingGroup<K> {
         let mut place = before.len();
         while place > 0 {
             place -= 1;
-            let tag = before[place].0;
+            let (tag, _) = field_at(before, place);
             if !self.has(tag) {
                 return lines;
             }
@@ -75,7 +75,7 @@ impl<K> RepeatingGroup<K> {
         let mut place = before.len();
         while place > 0 {
             place -= 1;
-            let other = before[place].0;
+            let (other, _) = field_at(before, place);
             if other == self.first() {
                 return false;
             }
@@ -117,16 +117,16 @@ impl<K> RepeatingGroup<K> {
         requires { place < length fields.now }
         ensures { result ≡ misplaced (place_in (seen fields.now) place (seen_at fields.now place)) (group_of (λ k. k) self.now) }
     {
-        let (tag, value) = fields[place];
+        let (tag, value) = field_at(fields, place);
         if tag == self.count {
-            let lines = count_of(self.run(&fields[place + 1..]), self.first());
+            let lines = count_of(self.run(rest(fields, place + 1)), self.first());
             if number_in(value) == Some(lines as u32) {
                 None
             } else {
                 Some(TableFault::Reason { tag, reason: COUNT })
             }
         } else if self.has(tag) {
-            self.misplaced_member(&fields[..place], tag)
+            self.misplaced_member(front(fields, place), tag)
         } else {
             None
         }

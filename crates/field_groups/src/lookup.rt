@@ -1,10 +1,10 @@
 //! What fields say.
 
-ghost use Rattle.std.specs.Prelude.{◌≡◌, ◌==◌};
+ghost use Rattle.std.specs.Prelude.{◌≡◌, ◌==◌, ◌<◌, ◌≤◌, length, take, drop};
 ghost use Rattle.std.specs.Option.{option_map};
 ghost use Rattle.std.specs.List.{find, list_any};
 ghost use Rattle.field_groups.specs.Tables.{value_at, has_tag, is_one_of};
-ghost use Rattle.field_groups.specs.CodeTables.{seen};
+ghost use Rattle.field_groups.specs.CodeTables.{seen, seen_at};
 
 use crate::fields::Field;
 
@@ -46,4 +46,40 @@ pub(crate) fn is_among(tags: &[u32], tag: u32) -> bool
     ensures { result ≡ is_one_of tags.now tag }
 {
     tags.contains(&tag)
+}
+
+/// The field at a place.
+#[tactic(auto, using(crate::proofs::Seen::seen_at_is))]
+pub(crate) fn field_at<'a>(fields: &[Field<'a>], place: usize) -> Field<'a>
+    requires { place < length fields.now }
+    ensures { (result.0, result.1.now) ≡ seen_at fields.now place }
+{
+    fields[place]
+}
+
+/// So many fields from the front.
+#[tactic(auto, using(crate::proofs::Seen::front_seen))]
+pub(crate) fn front<'f, 'a>(fields: &'f [Field<'a>], to: usize) -> &'f [Field<'a>]
+    requires { to ≤ length fields.now }
+    ensures { seen result.now ≡ take to (seen fields.now) }
+{
+    &fields[..to]
+}
+
+/// The fields from a place on.
+fn cut<'f, 'a>(fields: &'f [Field<'a>], from: usize) -> &'f [Field<'a>]
+    requires { from ≤ length fields.now }
+    ensures { result.now ≡ drop from fields.now }
+{
+    &fields[from..]
+}
+
+/// The fields from a place on.
+#[tactic(auto, using(crate::proofs::Seen::rest_seen))]
+pub(crate) fn rest<'f, 'a>(fields: &'f [Field<'a>], from: usize) -> &'f [Field<'a>]
+    requires { from ≤ length fields.now }
+    ensures fields { result.now ≡ drop from fields.now }
+    ensures seen { seen result.now ≡ drop from (seen fields.now) }
+{
+    cut(fields, from)
 }

@@ -1,6 +1,6 @@
 //! The first fault of a message's fields, stage by stage.
 
-ghost use Rattle.std.specs.Prelude.{◌≡◌, ◌<◌, ◌++◌, ◌∷◌, [], List, length, map};
+ghost use Rattle.std.specs.Prelude.{◌≡◌, ◌-◌, ◌<◌, ◌≤◌, ◌++◌, ◌∷◌, [], List, length, map, take, drop};
 ghost use Rattle.field_groups.specs.Field.{Field};
 ghost use Rattle.field_groups.specs.Tables.{is_one_of, has_tag, first_of, or_else};
 ghost use Rattle.field_groups.specs.FirstFault.{once_in, twice, placed_from, fault_if, missing, missing_of, in_groups, misplaced, wrong_version, wrong, beyond};
@@ -12,7 +12,7 @@ ghost use Rattle.field_groups.specs.CodeTables.{seen, seen_at, row_of, group_of,
 use crate::fields::Field;
 use crate::group_stage::first_misplaced;
 use crate::group_lines::line_end;
-use crate::lookup::stands;
+use crate::lookup::{field_at, front, rest, stands};
 use crate::table::{Item, RepeatingGroup, Row, Table};
 use crate::table_fault::{Mark, TableFault};
 
@@ -30,8 +30,8 @@ fn twice_at<K>(table: &Table<K>, fields: &[Field<'_>], place: usize) -> Option<T
     requires { place < length fields.now }
     ensures { result ≡ twice (once_in (table_of (λ k. k) table.now)) (place_in (seen fields.now) place (seen_at fields.now place)) }
 {
-    let tag = fields[place].0;
-    if stands(&fields[..place], tag) && table.is_once(tag) {
+    let (tag, _) = field_at(fields, place);
+    if stands(front(fields, place), tag) && table.is_once(tag) {
         Some(TableFault::Reason { tag, reason: TWICE })
     } else {
         None
@@ -76,6 +76,15 @@ fn missing_in<K>(rows: &[Row<K>], line: &[Field<'_>]) -> Option<TableFault>
     None
 }
 
+/// The fields from one place to another.
+fn line<'f, 'a>(fields: &'f [Field<'a>], from: usize, end: usize) -> &'f [Field<'a>]
+    requires ordered { from ≤ end }
+    requires within { end ≤ length fields.now }
+    ensures { seen result.now ≡ take (end - from) (drop from (seen fields.now)) }
+{
+    front(rest(fields, from), end - from)
+}
+
 /// The first line of a group that does not say what it has to.
 fn missing_line<K>(group: &RepeatingGroup<K>, fields: &[Field<'_>]) -> Option<TableFault>
     ensures { result ≡ first_of (λ line. first_of (missing line) (group_of (λ k. k) group.now).rows) (lines_in (group_of (λ k. k) group.now) (seen fields.now)) }
@@ -84,7 +93,7 @@ fn missing_line<K>(group: &RepeatingGroup<K>, fields: &[Field<'_>]) -> Option<Ta
     let mut from = 0;
     while from < fields.len() {
         let end = line_end(fields, from, group.first());
-        if let Some(fault) = missing_in(group.rows, &fields[from..end]) {
+        if let Some(fault) = missing_in(group.rows, line(fields, from, end)) {
             return Some(fault);
         }
         from = end;
@@ -142,35 +151,67 @@ impl Found {
     pub fn with(self, tag: u32, mark: Mark) -> Found
         ensures { (marks : List Marked) → IsFound marks self → IsFound (marks ++ (tag, mark) ∷ []) result }
     {
-        match mark {
-            Mark::Good => self,
-            Mark::Outside => Found {
-                outside: self.outside.or(Some(TableFault::Outside { tag })),
-                ..self
-            },
-            Mark::Wrong(reason) => self.with_wrong(tag, reason),
+        Found {
+            version: first(self.version, wrong_version(tag, mark)),
+            wrong: first(self.wrong, wrong(tag, mark)),
+            outside: first(self.outside, beyond(tag, mark)),
         }
     }
+}
 
-    /// With one more field at fault.
-    fn with_wrong(self, tag: u32, reason: u8) -> Found {
-        let fault = Some(TableFault::Reason { tag, reason });
-        Found {
-            version: if reason == VERSION { self.version.or(fault) } else { self.version },
-            wrong: self.wrong.or(fault),
-            ..self
-        }
+/// The first of two faults.
+fn first(one: Option<TableFault>, other: Option<TableFault>) -> Option<TableFault>
+    ensures { result ≡ or_else one other }
+{
+    match one {
+        Some(fault) => Some(fault),
+        None => other,
+    }
+}
+
+/// The fault of a version that is not spoken.
+fn wrong_version(tag: u32, mark: Mark) -> Option<TableFault>
+    ensures { result ≡ wrong_version (tag, mark) }
+{
+    match mark {
+        Mark::Wrong(reason) => if reason == VERSION { Some(TableFault::Reason { tag, reason }) } else { None },
+        _ => None,
+    }
+}
+
+/// The fault of a value of wrong form or out of range.
+fn wrong(tag: u32, mark: Mark) -> Option<TableFault>
+    ensures { result ≡ wrong (tag, mark) }
+{
+    match mark {
+        Mark::Wrong(reason) => Some(TableFault::Reason { tag, reason }),
+        _ => None,
+    }
+}
+
+/// The fault of a tag or a value outside the profile.
+fn beyond(tag: u32, mark: Mark) -> Option<TableFault>
+    ensures { result ≡ beyond (tag, mark) }
+{
+    match mark {
+        Mark::Outside => Some(TableFault::Outside { tag }),
+        _ => None,
     }
 }
 
 impl<K> Table<K> {
     /// The first fault of these fields, by stage and place, with what was found of their values.
-    pub fn first_fault(&self, fields: &[Field<'_>], found: &Found) -> Option<TableFault> {
-        first_twice(self, fields)
-            .or(found.version)
-            .or(first_misplaced(self, fields))
-            .or(found.wrong)
-            .or(first_missing(self, fields))
-            .or(found.outside)
+    pub fn first_fault(&self, fields: &[Field<'_>], found: &Found) -> Option<TableFault>
+        ensures { result ≡ or_else (first_of (twice (once_in (table_of (λ k. k) self.now))) (placed_from [] (seen fields.now)))
+            (or_else found.now.version
+            (or_else (first_of (in_groups (groups_in (table_of (λ k. k) self.now))) (placed_from [] (seen fields.now)))
+            (or_else found.now.wrong
+            (or_else (first_of (missing_of (seen fields.now)) (table_of (λ k. k) self.now).items) found.now.outside)))) }
+    {
+        let late = first(first_missing(self, fields), found.outside);
+        let form = first(found.wrong, late);
+        let groups = first(first_misplaced(self, fields), form);
+        let version = first(found.version, groups);
+        first(first_twice(self, fields), version)
     }
 }

@@ -9,3 +9,4 @@ pub mod LawLemmas
 pub mod Rows
 pub mod StampLemmas
 pub mod DecLemmas
+pub mod Spelled

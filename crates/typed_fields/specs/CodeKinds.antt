@@ -1,5 +1,5 @@
 -- Inside: the kind that a kind of the code is, and what its judgement says.
-use Rattle.std.specs.Prelude.{ℕ, ◌+◌, ◌/◌, ◌%◌, List, [], ◌∷◌, Bool, true, false, map, Result, Ok, Err, is_some, if◌then◌else◌}
+use Rattle.std.specs.Prelude.{ℕ, ◌+◌, ◌/◌, ◌%◌, List, [], ◌∷◌, Bool, true, false, map, Result, Ok, Err, is_some}
 use Rattle.typed_fields.specs.declared.fault.FieldFault.{FieldFault}
 use Rattle.typed_fields.specs.declared.value_kind.ValueKind.{ValueKind as CodeKind}
 use Rattle.typed_fields.specs.declared.value_kind.ValueKind.TheVariants as kinds
@@ -30,6 +30,11 @@ abbrev pub judged : Spelling → Result Bool FieldFault
 judged (Ok text) = Ok (is_some text)
 judged (Err fault) = Err fault
 
+-- whether a value was judged to be of the profile
+abbrev pub is_good : Result Bool FieldFault → Bool
+is_good (Ok good) = good
+is_good (Err fault) = false
+
 -- whether the canonical spelling of each value of a kind is that value
 abbrev pub is_verbatim : ValueKind → Bool
 is_verbatim Filled = true
@@ -47,12 +52,9 @@ is_byte_kind (Code listed) = true
 is_byte_kind (Known listed) = true
 is_byte_kind kind = false
 
--- the spellings of a code, of yes or no, and of a day of a month
+-- the spellings of a code and of a day of a month
 abbrev pub code_text : ℕ → List ℕ
 code_text code = code ∷ []
-
-abbrev pub yes_text : Bool → List ℕ
-yes_text yes = (if yes then 89 else 78) ∷ []
 
 abbrev pub two_digit_text : ℕ → List ℕ
 two_digit_text n = (48 + n / 10) ∷ (48 + n % 10) ∷ []

@@ -1,12 +1,12 @@
 -- Own: the kinds of values of which the tables of messages speak, by the data types of FIX 4.2 and
 -- FIX 5.0 SP2, and what bytes are as a value of a kind.
-use Rattle.std.specs.Prelude.{ℕ, ℤ, Bool, false, List, [], ◌∷◌, length, nat_le, not, ◌==◌, ◌&&◌, if◌then◌else◌, Some, None, Result, Ok, Err}
+use Rattle.std.specs.Prelude.{ℕ, ℤ, Bool, true, false, List, [], ◌∷◌, length, nat_le, not, ◌==◌, ◌&&◌, if◌then◌else◌, Some, None, Result, Ok, Err}
 use Rattle.std.specs.declared.option.Option.{Option}
 use Rattle.std.specs.Int.{is_negative}
 use Rattle.std.specs.Option.{option_map}
 use Rattle.std.specs.Result.{result_ok}
 use Rattle.std.specs.Char.{is_ascii_digit, is_ascii_uppercase}
-use Rattle.std.specs.List.{list_any, list_all, slice_split}
+use Rattle.std.specs.List.{list_any, list_all}
 use Rattle.std.specs.Str.{bytes_eq}
 use Rattle.typed_fields.specs.declared.fault.FieldFault.{FieldFault}
 use Rattle.typed_fields.specs.declared.fault.FieldFault.TheVariants.{Empty, Form, Range}
@@ -75,15 +75,24 @@ abbrev pub is_code : List ℕ → List ℕ → Bool
 is_code listed (byte ∷ []) = list_any (λ code. code == byte) listed
 is_code listed bytes = false
 
--- the parts of a value between single spaces
-abbrev pub parts_of : List ℕ → List (List ℕ)
-parts_of bytes = slice_split (λ byte. byte == 32) bytes
+-- whether each part between spaces has a byte; the part before these bytes has one, or has none yet
+abbrev pub are_parted : Bool → List ℕ → Bool
+are_parted begun [] = begun
+are_parted begun (byte ∷ bytes) =
+    if byte == 32 then begun && are_parted false bytes else are_parted true bytes
 
--- values of one byte, parted by single spaces; a value outside the list is outside the profile
+-- whether these bytes are listed codes with single spaces between them, where a code is to come, or
+-- has just come
+abbrev pub are_codes : List ℕ → Bool → List ℕ → Bool
+are_codes listed come [] = come
+are_codes listed true (byte ∷ bytes) = byte == 32 && are_codes listed false bytes
+are_codes listed false (byte ∷ bytes) =
+    list_any (λ code. code == byte) listed && are_codes listed true bytes
+
+-- values parted by single spaces; a value that is no listed code is outside the profile
 abbrev pub codes_among : List ℕ → List ℕ → Spelling
 codes_among listed bytes =
-    if list_any (λ part. length part == 0) (parts_of bytes) then Err Form
-    else Ok (listed_word (list_all (is_code listed) (parts_of bytes)) bytes)
+    if are_parted false bytes then Ok (listed_word (are_codes listed false bytes) bytes) else Err Form
 
 -- a value that was read, by a spelling of it
 abbrev pub spelt : {A : Type 0} → (A → List ℕ) → Result A FieldFault → Spelling

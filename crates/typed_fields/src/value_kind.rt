@@ -1,19 +1,20 @@
 //! The kinds of values of which the tables of messages speak.
 
-ghost use Rattle.std.specs.Prelude.{◌≡◌, ◌==◌, ℕ, List, not, nat_le, length, IsTrue, Ok, Err, true, if◌then◌else◌};
+ghost use Rattle.std.specs.Prelude.{◌≡◌, ◌==◌, ◌&&◌, ℕ, List, [], ◌∷◌, not, nat_le, IsTrue, Ok, Err, Some, None, true, false, if◌then◌else◌};
 ghost use Rattle.std.specs.Int.{is_negative};
 ghost use Rattle.std.specs.Option.{option_map};
-ghost use Rattle.std.specs.List.{list_any, list_all, slice_split};
+ghost use Rattle.std.specs.List.{list_any, list_all};
 ghost use Rattle.std.specs.Str.{bytes_eq};
-ghost use Rattle.std.specs.Char.{is_ascii_uppercase};
+ghost use Rattle.std.specs.Char.{is_ascii_digit, is_ascii_uppercase};
 ghost use Rattle.typed_fields.specs.Number.{read_number, number_text};
 ghost use Rattle.typed_fields.specs.Dec.{read_dec, dec_text};
 ghost use Rattle.typed_fields.specs.Stamp.{stamp_text};
 ghost use Rattle.typed_fields.specs.Day.{day_text};
 ghost use Rattle.typed_fields.specs.MonthYear.{month_year_text};
+ghost use Rattle.typed_fields.specs.Flag.{flag_text};
 ghost use Rattle.typed_fields.specs.ValueKind as kinds;
-ghost use Rattle.typed_fields.specs.ValueKind.{Qty, Price, Reason, DayOfMonth, spelling, spelled, spelt, if_in_range, is_code, codes_among, two_digits};
-ghost use Rattle.typed_fields.specs.CodeKinds.{kind_of, judged, is_verbatim, is_byte_kind, code_text, yes_text, two_digit_text};
+ghost use Rattle.typed_fields.specs.ValueKind.{Qty, Price, Reason, DayOfMonth, spelling, spelled, spelt, if_in_range, is_code, are_parted, are_codes, codes_among, two_digits};
+ghost use Rattle.typed_fields.specs.CodeKinds.{kind_of, judged, is_good, is_verbatim, is_byte_kind, code_text, two_digit_text};
 
 use crate::laws::spellings_are_plain;
 use crate::{Day, Dec, FieldFault, Flag, MonthYear, Number, Stamp};
@@ -85,18 +86,43 @@ fn is_word(words: &[&[u8]], bytes: &[u8]) -> bool
     words.iter().any(|word| bytes == *word)
 }
 
-/// Whether a part of bytes between spaces has no byte.
-fn has_empty_part(bytes: &[u8]) -> bool
-    ensures { result ≡ list_any (λ part. length part == 0) (slice_split (λ byte. byte == 32) bytes.now) }
+/// Whether each part of bytes between spaces has a byte.
+fn are_parted(bytes: &[u8]) -> bool
+    ensures { result ≡ are_parted false bytes.now }
 {
-    bytes.split(|byte| *byte == b' ').any(|part| part.is_empty())
+    let mut begun = false;
+    for byte in bytes {
+        if *byte == b' ' {
+            if !begun {
+                return false;
+            }
+            begun = false;
+        } else {
+            begun = true;
+        }
+    }
+    begun
 }
 
-/// Whether each part of bytes between spaces is among these.
+/// Whether bytes are listed codes with single spaces between them.
 fn are_codes(listed: &[u8], bytes: &[u8]) -> bool
-    ensures { result ≡ list_all (is_code listed.now) (slice_split (λ byte. byte == 32) bytes.now) }
+    ensures { result ≡ are_codes listed.now false bytes.now }
 {
-    bytes.split(|byte| *byte == b' ').all(|part| is_code(listed, part))
+    let mut come = false;
+    for byte in bytes {
+        if !is_next(listed, come, *byte) {
+            return false;
+        }
+        come = !come;
+    }
+    come
+}
+
+/// Whether a byte may come next: a space after a code, and else a code.
+fn is_next(listed: &[u8], come: bool, byte: u8) -> bool
+    ensures { result ≡ (if come then byte == 32 else list_any (λ code. code == byte) listed.now) }
+{
+    if come { byte == b' ' } else { listed.contains(&byte) }
 }
 
 /// Whether each byte is a capital letter.
@@ -134,10 +160,10 @@ fn is_read<T: Drop>(read: Result<T, FieldFault>) -> Result<bool, FieldFault>
 fn judge_codes(listed: &[u8], value: &[u8]) -> Result<bool, FieldFault>
     ensures { result ≡ judged (codes_among listed.now value.now) }
 {
-    if has_empty_part(value) {
-        Err(FieldFault::Form)
-    } else {
+    if are_parted(value) {
         Ok(are_codes(listed, value))
+    } else {
+        Err(FieldFault::Form)
     }
 }
 
@@ -178,7 +204,7 @@ impl ValueKind {
     /// # Errors
     ///
     /// `Empty` for no bytes, `Form` and `Range` where the bytes are no value of the kind.
-    #[tactic(auto, unfolding(crate::specs::ValueKind::spelling))]
+    #[tactic(auto, using(crate::proofs::Spelled::words_seen), unfolding(crate::specs::ValueKind::spelling))]
     pub fn judge(&self, value: &[u8]) -> Result<bool, FieldFault>
         ensures { result ≡ judged (spelling (kind_of self.now) value.now) }
     {
@@ -208,15 +234,23 @@ impl ValueKind {
     }
 }
 
+/// Whether a value was judged to be of the profile.
+fn is_good(judged: Result<bool, FieldFault>) -> bool
+    ensures { result ≡ is_good judged }
+{
+    match judged {
+        Ok(good) => good,
+        Err(_) => false,
+    }
+}
+
 /// The bytes of a value of a kind whose values have one spelling each.
+#[tactic(auto, using(crate::proofs::Spelled::verbatim))]
 pub fn text<'a>(kind: &ValueKind, value: &'a [u8]) -> Option<&'a [u8]>
     requires { IsTrue (is_verbatim (kind_of kind.now)) }
     ensures { option_map (λ text. text.now) result ≡ spelled (kind_of kind.now) value.now }
 {
-    match kind.judge(value) {
-        Ok(true) => Some(value),
-        _ => None,
-    }
+    if is_good(kind.judge(value)) { Some(value) } else { None }
 }
 
 /// The byte of a code.
@@ -224,23 +258,22 @@ pub fn code(kind: &ValueKind, value: &[u8]) -> Option<u8>
     requires { IsTrue (is_byte_kind (kind_of kind.now)) }
     ensures { option_map code_text result ≡ spelled (kind_of kind.now) value.now }
 {
-    match (kind.judge(value), value) {
-        (Ok(true), [byte]) => Some(*byte),
-        _ => None,
-    }
+    if is_good(kind.judge(value)) { value.first().copied() } else { None }
 }
 
 /// A decimal number that is not negative.
+#[tactic(auto, using(crate::proofs::Spelled::as_qty))]
 pub fn qty(value: &[u8]) -> Option<Dec>
     ensures { option_map dec_text result ≡ spelled Qty value.now }
 {
     match Dec::read(value) {
-        Ok(dec) if dec.units >= 0 => Some(dec),
-        _ => None,
+        Ok(dec) => if dec.units < 0 { None } else { Some(dec) },
+        Err(_) => None,
     }
 }
 
 /// A decimal number.
+#[tactic(auto, using(crate::proofs::Spelled::as_price))]
 pub fn price(value: &[u8]) -> Option<Dec>
     ensures { option_map dec_text result ≡ spelled Price value.now }
 {
@@ -272,17 +305,15 @@ pub fn month_year(value: &[u8]) -> Option<MonthYear>
 }
 
 /// Yes or no.
-pub fn flag(value: &[u8]) -> Option<bool>
-    ensures { option_map yes_text result ≡ spelled kinds.Flag value.now }
+pub fn flag(value: &[u8]) -> Option<Flag>
+    ensures { option_map flag_text result ≡ spelled kinds.Flag value.now }
 {
-    match value {
-        [b'Y'] => Some(true),
-        [b'N'] => Some(false),
-        _ => None,
-    }
+    spellings_are_plain();
+    Flag::read(value).ok()
 }
 
 /// A number.
+#[tactic(auto, using(crate::proofs::Spelled::as_number))]
 pub fn number(value: &[u8]) -> Option<Number>
     ensures { option_map number_text result ≡ spelled kinds.Number value.now }
 {
@@ -290,12 +321,13 @@ pub fn number(value: &[u8]) -> Option<Number>
 }
 
 /// A number of at most 9,999.
+#[tactic(auto, using(crate::proofs::Spelled::as_reason))]
 pub fn reason(value: &[u8]) -> Option<Number>
     ensures { option_map number_text result ≡ spelled Reason value.now }
 {
     match Number::read(value) {
-        Ok(number) if number.value <= MAX_REASON => Some(number),
-        _ => None,
+        Ok(number) => if number.value <= MAX_REASON { Some(number) } else { None },
+        Err(_) => None,
     }
 }
 
@@ -303,9 +335,22 @@ pub fn reason(value: &[u8]) -> Option<Number>
 pub fn day_of_month(value: &[u8]) -> Option<u8>
     ensures { option_map two_digit_text result ≡ spelled DayOfMonth value.now }
 {
-    match value {
-        [one] if one.is_ascii_digit() => Some(*one - b'0'),
-        [ten, one] if ten.is_ascii_digit() && one.is_ascii_digit() => Some(10 * (*ten - b'0') + (*one - b'0')),
-        _ => None,
+    if value.len() == 1 {
+        two_digits(b'0', value[0])
+    } else if value.len() == 2 {
+        two_digits(value[0], value[1])
+    } else {
+        None
+    }
+}
+
+/// The number that two digits write.
+fn two_digits(ten: u8, one: u8) -> Option<u8>
+    ensures { option_map two_digit_text result ≡ (if is_ascii_digit ten && is_ascii_digit one then Some (ten ∷ one ∷ []) else None) }
+{
+    if ten.is_ascii_digit() && one.is_ascii_digit() {
+        Some(10 * (ten - b'0') + (one - b'0'))
+    } else {
+        None
     }
 }

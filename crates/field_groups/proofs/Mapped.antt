@@ -1,0 +1,79 @@
+-- A table of the code says the same whatever its kinds are called.
+use Rattle.std.proofs.Common.{◌≡◌, ℕ, List, [], ◌∷◌, ◌++◌, map, Option, Some, None, Bool, true, false, refl, sym, ap, ◌∙◌}
+use Rattle.std.specs.Prelude.{◌||◌, ◌==◌, not}
+use Rattle.std.specs.Option.{option_map}
+use Rattle.std.specs.List.{find, list_any, flat_map}
+use Rattle.field_groups.specs.Field.{Field}
+use Rattle.field_groups.specs.declared.table_fault.TableFault.{TableFault}
+use Rattle.field_groups.specs.declared.table.Row.{Row as CodeRow}
+use Rattle.field_groups.specs.declared.table.RepeatingGroup.{RepeatingGroup as CodeGroup}
+use Rattle.field_groups.specs.declared.table.Item.{Item as CodeItem}
+use Rattle.field_groups.specs.declared.table.Item.TheVariants as items
+use Rattle.field_groups.specs.declared.table.Table.{Table as CodeTable}
+use Rattle.field_groups.specs.Tables.{Row, RepeatingGroup, Item, Table, One, Party, Lines, or_else, first_of, tags_of, row_at, rows_of, groups_of, rows_in, groups_in, all_rows, lines_in}
+use Rattle.field_groups.specs.FirstFault.{Placed, once_of, once_in, is_of_group, is_passed, misplaced, in_groups, missing, missing_of, placed_from}
+use Rattle.field_groups.specs.CodeTables.{row_of, group_of, item_of, table_of}
+use Rattle.field_groups.proofs.Clean.{first_of-map}
+
+pub first_of-same : {X A : Type 0} (f g : X → Option A) (xs : List X) → ((x : X) → f x ≡ g x) → first_of f xs ≡ first_of g xs
+unfolding first_of
+first_of-same f g [] h = refl
+first_of-same f g (x ∷ xs) h = λ i. or_else (h x i) (first_of-same f g xs h i)
+
+module _ {K Kind : Type 0} (kind : K → Kind) where
+  abbrev pub with_kind : Row K → Row Kind
+  with_kind row = record { tag = row.tag; kind = kind row.kind; need = row.need }
+
+  abbrev own : CodeTable K → Table K
+  own table = table_of (λ (k : K). k) table
+
+  tags_mapped : (rows : List (CodeRow K)) → tags_of (map (row_of kind) rows) ≡ tags_of (map (row_of (λ (k : K). k)) rows)
+  tags_mapped [] = refl
+  tags_mapped (row ∷ rows) = ap (λ tags. row.tag ∷ tags) (tags_mapped rows)
+
+  row_mapped : (tag : ℕ) (rows : List (CodeRow K)) (more : List (Row K)) (more_mapped : List (Row Kind)) → row_at tag more_mapped ≡ option_map with_kind (row_at tag more)
+      → row_at tag (map (row_of kind) rows ++ more_mapped) ≡ option_map with_kind (row_at tag (map (row_of (λ (k : K). k)) rows ++ more))
+  row_mapped tag [] more more_mapped h = h
+  row_mapped tag (row ∷ rows) more more_mapped h = here (row.tag == tag) (row_mapped tag rows more more_mapped h)
+    where
+      here : (b : Bool) → row_at tag (map (row_of kind) rows ++ more_mapped) ≡ option_map with_kind (row_at tag (map (row_of (λ (k : K). k)) rows ++ more))
+          → cond b (Some (row_of kind row)) (row_at tag (map (row_of kind) rows ++ more_mapped)) ≡ option_map with_kind (cond b (Some (row_of (λ (k : K). k) row)) (row_at tag (map (row_of (λ (k : K). k)) rows ++ more)))
+      here true e = refl
+      here false e = e
+
+  items_row_mapped : (tag : ℕ) (xs : List (CodeItem K)) → row_at tag (flat_map rows_of (map (item_of kind) xs)) ≡ option_map with_kind (row_at tag (flat_map rows_of (map (item_of (λ (k : K). k)) xs)))
+  items_row_mapped tag [] = refl
+  items_row_mapped tag (items.One row ∷ xs) = row_mapped tag (row ∷ []) (flat_map rows_of (map (item_of (λ (k : K). k)) xs)) (flat_map rows_of (map (item_of kind) xs)) (items_row_mapped tag xs)
+  items_row_mapped tag (items.Party role ∷ xs) = items_row_mapped tag xs
+  items_row_mapped tag (items.Lines group ∷ xs) = row_mapped tag group.rows.now (flat_map rows_of (map (item_of (λ (k : K). k)) xs)) (flat_map rows_of (map (item_of kind) xs)) (items_row_mapped tag xs)
+
+  -- the row of a tag
+  pub row_of_mapped : (tag : ℕ) (table : CodeTable K) → row_at tag (all_rows (table_of kind table)) ≡ option_map with_kind (row_at tag (all_rows (own table)))
+  row_of_mapped tag table = row_mapped tag table.header.now (rows_in (own table)) (rows_in (table_of kind table)) (items_row_mapped tag table.items.now)
+
+  once_items : (xs : List (CodeItem K)) → flat_map once_of (map (item_of kind) xs) ≡ flat_map once_of (map (item_of (λ (k : K). k)) xs)
+  once_items [] = refl
+  once_items (items.One row ∷ xs) = ap (λ tags. row.tag ∷ tags) (once_items xs)
+  once_items (items.Party role ∷ xs) = once_items xs
+  once_items (items.Lines group ∷ xs) = ap (λ tags. group.count ∷ tags) (once_items xs)
+
+  -- the tags that stand at most once
+  pub once_mapped : (table : CodeTable K) → once_in (table_of kind table) ≡ once_in (own table)
+  once_mapped table = λ i. tags_mapped table.header.now i ++ once_items table.items.now i
+
+  -- a group's tags say all of its places
+  placed_mapped : (p : Placed) (group : CodeGroup K) → misplaced p (group_of kind group) ≡ misplaced p (group_of (λ (k : K). k) group)
+  placed_mapped p group = first_rows group.rows.now
+    where
+      first_rows : (rows : List (CodeRow K)) → misplaced p (record { count = group.count; rows = map (row_of kind) rows; skipped = group.skipped.now }) ≡ misplaced p (record { count = group.count; rows = map (row_of (λ (k : K). k)) rows; skipped = group.skipped.now })
+      first_rows [] = refl
+      first_rows (row ∷ rows) = λ i. misplaced_by p group.count row.tag (row.tag ∷ tags_mapped rows i) group.skipped.now
+
+  pub groups_mapped : (table : CodeTable K) (p : Placed) → in_groups (groups_in (table_of kind table)) p ≡ in_groups (groups_in (own table)) p
+  groups_mapped table p = here table.items.now
+    where
+      here : (xs : List (CodeItem K)) → in_groups (flat_map groups_of (map (item_of kind) xs)) p ≡ in_groups (flat_map groups_of (map (item_of (λ (k : K). k)) xs)) p
+      here [] = refl
+      here (items.One row ∷ xs) = here xs
+      here (items.Party role ∷ xs) = here xs
+      here (items.Lines group ∷ xs) = λ i. or_else (placed_mapped p group i) (here xs i)
