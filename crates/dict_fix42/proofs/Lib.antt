@@ -1,2 +1,3 @@
 mod Means
 mod Worked
+pub mod Marks

@@ -1,13 +1,16 @@
 -- Standard: FIX 4.2, Data Types; MaturityDay(205) is a day of the month of MaturityMonthYear(200).
 -- What a value is beside the profile: the reasons are those of SessionRejectReason(373).
-use Rattle.std.specs.Prelude.{ℕ, List, ◌++◌, Some, None, Ok, Err, if◌then◌else◌}
+use Rattle.std.specs.Prelude.{ℕ, List, Some, None, Ok, Err, if◌then◌else◌}
 use Rattle.std.specs.declared.option.Option.{Option}
+use Rattle.std.specs.Result.{result_ok}
 use Rattle.typed_fields.specs.declared.fault.FieldFault.{FieldFault}
 use Rattle.typed_fields.specs.declared.fault.FieldFault.TheVariants.{Empty, Form, Range}
-use Rattle.typed_fields.specs.Day.{spells_date}
-use Rattle.typed_fields.specs.ValueKind.{ValueKind, MonthYear, DayOfMonth, Spelling, spelling}
+use Rattle.typed_fields.specs.declared.month_year.MonthYear.{MonthYear as MonthValue}
+use Rattle.typed_fields.specs.MonthYear.{read_month_year}
+use Rattle.typed_fields.specs.Day.{is_date}
+use Rattle.typed_fields.specs.ValueKind.{ValueKind, DayOfMonth, Spelling, spelling, number_of_two}
 use Rattle.field_groups.specs.Field.{Field}
-use Rattle.field_groups.specs.Tables.{Verdict, Spells, Outside, Wrong, Said, Judge, Need, Required, Optional, When, Condition, Row, Item, One, ◌>>=◌, text_of, value_at}
+use Rattle.field_groups.specs.Tables.{Verdict, Spells, Outside, Wrong, Judge, Need, Required, Optional, When, Condition, Row, Item, One, ◌>>=◌, value_at}
 
 -- the kinds of values: those of the single fields, and a day of the month that another field names
 pub data Kind42 : Type 0 where
@@ -26,17 +29,19 @@ verdict_of (Ok (Some text)) = Spells text
 verdict_of (Ok None) = Outside
 verdict_of (Err fault) = Wrong (reason_of fault)
 
+-- the month in the field of a tag, where one can be read
+abbrev pub month_at : ℕ → List Field → Option MonthValue
+month_at tag fields = value_at tag fields >>= (λ text. result_ok (read_month_year text))
+
 -- a day that its month has; where no month can be read, the month is at fault
-abbrev pub in_month : Said → Verdict → Verdict
-in_month (Some month) (Spells day) = if spells_date (month ++ day) then Spells day else Wrong 5
+abbrev pub in_month : Option MonthValue → Verdict → Verdict
+in_month (Some month) (Spells day) = if is_date month.year month.month (number_of_two day) then Spells day else Wrong 5
 in_month month day = day
 
 -- THE JUDGE of a value beside the other fields of its message
 unfoldable pub judge : Judge Kind42
 judge fields (Value kind) bytes = verdict_of (spelling kind bytes)
-judge fields (DayOf month) bytes =
-    in_month (value_at month fields >>= (λ text. text_of (verdict_of (spelling MonthYear text))))
-    (verdict_of (spelling DayOfMonth bytes))
+judge fields (DayOf month) bytes = in_month (month_at month fields) (verdict_of (spelling DayOfMonth bytes))
 
 -- ---- rows
 

@@ -5,8 +5,7 @@ use Rattle.std.specs.Prelude.{ℕ, List, map, Some, None, ◌==◌, ◌||◌, �
 use Rattle.std.specs.declared.option.Option.{Option}
 use Rattle.std.specs.Option.{option_map}
 use Rattle.std.specs.Result.{result_ok}
-use Rattle.std.specs.Str.Parse.{digits_value}
-use Rattle.typed_fields.specs.ValueKind.{units_of_text}
+use Rattle.typed_fields.specs.ValueKind.{units_of_text, number_of_two}
 use Rattle.field_groups.specs.Field.{Field}
 use Rattle.field_groups.specs.Tables.{Tag, Cell, Said, Message, ◌>>=◌, said_at, lines_of, text_in, code_if, code_in, flag_of}
 use Rattle.order_meaning.specs.declared.Amount.{Amount}
@@ -30,7 +29,7 @@ session_of line = record { id = text_in line 336 }
 -- MaturityMonthYear(200) and MaturityDay(205)
 abbrev pub maturity_of : Said → Said → Option NeutralMaturity
 maturity_of month day =
-    option_map (λ month. record { month = month; day = option_map (digits_value 10) day }) month
+    option_map (λ month. record { month = month; day = option_map number_of_two day }) month
 
 -- OrdType(40): 1 Market, 2 Limit, 3 Stop, 4 Stop limit, 5 Market on close, B Limit on close
 abbrev pub order_type_of : ℕ → Option OrderType

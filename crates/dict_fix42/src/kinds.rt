@@ -1,13 +1,20 @@
 //! The kinds of values of FIX 4.2, and what a value is beside the profile.
 
-ghost use Rattle.std.specs.Prelude.{◌≡◌};
+ghost use Rattle.std.specs.Prelude.{◌≡◌, ◌≤◌, IfSome};
+ghost use Rattle.std.specs.Option.{option_map};
+ghost use Rattle.typed_fields.specs.ValueKind as kinds;
+ghost use Rattle.typed_fields.specs.ValueKind.{Spelling, text_of};
+ghost use Rattle.typed_fields.specs.CodeKinds.{two_digit_text};
+ghost use Rattle.typed_fields.specs.MonthYear.{month_year_text, IsMonthYear};
 ghost use Rattle.field_groups.specs.FirstFault.{mark_of};
 ghost use Rattle.field_groups.specs.CodeTables.{seen};
-ghost use Rattle.dict_fix42.specs.Kinds.{judge, reason_of};
-ghost use Rattle.dict_fix42.specs.CodeKinds.{kind_of};
+ghost use Rattle.dict_fix42.specs.Kinds.{Value, judge, reason_of, verdict_of, in_month, month_at};
+ghost use Rattle.dict_fix42.specs.CodeKinds.{kind_of, mark_by};
+ghost use Rattle.dict_fix42.specs.Reading.{said};
 
 use field_groups::{Field, Mark, value};
-use typed_fields::{Day, FieldFault, ValueKind};
+use typed_fields::value_kind::{day_of_month, has_day, month_year};
+use typed_fields::{FieldFault, MonthYear, ValueKind};
 
 /// SessionRejectReason(373): tag specified without a value.
 const EMPTY: u8 = 4;
@@ -38,40 +45,44 @@ fn reason_of(fault: FieldFault) -> u8
     }
 }
 
-/// What a value is to a kind whose values are judged by themselves.
-fn judge_value(kind: &ValueKind, value: &[u8]) -> Mark {
-    match kind.judge(value) {
+/// What a field is, by the judgement of its value.
+fn mark_by(judged: Result<bool, FieldFault>) -> Mark
+    ensures { result ≡ mark_by judged }
+{
+    match judged {
         Ok(true) => Mark::Good,
         Ok(false) => Mark::Outside,
         Err(fault) => Mark::Wrong(reason_of(fault)),
     }
 }
 
-/// The date of a month, YYYYMM, and its day, of one or two digits.
-fn date(month: &[u8], day: &[u8]) -> Option<[u8; 8]> {
-    match (month, day) {
-        ([a, b, c, d, e, f], [one]) => Some([*a, *b, *c, *d, *e, *f, b'0', *one]),
-        ([a, b, c, d, e, f], [ten, one]) => Some([*a, *b, *c, *d, *e, *f, *ten, *one]),
-        _ => None,
+/// The month in the field of a tag, where one can be read.
+#[tactic(auto, unfolding(crate::specs::Kinds::judge, typed_fields::specs::ValueKind::spelled), using(crate::proofs::Marks::said_text))]
+pub(crate) fn month(fields: &[Field<'_>], tag: u32) -> Option<MonthYear>
+    ensures value { result ≡ month_at tag (seen fields.now) }
+    ensures text { option_map month_year_text result ≡ said (seen fields.now) tag (Value kinds.MonthYear) }
+    ensures bound { IfSome result IsMonthYear }
+{
+    match value(fields, tag) {
+        Some(text) => month_year(text),
+        None => None,
     }
 }
 
-/// Whether a month has a day; where no month can be read, the month is at fault.
-fn has_day(month: Option<&[u8]>, day: &[u8]) -> bool {
+/// What a day is beside its month; where no month can be read, the month is at fault.
+fn day_mark(month: Option<MonthYear>, day: Option<u8>, mark: Mark) -> Mark
+    requires month { IfSome month IsMonthYear }
+    requires day { IfSome day (λ day. day ≤ 99) }
+    ensures { (s : Spelling) → mark ≡ mark_of (verdict_of s) → option_map two_digit_text day ≡ text_of s → result ≡ mark_of (in_month month (verdict_of s)) }
+{
     match month {
-        Some(month) if ValueKind::MonthYear.judge(month) == Ok(true) => match date(month, day) {
-            Some(date) => Day::read(&date).is_ok(),
-            None => true,
+        None => mark,
+        Some(month) => match day {
+            None => mark,
+            Some(day) => {
+                if has_day(&month, day) { mark } else { Mark::Wrong(RANGE) }
+            }
         },
-        _ => true,
-    }
-}
-
-/// What a day is beside its month.
-fn judge_day(month: Option<&[u8]>, day: &[u8]) -> Mark {
-    match judge_value(&ValueKind::DayOfMonth, day) {
-        Mark::Good if !has_day(month, day) => Mark::Wrong(RANGE),
-        mark => mark,
     }
 }
 
@@ -81,8 +92,12 @@ impl Kind {
         ensures { result ≡ mark_of (judge (seen fields.now) (kind_of self.now) bytes.now) }
     {
         match self {
-            Kind::Value(kind) => judge_value(kind, bytes),
-            Kind::DayOf(month) => judge_day(value(fields, *month), bytes),
+            Kind::Value(kind) => mark_by(kind.judge(bytes)),
+            Kind::DayOf(tag) => day_mark(
+                month(fields, *tag),
+                day_of_month(bytes),
+                mark_by(ValueKind::DayOfMonth.judge(bytes)),
+            ),
         }
     }
 }

@@ -10,7 +10,7 @@ use Rattle.field_groups.specs.declared.table_fault.TableFault.TheVariants as fau
 use Rattle.field_groups.specs.declared.table_fault.Mark.TheVariants as marks
 use Rattle.field_groups.specs.Field.{Field}
 use Rattle.field_groups.specs.Tables.{Verdict, Spells, Outside, Wrong, Need, Required, Optional, Lenient, Fixed, When, Row, Item, One, Table, Judge, Message, ◌>>=◌, or_else, first_of, value_at, has_tag, is_needed, row_at, rows_of, all_rows, groups_in, tags_of, text_of}
-use Rattle.field_groups.specs.FirstFault.{Marked, twice, once_in, placed_from, in_groups, wrong_version, wrong, beyond, missing, missing_of, mark_of, allowed, marked, fault_if, unless, first_fault, message_in, message_of}
+use Rattle.field_groups.specs.FirstFault.{Marked, twice, once_in, placed_from, group_tags_in, in_groups, wrong_version, wrong, beyond, missing, missing_of, mark_of, allowed, marked, fault_if, unless, first_fault, message_in, message_of}
 
 or_none : {A : Type 0} (a b : Option A) → or_else a b ≡ None → (a ≡ None) × (b ≡ None)
 or_none None b h = (refl, h)
@@ -59,7 +59,7 @@ module _ {Kind : Type 0} (judge : Judge Kind) (table : Table Kind) (fields : Lis
   pub record IsClean : Type 0 where
     pub once : first_of (twice (once_in table)) (placed_from [] fields) ≡ None
     pub version : first_of wrong_version (map (marked judge table fields) fields) ≡ None
-    pub groups : first_of (in_groups (groups_in table)) (placed_from [] fields) ≡ None
+    pub groups : first_of (in_groups (group_tags_in table)) (placed_from [] fields) ≡ None
     pub form : first_of wrong (map (marked judge table fields) fields) ≡ None
     pub presence : first_of (missing_of fields) table.items ≡ None
     pub profile : first_of beyond (map (marked judge table fields) fields) ≡ None

@@ -1,10 +1,12 @@
 -- Where fields are cut: at a tag, at the end of a group, at the next line.
-use Rattle.std.proofs.Common.{◌≡◌, ℕ, zero, suc, ◌+◌, ◌-◌, ◌<◌, ◌≤◌, List, [], ◌∷◌, ◌++◌, length, get_or, take, drop, map, take_while, Bool, true, false, not, cond, eqb, refl, sym, ap, ◌∙◌, arith, one-add, add-one}
+use Rattle.std.proofs.Common.{◌≡◌, ℕ, zero, suc, ◌+◌, ◌-◌, ◌<◌, ◌≤◌, List, [], ◌∷◌, ◌++◌, length, get_or, take, drop, map, take_while, Bool, true, false, not, cond, eqb, refl, sym, ap, ◌∙◌, arith, one-add, add-one, drop-drop}
 use Rattle.std.specs.Prelude.{◌==◌}
 use Rattle.std.specs.List.{prefix_len, take-map, drop-map}
-use Rattle.std.proofs.lemmas.List.{drop_more}
+use Rattle.std.proofs.lemmas.List.{drop_more, drop_all}
+use Rattle.std.specs.Prelude.{Some, None}
+use Rattle.std.specs.declared.option.Option.{Option}
 use Rattle.field_groups.specs.Field.{Field}
-use Rattle.field_groups.specs.Tables.{after_tag, from_tag, with_member, in_lines}
+use Rattle.field_groups.specs.Tables.{or_else, first_of, after_tag, from_tag, with_member, in_lines}
 
 module _ {X : Type 0} (view : X → Field) where
   prefix_cut : (p : Field → Bool) (xs : List X) → prefix_len p (map view xs) ≡ prefix_len (λ x. p (view x)) xs
@@ -69,3 +71,30 @@ module _ {X : Type 0} (view : X → Field) where
       let size : from + 1 + n - from ≡ suc n = omega arith in
       let e3 : take (from + 1 + n - from) (drop from (map view fs)) ≡ view x ∷ map view (take n ys) = rw (size, e1) (ap (λ ts. view x ∷ ts) (take-map view n ys)) in
       ap (in_lines first) e1 ∙ line_cut first x ys ∙ (λ i. sym e3 i ∷ in_lines first (sym e2 i))
+
+  pub line_there : (first : ℕ) (fs : List X) (from : ℕ) → from < length fs
+      → in_lines first (drop from (map view fs)) ≡ take (from + 1 + prefix_len (λ y. not ((view y).0 == first)) (drop (from + 1) fs) - from) (drop from (map view fs))
+        ∷ in_lines first (drop (from + 1 + prefix_len (λ y. not ((view y).0 == first)) (drop (from + 1) fs)) (map view fs))
+  line_there first [] from lt = absurd (omega arith)
+  line_there first (x ∷ xs) from lt = line_at first (x ∷ xs) from x lt
+
+-- ---- the first answer of the lines, as a loop finds it
+
+module _ {A : Type 0} (f : List Field → Option A) (first : ℕ) (fs : List Field) where
+  pub line_passed : (from end : ℕ) (line next : List Field) (r : Option A) → in_lines first (drop from fs) ≡ next ∷ in_lines first (drop end fs) → line ≡ next → f line ≡ None
+      → first_of f (in_lines first (drop from fs)) ≡ r → first_of f (in_lines first (drop end fs)) ≡ r
+  unfolding first_of
+  line_passed from end line next r cut same none so_far =
+      let e : first_of f (in_lines first (drop from fs)) ≡ first_of f (in_lines first (drop end fs)) = ap (first_of f) cut ∙ ap (λ o. or_else o (first_of f (in_lines first (drop end fs)))) (ap f (sym same) ∙ none) in
+      sym e ∙ so_far
+
+  pub line_found : (from end : ℕ) (line next : List Field) (a : A) (r : Option A) → in_lines first (drop from fs) ≡ next ∷ in_lines first (drop end fs) → line ≡ next → f line ≡ Some a
+      → first_of f (in_lines first (drop from fs)) ≡ r → Some a ≡ r
+  unfolding first_of
+  line_found from end line next a r cut same some so_far =
+      let e : first_of f (in_lines first (drop from fs)) ≡ Some a = ap (first_of f) cut ∙ ap (λ o. or_else o (first_of f (in_lines first (drop end fs)))) (ap f (sym same) ∙ some) in
+      sym e ∙ so_far
+
+  pub line_ended : (from : ℕ) (r : Option A) → length fs ≤ from → first_of f (in_lines first (drop from fs)) ≡ r → None ≡ r
+  unfolding first_of
+  line_ended from r le so_far = let e : first_of f (in_lines first (drop from fs)) ≡ None = ap (λ gs. first_of f (in_lines first gs)) (drop_all from fs le) in sym e ∙ so_far

@@ -12,3 +12,4 @@ pub mod Seen
 pub mod Loops
 pub mod Cuts
 pub mod Placed
+pub mod Mapped

@@ -50,11 +50,11 @@ module _ {X : Type 0} (p : X → Bool) where
   pub any_ended : (xs : List X) (i : ℕ) → length xs ≤ i → list_any p (take i xs) ≡ false → list_any p xs ≡ false
   any_ended xs i le before = ap (list_any p) (sym (take_all i xs le)) ∙ before
 
+pub alone : {A : Type 0} (p : Option A) → p ≡ or_else p None
+alone None = refl
+alone (Some a) = refl
+
 -- one more at the end
 pub one_more : {X A : Type 0} (f : X → Option A) (xs : List X) (x : X) (o : Option A) → o ≡ first_of f xs → or_else o (f x) ≡ first_of f (xs ++ x ∷ [])
 unfolding first_of
 one_more {A = A} f xs x o h = ap (λ (p : Option A). or_else p (f x)) h ∙ ap (or_else (first_of f xs)) (alone (f x)) ∙ sym (first_of-append f xs (x ∷ []))
-  where
-    alone : (p : Option A) → p ≡ or_else p None
-    alone None = refl
-    alone (Some a) = refl

@@ -1,17 +1,16 @@
 -- A table of the code says the same whatever its kinds are called.
-use Rattle.std.proofs.Common.{◌≡◌, ℕ, List, [], ◌∷◌, ◌++◌, map, Option, Some, None, Bool, true, false, refl, sym, ap, ◌∙◌}
+use Rattle.std.proofs.Common.{◌≡◌, ℕ, List, [], ◌∷◌, ◌++◌, map, cond, Option, Some, None, Bool, true, false, refl, sym, ap, ◌∙◌}
 use Rattle.std.specs.Prelude.{◌||◌, ◌==◌, not}
 use Rattle.std.specs.Option.{option_map}
 use Rattle.std.specs.List.{find, list_any, flat_map}
 use Rattle.field_groups.specs.Field.{Field}
-use Rattle.field_groups.specs.declared.table_fault.TableFault.{TableFault}
 use Rattle.field_groups.specs.declared.table.Row.{Row as CodeRow}
 use Rattle.field_groups.specs.declared.table.RepeatingGroup.{RepeatingGroup as CodeGroup}
 use Rattle.field_groups.specs.declared.table.Item.{Item as CodeItem}
 use Rattle.field_groups.specs.declared.table.Item.TheVariants as items
 use Rattle.field_groups.specs.declared.table.Table.{Table as CodeTable}
-use Rattle.field_groups.specs.Tables.{Row, RepeatingGroup, Item, Table, One, Party, Lines, or_else, first_of, tags_of, row_at, rows_of, groups_of, rows_in, groups_in, all_rows, lines_in}
-use Rattle.field_groups.specs.FirstFault.{Placed, once_of, once_in, is_of_group, is_passed, misplaced, in_groups, missing, missing_of, placed_from}
+use Rattle.field_groups.specs.Tables.{Row, RepeatingGroup, Item, Table, One, Party, Lines, or_else, first_of, tags_of, row_at, rows_of, groups_of, rows_in, all_rows, tags_in, lines_in}
+use Rattle.field_groups.specs.FirstFault.{once_of, once_in, group_tags_of, group_tags_in, is_of_group, is_passed, missing, missing_of}
 use Rattle.field_groups.specs.CodeTables.{row_of, group_of, item_of, table_of}
 use Rattle.field_groups.proofs.Clean.{first_of-map}
 
@@ -61,19 +60,40 @@ module _ {K Kind : Type 0} (kind : K → Kind) where
   pub once_mapped : (table : CodeTable K) → once_in (table_of kind table) ≡ once_in (own table)
   once_mapped table = λ i. tags_mapped table.header.now i ++ once_items table.items.now i
 
-  -- a group's tags say all of its places
-  placed_mapped : (p : Placed) (group : CodeGroup K) → misplaced p (group_of kind group) ≡ misplaced p (group_of (λ (k : K). k) group)
-  placed_mapped p group = first_rows group.rows.now
+  group_tags_mapped : (group : CodeGroup K) → tags_in (group_of kind group) ≡ tags_in (group_of (λ (k : K). k) group)
+  group_tags_mapped group = here group.rows.now
     where
-      first_rows : (rows : List (CodeRow K)) → misplaced p (record { count = group.count; rows = map (row_of kind) rows; skipped = group.skipped.now }) ≡ misplaced p (record { count = group.count; rows = map (row_of (λ (k : K). k)) rows; skipped = group.skipped.now })
-      first_rows [] = refl
-      first_rows (row ∷ rows) = λ i. misplaced_by p group.count row.tag (row.tag ∷ tags_mapped rows i) group.skipped.now
+      here : (rows : List (CodeRow K)) → tags_in (record { count = group.count; rows = map (row_of kind) rows; skipped = group.skipped.now }) ≡ tags_in (record { count = group.count; rows = map (row_of (λ (k : K). k)) rows; skipped = group.skipped.now })
+      here [] = refl
+      here (row ∷ rows) = λ i. record { count = group.count; first = row.tag; members = row.tag ∷ tags_mapped rows i; skipped = group.skipped.now }
 
-  pub groups_mapped : (table : CodeTable K) (p : Placed) → in_groups (groups_in (table_of kind table)) p ≡ in_groups (groups_in (own table)) p
-  groups_mapped table p = here table.items.now
+  -- the tags of the groups
+  pub groups_mapped : (table : CodeTable K) → group_tags_in (table_of kind table) ≡ group_tags_in (own table)
+  groups_mapped table = here table.items.now
     where
-      here : (xs : List (CodeItem K)) → in_groups (flat_map groups_of (map (item_of kind) xs)) p ≡ in_groups (flat_map groups_of (map (item_of (λ (k : K). k)) xs)) p
+      here : (xs : List (CodeItem K)) → flat_map group_tags_of (map (item_of kind) xs) ≡ flat_map group_tags_of (map (item_of (λ (k : K). k)) xs)
       here [] = refl
       here (items.One row ∷ xs) = here xs
       here (items.Party role ∷ xs) = here xs
-      here (items.Lines group ∷ xs) = λ i. or_else (placed_mapped p group i) (here xs i)
+      here (items.Lines group ∷ xs) = λ i. group_tags_mapped group i ∷ here xs i
+
+  pub passed_mapped : (tag : ℕ) (table : CodeTable K) → is_passed (table_of kind table) tag ≡ is_passed (own table) tag
+  passed_mapped tag table = ap (λ groups. not table.strict || list_any (is_of_group tag) groups) (groups_mapped table)
+
+  missing_rows : (fields : List Field) (rows : List (CodeRow K)) → first_of (missing fields) (map (row_of kind) rows) ≡ first_of (missing fields) (map (row_of (λ (k : K). k)) rows)
+  unfolding first_of
+  missing_rows fields [] = refl
+  missing_rows fields (row ∷ rows) = ap (or_else (missing fields (row_of kind row))) (missing_rows fields rows)
+
+  missing_item : (fields : List Field) (item : CodeItem K) → missing_of fields (item_of kind item) ≡ missing_of fields (item_of (λ (k : K). k) item)
+  missing_item fields (items.One row) = refl
+  missing_item fields (items.Party role) = refl
+  missing_item fields (items.Lines group) =
+      ap (λ tags. first_of (λ line. first_of (missing line) (map (row_of kind) group.rows.now)) (lines_in tags fields)) (group_tags_mapped group)
+      ∙ first_of-same (λ line. first_of (missing line) (map (row_of kind) group.rows.now)) (λ line. first_of (missing line) (map (row_of (λ (k : K). k)) group.rows.now)) (lines_in (tags_in (group_of (λ (k : K). k) group)) fields) (λ line. missing_rows line group.rows.now)
+
+  pub missing_mapped : (fields : List Field) (table : CodeTable K) → first_of (missing_of fields) (table_of kind table).items ≡ first_of (missing_of fields) (own table).items
+  missing_mapped fields table =
+      sym (first_of-map (missing_of fields) (item_of kind) table.items.now)
+      ∙ first_of-same (λ item. missing_of fields (item_of kind item)) (λ item. missing_of fields (item_of (λ (k : K). k) item)) table.items.now (missing_item fields)
+      ∙ first_of-map (missing_of fields) (item_of (λ (k : K). k)) table.items.now

@@ -1,16 +1,17 @@
 -- The first answer over the places of fields, and what stands before a place, as loops find them.
-use Rattle.std.proofs.Common.{◌≡◌, ℕ, zero, suc, ◌+◌, ◌<◌, ◌≤◌, List, [], ◌∷◌, ◌++◌, length, get_or, take, drop, Option, Some, None, refl, sym, ap, ◌∙◌, arith, one-add, take_while, count_by, not, Bool, true, false, eqb}
+use Rattle.std.proofs.Common.{◌≡◌, ℕ, zero, suc, ◌+◌, ◌<◌, ◌≤◌, List, [], ◌∷◌, ◌++◌, length, get_or, take, drop, Option, Some, None, refl, sym, ap, ◌∙◌, arith, zero-add, cond, ◌-◌, take_while, count_by, not, Bool, true, false, eqb}
 use mathlib.Core.List.{reverse_aux}
 use Rattle.std.proofs.lemmas.List.{drop_all, drop_more, take_more}
 use Rattle.std.specs.Prelude.{reverse, ◌||◌, ◌&&◌, ◌==◌}
 use Rattle.std.specs.List.{list_any}
-use Rattle.std.proofs.lemmas.Grind.{common_steps}
+use Rattle.std.proofs.lemmas.List.Sums.{take_while-cons, sum_by-cons}
 use Rattle.field_groups.specs.declared.table_fault.TableFault.{TableFault}
+use Rattle.field_groups.specs.declared.table_fault.TableFault.TheVariants as faults
 use Rattle.field_groups.specs.Field.{Field}
-use Rattle.field_groups.specs.Tables.{first_of, or_else, has_tag}
-use Rattle.field_groups.specs.FirstFault.{Placed, placed_from, place_in, fault_if}
+use Rattle.field_groups.specs.Tables.{first_of, or_else, has_tag, is_one_of}
+use Rattle.field_groups.specs.FirstFault.{Placed, placed_from, place_in, fault_if, twice}
 
-abbrev none : Field
+abbrev pub none : Field
 none = (0, [])
 
 -- the rest of the places, from one on
@@ -63,15 +64,13 @@ has_tag-reverse tag fs = has_tag-onto tag fs [] ∙ or_false (has_tag tag fs)
     or_false true = refl
     or_false false = refl
 
-pub both : (a b : Bool) (fault : TableFault) → a ≡ true → b ≡ true → Some fault ≡ fault_if (a && b) fault
-both a b fault x y = rw (x, y) refl
+pub with_true : (a b : Bool) (fault : TableFault) → b ≡ true → fault_if a fault ≡ fault_if (a && b) fault
+with_true true b fault y = rw y refl
+with_true false b fault y = refl
 
 pub not_second : (a b : Bool) (fault : TableFault) → b ≡ false → None ≡ fault_if (a && b) fault
 not_second true b fault y = rw y refl
 not_second false b fault y = refl
-
-pub not_first : (a b : Bool) (fault : TableFault) → a ≡ false → None ≡ fault_if (a && b) fault
-not_first a b fault x = rw x refl
 
 -- ---- lines, from a field backwards
 
@@ -79,16 +78,28 @@ abbrev pub before_first : ℕ → Field → Bool
 before_first first f = not (f.0 == first)
 
 take_while_on : (p : Field → Bool) (f : Field) (fs : List Field) → p f ≡ true → take_while p (f ∷ fs) ≡ f ∷ take_while p fs
-take_while_on p f fs h = rw (h, one-add) refl
+take_while_on p f fs h = take_while-cons p f fs ∙ rw h refl
 
 pub again_here : (first tag : ℕ) (f : Field) (fs : List Field) → eqb f.0 first ≡ false → eqb f.0 tag ≡ true → has_tag tag (take_while (before_first first) (f ∷ fs)) ≡ true
 again_here first tag f fs other same = rw (take_while_on (before_first first) f fs (rw other refl), same) refl
 
 pub again_on : (first tag : ℕ) (f : Field) (fs : List Field) → eqb f.0 first ≡ false → eqb f.0 tag ≡ false → has_tag tag (take_while (before_first first) (f ∷ fs)) ≡ has_tag tag (take_while (before_first first) fs)
-again_on first tag f fs other no = rw (take_while_on (before_first first) f fs (rw other refl), no) refl
+again_on first tag f fs other differs = rw (take_while_on (before_first first) f fs (rw other refl), differs) refl
 
 pub counted_on : (p q : Field → Bool) (f : Field) (fs : List Field) → q f ≡ true → p f ≡ false → count_by p (take_while q (f ∷ fs)) ≡ count_by p (take_while q fs)
-counted_on p q f fs inside no = rw (take_while_on q f fs inside) (grind (arith, common_steps))
+counted_on p q f fs inside out = ap (count_by p) (take_while_on q f fs inside) ∙ sum_by-cons (λ x. cond (p x) 1 0) f (take_while q fs) ∙ rw out (zero-add (count_by p (take_while q fs)))
 
 pub counted_one : (p q : Field → Bool) (f : Field) (fs : List Field) → q f ≡ true → p f ≡ true → count_by p (take_while q (f ∷ fs)) ≡ 1 + count_by p (take_while q fs)
-counted_one p q f fs inside one = rw (take_while_on q f fs inside) (grind (arith, common_steps))
+counted_one p q f fs inside one = ap (count_by p) (take_while_on q f fs inside) ∙ sum_by-cons (λ x. cond (p x) 1 0) f (take_while q fs) ∙ rw one refl
+
+-- ---- a step backwards
+
+-- what stands before a place, from the field before it backwards
+pub one_back : (fs : List Field) (place : ℕ) (f : Field) → 0 < place → place ≤ length fs → f ≡ get_or fs (place - 1) none → reverse (take place fs) ≡ f ∷ reverse (take (place - 1) fs)
+one_back fs place f pos le at =
+    let e : place ≡ place - 1 + 1 = omega arith in
+    ap (λ (n : ℕ). reverse (take n fs)) e ∙ back fs (place - 1) (omega arith) ∙ ap (λ (g : Field). g ∷ reverse (take (place - 1) fs)) (sym at)
+
+-- the judgement of a tag at a place, by the fields in front of it
+pub twice_as : (once : List ℕ) (fs front : List Field) (i : ℕ) (f : Field) → front ≡ take i fs → fault_if (is_one_of once f.0 && has_tag f.0 front) (faults.Reason f.0 13) ≡ twice once (place_in fs i f)
+twice_as once fs front i f e = ap (λ (b : Bool). fault_if (is_one_of once f.0 && b) (faults.Reason f.0 13)) (ap (has_tag f.0) e ∙ sym (has_tag-reverse f.0 (take i fs)))

@@ -1,9 +1,10 @@
 -- What tests and searches find in fields of the code, and in their view.
-use Rattle.std.proofs.Common.{◌≡◌, ◌<◌, ◌≤◌, ℕ, zero, suc, length, get_or, take, drop, arith, List, [], ◌∷◌, ◌++◌, map, Option, Some, None, Bool, true, false, cond, eqb, refl, sym, ap, ◌∙◌}
+use Rattle.std.proofs.Common.{◌≡◌, ◌<◌, ◌≤◌, ◌+◌, count_by, ℕ, zero, suc, length, get_or, take, drop, arith, List, [], ◌∷◌, ◌++◌, map, Option, Some, None, Bool, true, false, cond, eqb, refl, sym, ap, ◌∙◌}
 use Rattle.std.specs.Prelude.{◌||◌, ◌==◌}
 use Rattle.std.specs.Option.{option_map, option_or}
 use Rattle.std.specs.List.{find, list_any, list_all, flat_map, take-map, drop-map}
 use Rattle.std.proofs.lemmas.List.{length-map}
+use Rattle.std.proofs.lemmas.List.Sums.{sum_by-cons}
 use Rattle.std.proofs.lemmas.List.Folds.{list_any-append, find-append, list_all-map}
 use Rattle.std.specs.Borrow.{Bor}
 use Rattle.field_groups.specs.Field.{Field}
@@ -11,8 +12,9 @@ use Rattle.field_groups.specs.declared.table.Test.{Test as CodeTest}
 use Rattle.field_groups.specs.declared.table.Row.{Row as CodeRow}
 use Rattle.field_groups.specs.declared.table.Item.{Item as CodeItem}
 use Rattle.field_groups.specs.declared.table.Table.{Table as CodeTable}
-use Rattle.field_groups.specs.Tables.{Row, Item, Table, or_else, first_of, value_at, has_tag, is_one_of, tags_of, row_at, rows_of, groups_of, groups_in, all_rows, passes, holds}
-use Rattle.field_groups.specs.FirstFault.{once_of, once_in, is_of_group}
+use Rattle.field_groups.specs.Tables.{Row, Item, Table, or_else, first_of, value_at, has_tag, is_one_of, tags_of, row_at, rows_of, all_rows, passes, holds}
+use Rattle.field_groups.specs.FirstFault.{once_of, once_in, group_tags_of, group_tags_in, is_of_group}
+use Rattle.field_groups.proofs.Loops.{first_of-append}
 use Rattle.field_groups.specs.CodeTables.{seen, seen_at, test_of, row_of, item_of, table_of}
 
 pub any-map : {X Y : Type 0} (p : Y → Bool) (f : X → Y) (xs : List X) → list_any p (map f xs) ≡ list_any (λ x. p (f x)) xs
@@ -41,6 +43,12 @@ value_at_seen tag fs = ap (option_map (λ (f : Field). f.1)) (find-map (λ (f : 
     again None = refl
     again (Some f) = refl
 
+pub count_seen : (tag : ℕ) (fs : List (ℕ × Bor (List ℕ))) → count_by (λ f. f.0 == tag) (seen fs) ≡ count_by (λ f. f.0 == tag) fs
+count_seen tag [] = refl
+count_seen tag (f ∷ fs) =
+    sum_by-cons (λ (g : Field). cond (g.0 == tag) 1 0) (f.0, f.1.now) (seen fs) ∙ ap (λ n. cond (f.0 == tag) 1 0 + n) (count_seen tag fs)
+    ∙ sym (sum_by-cons (λ (g : ℕ × Bor (List ℕ)). cond (g.0 == tag) 1 0) f fs)
+
 pub front_seen : (n : ℕ) (fs : List (ℕ × Bor (List ℕ))) → take n (seen fs) ≡ seen (take n fs)
 front_seen n fs = take-map (λ f. (f.0, f.1.now)) n fs
 
@@ -57,6 +65,9 @@ seen_lt fs i lt = rw (length-map {B = Field} fs (λ f. (f.0, f.1.now))) lt
 
 pub seen_le : (fs : List (ℕ × Bor (List ℕ))) (i : ℕ) → length fs ≤ i → length (seen fs) ≤ i
 seen_le fs i le = rw (length-map {B = Field} fs (λ f. (f.0, f.1.now))) le
+
+pub seen_most : (fs : List (ℕ × Bor (List ℕ))) (i : ℕ) → i ≤ length fs → i ≤ length (seen fs)
+seen_most fs i le = rw (length-map {B = Field} fs (λ f. (f.0, f.1.now))) le
 
 module _ {K : Type 0} where
   -- ---- rows of the code
@@ -88,7 +99,7 @@ module _ {K : Type 0} where
   item_once tag item = is_one_of (once_of (item_of (λ (k : K). k) item)) tag
 
   abbrev pub item_group : ℕ → CodeItem K → Bool
-  item_group tag item = list_any (is_of_group tag) (groups_of (item_of (λ (k : K). k) item))
+  item_group tag item = list_any (is_of_group tag) (group_tags_of (item_of (λ (k : K). k) item))
 
   rows-items : (tag : ℕ) (xs : List (CodeItem K)) → row_at tag (flat_map rows_of (map (item_of (λ (k : K). k)) xs)) ≡ first_of (item_row tag) xs
   unfolding first_of
@@ -120,5 +131,11 @@ module _ {K : Type 0} where
       ∙ ap (λ b. b || list_any (λ one. one == tag) (flat_map once_of (map (item_of (λ (k : K). k)) table.items.now))) (tags_seen tag table.header.now)
       ∙ ap (λ b. list_any (λ row. row.tag == tag) table.header.now || b) (any-items (λ one. one == tag) once_of table.items.now)
 
-  pub groups-table : (tag : ℕ) (table : CodeTable K) → list_any (is_of_group tag) (groups_in (own table)) ≡ list_any (item_group tag) table.items.now
-  groups-table tag table = any-items (is_of_group tag) groups_of table.items.now
+  pub groups-table : (tag : ℕ) (table : CodeTable K) → list_any (is_of_group tag) (group_tags_in (own table)) ≡ list_any (item_group tag) table.items.now
+  groups-table tag table = any-items (is_of_group tag) group_tags_of table.items.now
+
+  -- the first answer of what the items of a table have
+  pub first_of-items : {Y A : Type 0} (f : Y → Option A) (h : Item K → List Y) (xs : List (CodeItem K)) → first_of f (flat_map h (map (item_of (λ (k : K). k)) xs)) ≡ first_of (λ x. first_of f (h (item_of (λ (k : K). k) x))) xs
+  unfolding first_of
+  first_of-items f h [] = refl
+  first_of-items f h (x ∷ xs) = first_of-append f (h (item_of (λ (k : K). k) x)) (flat_map h (map (item_of (λ (k : K). k)) xs)) ∙ ap (or_else (first_of f (h (item_of (λ (k : K). k) x)))) (first_of-items f h xs)

@@ -11,7 +11,7 @@ use Rattle.field_groups.specs.declared.table.RepeatingGroup.{RepeatingGroup as C
 use Rattle.field_groups.specs.declared.table.Item.{Item as CodeItem}
 use Rattle.field_groups.specs.declared.table.Item.TheVariants as items
 use Rattle.field_groups.specs.declared.table.Table.{Table as CodeTable}
-use Rattle.field_groups.specs.Tables.{Test, Stands, Is, Need, Required, Optional, Lenient, Fixed, When, Row, RepeatingGroup, Item, One, Party, Lines, Table}
+use Rattle.field_groups.specs.Tables.{Test, Stands, Is, Need, Required, Optional, Lenient, Fixed, When, Row, RepeatingGroup, GroupTags, tags_in, Item, One, Party, Lines, Table}
 
 abbrev pub test_of : CodeTest → Test
 test_of (tests.Stands tag) = Stands tag
@@ -34,6 +34,10 @@ group_of kind group = record {
   rows = map (row_of kind) group.rows.now;
   skipped = group.skipped.now;
 }
+
+-- the tags of a group
+abbrev pub own_tags : {K : Type 0} → CodeGroup K → GroupTags
+own_tags group = tags_in (group_of (λ k. k) group)
 
 abbrev pub item_of : {K Kind : Type 0} → (K → Kind) → CodeItem K → Item Kind
 item_of kind (items.One row) = One (row_of kind row)

@@ -10,7 +10,7 @@ use Rattle.field_groups.specs.declared.table_fault.Mark.{Mark}
 use Rattle.field_groups.specs.declared.table_fault.Mark.TheVariants as marks
 use Rattle.field_groups.specs.Field.{Field}
 use Rattle.field_groups.specs.HeadValues.{number_in}
-use Rattle.field_groups.specs.Tables.{Cell, Verdict, Spells, Outside, Wrong, Need, Lenient, Fixed, Row, RepeatingGroup, Item, One, Party, Lines, Table, Message, Judge, or_else, first_of, value_at, has_tag, is_one_of, is_needed, row_at, all_rows, groups_in, tags_of, first_tag, is_inside, run, lines_in, group_says, flag_of, cells_of}
+use Rattle.field_groups.specs.Tables.{Cell, Verdict, Spells, Outside, Wrong, Need, Lenient, Fixed, Row, GroupTags, Item, One, Party, Lines, Table, Message, Judge, or_else, first_of, value_at, has_tag, is_one_of, is_needed, row_at, all_rows, groups_of, groups_in, tags_of, tags_in, is_inside, run, lines_in, group_says, flag_of, cells_of}
 
 -- a field, with the fields before it, from it backwards, and those after it
 pub record Placed : Type 0 where
@@ -53,6 +53,12 @@ twice once p =
 
 -- ---- groups
 
+abbrev pub group_tags_of : {Kind : Type 0} → Item Kind → List GroupTags
+group_tags_of item = map tags_in (groups_of item)
+
+abbrev pub group_tags_in : {Kind : Type 0} → Table Kind → List GroupTags
+group_tags_in table = flat_map group_tags_of table.items
+
 -- a count says so many lines
 abbrev pub is_count : Option ℕ → ℕ → Bool
 is_count None lines = false
@@ -63,39 +69,39 @@ abbrev pub most_lines : ℕ
 most_lines = 32
 
 -- how many of the fields of a group at the front begin a line
-abbrev pub lines_begun : {Kind : Type 0} → RepeatingGroup Kind → List Field → ℕ
-lines_begun group fields = count_by (λ f. f.0 == first_tag group.rows) (run group fields)
+abbrev pub lines_begun : GroupTags → List Field → ℕ
+lines_begun group fields = count_by (λ f. f.0 == group.first) (run group fields)
 
 -- the fields of the line that a field stands in, from it backwards to the one that begins it, which
 -- is left out
-abbrev pub line_before : {Kind : Type 0} → RepeatingGroup Kind → List Field → List Field
-line_before group before = take_while (λ f. not (f.0 == first_tag group.rows)) before
+abbrev pub line_before : GroupTags → List Field → List Field
+line_before group before = take_while (λ f. not (f.0 == group.first)) before
 
 -- whether the fields before one, from it backwards, are of a group after its count
-abbrev pub is_opened : {Kind : Type 0} → RepeatingGroup Kind → List Field → Bool
+abbrev pub is_opened : GroupTags → List Field → Bool
 is_opened group [] = false
 is_opened group (f ∷ fs) =
     if f.0 == group.count then true else (if is_inside group f.0 then is_opened group fs else false)
 
 -- The fault of a member beside the fields before it, from it backwards: outside its group, before the
 -- first line, or again in its line (15); a line past the last that may be (5, of the count).
-abbrev pub misplaced_member : {Kind : Type 0} → RepeatingGroup Kind → List Field → ℕ → Option TableFault
+abbrev pub misplaced_member : GroupTags → List Field → ℕ → Option TableFault
 misplaced_member group before tag =
     if not (is_opened group before) then Some (faults.Reason tag 15)
     else (if is_one_of group.skipped tag then None
-    else (if tag == first_tag group.rows
+    else (if tag == group.first
     then fault_if (nat_le most_lines (lines_begun group before)) (faults.Reason group.count 5)
     else fault_if (lines_begun group before == 0 || has_tag tag (line_before group before)) (faults.Reason tag 15)))
 
 -- The fault of a field that a group has: a count that is no number or not the number of lines (16),
 -- or that of a member.
-abbrev pub misplaced : {Kind : Type 0} → Placed → RepeatingGroup Kind → Option TableFault
+abbrev pub misplaced : Placed → GroupTags → Option TableFault
 misplaced p group =
     if p.field.0 == group.count
     then fault_if (not (is_count (number_in p.field.1) (lines_begun group p.after))) (faults.Reason p.field.0 16)
     else (if is_inside group p.field.0 then misplaced_member group p.before p.field.0 else None)
 
-abbrev pub in_groups : {Kind : Type 0} → List (RepeatingGroup Kind) → Placed → Option TableFault
+abbrev pub in_groups : List GroupTags → Placed → Option TableFault
 in_groups groups p = first_of (misplaced p) groups
 
 -- ---- values
@@ -150,7 +156,7 @@ abbrev pub missing_of : {Kind : Type 0} → List Field → Item Kind → Option 
 missing_of fields (One row) = missing fields row
 missing_of fields (Party role) = None
 missing_of fields (Lines group) =
-    first_of (λ line. first_of (missing line) group.rows) (lines_in group fields)
+    first_of (λ line. first_of (missing line) group.rows) (lines_in (tags_in group) fields)
 
 -- ---- a message, by its table and the judge of its values
 
@@ -158,14 +164,14 @@ abbrev pub unless : {A : Type 0} → Option TableFault → A → Result A TableF
 unless None x = Ok x
 unless (Some fault) x = Err fault
 
-abbrev pub is_of_group : {Kind : Type 0} → ℕ → RepeatingGroup Kind → Bool
+abbrev pub is_of_group : ℕ → GroupTags → Bool
 is_of_group tag group = group.count == tag || is_inside group tag
 
 -- whether a field without a row is passed over: in a table that is not strict, and where it is of a
 -- group, which judges it by its place
 abbrev pub is_passed : {Kind : Type 0} → Table Kind → ℕ → Bool
 is_passed table tag =
-    not table.strict || list_any (is_of_group tag) (groups_in table)
+    not table.strict || list_any (is_of_group tag) (group_tags_in table)
 
 module _ {Kind : Type 0} (judge : Judge Kind) where
   -- what a field of these fields is
@@ -178,7 +184,7 @@ module _ {Kind : Type 0} (judge : Judge Kind) where
   first_fault table fields =
       or_else (first_of (twice (once_in table)) (placed_from [] fields))
       (or_else (first_of wrong_version (map (marked table fields) fields))
-      (or_else (first_of (in_groups (groups_in table)) (placed_from [] fields))
+      (or_else (first_of (in_groups (group_tags_in table)) (placed_from [] fields))
       (or_else (first_of wrong (map (marked table fields) fields))
       (or_else (first_of (missing_of fields) table.items)
       (first_of beyond (map (marked table fields) fields))))))

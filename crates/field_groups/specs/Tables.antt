@@ -166,12 +166,28 @@ first_tag (row ∷ rows) = row.tag
 
 -- ---- the lines of a group
 
+-- the tags of a group: of its count, of the member that begins a line, of all members of a line, and
+-- those that say nothing
+pub record GroupTags : Type 0 where
+  pub count : ℕ
+  pub first : ℕ
+  pub members : List ℕ
+  pub skipped : List ℕ
+
+abbrev pub tags_in : {Kind : Type 0} → RepeatingGroup Kind → GroupTags
+tags_in group = record {
+  count = group.count;
+  first = first_tag group.rows;
+  members = tags_of group.rows;
+  skipped = group.skipped;
+}
+
 -- whether a tag is inside a group, as a member or as one that says nothing
-abbrev pub is_inside : {Kind : Type 0} → RepeatingGroup Kind → ℕ → Bool
-is_inside group tag = is_one_of (tags_of group.rows) tag || is_one_of group.skipped tag
+abbrev pub is_inside : GroupTags → ℕ → Bool
+is_inside group tag = is_one_of group.members tag || is_one_of group.skipped tag
 
 -- the fields of a group at the front
-abbrev pub run : {Kind : Type 0} → RepeatingGroup Kind → List Field → List Field
+abbrev pub run : GroupTags → List Field → List Field
 run group fields = take_while (λ f. is_inside group f.0) fields
 
 -- the fields after the first of a tag
@@ -196,12 +212,12 @@ in_lines first [] = []
 in_lines first (f ∷ fs) = with_member first f (in_lines first fs)
 
 -- the fields of the lines of a group: those after its count, from the one that begins a line
-abbrev pub line_fields_in : {Kind : Type 0} → RepeatingGroup Kind → List Field → List Field
-line_fields_in group fields = from_tag (first_tag group.rows) (run group (after_tag group.count fields))
+abbrev pub line_fields_in : GroupTags → List Field → List Field
+line_fields_in group fields = from_tag group.first (run group (after_tag group.count fields))
 
 -- the lines of a group; tags in them that are passed over stand in no row
-abbrev pub lines_in : {Kind : Type 0} → RepeatingGroup Kind → List Field → List (List Field)
-lines_in group fields = in_lines (first_tag group.rows) (line_fields_in group fields)
+abbrev pub lines_in : GroupTags → List Field → List (List Field)
+lines_in group fields = in_lines group.first (line_fields_in group fields)
 
 -- ---- what fields say
 
@@ -226,7 +242,7 @@ lines_of count (group ∷ groups) = if group.0 == count then group.1 else lines_
 -- a kind is judged in a line beside the fields of that line
 abbrev pub group_says : {Kind : Type 0} → Judge Kind → List Field → RepeatingGroup Kind → ℕ × List (List Cell)
 group_says judge fields group =
-    (group.count, map (λ line. map (cell_of judge line) group.rows) (lines_in group fields))
+    (group.count, map (λ line. map (cell_of judge line) group.rows) (lines_in (tags_in group) fields))
 
 abbrev pub is_place : Place → Place → Bool
 is_place (Tag tag) (Tag other) = tag == other

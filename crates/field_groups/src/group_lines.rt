@@ -3,7 +3,7 @@
 ghost use Rattle.std.specs.Prelude.{◌≡◌, ◌==◌, ◌-◌, ◌<◌, ◌≤◌, ◌∷◌, not, length, drop, take};
 ghost use Rattle.std.specs.List.{prefix_len};
 ghost use Rattle.field_groups.specs.Tables.{is_inside, run, after_tag, from_tag, line_fields_in, in_lines};
-ghost use Rattle.field_groups.specs.CodeTables.{seen, group_of};
+ghost use Rattle.field_groups.specs.CodeTables.{seen, own_tags};
 
 use crate::fields::Field;
 use crate::lookup::{field_at, front, rest};
@@ -39,7 +39,7 @@ fn from<'f, 'a>(fields: &'f [Field<'a>], tag: u32) -> &'f [Field<'a>]
 impl<K> RepeatingGroup<K> {
     /// How many fields at the front are inside the group.
     fn run_len(&self, fields: &[Field<'_>]) -> usize
-        ensures value { result ≡ prefix_len (λ field. is_inside (group_of (λ k. k) self.now) field.0) (seen fields.now) }
+        ensures value { result ≡ prefix_len (λ field. is_inside (own_tags self.now) field.0) (seen fields.now) }
         ensures within { result ≤ length fields.now }
     {
         for place in 0..fields.len() {
@@ -53,14 +53,14 @@ impl<K> RepeatingGroup<K> {
 
     /// The fields of the group at the front.
     pub(crate) fn run<'f, 'a>(&self, fields: &'f [Field<'a>]) -> &'f [Field<'a>]
-        ensures { seen result.now ≡ run (group_of (λ k. k) self.now) (seen fields.now) }
+        ensures { seen result.now ≡ run (own_tags self.now) (seen fields.now) }
     {
         front(fields, self.run_len(fields))
     }
 
     /// The fields of the lines of the group, which stand after its count.
     pub fn lines<'f, 'a>(&self, fields: &'f [Field<'a>]) -> &'f [Field<'a>]
-        ensures { seen result.now ≡ line_fields_in (group_of (λ k. k) self.now) (seen fields.now) }
+        ensures { seen result.now ≡ line_fields_in (own_tags self.now) (seen fields.now) }
     {
         from(self.run(after(fields, self.count)), self.first())
     }

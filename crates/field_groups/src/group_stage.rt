@@ -1,13 +1,15 @@
 //! The faults of groups: counts, members that stand elsewhere, and too many lines.
 
 ghost use Rattle.std.specs.Prelude.{◌≡◌, ◌==◌, ◌<◌, [], length, reverse, count_by};
-ghost use Rattle.field_groups.specs.Tables.{has_tag, first_of, groups_of, groups_in};
-ghost use Rattle.field_groups.specs.FirstFault.{placed_from, in_groups, misplaced, misplaced_member, place_in, lines_begun, line_before, is_opened};
-ghost use Rattle.field_groups.specs.CodeTables.{seen, seen_at, group_of, item_of, table_of};
+ghost use Rattle.field_groups.specs.Tables.{has_tag, first_of};
+ghost use Rattle.field_groups.specs.FirstFault.{group_tags_of, group_tags_in, placed_from, in_groups, misplaced, misplaced_member, place_in, lines_begun, line_before, is_opened, is_count};
+ghost use Rattle.field_groups.specs.HeadValues.{number_in};
+ghost use Rattle.field_groups.specs.CodeTables.{seen, seen_at, own_tags, item_of, table_of};
 
 use crate::fields::Field;
 use crate::head_values::number_in;
 use crate::lookup::{field_at, front, is_among, rest};
+use crate::stages::fault_if;
 use crate::table::{Item, RepeatingGroup, Table};
 use crate::table_fault::TableFault;
 
@@ -24,16 +26,34 @@ const ORDER: u8 = 15;
 const RANGE: u8 = 5;
 
 /// How many fields have this tag.
+#[tactic(auto, using(crate::proofs::Seen::count_seen))]
 fn count_of(fields: &[Field<'_>], tag: u32) -> usize
+    ensures { result ≡ count_by (λ field. field.0 == tag) (seen fields.now) }
+{
+    count_in(fields, tag)
+}
+
+/// How many fields have this tag.
+fn count_in(fields: &[Field<'_>], tag: u32) -> usize
     ensures { result ≡ count_by (λ field. field.0 == tag) fields.now }
 {
     fields.iter().filter(|field| field.0 == tag).count()
 }
 
+/// Whether a value says so many lines.
+fn is_count(value: &[u8], lines: usize) -> bool
+    ensures { result ≡ is_count (number_in value.now) lines }
+{
+    match number_in(value) {
+        Some(said) => said as usize == lines,
+        None => false,
+    }
+}
+
 impl<K> RepeatingGroup<K> {
     /// Whether the last of these fields are of the group after its count, or the count.
     fn is_opened(&self, before: &[Field<'_>]) -> bool
-        ensures { result ≡ is_opened (group_of (λ k. k) self.now) (reverse (seen before.now)) }
+        ensures { result ≡ is_opened (own_tags self.now) (reverse (seen before.now)) }
     {
         let mut place = before.len();
         while place > 0 {
@@ -51,7 +71,7 @@ impl<K> RepeatingGroup<K> {
 
     /// How many of the last of these fields, as far as they are inside the group, begin a line.
     fn lines_before(&self, before: &[Field<'_>]) -> usize
-        ensures { result ≡ lines_begun (group_of (λ k. k) self.now) (reverse (seen before.now)) }
+        ensures { result ≡ lines_begun (own_tags self.now) (reverse (seen before.now)) }
     {
         let mut lines = 0;
         let mut place = before.len();
@@ -70,7 +90,7 @@ impl<K> RepeatingGroup<K> {
 
     /// Whether a tag stands in the last line of these fields, past the field that begins it.
     fn is_again(&self, before: &[Field<'_>], tag: u32) -> bool
-        ensures { result ≡ has_tag tag (line_before (group_of (λ k. k) self.now) (reverse (seen before.now))) }
+        ensures { result ≡ has_tag tag (line_before (own_tags self.now) (reverse (seen before.now))) }
     {
         let mut place = before.len();
         while place > 0 {
@@ -88,7 +108,7 @@ impl<K> RepeatingGroup<K> {
 
     /// The fault of a member, with the fields before it.
     fn misplaced_member(&self, before: &[Field<'_>], tag: u32) -> Option<TableFault>
-        ensures { result ≡ misplaced_member (group_of (λ k. k) self.now) (reverse (seen before.now)) tag }
+        ensures { result ≡ misplaced_member (own_tags self.now) (reverse (seen before.now)) tag }
     {
         if !self.is_opened(before) {
             return Some(TableFault::Reason { tag, reason: ORDER });
@@ -115,16 +135,12 @@ impl<K> RepeatingGroup<K> {
     /// The fault that the group has at a place.
     fn misplaced(&self, fields: &[Field<'_>], place: usize) -> Option<TableFault>
         requires { place < length fields.now }
-        ensures { result ≡ misplaced (place_in (seen fields.now) place (seen_at fields.now place)) (group_of (λ k. k) self.now) }
+        ensures { result ≡ misplaced (place_in (seen fields.now) place (seen_at fields.now place)) (own_tags self.now) }
     {
         let (tag, value) = field_at(fields, place);
         if tag == self.count {
             let lines = count_of(self.run(rest(fields, place + 1)), self.first());
-            if number_in(value) == Some(lines as u32) {
-                None
-            } else {
-                Some(TableFault::Reason { tag, reason: COUNT })
-            }
+            fault_if(!is_count(value, lines), TableFault::Reason { tag, reason: COUNT })
         } else if self.has(tag) {
             self.misplaced_member(front(fields, place), tag)
         } else {
@@ -137,11 +153,12 @@ impl<K> Item<K> {
     /// The fault that the item's group, if it has one, has at a place.
     fn misplaced(&self, fields: &[Field<'_>], place: usize) -> Option<TableFault>
         requires { place < length fields.now }
-        ensures { result ≡ in_groups (groups_of (item_of (λ k. k) self.now)) (place_in (seen fields.now) place (seen_at fields.now place)) }
+        ensures { result ≡ in_groups (group_tags_of (item_of (λ k. k) self.now)) (place_in (seen fields.now) place (seen_at fields.now place)) }
     {
         match self {
+            Item::One(_) => None,
+            Item::Party(_) => None,
             Item::Lines(group) => group.misplaced(fields, place),
-            _ => None,
         }
     }
 }
@@ -149,7 +166,7 @@ impl<K> Item<K> {
 /// The fault of a group of the table at a place.
 fn misplaced_at<K>(table: &Table<K>, fields: &[Field<'_>], place: usize) -> Option<TableFault>
     requires { place < length fields.now }
-    ensures { result ≡ in_groups (groups_in (table_of (λ k. k) table.now)) (place_in (seen fields.now) place (seen_at fields.now place)) }
+    ensures { result ≡ in_groups (group_tags_in (table_of (λ k. k) table.now)) (place_in (seen fields.now) place (seen_at fields.now place)) }
 {
     for item in table.items {
         if let Some(fault) = item.misplaced(fields, place) {
@@ -161,7 +178,7 @@ fn misplaced_at<K>(table: &Table<K>, fields: &[Field<'_>], place: usize) -> Opti
 
 /// The first fault of a group of the table.
 pub(crate) fn first_misplaced<K>(table: &Table<K>, fields: &[Field<'_>]) -> Option<TableFault>
-    ensures { result ≡ first_of (in_groups (groups_in (table_of (λ k. k) table.now))) (placed_from [] (seen fields.now)) }
+    ensures { result ≡ first_of (in_groups (group_tags_in (table_of (λ k. k) table.now))) (placed_from [] (seen fields.now)) }
 {
     for place in 0..fields.len() {
         if let Some(fault) = misplaced_at(table, fields, place) {

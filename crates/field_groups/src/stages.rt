@@ -3,11 +3,11 @@
 ghost use Rattle.std.specs.Prelude.{◌≡◌, ◌-◌, ◌<◌, ◌≤◌, ◌++◌, ◌∷◌, [], List, length, map, take, drop};
 ghost use Rattle.field_groups.specs.Field.{Field};
 ghost use Rattle.field_groups.specs.Tables.{is_one_of, has_tag, first_of, or_else};
-ghost use Rattle.field_groups.specs.FirstFault.{once_in, twice, placed_from, fault_if, missing, missing_of, in_groups, misplaced, wrong_version, wrong, beyond};
-ghost use Rattle.field_groups.specs.Tables.{groups_in, lines_in};
-ghost use Rattle.field_groups.specs.FirstFault.{Marked, place_in};
+ghost use Rattle.field_groups.specs.FirstFault.{once_in, twice, placed_from, fault_if, missing, missing_of, in_groups, wrong_version, wrong, beyond};
+ghost use Rattle.field_groups.specs.Tables.{lines_in};
+ghost use Rattle.field_groups.specs.FirstFault.{Marked, group_tags_in, place_in};
 ghost use Rattle.field_groups.specs.Stages.{IsFound};
-ghost use Rattle.field_groups.specs.CodeTables.{seen, seen_at, row_of, group_of, item_of, table_of};
+ghost use Rattle.field_groups.specs.CodeTables.{seen, seen_at, row_of, group_of, own_tags, item_of, table_of};
 
 use crate::fields::Field;
 use crate::group_stage::first_misplaced;
@@ -25,17 +25,23 @@ const MISSING: u8 = 1;
 /// SessionRejectReason(373): the application version is not supported.
 const VERSION: u8 = 18;
 
+/// The fault, where there is one.
+pub(crate) fn fault_if(is_there: bool, fault: TableFault) -> Option<TableFault>
+    ensures { result ≡ fault_if is_there fault }
+{
+    if is_there { Some(fault) } else { None }
+}
+
 /// The fault of a tag of the profile that stands again at a place.
 fn twice_at<K>(table: &Table<K>, fields: &[Field<'_>], place: usize) -> Option<TableFault>
     requires { place < length fields.now }
     ensures { result ≡ twice (once_in (table_of (λ k. k) table.now)) (place_in (seen fields.now) place (seen_at fields.now place)) }
 {
     let (tag, _) = field_at(fields, place);
-    if stands(front(fields, place), tag) && table.is_once(tag) {
-        Some(TableFault::Reason { tag, reason: TWICE })
-    } else {
-        None
+    if !stands(front(fields, place), tag) {
+        return None;
     }
+    fault_if(table.is_once(tag), TableFault::Reason { tag, reason: TWICE })
 }
 
 /// The first tag of the profile that stands again.
@@ -87,7 +93,7 @@ fn line<'f, 'a>(fields: &'f [Field<'a>], from: usize, end: usize) -> &'f [Field<
 
 /// The first line of a group that does not say what it has to.
 fn missing_line<K>(group: &RepeatingGroup<K>, fields: &[Field<'_>]) -> Option<TableFault>
-    ensures { result ≡ first_of (λ line. first_of (missing line) (group_of (λ k. k) group.now).rows) (lines_in (group_of (λ k. k) group.now) (seen fields.now)) }
+    ensures { result ≡ first_of (λ line. first_of (missing line) (group_of (λ k. k) group.now).rows) (lines_in (own_tags group.now) (seen fields.now)) }
 {
     let fields = group.lines(fields);
     let mut from = 0;
@@ -204,7 +210,7 @@ impl<K> Table<K> {
     pub fn first_fault(&self, fields: &[Field<'_>], found: &Found) -> Option<TableFault>
         ensures { result ≡ or_else (first_of (twice (once_in (table_of (λ k. k) self.now))) (placed_from [] (seen fields.now)))
             (or_else found.now.version
-            (or_else (first_of (in_groups (groups_in (table_of (λ k. k) self.now))) (placed_from [] (seen fields.now)))
+            (or_else (first_of (in_groups (group_tags_in (table_of (λ k. k) self.now))) (placed_from [] (seen fields.now)))
             (or_else found.now.wrong
             (or_else (first_of (missing_of (seen fields.now)) (table_of (λ k. k) self.now).items) found.now.outside)))) }
     {

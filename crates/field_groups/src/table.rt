@@ -3,9 +3,9 @@
 ghost use Rattle.std.specs.Prelude.{◌≡◌, ◌==◌, map};
 ghost use Rattle.std.specs.Option.{option_map};
 ghost use Rattle.std.specs.List.{find, list_all, list_any};
-ghost use Rattle.field_groups.specs.Tables.{passes, is_one_of, is_needed, is_inside, first_tag, row_at, rows_of, all_rows, groups_of};
-ghost use Rattle.field_groups.specs.FirstFault.{allowed, once_of, once_in, is_of_group, is_passed, without_row};
-ghost use Rattle.field_groups.specs.CodeTables.{seen, test_of, need_of, row_of, group_of, item_of, table_of};
+ghost use Rattle.field_groups.specs.Tables.{passes, is_one_of, is_needed, is_inside, row_at, rows_of, all_rows};
+ghost use Rattle.field_groups.specs.FirstFault.{allowed, group_tags_of, once_of, once_in, is_of_group, is_passed, without_row};
+ghost use Rattle.field_groups.specs.CodeTables.{seen, test_of, need_of, row_of, own_tags, item_of, table_of};
 
 use crate::fields::Field;
 use crate::lookup::{is_among, stands, value};
@@ -156,7 +156,7 @@ impl Need {
 impl<K> RepeatingGroup<K> {
     /// The tag that begins a line.
     pub(crate) fn first(&self) -> u32
-        ensures { result ≡ first_tag (group_of (λ k. k) self.now).rows }
+        ensures { result ≡ (own_tags self.now).first }
     {
         match self.rows {
             [] => 0,
@@ -167,7 +167,7 @@ impl<K> RepeatingGroup<K> {
     /// Whether a tag is inside the group, as a member or as one that says nothing.
     #[tactic(auto, using(crate::proofs::Seen::tags_seen))]
     pub(crate) fn has(&self, tag: u32) -> bool
-        ensures { result ≡ is_inside (group_of (λ k. k) self.now) tag }
+        ensures { result ≡ is_inside (own_tags self.now) tag }
     {
         has_row(self.rows, tag) || is_among(self.skipped, tag)
     }
@@ -187,7 +187,7 @@ impl<K> Item<K> {
 
     /// Whether a tag is that of a group's count, or inside the group.
     fn is_in_group(&self, tag: u32) -> bool
-        ensures { result ≡ list_any (is_of_group tag) (groups_of (item_of (λ k. k) self.now)) }
+        ensures { result ≡ list_any (is_of_group tag) (group_tags_of (item_of (λ k. k) self.now)) }
     {
         match self {
             Item::Lines(group) => group.count == tag || group.has(tag),

@@ -1,6 +1,6 @@
 -- Own: the kinds of values of which the tables of messages speak, by the data types of FIX 4.2 and
 -- FIX 5.0 SP2, and what bytes are as a value of a kind.
-use Rattle.std.specs.Prelude.{ℕ, ℤ, Bool, true, false, List, [], ◌∷◌, length, nat_le, not, ◌==◌, ◌&&◌, if◌then◌else◌, Some, None, Result, Ok, Err}
+use Rattle.std.specs.Prelude.{ℕ, ℤ, ◌+◌, ◌-◌, ◌*◌, Bool, true, false, List, [], ◌∷◌, length, nat_le, not, ◌==◌, ◌&&◌, if◌then◌else◌, Some, None, Result, Ok, Err}
 use Rattle.std.specs.declared.option.Option.{Option}
 use Rattle.std.specs.Int.{is_negative}
 use Rattle.std.specs.Option.{option_map}
@@ -112,6 +112,11 @@ abbrev pub two_digits : List ℕ → Spelling
 two_digits (one ∷ []) = if is_ascii_digit one then Ok (Some (48 ∷ one ∷ [])) else Err Form
 two_digits (ten ∷ one ∷ []) = formed (is_ascii_digit ten && is_ascii_digit one) (ten ∷ one ∷ [])
 two_digits bytes = Err Form
+
+-- the number that two digits write
+abbrev pub number_of_two : List ℕ → ℕ
+number_of_two (ten ∷ one ∷ []) = 10 * (ten - 48) + (one - 48)
+number_of_two bytes = 0
 
 -- What bytes are as a value of a kind. Days, months and moments have one spelling each.
 unfoldable pub spelling : ValueKind → List ℕ → Spelling

@@ -1,22 +1,24 @@
 //! The kinds of values of which the tables of messages speak.
 
-ghost use Rattle.std.specs.Prelude.{◌≡◌, ◌==◌, ◌&&◌, ℕ, List, [], ◌∷◌, not, nat_le, IsTrue, Ok, Err, Some, None, true, false, if◌then◌else◌};
+ghost use Rattle.std.specs.Prelude.{◌≡◌, ◌==◌, ◌&&◌, ◌≤◌, ℕ, List, [], ◌∷◌, not, nat_le, IsTrue, Ok, Err, Some, None, IfSome, true, false, if◌then◌else◌};
 ghost use Rattle.std.specs.Int.{is_negative};
 ghost use Rattle.std.specs.Option.{option_map};
+ghost use Rattle.std.specs.Result.{result_ok};
 ghost use Rattle.std.specs.List.{list_any, list_all};
 ghost use Rattle.std.specs.Str.{bytes_eq};
 ghost use Rattle.std.specs.Char.{is_ascii_digit, is_ascii_uppercase};
 ghost use Rattle.typed_fields.specs.Number.{read_number, number_text};
 ghost use Rattle.typed_fields.specs.Dec.{read_dec, dec_text};
 ghost use Rattle.typed_fields.specs.Stamp.{stamp_text};
-ghost use Rattle.typed_fields.specs.Day.{day_text};
-ghost use Rattle.typed_fields.specs.MonthYear.{month_year_text};
+ghost use Rattle.typed_fields.specs.Day.{day_text, is_date};
+ghost use Rattle.typed_fields.specs.MonthYear.{read_month_year, month_year_text, IsMonthYear};
 ghost use Rattle.typed_fields.specs.Flag.{flag_text};
 ghost use Rattle.typed_fields.specs.ValueKind as kinds;
 ghost use Rattle.typed_fields.specs.ValueKind.{Qty, Price, Reason, DayOfMonth, spelling, spelled, spelt, if_in_range, is_code, are_parted, are_codes, codes_among, two_digits};
 ghost use Rattle.typed_fields.specs.CodeKinds.{kind_of, judged, is_good, is_verbatim, is_byte_kind, code_text, two_digit_text};
 
 use crate::laws::spellings_are_plain;
+use jiff::civil::Date;
 use crate::{Day, Dec, FieldFault, Flag, MonthYear, Number, Stamp};
 
 /// The most bytes of an id.
@@ -298,7 +300,9 @@ pub fn day(value: &[u8]) -> Option<Day>
 
 /// A month of a year.
 pub fn month_year(value: &[u8]) -> Option<MonthYear>
-    ensures { option_map month_year_text result ≡ spelled kinds.MonthYear value.now }
+    ensures value { result ≡ result_ok (read_month_year value.now) }
+    ensures text { option_map month_year_text result ≡ spelled kinds.MonthYear value.now }
+    ensures bound { IfSome result IsMonthYear }
 {
     spellings_are_plain();
     MonthYear::read(value).ok()
@@ -333,7 +337,8 @@ pub fn reason(value: &[u8]) -> Option<Number>
 
 /// A day of a month, of one or two digits.
 pub fn day_of_month(value: &[u8]) -> Option<u8>
-    ensures { option_map two_digit_text result ≡ spelled DayOfMonth value.now }
+    ensures text { option_map two_digit_text result ≡ spelled DayOfMonth value.now }
+    ensures bound { IfSome result (λ day. day ≤ 99) }
 {
     if value.len() == 1 {
         two_digits(b'0', value[0])
@@ -346,11 +351,21 @@ pub fn day_of_month(value: &[u8]) -> Option<u8>
 
 /// The number that two digits write.
 fn two_digits(ten: u8, one: u8) -> Option<u8>
-    ensures { option_map two_digit_text result ≡ (if is_ascii_digit ten && is_ascii_digit one then Some (ten ∷ one ∷ []) else None) }
+    ensures text { option_map two_digit_text result ≡ (if is_ascii_digit ten && is_ascii_digit one then Some (ten ∷ one ∷ []) else None) }
+    ensures bound { IfSome result (λ day. day ≤ 99) }
 {
     if ten.is_ascii_digit() && one.is_ascii_digit() {
         Some(10 * (ten - b'0') + (one - b'0'))
     } else {
         None
     }
+}
+
+/// Whether a month has a day.
+pub fn has_day(month: &MonthYear, day: u8) -> bool
+    requires month { IsMonthYear month.now }
+    requires day { day ≤ 99 }
+    ensures { result ≡ is_date month.now.year month.now.month day }
+{
+    Date::new(month.year as i16, month.month as i8, day as i8).is_ok()
 }

@@ -1,7 +1,7 @@
 use Rattle.std.proofs.Common.{◌≡◌, ◌-◌, ◌≤◌, length, drop}
-use Rattle.field_groups.specs.Tables.{first_of, first_tag, in_lines}
+use Rattle.field_groups.specs.Tables.{first_of, in_lines}
 use Rattle.field_groups.specs.FirstFault.{missing}
-use Rattle.field_groups.specs.CodeTables.{seen, group_of}
+use Rattle.field_groups.specs.CodeTables.{seen, group_of, own_tags}
 use Rattle.field_groups.proofs.stages.missing_line.Given as goal
 
 abbrev pub decreases-loop-from : goal.decreases-loop-from
@@ -10,6 +10,6 @@ decreases-loop-from g l = length l.fields - l.from
 abbrev pub invariant-loop-from : goal.invariant-loop-from
 invariant-loop-from g l = record {
   within : l.from ≤ length l.fields;
-  same : first_of (λ line. first_of (missing line) (group_of (λ k. k) l.group).rows) (in_lines (first_tag (group_of (λ k. k) l.group).rows) (drop l.from (seen l.fields)))
-       ≡ first_of (λ line. first_of (missing line) (group_of (λ k. k) l.group).rows) (in_lines (first_tag (group_of (λ k. k) l.group).rows) (seen l.fields));
+  same : first_of (λ line. first_of (missing line) (group_of (λ k. k) l.group).rows) (in_lines (own_tags l.group).first (drop l.from (seen l.fields)))
+       ≡ first_of (λ line. first_of (missing line) (group_of (λ k. k) l.group).rows) (in_lines (own_tags l.group).first (seen l.fields));
 }

@@ -1,10 +1,10 @@
 use Rattle.std.proofs.Common.{◌≡◌, ◌+◌, drop}
 use Rattle.std.specs.List.{prefix_len}
 use Rattle.field_groups.specs.Tables.{is_inside}
-use Rattle.field_groups.specs.CodeTables.{seen, group_of}
+use Rattle.field_groups.specs.CodeTables.{seen, own_tags}
 use Rattle.field_groups.proofs.table.RepeatingGroup.run_len.Given as goal
 
 abbrev pub invariant-loop-place : goal.invariant-loop-place
 invariant-loop-place g l =
-    l.place + prefix_len (λ field. is_inside (group_of (λ k. k) l.self) field.0) (drop l.place (seen l.fields))
-    ≡ prefix_len (λ field. is_inside (group_of (λ k. k) l.self) field.0) (seen l.fields)
+    l.place + prefix_len (λ field. is_inside (own_tags l.self) field.0) (drop l.place (seen l.fields))
+    ≡ prefix_len (λ field. is_inside (own_tags l.self) field.0) (seen l.fields)

@@ -1,8 +1,7 @@
 use Rattle.std.proofs.Common.{◌≡◌, sym, ap, ◌∙◌, true, false, Bool, refl}
 use Rattle.std.specs.Prelude.{◌||◌, not}
 use Rattle.std.specs.List.{list_any}
-use Rattle.field_groups.specs.Tables.{groups_in}
-use Rattle.field_groups.specs.FirstFault.{is_of_group}
+use Rattle.field_groups.specs.FirstFault.{is_of_group, group_tags_in}
 use Rattle.field_groups.proofs.Seen.{own, item_group, groups-table}
 use Rattle.field_groups.proofs.Loops.{any_passed, any_found, any_ended}
 use Rattle.field_groups.proofs.table.Table.is_passed.Goals as goal
@@ -12,7 +11,7 @@ loop-item-init g c = refl
 
 pub returns-then-is_in_group : goal.returns-then-is_in_group
 returns-then-is_in_group g c =
-    sym (ap (λ (b : Bool). not b || list_any (is_of_group c.args.tag) (groups_in (own c.args.self.now))) c.if-not-self.false
+    sym (ap (λ (b : Bool). not b || list_any (is_of_group c.args.tag) (group_tags_in (own c.args.self.now))) c.if-not-self.false
       ∙ groups-table c.args.tag c.args.self.now
       ∙ any_found (item_group c.args.tag) c.args.self.now.items.now c.loop-item.item-index c.item-item.result c.item-item.is c.loop-item-test.true c.loop-item.invariant (sym c.if-is_in_group.ensures))
 
@@ -21,6 +20,6 @@ loop-item-preserved g c = any_passed (item_group c.args.tag) c.args.self.now.ite
 
 pub returns : goal.returns
 returns g c =
-    sym (ap (λ (b : Bool). not b || list_any (is_of_group c.args.tag) (groups_in (own c.args.self.now))) c.if-not-self.false
+    sym (ap (λ (b : Bool). not b || list_any (is_of_group c.args.tag) (group_tags_in (own c.args.self.now))) c.if-not-self.false
       ∙ groups-table c.args.tag c.args.self.now
       ∙ any_ended (item_group c.args.tag) c.args.self.now.items.now c.loop-item.item-index c.loop-item-test.false c.loop-item.invariant)
