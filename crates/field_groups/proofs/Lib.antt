@@ -6,3 +6,5 @@ pub mod Front
 pub mod Determined
 pub mod Whole
 pub mod Lines
+pub mod Plain
+mod Worked

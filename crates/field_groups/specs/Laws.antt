@@ -1,7 +1,7 @@
 -- Inside: what `src/laws.rt` says of the definitions.
-use Rattle.std.specs.Prelude.{◌≡◌, ℕ, ◌≤◌, ◌↔◌, List, Option, None, length}
+use Rattle.std.specs.Prelude.{◌≡◌, ℕ, ◌≤◌, ◌↔◌, List, Option, None, length, All}
 use Rattle.field_groups.specs.declared.fault.SplitFault.{SplitFault}
-use Rattle.field_groups.specs.Field.{Field, AreFields, body_of}
+use Rattle.field_groups.specs.Field.{Field, AreFields, IsPlainField, body_of}
 use Rattle.field_groups.specs.Fields.{SplitsInto, max_fields}
 
 -- each body has a list of fields, and a fault or none
@@ -19,3 +19,7 @@ abbrev pub FieldsReadAgain : Type 0
 FieldsReadAgain =
     (body : List ℕ) (fields : List Field) →
     (SplitsInto body fields None) ↔ ((body ≡ body_of fields) × AreFields None fields × (length fields ≤ max_fields))
+
+-- fields of no raw bytes are read again in any order
+abbrev pub PlainFieldsReadAgain : Type 0
+PlainFieldsReadAgain = (fields : List Field) → All IsPlainField fields → length fields ≤ max_fields → SplitsInto (body_of fields) fields None
