@@ -15,8 +15,7 @@ use Rattle.field_groups.proofs.Determined.{determined}
 use Rattle.field_groups.proofs.Plain.{is_plain, plain_again}
 use Rattle.order_meaning.specs.Request.{Request}
 use Rattle.typed_fields.specs.Stamp.{read_stamp, second_in}
-use Rattle.typed_fields.specs.Day.{day_in}
-use Rattle.request_translate.specs.Forms.{is_id, is_price, is_moment}
+use Rattle.request_translate.specs.Forms.{day_of_month, is_id, is_price, is_moment}
 use Rattle.request_translate.specs.Sense42.{sense42}
 use Rattle.request_translate.specs.Sense50.{sense50}
 use Rattle.request_translate.specs.Plain.{PlainOrder, HasPlainValues, ArePlain, IsShort, plain_fields, field_if, terms}
@@ -127,8 +126,8 @@ small tag value t v = record { tag = t; value = v }
 
 moment_length : (value : List ℕ) → is_moment value ≡ true → length value ≤ 128
 moment_length value h =
-    let a = both (is_ok (read_stamp value)) ((length value == 17) && (nat_le (day_in value) 28 && nat_le (second_in value) 59)) h in
-    let b = both (length value == 17) (nat_le (day_in value) 28 && nat_le (second_in value) 59) a.1 in
+    let a = both (is_ok (read_stamp value)) ((length value == 17) && (nat_le (day_of_month value) 28 && nat_le (second_in value) 59)) h in
+    let b = both (length value == 17) (nat_le (day_of_month value) 28 && nat_le (second_in value) 59) a.1 in
     omega (arith, eqb-true (length value) 17 b.0)
 
 terms_small : (limit : Option (List ℕ)) → IfSome limit (λ price. is_price price ≡ true) → Each IsSmall (terms limit)
