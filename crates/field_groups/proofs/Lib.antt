@@ -7,4 +7,5 @@ pub mod Determined
 pub mod Whole
 pub mod Lines
 pub mod Plain
+pub mod Grouped
 mod Worked

@@ -1,6 +1,6 @@
-//! Laws of the fields of a body. Each stands as the contract of a function that does nothing.
+//! Laws of the fields of a body and of its groups. Each stands as the contract of a function that does nothing.
 
-ghost use Rattle.field_groups.specs.Laws.{EveryBodySplits, FieldsAreDetermined, FieldsReadAgain, PlainFieldsReadAgain};
+ghost use Rattle.field_groups.specs.Laws.{EveryBodySplits, FieldsAreDetermined, FieldsReadAgain, GroupsAreLines, PlainFieldsReadAgain};
 
 /// Each body has a list of fields, with a fault or none.
 pub fn every_body_splits()
@@ -23,4 +23,10 @@ pub fn fields_read_again()
 /// are read again as they were written, in whatever order they stand.
 pub fn plain_fields_read_again()
     ensures { PlainFieldsReadAgain }
+{}
+
+/// The lines of a group with no fault have its members in their order. Each begins with the first tag,
+/// and no tag stands twice in it. There are at most 32, as many as first tags, and the count says so.
+pub fn groups_are_lines()
+    ensures { GroupsAreLines }
 {}

@@ -2,7 +2,8 @@
 //! them. `|` stands for SOH.
 
 use crate::laws::{
-    every_body_splits, fields_are_determined, fields_read_again, plain_fields_read_again,
+    every_body_splits, fields_are_determined, fields_read_again, groups_are_lines,
+    plain_fields_read_again,
 };
 use crate::{GroupFault, Shape, SplitFault, read_group, split};
 use std::alloc::{AllocError, Global};
@@ -130,6 +131,7 @@ fn reads_an_order(rt: HostRuntime) -> Result<(), Fail> {
     fields_read_again();
     fields_are_determined();
     plain_fields_read_again();
+    groups_are_lines();
     Ok(())
 }
 
@@ -192,6 +194,7 @@ fn reads_groups(rt: HostRuntime) -> Result<(), Fail> {
     for (name, text, expected) in GROUPS {
         let bytes = body(rt.alloc(), text)?;
         let split = split(rt.alloc(), &bytes)?;
+        assert!(rt; !split.fields.is_empty(), "at {name}");
         match (read_group(rt.alloc(), &split.fields, 0, &PARTIES), expected) {
             (Ok(group), Ok((lines, end))) => {
                 assert_eq!(rt; group.len(), lines.len(), "at {name}");
@@ -234,6 +237,7 @@ fn takes_32_lines(rt: HostRuntime) -> Result<(), Fail> {
         text.push_str(more)?;
         let bytes = body(rt.alloc(), &text)?;
         let split = split(rt.alloc(), &bytes)?;
+        assert!(rt; !split.fields.is_empty());
         match read_group(rt.alloc(), &split.fields, 0, &PARTIES) {
             Ok(group) => {
                 assert_eq!(rt; fault, None);

@@ -1,5 +1,5 @@
 -- The forms of the values of a plain order.
-use Rattle.std.specs.Prelude.{ℕ, ◌+◌, ◌-◌, Bool, not, nat_le, ◌==◌, ◌&&◌, List, length, take, drop, position, slice_index, codes, Option, Some, None, is_ok}
+use Rattle.std.specs.Prelude.{ℕ, ◌+◌, ◌-◌, ◌*◌, Bool, not, nat_le, ◌==◌, ◌&&◌, List, length, take, drop, position, slice_index, codes, Option, Some, None, is_ok}
 use Rattle.std.specs.Int.{is_in_range}
 use Rattle.std.specs.Str.{bytes_eq}
 use Rattle.typed_fields.specs.Digits.{are_digits}

@@ -305,25 +305,21 @@ fn written<T: FieldValue + Drop>(alloc: Global, value: &[u8]) -> Result<Vec<u8>,
 
 #[test]
 fn all_types_read_and_write(rt: HostRuntime) -> Result<(), Fail> {
-    assert_eq!(rt; written::<Dec>(rt.alloc(), b"010.500")?.as_slice(), b"10.5");
-    assert_eq!(rt; written::<Number>(rt.alloc(), b"007")?.as_slice(), b"7");
-    assert_eq!(rt; written::<Flag>(rt.alloc(), b"N")?.as_slice(), b"N");
-    assert_eq!(rt;
-        written::<Day>(rt.alloc(), b"20240229")?.as_slice(),
-        b"20240229"
-    );
-    assert_eq!(rt;
-        written::<MonthYear>(rt.alloc(), b"202402")?.as_slice(),
-        b"202402"
-    );
-    assert_eq!(rt;
-        written::<Stamp>(rt.alloc(), b"20240102-23:59:60.5")?.as_slice(),
-        b""
-    );
-    assert_eq!(rt;
-        written::<Stamp>(rt.alloc(), b"20240102-23:59:60")?.as_slice(),
-        b"20240102-23:59:60"
-    );
+    let rows: [(Vec<u8>, &[u8]); 7] = [
+        (written::<Dec>(rt.alloc(), b"010.500")?, b"10.5"),
+        (written::<Number>(rt.alloc(), b"007")?, b"7"),
+        (written::<Flag>(rt.alloc(), b"N")?, b"N"),
+        (written::<Day>(rt.alloc(), b"20240229")?, b"20240229"),
+        (written::<MonthYear>(rt.alloc(), b"202402")?, b"202402"),
+        (written::<Stamp>(rt.alloc(), b"20240102-23:59:60.5")?, b""),
+        (
+            written::<Stamp>(rt.alloc(), b"20240102-23:59:60")?,
+            b"20240102-23:59:60",
+        ),
+    ];
+    for (written, expected) in &rows {
+        assert_eq!(rt; written.as_slice(), *expected);
+    }
     Ok(())
 }
 
