@@ -13,3 +13,6 @@ pub mod Loops
 pub mod Cuts
 pub mod Placed
 pub mod Mapped
+pub mod Plain
+pub mod Grouped
+mod Worked

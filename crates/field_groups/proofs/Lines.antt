@@ -14,7 +14,7 @@ use Rattle.field_groups.specs.Group.{Tags, Member, placed, run, members_of, is_i
 -- ---- one more member
 
 -- a member behind lines, in the last of them
-abbrev on_last : Member → List (List Member) → List (List Member)
+abbrev pub on_last : Member → List (List Member) → List (List Member)
 on_last m [] = []
 on_last m (line ∷ []) = (line ++ m ∷ []) ∷ []
 on_last m (line ∷ next ∷ lines) = line ∷ on_last m (next ∷ lines)
@@ -67,7 +67,7 @@ before_last first a m ((b ∷ line) ∷ next ∷ lines) some = by_test (eqb b.0 
     by_test true = refl
     by_test false = refl
 
-same_line : (first : ℕ) (a : Member) (before : List Member) (m : Member) → eqb m.0 first ≡ false → lines_of first ((a ∷ before) ++ m ∷ []) ≡ on_last m (lines_of first (a ∷ before))
+pub same_line : (first : ℕ) (a : Member) (before : List Member) (m : Member) → eqb m.0 first ≡ false → lines_of first ((a ∷ before) ++ m ∷ []) ≡ on_last m (lines_of first (a ∷ before))
 unfolding lines_of
 same_line first a [] m is = rw is refl
 same_line first a (b ∷ before) m is =

@@ -26,3 +26,7 @@ data_fields =
 -- the first tag is that of the length field of the second
 unfoldable pub is_data_pair : ℕ → ℕ → Bool
 is_data_pair len tag = list_any (λ pair. pair.0 == len && pair.1 == tag) data_fields
+
+-- the tag is that of a field of raw bytes
+unfoldable pub is_data_tag : ℕ → Bool
+is_data_tag tag = list_any (λ pair. pair.1 == tag) data_fields

@@ -4,7 +4,7 @@ use Rattle.std.specs.Prelude.{◌≡◌, ℕ, ◌≤◌, ◌==◌, Bool, true, f
 use Rattle.std.specs.Fmt.{decimal}
 use Rattle.std.specs.List.{flat_map, list_any}
 use Rattle.field_groups.specs.HeadValues.{number_in}
-use Rattle.field_groups.specs.Data.{is_data_pair}
+use Rattle.field_groups.specs.Data.{is_data_pair, is_data_tag}
 
 -- a tag and a value
 abbrev pub Field : Type 0
@@ -52,3 +52,10 @@ pub record IsField (before : Option Field) (f : Field) : Type 0 where
 abbrev pub AreFields : Option Field → List Field → Type 0
 AreFields before [] = Unit {0}
 AreFields before (f ∷ fs) = IsField before f × AreFields (Some f) fs
+
+-- a field of no raw bytes: it is a field wherever it stands
+pub record IsPlainField (f : Field) : Type 0 where
+  pub positive : 1 ≤ f.0
+  pub nine_digits : f.0 ≤ 999_999_999
+  pub no_data : is_data_tag f.0 ≡ false
+  pub no_soh : list_any is_soh f.1 ≡ false

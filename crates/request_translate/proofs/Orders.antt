@@ -8,13 +8,14 @@ use Rattle.std.proofs.lemmas.Grind.{flat_map-append}
 use Rattle.std.specs.List.{list_any}
 use Rattle.std.proofs.lemmas.List.Elements.{All-head, All-tail, All-cons}
 use Rattle.typed_fields.specs.Dec.{dec_text}
-use Rattle.field_groups.specs.Field.{Field, IsField, body_of, field_bytes, is_soh}
+use Rattle.field_groups.specs.Data.{is_data_tag}
+use Rattle.field_groups.specs.Field.{Field, AreFields, IsPlainField, body_of, field_bytes, is_soh}
 use Rattle.field_groups.specs.Fields.{SplitsInto}
 use Rattle.field_groups.proofs.Determined.{determined}
 use Rattle.order_meaning.specs.PlainRequest.{Request}
+use Rattle.field_groups.proofs.Plain.{is_plain, plain_again}
 use Rattle.typed_fields.specs.Stamp.{read_stamp, second_in}
-use Rattle.typed_fields.specs.Day.{day_in}
-use Rattle.request_translate.specs.Forms.{is_id, is_price, is_moment}
+use Rattle.request_translate.specs.Forms.{day_of_month, is_id, is_price, is_moment}
 use Rattle.request_translate.specs.Sense42.{sense42}
 use Rattle.request_translate.specs.Sense50.{sense50}
 use Rattle.request_translate.specs.Plain.{PlainOrder, HasPlainValues, ArePlain, IsShort, plain_fields, field_if, terms}
@@ -125,8 +126,8 @@ small tag value t v = record { tag = t; value = v }
 
 moment_length : (value : List ℕ) → is_moment value ≡ true → length value ≤ 128
 moment_length value h =
-    let a = both (is_ok (read_stamp value)) ((length value == 17) && (nat_le (day_in value) 28 && nat_le (second_in value) 59)) h in
-    let b = both (length value == 17) (nat_le (day_in value) 28 && nat_le (second_in value) 59) a.1 in
+    let a = both (is_ok (read_stamp value)) ((length value == 17) && (nat_le (day_of_month value) 28 && nat_le (second_in value) 59)) h in
+    let b = both (length value == 17) (nat_le (day_of_month value) 28 && nat_le (second_in value) 59) a.1 in
     omega (arith, eqb-true (length value) 17 b.0)
 
 terms_small : (limit : Option (List ℕ)) → IfSome limit (λ price. is_price price ≡ true) → Each IsSmall (terms limit)
@@ -206,28 +207,38 @@ first_short fields plain =
     subst (λ (fs : List Field). All IsShort (take 6 fs)) (sym plain.2) (each IsShort (first_fields o)
     (record { two_digits = refl; short = omega arith }, (short 49 o.sender_comp_id refl h.sender_comp_id, (short 56 o.target_comp_id refl h.target_comp_id, (short 34 o.msg_seq_num refl h.msg_seq_num, (short 52 o.sending_time refl h.sending_time, (short 11 o.cl_ord_id refl h.cl_ord_id, tt)))))))
 
-fresh : (tag : ℕ) (value : List ℕ) → 1 ≤ tag → tag ≤ 999999999 → list_any is_soh value ≡ false → IsField (tag, value)
-fresh tag value one most no_soh = record { positive = one; nine_digits = most; no_soh = no_soh }
+fresh : (tag : ℕ) (value : List ℕ) → 1 ≤ tag → tag ≤ 999999999 → is_data_tag tag ≡ false → list_any is_soh value ≡ false → IsPlainField (tag, value)
+fresh tag value one most no_data no_soh = record { positive = one; nine_digits = most; no_data = no_data; no_soh = no_soh }
 
-party_good : (client : Option (List ℕ)) (rest : List Field) → Each IsField (field_if 109 client ++ rest) → Each IsField (party_lines client ++ rest)
+party_good : (client : Option (List ℕ)) (rest : List Field) → Each IsPlainField (field_if 109 client ++ rest) → Each IsPlainField (party_lines client ++ rest)
+unfolding is_data_tag
 party_good None rest h = h
 party_good (Some id) rest h =
-    (fresh 453 (codes "1") (omega arith) (omega arith) refl, (fresh 448 id (omega arith) (omega arith) (h.0).no_soh, (fresh 447 (codes "D") (omega arith) (omega arith) refl, (fresh 452 (codes "3") (omega arith) (omega arith) refl, h.1))))
+    (fresh 453 (codes "1") (omega arith) (omega arith) refl refl, (fresh 448 id (omega arith) (omega arith) refl (h.0).no_soh, (fresh 447 (codes "D") (omega arith) (omega arith) refl refl, (fresh 452 (codes "3") (omega arith) (omega arith) refl refl, h.1))))
 
-up_good : (o : PlainOrder) → Each IsField (plain_fields o) → Each IsField (up_list o)
+up_good : (o : PlainOrder) → Each IsPlainField (plain_fields o) → Each IsPlainField (up_list o)
 up_good o h =
     let a = h.1 in let b = a.1 in let c = b.1 in let d = c.1 in let e = d.1 in
     (h.0, (a.0, (b.0, (c.0, (d.0, (e.0, party_good o.client_id (last_fields o) e.1))))))
 
+-- a plain order has no field of raw bytes
+no_data : (client limit : Option (List ℕ)) (o : PlainOrder) → Each (λ f. is_data_tag f.0 ≡ false) (plain_fields (record o { client_id = client; limit = limit }))
+unfolding is_data_tag
+no_data None None o = (refl, (refl, (refl, (refl, (refl, (refl, (refl, (refl, (refl, (refl, (refl, (refl, tt))))))))))))
+no_data None (Some limit) o = (refl, (refl, (refl, (refl, (refl, (refl, (refl, (refl, (refl, (refl, (refl, (refl, (refl, tt)))))))))))))
+no_data (Some client) None o = (refl, (refl, (refl, (refl, (refl, (refl, (refl, (refl, (refl, (refl, (refl, (refl, (refl, tt)))))))))))))
+no_data (Some client) (Some limit) o = (refl, (refl, (refl, (refl, (refl, (refl, (refl, (refl, (refl, (refl, (refl, (refl, (refl, (refl, tt))))))))))))))
+
+each_plain : (before : Option Field) (fs : List Field) → AreFields before fs → Each (λ f. is_data_tag f.0 ≡ false) fs → Each IsPlainField fs
+each_plain before [] are none = tt
+each_plain before (f ∷ fs) are none = (is_plain before f are.0 none.0, each_plain (Some f) fs are.1 none.1)
+
 -- what is written is read again as its fields
 up_again : (body : List ℕ) (o : PlainOrder) → SplitsInto body (plain_fields o) None → SplitsInto (body_of (up_list o)) (up_list o) None
-up_again body o split = record {
-  left = [];
-  good = each IsField (up_list o) (up_good o (of_all IsField (plain_fields o) split.good));
-  at_most = let few : length (up_list o) ≤ 18 = up_length o.client_id o.limit o in omega arith;
-  written = sym (append-nil (body_of (up_list o)));
-  stopped = refl;
-}
+up_again body o split =
+    plain_again (up_list o)
+    (each IsPlainField (up_list o) (up_good o (each_plain None (plain_fields o) split.good (no_data o.client_id o.limit o))))
+    (let few : length (up_list o) ≤ 18 = up_length o.client_id o.limit o in omega arith)
 
 pub is_up : (body up : List ℕ) (fields : List Field) (plain : ArePlain fields) → SplitsInto body fields None → up ≡ body_of (up_list plain.0) → IsUp body up
 is_up body up fields plain split written =

@@ -1,9 +1,8 @@
 -- The forms of the values of a plain order.
-use Rattle.std.specs.Prelude.{ℕ, ◌+◌, ◌-◌, Bool, not, nat_le, ◌==◌, ◌&&◌, List, length, take, drop, position, slice_index, codes, Option, Some, None, is_ok}
+use Rattle.std.specs.Prelude.{ℕ, ◌+◌, ◌-◌, ◌*◌, Bool, not, nat_le, ◌==◌, ◌&&◌, List, length, take, drop, position, slice_index, codes, Option, Some, None, is_ok}
 use Rattle.std.specs.Int.{is_in_range}
 use Rattle.std.specs.Str.{bytes_eq}
 use Rattle.typed_fields.specs.Digits.{are_digits}
-use Rattle.typed_fields.specs.Day.{day_in}
 use Rattle.typed_fields.specs.Stamp.{read_stamp, second_in}
 use Rattle.typed_fields.specs.Dec.{is_point}
 use Rattle.request_translate.specs.declared.form.Form.{Form}
@@ -17,10 +16,14 @@ is_id value = is_in_range 1 128 (length value)
 abbrev pub is_code : ℕ → ℕ → List ℕ → Bool
 is_code first last value = (length value == 1) && is_in_range first last (slice_index value 0)
 
+-- the day of the month that YYYYMMDD.. spells
+abbrev pub day_of_month : List ℕ → ℕ
+day_of_month value = 10 * (slice_index value 6 - 48) + (slice_index value 7 - 48)
+
 -- a UTCTimestamp YYYYMMDD-HH:MM:SS of a day that each month has, and no leap second
 abbrev pub is_moment : List ℕ → Bool
 is_moment value =
-    is_ok (read_stamp value) && ((length value == 17) && (nat_le (day_in value) 28 && nat_le (second_in value) 59))
+    is_ok (read_stamp value) && ((length value == 17) && (nat_le (day_of_month value) 28 && nat_le (second_in value) 59))
 
 -- 1 to 7 digits, the first not 0
 abbrev pub is_quantity : List ℕ → Bool

@@ -1,12 +1,9 @@
 //! The forms of the values of a plain order.
 
-ghost use Rattle.std.specs.Prelude.{◌≡◌, ◌≤◌, position, length};
-ghost use Rattle.typed_fields.specs.Digits.{are_digits};
-ghost use Rattle.typed_fields.specs.Day.{day_in};
-ghost use Rattle.typed_fields.specs.Dec.{is_point};
-ghost use Rattle.request_translate.specs.Forms.{is_id, is_code, is_moment, is_quantity, is_fraction, is_price, has_form};
+ghost use Rattle.std.specs.Prelude.{◌≡◌, ◌≤◌, length};
+ghost use Rattle.request_translate.specs.Forms.{day_of_month, is_id, is_code, is_moment, is_quantity, is_fraction, is_price, has_form};
 
-use typed_fields::Stamp;
+use typed_fields::{Stamp, are_digits, point_in};
 
 /// The form of a value.
 #[derive(Clone, Copy, Debug, PartialEq, Eq)]
@@ -67,7 +64,7 @@ fn is_code(first: u8, last: u8, value: &[u8]) -> bool
 /// The day of the month that `YYYYMMDD..` spells.
 fn day_of_month(value: &[u8]) -> u32
     requires { 8 ≤ length value.now }
-    ensures { result ≡ day_in value.now }
+    ensures { result ≡ day_of_month value.now }
 {
     10 * u32::from(value[6].saturating_sub(b'0')) + u32::from(value[7].saturating_sub(b'0'))
 }
@@ -82,14 +79,6 @@ fn is_moment(value: &[u8]) -> bool
     }
 }
 
-/// Whether all bytes are digits.
-#[tactic(auto, unfolding(typed_fields::specs::Digits::are_digits))]
-fn are_digits(value: &[u8]) -> bool
-    ensures { result ≡ are_digits value.now }
-{
-    value.iter().all(|byte| byte.is_ascii_digit())
-}
-
 /// 1 to 7 digits, the first not 0.
 fn is_quantity(value: &[u8]) -> bool
     ensures { result ≡ is_quantity value.now }
@@ -102,13 +91,6 @@ fn is_fraction(value: &[u8]) -> bool
     ensures { result ≡ is_fraction value.now }
 {
     1 <= value.len() && value.len() <= 4 && value[value.len() - 1] != b'0' && are_digits(value)
-}
-
-/// The place of the first point.
-fn point_in(value: &[u8]) -> Option<usize>
-    ensures { result ≡ position is_point value.now }
-{
-    value.iter().position(|byte| *byte == b'.')
 }
 
 /// A quantity, then nothing, or a point and a fraction.

@@ -131,7 +131,7 @@ trailing-zeros ds (suc k) =
 number_of-zeros : (k : ℕ) → number_of (replicate k 48) ≡ 0
 unfolding number_of
 number_of-zeros zero = refl
-number_of-zeros (suc k) = number_of_first 48 (replicate k 48) ∙ omega (arith, number_of-zeros k)
+number_of-zeros (suc k) = number_of_first 48 (replicate k 48) (omega arith) (omega arith) ∙ omega (arith, number_of-zeros k)
 
 are_digits-zeros : (k : ℕ) → are_digits (replicate k 48) ≡ true
 unfolding are_digits
@@ -150,7 +150,7 @@ no_leading_digit (d ∷ ds) h e =
     go true t rest bounds e = rest e
     go false t rest bounds e =
         let some : 1 ≤ d - 48 = grind (arith, nat_tests) in
-        absurd (omega (arith, e, number_of_first d ds, mul-le 1 1 (d - 48) (10 ^ length ds) some (power_some (length ds))))
+        absurd (omega (arith, e, number_of_first d ds bounds.0 bounds.1, mul-le 1 1 (d - 48) (10 ^ length ds) some (power_some (length ds))))
 
 no_trailing_digit : (ds : List ℕ) → are_digits ds ≡ true → number_of (without_trailing_zeros ds) ≡ 0 → without_trailing_zeros ds ≡ []
 unfolding without_trailing_zeros are_digits
@@ -159,13 +159,13 @@ no_trailing_digit (d ∷ ds) h e =
     let parts = both_true (is_ascii_digit d) (list_all is_ascii_digit ds) h in
     go (without_trailing_zeros ds) (no_trailing_digit ds parts.1) (digit_bounds d parts.0) e
   where
-    last : (b : Bool) → (d == 48) ≡ b → 48 ≤ d → number_of (if b then [] else (d ∷ [])) ≡ 0 → (if b then [] else (d ∷ [])) ≡ []
-    last true t low e = refl
-    last false t low e = absurd (let some : 1 ≤ d - 48 = grind (arith, nat_tests) in omega (arith, e, number_of_first d []))
+    last : (b : Bool) → (d == 48) ≡ b → (48 ≤ d) × (d ≤ 57) → number_of (if b then [] else (d ∷ [])) ≡ 0 → (if b then [] else (d ∷ [])) ≡ []
+    last true t bounds e = refl
+    last false t bounds e = absurd (let low = bounds.0 in let some : 1 ≤ d - 48 = grind (arith, nat_tests) in omega (arith, e, number_of_first d [] bounds.0 bounds.1))
 
     go : (ys : List ℕ) → (number_of ys ≡ 0 → ys ≡ []) → (48 ≤ d) × (d ≤ 57) → number_of (before_others d ys) ≡ 0 → before_others d ys ≡ []
-    go [] rest bounds e = last (d == 48) refl bounds.0 e
-    go (y ∷ ys) rest bounds e = absurd (let gone : y ∷ ys ≡ [] = rest (omega (arith, e, number_of_first d (y ∷ ys))) in cc)
+    go [] rest bounds e = last (d == 48) refl bounds e
+    go (y ∷ ys) rest bounds e = absurd (let gone : y ∷ ys ≡ [] = rest (omega (arith, e, number_of_first d (y ∷ ys) bounds.0 bounds.1)) in cc)
 
 -- the parts of the units
 units-parts : (w f : List ℕ) → are_digits f ≡ true → length f ≤ 8 → (units_of w f / 10 ^ 8 ≡ number_of w) × (units_of w f % 10 ^ 8 ≡ number_of f * 10 ^ (8 - length f))

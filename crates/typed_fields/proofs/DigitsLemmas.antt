@@ -5,26 +5,26 @@ use Rattle.std.specs.List.{list_all}
 use Rattle.std.proofs.lemmas.List.{take-take, drop-take, take_more, drop_more, at_drop_more, drop_all, length-take, length-drop}
 use Rattle.std.proofs.lemmas.List.Elements.{All-take, All-drop}
 use Rattle.std.proofs.lemmas.List.Sums.{AllPass-from_list_all, list_all-from_AllPass}
-use Rattle.std.proofs.lemmas.Str.Parse.{IsNumeralModel, numerals_by_fold, digit_at, digits_value_short}
+use Rattle.std.specs.Str.Parse.{digits_value_after}
+use Rattle.std.specs.Char.{digit_value}
+use Rattle.std.proofs.lemmas.Int.Digits.{digits_value_more}
+use Rattle.std.proofs.lemmas.Str.{digit_value_digit}
+use Rattle.std.proofs.lemmas.Str.Parse.{IsNumeralModel, numerals_by_value, digit_at, digits_value_short}
 use Rattle.std.proofs.lemmas.Bool.{cases_lt}
 use Rattle.std.proofs.lemmas.Bool.Decides.{nat_tests}
 use Rattle.std.proofs.Math.Nat.{div-one, pow-suc}
 use Rattle.std.proofs.lemmas.List.Folds.{list_all-append}
-use Rattle.typed_fields.specs.Digits.{has_mark, have_marks, has_pattern, are_digits, number_after, number_of, zero_padded, without_leading_zeros, before_others, without_trailing_zeros}
+use Rattle.typed_fields.specs.Digits.{has_mark, have_marks, has_pattern, are_digits, number_of, zero_padded, without_leading_zeros, before_others, without_trailing_zeros}
 
 -- our words for texts of digits and their numbers are those of std's lemmas
 pub numerals : IsNumeralModel (λ ds. are_digits ds ≡ true) number_of
 unfolding are_digits number_of
-numerals = numerals_by_fold _ (search rules) number_after (search rules)
-
-number_after-push : (n : ℕ) (ds : List ℕ) (c : ℕ) → number_after n (ds ++ (c ∷ [])) ≡ 10 * number_after n ds + (c - 48)
-number_after-push n [] c = refl
-number_after-push n (d ∷ ds) c = number_after-push (10 * n + (d - 48)) ds c
+numerals = numerals_by_value _ (search rules)
 
 -- one more digit
-pub number_of_more : (ds : List ℕ) (i : ℕ) → i < length ds → number_of (take (i + 1) ds) ≡ 10 * number_of (take i ds) + (get_or ds i 0 - 48)
+pub number_of_more : (ds : List ℕ) (i : ℕ) → i < length ds → 48 ≤ get_or ds i 0 → get_or ds i 0 ≤ 57 → number_of (take (i + 1) ds) ≡ 10 * number_of (take i ds) + (get_or ds i 0 - 48)
 unfolding number_of
-number_of_more ds i h = rw (take_more ds i 0 h) (number_after-push 0 (take i ds) (get_or ds i 0))
+number_of_more ds i h low high = omega (arith, digits_value_more 10 ds i h, digit_value_digit (get_or ds i 0) (low, high))
 
 pub are_digits-take : (i : ℕ) (ds : List ℕ) → are_digits ds ≡ true → are_digits (take i ds) ≡ true
 unfolding are_digits
@@ -200,22 +200,22 @@ has_pattern-take i ms bs h =
     rw (test, have_marks-take i ms bs parts.1)
 
 -- digits joined
-shifted : (n c p q r x y : ℕ) → x ≡ (10 * n + c) * p + r → y ≡ (10 * 0 + c) * p + r → q ≡ p * 10 → x ≡ n * q + y
+shifted : (n c p q r x y : ℕ) → x ≡ (n * 10 + c) * p + r → y ≡ (0 * 10 + c) * p + r → q ≡ p * 10 → x ≡ n * q + y
 shifted n c p q r x y e f g = rw g (omega arith)
 
-number_after-is : (n : ℕ) (ds : List ℕ) → number_after n ds ≡ n * 10 ^ length ds + number_after 0 ds
-number_after-is n [] = omega arith
-number_after-is n (d ∷ ds) =
-    shifted n (d - 48) (10 ^ length ds) (10 ^ length (d ∷ ds)) (number_after 0 ds) (number_after n (d ∷ ds)) (number_after 0 (d ∷ ds))
-    (number_after-is (10 * n + (d - 48)) ds) (number_after-is (10 * 0 + (d - 48)) ds) (pow-suc 10 (length ds))
+value_after-is : (n : ℕ) (ds : List ℕ) → digits_value_after 10 n ds ≡ n * 10 ^ length ds + digits_value_after 10 0 ds
+value_after-is n [] = omega arith
+value_after-is n (d ∷ ds) =
+    shifted n (digit_value d) (10 ^ length ds) (10 ^ length (d ∷ ds)) (digits_value_after 10 0 ds) (digits_value_after 10 n (d ∷ ds)) (digits_value_after 10 0 (d ∷ ds))
+    (value_after-is (n * 10 + digit_value d) ds) (value_after-is (0 * 10 + digit_value d) ds) (pow-suc 10 (length ds))
 
 pub number_of-append : (xs ys : List ℕ) → number_of (xs ++ ys) ≡ number_of xs * 10 ^ length ys + number_of ys
 unfolding number_of
-number_of-append xs ys = number_after-append 0 xs ys ∙ number_after-is (number_after 0 xs) ys
+number_of-append xs ys = value_after-append 0 xs ys ∙ value_after-is (digits_value_after 10 0 xs) ys
   where
-    number_after-append : (n : ℕ) (xs ys : List ℕ) → number_after n (xs ++ ys) ≡ number_after (number_after n xs) ys
-    number_after-append n [] ys = refl
-    number_after-append n (x ∷ xs) ys = number_after-append (10 * n + (x - 48)) xs ys
+    value_after-append : (n : ℕ) (xs ys : List ℕ) → digits_value_after 10 n (xs ++ ys) ≡ digits_value_after 10 (digits_value_after 10 n xs) ys
+    value_after-append n [] ys = refl
+    value_after-append n (x ∷ xs) ys = value_after-append (n * 10 + digit_value x) xs ys
 
 pub are_digits-append : (xs ys : List ℕ) → are_digits xs ≡ true → are_digits ys ≡ true → are_digits (xs ++ ys) ≡ true
 unfolding are_digits

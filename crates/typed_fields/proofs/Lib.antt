@@ -6,7 +6,7 @@ pub mod DayLaws
 pub mod StampLaws
 pub mod DecLaws
 pub mod LawLemmas
-pub mod Rows
+mod Worked
 pub mod StampLemmas
 pub mod DecLemmas
 pub mod Spelled

@@ -27,7 +27,7 @@ number_of-leading (d ∷ ds) = go (d == 48) refl (number_of-leading ds)
     go : (b : Bool) → (d == 48) ≡ b → number_of (without_leading_zeros ds) ≡ number_of ds → number_of (if b then without_leading_zeros ds else (d ∷ ds)) ≡ number_of (d ∷ ds)
     go true e rest =
         let is_zero : d ≡ 48 = grind (arith, nat_tests) in
-        rest ∙ sym (number_of_first d ds ∙ rw is_zero (omega arith))
+        rest ∙ sym (number_of_first d ds (omega arith) (omega arith) ∙ rw is_zero (omega arith))
     go false e rest = refl
 
 number_of-or_zero : (ds : List ℕ) → number_of (or_zero ds) ≡ number_of ds

@@ -4,6 +4,7 @@ use Rattle.std.specs.Char.{is_ascii_digit, is_ascii_alphabetic}
 use Rattle.std.specs.List.{list_all}
 use Rattle.std.proofs.lemmas.Bool.Decides.{nat_tests}
 use Rattle.std.proofs.lemmas.List.{take-append-drop, drop-drop, length-take, length-drop}
+use Rattle.std.proofs.lemmas.Str.{digit_value_digit}
 use Rattle.std.proofs.lemmas.Nat.{div-mul-add, div-add-mod', div_below, mod_below}
 use Rattle.std.proofs.Math.Nat.{pow-suc, add-mul-div_right}
 use Rattle.typed_fields.specs.Digits.{has_mark, have_marks, has_pattern, are_digits, number_of, zero_padded}
@@ -30,17 +31,21 @@ judged_ok bytes form bound value x e = go (length bytes == 0) form bound refl re
 pub judged_good : {A : Type 0} (bytes : List ℕ) (form bound : Bool) (value : A) → (length bytes == 0) ≡ false → form ≡ true → bound ≡ true → judged bytes form bound value ≡ Ok value
 judged_good bytes form bound value some good within = rw (some, good, within)
 
--- the number of a digit before others
-number_of_one : (d : ℕ) → number_of (d ∷ []) ≡ d - 48
-unfolding number_of
-number_of_one d = omega arith
-
-pub number_of_first : (d : ℕ) (ds : List ℕ) → number_of (d ∷ ds) ≡ (d - 48) * 10 ^ length ds + number_of ds
-number_of_first d ds = number_of-append (d ∷ []) ds ∙ ap (λ n. n * 10 ^ length ds + number_of ds) (number_of_one d)
-
 pub digit_bounds : (d : ℕ) → is_ascii_digit d ≡ true → (48 ≤ d) × (d ≤ 57)
 digit_bounds d h =
     let parts = both_true (nat_le 48 d) (nat_le d 57) h in (grind (arith, nat_tests), grind (arith, nat_tests))
+
+-- the number of a digit before others
+number_of_none : number_of [] ≡ 0
+unfolding number_of
+number_of_none = refl
+
+pub number_of_one : (d : ℕ) → 48 ≤ d → d ≤ 57 → number_of (d ∷ []) ≡ d - 48
+unfolding number_of
+number_of_one d low high = omega (arith, digit_value_digit d (low, high))
+
+pub number_of_first : (d : ℕ) (ds : List ℕ) → 48 ≤ d → d ≤ 57 → number_of (d ∷ ds) ≡ (d - 48) * 10 ^ length ds + number_of ds
+number_of_first d ds low high = number_of-append (d ∷ []) ds ∙ ap (λ n. n * 10 ^ length ds + number_of ds) (number_of_one d low high)
 
 pub power_some : (w : ℕ) → 0 < 10 ^ w
 power_some zero = omega arith
@@ -78,20 +83,28 @@ zero_padded-number_of (d ∷ ds) h =
     let below = number_of-lt ds (length ds) parts.1 (omega arith) in
     let rest = zero_padded-more (length ds) (d - 48) (number_of ds) ∙ zero_padded-number_of ds parts.1 in
     let first = digit_back d (10 ^ length ds) (number_of ds) bounds.0 bounds.1 below in
-    rw (number_of_first d ds, rest, first)
+    rw (number_of_first d ds bounds.0 bounds.1, rest, first)
 
 -- the numbers of the last two, three and four digits
+last_one : (n : ℕ) → number_of ((48 + n % 10) ∷ []) ≡ n % 10
+last_one n = number_of_one (48 + n % 10) (omega arith) (omega arith) ∙ omega arith
+
+last_more : (n : ℕ) (ds : List ℕ) → number_of ((48 + n % 10) ∷ ds) ≡ n % 10 * 10 ^ length ds + number_of ds
+last_more n ds =
+    let digit : 48 + n % 10 - 48 ≡ n % 10 = omega arith in
+    number_of_first (48 + n % 10) ds (omega arith) (omega arith) ∙ ap (λ k. k * 10 ^ length ds + number_of ds) digit
+
 pub two_back : (n : ℕ) → n < 100 → number_of ((48 + n / 10 % 10) ∷ (48 + n % 10) ∷ []) ≡ n
-unfolding number_of
-two_back n h = omega arith
+two_back n h = last_more (n / 10) ((48 + n % 10) ∷ []) ∙ (rw (last_one n) (omega arith))
 
 pub three_back : (n : ℕ) → n < 1000 → number_of ((48 + n / 100 % 10) ∷ (48 + n / 10 % 10) ∷ (48 + n % 10) ∷ []) ≡ n
-unfolding number_of
-three_back n h = omega arith
+three_back n h =
+    last_more (n / 100) ((48 + n / 10 % 10) ∷ (48 + n % 10) ∷ []) ∙ (rw (last_more (n / 10) ((48 + n % 10) ∷ []), last_one n) (omega arith))
 
 pub four_back : (n : ℕ) → n < 10000 → number_of ((48 + n / 1000 % 10) ∷ (48 + n / 100 % 10) ∷ (48 + n / 10 % 10) ∷ (48 + n % 10) ∷ []) ≡ n
-unfolding number_of
-four_back n h = omega arith
+four_back n h =
+    last_more (n / 1000) ((48 + n / 100 % 10) ∷ (48 + n / 10 % 10) ∷ (48 + n % 10) ∷ [])
+    ∙ (rw (last_more (n / 100) ((48 + n / 10 % 10) ∷ (48 + n % 10) ∷ []), last_more (n / 10) ((48 + n % 10) ∷ []), last_one n) (omega arith))
 
 -- a last digit is a digit
 pub is_digit-last : (n : ℕ) → is_ascii_digit (48 + n % 10) ≡ true
@@ -112,9 +125,6 @@ are_digits-zero_padded (suc w) n = let first = is_digit-last (n / 10 ^ w) in let
 pub number_of-zero_padded : (w n : ℕ) → n < 10 ^ w → number_of (zero_padded w n) ≡ n
 unfolding zero_padded
 number_of-zero_padded zero n h = number_of_none ∙ omega arith
-  where
-    number_of_none : number_of [] ≡ 0
-    number_of_none = omega (arith, number_of_first 48 [], number_of_one 48)
 number_of-zero_padded (suc w) n h =
     let p = 10 ^ w in
     let whole : n / p * p + n % p ≡ n = div-add-mod' n p in
@@ -123,7 +133,7 @@ number_of-zero_padded (suc w) n h =
     let rest : number_of (zero_padded w n) ≡ n % p =
     ap (λ k. number_of (zero_padded w k)) (sym whole) ∙ (ap number_of (zero_padded-more w (n / p) (n % p)) ∙ number_of-zero_padded w (n % p) low) in
     let long = length-zero_padded w n in
-    number_of_first (48 + n / p % 10) (zero_padded w n) ∙ (rw (long, rest) (added (n / p) p (n % p) high ∙ whole))
+    number_of_first (48 + n / p % 10) (zero_padded w n) (omega arith) (omega arith) ∙ (rw (long, rest) (added (n / p) p (n % p) high ∙ whole))
   where
     added : (q p r : ℕ) → q < 10 → (48 + q % 10 - 48) * p + r ≡ q * p + r
     added q p r h = let e : 48 + q % 10 - 48 ≡ q = omega arith in rw e

@@ -1,4 +1,4 @@
--- LocalMktDate and UTCDate (FIX 4.2, Data Types), in FIX 5.0 SP2 UTCDateOnly: YYYYMMDD, on the calendar of jiff, which is
+-- Standard: LocalMktDate and UTCDate (FIX 4.2, Data Types), in FIX 5.0 SP2 UTCDateOnly: YYYYMMDD, on the calendar of jiff, which is
 -- the proleptic Gregorian one. A day is known by its number: 0 is 1 January 1970.
 use Rattle.std.specs.Prelude.{ℕ, zero, suc, ◌+◌, ◌-◌, Bool, true, false, ◌&&◌, List, ◌++◌, Result, slice_range, codes, nat_lt, ℤ, pos, negsuc, ◌+ℤ◌, unsigned_abs}
 use Rattle.std.specs.Int.{is_in_range}

@@ -1,4 +1,4 @@
--- float (FIX 4.2, Data Types), and with it Price and Qty: digits with an optional point and an optional minus sign. Zeros may
+-- Standard: float (FIX 4.2, Data Types), and with it Price and Qty: digits with an optional point and an optional minus sign. Zeros may
 -- lead (00023.23 is 23.23), and zeros behind the point may stand or be left out (23.0 is 23.0000 is 23 is 23.). Up to fifteen
 -- significant digits are held. A value is exact: a whole number of units of 10^-8.
 use Rattle.std.specs.Prelude.{◌≡◌, ℕ, ◌+◌, ◌-◌, ◌*◌, ◌/◌, ◌%◌, ◌^◌, ◌<◌, ◌≤◌, Bool, not, ◌&&◌, List, [], ◌∷◌, ◌++◌, length, drop, slice_index, Result, nat_le, ◌==◌, ℤ, pos, neg_ℤ, unsigned_abs, if◌then◌else◌}

@@ -1,20 +1,17 @@
--- Digits: the texts of them, the numbers that they spell, and the patterns of dates and times.
-use Rattle.std.specs.Prelude.{ℕ, zero, suc, ◌+◌, ◌-◌, ◌*◌, ◌/◌, ◌%◌, ◌^◌, Bool, List, [], ◌∷◌, length, ◌==◌, ◌&&◌, if◌then◌else◌}
+-- Inside: words of std for texts of digits, which the definitions of the types share: the numbers that they spell, those
+-- that spell a number, and the patterns of dates and times.
+use Rattle.std.specs.Prelude.{ℕ, zero, suc, ◌+◌, ◌/◌, ◌%◌, ◌^◌, Bool, List, [], ◌∷◌, length, ◌==◌, ◌&&◌, if◌then◌else◌}
 use Rattle.std.specs.Char.{is_ascii_digit, is_ascii_alphabetic}
 use Rattle.std.specs.List.{list_all, zip}
+use Rattle.std.specs.Str.Parse.{digits_value}
 
 -- whether each byte is a digit
 unfoldable pub are_digits : List ℕ → Bool
 are_digits bytes = list_all is_ascii_digit bytes
 
--- the number that digits spell, from the first to the last, after the number before them
-abbrev pub number_after : ℕ → List ℕ → ℕ
-number_after n [] = n
-number_after n (c ∷ cs) = number_after (10 * n + (c - 48)) cs
-
--- the number that digits spell
+-- the number that decimal digits spell
 unfoldable pub number_of : List ℕ → ℕ
-number_of digits = number_after 0 digits
+number_of digits = digits_value 10 digits
 
 -- the last so many digits of a number, with zeros in front where it has fewer
 unfoldable pub zero_padded : ℕ → ℕ → List ℕ

@@ -1,4 +1,4 @@
--- Boolean (FIX 4.2, Data Types): Y for yes or true, N for no or false.
+-- Standard: Boolean (FIX 4.2, Data Types): Y for yes or true, N for no or false.
 use Rattle.std.specs.Prelude.{ℕ, Bool, true, List, [], ◌∷◌, Result, ◌==◌, ◌||◌, ◌&&◌, length, slice_index, if◌then◌else◌, ⊤}
 use Rattle.typed_fields.specs.declared.fault.FieldFault.{FieldFault}
 use Rattle.typed_fields.specs.declared.flag.Flag.{Flag}

@@ -1,4 +1,4 @@
--- The laws of readings and spellings, over any type of value.
+-- Inside: the laws of readings and spellings, over any type of value.
 use Rattle.std.specs.Prelude.{◌≡◌, ℕ, List, Result, Ok}
 use Rattle.typed_fields.specs.declared.fault.FieldFault.{FieldFault}
 

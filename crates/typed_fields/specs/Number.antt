@@ -1,4 +1,4 @@
--- int (FIX 4.2, Data Types) without a sign; in FIX 5.0 SP2 Length, NumInGroup and SeqNum. Zeros may lead: 00023 is 23.
+-- Standard: int (FIX 4.2, Data Types) without a sign; in FIX 5.0 SP2 Length, NumInGroup and SeqNum. Zeros may lead: 00023 is 23.
 use Rattle.std.specs.Prelude.{ℕ, ◌≤◌, ◌&&◌, Bool, List, length, Result, nat_le}
 use Rattle.std.specs.Fmt.{decimal}
 use Rattle.typed_fields.specs.declared.fault.FieldFault.{FieldFault}

@@ -1,4 +1,4 @@
--- How a field's value is read, whatever its type.
+-- Own: how a field's value is read, whatever its type.
 use Rattle.std.specs.Prelude.{ℕ, List, length, Bool, Result, Ok, Err, ◌==◌, if◌then◌else◌}
 use Rattle.typed_fields.specs.declared.fault.FieldFault.{FieldFault}
 use Rattle.typed_fields.specs.declared.fault.FieldFault.TheVariants.{Empty, Form, Range}

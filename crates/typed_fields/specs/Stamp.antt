@@ -1,4 +1,4 @@
--- UTCTimestamp (FIX 4.2, Data Types): YYYYMMDD-HH:MM:SS or YYYYMMDD-HH:MM:SS.sss, with hours 00 to 23, minutes 00 to 59
+-- Standard: UTCTimestamp (FIX 4.2, Data Types): YYYYMMDD-HH:MM:SS or YYYYMMDD-HH:MM:SS.sss, with hours 00 to 23, minutes 00 to 59
 -- and seconds 00 to 60, where 60 is a leap second.
 use Rattle.std.specs.Prelude.{ℕ, ◌+◌, ◌*◌, ◌/◌, ◌%◌, ◌≤◌, Bool, ◌&&◌, ◌||◌, List, [], ◌∷◌, ◌++◌, length, Option, Some, None, Result, slice_range, codes, nat_le, ◌==◌, ℤ, pos, ◌+ℤ◌, ◌*ℤ◌, if◌then◌else◌}
 use Rattle.std.specs.Option.{unwrap_or}

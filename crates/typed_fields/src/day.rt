@@ -9,8 +9,8 @@ use crate::fault::FieldFault;
 use jiff::civil::Date;
 use std::alloc::AllocError;
 
-/// A day from 1 January 0000 to 31 December 9999 of the Gregorian calendar, as the data types LocalMktDate and UTCDate of
-/// FIX 4.2.
+/// A day from 1 January 0000 to 31 December 9999 of the Gregorian calendar, as the data types
+/// LocalMktDate and UTCDate of FIX 4.2.
 ///
 /// Its form is `YYYYMMDD`, which is also its spelling.
 #[derive(Clone, Copy, Debug, PartialEq, Eq, PartialOrd, Ord, Hash)]
@@ -47,7 +47,12 @@ pub(crate) fn day_digits(day: i32) -> [u8; 8]
 }
 
 impl Day {
-    /// Reads a day. `Form` is anything but eight digits, and `Range` a date that the calendar lacks.
+    /// Reads a day.
+    ///
+    /// # Errors
+    ///
+    /// `Empty` for no bytes, `Form` for anything but eight digits, and `Range` for a date that the
+    /// calendar lacks.
     pub fn read(value: &[u8]) -> Result<Day, FieldFault>
         ensures value { result ≡ read_day value.now }
         ensures bound { IfOk result IsDay }
@@ -64,7 +69,11 @@ impl Day {
         }
     }
 
-    /// Appends the eight digits. Where memory is wanting `out` is unchanged.
+    /// Appends the eight digits.
+    ///
+    /// # Errors
+    ///
+    /// `AllocError` where memory is wanting; then `out` is unchanged.
     pub fn write(&self, out: &mut Vec<u8>) -> Result<(), AllocError>
         requires { IsDay self.now }
         ensures ok { OnOk result (out.new.items ≡ out.old.items ++ day_text self.now) }

@@ -19,10 +19,20 @@ use std::alloc::AllocError;
 /// The units of one.
 const ONE: u128 = 100_000_000;
 
+/// The most bytes of a spelling.
+const MAX_BYTES: usize = 32;
+
+/// The most digits that count.
+const MAX_DIGITS: usize = 15;
+
+/// The most of them behind the point.
+const MAX_PLACES: usize = 8;
+
 /// An exact decimal number, as the data types float, Price and Qty of FIX 4.2.
 ///
-/// Its form is an optional `-`, digits and an optional `.` with digits before or behind it, in at most 32 bytes. Without needless
-/// zeros it has at most 15 digits, of which at most 8 stand behind the point.
+/// Its form is an optional `-`, digits and an optional `.` with digits before or behind it, in at most
+/// 32 bytes. Without needless zeros it has at most 15 digits, of which at most 8 stand behind the
+/// point.
 #[derive(Clone, Copy, Debug, PartialEq, Eq, PartialOrd, Ord, Hash)]
 pub struct Dec {
     /// The units of 10^-8.
@@ -43,8 +53,8 @@ fn without_minus(bytes: &[u8]) -> &[u8]
     if has_minus(bytes) { &bytes[1..] } else { bytes }
 }
 
-/// The place of the first point.
-fn point_in(bytes: &[u8]) -> Option<usize>
+/// The place of the first point (`.`).
+pub fn point_in(bytes: &[u8]) -> Option<usize>
     ensures { result ≡ position is_point bytes.now }
 {
     bytes.iter().position(|byte| *byte == b'.')
@@ -74,8 +84,8 @@ fn behind_point(bytes: &[u8]) -> &[u8]
 fn units_of(whole: &[u8], fraction: &[u8]) -> u128
     requires whole { IsTrue (are_digits whole.now) }
     requires fraction { IsTrue (are_digits fraction.now) }
-    requires few { length whole.now + length fraction.now ≤ 15 }
-    requires places { length fraction.now ≤ 8 }
+    requires few { length whole.now + length fraction.now ≤ MAX_DIGITS }
+    requires places { length fraction.now ≤ MAX_PLACES }
     ensures value { result ≡ units_of whole.now fraction.now }
     ensures bound { result < 10 ^ 23 }
 {
@@ -93,7 +103,12 @@ fn signed(minus: bool, magnitude: u128) -> i128
 }
 
 impl Dec {
-    /// Reads a decimal number. `Form` is anything but the form, and `Range` a number with more digits than the bound has.
+    /// Reads a decimal number.
+    ///
+    /// # Errors
+    ///
+    /// `Empty` for no bytes, `Form` for anything but the form, and `Range` for a number with more
+    /// digits than the bound has.
     pub fn read(value: &[u8]) -> Result<Dec, FieldFault>
         ensures value { result ≡ read_dec value.now }
         ensures bound { IfOk result IsDec }
@@ -103,7 +118,7 @@ impl Dec {
         }
         let whole = before_point(without_minus(value));
         let fraction = behind_point(without_minus(value));
-        if value.len() > 32
+        if value.len() > MAX_BYTES
             || !are_digits(whole)
             || !are_digits(fraction)
             || whole.len() + fraction.len() == 0
@@ -112,7 +127,7 @@ impl Dec {
         }
         let whole = without_leading_zeros(whole);
         let fraction = without_trailing_zeros(fraction);
-        if whole.len() + fraction.len() > 15 || fraction.len() > 8 {
+        if whole.len() + fraction.len() > MAX_DIGITS || fraction.len() > MAX_PLACES {
             return Err(FieldFault::Range);
         }
         Ok(Dec {
@@ -120,8 +135,12 @@ impl Dec {
         })
     }
 
-    /// Appends the canonical spelling: no needless zeros, no minus sign of zero, a digit before the point, and no point
-    /// without a digit behind it. Where memory is wanting `out` is unchanged.
+    /// Appends the canonical spelling: no needless zeros, no minus sign of zero, a digit before the
+    /// point, and no point without a digit behind it.
+    ///
+    /// # Errors
+    ///
+    /// `AllocError` where memory is wanting; then `out` is unchanged.
     pub fn write(&self, out: &mut Vec<u8>) -> Result<(), AllocError>
         requires { IsDec self.now }
         ensures ok { OnOk result (out.new.items ≡ out.old.items ++ dec_text self.now) }

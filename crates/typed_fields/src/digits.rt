@@ -8,7 +8,7 @@ use arrayvec::ArrayVec;
 
 /// Whether each byte is a digit.
 #[tactic(auto, unfolding(crate::specs::Digits::are_digits))]
-pub(crate) fn are_digits(bytes: &[u8]) -> bool
+pub fn are_digits(bytes: &[u8]) -> bool
     ensures { result ≡ are_digits bytes.now }
 {
     bytes.iter().all(|byte| byte.is_ascii_digit())

@@ -16,7 +16,11 @@ pub struct Flag {
 }
 
 impl Flag {
-    /// Reads a flag. `Form` is anything but `Y` or `N`.
+    /// Reads a flag.
+    ///
+    /// # Errors
+    ///
+    /// `Empty` for no bytes, `Form` for anything but `Y` or `N`.
     pub fn read(value: &[u8]) -> Result<Flag, FieldFault>
         ensures { result ≡ read_flag value.now }
     {
@@ -28,7 +32,11 @@ impl Flag {
         }
     }
 
-    /// Appends `Y` or `N`. Where memory is wanting `out` is unchanged.
+    /// Appends `Y` or `N`.
+    ///
+    /// # Errors
+    ///
+    /// `AllocError` where memory is wanting; then `out` is unchanged.
     pub fn write(&self, out: &mut Vec<u8>) -> Result<(), AllocError>
         ensures ok { OnOk result (out.new.items ≡ out.old.items ++ flag_text self.now) }
         ensures err { OnErr result (out.new.items ≡ out.old.items) }

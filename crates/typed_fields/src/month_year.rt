@@ -19,7 +19,12 @@ pub struct MonthYear {
 }
 
 impl MonthYear {
-    /// Reads a month. `Form` is anything but six digits, and `Range` a month that is not 01 to 12.
+    /// Reads a month.
+    ///
+    /// # Errors
+    ///
+    /// `Empty` for no bytes, `Form` for anything but six digits, and `Range` for a month that is not
+    /// 01 to 12.
     pub fn read(value: &[u8]) -> Result<MonthYear, FieldFault>
         ensures value { result ≡ read_month_year value.now }
         ensures bound { IfOk result IsMonthYear }
@@ -38,7 +43,11 @@ impl MonthYear {
         Ok(MonthYear { year, month })
     }
 
-    /// Appends the six digits. Where memory is wanting `out` is unchanged.
+    /// Appends the six digits.
+    ///
+    /// # Errors
+    ///
+    /// `AllocError` where memory is wanting; then `out` is unchanged.
     pub fn write(&self, out: &mut Vec<u8>) -> Result<(), AllocError>
         requires { IsMonthYear self.now }
         ensures ok { OnOk result (out.new.items ≡ out.old.items ++ month_year_text self.now) }

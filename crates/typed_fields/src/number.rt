@@ -9,7 +9,10 @@ use itoa::Buffer;
 use std::alloc::AllocError;
 
 /// The greatest number that a field may have.
-const MAX: u64 = 1_000_000_000;
+const MAX_NUMBER: u64 = 1_000_000_000;
+
+/// The most digits of a number.
+const MAX_DIGITS: usize = 10;
 
 /// A whole number from 0 to 1,000,000,000, as the data type int of FIX 4.2 without a sign.
 ///
@@ -21,7 +24,12 @@ pub struct Number {
 }
 
 impl Number {
-    /// Reads a number. `Form` is anything but 1 to 10 digits, and `Range` a number above 1,000,000,000.
+    /// Reads a number.
+    ///
+    /// # Errors
+    ///
+    /// `Empty` for no bytes, `Form` for anything but 1 to 10 digits, and `Range` for a number above
+    /// 1,000,000,000.
     pub fn read(value: &[u8]) -> Result<Number, FieldFault>
         ensures value { result ≡ read_number value.now }
         ensures bound { IfOk result IsNumber }
@@ -29,11 +37,11 @@ impl Number {
         if value.is_empty() {
             return Err(FieldFault::Empty);
         }
-        if !are_digits(value) || value.len() > 10 {
+        if !are_digits(value) || value.len() > MAX_DIGITS {
             return Err(FieldFault::Form);
         }
         let value = number(value);
-        if value > MAX {
+        if value > MAX_NUMBER {
             return Err(FieldFault::Range);
         }
         Ok(Number {
@@ -41,7 +49,11 @@ impl Number {
         })
     }
 
-    /// Appends the canonical spelling. Where memory is wanting `out` is unchanged.
+    /// Appends the canonical spelling.
+    ///
+    /// # Errors
+    ///
+    /// `AllocError` where memory is wanting; then `out` is unchanged.
     pub fn write(&self, out: &mut Vec<u8>) -> Result<(), AllocError>
         requires { IsNumber self.now }
         ensures ok { OnOk result (out.new.items ≡ out.old.items ++ number_text self.now) }

@@ -11,9 +11,13 @@ use crate::fault::FieldFault;
 use arrayvec::ArrayVec;
 use std::alloc::AllocError;
 
+/// The last moment before the year 2100, in milliseconds since 1 January 1970, 00:00.
+pub const MAX_MILLIS: u64 = 4_102_444_799_999;
+
 /// A moment of universal time, as the data type UTCTimestamp of FIX 4.2.
 ///
-/// Its form is `YYYYMMDD-HH:MM:SS` or `YYYYMMDD-HH:MM:SS.sss`, which is also its spelling. A second of 60 is a leap second.
+/// Its form is `YYYYMMDD-HH:MM:SS` or `YYYYMMDD-HH:MM:SS.sss`, which is also its spelling. A second
+/// of 60 is a leap second.
 #[derive(Clone, Copy, Debug, PartialEq, Eq, Hash)]
 pub struct Stamp {
     /// The days since 1 January 1970.
@@ -52,8 +56,12 @@ fn read_moment(bytes: &[u8], milli: Option<u16>) -> Result<Stamp, FieldFault>
 }
 
 impl Stamp {
-    /// Reads a moment. `Form` is anything but the two forms, and `Range` a date that the calendar lacks or a time past
-    /// hour 23, minute 59 or second 60.
+    /// Reads a moment.
+    ///
+    /// # Errors
+    ///
+    /// `Empty` for no bytes, `Form` for anything but the two forms, and `Range` for a date that the
+    /// calendar lacks or a time past hour 23, minute 59 or second 60.
     pub fn read(value: &[u8]) -> Result<Stamp, FieldFault>
         ensures value { result ≡ read_stamp value.now }
         ensures bound { IfOk result IsStamp }
@@ -70,8 +78,11 @@ impl Stamp {
         Err(FieldFault::Form)
     }
 
-    /// Appends the spelling, with three digits of the second where the stamp has them. Where memory is wanting `out` is
-    /// unchanged.
+    /// Appends the spelling, with three digits of the second where the stamp has them.
+    ///
+    /// # Errors
+    ///
+    /// `AllocError` where memory is wanting; then `out` is unchanged.
     pub fn write(&self, out: &mut Vec<u8>) -> Result<(), AllocError>
         requires { IsStamp self.now }
         ensures ok { OnOk result (out.new.items ≡ out.old.items ++ stamp_text self.now) }
@@ -124,17 +135,18 @@ impl Stamp {
             + u32::from(self.milli.unwrap_or(0))
     }
 
-    /// The milliseconds from 1 January 1970, 00:00, to the moment: its day, hour, minute, second and milliseconds added up.
+    /// The milliseconds from 1 January 1970, 00:00, to the moment: its day, hour, minute, second and
+    /// milliseconds added up.
     pub fn millis(&self) -> i64
         ensures { result ≡ stamp_millis self.now }
     {
         i64::from(self.day) * 86_400_000 + i64::from(self.millis_of_day())
     }
 
-    /// The stamp of a moment, with three digits of the second. `millis` is the time since 1 January 1970, 00:00, in
-    /// milliseconds, before the year 2100.
+    /// The stamp of a moment, with three digits of the second. `millis` is the time since 1 January
+    /// 1970, 00:00, in milliseconds, before the year 2100.
     pub fn of_millis(millis: u64) -> Stamp
-        requires { millis ≤ 4_102_444_799_999 }
+        requires { millis ≤ MAX_MILLIS }
         ensures value { result ≡ stamp_at millis }
         ensures bound { IsStamp result }
     {

@@ -1,7 +1,11 @@
 //! Spellings of each type at and past its bounds. The expected values are those of the FIX data types, written by hand.
 
-use crate::{Day, Dec, FieldFault, Flag, MonthYear, Number, Stamp};
+use crate::{
+    Day, Dec, FieldFault, FieldValue, Flag, MAX_MILLIS, MonthYear, Number, Stamp, are_digits,
+    point_in,
+};
 use FieldFault::{Empty, Form, Range};
+use std::alloc::{AllocError, Global};
 use std::test::Fail;
 
 #[test]
@@ -271,13 +275,12 @@ fn moments(rt: HostRuntime) -> Result<(), Fail> {
         (2_771_212_709_977, b"20571025-05:18:29.977"),
     ];
     for (millis, text) in rows {
-        if millis <= 4_102_444_799_999 {
-            let stamp = Stamp::of_millis(millis);
-            let mut out = b"52=".to_vec(rt.alloc())?;
-            stamp.write(&mut out)?;
-            assert_eq!(rt; &out[3..], text);
-            assert_eq!(rt; stamp.millis(), millis as i64);
-        }
+        assert!(rt; millis <= MAX_MILLIS);
+        let stamp = Stamp::of_millis(millis);
+        let mut out = b"52=".to_vec(rt.alloc())?;
+        stamp.write(&mut out)?;
+        assert_eq!(rt; &out[3..], text);
+        assert_eq!(rt; stamp.millis(), millis as i64);
     }
     let before = Stamp {
         day: -1,
@@ -287,5 +290,45 @@ fn moments(rt: HostRuntime) -> Result<(), Fail> {
         milli: None,
     };
     assert_eq!(rt; before.millis(), 0);
+    Ok(())
+}
+
+/// What a value of a type is written as, after it was read through the trait of all types.
+fn written<T: FieldValue + Drop>(alloc: Global, value: &[u8]) -> Result<Vec<u8>, AllocError> {
+    T::laws();
+    let mut out = Vec::new(alloc);
+    if let Ok(read) = T::read(value) {
+        read.write(&mut out)?;
+    }
+    Ok(out)
+}
+
+#[test]
+fn all_types_read_and_write(rt: HostRuntime) -> Result<(), Fail> {
+    let rows: [(Vec<u8>, &[u8]); 7] = [
+        (written::<Dec>(rt.alloc(), b"010.500")?, b"10.5"),
+        (written::<Number>(rt.alloc(), b"007")?, b"7"),
+        (written::<Flag>(rt.alloc(), b"N")?, b"N"),
+        (written::<Day>(rt.alloc(), b"20240229")?, b"20240229"),
+        (written::<MonthYear>(rt.alloc(), b"202402")?, b"202402"),
+        (written::<Stamp>(rt.alloc(), b"20240102-23:59:60.5")?, b""),
+        (
+            written::<Stamp>(rt.alloc(), b"20240102-23:59:60")?,
+            b"20240102-23:59:60",
+        ),
+    ];
+    for (written, expected) in &rows {
+        assert_eq!(rt; written.as_slice(), *expected);
+    }
+    Ok(())
+}
+
+#[test]
+fn digits_and_points(rt: HostRuntime) -> Result<(), Fail> {
+    assert!(rt; are_digits(b"0123456789"));
+    assert!(rt; are_digits(b""));
+    assert!(rt; !are_digits(b"12a"));
+    assert_eq!(rt; point_in(b"10.5.1"), Some(2));
+    assert_eq!(rt; point_in(b"105"), None);
     Ok(())
 }

@@ -17,4 +17,6 @@ pub overflow_add-number : goal.overflow_add-number
 overflow_add-number c = omega (arith, digits_so_far c.args.digits.now c.loop-digit.digit-index c.requires.digits c.requires.few (omega arith))
 
 pub loop-digit-preserved : goal.loop-digit-preserved
-loop-digit-preserved c = omega (arith, number_of_more c.args.digits.now c.loop-digit.digit-index (omega arith))
+loop-digit-preserved c =
+    let digit = digits_so_far c.args.digits.now c.loop-digit.digit-index c.requires.digits c.requires.few (omega arith) in
+    omega (arith, number_of_more c.args.digits.now c.loop-digit.digit-index (omega arith) digit.1 digit.2)

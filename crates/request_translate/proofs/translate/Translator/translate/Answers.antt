@@ -45,3 +45,7 @@ returns-in-Ok-clause-ok c =
       record { up = up; stands = stands; written = refl; frame = frame; keeps = frame_keeps c.args.body.now up (frame_of Fixt11 up) stands frame },
       c.in-Ok.ensures.ok ∙ ap (λ (b : List ℕ). c.args.out.now.items ++ frame_of Fixt11 b) c.deref.ensures.value,
     )
+
+pub write_up-requires-clause-split : goal.write_up-requires-clause-split
+write_up-requires-clause-split c =
+    subst (λ (fault : Option SplitFault). SplitsInto c.args.body.now c.in_ok-split.split.fields fault) (no_fault c.in_ok-split.split.fault (sym c.is_some.ensures ∙ c.if-is_some.false)) c.in_ok-split.ensures

@@ -20,10 +20,10 @@ returns-clause-value c =
     rw (c.signed.ensures, signed_fits c.has_minus.result c.units_of.result c.units_of.ensures.bound, c.units_of.ensures.value, c.has_minus.ensures)
     (read_dec-found c.args.value.now c.before_point-whole.result.now c.behind_point-fraction.result.now
     c.without_leading_zeros-whole.result.now c.without_trailing_zeros-fraction.result.now
-    (sym c.is_empty.ensures ∙ c.if-is_empty.false) c.if-value-gt32.false whole fraction
+    (sym c.is_empty.ensures ∙ c.if-is_empty.false) c.if-value-gt-MAX_BYTES.false whole fraction
     (sym c.are_digits.ensures ∙ c.if-not-are_digits.false) (sym c.are_digits-else-not-are_digits.ensures ∙ c.if-not-are_digits-2.false)
     c.if-whole-fraction-eq0.false c.without_leading_zeros-whole.ensures.value c.without_trailing_zeros-fraction.ensures.value
-    c.if-whole-fraction-gt15.false c.if-fraction-gt8.false)
+    c.if-whole-fraction-gt-MAX_DIGITS.false c.if-fraction-gt-MAX_PLACES.false)
 
 pub returns-clause-bound : goal.returns-clause-bound
 returns-clause-bound c =
@@ -31,4 +31,4 @@ returns-clause-bound c =
     let fraction = rw (sym c.without_trailing_zeros-fraction.ensures.value) at (are_digits-trailing c.behind_point-fraction.result.now (sym c.are_digits-else-not-are_digits.ensures ∙ c.if-not-are_digits-2.false)) in
     rw (c.signed.ensures, signed_fits c.has_minus.result c.units_of.result c.units_of.ensures.bound, c.units_of.ensures.value)
     (IsDec-units_of c.has_minus.result c.without_leading_zeros-whole.result.now c.without_trailing_zeros-fraction.result.now whole fraction
-    c.if-whole-fraction-gt15.false c.if-fraction-gt8.false)
+    c.if-whole-fraction-gt-MAX_DIGITS.false c.if-fraction-gt-MAX_PLACES.false)
