@@ -36,7 +36,7 @@
 --                 HeartBtInt and some time of silence, here a fifth of it; the end after as much silence again. A gap
 --                 that stays is asked for again after HeartBtInt (own)
 --   S35 S36       Logout: the gateway ends the session, and hangs up at once (own)
-use Rattle.std.specs.Prelude.{ℕ, ◌+◌, ◌-◌, ◌*◌, Bool, true, false, ◌==◌, ◌&&◌, ◌||◌, nat_lt, nat_le, max, if◌then◌else◌, List, [], ◌∷◌, ◌++◌, Some, None, Ok, Err, is_none, count_by}
+use Rattle.std.specs.Prelude.{ℕ, ◌+◌, ◌-◌, ◌*◌, Bool, true, false, ◌==◌, ◌&&◌, ◌||◌, nat_lt, nat_le, max, min, if◌then◌else◌, List, [], ◌∷◌, ◌++◌, Some, None, Ok, Err, is_none, count_by}
 use Rattle.std.specs.declared.option.Option.{Option}
 use Rattle.std.specs.declared.result.Result.{Result}
 use Rattle.std.specs.declared.cmp.Ordering.{Ordering}
@@ -233,6 +233,10 @@ logout w = Say (admin.Logout w)
 abbrev pub reject : ℕ → ℕ → Act
 reject tag reason = Say (admin.Reject tag reason)
 
+-- the last number that is sent again: EndSeqNo(16), where 0 means all, but none that was not given before the request
+abbrev pub resend_end : ℕ → Session → ℕ
+resend_end to s = if to == 0 then s.numbers.next_out - 1 else min to (s.numbers.next_out - 1)
+
 abbrev pub asking : Session → Act
 asking s = Say (admin.ResendRequest s.numbers.next_in)
 
@@ -319,13 +323,13 @@ effect_of S19 n now s = does (Skip ∷ logout (why.TooLow s.numbers.next_in n) �
 effect_of S20 n now s = does (Skip ∷ []) s
 -- a number above it
 effect_of S21 n now s = does (Skip ∷ logout why.Answer ∷ HangUp ∷ []) (down s)
-effect_of (S22 from to dup) n now s = does (Skip ∷ Resend from to ∷ only (is_asked_for dup s.ask) (asking s))
+effect_of (S22 from to dup) n now s = does (Skip ∷ Resend from (resend_end to s) ∷ only (is_asked_for dup s.ask) (asking s))
     (asks n dup now s)
 effect_of (S23 dup) n now s = does (Skip ∷ only (is_asked_for dup s.ask) (asking s)) (asks n dup now s)
 -- the expected number
 effect_of S24 n now s = does (Take ∷ []) (expects (n + 1) s)
 effect_of S25 n now s = does (Take ∷ Say (admin.Heartbeat true) ∷ []) (expects (n + 1) s)
-effect_of (S26 from to) n now s = does (Take ∷ Resend from to ∷ []) (expects (n + 1) s)
+effect_of (S26 from to) n now s = does (Take ∷ Resend from (resend_end to s) ∷ []) (expects (n + 1) s)
 effect_of (S27 to) n now s = does (Take ∷ []) (expects to s)
 effect_of S28 n now s = does (Take ∷ reject 36 5 ∷ []) (expects (n + 1) s)
 effect_of (S29 tag reason) n now s = does (Take ∷ reject tag reason ∷ []) (expects (n + 1) s)

@@ -1,7 +1,7 @@
 //! What the session table keeps, whatever happens to a session. Each law is a contract: its function does nothing.
-ghost use Rattle.std.specs.Prelude.{◌≡◌, ℕ, ◌+◌, ◌≤◌, ◌⊎◌, Contains, IfOk, IfSome, IsSome, length, Some, None, true, false};
-ghost use Rattle.session_core.specs.Laws.{Always, IsExpected, IsReset, HangsUpAfterLogout};
-ghost use Rattle.session_core.specs.Step.{Message, Tick, step, says};
+ghost use Rattle.std.specs.Prelude.{◌≡◌, ℕ, ◌+◌, ◌≤◌, ◌⊎◌, IsOk, Contains, IfOk, IfSome, IsSome, length, Some, None, [], ◌∷◌, true, false};
+ghost use Rattle.session_core.specs.Laws.{Always, IsExpected, IsReset, HangsUpAfterLogout, AreInOrder, SetsExpected, IsForApplication};
+ghost use Rattle.session_core.specs.Step.{Input, Message, Tick, step, says};
 ghost use Rattle.session_core.specs.declared.types.Session.{Session};
 ghost use Rattle.session_core.specs.declared.types.Head.{Head};
 
@@ -73,4 +73,47 @@ pub fn one_request_at_a_time()
         → s.link ≡ LinkState.Active → IsSome s.ask → head.dup ≡ false
         → IfOk (step s (Message head) now) (λ t.
         (from : ℕ) → ¬ Contains t.acts (Act.Say (Admin.ResendRequest from))) }
+{}
+
+/// A session is of one side for good.
+pub fn side_never_changes()
+    ensures { Always (λ s input now t. t.next.side ≡ s.side) }
+{}
+
+/// A step sends at most two messages of the session's own.
+pub fn two_messages_at_most()
+    ensures { Always (λ s input now t. says t.acts ≤ 2) }
+{}
+
+/// A session with two numbers left has a step, whatever happens.
+pub fn two_numbers_are_enough()
+    ensures { (s : Session) (input : Input) (now : ℕ) → s.numbers.next_out + 2 ≤ 1000000000
+        → IsOk (step s input now) }
+{}
+
+/// The acts stand in one order: a message is taken or passed over, messages are sent again, the session's own are
+/// sent, the connection is hung up. Each but the third stands once at most.
+pub fn acts_in_order()
+    ensures { Always (λ s input now t. AreInOrder t.acts) }
+{}
+
+/// A message that is taken makes the expected number one more, or its NewSeqNo(36).
+pub fn taken_message_counts()
+    ensures { Always (λ s input now t.
+        Contains t.acts Act.Take → SetsExpected s input t.next.numbers.next_in) }
+{}
+
+/// Without a connection a message is passed over, and nothing is sent.
+pub fn nothing_without_a_connection()
+    ensures { (s : Session) (head : Head) (now : ℕ) → s.link ≡ LinkState.Down
+        → IfOk (step s (Message head) now) (λ t. t.acts ≡ Act.Skip ∷ []) }
+{}
+
+/// A Reject or a message of the application whose one act is that it is taken came in turn, with the right names and
+/// time, to a session that is logged on. This is how the application knows what it is to decide.
+pub fn application_gets_its_turn()
+    ensures { (s : Session) (head : Head) (now : ℕ) → IsForApplication head.what
+        → IfOk (step s (Message head) now) (λ t. t.acts ≡ Act.Take ∷ []
+        → (s.link ≡ LinkState.Active) × (head.comp ≡ None) × (head.time ≡ None)
+        × (head.number ≡ Some s.numbers.next_in)) }
 {}

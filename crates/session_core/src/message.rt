@@ -138,7 +138,10 @@ impl Session {
             What::Logout => {
                 return does(&[Act::Skip, logout(Why::Answer), Act::HangUp], self.down());
             }
-            What::ResendRequest { from, to } => acts.push(Act::Resend { from, to }),
+            What::ResendRequest { from, to } => acts.push(Act::Resend {
+                from,
+                to: self.resend_end(to),
+            }),
             _ => {}
         }
         if self.is_asked_for(dup) {
@@ -161,7 +164,16 @@ impl Session {
                 next,
             ),
             What::ResendRequest { from, to } => {
-                does(&[Act::Take, Act::Resend { from, to }], next)
+                does(
+                    &[
+                        Act::Take,
+                        Act::Resend {
+                            from,
+                            to: self.resend_end(to),
+                        },
+                    ],
+                    next,
+                )
             }
             What::GapFill { to } if number < to => does(&[Act::Take], self.expects(to)),
             What::GapFill { .. } => does(&[Act::Take, reject(36, 5)], next),

@@ -1,6 +1,6 @@
 ghost use Rattle.std.specs.Prelude.{◌≡◌, ◌≤◌, length};
 ghost use Rattle.session_core.specs.Bounds.{IsNumber};
-ghost use Rattle.session_core.specs.Step.{does, down, expects, asks, taken_or_skipped, take_or_skip, asking, effect_of, S5};
+ghost use Rattle.session_core.specs.Step.{does, down, expects, asks, taken_or_skipped, take_or_skip, asking, resend_end, effect_of, S5};
 
 use crate::{Act, Acts, Admin, Ask, LinkState, Numbers, Session, Step, Why};
 
@@ -72,6 +72,14 @@ impl Session {
         } else {
             *self
         }
+    }
+
+    // The last number that is sent again for this EndSeqNo, where 0 means all that were given.
+    pub(crate) fn resend_end(&self, to: u32) -> u32
+        ensures { result ≡ resend_end to self.now }
+    {
+        let last = self.numbers.next_out.saturating_sub(1);
+        if to == 0 { last } else { to.min(last) }
     }
 
     // The request for all from the expected number on.

@@ -192,11 +192,11 @@ pub enum Act {
     Skip,
     /// Send a session message under the next number.
     Say(Admin),
-    /// Send again what was sent from one number to another, both included; `to` 0 means all.
+    /// Send again what was sent from one number to another, both included; nothing where `from` is above `to`.
     Resend {
         /// The first number.
         from: u32,
-        /// The last number, or 0.
+        /// The last number, which was given before this message.
         to: u32,
     },
     /// Hang up the connection.
