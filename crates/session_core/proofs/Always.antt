@@ -10,19 +10,23 @@ use Rattle.std.specs.Ordering.{nat_cmp}
 use Rattle.std.proofs.lemmas.Map.Lookups.{exact_unsigned}
 use Rattle.order_meaning.specs.declared.Side.{Side}
 use Rattle.order_meaning.specs.declared.Side.TheVariants.{Client, Venue}
-use Rattle.session_core.specs.declared.types.LinkState.{LinkState}
-use Rattle.session_core.specs.declared.types.LinkState.TheVariants.{Down, Wait, Asked, Active}
-use Rattle.session_core.specs.declared.types.Ask.{Ask}
-use Rattle.session_core.specs.declared.types.Session.{Session}
-use Rattle.session_core.specs.declared.types.Step.{Step}
-use Rattle.session_core.specs.declared.types.Head.{Head}
-use Rattle.session_core.specs.declared.types.What.{What}
-use Rattle.session_core.specs.declared.types.What.TheVariants as what
-use Rattle.session_core.specs.declared.types.Why.TheVariants as why
-use Rattle.session_core.specs.declared.types.Admin.TheVariants as admin
-use Rattle.session_core.specs.declared.types.Act.{Act}
-use Rattle.session_core.specs.declared.types.Act.TheVariants.{Take, Skip, Say, Resend, HangUp}
-use Rattle.session_core.specs.Step.{Input, Opened, Closed, Message, Tick, End, Row, S3, S4, S5, S6, S8, S9, S11, S13, S14, S15, S16, S17, S19, S21, S22, S23, S24, S25, S26, S27, S28, S29, S30, S31, S32, S33, S34, S35, S36, Quiet, number_of, message_row, waiting_case, opened_row, tick_row, end_row, is_unanswered, elapsed, logon_wait, effect_of, taken_or_skipped, take_or_skip, expects, counted, says, does, heard, step, numbered_row, early_row, expected_row, active_case, only, asking, logout, reject, is_asked_for, tick_acts, is_test_due, is_heartbeat_due, is_ask_due}
+use Rattle.session_core.specs.declared.numbers.TheConstants.{ALL_USED}
+use Rattle.session_core.specs.declared.tag.TheConstants.{SENDING_TIME}
+use Rattle.session_core.specs.declared.reason.TheConstants.{COMP_ID_PROBLEM}
+use Rattle.session_core.specs.declared.tick.TheConstants.{LOGON_WAIT}
+use Rattle.session_core.specs.declared.session.LinkState.{LinkState}
+use Rattle.session_core.specs.declared.session.LinkState.TheVariants.{Down, Wait, Asked, Active}
+use Rattle.session_core.specs.declared.session.Ask.{Ask}
+use Rattle.session_core.specs.declared.session.Session.{Session}
+use Rattle.session_core.specs.declared.session.Step.{Step}
+use Rattle.session_core.specs.declared.head.Head.{Head}
+use Rattle.session_core.specs.declared.head.What.{What}
+use Rattle.session_core.specs.declared.head.What.TheVariants as what
+use Rattle.session_core.specs.declared.act.Why.TheVariants as why
+use Rattle.session_core.specs.declared.act.Admin.TheVariants as admin
+use Rattle.session_core.specs.declared.act.Act.{Act}
+use Rattle.session_core.specs.declared.act.Act.TheVariants.{Take, Skip, Say, Resend, HangUp}
+use Rattle.session_core.specs.Table.{Input, Opened, Closed, Message, Tick, End, Row, S3, S4, S5, S6, S8, S9, S11, S13, S14, S15, S16, S17, S19, S21, S22, S23, S24, S25, S26, S27, S28, S29, S30, S31, S32, S33, S34, S35, S36, Quiet, number_of, message_row, waiting_case, opened_row, tick_row, end_row, is_unanswered, elapsed, effect_of, taken_or_skipped, take_or_skip, expects, counted, says, does, heard, step, numbered_row, early_row, expected_row, active_case, only, asking, logout, reject, is_asked_for, tick_acts, is_test_due, is_heartbeat_due, is_ask_due}
 use Rattle.session_core.specs.Laws.{Always, IsExpected, ResetsFrom, IsReset, HangsUpAfterLogout, AreInOrder, AreResendAndSays, AreSays, RaisesTo, SetsExpected, IsForApplication}
 use Rattle.session_core.proofs.Premise.{Premise, Numbered, number_of-Message, message_premise}
 use Rattle.session_core.proofs.Kept.{if_settled}
@@ -46,8 +50,8 @@ unanswered_premise false expected = tt
 
 tick_premise : (link : LinkState) (now : ℕ) (s : Session) → Premise (tick_row link now s) s.numbers.next_in no_message
 tick_premise Down now s = tt
-tick_premise Wait now s = late_premise (nat_lt logon_wait (elapsed now s.seen)) s.numbers.next_in
-tick_premise Asked now s = late_premise (nat_lt logon_wait (elapsed now s.seen)) s.numbers.next_in
+tick_premise Wait now s = late_premise (nat_lt LOGON_WAIT (elapsed now s.seen)) s.numbers.next_in
+tick_premise Asked now s = late_premise (nat_lt LOGON_WAIT (elapsed now s.seen)) s.numbers.next_in
 tick_premise Active now s = unanswered_premise (is_unanswered s.tested now s.heart) s.numbers.next_in
 
 end_premise : (link : LinkState) (expected : ℕ) → Premise (end_row link) expected no_message
@@ -295,8 +299,8 @@ logout_row (S4 false) now s head p = tt
 logout_row (S6 tag) now s head p = logout_after (number_of (Message head)) s (logout (why.Logon tag) ∷ HangUp ∷ []) refl
 logout_row S8 now s head p = refl
 logout_row S13 now s head p = refl
-logout_row (S14 tag) now s head p = logout_after (number_of (Message head)) s (reject tag 9 ∷ logout why.CompId ∷ HangUp ∷ []) refl
-logout_row (S15 reason) now s head p = logout_after (number_of (Message head)) s (reject 52 reason ∷ logout why.Clock ∷ HangUp ∷ []) refl
+logout_row (S14 tag) now s head p = logout_after (number_of (Message head)) s (reject tag COMP_ID_PROBLEM ∷ logout why.CompId ∷ HangUp ∷ []) refl
+logout_row (S15 reason) now s head p = logout_after (number_of (Message head)) s (reject SENDING_TIME reason ∷ logout why.Clock ∷ HangUp ∷ []) refl
 logout_row S19 now s head p = refl
 logout_row S21 now s head p = refl
 logout_row (S22 from to dup) now s head p = only_asks (is_asked_for dup s.ask) s
@@ -406,8 +410,8 @@ in_order_row : ByRows InOrder
 in_order_row (S4 true) now s head p = tt
 in_order_row (S4 false) now s head p = tt
 in_order_row (S6 tag) now s head p = in_order_after (number_of (Message head)) s (logout (why.Logon tag) ∷ HangUp ∷ []) tt
-in_order_row (S14 tag) now s head p = in_order_after (number_of (Message head)) s (reject tag 9 ∷ logout why.CompId ∷ HangUp ∷ []) tt
-in_order_row (S15 reason) now s head p = in_order_after (number_of (Message head)) s (reject 52 reason ∷ logout why.Clock ∷ HangUp ∷ []) tt
+in_order_row (S14 tag) now s head p = in_order_after (number_of (Message head)) s (reject tag COMP_ID_PROBLEM ∷ logout why.CompId ∷ HangUp ∷ []) tt
+in_order_row (S15 reason) now s head p = in_order_after (number_of (Message head)) s (reject SENDING_TIME reason ∷ logout why.Clock ∷ HangUp ∷ []) tt
 in_order_row (S22 from to dup) now s head p = asks_in_order (is_asked_for dup s.ask) s
 in_order_row (S23 dup) now s head p = asks_after_skip (is_asked_for dup s.ask) s
 in_order_row S34 now s head p = tick_in_order now s

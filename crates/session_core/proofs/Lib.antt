@@ -1,3 +1,4 @@
-pub mod Always
-pub mod Kept
-pub mod Premise
+mod Always
+mod Kept
+mod Premise
+mod Worked

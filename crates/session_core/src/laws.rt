@@ -1,11 +1,11 @@
 //! What the session table keeps, whatever happens to a session. Each law is a contract: its function does nothing.
 ghost use Rattle.std.specs.Prelude.{◌≡◌, ℕ, ◌+◌, ◌≤◌, ◌⊎◌, IsOk, Contains, IfOk, IfSome, IsSome, length, Some, None, [], ◌∷◌, true, false};
 ghost use Rattle.session_core.specs.Laws.{Always, IsExpected, IsReset, HangsUpAfterLogout, AreInOrder, SetsExpected, IsForApplication};
-ghost use Rattle.session_core.specs.Step.{Input, Message, Tick, step, says};
-ghost use Rattle.session_core.specs.declared.types.Session.{Session};
-ghost use Rattle.session_core.specs.declared.types.Head.{Head};
+ghost use Rattle.session_core.specs.Table.{Input, Message, Tick, step, says};
+ghost use Rattle.session_core.specs.declared.session.Session.{Session};
+ghost use Rattle.session_core.specs.declared.head.Head.{Head};
 
-use crate::{Act, Admin, LinkState};
+use crate::{Act, Admin, LinkState, ALL_USED, MAX_ACTS};
 
 /// The expected number never falls.
 pub fn expected_number_never_falls()
@@ -33,7 +33,7 @@ pub fn each_message_takes_a_number()
 
 /// A step has at most five acts.
 pub fn five_acts_at_most()
-    ensures { Always (λ s input now t. length t.acts ≤ 5) }
+    ensures { Always (λ s input now t. length t.acts ≤ MAX_ACTS) }
 {}
 
 /// Every Logout is followed by a hang up, and nothing comes after it.
@@ -87,7 +87,7 @@ pub fn two_messages_at_most()
 
 /// A session with two numbers left has a step, whatever happens.
 pub fn two_numbers_are_enough()
-    ensures { (s : Session) (input : Input) (now : ℕ) → s.numbers.next_out + 2 ≤ 1000000000
+    ensures { (s : Session) (input : Input) (now : ℕ) → s.numbers.next_out + 2 ≤ ALL_USED
         → IsOk (step s input now) }
 {}
 

@@ -1,3 +1,5 @@
+-- Standard: FIX 4.2, "Session Protocol" and "Administrative Messages"; FIXT 1.1, the same chapters.
+--
 -- The session table: what one FIX session of the gateway does with each thing that may happen to it.
 --
 -- `row_of` is the table's left half: by the state of the link and by what happens, the first row that applies.
@@ -44,20 +46,24 @@ use Rattle.std.specs.declared.cmp.Ordering.TheVariants.{Less, Equal, Greater}
 use Rattle.std.specs.Ordering.{nat_cmp}
 use Rattle.order_meaning.specs.declared.Side.{Side}
 use Rattle.order_meaning.specs.declared.Side.TheVariants.{Client, Venue}
-use Rattle.session_core.specs.declared.types.LinkState.{LinkState}
-use Rattle.session_core.specs.declared.types.LinkState.TheVariants.{Down, Wait, Asked, Active}
-use Rattle.session_core.specs.declared.types.Ask.{Ask}
-use Rattle.session_core.specs.declared.types.Session.{Session}
-use Rattle.session_core.specs.declared.types.Head.{Head}
-use Rattle.session_core.specs.declared.types.What.{What}
-use Rattle.session_core.specs.declared.types.What.TheVariants as what
-use Rattle.session_core.specs.declared.types.Why.{Why}
-use Rattle.session_core.specs.declared.types.Why.TheVariants as why
-use Rattle.session_core.specs.declared.types.Admin.TheVariants as admin
-use Rattle.session_core.specs.declared.types.Act.{Act}
-use Rattle.session_core.specs.declared.types.Act.TheVariants.{Take, Skip, Say, Resend, HangUp}
-use Rattle.session_core.specs.declared.types.Step.{Step}
-use Rattle.session_core.specs.declared.types.Spent.{Spent}
+use Rattle.session_core.specs.declared.numbers.TheConstants.{ALL_USED}
+use Rattle.session_core.specs.declared.tag.TheConstants.{NEW_SEQ_NO, SENDING_TIME, RESET_SEQ_NUM_FLAG}
+use Rattle.session_core.specs.declared.reason.TheConstants.{COMP_ID_PROBLEM, VALUE_IS_INCORRECT}
+use Rattle.session_core.specs.declared.tick.TheConstants.{LOGON_WAIT, SECOND, SILENCE, HEART_OF_NONE}
+use Rattle.session_core.specs.declared.session.LinkState.{LinkState}
+use Rattle.session_core.specs.declared.session.LinkState.TheVariants.{Down, Wait, Asked, Active}
+use Rattle.session_core.specs.declared.session.Ask.{Ask}
+use Rattle.session_core.specs.declared.session.Session.{Session}
+use Rattle.session_core.specs.declared.head.Head.{Head}
+use Rattle.session_core.specs.declared.head.What.{What}
+use Rattle.session_core.specs.declared.head.What.TheVariants as what
+use Rattle.session_core.specs.declared.act.Why.{Why}
+use Rattle.session_core.specs.declared.act.Why.TheVariants as why
+use Rattle.session_core.specs.declared.act.Admin.TheVariants as admin
+use Rattle.session_core.specs.declared.act.Act.{Act}
+use Rattle.session_core.specs.declared.act.Act.TheVariants.{Take, Skip, Say, Resend, HangUp}
+use Rattle.session_core.specs.declared.session.Step.{Step}
+use Rattle.session_core.specs.declared.session.Spent.{Spent}
 
 -- What may happen to a session: its connection opened or was lost, a whole frame came, time went by, the gateway ends.
 pub data Input : Type 0 where
@@ -75,7 +81,7 @@ pub data Row : Type 0 where
   S6 : (tag : ℕ) → Row
   S7 S8 : Row
   S9 : (heart : ℕ) (reset : Bool) → Row
-  S10 : (heart : ℕ) (reset : Bool) → Row
+  S10 : (heart : ℕ) → Row
   S11 S12 S13 : Row
   S14 : (tag : ℕ) → Row
   S15 : (reason : ℕ) → Row
@@ -108,11 +114,11 @@ is_fresh n s = n == 1 && s.numbers.next_in == 1 && s.numbers.next_out == first_o
 -- expected one, and PossDupFlag(43).
 abbrev pub logon_row : LinkState → What → Bool → Ordering → Bool → Row
 logon_row link (what.BadLogon tag) fresh place dup = S6 tag
-logon_row link (what.Logon heart true) false place dup = S6 141
+logon_row link (what.Logon heart true) false place dup = S6 RESET_SEQ_NUM_FLAG
 logon_row link (what.Logon heart reset) fresh Less true = S7
 logon_row link (what.Logon heart reset) fresh Less false = S8
 logon_row Wait (what.Logon heart reset) fresh Equal dup = S9 heart reset
-logon_row Wait (what.Logon heart reset) fresh Greater dup = S10 heart reset
+logon_row Wait (what.Logon heart reset) fresh Greater dup = S10 heart
 logon_row link (what.Logon heart reset) fresh Equal dup = S11
 logon_row link (what.Logon heart reset) fresh Greater dup = S12
 logon_row link other fresh place dup = S5
@@ -175,21 +181,17 @@ elapsed now since = now - since
 
 -- how much silence is too much: 1.2 times HeartBtInt(108), in milliseconds
 abbrev pub silence_limit : ℕ → ℕ
-silence_limit heart = 1200 * heart
+silence_limit heart = SILENCE * heart
 
 -- a TestRequest was sent, and nothing came for too long
 abbrev pub is_unanswered : Option ℕ → ℕ → ℕ → Bool
 is_unanswered None now heart = false
 is_unanswered (Some since) now heart = nat_lt (silence_limit heart) (elapsed now since)
 
--- how long a Logon is awaited: ten seconds (own)
-abbrev pub logon_wait : ℕ
-logon_wait = 10000
-
 abbrev pub tick_row : LinkState → ℕ → Session → Row
 tick_row Down now s = S4 false
-tick_row Wait now s = if nat_lt logon_wait (elapsed now s.seen) then S32 else Quiet
-tick_row Asked now s = if nat_lt logon_wait (elapsed now s.seen) then S32 else Quiet
+tick_row Wait now s = if nat_lt LOGON_WAIT (elapsed now s.seen) then S32 else Quiet
+tick_row Asked now s = if nat_lt LOGON_WAIT (elapsed now s.seen) then S32 else Quiet
 tick_row Active now s = if is_unanswered s.tested now s.heart then S33 else S34
 
 abbrev pub end_row : LinkState → Row
@@ -263,7 +265,7 @@ is_test_due now s = is_none s.tested && nat_lt 0 s.heart && nat_lt (silence_limi
 
 -- Nothing was sent for HeartBtInt. The TestRequest of this tick was sent before this is asked.
 abbrev pub is_heartbeat_due : ℕ → Session → Bool
-is_heartbeat_due now s = nat_lt 0 s.heart && nat_le (1000 * s.heart) (elapsed now said)
+is_heartbeat_due now s = nat_lt 0 s.heart && nat_le (SECOND * s.heart) (elapsed now said)
   where
     said : ℕ
     said = if is_test_due now s then now else s.said
@@ -271,7 +273,7 @@ is_heartbeat_due now s = nat_lt 0 s.heart && nat_le (1000 * s.heart) (elapsed no
 -- A request is open for more than HeartBtInt, or for more than 30 seconds where that is 0 (own).
 abbrev pub is_ask_due : Option Ask → ℕ → ℕ → Bool
 is_ask_due None now heart = false
-is_ask_due (Some ask) now heart = nat_lt (1000 * (if heart == 0 then 30 else heart)) (elapsed now ask.since)
+is_ask_due (Some ask) now heart = nat_lt (SECOND * (if heart == 0 then HEART_OF_NONE else heart)) (elapsed now ask.since)
 
 abbrev pub asked_again : Option Ask → ℕ → ℕ → Option Ask
 asked_again None now heart = None
@@ -304,20 +306,20 @@ effect_of S7 n now s = does (Skip ∷ []) s
 effect_of S8 n now s = does (Skip ∷ logout (why.TooLow s.numbers.next_in n) ∷ HangUp ∷ []) (down s)
 effect_of (S9 heart reset) n now s = does (Take ∷ Say (admin.Logon reset) ∷ [])
     (record (expects (n + 1) s) { link = Active; heart = heart })
-effect_of (S10 heart reset) n now s = does (Skip ∷ Say (admin.Logon reset) ∷ asking s ∷ [])
+effect_of (S10 heart) n now s = does (Skip ∷ Say (admin.Logon false) ∷ asking s ∷ [])
     (record (asks n true now s) { link = Active; heart = heart })
 effect_of S11 n now s = does (Take ∷ []) (record (expects (n + 1) s) { link = Active })
 effect_of S12 n now s = does (Skip ∷ asking s ∷ []) (record (asks n true now s) { link = Active })
 -- logged on: a wrong head
 effect_of S13 n now s = does (Skip ∷ logout why.NoNumber ∷ HangUp ∷ []) (down s)
-effect_of (S14 tag) n now s = does (take_or_skip n s ∷ reject tag 9 ∷ logout why.CompId ∷ HangUp ∷ [])
+effect_of (S14 tag) n now s = does (take_or_skip n s ∷ reject tag COMP_ID_PROBLEM ∷ logout why.CompId ∷ HangUp ∷ [])
     (down (taken_or_skipped n s))
-effect_of (S15 reason) n now s = does (take_or_skip n s ∷ reject 52 reason ∷ logout why.Clock ∷ HangUp ∷ [])
+effect_of (S15 reason) n now s = does (take_or_skip n s ∷ reject SENDING_TIME reason ∷ logout why.Clock ∷ HangUp ∷ [])
     (down (taken_or_skipped n s))
 -- a SequenceReset that is no gap fill
 effect_of (S16 to) n now s = does (Take ∷ []) (expects to s)
-effect_of S17 n now s = does (Skip ∷ reject 36 5 ∷ []) s
-effect_of (S18 reason) n now s = does (Skip ∷ reject 36 reason ∷ []) s
+effect_of S17 n now s = does (Skip ∷ reject NEW_SEQ_NO VALUE_IS_INCORRECT ∷ []) s
+effect_of (S18 reason) n now s = does (Skip ∷ reject NEW_SEQ_NO reason ∷ []) s
 -- a number below the expected one
 effect_of S19 n now s = does (Skip ∷ logout (why.TooLow s.numbers.next_in n) ∷ HangUp ∷ []) (down s)
 effect_of S20 n now s = does (Skip ∷ []) s
@@ -331,7 +333,7 @@ effect_of S24 n now s = does (Take ∷ []) (expects (n + 1) s)
 effect_of S25 n now s = does (Take ∷ Say (admin.Heartbeat true) ∷ []) (expects (n + 1) s)
 effect_of (S26 from to) n now s = does (Take ∷ Resend from (resend_end to s) ∷ []) (expects (n + 1) s)
 effect_of (S27 to) n now s = does (Take ∷ []) (expects to s)
-effect_of S28 n now s = does (Take ∷ reject 36 5 ∷ []) (expects (n + 1) s)
+effect_of S28 n now s = does (Take ∷ reject NEW_SEQ_NO VALUE_IS_INCORRECT ∷ []) (expects (n + 1) s)
 effect_of (S29 tag reason) n now s = does (Take ∷ reject tag reason ∷ []) (expects (n + 1) s)
 effect_of S30 n now s = does (Take ∷ logout why.Answer ∷ HangUp ∷ []) (down (expects (n + 1) s))
 effect_of S31 n now s = does (Take ∷ []) (expects (n + 1) s)
@@ -368,9 +370,9 @@ is_say act = false
 abbrev pub says : List Act → ℕ
 says acts = count_by is_say acts
 
--- one of them would take a number past 999,999,999
+-- one of them would take a number past the greatest one
 abbrev pub is_spent : ℕ → ℕ → Bool
-is_spent next_out sent = nat_lt 0 sent && nat_lt 1000000000 (next_out + sent)
+is_spent next_out sent = nat_lt 0 sent && nat_lt ALL_USED (next_out + sent)
 
 -- a request is closed once the expected number is past the highest early one
 abbrev pub still_open : ℕ → Option Ask → Option Ask

@@ -1,16 +1,16 @@
--- Worked rows of the session table, by computation.
+-- Worked examples of the session table, by computation.
 use Rattle.std.specs.Prelude.{◌≡◌, ℕ, true, false, [], ◌∷◌, Some, None, Ok, Err, refl}
 use Rattle.order_meaning.specs.declared.Side.TheVariants.{Client, Venue}
-use Rattle.session_core.specs.declared.types.LinkState.{LinkState}
-use Rattle.session_core.specs.declared.types.LinkState.TheVariants.{Down, Wait, Active}
-use Rattle.session_core.specs.declared.types.Session.{Session}
-use Rattle.session_core.specs.declared.types.Head.{Head}
-use Rattle.session_core.specs.declared.types.What.{What}
-use Rattle.session_core.specs.declared.types.What.TheVariants as what
-use Rattle.session_core.specs.declared.types.Why.TheVariants as why
-use Rattle.session_core.specs.declared.types.Admin.TheVariants as admin
-use Rattle.session_core.specs.declared.types.Act.TheVariants.{Take, Skip, Say, Resend, HangUp}
-use Rattle.session_core.specs.Step.{Opened, Message, Tick, End, step, given, does, spent}
+use Rattle.session_core.specs.declared.session.LinkState.{LinkState}
+use Rattle.session_core.specs.declared.session.LinkState.TheVariants.{Down, Wait, Active}
+use Rattle.session_core.specs.declared.session.Session.{Session}
+use Rattle.session_core.specs.declared.head.Head.{Head}
+use Rattle.session_core.specs.declared.head.What.{What}
+use Rattle.session_core.specs.declared.head.What.TheVariants as what
+use Rattle.session_core.specs.declared.act.Why.TheVariants as why
+use Rattle.session_core.specs.declared.act.Admin.TheVariants as admin
+use Rattle.session_core.specs.declared.act.Act.TheVariants.{Take, Skip, Say, Resend, HangUp}
+use Rattle.session_core.specs.Table.{Opened, Message, Tick, End, step, given, does, spent}
 
 -- a client's session with these next numbers, at HeartBtInt 30, silent since 0
 abbrev pub client : LinkState → ℕ → ℕ → Session
