@@ -1,19 +1,15 @@
 -- The laws of the session table, each by its rows.
 use Rattle.std.proofs.Common.{◌≡◌, ℕ, ◌≤◌, length, arith, ◌+◌, ◌==◌, ◌⊎◌, Bool, true, false, Some, None, refl, nat_lt, nat_le, ap, ◌∙◌, sym, List, [], ◌∷◌, ◌++◌, if◌then◌else◌, subst, IfOk, inl, inr, IsSome, is_none}
 use Rattle.std.specs.List.{Contains, list_any, Any}
-use Rattle.std.proofs.lemmas.List.Folds.{list_any_at, Any-from_list_any}
+use Rattle.std.proofs.lemmas.List.Folds.{Any-from_list_any}
 use Rattle.std.proofs.lemmas.Bool.{eqb-true}
 use Rattle.std.specs.declared.option.Option.{Option}
 use Rattle.std.specs.declared.cmp.Ordering.{Ordering}
 use Rattle.std.specs.declared.cmp.Ordering.TheVariants.{Less, Equal, Greater}
 use Rattle.std.specs.Ordering.{nat_cmp}
 use Rattle.std.proofs.lemmas.Map.Lookups.{exact_unsigned}
-use Rattle.order_meaning.specs.declared.Side.{Side}
-use Rattle.order_meaning.specs.declared.Side.TheVariants.{Client, Venue}
-use Rattle.session_core.specs.declared.numbers.TheConstants.{ALL_USED}
 use Rattle.session_core.specs.declared.tag.TheConstants.{SENDING_TIME}
 use Rattle.session_core.specs.declared.reason.TheConstants.{COMP_ID_PROBLEM}
-use Rattle.session_core.specs.declared.tick.TheConstants.{LOGON_WAIT}
 use Rattle.session_core.specs.declared.session.LinkState.{LinkState}
 use Rattle.session_core.specs.declared.session.LinkState.TheVariants.{Down, Wait, Asked, Active}
 use Rattle.session_core.specs.declared.session.Ask.{Ask}
@@ -25,76 +21,18 @@ use Rattle.session_core.specs.declared.head.What.TheVariants as what
 use Rattle.session_core.specs.declared.act.Why.TheVariants as why
 use Rattle.session_core.specs.declared.act.Admin.TheVariants as admin
 use Rattle.session_core.specs.declared.act.Act.{Act}
-use Rattle.session_core.specs.declared.act.Act.TheVariants.{Take, Skip, Say, Resend, HangUp}
-use Rattle.session_core.specs.Table.{Input, Opened, Closed, Message, Tick, End, Row, S3, S4, S5, S6, S8, S9, S11, S13, S14, S15, S16, S17, S19, S21, S22, S23, S24, S25, S26, S27, S28, S29, S30, S31, S32, S33, S34, S35, S36, Quiet, number_of, message_row, waiting_case, opened_row, tick_row, end_row, is_unanswered, elapsed, effect_of, taken_or_skipped, take_or_skip, expects, counted, says, does, heard, step, numbered_row, early_row, expected_row, active_case, only, asking, logout, reject, is_asked_for, tick_acts, is_test_due, is_heartbeat_due, is_ask_due}
+use Rattle.session_core.specs.declared.act.Act.TheVariants.{Take, Skip, Say, HangUp}
+use Rattle.session_core.specs.Table.{Opened, Closed, Message, Tick, End, Row, S3, S4, S5, S6, S8, S9, S11, S13, S14, S15, S16, S17, S19, S21, S22, S23, S24, S25, S26, S27, S28, S29, S30, S31, S32, S33, S34, S35, S36, number_of, message_row, waiting_case, opened_row, tick_row, end_row, effect_of, taken_or_skipped, take_or_skip, expects, counted, says, does, heard, step, numbered_row, early_row, expected_row, active_case, only, asking, logout, reject, is_asked_for, tick_acts, is_test_due, is_heartbeat_due, is_ask_due}
 use Rattle.session_core.specs.Laws.{Always, IsExpected, ResetsFrom, IsReset, HangsUpAfterLogout, AreInOrder, AreResendAndSays, AreSays, RaisesTo, SetsExpected, IsForApplication}
 use Rattle.session_core.proofs.Premise.{Premise, Numbered, number_of-Message, message_premise}
 use Rattle.session_core.proofs.Kept.{if_settled}
-
--- ---- the premise of the row of any input. Where there is no message, the row speaks of none.
-
-abbrev no_message : Head
-no_message = record { number = None; dup = false; comp = None; time = None; what = what.Heartbeat }
-
-opened_premise : (side : Side) (expected : ℕ) → Premise (opened_row side) expected no_message
-opened_premise Client expected = tt
-opened_premise Venue expected = tt
-
-late_premise : (b : Bool) (expected : ℕ) → Premise (if b then S32 else Quiet) expected no_message
-late_premise true expected = tt
-late_premise false expected = tt
-
-unanswered_premise : (b : Bool) (expected : ℕ) → Premise (if b then S33 else S34) expected no_message
-unanswered_premise true expected = tt
-unanswered_premise false expected = tt
-
-tick_premise : (link : LinkState) (now : ℕ) (s : Session) → Premise (tick_row link now s) s.numbers.next_in no_message
-tick_premise Down now s = tt
-tick_premise Wait now s = late_premise (nat_lt LOGON_WAIT (elapsed now s.seen)) s.numbers.next_in
-tick_premise Asked now s = late_premise (nat_lt LOGON_WAIT (elapsed now s.seen)) s.numbers.next_in
-tick_premise Active now s = unanswered_premise (is_unanswered s.tested now s.heart) s.numbers.next_in
-
-end_premise : (link : LinkState) (expected : ℕ) → Premise (end_row link) expected no_message
-end_premise Down expected = tt
-end_premise Wait expected = tt
-end_premise Asked expected = tt
-end_premise Active expected = tt
-
--- what a row's effect makes of the session before, once its messages are counted
-abbrev After : (Session → ℕ → ℕ → Step → Type 0) → Row → ℕ → Session → Head → Type 0
-After P r now s head = let t = effect_of r (number_of (Message head)) now s in
-    P s (number_of (Message head)) now (does t.acts (counted now (says t.acts) t.next))
-
--- what holds of each row with its premise holds of each step; it may speak of the number and of the session that heard
-by_rows : (P : Session → ℕ → ℕ → Step → Type 0)
-    → ((r : Row) (now : ℕ) (s : Session) (head : Head) → Premise r s.numbers.next_in head → After P r now s head)
-    → (s : Session) (input : Input) (now : ℕ) → IfOk (step s input now) (P (heard input now s) (number_of input) now)
-by_rows P each s Opened now =
-    if_settled now (effect_of (opened_row s.side) 0 now s) (P s 0 now) (each (opened_row s.side) now s no_message (opened_premise s.side s.numbers.next_in))
-by_rows P each s Closed now = if_settled now (effect_of S3 0 now s) (P s 0 now) (each S3 now s no_message tt)
-by_rows P each s (Message head) now =
-    let h : Session = heard (Message head) now s in
-    if_settled now (effect_of (message_row h.link head h) (number_of (Message head)) now h) (P h (number_of (Message head)) now)
-    (each (message_row h.link head h) now h head (message_premise h.link head h))
-by_rows P each s Tick now =
-    if_settled now (effect_of (tick_row s.link now s) 0 now s) (P s 0 now) (each (tick_row s.link now s) now s no_message (tick_premise s.link now s))
-by_rows P each s End now =
-    if_settled now (effect_of (end_row s.link) 0 now s) (P s 0 now) (each (end_row s.link) now s no_message (end_premise s.link s.numbers.next_in))
-
--- the same, of a fact that speaks of the numbers, the link and the request of the session before, which hearing leaves alone
-abbrev ByRows : (Session → Step → Type 0) → Type 0
-ByRows P = (r : Row) (now : ℕ) (s : Session) (head : Head) → Premise r s.numbers.next_in head → After (λ s n now t. P s t) r now s head
-
--- ---- an act of a list is found by a test
-
-found : (test : Act → Bool) (acts : List Act) (act : Act) → test act ≡ true → Contains acts act → list_any test acts ≡ true
-found test acts act passes c = list_any_at test acts c.0 act c.1 (ap test c.2 ∙ passes)
-
-abbrev is_take : Act → Bool
-is_take Take = true
-is_take act = false
+use Rattle.session_core.proofs.ByRows.{no_message, opened_premise, tick_premise, end_premise, by_rows, ByRows, found, only_other, tick_other}
 
 -- ---- a message is taken in turn
+
+abbrev pub is_take : Act → Bool
+is_take Take = true
+is_take act = false
 
 abbrev TakenInTurn : Session → Head → Type 0
 TakenInTurn s head = Numbered s.numbers.next_in head ⊎ ResetsFrom s.numbers.next_in head.what
@@ -111,25 +49,6 @@ taken_head head s p h =
     let same : number_of (Message head) ≡ s.numbers.next_in = taken_number (number_of (Message head)) s h in
     inl (p.1 ∙ ap Some (sym (number_of-Message p.0 head p.1) ∙ same))
 
--- an act that may be missing is none that the test finds, where it is none itself
-only_other : (test : Act → Bool) (b : Bool) (act : Act) → test act ≡ false → list_any test (only b act) ≡ false
-only_other test true act h = rw h refl
-only_other test false act h = refl
-
-tick_other : (test : Act → Bool) (now : ℕ) (s : Session) → test (Say admin.TestRequest) ≡ false → test (Say (admin.Heartbeat false)) ≡ false
-    → test (asking s) ≡ false → list_any test (tick_acts now s) ≡ false
-tick_other test now s a b c = three (is_test_due now s) (is_heartbeat_due now s) (is_ask_due s.ask now s.heart)
-  where
-    three : (x y z : Bool) → list_any test (only x (Say admin.TestRequest) ++ only y (Say (admin.Heartbeat false)) ++ only z (asking s)) ≡ false
-    three true true true = rw (a, b, c) refl
-    three true true false = rw (a, b) refl
-    three true false true = rw (a, c) refl
-    three true false false = rw a refl
-    three false true true = rw (b, c) refl
-    three false true false = rw b refl
-    three false false true = rw c refl
-    three false false false = refl
-
 taken_row : (r : Row) (now : ℕ) (s : Session) (head : Head) → Premise r s.numbers.next_in head
     → list_any is_take (effect_of r (number_of (Message head)) now s).acts ≡ true → TakenInTurn s head
 taken_row (S4 true) now s head p h = absurd (cc h)
@@ -137,17 +56,17 @@ taken_row (S4 false) now s head p h = absurd (cc h)
 taken_row (S6 tag) now s head p h = taken_head head s p h
 taken_row (S9 heart reset) now s head p h = inl p
 taken_row S11 now s head p h = inl p
-taken_row (S14 tag) now s head p h = taken_head head s p h
-taken_row (S15 reason) now s head p h = taken_head head s p h
+taken_row (S14 tag) now s head p h = taken_head head s (p.0, p.1) h
+taken_row (S15 reason) now s head p h = taken_head head s (p.0, p.1) h
 taken_row (S16 to) now s head p h = inr (subst (ResetsFrom s.numbers.next_in) (sym p.0) p.1)
 taken_row (S22 from to dup) now s head p h = let none : list_any is_take (only (is_asked_for dup s.ask) (asking s)) ≡ false = only_other is_take (is_asked_for dup s.ask) (asking s) refl in absurd (cc (none, h))
 taken_row (S23 dup) now s head p h = let none : list_any is_take (only (is_asked_for dup s.ask) (asking s)) ≡ false = only_other is_take (is_asked_for dup s.ask) (asking s) refl in absurd (cc (none, h))
 taken_row S24 now s head p h = inl p
 taken_row S25 now s head p h = inl p
-taken_row (S26 from to) now s head p h = inl p
+taken_row (S26 from to) now s head p h = inl p.0
 taken_row (S27 to) now s head p h = inl p.1
-taken_row S28 now s head p h = inl p
-taken_row (S29 tag reason) now s head p h = inl p
+taken_row S28 now s head p h = inl p.0
+taken_row (S29 tag reason) now s head p h = inl p.0
 taken_row S30 now s head p h = inl p
 taken_row S31 now s head p h = inl p
 taken_row S34 now s head p h = let none : list_any is_take (tick_acts now s) ≡ false = tick_other is_take now s refl refl refl in absurd (cc (none, h))
@@ -225,7 +144,7 @@ only_taken_counts s other now = by_rows (λ s n now t. SkippedStays s t) skipped
 
 -- ---- a hang up ends
 
-abbrev is_hang_up : Act → Bool
+abbrev pub is_hang_up : Act → Bool
 is_hang_up HangUp = true
 is_hang_up act = false
 
@@ -452,10 +371,10 @@ counts_row (S22 from to dup) now s head p h = let none : list_any is_take (only 
 counts_row (S23 dup) now s head p h = let none : list_any is_take (only (is_asked_for dup s.ask) (asking s)) ≡ false = only_other is_take (is_asked_for dup s.ask) (asking s) refl in absurd (cc (none, h))
 counts_row S24 now s head p h = one_more head.what s.numbers.next_in _ (next_of head s.numbers.next_in p)
 counts_row S25 now s head p h = one_more head.what s.numbers.next_in _ (next_of head s.numbers.next_in p)
-counts_row (S26 from to) now s head p h = one_more head.what s.numbers.next_in _ (next_of head s.numbers.next_in p)
+counts_row (S26 from to) now s head p h = one_more head.what s.numbers.next_in _ (next_of head s.numbers.next_in p.0)
 counts_row (S27 to) now s head p h = subst (λ w. RaisesTo w s.numbers.next_in to) (sym p.0) (inl (refl, p.2))
-counts_row S28 now s head p h = one_more head.what s.numbers.next_in _ (next_of head s.numbers.next_in p)
-counts_row (S29 tag reason) now s head p h = one_more head.what s.numbers.next_in _ (next_of head s.numbers.next_in p)
+counts_row S28 now s head p h = one_more head.what s.numbers.next_in _ (next_of head s.numbers.next_in p.0)
+counts_row (S29 tag reason) now s head p h = one_more head.what s.numbers.next_in _ (next_of head s.numbers.next_in p.0)
 counts_row S30 now s head p h = one_more head.what s.numbers.next_in _ (next_of head s.numbers.next_in p)
 counts_row S31 now s head p h = one_more head.what s.numbers.next_in _ (next_of head s.numbers.next_in p)
 counts_row S34 now s head p h = let none : list_any is_take (tick_acts now s) ≡ false = tick_other is_take now s refl refl refl in absurd (cc (none, h))

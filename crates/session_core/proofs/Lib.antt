@@ -1,4 +1,6 @@
 mod Always
+mod ByRows
 mod Kept
+mod Links
 mod Premise
 mod Worked

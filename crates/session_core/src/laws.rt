@@ -1,11 +1,11 @@
 //! What the session table keeps, whatever happens to a session. Each law is a contract: its function does nothing.
-ghost use Rattle.std.specs.Prelude.{◌≡◌, ℕ, ◌+◌, ◌≤◌, ◌⊎◌, IsOk, Contains, IfOk, IfSome, IsSome, length, Some, None, [], ◌∷◌, true, false};
-ghost use Rattle.session_core.specs.Laws.{Always, IsExpected, IsReset, HangsUpAfterLogout, AreInOrder, SetsExpected, IsForApplication};
-ghost use Rattle.session_core.specs.Table.{Input, Message, Tick, step, says};
+ghost use Rattle.std.specs.Prelude.{◌≡◌, ℕ, ◌+◌, ◌≤◌, ◌⊎◌, ◌==◌, ◌<◌, if◌then◌else◌, IsOk, IsOkAnd, IsSomeAnd, Contains, IfOk, IfSome, IsSome, length, Some, None, [], ◌∷◌, true, false};
+ghost use Rattle.session_core.specs.Laws.{IsOfApplication, IsGoodLogon, IsDownBy, GoesByNumber, IsRequestFrom, IsRejectedFor, Always, IsExpected, IsReset, HangsUpAfterLogout, AreInOrder, SetsExpected, IsForApplication};
+ghost use Rattle.session_core.specs.Table.{Input, Message, Tick, step, says, given};
 ghost use Rattle.session_core.specs.declared.session.Session.{Session};
 ghost use Rattle.session_core.specs.declared.head.Head.{Head};
 
-use crate::{Act, Admin, LinkState, ALL_USED, MAX_ACTS};
+use crate::{ALL_USED, Act, Admin, LinkState, MAX_ACTS};
 
 /// The expected number never falls.
 pub fn expected_number_never_falls()
@@ -116,4 +116,66 @@ pub fn application_gets_its_turn()
         → IfOk (step s (Message head) now) (λ t. t.acts ≡ Act.Take ∷ []
         → (s.link ≡ LinkState.Active) × (head.comp ≡ None) × (head.time ≡ None)
         × (head.number ≡ Some s.numbers.next_in)) }
+{}
+
+/// Such a message in turn has its turn: it is taken, and nothing else is done. With the law before:
+/// the application decides exactly about these.
+pub fn application_has_its_turn()
+    ensures { (s : Session) (head : Head) (now : ℕ) → IsForApplication head.what
+        → s.link ≡ LinkState.Active → head.comp ≡ None → head.time ≡ None
+        → head.number ≡ Some s.numbers.next_in
+        → IsOkAnd (step s (Message head) now) (λ t. t.acts ≡ Act.Take ∷ []) }
+{}
+
+/// Where a Reject or a message of the application is taken and is not the application's turn, the
+/// session ends.
+pub fn application_has_its_turn_or_the_session_ends()
+    ensures { Always (λ s input now t. IsOfApplication input → Contains t.acts Act.Take
+        → (t.acts ≡ Act.Take ∷ []) ⊎ Contains t.acts Act.HangUp) }
+{}
+
+/// A session goes Down only by a hang up, or because its connection was lost.
+pub fn down_by_a_hang_up_or_a_loss()
+    ensures { Always (λ s input now t.
+        t.next.link ≡ LinkState.Down → IsDownBy s input t.acts) }
+{}
+
+/// A session becomes Active by a good Logon alone.
+pub fn active_by_a_good_logon()
+    ensures { Always (λ s input now t. t.next.link ≡ LinkState.Active
+        → (s.link ≡ LinkState.Active) ⊎ IsGoodLogon s input) }
+{}
+
+/// The moment of the last message is set exactly by a message of the session's own.
+pub fn said_is_set_by_a_message()
+    ensures { Always (λ s input now t.
+        t.next.said ≡ (if says t.acts == 0 then s.said else now)) }
+{}
+
+/// A number that is given for another message sets that moment too.
+pub fn said_is_set_by_a_number_given()
+    ensures { (s : Session) (now : ℕ) → IfOk (given s now) (λ g. g.1.said ≡ now) }
+{}
+
+/// A session that is Active after an early message has a request open, up to that message at
+/// least. A SequenceReset that is no gap fill goes by no number.
+pub fn early_message_leaves_a_request_open()
+    ensures { (s : Session) (head : Head) (now n : ℕ) → GoesByNumber head.what
+        → head.number ≡ Some n → s.numbers.next_in < n
+        → IfOk (step s (Message head) now) (λ t. t.next.link ≡ LinkState.Active
+        → IsSomeAnd t.next.ask (λ ask. n ≤ ask.top)) }
+{}
+
+/// What is sent again was asked for, from that number on, and was given out before.
+pub fn resent_was_given_before()
+    ensures { Always (λ s input now t. (from : ℕ) (to : ℕ)
+        → Contains t.acts (Act.Resend from to) → 1 ≤ s.numbers.next_out
+        → IsRequestFrom input from × (to < s.numbers.next_out)) }
+{}
+
+/// A Reject names a wrong name or time, the NewSeqNo(36) of a SequenceReset, or the fault of
+/// another session message.
+pub fn reject_has_its_cause()
+    ensures { Always (λ s input now t. (tag : ℕ) (reason : ℕ)
+        → Contains t.acts (Act.Say (Admin.Reject tag reason)) → IsRejectedFor input tag reason) }
 {}

@@ -23,5 +23,5 @@ mod tick;
 pub use act::{Act, Admin, Why};
 pub use acts::{Acts, MAX_ACTS};
 pub use head::{Head, What};
-pub use numbers::{Numbers, ALL_USED, MAX_MSG_SEQ_NUM};
+pub use numbers::{ALL_USED, MAX_MSG_SEQ_NUM, Numbers};
 pub use session::{Ask, LinkState, Session, Spent, Step};

@@ -142,7 +142,10 @@ impl Session {
         acts.push(Act::Skip);
         match what {
             What::Logout => {
-                return does(&[Act::Skip, Act::logout(Why::Answer), Act::HangUp], self.down());
+                return does(
+                    &[Act::Skip, Act::logout(Why::Answer), Act::HangUp],
+                    self.down(),
+                );
             }
             What::ResendRequest { from, to } => acts.push(Act::Resend {
                 from,
@@ -183,9 +186,15 @@ impl Session {
                 )
             }
             What::GapFill { to } if number < to => does(&[Act::Take], self.expects(to)),
-            What::GapFill { .. } => does(&[Act::Take, Act::reject(NEW_SEQ_NO, VALUE_IS_INCORRECT)], next),
+            What::GapFill { .. } => does(
+                &[Act::Take, Act::reject(NEW_SEQ_NO, VALUE_IS_INCORRECT)],
+                next,
+            ),
             What::Faulty { tag, reason } => does(&[Act::Take, Act::reject(tag, reason)], next),
-            What::Logout => does(&[Act::Take, Act::logout(Why::Answer), Act::HangUp], next.down()),
+            What::Logout => does(
+                &[Act::Take, Act::logout(Why::Answer), Act::HangUp],
+                next.down(),
+            ),
             _ => does(&[Act::Take], next),
         }
     }
@@ -200,7 +209,10 @@ impl Session {
             What::Reset { to } if self.numbers.next_in <= to => {
                 return does(&[Act::Take], self.expects(to));
             }
-            What::Reset { .. } => return does(&[Act::Skip, Act::reject(NEW_SEQ_NO, VALUE_IS_INCORRECT)], *self),
+            What::Reset { .. } => return does(
+                &[Act::Skip, Act::reject(NEW_SEQ_NO, VALUE_IS_INCORRECT)],
+                *self,
+            ),
             What::FaultyReset { reason, .. } => {
                 return does(&[Act::Skip, Act::reject(NEW_SEQ_NO, reason)], *self);
             }
@@ -219,7 +231,12 @@ impl Session {
         ensures { result ≡ does (take_or_skip number self.now ∷ reject ∷ logout why ∷ Act.HangUp ∷ [])
             (down (taken_or_skipped number self.now)) }
     {
-        let acts = [self.take_or_skip(number), reject, Act::logout(why), Act::HangUp];
+        let acts = [
+            self.take_or_skip(number),
+            reject,
+            Act::logout(why),
+            Act::HangUp,
+        ];
         does(&acts, self.taken_or_skipped(number).down())
     }
 
@@ -235,8 +252,16 @@ impl Session {
             );
         };
         match (head.comp, head.time) {
-            (Some(tag), _) => self.wrong_head(number, Act::reject(tag, COMP_ID_PROBLEM), Why::CompId),
-            (None, Some(reason)) => self.wrong_head(number, Act::reject(SENDING_TIME, reason), Why::Clock),
+            (Some(tag), _) => self.wrong_head(
+                number,
+                Act::reject(tag, COMP_ID_PROBLEM),
+                Why::CompId,
+            ),
+            (None, Some(reason)) => self.wrong_head(
+                number,
+                Act::reject(SENDING_TIME, reason),
+                Why::Clock,
+            ),
             (None, None) => self.numbered(number, head.what, head.dup, now),
         }
     }

@@ -4,7 +4,7 @@ ghost use Rattle.std.specs.Prelude.{◌≡◌, ◌≤◌, ℕ, None, Ok, IfOk, [
 ghost use Rattle.session_core.specs.Numbers.{IsMsgSeqNum, IsNextNumber};
 ghost use Rattle.session_core.specs.Table.{Opened, Closed, Message, Tick, End, step, settled, given, does, says, down, expects, asks, taken_or_skipped, take_or_skip, asking, resend_end, effect_of, S5};
 
-use crate::{Act, Acts, Admin, Head, Numbers, Why, ALL_USED};
+use crate::{ALL_USED, Act, Acts, Admin, Head, Numbers, Why};
 use order_meaning::Side;
 
 /// How far a session's connection has come.

@@ -1,10 +1,13 @@
 //! The table, row by row: at least one line for each row, and lines at each boundary.
-ghost use Rattle.std.specs.Prelude.{IsTrue};
-ghost use Rattle.session_core.specs.Bounds.{AreNextNumbers, IsHead};
+ghost use Rattle.session_core.specs.Head.{HasNumbers};
+ghost use Rattle.session_core.specs.Numbers.{IsMsgSeqNum, IsNextNumber};
 
 use crate::Act::{HangUp, Resend, Skip, Take};
 use crate::LinkState::{Active, Asked, Down, Wait};
-use crate::{Act, Admin, Ask, Head, LinkState, Numbers, Session, Spent, Step, What, Why};
+use crate::{
+    ALL_USED, Act, Admin, Ask, Head, LinkState, MAX_MSG_SEQ_NUM, Numbers, Session, Spent, Step,
+    What, Why,
+};
 use order_meaning::Side::{self, Client, Venue};
 use std::process::Abort;
 
@@ -27,6 +30,8 @@ const REQUEST: What = What::ResendRequest { from: 2, to: 3 };
 
 const RESEND: Act = Resend { from: 2, to: 3 };
 
+const ALL: What = What::ResendRequest { from: 2, to: 0 };
+
 const ASK: Act = Act::Say(Admin::ResendRequest { from: 5 });
 
 const TEST: Act = Act::Say(Admin::TestRequest);
@@ -40,7 +45,10 @@ const LOW: Why = Why::TooLow {
     got: 4,
 };
 
-fn session(side: Side, link: LinkState, next_in: u32, next_out: u32) -> Session {
+fn session(side: Side, link: LinkState, next_in: u32, next_out: u32) -> Session
+    requires next_in { IsNextNumber next_in }
+    requires next_out { IsNextNumber next_out }
+{
     Session {
         side,
         link,
@@ -76,15 +84,24 @@ fn said(said: u64, session: Session) -> Session {
 }
 
 // After a message: nothing was sent, or the last message was.
-fn quiet(side: Side, link: LinkState, next_in: u32, next_out: u32) -> Session {
+fn quiet(side: Side, link: LinkState, next_in: u32, next_out: u32) -> Session
+    requires next_in { IsNextNumber next_in }
+    requires next_out { IsNextNumber next_out }
+{
     seen(NOW, session(side, link, next_in, next_out))
 }
 
-fn spoken(side: Side, link: LinkState, next_in: u32, next_out: u32) -> Session {
+fn spoken(side: Side, link: LinkState, next_in: u32, next_out: u32) -> Session
+    requires next_in { IsNextNumber next_in }
+    requires next_out { IsNextNumber next_out }
+{
     said(NOW, quiet(side, link, next_in, next_out))
 }
 
-fn message(number: u32, what: What) -> Head {
+fn message(number: u32, what: What) -> Head
+    requires number { IsMsgSeqNum number }
+    requires what { HasNumbers what }
+{
     Head {
         number: Some(number),
         dup: false,
@@ -94,7 +111,10 @@ fn message(number: u32, what: What) -> Head {
     }
 }
 
-fn repeated(number: u32, what: What) -> Head {
+fn repeated(number: u32, what: What) -> Head
+    requires number { IsMsgSeqNum number }
+    requires what { HasNumbers what }
+{
     let dup = true;
     Head {
         dup,
@@ -102,7 +122,9 @@ fn repeated(number: u32, what: What) -> Head {
     }
 }
 
-fn unnumbered(what: What) -> Head {
+fn unnumbered(what: What) -> Head
+    requires { HasNumbers what }
+{
     let number = None;
     Head {
         number,
@@ -132,32 +154,6 @@ fn reject(tag: u32, reason: u8) -> Act {
     Act::Say(Admin::Reject { tag, reason })
 }
 
-fn is_in_bounds(session: &Session) -> bool
-    ensures { IsTrue result → AreNextNumbers session.now.numbers }
-{
-    let numbers = session.numbers;
-    1 <= numbers.next_in
-        && numbers.next_in <= 1_000_000_000
-        && 1 <= numbers.next_out
-        && numbers.next_out <= 1_000_000_000
-}
-
-fn is_head(head: &Head) -> bool
-    ensures { IsTrue result → IsHead head.now }
-{
-    let number = match head.number {
-        Some(number) => 1 <= number && number <= 999_999_999,
-        None => true,
-    };
-    let what = match head.what {
-        What::ResendRequest { from, .. } => 1 <= from && from <= 999_999_999,
-        What::GapFill { to } => 1 <= to && to <= 1_000_000_000,
-        What::Reset { to } => 1 <= to && to <= 1_000_000_000,
-        _ => true,
-    };
-    number && what
-}
-
 fn compare(rt: &impl Abort, row: &str, step: Result<Step, Spent>, acts: &[Act], next: Session) {
     match step {
         Ok(step) => {
@@ -169,13 +165,10 @@ fn compare(rt: &impl Abort, row: &str, step: Result<Step, Spent>, acts: &[Act], 
 }
 
 fn heard(rt: &impl Abort, row: &str, before: Session, head: Head, acts: &[Act], next: Session) {
-    assert!(rt; is_in_bounds(&before));
-    assert!(rt; is_head(&head));
     compare(rt, row, before.on_message(&head, NOW), acts, next);
 }
 
 fn ticked(rt: &impl Abort, row: &str, before: Session, now: u64, acts: &[Act], next: Session) {
-    assert!(rt; is_in_bounds(&before));
     compare(rt, row, before.on_tick(now), acts, next);
 }
 
@@ -231,6 +224,7 @@ fn a_good_logon(rt: HostRuntime) {
         "S10" | wait, message(6, LOGON) => [Skip, logon(false), ASK], asking(heart(45, spoken(Client, Active, 5, 10)), 6, NOW);
         "S11" | asked, message(5, LOGON) => [Take], quiet(Venue, Active, 6, 8);
         "S11 141" | session(Venue, Asked, 1, 2), message(1, RESET_LOGON) => [Take], quiet(Venue, Active, 2, 2);
+        "S6, not S10, with 141" | wait, message(6, RESET_LOGON) => [Skip, logout(Why::Logon(141)), HangUp], spoken(Client, Down, 5, 9);
         "S12" | asked, message(6, LOGON) => [Skip, ASK], asking(spoken(Venue, Active, 5, 9), 6, NOW);
     }
 }
@@ -285,6 +279,7 @@ fn a_low_or_a_high_number(rt: HostRuntime) {
         "S20" | up, repeated(4, What::App) => [Skip], quiet(Client, Active, 5, 8);
         "S21" | up, message(6, What::Logout) => [Skip, logout(Why::Answer), HangUp], spoken(Client, Down, 5, 9);
         "S22" | up, message(6, REQUEST) => [Skip, RESEND, ASK], opened;
+        "S22 all" | up, message(6, ALL) => [Skip, Resend { from: 2, to: 7 }, ASK], opened;
         "S22 open" | ask, message(6, REQUEST) => [Skip, RESEND], kept;
         "S22 anew" | ask, repeated(6, REQUEST) => [Skip, RESEND, ASK], anew;
         "S23" | up, message(6, What::App) => [Skip, ASK], opened;
@@ -308,6 +303,10 @@ fn the_expected_message(rt: HostRuntime) {
         "S24 bad Logon" | up, message(5, What::BadLogon { tag: 98 }) => [Take], taken;
         "S25" | up, message(5, What::TestRequest) => [Take, ECHO], answered;
         "S26" | up, message(5, REQUEST) => [Take, RESEND], taken;
+        "S26 all" | up, message(5, ALL) => [Take, Resend { from: 2, to: 7 }], taken;
+        "S26 the last" | up, message(5, What::ResendRequest { from: 2, to: 7 }) => [Take, Resend { from: 2, to: 7 }], taken;
+        "S26 past it" | up, message(5, What::ResendRequest { from: 2, to: 8 }) => [Take, Resend { from: 2, to: 7 }], taken;
+        "S26 none given" | session(Client, Active, 5, 1), message(5, What::ResendRequest { from: 1, to: 1 }) => [Take, Resend { from: 1, to: 0 }], quiet(Client, Active, 6, 1);
         "S29" | up, message(5, faulty) => [Take, reject(112, 1)], answered;
         "S30" | up, message(5, What::Logout) => [Take, logout(Why::Answer), HangUp], spoken(Client, Down, 6, 9);
         "S31" | up, repeated(5, What::App) => [Take], taken;
@@ -317,14 +316,17 @@ fn the_expected_message(rt: HostRuntime) {
 
 #[test]
 fn a_gap_is_filled(rt: HostRuntime) {
-    let up = |next_in: u32, next_out: u32| -> Session { spoken(Client, Active, next_in, next_out) };
+    let asked = spoken(Client, Active, 5, 3);
+    let filled = spoken(Client, Active, 7, 3);
+    let ordered = spoken(Client, Active, 8, 3);
+    let closed = spoken(Client, Active, 9, 3);
     table! { &rt, heard:
-        "an early message" | session(Client, Active, 5, 2), message(8, What::Heartbeat) => [Skip, ASK], asking(up(5, 3), 8, NOW);
-        "a gap fill" | asking(up(5, 3), 8, NOW), repeated(5, What::GapFill { to: 7 }) => [Take], asking(up(7, 3), 8, NOW);
-        "an order again" | asking(up(7, 3), 8, NOW), repeated(7, What::App) => [Take], asking(up(8, 3), 8, NOW);
-        "the early message" | asking(up(8, 3), 8, NOW), repeated(8, What::Heartbeat) => [Take], up(9, 3);
-        "the order once more" | up(9, 3), repeated(7, What::App) => [Skip], up(9, 3);
-        "a request too high" | session(Client, Active, 5, 4), message(9, REQUEST) => [Skip, RESEND, ASK], asking(up(5, 5), 9, NOW);
+        "an early message" | session(Client, Active, 5, 2), message(8, What::Heartbeat) => [Skip, ASK], asking(asked, 8, NOW);
+        "a gap fill" | asking(asked, 8, NOW), repeated(5, What::GapFill { to: 7 }) => [Take], asking(filled, 8, NOW);
+        "an order again" | asking(filled, 8, NOW), repeated(7, What::App) => [Take], asking(ordered, 8, NOW);
+        "the early message" | asking(ordered, 8, NOW), repeated(8, What::Heartbeat) => [Take], closed;
+        "the order once more" | closed, repeated(7, What::App) => [Skip], closed;
+        "a request too high" | session(Client, Active, 5, 4), message(9, REQUEST) => [Skip, RESEND, ASK], asking(spoken(Client, Active, 5, 5), 9, NOW);
     }
 }
 
@@ -344,15 +346,16 @@ fn a_tick_before_the_logon(rt: HostRuntime) {
 
 #[test]
 fn a_tick_of_a_silent_peer(rt: HostRuntime) {
-    let s = |next_out: u32| -> Session { session(Client, Active, 5, next_out) };
+    let s = session(Client, Active, 5, 8);
+    let asked = session(Client, Active, 5, 9);
     let (at, past) = (THEN + 36_000, THEN + 36_001);
-    let up = said(at, s(8));
+    let up = said(at, s);
     let tried = tested(THEN, up);
     let silent = tested(THEN, heart(0, up));
     table! { &rt, ticked:
         "S34 at" | up, at => [], up;
-        "S34 test" | up, past => [TEST], tested(past, said(past, s(9)));
-        "S34 test, no Heartbeat" | s(8), past => [TEST], tested(past, said(past, s(9)));
+        "S34 test" | up, past => [TEST], tested(past, said(past, asked));
+        "S34 test, no Heartbeat" | s, past => [TEST], tested(past, said(past, asked));
         "S34 the clock went back" | up, 0 => [], up;
         "S34 tested" | tried, at => [], tried;
         "S33" | tried, past => [HangUp], said(at, session(Client, Down, 5, 8));
@@ -365,27 +368,28 @@ fn a_tick_of_a_silent_peer(rt: HostRuntime) {
 
 #[test]
 fn a_tick_of_a_silent_gateway(rt: HostRuntime) {
-    let s = |next_out: u32| -> Session { session(Client, Active, 5, next_out) };
+    let s = session(Client, Active, 5, 8);
+    let one = session(Client, Active, 5, 9);
+    let two = session(Client, Active, 5, 10);
     let (below, at, past) = (THEN + 29_999, THEN + 30_000, THEN + 30_001);
-    let up = seen(at, s(8));
+    let up = seen(at, s);
     let ask = asking(said(at, up), 9, THEN);
     table! { &rt, ticked:
         "S34 below" | up, below => [], up;
-        "S34 Heartbeat" | up, at => [BEAT], said(at, seen(at, s(9)));
+        "S34 Heartbeat" | up, at => [BEAT], said(at, seen(at, one));
         "S34 HeartBtInt 0" | heart(0, up), at => [], heart(0, up);
         "S34 the clock went back" | up, 0 => [], up;
         "S34 ask at" | ask, at => [], ask;
-        "S34 ask" | ask, past => [ASK], asking(said(past, seen(at, s(9))), 9, past);
+        "S34 ask" | ask, past => [ASK], asking(said(past, seen(at, one)), 9, past);
         "S34 ask, HeartBtInt 0, at" | heart(0, ask), at => [], heart(0, ask);
-        "S34 ask, HeartBtInt 0" | heart(0, ask), past => [ASK], heart(0, asking(said(past, seen(at, s(9))), 9, past));
+        "S34 ask, HeartBtInt 0" | heart(0, ask), past => [ASK], heart(0, asking(said(past, seen(at, one)), 9, past));
         "S34 ask, the clock went back" | ask, 0 => [], ask;
-        "S34 both" | asking(up, 9, THEN), past => [BEAT, ASK], asking(said(past, seen(at, s(10))), 9, past);
+        "S34 both" | asking(up, 9, THEN), past => [BEAT, ASK], asking(said(past, seen(at, two)), 9, past);
     }
 }
 
 #[test]
 fn a_connection_begins_and_ends(rt: HostRuntime) {
-    let new = |side: Side| -> Session { said(0, seen(0, session(side, Down, 5, 8))) };
     let numbers = Numbers {
         next_in: 5,
         next_out: 8,
@@ -394,7 +398,7 @@ fn a_connection_begins_and_ends(rt: HostRuntime) {
         Session::new(Client, numbers, 30),
         Session::new(Venue, numbers, 30),
     );
-    assert_eq!(&rt; client, new(Client));
+    assert_eq!(&rt; client, said(0, seen(0, session(Client, Down, 5, 8))));
     let s1 = said(0, quiet(Client, Wait, 5, 8));
     compare(&rt, "S1", client.on_open(NOW), &[], s1);
     let s2 = spoken(Venue, Asked, 5, 9);
@@ -426,8 +430,6 @@ fn a_connection_begins_and_ends(rt: HostRuntime) {
 }
 
 fn spent(rt: &impl Abort, row: &str, before: Session, head: Head) {
-    assert!(rt; is_in_bounds(&before));
-    assert!(rt; is_head(&head));
     assert!(rt;
         before.on_message(&head, NOW).is_err(),
         "a number is left at {row}"
@@ -443,18 +445,18 @@ macro_rules! all_spent {
 
 #[test]
 fn no_number_is_left(rt: HostRuntime) {
-    let wait = session(Client, Wait, 5, 1_000_000_000);
-    let up = session(Client, Active, 5, 1_000_000_000);
+    let wait = session(Client, Wait, 5, ALL_USED);
+    let up = session(Client, Active, 5, ALL_USED);
     let faulty_reset = What::FaultyReset { tag: 36, reason: 1 };
     all_spent! { &rt,
         "S6" | wait, message(5, What::BadLogon { tag: 108 });
         "S8" | wait, message(4, LOGON);
         "S9" | wait, message(5, LOGON);
         "S10" | wait, message(6, LOGON);
-        "S12" | session(Venue, Asked, 5, 1_000_000_000), message(6, LOGON);
+        "S12" | session(Venue, Asked, 5, ALL_USED), message(6, LOGON);
         "S13" | up, unnumbered(What::App);
         "S14" | up, misnamed(49, message(5, What::App));
-        "S14, one left" | session(Client, Active, 5, 999_999_999), misnamed(49, message(5, What::App));
+        "S14, one left" | session(Client, Active, 5, MAX_MSG_SEQ_NUM), misnamed(49, message(5, What::App));
         "S15" | up, mistimed(10, message(5, What::App));
         "S17" | up, message(5, What::Reset { to: 4 });
         "S18" | up, message(5, faulty_reset);
@@ -468,22 +470,18 @@ fn no_number_is_left(rt: HostRuntime) {
         "S30" | up, message(5, What::Logout);
     }
     table! { &rt, heard:
-        "S25, the last" | session(Client, Active, 5, 999_999_999), message(5, What::TestRequest) => [Take, ECHO], spoken(Client, Active, 6, 1_000_000_000);
-        "S24, none left" | up, message(5, What::Heartbeat) => [Take], quiet(Client, Active, 6, 1_000_000_000);
-        "S16, the last" | session(Client, Active, 5, 8), message(5, What::Reset { to: 1_000_000_000 }) => [Take], quiet(Client, Active, 1_000_000_000, 8);
+        "S25, the last" | session(Client, Active, 5, MAX_MSG_SEQ_NUM), message(5, What::TestRequest) => [Take, ECHO], spoken(Client, Active, 6, ALL_USED);
+        "S24, none left" | up, message(5, What::Heartbeat) => [Take], quiet(Client, Active, 6, ALL_USED);
+        "S16, the last" | session(Client, Active, 5, 8), message(5, What::Reset { to: ALL_USED }) => [Take], quiet(Client, Active, ALL_USED, 8);
     }
 }
 
 #[test]
 fn no_number_is_left_to_begin_or_to_end(rt: HostRuntime) {
-    let wait = session(Client, Wait, 5, 1_000_000_000);
-    let up = session(Client, Active, 5, 1_000_000_000);
-    let venue = session(Venue, Down, 5, 1_000_000_000);
-    let last = session(Client, Active, 5, 999_999_999);
-    assert!(&rt; is_in_bounds(&wait));
-    assert!(&rt; is_in_bounds(&up));
-    assert!(&rt; is_in_bounds(&venue));
-    assert!(&rt; is_in_bounds(&last));
+    let wait = session(Client, Wait, 5, ALL_USED);
+    let up = session(Client, Active, 5, ALL_USED);
+    let venue = session(Venue, Down, 5, ALL_USED);
+    let last = session(Client, Active, 5, MAX_MSG_SEQ_NUM);
     assert_eq!(&rt; venue.on_open(NOW).is_ok(), false, "S2");
     assert_eq!(&rt; up.on_tick(THEN + 36_001).is_ok(), false, "S34 test");
     assert_eq!(&rt; up.on_tick(THEN + 30_000).is_ok(), false, "S34 beat");
@@ -491,5 +489,5 @@ fn no_number_is_left_to_begin_or_to_end(rt: HostRuntime) {
     assert_eq!(&rt; up.on_end(NOW).is_ok(), false, "S35");
     assert_eq!(&rt; wait.on_end(NOW).is_ok(), true, "S36");
     assert_eq!(&rt; up.give(NOW), Err(Spent));
-    assert_eq!(&rt; last.give(NOW), Ok((999_999_999, said(NOW, up))));
+    assert_eq!(&rt; last.give(NOW), Ok((MAX_MSG_SEQ_NUM, said(NOW, up))));
 }

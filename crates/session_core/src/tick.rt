@@ -62,7 +62,11 @@ impl Session {
     fn is_ask_due(&self, now: u64) -> bool
         ensures { result ≡ is_ask_due self.now.ask now self.now.heart }
     {
-        let heart = if self.heart == 0 { HEART_OF_NONE } else { self.heart };
+        let heart = if self.heart == 0 {
+            HEART_OF_NONE
+        } else {
+            self.heart
+        };
         match self.ask {
             Some(ask) => SECOND * u64::from(heart) < elapsed(now, ask.since),
             None => false,
