@@ -418,6 +418,7 @@ ends_before to s h =
   where
     before : (n : ℕ) → 1 ≤ n → n - 1 < n
     before n h = omega arith
+
     below : (to n : ℕ) → 1 ≤ n → min to (n - 1) < n
     below to n h = omega arith
 
@@ -483,6 +484,7 @@ none_rejected s tag reason may =
   where
     last : (((tag ≡ NEW_SEQ_NO) × ⊥) ⊎ ⊥) → ⊥
     last h = elim h [ inl reset ↦ reset.1 | inr fault ↦ fault ]
+
     rest : (((tag ≡ SENDING_TIME) × (None ≡ Some reason)) ⊎ ((tag ≡ NEW_SEQ_NO) × ⊥) ⊎ ⊥) → ⊥
     rest h = elim h [ inl timed ↦ absurd (cc timed.1) | inr other ↦ last other ]
 

@@ -136,6 +136,7 @@ impl Session {
     /// [`MAX_MSG_SEQ_NUM`](crate::MAX_MSG_SEQ_NUM).
     pub fn on_open(&self, now: u64) -> Result<Step, Spent>
         ensures step { result ≡ step self.now Opened now }
+        ensures side { IfOk result (λ t. t.next.side ≡ self.now.side) }
     {
         let row = match self.side {
             Side::Client => does(
@@ -161,6 +162,7 @@ impl Session {
     /// The session after its connection was lost: it is Down, with the same numbers and nothing outstanding.
     pub fn on_closed(&self) -> Session
         ensures step { (now : ℕ) → step self.now Closed now ≡ Ok (does [] result) }
+        ensures side { result.side ≡ self.now.side }
         ensures numbers { result.numbers ≡ self.now.numbers }
     {
         self.down()
@@ -174,6 +176,7 @@ impl Session {
     /// [`MAX_MSG_SEQ_NUM`](crate::MAX_MSG_SEQ_NUM).
     pub fn on_message(&self, head: &Head, now: u64) -> Result<Step, Spent>
         ensures step { result ≡ step self.now (Message head.now) now }
+        ensures side { IfOk result (λ t. t.next.side ≡ self.now.side) }
     {
         let heard = Session {
             seen: now,
@@ -191,6 +194,7 @@ impl Session {
     /// [`MAX_MSG_SEQ_NUM`](crate::MAX_MSG_SEQ_NUM).
     pub fn on_tick(&self, now: u64) -> Result<Step, Spent>
         ensures step { result ≡ step self.now Tick now }
+        ensures side { IfOk result (λ t. t.next.side ≡ self.now.side) }
     {
         settled(self.tick(now), now)
     }
@@ -203,6 +207,7 @@ impl Session {
     /// [`MAX_MSG_SEQ_NUM`](crate::MAX_MSG_SEQ_NUM).
     pub fn on_end(&self, now: u64) -> Result<Step, Spent>
         ensures step { result ≡ step self.now End now }
+        ensures side { IfOk result (λ t. t.next.side ≡ self.now.side) }
     {
         let row = match self.link {
             LinkState::Down => does(&[], *self),
@@ -219,6 +224,7 @@ impl Session {
     /// [`Spent`] exactly where no number is left.
     pub fn give(&self, now: u64) -> Result<(u32, Session), Spent>
         ensures given { result ≡ given self.now now }
+        ensures side { IfOk result (λ g. g.1.side ≡ self.now.side) }
     {
         let number = self.numbers.next_out;
         if number == ALL_USED {
