@@ -6,7 +6,8 @@ use Rattle.session_core.specs.Numbers.{IsMsgSeqNum, IsNextNumber}
 use Rattle.session_core.specs.declared.head.What.{What}
 use Rattle.session_core.specs.declared.head.What.TheVariants as what
 
--- the fields of a head: MsgSeqNum(34), PossDupFlag(43), the wrong CompID, the fault of SendingTime(52), the kind
+-- the fields of a head: MsgSeqNum(34), PossDupFlag(43), the wrong CompID, the fault of
+-- SendingTime(52), the kind
 pub record HeadFields : Type 0 where
   pub number : Option ℕ
   pub dup : Bool
@@ -14,7 +15,8 @@ pub record HeadFields : Type 0 where
   pub time : Option ℕ
   pub what : What
 
--- the numbers inside a message: BeginSeqNo(7) is a message's, NewSeqNo(36) that of a message to come
+-- the numbers inside a message: BeginSeqNo(7) is a message's, NewSeqNo(36) that of a message to
+-- come
 abbrev pub HasNumbers : What → Type 0
 HasNumbers (what.ResendRequest from to) = IsMsgSeqNum from
 HasNumbers (what.GapFill to) = IsNextNumber to

@@ -39,8 +39,8 @@ HangsUpAfterLogout [] = Unit {0}
 HangsUpAfterLogout (Say (admin.Logout w) ∷ acts) = acts ≡ HangUp ∷ []
 HangsUpAfterLogout (act ∷ acts) = HangsUpAfterLogout acts
 
--- acts in the order in which they are done: a message is taken or passed over, messages are sent again, the session's
--- own are sent, the connection is hung up
+-- acts in the order in which they are done: a message is taken or passed over, messages are sent
+-- again, the session's own are sent, the connection is hung up
 abbrev pub AreLast : List Act → Type 0
 AreLast [] = Unit {0}
 AreLast (HangUp ∷ []) = Unit {0}
@@ -79,8 +79,8 @@ abbrev pub IsOfApplication : Input → Type 0
 IsOfApplication (Message head) = IsForApplication head.what
 IsOfApplication other = ⊥
 
--- a session that awaits a Logon gets a good one: with a number that is not old, the right names and time, and
--- ResetSeqNumFlag(141) on the very first message of the side alone
+-- a session that awaits a Logon gets a good one: with a number that is not old, the right names and
+-- time, and ResetSeqNumFlag(141) on the very first message of the side alone
 pub record LogsOn (s : Session) (head : Head) : Type 0 where
   pub n : ℕ
   pub heart : ℕ

@@ -25,11 +25,29 @@ impl Model for Head {
 
     ghost Value = { HeadFields };
 
-    ghost view = { λ h. record { number = h.number; dup = h.dup; comp = h.comp; time = h.time; what = h.what } };
+    ghost view = { λ h. record {
+      number = h.number;
+      dup = h.dup;
+      comp = h.comp;
+      time = h.time;
+      what = h.what;
+    } };
 
-    ghost inverse = { λ h. record { number = h.number; dup = h.dup; comp = h.comp; time = h.time; what = h.what } };
+    ghost inverse = { λ h. record {
+      number = h.number;
+      dup = h.dup;
+      comp = h.comp;
+      time = h.time;
+      what = h.what;
+    } };
 
-    ghost invariant = { λ h. IsHead (record { number = h.number; dup = h.dup; comp = h.comp; time = h.time; what = h.what }) };
+    ghost invariant = { λ h. IsHead (record {
+      number = h.number;
+      dup = h.dup;
+      comp = h.comp;
+      time = h.time;
+      what = h.what;
+    }) };
 }
 
 /// The kind of a message, with the fields that a session reads.

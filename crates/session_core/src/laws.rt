@@ -1,4 +1,5 @@
-//! What the session table keeps, whatever happens to a session. Each law is a contract: its function does nothing.
+//! What the session table keeps, whatever happens to a session. Each law is a contract: its
+//! function does nothing.
 ghost use Rattle.std.specs.Prelude.{◌≡◌, ℕ, ◌+◌, ◌≤◌, ◌⊎◌, ◌==◌, ◌<◌, if◌then◌else◌, IsOk, IsOkAnd, IsSomeAnd, Contains, IfOk, IfSome, IsSome, length, Some, None, [], ◌∷◌, true, false};
 ghost use Rattle.session_core.specs.Laws.{IsOfApplication, IsGoodLogon, IsDownBy, GoesByNumber, IsRequestFrom, IsRejectedFor, Always, IsExpected, IsReset, HangsUpAfterLogout, AreInOrder, SetsExpected, IsForApplication};
 ghost use Rattle.session_core.specs.Table.{Input, Message, Tick, step, says, given};
@@ -12,8 +13,8 @@ pub fn expected_number_never_falls()
     ensures { Always (λ s input now t. s.numbers.next_in ≤ t.next.numbers.next_in) }
 {}
 
-/// A message is taken only at the expected number, or as a SequenceReset that is no gap fill and sets the
-/// expected number to itself or a higher one.
+/// A message is taken only at the expected number, or as a SequenceReset that is no gap fill and
+/// sets the expected number to itself or a higher one.
 pub fn taken_in_turn()
     ensures { Always (λ s input now t.
         Contains t.acts Act.Take → IsExpected s input ⊎ IsReset s input) }
@@ -54,14 +55,15 @@ pub fn test_request_or_heartbeat()
         → ¬ Contains t.acts (Act.Say (Admin.Heartbeat false))) }
 {}
 
-/// A session that is logged on and gets the expected message leaves its open request as it was, or closes it.
-/// So with no request open none is opened.
+/// A session that is logged on and gets the expected message leaves its open request as it was, or
+/// closes it. So with no request open none is opened.
 pub fn expected_message_opens_no_request()
     ensures { Always (λ s input now t. s.link ≡ LinkState.Active → IsExpected s input
         → (t.next.ask ≡ s.ask) ⊎ (t.next.ask ≡ None)) }
 {}
 
-/// A request that is open after a step is for a gap that is open: the expected number is not past its top.
+/// A request that is open after a step is for a gap that is open: the expected number is not past
+/// its top.
 pub fn open_request_has_a_gap()
     ensures { Always (λ s input now t.
         IfSome t.next.ask (λ ask. t.next.numbers.next_in ≤ ask.top)) }
@@ -91,8 +93,8 @@ pub fn two_numbers_are_enough()
         → IsOk (step s input now) }
 {}
 
-/// The acts stand in one order: a message is taken or passed over, messages are sent again, the session's own are
-/// sent, the connection is hung up. Each but the third stands once at most.
+/// The acts stand in one order: a message is taken or passed over, messages are sent again, the
+/// session's own are sent, the connection is hung up. Each but the third stands once at most.
 pub fn acts_in_order()
     ensures { Always (λ s input now t. AreInOrder t.acts) }
 {}
@@ -109,8 +111,9 @@ pub fn nothing_without_a_connection()
         → IfOk (step s (Message head) now) (λ t. t.acts ≡ Act.Skip ∷ []) }
 {}
 
-/// A Reject or a message of the application whose one act is that it is taken came in turn, with the right names and
-/// time, to a session that is logged on. This is how the application knows what it is to decide.
+/// A Reject or a message of the application whose one act is that it is taken came in turn, with
+/// the right names and time, to a session that is logged on. This is how the application knows what
+/// it is to decide.
 pub fn application_gets_its_turn()
     ensures { (s : Session) (head : Head) (now : ℕ) → IsForApplication head.what
         → IfOk (step s (Message head) now) (λ t. t.acts ≡ Act.Take ∷ []

@@ -3,8 +3,8 @@
 //! A [`Session`] is a value. Each call says what the session does at one thing that happened to it,
 //! as a [`Step`]: the acts, in order, and the session afterwards. No call takes memory.
 //!
-//! The table itself is the definition `step` of `specs/Table.antt`, with the rows S1 to S36, and each
-//! call answers exactly it. What the table keeps, whatever happens, stands in [`laws`].
+//! The table itself is the definition `step` of `specs/Table.antt`, with the rows S1 to S36, and
+//! each call answers exactly it. What the table keeps, whatever happens, stands in [`laws`].
 #![tactic(auto)]
 
 mod act;

@@ -57,8 +57,8 @@ impl Session {
     // A Logon of the expected number.
     fn logon_taken(&self, number: u32, heart: u32, reset: bool) -> Step
         requires { IsMsgSeqNum number }
-        ensures { result ≡ effect_of (logon_row self.now.link (What.Logon heart reset) true Equal true)
-            number 0 self.now }
+        ensures { result ≡ effect_of (logon_row self.now.link (What.Logon heart reset) true Equal
+            true) number 0 self.now }
     {
         let next = Session {
             link: LinkState::Active,
@@ -202,8 +202,8 @@ impl Session {
     fn numbered(&self, number: u32, what: What, dup: bool, now: u64) -> Step
         requires number { IsMsgSeqNum number }
         requires what { HasNumbers what }
-        ensures { result ≡ effect_of (numbered_row what (nat_cmp number self.now.numbers.next_in) dup
-            number self.now.numbers.next_in) number now self.now }
+        ensures { result ≡ effect_of (numbered_row what (nat_cmp number self.now.numbers.next_in)
+            dup number self.now.numbers.next_in) number now self.now }
     {
         match what {
             What::Reset { to } if self.numbers.next_in <= to => {
@@ -228,8 +228,8 @@ impl Session {
     // A message with a wrong name or time: it is answered by a Reject, and the session ends.
     fn wrong_head(&self, number: u32, reject: Act, why: Why) -> Step
         requires { IsMsgSeqNum number }
-        ensures { result ≡ does (take_or_skip number self.now ∷ reject ∷ logout why ∷ Act.HangUp ∷ [])
-            (down (taken_or_skipped number self.now)) }
+        ensures { result ≡ does (take_or_skip number self.now ∷ reject ∷ logout why
+            ∷ Act.HangUp ∷ []) (down (taken_or_skipped number self.now)) }
     {
         let acts = [
             self.take_or_skip(number),

@@ -29,5 +29,8 @@ impl Model for Numbers {
 
     ghost inverse = { λ n. record { next_in = n.next_in; next_out = n.next_out } };
 
-    ghost invariant = { λ n. AreNextNumbers (record { next_in = n.next_in; next_out = n.next_out }) };
+    ghost invariant = { λ n. AreNextNumbers (record {
+      next_in = n.next_in;
+      next_out = n.next_out;
+    }) };
 }

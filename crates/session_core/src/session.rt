@@ -4,7 +4,7 @@ ghost use Rattle.std.specs.Prelude.{◌≡◌, ◌≤◌, ℕ, None, Ok, IfOk, [
 ghost use Rattle.session_core.specs.Numbers.{IsMsgSeqNum, IsNextNumber};
 ghost use Rattle.session_core.specs.Table.{Opened, Closed, Message, Tick, End, step, settled, given, does, says, down, expects, asks, taken_or_skipped, take_or_skip, asking, resend_end, effect_of, S5};
 
-use crate::{ALL_USED, Act, Acts, Admin, Head, Numbers, Why};
+use crate::{ALL_USED, Act, Acts, Admin, Head, MAX_ACTS, Numbers, Why};
 use order_meaning::Side;
 
 /// How far a session's connection has come.
@@ -126,7 +126,8 @@ fn settled(row: Step, now: u64) -> Result<Step, Spent>
 }
 
 impl Session {
-    /// What to do as the connection opens: a client's session waits for the Logon, the venue's logs on.
+    /// What to do as the connection opens: a client's session waits for the Logon, the venue's logs
+    /// on.
     ///
     /// `now` is in milliseconds since 1970-01-01 00:00 UTC, here and below.
     ///
@@ -159,7 +160,8 @@ impl Session {
         settled(row, now)
     }
 
-    /// The session after its connection was lost: it is Down, with the same numbers and nothing outstanding.
+    /// The session after its connection was lost: it is Down, with the same numbers and nothing
+    /// outstanding.
     pub fn on_closed(&self) -> Session
         ensures step { (now : ℕ) → step self.now Closed now ≡ Ok (does [] result) }
         ensures side { result.side ≡ self.now.side }
@@ -168,7 +170,8 @@ impl Session {
         self.down()
     }
 
-    /// What to do with a whole frame from the peer, of which `head` says what a session has to know.
+    /// What to do with a whole frame from the peer, of which `head` says what a session has to
+    /// know.
     ///
     /// # Errors
     ///
@@ -186,7 +189,8 @@ impl Session {
         settled(heard.message(head, now), now)
     }
 
-    /// What to do at a moment at which nothing came: a Heartbeat, a TestRequest, a request made anew, or hanging up.
+    /// What to do at a moment at which nothing came: a Heartbeat, a TestRequest, a request made
+    /// anew, or hanging up.
     ///
     /// # Errors
     ///
@@ -199,7 +203,8 @@ impl Session {
         settled(self.tick(now), now)
     }
 
-    /// What to do as the gateway ends: a session that is logged on says Logout, and each connection is hung up.
+    /// What to do as the gateway ends: a session that is logged on says Logout, and each connection
+    /// is hung up.
     ///
     /// # Errors
     ///
@@ -217,7 +222,8 @@ impl Session {
         settled(row, now)
     }
 
-    /// The number of a message that is not of the session's own, and the session after it was sent at `now`.
+    /// The number of a message that is not of the session's own, and the session after it was sent
+    /// at `now`.
     ///
     /// # Errors
     ///
@@ -320,7 +326,7 @@ impl Session {
     pub(crate) fn resend_end(&self, to: u32) -> u32
         ensures { result ≡ resend_end to self.now }
     {
-        let last = self.numbers.next_out.saturating_sub(1);
+        let last = self.numbers.next_out - 1;
         if to == 0 { last } else { to.min(last) }
     }
 
@@ -343,7 +349,7 @@ impl Session {
 
 // A row: its acts, and the session before its own messages are counted.
 pub(crate) fn does(acts: &[Act], next: Session) -> Step
-    requires { length acts.now ≤ 5 }
+    requires { length acts.now ≤ MAX_ACTS }
     ensures { result ≡ does acts.now next }
 {
     Step {

@@ -172,7 +172,8 @@ fn ticked(rt: &impl Abort, row: &str, before: Session, now: u64, acts: &[Act], n
     compare(rt, row, before.on_tick(now), acts, next);
 }
 
-// The lines of a table: the row, the session before, the message or the moment, the acts, the session after.
+// The lines of a table: the row, the session before, the message or the moment, the acts, the
+// session after.
 macro_rules! table {
     ($rt:expr, $call:ident: $($row:literal | $before:expr, $input:expr => $acts:expr, $after:expr;)*) => {
         $($call($rt, $row, $before, $input, &$acts, $after);)*
@@ -190,7 +191,8 @@ fn the_first_message(rt: HostRuntime) {
         "S5 no number" | wait, unnumbered(LOGON) => [HangUp], gone;
         "S5 comp" | wait, misnamed(49, message(5, LOGON)) => [HangUp], gone;
         "S5 time" | wait, mistimed(10, message(5, LOGON)) => [HangUp], gone;
-        "S5 venue" | session(Venue, Asked, 5, 8), message(5, What::Logout) => [HangUp], quiet(Venue, Down, 5, 8);
+        "S5 venue" | session(Venue, Asked, 5, 8), message(5, What::Logout)
+            => [HangUp], quiet(Venue, Down, 5, 8);
         "S7" | wait, repeated(4, LOGON) => [Skip], quiet(Client, Wait, 5, 8);
         "S8" | wait, message(4, LOGON) => [Skip, logout(LOW), HangUp], lost;
     }
@@ -208,9 +210,12 @@ fn a_refused_logon(rt: HostRuntime) {
         "S6 at" | wait, message(5, bad) => [Take, refused, HangUp], spoken(Client, Down, 6, 9);
         "S6 above" | wait, message(6, bad) => [Skip, refused, HangUp], lost;
         "S6 before S7" | wait, repeated(4, bad) => [Skip, refused, HangUp], lost;
-        "S6 in 4" | session(Client, Wait, 4, 1), message(1, RESET_LOGON) => [Skip, stale, HangUp], spoken(Client, Down, 4, 2);
-        "S6 out 2" | session(Client, Wait, 1, 2), message(1, RESET_LOGON) => [Take, stale, HangUp], spoken(Client, Down, 2, 3);
-        "S6 venue" | session(Venue, Asked, 1, 3), message(1, RESET_LOGON) => [Take, stale, HangUp], spoken(Venue, Down, 2, 4);
+        "S6 in 4" | session(Client, Wait, 4, 1), message(1, RESET_LOGON)
+            => [Skip, stale, HangUp], spoken(Client, Down, 4, 2);
+        "S6 out 2" | session(Client, Wait, 1, 2), message(1, RESET_LOGON)
+            => [Take, stale, HangUp], spoken(Client, Down, 2, 3);
+        "S6 venue" | session(Venue, Asked, 1, 3), message(1, RESET_LOGON)
+            => [Take, stale, HangUp], spoken(Venue, Down, 2, 4);
     }
 }
 
@@ -219,13 +224,19 @@ fn a_good_logon(rt: HostRuntime) {
     let wait = session(Client, Wait, 5, 8);
     let asked = session(Venue, Asked, 5, 8);
     table! { &rt, heard:
-        "S9" | wait, message(5, LOGON) => [Take, logon(false)], heart(45, spoken(Client, Active, 6, 9));
-        "S9 141" | session(Client, Wait, 1, 1), message(1, RESET_LOGON) => [Take, logon(true)], heart(45, spoken(Client, Active, 2, 2));
-        "S10" | wait, message(6, LOGON) => [Skip, logon(false), ASK], asking(heart(45, spoken(Client, Active, 5, 10)), 6, NOW);
+        "S9" | wait, message(5, LOGON)
+            => [Take, logon(false)], heart(45, spoken(Client, Active, 6, 9));
+        "S9 141" | session(Client, Wait, 1, 1), message(1, RESET_LOGON)
+            => [Take, logon(true)], heart(45, spoken(Client, Active, 2, 2));
+        "S10" | wait, message(6, LOGON)
+            => [Skip, logon(false), ASK], asking(heart(45, spoken(Client, Active, 5, 10)), 6, NOW);
         "S11" | asked, message(5, LOGON) => [Take], quiet(Venue, Active, 6, 8);
-        "S11 141" | session(Venue, Asked, 1, 2), message(1, RESET_LOGON) => [Take], quiet(Venue, Active, 2, 2);
-        "S6, not S10, with 141" | wait, message(6, RESET_LOGON) => [Skip, logout(Why::Logon(141)), HangUp], spoken(Client, Down, 5, 9);
-        "S12" | asked, message(6, LOGON) => [Skip, ASK], asking(spoken(Venue, Active, 5, 9), 6, NOW);
+        "S11 141" | session(Venue, Asked, 1, 2), message(1, RESET_LOGON)
+            => [Take], quiet(Venue, Active, 2, 2);
+        "S6, not S10, with 141" | wait, message(6, RESET_LOGON)
+            => [Skip, logout(Why::Logon(141)), HangUp], spoken(Client, Down, 5, 9);
+        "S12" | asked, message(6, LOGON)
+            => [Skip, ASK], asking(spoken(Venue, Active, 5, 9), 6, NOW);
     }
 }
 
@@ -237,13 +248,19 @@ fn a_wrong_head(rt: HostRuntime) {
     let (comp, time) = (logout(Why::CompId), logout(Why::Clock));
     let none = logout(Why::NoNumber);
     table! { &rt, heard:
-        "S13" | up, misnamed(49, unnumbered(What::App)) => [Skip, none, HangUp], spoken(Client, Down, 5, 9);
-        "S14 below" | up, misnamed(49, message(4, What::App)) => [Skip, reject(49, 9), comp, HangUp], lost;
+        "S13" | up, misnamed(49, unnumbered(What::App))
+            => [Skip, none, HangUp], spoken(Client, Down, 5, 9);
+        "S14 below" | up, misnamed(49, message(4, What::App))
+            => [Skip, reject(49, 9), comp, HangUp], lost;
         "S14 at" | up, both => [Take, reject(56, 9), comp, HangUp], taken;
-        "S14 above" | up, misnamed(49, message(6, What::App)) => [Skip, reject(49, 9), comp, HangUp], lost;
-        "S15 below" | up, mistimed(1, message(4, What::App)) => [Skip, reject(52, 1), time, HangUp], lost;
-        "S15 at" | up, mistimed(10, message(5, What::App)) => [Take, reject(52, 10), time, HangUp], taken;
-        "S15 above" | up, mistimed(6, message(6, What::App)) => [Skip, reject(52, 6), time, HangUp], lost;
+        "S14 above" | up, misnamed(49, message(6, What::App))
+            => [Skip, reject(49, 9), comp, HangUp], lost;
+        "S15 below" | up, mistimed(1, message(4, What::App))
+            => [Skip, reject(52, 1), time, HangUp], lost;
+        "S15 at" | up, mistimed(10, message(5, What::App))
+            => [Take, reject(52, 10), time, HangUp], taken;
+        "S15 above" | up, mistimed(6, message(6, What::App))
+            => [Skip, reject(52, 6), time, HangUp], lost;
     }
 }
 
@@ -255,15 +272,22 @@ fn a_sequence_reset(rt: HostRuntime) {
     table! { &rt, heard:
         "S16 at" | up, message(9, What::Reset { to: 5 }) => [Take], quiet(Client, Active, 5, 8);
         "S16 above" | up, message(4, What::Reset { to: 6 }) => [Take], quiet(Client, Active, 6, 8);
-        "S16 stays" | ask, message(9, What::Reset { to: 6 }) => [Take], asking(quiet(Client, Active, 6, 8), 6, THEN);
-        "S16 closes" | ask, message(9, What::Reset { to: 7 }) => [Take], quiet(Client, Active, 7, 8);
-        "S17" | up, message(5, What::Reset { to: 4 }) => [Skip, reject(36, 5)], spoken(Client, Active, 5, 9);
+        "S16 stays" | ask, message(9, What::Reset { to: 6 })
+            => [Take], asking(quiet(Client, Active, 6, 8), 6, THEN);
+        "S16 closes" | ask, message(9, What::Reset { to: 7 })
+            => [Take], quiet(Client, Active, 7, 8);
+        "S17" | up, message(5, What::Reset { to: 4 })
+            => [Skip, reject(36, 5)], spoken(Client, Active, 5, 9);
         "S18" | up, message(5, faulty) => [Skip, reject(36, 1)], spoken(Client, Active, 5, 9);
         "S27" | up, message(5, What::GapFill { to: 6 }) => [Take], quiet(Client, Active, 6, 8);
-        "S27 stays" | ask, message(5, What::GapFill { to: 6 }) => [Take], asking(quiet(Client, Active, 6, 8), 6, THEN);
-        "S27 closes" | ask, message(5, What::GapFill { to: 7 }) => [Take], quiet(Client, Active, 7, 8);
-        "S28 at" | up, message(5, What::GapFill { to: 5 }) => [Take, reject(36, 5)], spoken(Client, Active, 6, 9);
-        "S28 below" | up, message(5, What::GapFill { to: 4 }) => [Take, reject(36, 5)], spoken(Client, Active, 6, 9);
+        "S27 stays" | ask, message(5, What::GapFill { to: 6 })
+            => [Take], asking(quiet(Client, Active, 6, 8), 6, THEN);
+        "S27 closes" | ask, message(5, What::GapFill { to: 7 })
+            => [Take], quiet(Client, Active, 7, 8);
+        "S28 at" | up, message(5, What::GapFill { to: 5 })
+            => [Take, reject(36, 5)], spoken(Client, Active, 6, 9);
+        "S28 below" | up, message(5, What::GapFill { to: 4 })
+            => [Take, reject(36, 5)], spoken(Client, Active, 6, 9);
     }
 }
 
@@ -275,16 +299,19 @@ fn a_low_or_a_high_number(rt: HostRuntime) {
     let kept = asking(quiet(Client, Active, 5, 8), 7, THEN);
     let anew = asking(spoken(Client, Active, 5, 9), 7, NOW);
     table! { &rt, heard:
-        "S19" | up, message(4, What::App) => [Skip, logout(LOW), HangUp], spoken(Client, Down, 5, 9);
+        "S19" | up, message(4, What::App)
+            => [Skip, logout(LOW), HangUp], spoken(Client, Down, 5, 9);
         "S20" | up, repeated(4, What::App) => [Skip], quiet(Client, Active, 5, 8);
-        "S21" | up, message(6, What::Logout) => [Skip, logout(Why::Answer), HangUp], spoken(Client, Down, 5, 9);
+        "S21" | up, message(6, What::Logout)
+            => [Skip, logout(Why::Answer), HangUp], spoken(Client, Down, 5, 9);
         "S22" | up, message(6, REQUEST) => [Skip, RESEND, ASK], opened;
         "S22 all" | up, message(6, ALL) => [Skip, Resend { from: 2, to: 7 }, ASK], opened;
         "S22 open" | ask, message(6, REQUEST) => [Skip, RESEND], kept;
         "S22 anew" | ask, repeated(6, REQUEST) => [Skip, RESEND, ASK], anew;
         "S23" | up, message(6, What::App) => [Skip, ASK], opened;
         "S23 open" | ask, message(6, What::App) => [Skip], kept;
-        "S23 raised" | ask, message(8, What::App) => [Skip], asking(quiet(Client, Active, 5, 8), 8, THEN);
+        "S23 raised" | ask, message(8, What::App)
+            => [Skip], asking(quiet(Client, Active, 5, 8), 8, THEN);
         "S23 anew" | ask, repeated(6, What::App) => [Skip, ASK], anew;
     }
 }
@@ -304,11 +331,15 @@ fn the_expected_message(rt: HostRuntime) {
         "S25" | up, message(5, What::TestRequest) => [Take, ECHO], answered;
         "S26" | up, message(5, REQUEST) => [Take, RESEND], taken;
         "S26 all" | up, message(5, ALL) => [Take, Resend { from: 2, to: 7 }], taken;
-        "S26 the last" | up, message(5, What::ResendRequest { from: 2, to: 7 }) => [Take, Resend { from: 2, to: 7 }], taken;
-        "S26 past it" | up, message(5, What::ResendRequest { from: 2, to: 8 }) => [Take, Resend { from: 2, to: 7 }], taken;
-        "S26 none given" | session(Client, Active, 5, 1), message(5, What::ResendRequest { from: 1, to: 1 }) => [Take, Resend { from: 1, to: 0 }], quiet(Client, Active, 6, 1);
+        "S26 the last" | up, message(5, What::ResendRequest { from: 2, to: 7 })
+            => [Take, Resend { from: 2, to: 7 }], taken;
+        "S26 past it" | up, message(5, What::ResendRequest { from: 2, to: 8 })
+            => [Take, Resend { from: 2, to: 7 }], taken;
+        "S26 none given" | session(Client, Active, 5, 1), message(5, What::ResendRequest { from: 1, to: 1 })
+            => [Take, Resend { from: 1, to: 0 }], quiet(Client, Active, 6, 1);
         "S29" | up, message(5, faulty) => [Take, reject(112, 1)], answered;
-        "S30" | up, message(5, What::Logout) => [Take, logout(Why::Answer), HangUp], spoken(Client, Down, 6, 9);
+        "S30" | up, message(5, What::Logout)
+            => [Take, logout(Why::Answer), HangUp], spoken(Client, Down, 6, 9);
         "S31" | up, repeated(5, What::App) => [Take], taken;
         "S31 Reject" | up, message(5, What::Reject) => [Take], taken;
     }
@@ -321,12 +352,17 @@ fn a_gap_is_filled(rt: HostRuntime) {
     let ordered = spoken(Client, Active, 8, 3);
     let closed = spoken(Client, Active, 9, 3);
     table! { &rt, heard:
-        "an early message" | session(Client, Active, 5, 2), message(8, What::Heartbeat) => [Skip, ASK], asking(asked, 8, NOW);
-        "a gap fill" | asking(asked, 8, NOW), repeated(5, What::GapFill { to: 7 }) => [Take], asking(filled, 8, NOW);
-        "an order again" | asking(filled, 8, NOW), repeated(7, What::App) => [Take], asking(ordered, 8, NOW);
-        "the early message" | asking(ordered, 8, NOW), repeated(8, What::Heartbeat) => [Take], closed;
+        "an early message" | session(Client, Active, 5, 2), message(8, What::Heartbeat)
+            => [Skip, ASK], asking(asked, 8, NOW);
+        "a gap fill" | asking(asked, 8, NOW), repeated(5, What::GapFill { to: 7 })
+            => [Take], asking(filled, 8, NOW);
+        "an order again" | asking(filled, 8, NOW), repeated(7, What::App)
+            => [Take], asking(ordered, 8, NOW);
+        "the early message" | asking(ordered, 8, NOW), repeated(8, What::Heartbeat)
+            => [Take], closed;
         "the order once more" | closed, repeated(7, What::App) => [Skip], closed;
-        "a request too high" | session(Client, Active, 5, 4), message(9, REQUEST) => [Skip, RESEND, ASK], asking(spoken(Client, Active, 5, 5), 9, NOW);
+        "a request too high" | session(Client, Active, 5, 4), message(9, REQUEST)
+            => [Skip, RESEND, ASK], asking(spoken(Client, Active, 5, 5), 9, NOW);
     }
 }
 
@@ -362,7 +398,8 @@ fn a_tick_of_a_silent_peer(rt: HostRuntime) {
         "S34 tested, the clock went back" | tried, 0 => [], tried;
         "S34 HeartBtInt 0" | heart(0, up), past => [], heart(0, up);
         "S34 HeartBtInt 0, tested" | silent, THEN => [], silent;
-        "S33 HeartBtInt 0" | silent, THEN + 1 => [HangUp], heart(0, said(at, session(Client, Down, 5, 8)));
+        "S33 HeartBtInt 0" | silent, THEN + 1
+            => [HangUp], heart(0, said(at, session(Client, Down, 5, 8)));
     }
 }
 
@@ -382,9 +419,11 @@ fn a_tick_of_a_silent_gateway(rt: HostRuntime) {
         "S34 ask at" | ask, at => [], ask;
         "S34 ask" | ask, past => [ASK], asking(said(past, seen(at, one)), 9, past);
         "S34 ask, HeartBtInt 0, at" | heart(0, ask), at => [], heart(0, ask);
-        "S34 ask, HeartBtInt 0" | heart(0, ask), past => [ASK], heart(0, asking(said(past, seen(at, one)), 9, past));
+        "S34 ask, HeartBtInt 0" | heart(0, ask), past
+            => [ASK], heart(0, asking(said(past, seen(at, one)), 9, past));
         "S34 ask, the clock went back" | ask, 0 => [], ask;
-        "S34 both" | asking(up, 9, THEN), past => [BEAT, ASK], asking(said(past, seen(at, two)), 9, past);
+        "S34 both" | asking(up, 9, THEN), past
+            => [BEAT, ASK], asking(said(past, seen(at, two)), 9, past);
     }
 }
 
@@ -456,7 +495,8 @@ fn no_number_is_left(rt: HostRuntime) {
         "S12" | session(Venue, Asked, 5, ALL_USED), message(6, LOGON);
         "S13" | up, unnumbered(What::App);
         "S14" | up, misnamed(49, message(5, What::App));
-        "S14, one left" | session(Client, Active, 5, MAX_MSG_SEQ_NUM), misnamed(49, message(5, What::App));
+        "S14, one left"
+            | session(Client, Active, 5, MAX_MSG_SEQ_NUM), misnamed(49, message(5, What::App));
         "S15" | up, mistimed(10, message(5, What::App));
         "S17" | up, message(5, What::Reset { to: 4 });
         "S18" | up, message(5, faulty_reset);
@@ -470,9 +510,12 @@ fn no_number_is_left(rt: HostRuntime) {
         "S30" | up, message(5, What::Logout);
     }
     table! { &rt, heard:
-        "S25, the last" | session(Client, Active, 5, MAX_MSG_SEQ_NUM), message(5, What::TestRequest) => [Take, ECHO], spoken(Client, Active, 6, ALL_USED);
-        "S24, none left" | up, message(5, What::Heartbeat) => [Take], quiet(Client, Active, 6, ALL_USED);
-        "S16, the last" | session(Client, Active, 5, 8), message(5, What::Reset { to: ALL_USED }) => [Take], quiet(Client, Active, ALL_USED, 8);
+        "S25, the last" | session(Client, Active, 5, MAX_MSG_SEQ_NUM), message(5, What::TestRequest)
+            => [Take, ECHO], spoken(Client, Active, 6, ALL_USED);
+        "S24, none left" | up, message(5, What::Heartbeat)
+            => [Take], quiet(Client, Active, 6, ALL_USED);
+        "S16, the last" | session(Client, Active, 5, 8), message(5, What::Reset { to: ALL_USED })
+            => [Take], quiet(Client, Active, ALL_USED, 8);
     }
 }
 
