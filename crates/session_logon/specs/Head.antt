@@ -2,8 +2,7 @@
 -- Own: numbers of nine digits, a window of time; where a tag stands twice, the first counts.
 --
 -- What a session has to know of a message with these fields: its head. It is judged field by field.
-use Rattle.std.specs.Prelude.{ℕ, ◌*◌, Bool, true, false, List, codes, nat_le, Some, None, Ok, Err, pos, ℤ, ◌-ℤ◌, if◌then◌else◌}
-use Rattle.std.specs.Int.{unsigned_abs}
+use Rattle.std.specs.Prelude.{ℕ, ◌*◌, Bool, true, false, List, codes, nat_le, Some, None, Ok, Err, pos, ℤ, ◌-ℤ◌, unsigned_abs, if◌then◌else◌}
 use Rattle.std.specs.declared.option.Option.{Option}
 use Rattle.std.specs.declared.result.Result.{Result}
 use Rattle.std.specs.Result.{result_ok}

@@ -1,6 +1,6 @@
+pub mod Content
 pub mod First
 pub mod Head
 pub mod Header
 pub mod Logon
 pub mod Reasons
-pub mod Say

@@ -30,8 +30,8 @@ const SECOND: u64 = 1_000;
 
 // The first of the two names that is missing or wrong, where the header has these.
 fn wrong_name(side: Side, names: &Names, sender: Option<&[u8]>, target: Option<&[u8]>) -> Option<u32>
-    ensures { result ≡ wrong_of side names.now (option_map (λ value. value.now) sender)
-        (option_map (λ value. value.now) target) }
+    ensures { result ≡ wrong_of side names.now (option_map (λ value. value.now) sender.entry)
+        (option_map (λ value. value.now) target.entry) }
 {
     let (peer, our) = match side {
         Side::Client => (&names.client_peer, &names.client_our),
@@ -48,7 +48,7 @@ fn wrong_name(side: Side, names: &Names, sender: Option<&[u8]>, target: Option<&
 
 // A required stamp, or the reason for which it is none.
 fn stamp(value: Option<&[u8]>) -> Result<Stamp, u8>
-    ensures { result ≡ required read_stamp (option_map (λ value. value.now) value) }
+    ensures { result ≡ required read_stamp (option_map (λ value. value.now) value.entry) }
 {
     match value {
         None => Err(REQUIRED_TAG_MISSING),
@@ -68,7 +68,7 @@ fn distance(now: u64, stamp: &Stamp) -> u128
 
 // Why a SendingTime(52) is wrong, if it is.
 fn wrong_time(window: u32, now: u64, value: Option<&[u8]>) -> Option<u8>
-    ensures { result ≡ time_fault window now (required read_stamp (option_map (λ value. value.now) value)) }
+    ensures { result ≡ time_fault window now (required read_stamp (option_map (λ value. value.now) value.entry)) }
 {
     match stamp(value) {
         Ok(stamp) if distance(now, &stamp) <= u128::from(SECOND * u64::from(window)) => None,

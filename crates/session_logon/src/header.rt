@@ -41,6 +41,7 @@ impl<'a> Model for Header<'a> {
 
 impl<'a> Header<'a> {
     /// The header of these fields.
+    #[tactic(auto, using(crate::proofs::HeaderLemmas::header_of_more))]
     pub(crate) fn of(fields: &Fields<'a>) -> Header<'a>
         ensures { result ≡ header_of fields.now }
     {

@@ -5,7 +5,7 @@
 //! message that a session sends.
 //!
 //! The definitions stand on the list of a message's fields: `head_of` of `specs/Head.antt`, `logon_of`
-//! of `specs/Logon.antt`, `said` of `specs/Say.antt`. That what one gateway writes is read by another
+//! of `specs/Logon.antt`, `said` of `specs.Content.antt`. That what one gateway writes is read by another
 //! as what it meant stands in [`laws`].
 #![tactic(auto)]
 
@@ -14,9 +14,9 @@ mod head;
 mod header;
 mod logon;
 mod reasons;
-mod say;
+mod content;
 
 pub use head::read_head;
 pub use logon::{LogonFault, check_logon};
 pub use order_meaning::{Name, Names};
-pub use say::{MAX_MSG_TYPE, MAX_REASON42, Said42, say};
+pub use content::{MAX_MSG_TYPE, MAX_REASON42, Said42, say};

@@ -27,7 +27,7 @@ pub enum LogonFault {
 
 // The field is there and has just this value.
 pub(crate) fn is_text(value: Option<&[u8]>, text: &[u8]) -> bool
-    ensures { result ≡ is_text text.now (option_map (λ value. value.now) value) }
+    ensures { result ≡ is_text text.now (option_map (λ value. value.now) value.entry) }
 {
     match value {
         Some(value) => value == text,
@@ -37,7 +37,7 @@ pub(crate) fn is_text(value: Option<&[u8]>, text: &[u8]) -> bool
 
 // The field is there and is `Y`.
 pub(crate) fn is_yes(value: Option<&[u8]>) -> bool
-    ensures { result ≡ is_yes (option_map (λ value. value.now) value) }
+    ensures { result ≡ is_yes (option_map (λ value. value.now) value.entry) }
 {
     match value {
         Some(value) => matches!(Flag::read(value), Ok(Flag { yes: true })),
@@ -47,7 +47,7 @@ pub(crate) fn is_yes(value: Option<&[u8]>) -> bool
 
 // The field is missing, or is `Y` or `N`.
 fn is_flag_or_none(value: Option<&[u8]>) -> bool
-    ensures { result ≡ is_flag_or_none (option_map (λ value. value.now) value) }
+    ensures { result ≡ is_flag_or_none (option_map (λ value. value.now) value.entry) }
 {
     match value {
         Some(value) => Flag::read(value).is_ok(),

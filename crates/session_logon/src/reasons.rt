@@ -26,7 +26,7 @@ pub(crate) fn reason_of(fault: FieldFault) -> u8
 /// A required number from the least to the greatest, or the reason for which it is none.
 pub(crate) fn number_between(value: Option<&[u8]>, least: u32, greatest: u32) -> Result<u32, u8>
     ensures value { result
-        ≡ required (read_between least greatest) (option_map (λ value. value.now) value) }
+        ≡ required (read_between least greatest) (option_map (λ value. value.now) value.entry) }
     ensures least { IfOk result (λ number. least ≤ number) }
     ensures greatest { IfOk result (λ number. number ≤ greatest) }
 {
@@ -42,7 +42,7 @@ pub(crate) fn number_between(value: Option<&[u8]>, least: u32, greatest: u32) ->
 
 /// A required number that is 0, or the least or more, or the reason for which it is none.
 pub(crate) fn zero_or_from(value: Option<&[u8]>, least: u32) -> Result<u32, u8>
-    ensures { result ≡ required (read_zero_or_from least) (option_map (λ value. value.now) value) }
+    ensures { result ≡ required (read_zero_or_from least) (option_map (λ value. value.now) value.entry) }
 {
     let Some(value) = value else {
         return Err(REQUIRED_TAG_MISSING);
@@ -56,7 +56,7 @@ pub(crate) fn zero_or_from(value: Option<&[u8]>, least: u32) -> Result<u32, u8>
 
 /// Why a required text is wrong, if it is.
 pub(crate) fn text_fault(value: Option<&[u8]>) -> Option<u8>
-    ensures { result ≡ text_fault (option_map (λ value. value.now) value) }
+    ensures { result ≡ text_fault (option_map (λ value. value.now) value.entry) }
 {
     match value {
         None => Some(REQUIRED_TAG_MISSING),

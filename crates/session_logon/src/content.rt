@@ -2,7 +2,7 @@
 
 ghost use Rattle.std.specs.Prelude.{◌≡◌, ◌++◌, [], IfOk, OnOk, codes, decimal};
 ghost use Rattle.field_groups.specs.Field.{body_of, field_bytes};
-ghost use Rattle.session_logon.specs.Say.{said, type_of, is_admin, fields_of, logon_fields, logout_fields, heartbeat_fields, test_request_fields, resend_request_fields, rejected_fields, reason_fields, later_reason};
+ghost use Rattle.session_logon.specs.Content.{said, type_of, is_admin, fields_of, logon_fields, logout_text, logout_fields, heartbeat_fields, test_request_fields, resend_request_fields, rejected_fields, reason_fields, later_reason};
 
 use itoa::Buffer;
 use order_meaning::{Bytes, Side};
@@ -106,23 +106,28 @@ fn refused(alloc: Global, tag: u32) -> Result<Bytes, AllocError>
     Ok(text)
 }
 
-fn push_logout(alloc: Global, out: &mut Bytes, why: &Why) -> Result<(), AllocError>
-    ensures { OnOk result (out.new ≡ out.old ++ body_of (logout_fields why.now)) }
+// The text of a Logout, which has none as an answer.
+fn logout_text(alloc: Global, why: &Why) -> Result<Bytes, AllocError>
+    ensures { IfOk result (λ text. text ≡ logout_text why.now) }
 {
     match why {
-        Why::TooLow { expected, got } => {
-            let text = too_low(alloc, *expected, *got)?;
-            push_field(out, TEXT, text.as_slice())
-        }
-        Why::NoNumber => push_field(out, TEXT, b"MsgSeqNum missing"),
-        Why::Logon(tag) => {
-            let text = refused(alloc, *tag)?;
-            push_field(out, TEXT, text.as_slice())
-        }
-        Why::CompId => push_field(out, TEXT, b"CompID problem"),
-        Why::Clock => push_field(out, TEXT, b"SendingTime accuracy problem"),
-        Why::Answer => Ok(()),
-        Why::End => push_field(out, TEXT, b"session ended"),
+        Why::TooLow { expected, got } => too_low(alloc, *expected, *got),
+        Why::NoNumber => Bytes::copy(alloc, b"MsgSeqNum missing"),
+        Why::Logon(tag) => refused(alloc, *tag),
+        Why::CompId => Bytes::copy(alloc, b"CompID problem"),
+        Why::Clock => Bytes::copy(alloc, b"SendingTime accuracy problem"),
+        Why::Answer => Ok(Bytes::new(alloc)),
+        Why::End => Bytes::copy(alloc, b"session ended"),
+    }
+}
+
+fn push_logout(out: &mut Bytes, text: &[u8]) -> Result<(), AllocError>
+    ensures { OnOk result (out.new ≡ out.old ++ body_of (logout_fields text.now)) }
+{
+    if text.is_empty() {
+        Ok(())
+    } else {
+        push_field(out, TEXT, text)
     }
 }
 
@@ -211,7 +216,7 @@ pub fn say(
     let mut content = Bytes::new(alloc);
     match admin {
         Admin::Logon { reset } => push_logon(&mut content, side, *reset, heart)?,
-        Admin::Logout(why) => push_logout(alloc, &mut content, why)?,
+        Admin::Logout(why) => push_logout(&mut content, logout_text(alloc, why)?.as_slice())?,
         Admin::Heartbeat { echo: has_echo } => push_heartbeat(&mut content, *has_echo, echo)?,
         Admin::TestRequest => push_test_request(alloc, &mut content, next_out)?,
         Admin::ResendRequest { from } => push_resend_request(&mut content, *from)?,

@@ -2,7 +2,7 @@
 -- Own: the order of the fields, and the texts of a Logout; docs/DECISIONS.md, "Heads and Logon".
 --
 -- What a session says: the type and the fields of each of its messages, behind the standard header.
-use Rattle.std.specs.Prelude.{ℕ, ◌==◌, Bool, true, false, List, [], ◌∷◌, ◌++◌, codes, nat_le, take, if◌then◌else◌}
+use Rattle.std.specs.Prelude.{ℕ, ◌==◌, Bool, true, false, List, [], ◌∷◌, ◌++◌, codes, length, nat_le, take, if◌then◌else◌}
 use Rattle.std.specs.Fmt.{decimal}
 use Rattle.order_meaning.specs.declared.Side.{Side}
 use Rattle.order_meaning.specs.declared.Side.TheVariants.{Client, Venue}
@@ -12,8 +12,8 @@ use Rattle.session_core.specs.declared.act.Admin.TheVariants as admin
 use Rattle.session_core.specs.declared.act.Why.{Why}
 use Rattle.session_core.specs.declared.act.Why.TheVariants as why
 use Rattle.session_core.specs.declared.tag.TheConstants.{BEGIN_SEQ_NO, END_SEQ_NO, NEW_SEQ_NO, REF_SEQ_NUM, TEXT, ENCRYPT_METHOD, HEART_BT_INT, TEST_REQ_ID, GAP_FILL_FLAG, RESET_SEQ_NUM_FLAG, REF_TAG_ID, REF_MSG_TYPE, SESSION_REJECT_REASON, DEFAULT_APPL_VER_ID}
-use Rattle.session_logon.specs.declared.say.TheConstants.{MAX_MSG_TYPE, MAX_REASON42}
-use Rattle.session_logon.specs.declared.say.Said42.{Said42}
+use Rattle.session_logon.specs.declared.content.TheConstants.{MAX_MSG_TYPE, MAX_REASON42}
+use Rattle.session_logon.specs.declared.content.Said42.{Said42}
 
 -- MsgType(35)
 abbrev pub type_of : Admin → List ℕ
@@ -33,16 +33,19 @@ logon_fields side reset heart = (ENCRYPT_METHOD, codes "0") ∷ (HEART_BT_INT, d
     last Client false = []
     last Venue reset = (DEFAULT_APPL_VER_ID, codes "9") ∷ []
 
--- the text of a Logout, which its answer has not
-abbrev pub logout_fields : Why → List Field
-logout_fields (why.TooLow expected got) =
-    (TEXT, codes "MsgSeqNum too low, expecting " ++ decimal expected ++ codes " but received " ++ decimal got) ∷ []
-logout_fields why.NoNumber = (TEXT, codes "MsgSeqNum missing") ∷ []
-logout_fields (why.Logon tag) = (TEXT, codes "Logon refused, tag " ++ decimal tag) ∷ []
-logout_fields why.CompId = (TEXT, codes "CompID problem") ∷ []
-logout_fields why.Clock = (TEXT, codes "SendingTime accuracy problem") ∷ []
-logout_fields why.Answer = []
-logout_fields why.End = (TEXT, codes "session ended") ∷ []
+-- why a session ends; the answer to a Logout says nothing
+abbrev pub logout_text : Why → List ℕ
+logout_text (why.TooLow expected got) =
+    codes "MsgSeqNum too low, expecting " ++ decimal expected ++ codes " but received " ++ decimal got
+logout_text why.NoNumber = codes "MsgSeqNum missing"
+logout_text (why.Logon tag) = codes "Logon refused, tag " ++ decimal tag
+logout_text why.CompId = codes "CompID problem"
+logout_text why.Clock = codes "SendingTime accuracy problem"
+logout_text why.Answer = []
+logout_text why.End = codes "session ended"
+
+abbrev pub logout_fields : List ℕ → List Field
+logout_fields text = if length text == 0 then [] else (TEXT, text) ∷ []
 
 -- a Heartbeat has the TestReqID(112) that it answers
 abbrev pub heartbeat_fields : Bool → List ℕ → List Field
@@ -78,7 +81,7 @@ rejected_fields tag number msg_type =
 -- It may answer a message of this number and type, with this TestReqID(112).
 abbrev pub fields_of : Side → Admin → ℕ → ℕ → ℕ → List ℕ → List ℕ → List Field
 fields_of side (admin.Logon reset) heart next_out number msg_type echo = logon_fields side reset heart
-fields_of side (admin.Logout reason) heart next_out number msg_type echo = logout_fields reason
+fields_of side (admin.Logout reason) heart next_out number msg_type echo = logout_fields (logout_text reason)
 fields_of side (admin.Heartbeat has) heart next_out number msg_type echo = heartbeat_fields has echo
 fields_of side admin.TestRequest heart next_out number msg_type echo = test_request_fields next_out
 fields_of side (admin.ResendRequest from) heart next_out number msg_type echo = resend_request_fields from
