@@ -9,6 +9,9 @@ pub const END_SEQ_NO: u32 = 16;
 /// MsgSeqNum(34).
 pub const MSG_SEQ_NUM: u32 = 34;
 
+/// MsgType(35).
+pub const MSG_TYPE: u32 = 35;
+
 /// NewSeqNo(36).
 pub const NEW_SEQ_NO: u32 = 36;
 
@@ -30,6 +33,9 @@ pub const TARGET_COMP_ID: u32 = 56;
 /// Text(58).
 pub const TEXT: u32 = 58;
 
+/// PossResend(97).
+pub const POSS_RESEND: u32 = 97;
+
 /// EncryptMethod(98).
 pub const ENCRYPT_METHOD: u32 = 98;
 
@@ -38,6 +44,9 @@ pub const HEART_BT_INT: u32 = 108;
 
 /// TestReqID(112).
 pub const TEST_REQ_ID: u32 = 112;
+
+/// OrigSendingTime(122).
+pub const ORIG_SENDING_TIME: u32 = 122;
 
 /// GapFillFlag(123).
 pub const GAP_FILL_FLAG: u32 = 123;

@@ -1,5 +1,5 @@
 -- The first field of a tag, by its place.
-use Rattle.std.proofs.Common.{◌≡◌, ℕ, ◌≤◌, ◌<◌, ◌==◌, ◌∙◌, Bool, true, false, List, Some, None, refl, ap, sym, cond, length, find, slice_get, nat_lt}
+use Rattle.std.proofs.Common.{◌≡◌, ℕ, ◌==◌, ◌∙◌, Bool, true, false, List, Some, None, refl, ap, cond, length, find, slice_get, nat_lt}
 use Rattle.std.specs.declared.option.Option.{Option}
 use Rattle.std.specs.Option.{option_map}
 use Rattle.std.specs.List.{position, position_or_len}
@@ -24,9 +24,10 @@ found p fields k e =
 lost : (p : Field → Bool) (fields : List Field) → position p fields ≡ None → find p fields ≡ None
 lost p fields e =
     elim (nat_lt (position_or_len p fields) (length fields)) as
-    (λ b. nat_lt (position_or_len p fields) (length fields) ≡ b → cond b (Some (position_or_len p fields)) None ≡ None → find p fields ≡ None)
-    [ true ↦ λ _ h. absurd (cc h)
-    | false ↦ λ past h. find_at p fields ∙ slice_get_past fields (position_or_len p fields) (ltb-false (position_or_len p fields) (length fields) past) ]
+    (λ b. nat_lt (position_or_len p fields) (length fields) ≡ b → cond b (Some (position_or_len p fields)) None ≡ None → find p fields ≡ None) [
+      | true ↦ λ _ h. absurd (cc h)
+      | false ↦ λ past h. find_at p fields ∙ slice_get_past fields (position_or_len p fields) (ltb-false (position_or_len p fields) (length fields) past)
+    ]
     refl e
 
 pub first_at : (fields : List Field) (tag k : ℕ) (field : Option Field) → position (λ f. f.0 == tag) fields ≡ Some k → slice_get fields k ≡ field

@@ -1,2 +1,3 @@
 mod FirstLemmas
 mod HeaderLemmas
+mod ReadBack

@@ -2,7 +2,7 @@
 -- Own: HeartBtInt(108) up to a day; only EncryptMethod(98) 0 and DefaultApplVerID(1137) 9.
 --
 -- The Logon that a session accepts.
-use Rattle.std.specs.Prelude.{ℕ, Bool, true, false, List, [], ◌∷◌, codes, Some, None, Ok, Err, is_ok, if◌then◌else◌}
+use Rattle.std.specs.Prelude.{ℕ, Bool, true, false, List, codes, Some, None, Ok, Err, is_ok, if◌then◌else◌}
 use Rattle.std.specs.declared.option.Option.{Option}
 use Rattle.std.specs.declared.result.Result.{Result}
 use Rattle.std.specs.Str.{bytes_eq}

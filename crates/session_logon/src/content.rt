@@ -178,17 +178,16 @@ fn push_reason(out: &mut Bytes, side: Side, reason: u8) -> Result<(), AllocError
 }
 
 // Names the message that is rejected, and the field.
-fn push_rejected(
-    out: &mut Bytes,
-    tag: u32,
-    number: u32,
-    msg_type: &[u8],
-) -> Result<(), AllocError>
+fn push_rejected(out: &mut Bytes, tag: u32, number: u32, msg_type: &[u8]) -> Result<(), AllocError>
     ensures { OnOk result (out.new ≡ out.old ++ body_of (rejected_fields tag number msg_type.now)) }
 {
     push_number_field(out, REF_SEQ_NUM, number)?;
     push_number_field(out, REF_TAG_ID, tag)?;
-    push_field(out, REF_MSG_TYPE, &msg_type[..msg_type.len().min(MAX_MSG_TYPE)])
+    push_field(
+        out,
+        REF_MSG_TYPE,
+        &msg_type[..msg_type.len().min(MAX_MSG_TYPE)],
+    )
 }
 
 /// The message of a session to a side. (FIX 4.2 and FIXT 1.1, "Administrative Messages".)

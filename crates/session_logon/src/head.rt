@@ -29,7 +29,12 @@ use typed_fields::Stamp;
 const SECOND: u64 = 1_000;
 
 // The first of the two names that is missing or wrong, where the header has these.
-fn wrong_name(side: Side, names: &Names, sender: Option<&[u8]>, target: Option<&[u8]>) -> Option<u32>
+fn wrong_name(
+    side: Side,
+    names: &Names,
+    sender: Option<&[u8]>,
+    target: Option<&[u8]>,
+) -> Option<u32>
     ensures { result ≡ wrong_of side names.now (option_map (λ value. value.now) sender.entry)
         (option_map (λ value. value.now) target.entry) }
 {

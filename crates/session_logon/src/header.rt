@@ -4,9 +4,7 @@ ghost use Rattle.std.specs.Prelude.{◌≡◌};
 ghost use Rattle.session_logon.specs.Header.{header_of, noted};
 
 use field_groups::Fields;
-use session_core::tag::{
-    MSG_SEQ_NUM, POSS_DUP_FLAG, SENDER_COMP_ID, SENDING_TIME, TARGET_COMP_ID,
-};
+use session_core::tag::{MSG_SEQ_NUM, POSS_DUP_FLAG, SENDER_COMP_ID, SENDING_TIME, TARGET_COMP_ID};
 use std::marker::Model;
 
 /// The values of the header's fields, each the first one of its tag.
@@ -31,11 +29,11 @@ impl<'a> Model for Header<'a> {
     ghost Value = { HeaderValues };
 
     ghost view = { λ h. record {
-        sender = option_map (λ value. value.now) h.sender;
-        target = option_map (λ value. value.now) h.target;
-        number = option_map (λ value. value.now) h.number;
-        dup = option_map (λ value. value.now) h.dup;
-        time = option_map (λ value. value.now) h.time;
+      sender = option_map (λ value. value.now) h.sender;
+      target = option_map (λ value. value.now) h.target;
+      number = option_map (λ value. value.now) h.number;
+      dup = option_map (λ value. value.now) h.dup;
+      time = option_map (λ value. value.now) h.time;
     } };
 }
 

@@ -9,14 +9,15 @@
 //! as what it meant stands in [`laws`].
 #![tactic(auto)]
 
+mod content;
 mod first;
 mod head;
 mod header;
+pub mod laws;
 mod logon;
 mod reasons;
-mod content;
 
-pub use head::read_head;
-pub use logon::{LogonFault, check_logon};
-pub use order_meaning::{Name, Names};
 pub use content::{MAX_MSG_TYPE, MAX_REASON42, Said42, say};
+pub use head::read_head;
+pub use logon::{LogonFault, MAX_HEART, check_logon};
+pub use order_meaning::{Name, Names};

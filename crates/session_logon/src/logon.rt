@@ -8,9 +8,7 @@ use crate::first::first_value;
 use crate::reasons::number_between;
 use field_groups::Fields;
 use order_meaning::Side;
-use session_core::tag::{
-    DEFAULT_APPL_VER_ID, ENCRYPT_METHOD, HEART_BT_INT, RESET_SEQ_NUM_FLAG,
-};
+use session_core::tag::{DEFAULT_APPL_VER_ID, ENCRYPT_METHOD, HEART_BT_INT, RESET_SEQ_NUM_FLAG};
 use thiserror::Error;
 use typed_fields::Flag;
 
