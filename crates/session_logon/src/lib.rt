@@ -16,6 +16,8 @@ mod header;
 pub mod laws;
 mod logon;
 mod reasons;
+#[cfg(test)]
+mod tests;
 
 pub use content::{MAX_MSG_TYPE, MAX_REASON42, Said42, say};
 pub use head::read_head;
