@@ -61,26 +61,26 @@ fn session(side: Side, link: LinkState, next_in: u32, next_out: u32) -> Session
     }
 }
 
-fn asking(session: Session, top: u32, since: u64) -> Session {
+fn asking(session: &Session, top: u32, since: u64) -> Session {
     let ask = Some(Ask { top, since });
-    Session { ask, ..session }
+    Session { ask, ..*session }
 }
 
-fn heart(heart: u32, session: Session) -> Session {
-    Session { heart, ..session }
+fn heart(heart: u32, session: &Session) -> Session {
+    Session { heart, ..*session }
 }
 
-fn tested(since: u64, session: Session) -> Session {
+fn tested(since: u64, session: &Session) -> Session {
     let tested = Some(since);
-    Session { tested, ..session }
+    Session { tested, ..*session }
 }
 
-fn seen(seen: u64, session: Session) -> Session {
-    Session { seen, ..session }
+fn seen(seen: u64, session: &Session) -> Session {
+    Session { seen, ..*session }
 }
 
-fn said(said: u64, session: Session) -> Session {
-    Session { said, ..session }
+fn said(said: u64, session: &Session) -> Session {
+    Session { said, ..*session }
 }
 
 // After a message: nothing was sent, or the last message was.
@@ -88,14 +88,14 @@ fn quiet(side: Side, link: LinkState, next_in: u32, next_out: u32) -> Session
     requires next_in { IsNextNumber next_in }
     requires next_out { IsNextNumber next_out }
 {
-    seen(NOW, session(side, link, next_in, next_out))
+    seen(NOW, &session(side, link, next_in, next_out))
 }
 
 fn spoken(side: Side, link: LinkState, next_in: u32, next_out: u32) -> Session
     requires next_in { IsNextNumber next_in }
     requires next_out { IsNextNumber next_out }
 {
-    said(NOW, quiet(side, link, next_in, next_out))
+    said(NOW, &quiet(side, link, next_in, next_out))
 }
 
 fn message(number: u32, what: What) -> Head
@@ -154,21 +154,21 @@ fn reject(tag: u32, reason: u8) -> Act {
     Act::Say(Admin::Reject { tag, reason })
 }
 
-fn compare(rt: &impl Abort, row: &str, step: Result<Step, Spent>, acts: &[Act], next: Session) {
+fn compare(rt: &impl Abort, row: &str, step: Result<Step, Spent>, acts: &[Act], next: &Session) {
     match step {
         Ok(step) => {
             assert_eq!(rt; step.acts.as_slice(), acts, "the acts of {row}");
-            assert_eq!(rt; step.next, next, "the session after {row}");
+            assert_eq!(rt; step.next, *next, "the session after {row}");
         }
         Err(Spent) => panic!(rt; "no number is left at {row}"),
     }
 }
 
-fn heard(rt: &impl Abort, row: &str, before: Session, head: Head, acts: &[Act], next: Session) {
+fn heard(rt: &impl Abort, row: &str, before: &Session, head: Head, acts: &[Act], next: &Session) {
     compare(rt, row, before.on_message(&head, NOW), acts, next);
 }
 
-fn ticked(rt: &impl Abort, row: &str, before: Session, now: u64, acts: &[Act], next: Session) {
+fn ticked(rt: &impl Abort, row: &str, before: &Session, now: u64, acts: &[Act], next: &Session) {
     compare(rt, row, before.on_tick(now), acts, next);
 }
 
@@ -176,7 +176,7 @@ fn ticked(rt: &impl Abort, row: &str, before: Session, now: u64, acts: &[Act], n
 // session after.
 macro_rules! table {
     ($rt:expr, $call:ident: $($row:literal | $before:expr, $input:expr => $acts:expr, $after:expr;)*) => {
-        $($call($rt, $row, $before, $input, &$acts, $after);)*
+        $($call($rt, $row, &$before, $input, &$acts, &$after);)*
     };
 }
 
@@ -225,18 +225,18 @@ fn a_good_logon(rt: HostRuntime) {
     let asked = session(Venue, Asked, 5, 8);
     table! { &rt, heard:
         "S9" | wait, message(5, LOGON)
-            => [Take, logon(false)], heart(45, spoken(Client, Active, 6, 9));
+            => [Take, logon(false)], heart(45, &spoken(Client, Active, 6, 9));
         "S9 141" | session(Client, Wait, 1, 1), message(1, RESET_LOGON)
-            => [Take, logon(true)], heart(45, spoken(Client, Active, 2, 2));
+            => [Take, logon(true)], heart(45, &spoken(Client, Active, 2, 2));
         "S10" | wait, message(6, LOGON)
-            => [Skip, logon(false), ASK], asking(heart(45, spoken(Client, Active, 5, 10)), 6, NOW);
+            => [Skip, logon(false), ASK], asking(&heart(45, &spoken(Client, Active, 5, 10)), 6, NOW);
         "S11" | asked, message(5, LOGON) => [Take], quiet(Venue, Active, 6, 8);
         "S11 141" | session(Venue, Asked, 1, 2), message(1, RESET_LOGON)
             => [Take], quiet(Venue, Active, 2, 2);
         "S6, not S10, with 141" | wait, message(6, RESET_LOGON)
             => [Skip, logout(Why::Logon(141)), HangUp], spoken(Client, Down, 5, 9);
         "S12" | asked, message(6, LOGON)
-            => [Skip, ASK], asking(spoken(Venue, Active, 5, 9), 6, NOW);
+            => [Skip, ASK], asking(&spoken(Venue, Active, 5, 9), 6, NOW);
     }
 }
 
@@ -267,13 +267,13 @@ fn a_wrong_head(rt: HostRuntime) {
 #[test]
 fn a_sequence_reset(rt: HostRuntime) {
     let up = session(Client, Active, 5, 8);
-    let ask = asking(up, 6, THEN);
+    let ask = asking(&up, 6, THEN);
     let faulty = What::FaultyReset { tag: 36, reason: 1 };
     table! { &rt, heard:
         "S16 at" | up, message(9, What::Reset { to: 5 }) => [Take], quiet(Client, Active, 5, 8);
         "S16 above" | up, message(4, What::Reset { to: 6 }) => [Take], quiet(Client, Active, 6, 8);
         "S16 stays" | ask, message(9, What::Reset { to: 6 })
-            => [Take], asking(quiet(Client, Active, 6, 8), 6, THEN);
+            => [Take], asking(&quiet(Client, Active, 6, 8), 6, THEN);
         "S16 closes" | ask, message(9, What::Reset { to: 7 })
             => [Take], quiet(Client, Active, 7, 8);
         "S17" | up, message(5, What::Reset { to: 4 })
@@ -281,7 +281,7 @@ fn a_sequence_reset(rt: HostRuntime) {
         "S18" | up, message(5, faulty) => [Skip, reject(36, 1)], spoken(Client, Active, 5, 9);
         "S27" | up, message(5, What::GapFill { to: 6 }) => [Take], quiet(Client, Active, 6, 8);
         "S27 stays" | ask, message(5, What::GapFill { to: 6 })
-            => [Take], asking(quiet(Client, Active, 6, 8), 6, THEN);
+            => [Take], asking(&quiet(Client, Active, 6, 8), 6, THEN);
         "S27 closes" | ask, message(5, What::GapFill { to: 7 })
             => [Take], quiet(Client, Active, 7, 8);
         "S28 at" | up, message(5, What::GapFill { to: 5 })
@@ -294,10 +294,10 @@ fn a_sequence_reset(rt: HostRuntime) {
 #[test]
 fn a_low_or_a_high_number(rt: HostRuntime) {
     let up = session(Client, Active, 5, 8);
-    let ask = asking(up, 7, THEN);
-    let opened = asking(spoken(Client, Active, 5, 9), 6, NOW);
-    let kept = asking(quiet(Client, Active, 5, 8), 7, THEN);
-    let anew = asking(spoken(Client, Active, 5, 9), 7, NOW);
+    let ask = asking(&up, 7, THEN);
+    let opened = asking(&spoken(Client, Active, 5, 9), 6, NOW);
+    let kept = asking(&quiet(Client, Active, 5, 8), 7, THEN);
+    let anew = asking(&spoken(Client, Active, 5, 9), 7, NOW);
     table! { &rt, heard:
         "S19" | up, message(4, What::App)
             => [Skip, logout(LOW), HangUp], spoken(Client, Down, 5, 9);
@@ -311,7 +311,7 @@ fn a_low_or_a_high_number(rt: HostRuntime) {
         "S23" | up, message(6, What::App) => [Skip, ASK], opened;
         "S23 open" | ask, message(6, What::App) => [Skip], kept;
         "S23 raised" | ask, message(8, What::App)
-            => [Skip], asking(quiet(Client, Active, 5, 8), 8, THEN);
+            => [Skip], asking(&quiet(Client, Active, 5, 8), 8, THEN);
         "S23 anew" | ask, repeated(6, What::App) => [Skip, ASK], anew;
     }
 }
@@ -353,16 +353,16 @@ fn a_gap_is_filled(rt: HostRuntime) {
     let closed = spoken(Client, Active, 9, 3);
     table! { &rt, heard:
         "an early message" | session(Client, Active, 5, 2), message(8, What::Heartbeat)
-            => [Skip, ASK], asking(asked, 8, NOW);
-        "a gap fill" | asking(asked, 8, NOW), repeated(5, What::GapFill { to: 7 })
-            => [Take], asking(filled, 8, NOW);
-        "an order again" | asking(filled, 8, NOW), repeated(7, What::App)
-            => [Take], asking(ordered, 8, NOW);
-        "the early message" | asking(ordered, 8, NOW), repeated(8, What::Heartbeat)
+            => [Skip, ASK], asking(&asked, 8, NOW);
+        "a gap fill" | asking(&asked, 8, NOW), repeated(5, What::GapFill { to: 7 })
+            => [Take], asking(&filled, 8, NOW);
+        "an order again" | asking(&filled, 8, NOW), repeated(7, What::App)
+            => [Take], asking(&ordered, 8, NOW);
+        "the early message" | asking(&ordered, 8, NOW), repeated(8, What::Heartbeat)
             => [Take], closed;
         "the order once more" | closed, repeated(7, What::App) => [Skip], closed;
         "a request too high" | session(Client, Active, 5, 4), message(9, REQUEST)
-            => [Skip, RESEND, ASK], asking(spoken(Client, Active, 5, 5), 9, NOW);
+            => [Skip, RESEND, ASK], asking(&spoken(Client, Active, 5, 5), 9, NOW);
     }
 }
 
@@ -385,21 +385,21 @@ fn a_tick_of_a_silent_peer(rt: HostRuntime) {
     let s = session(Client, Active, 5, 8);
     let asked = session(Client, Active, 5, 9);
     let (at, past) = (THEN + 36_000, THEN + 36_001);
-    let up = said(at, s);
-    let tried = tested(THEN, up);
-    let silent = tested(THEN, heart(0, up));
+    let up = said(at, &s);
+    let tried = tested(THEN, &up);
+    let silent = tested(THEN, &heart(0, &up));
     table! { &rt, ticked:
         "S34 at" | up, at => [], up;
-        "S34 test" | up, past => [TEST], tested(past, said(past, asked));
-        "S34 test, no Heartbeat" | s, past => [TEST], tested(past, said(past, asked));
+        "S34 test" | up, past => [TEST], tested(past, &said(past, &asked));
+        "S34 test, no Heartbeat" | s, past => [TEST], tested(past, &said(past, &asked));
         "S34 the clock went back" | up, 0 => [], up;
         "S34 tested" | tried, at => [], tried;
-        "S33" | tried, past => [HangUp], said(at, session(Client, Down, 5, 8));
+        "S33" | tried, past => [HangUp], said(at, &session(Client, Down, 5, 8));
         "S34 tested, the clock went back" | tried, 0 => [], tried;
-        "S34 HeartBtInt 0" | heart(0, up), past => [], heart(0, up);
+        "S34 HeartBtInt 0" | heart(0, &up), past => [], heart(0, &up);
         "S34 HeartBtInt 0, tested" | silent, THEN => [], silent;
         "S33 HeartBtInt 0" | silent, THEN + 1
-            => [HangUp], heart(0, said(at, session(Client, Down, 5, 8)));
+            => [HangUp], heart(0, &said(at, &session(Client, Down, 5, 8)));
     }
 }
 
@@ -409,21 +409,21 @@ fn a_tick_of_a_silent_gateway(rt: HostRuntime) {
     let one = session(Client, Active, 5, 9);
     let two = session(Client, Active, 5, 10);
     let (below, at, past) = (THEN + 29_999, THEN + 30_000, THEN + 30_001);
-    let up = seen(at, s);
-    let ask = asking(said(at, up), 9, THEN);
+    let up = seen(at, &s);
+    let ask = asking(&said(at, &up), 9, THEN);
     table! { &rt, ticked:
         "S34 below" | up, below => [], up;
-        "S34 Heartbeat" | up, at => [BEAT], said(at, seen(at, one));
-        "S34 HeartBtInt 0" | heart(0, up), at => [], heart(0, up);
+        "S34 Heartbeat" | up, at => [BEAT], said(at, &seen(at, &one));
+        "S34 HeartBtInt 0" | heart(0, &up), at => [], heart(0, &up);
         "S34 the clock went back" | up, 0 => [], up;
         "S34 ask at" | ask, at => [], ask;
-        "S34 ask" | ask, past => [ASK], asking(said(past, seen(at, one)), 9, past);
-        "S34 ask, HeartBtInt 0, at" | heart(0, ask), at => [], heart(0, ask);
-        "S34 ask, HeartBtInt 0" | heart(0, ask), past
-            => [ASK], heart(0, asking(said(past, seen(at, one)), 9, past));
+        "S34 ask" | ask, past => [ASK], asking(&said(past, &seen(at, &one)), 9, past);
+        "S34 ask, HeartBtInt 0, at" | heart(0, &ask), at => [], heart(0, &ask);
+        "S34 ask, HeartBtInt 0" | heart(0, &ask), past
+            => [ASK], heart(0, &asking(&said(past, &seen(at, &one)), 9, past));
         "S34 ask, the clock went back" | ask, 0 => [], ask;
-        "S34 both" | asking(up, 9, THEN), past
-            => [BEAT, ASK], asking(said(past, seen(at, two)), 9, past);
+        "S34 both" | asking(&up, 9, THEN), past
+            => [BEAT, ASK], asking(&said(past, &seen(at, &two)), 9, past);
     }
 }
 
@@ -437,22 +437,22 @@ fn a_connection_begins_and_ends(rt: HostRuntime) {
         Session::new(Client, numbers, 30),
         Session::new(Venue, numbers, 30),
     );
-    assert_eq!(&rt; client, said(0, seen(0, session(Client, Down, 5, 8))));
-    let s1 = said(0, quiet(Client, Wait, 5, 8));
-    compare(&rt, "S1", client.on_open(NOW), &[], s1);
+    assert_eq!(&rt; client, said(0, &seen(0, &session(Client, Down, 5, 8))));
+    let s1 = said(0, &quiet(Client, Wait, 5, 8));
+    compare(&rt, "S1", client.on_open(NOW), &[], &s1);
     let s2 = spoken(Venue, Asked, 5, 9);
-    compare(&rt, "S2", venue.on_open(NOW), &[logon(false)], s2);
+    compare(&rt, "S2", venue.on_open(NOW), &[logon(false)], &s2);
     let up = Session {
         link: Active,
         ..client
     };
-    let busy = tested(THEN, asking(up, 9, THEN));
+    let busy = tested(THEN, &asking(&up, 9, THEN));
     assert_eq!(&rt; busy.on_closed(), client, "S3");
-    compare(&rt, "S4", client.on_end(NOW), &[], client);
+    compare(&rt, "S4", client.on_end(NOW), &[], &client);
     let bye = [logout(Why::End), HangUp];
     let s35 = said(
         NOW,
-        Session {
+        &Session {
             numbers: Numbers {
                 next_in: 5,
                 next_out: 9,
@@ -460,17 +460,17 @@ fn a_connection_begins_and_ends(rt: HostRuntime) {
             ..client
         },
     );
-    compare(&rt, "S35", up.on_end(NOW), &bye, s35);
+    compare(&rt, "S35", up.on_end(NOW), &bye, &s35);
     let wait = Session {
         link: Wait,
         ..client
     };
-    compare(&rt, "S36", wait.on_end(NOW), &[HangUp], client);
+    compare(&rt, "S36", wait.on_end(NOW), &[HangUp], &client);
 }
 
-fn spent(rt: &impl Abort, row: &str, before: Session, head: Head) {
+fn spent(rt: &impl Abort, row: &str, before: &Session, head: &Head) {
     assert!(rt;
-        before.on_message(&head, NOW).is_err(),
+        before.on_message(head, NOW).is_err(),
         "a number is left at {row}"
     );
 }
@@ -478,7 +478,7 @@ fn spent(rt: &impl Abort, row: &str, before: Session, head: Head) {
 // The lines of a table of messages for which no number is left.
 macro_rules! all_spent {
     ($rt:expr, $($row:literal | $before:expr, $head:expr;)*) => {
-        $(spent($rt, $row, $before, $head);)*
+        $(spent($rt, $row, &$before, &$head);)*
     };
 }
 
@@ -532,5 +532,5 @@ fn no_number_is_left_to_begin_or_to_end(rt: HostRuntime) {
     assert_eq!(&rt; up.on_end(NOW).is_ok(), false, "S35");
     assert_eq!(&rt; wait.on_end(NOW).is_ok(), true, "S36");
     assert_eq!(&rt; up.give(NOW), Err(Spent));
-    assert_eq!(&rt; last.give(NOW), Ok((MAX_MSG_SEQ_NUM, said(NOW, up))));
+    assert_eq!(&rt; last.give(NOW), Ok((MAX_MSG_SEQ_NUM, said(NOW, &up))));
 }
