@@ -72,6 +72,16 @@ pub request_too_high : step (client Active 5 4) (Message (message 9 (what.Resend
     ≡ Ok (does (Skip ∷ Resend 2 3 ∷ Say (admin.ResendRequest 5) ∷ []) (asking 9 (answered_at_7 Active 5 5)))
 request_too_high = refl
 
+-- ---- a resend ends at the last number that was given out: 7 where the next is 8, and 0 where none was
+
+pub resend_all : step (client Active 5 8) (Message (message 5 (what.ResendRequest 2 0))) 7
+    ≡ Ok (does (Take ∷ Resend 2 7 ∷ []) (heard_at_7 Active 6 8))
+resend_all = refl
+
+pub resend_none : step (client Active 5 1) (Message (message 5 (what.ResendRequest 1 1))) 7
+    ≡ Ok (does (Take ∷ Resend 1 0 ∷ []) (heard_at_7 Active 6 1))
+resend_none = refl
+
 -- ---- a SequenceReset that would lower the expected number
 
 pub reset_too_low : step (client Active 5 8) (Message (message 9 (what.Reset 4))) 7

@@ -26,7 +26,8 @@ type_of (admin.Reject tag reason) = codes "3"
 
 -- a Logon to the client repeats its ResetSeqNumFlag(141); one to the venue names FIX 5.0 SP2
 abbrev pub logon_fields : Side → Bool → ℕ → List Field
-logon_fields side reset heart = (ENCRYPT_METHOD, codes "0") ∷ (HEART_BT_INT, decimal heart) ∷ last side reset
+logon_fields side reset heart =
+    (ENCRYPT_METHOD, codes "0") ∷ (HEART_BT_INT, decimal heart) ∷ last side reset
   where
     last : Side → Bool → List Field
     last Client true = (RESET_SEQ_NUM_FLAG, codes "Y") ∷ []
@@ -36,7 +37,8 @@ logon_fields side reset heart = (ENCRYPT_METHOD, codes "0") ∷ (HEART_BT_INT, d
 -- why a session ends; the answer to a Logout says nothing
 abbrev pub logout_text : Why → List ℕ
 logout_text (why.TooLow expected got) =
-    codes "MsgSeqNum too low, expecting " ++ decimal expected ++ codes " but received " ++ decimal got
+    codes "MsgSeqNum too low, expecting " ++ decimal expected ++ codes " but received "
+    ++ decimal got
 logout_text why.NoNumber = codes "MsgSeqNum missing"
 logout_text (why.Logon tag) = codes "Logon refused, tag " ++ decimal tag
 logout_text why.CompId = codes "CompID problem"
@@ -69,26 +71,32 @@ later_reason reason =
 
 abbrev pub reason_fields : Side → ℕ → List Field
 reason_fields Client reason =
-    if nat_le reason MAX_REASON42 then (SESSION_REJECT_REASON, decimal reason) ∷ [] else later_reason reason
+    if nat_le reason MAX_REASON42 then (SESSION_REJECT_REASON, decimal reason)
+    ∷ [] else later_reason reason
 reason_fields Venue reason = (SESSION_REJECT_REASON, decimal reason) ∷ []
 
 -- a Reject names the message by its number and its type, of which 8 bytes are kept, and the field
 abbrev pub rejected_fields : ℕ → ℕ → List ℕ → List Field
 rejected_fields tag number msg_type =
-    (REF_SEQ_NUM, decimal number) ∷ (REF_TAG_ID, decimal tag) ∷ (REF_MSG_TYPE, take MAX_MSG_TYPE msg_type) ∷ []
+    (REF_SEQ_NUM, decimal number) ∷ (REF_TAG_ID, decimal tag)
+    ∷ (REF_MSG_TYPE, take MAX_MSG_TYPE msg_type) ∷ []
 
--- The fields of a session's message to this side: HeartBtInt(108) is `heart`, its own number `next_out`.
--- It may answer a message of this number and type, with this TestReqID(112).
+-- The fields of a session's message to this side: HeartBtInt(108) is `heart`, its own number
+-- `next_out`. It may answer a message of this number and type, with this TestReqID(112).
 abbrev pub fields_of : Side → Admin → ℕ → ℕ → ℕ → List ℕ → List ℕ → List Field
-fields_of side (admin.Logon reset) heart next_out number msg_type echo = logon_fields side reset heart
-fields_of side (admin.Logout reason) heart next_out number msg_type echo = logout_fields (logout_text reason)
+fields_of side (admin.Logon reset) heart next_out number msg_type echo =
+    logon_fields side reset heart
+fields_of side (admin.Logout reason) heart next_out number msg_type echo =
+    logout_fields (logout_text reason)
 fields_of side (admin.Heartbeat has) heart next_out number msg_type echo = heartbeat_fields has echo
 fields_of side admin.TestRequest heart next_out number msg_type echo = test_request_fields next_out
-fields_of side (admin.ResendRequest from) heart next_out number msg_type echo = resend_request_fields from
+fields_of side (admin.ResendRequest from) heart next_out number msg_type echo =
+    resend_request_fields from
 fields_of side (admin.Reject tag reason) heart next_out number msg_type echo =
     rejected_fields tag number msg_type ++ reason_fields side reason
 
--- every message of a session but a Reject is passed over by a gap fill where messages are sent again
+-- every message of a session but a Reject is passed over by a gap fill where messages are sent
+-- again
 abbrev pub is_admin : Admin → Bool
 is_admin (admin.Reject tag reason) = false
 is_admin other = true

@@ -1,5 +1,5 @@
--- Standard: FIX 4.2, "FIX Message Format and Delivery": a field of the header or of a session message
--- stands once. Own: where a tag stands twice, the first counts.
+-- Standard: FIX 4.2, "FIX Message Format and Delivery": a field of the header or of a session
+-- message stands once. Own: where a tag stands twice, the first counts.
 use Rattle.std.specs.Prelude.{ℕ, ◌==◌, List, find}
 use Rattle.std.specs.declared.option.Option.{Option}
 use Rattle.std.specs.Option.{option_map}

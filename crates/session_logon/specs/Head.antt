@@ -30,7 +30,8 @@ use Rattle.session_logon.specs.Logon.{is_text, is_yes, logon_of}
 
 -- MsgSeqNum(34): a number from 1 to 999,999,999, or none
 abbrev pub number_in : List Field → Option ℕ
-number_in fields = result_ok (required (read_between 1 MAX_MSG_SEQ_NUM) (first_value MSG_SEQ_NUM fields))
+number_in fields =
+    result_ok (required (read_between 1 MAX_MSG_SEQ_NUM) (first_value MSG_SEQ_NUM fields))
 
 -- who speaks to the gateway on this side, and how it is called there
 abbrev pub peer : Side → Names → List ℕ
@@ -41,7 +42,8 @@ abbrev pub our : Side → Names → List ℕ
 our Client names = names.client_our
 our Venue names = names.venue_our
 
--- the first of SenderCompID(49) and TargetCompID(56), in this order, that is missing or not the name
+-- the first of SenderCompID(49) and TargetCompID(56), in this order, that is missing or not the
+-- name
 abbrev pub wrong_of : Side → Names → Option (List ℕ) → Option (List ℕ) → Option ℕ
 wrong_of side names sender target =
     if is_text (peer side names) sender then
@@ -58,11 +60,13 @@ distance now stamp = unsigned_abs (pos now -ℤ stamp_millis stamp)
 -- SendingTime(52): why it is wrong. It may be off by the window, in seconds, to both sides of now.
 abbrev pub time_fault : ℕ → ℕ → Result Stamp ℕ → Option ℕ
 time_fault window now (Ok stamp) =
-    if nat_le (distance now stamp) (SECOND * window) then None else Some SENDING_TIME_ACCURACY_PROBLEM
+    if nat_le (distance now stamp) (SECOND * window) then None else Some
+    SENDING_TIME_ACCURACY_PROBLEM
 time_fault window now (Err reason) = Some reason
 
 abbrev pub wrong_time : ℕ → ℕ → List Field → Option ℕ
-wrong_time window now fields = time_fault window now (required read_stamp (first_value SENDING_TIME fields))
+wrong_time window now fields =
+    time_fault window now (required read_stamp (first_value SENDING_TIME fields))
 
 -- ---- the kinds of messages, with their own fields
 
@@ -81,10 +85,12 @@ end_kind from (Ok to) = what.ResendRequest from to
 end_kind from (Err reason) = what.Faulty END_SEQ_NO reason
 
 abbrev pub resend_request_kind : Result ℕ ℕ → List Field → What
-resend_request_kind (Ok from) fields = end_kind from (required (read_zero_or_from from) (first_value END_SEQ_NO fields))
+resend_request_kind (Ok from) fields =
+    end_kind from (required (read_zero_or_from from) (first_value END_SEQ_NO fields))
 resend_request_kind (Err reason) fields = what.Faulty BEGIN_SEQ_NO reason
 
--- SequenceReset: NewSeqNo(36), in gap fill mode where GapFillFlag(123) is `Y`, and else in reset mode
+-- SequenceReset: NewSeqNo(36), in gap fill mode where GapFillFlag(123) is `Y`, and else in reset
+-- mode
 abbrev pub sequence_reset_kind : Bool → Result ℕ ℕ → What
 sequence_reset_kind true (Ok to) = what.GapFill to
 sequence_reset_kind true (Err reason) = what.Faulty NEW_SEQ_NO reason
@@ -99,7 +105,8 @@ kind_of side msg_type fields =
     else (if bytes_eq msg_type (codes "1") then
     test_request_kind (text_fault (first_value TEST_REQ_ID fields))
     else (if bytes_eq msg_type (codes "2") then
-    resend_request_kind (required (read_between 1 MAX_MSG_SEQ_NUM) (first_value BEGIN_SEQ_NO fields)) fields
+    resend_request_kind
+    (required (read_between 1 MAX_MSG_SEQ_NUM) (first_value BEGIN_SEQ_NO fields)) fields
     else (if bytes_eq msg_type (codes "3") then what.Reject
     else (if bytes_eq msg_type (codes "4") then
     sequence_reset_kind (is_yes (first_value GAP_FILL_FLAG fields))

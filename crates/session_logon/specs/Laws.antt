@@ -41,7 +41,8 @@ stamp_field tag (Some stamp) = (tag, stamp_text stamp) ∷ []
 abbrev pub header_fields : Side → Names → List ℕ → Heading → List Field
 header_fields side names msg_type h =
     (MSG_TYPE, msg_type) ∷ (SENDER_COMP_ID, our side names) ∷ (TARGET_COMP_ID, peer side names)
-    ∷ (MSG_SEQ_NUM, decimal h.number) ∷ flag_field POSS_DUP_FLAG h.dup ++ flag_field POSS_RESEND h.resend
+    ∷ (MSG_SEQ_NUM, decimal h.number) ∷ flag_field POSS_DUP_FLAG h.dup
+    ++ flag_field POSS_RESEND h.resend
     ++ (SENDING_TIME, stamp_text h.sent) ∷ stamp_field ORIG_SENDING_TIME h.first
 
 -- the names as the other side has them
@@ -82,5 +83,7 @@ heads h w = record { number = Some h.number; dup = h.dup; comp = None; time = No
 
 -- what the gateway writes to a side is read there as what was meant
 abbrev pub IsReadAs : Side → List ℕ → List Field → What → Type 0
-IsReadAs side msg_type content w = (names : Names) (window : ℕ) (h : Heading) (now : ℕ) → IsTimely h window now
-    → head_of side (turned names) window msg_type (header_fields side names msg_type h ++ content) now ≡ heads h w
+IsReadAs side msg_type content w =
+    (names : Names) (window : ℕ) (h : Heading) (now : ℕ) → IsTimely h window now
+    → head_of side (turned names) window msg_type (header_fields side names msg_type h ++ content)
+    now ≡ heads h w

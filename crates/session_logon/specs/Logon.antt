@@ -47,11 +47,12 @@ abbrev pub is_version : Side → List Field → Bool
 is_version Client fields = true
 is_version Venue fields = is_text (codes "9") (first_value DEFAULT_APPL_VER_ID fields)
 
--- What a Logon says: HeartBtInt(108), and whether ResetSeqNumFlag(141) is `Y`. Else the first tag whose
--- field is wrong, in the order 98, 108, 1137, 141.
+-- What a Logon says: HeartBtInt(108), and whether ResetSeqNumFlag(141) is `Y`. Else the first tag
+-- whose field is wrong, in the order 98, 108, 1137, 141.
 abbrev pub logon_of : Side → List Field → Result (ℕ × Bool) LogonFault
 logon_of side fields =
-    if is_text (codes "0") (first_value ENCRYPT_METHOD fields) then with_heart (heart_in fields) side fields
+    if is_text (codes "0") (first_value ENCRYPT_METHOD fields) then with_heart (heart_in fields)
+    side fields
     else Err (Tag ENCRYPT_METHOD)
   where
     with_heart : Result ℕ ℕ → Side → List Field → Result (ℕ × Bool) LogonFault
@@ -59,5 +60,6 @@ logon_of side fields =
     with_heart (Ok heart) side fields =
         if is_version side fields then
         (if is_flag_or_none (first_value RESET_SEQ_NUM_FLAG fields)
-        then Ok (heart, is_yes (first_value RESET_SEQ_NUM_FLAG fields)) else Err (Tag RESET_SEQ_NUM_FLAG))
+        then Ok (heart, is_yes (first_value RESET_SEQ_NUM_FLAG fields)) else Err
+        (Tag RESET_SEQ_NUM_FLAG))
         else Err (Tag DEFAULT_APPL_VER_ID)

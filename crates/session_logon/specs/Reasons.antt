@@ -1,7 +1,7 @@
 -- Standard: FIX 4.2, "Reject (session-level)", SessionRejectReason(373).
 --
--- Why a field that must be there is wrong. It is missing, or empty, or has a wrong form, or its value is
--- out of range; the first of these counts.
+-- Why a field that must be there is wrong. It is missing, or empty, or has a wrong form, or its
+-- value is out of range; the first of these counts.
 use Rattle.std.specs.Prelude.{ℕ, ◌==◌, ◌&&◌, ◌||◌, List, length, nat_le, Some, None, Ok, Err, if◌then◌else◌}
 use Rattle.std.specs.declared.option.Option.{Option}
 use Rattle.std.specs.declared.result.Result.{Result}
@@ -29,7 +29,8 @@ required read (Some value) = or_reason (read value)
 
 -- a number from the least to the greatest
 abbrev pub between : ℕ → ℕ → Result Number FieldFault → Result ℕ FieldFault
-between least greatest (Ok n) = if nat_le least n.value && nat_le n.value greatest then Ok n.value else Err Range
+between least greatest (Ok n) =
+    if nat_le least n.value && nat_le n.value greatest then Ok n.value else Err Range
 between least greatest (Err fault) = Err fault
 
 abbrev pub read_between : ℕ → ℕ → List ℕ → Result ℕ FieldFault

@@ -73,7 +73,8 @@ fn distance(now: u64, stamp: &Stamp) -> u128
 
 // Why a SendingTime(52) is wrong, if it is.
 fn wrong_time(window: u32, now: u64, value: Option<&[u8]>) -> Option<u8>
-    ensures { result ≡ time_fault window now (required read_stamp (option_map (λ value. value.now) value.entry)) }
+    ensures { result ≡ time_fault window now
+        (required read_stamp (option_map (λ value. value.now) value.entry)) }
 {
     match stamp(value) {
         Ok(stamp) if distance(now, &stamp) <= u128::from(SECOND * u64::from(window)) => None,
@@ -106,8 +107,8 @@ fn test_request(fields: &Fields<'_>) -> What
 }
 
 fn resend_request(fields: &Fields<'_>) -> What
-    ensures kind { result ≡ resend_request_kind
-        (required (read_between 1 MAX_MSG_SEQ_NUM) (first_value BEGIN_SEQ_NO fields.now)) fields.now }
+    ensures kind { result ≡ resend_request_kind (required (read_between 1 MAX_MSG_SEQ_NUM)
+        (first_value BEGIN_SEQ_NO fields.now)) fields.now }
     ensures numbers { HasNumbers result }
 {
     let from = match number_between(first_value(fields, BEGIN_SEQ_NO), 1, MAX_MSG_SEQ_NUM) {

@@ -4,9 +4,9 @@
 //! goes, and [`check_logon`] what a Logon says. [`say`] gives the type and the content of each
 //! message that a session sends.
 //!
-//! The definitions stand on the list of a message's fields: `head_of` of `specs/Head.antt`, `logon_of`
-//! of `specs/Logon.antt`, `said` of `specs.Content.antt`. That what one gateway writes is read by another
-//! as what it meant stands in [`laws`].
+//! The definitions stand on the list of a message's fields: `head_of` of `specs/Head.antt`,
+//! `logon_of` of `specs/Logon.antt`, `said` of `specs/Content.antt`. That what one gateway writes
+//! is read by another as what it meant stands in [`laws`].
 #![tactic(auto)]
 
 mod content;

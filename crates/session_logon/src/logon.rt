@@ -69,8 +69,8 @@ fn is_version(side: Side, fields: &Fields<'_>) -> bool
 /// # Errors
 ///
 /// The first of these tags whose field is wrong, in this order: EncryptMethod(98), which is `0`;
-/// HeartBtInt(108); from the venue DefaultApplVerID(1137), which is `9`; ResetSeqNumFlag(141), which
-/// may be missing.
+/// HeartBtInt(108); from the venue DefaultApplVerID(1137), which is `9`; ResetSeqNumFlag(141),
+/// which may be missing.
 pub fn check_logon(side: Side, fields: &Fields<'_>) -> Result<(u32, bool), LogonFault>
     ensures { result ≡ logon_of side fields.now }
 {

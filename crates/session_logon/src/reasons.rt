@@ -42,7 +42,8 @@ pub(crate) fn number_between(value: Option<&[u8]>, least: u32, greatest: u32) ->
 
 /// A required number that is 0, or the least or more, or the reason for which it is none.
 pub(crate) fn zero_or_from(value: Option<&[u8]>, least: u32) -> Result<u32, u8>
-    ensures { result ≡ required (read_zero_or_from least) (option_map (λ value. value.now) value.entry) }
+    ensures { result
+        ≡ required (read_zero_or_from least) (option_map (λ value. value.now) value.entry) }
 {
     let Some(value) = value else {
         return Err(REQUIRED_TAG_MISSING);

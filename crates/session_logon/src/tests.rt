@@ -88,7 +88,7 @@ fn numbers(rt: HostRuntime) -> Result<(), Fail> {
     let others: &[u8] = b"49=CLNT|56=GATE|52=20240102-10:00:00|";
     for (fields, number) in rows {
         let head = head(rt.alloc(), &names, Client, b"0", others, fields)?;
-        assert_eq!(rt; head.number, number);
+        assert_eq!(rt; head.number, number, "{fields:?}");
         assert_eq!(rt; head.what, What::Heartbeat);
         assert_eq!(rt; (head.comp, head.time, head.dup), (None, None, false));
     }
@@ -138,7 +138,11 @@ fn names_and_times(rt: HostRuntime) -> Result<(), Fail> {
     ];
     for (fields, comp, time, dup) in rows {
         let head = head(rt.alloc(), &names, Client, b"D", b"34=7|", fields)?;
-        assert_eq!(rt; (head.comp, head.time, head.dup), (comp, time, dup));
+        assert_eq!(rt;
+            (head.comp, head.time, head.dup),
+            (comp, time, dup),
+            "{fields:?}"
+        );
         assert_eq!(rt; (head.number, head.what), (Some(7), What::App));
     }
     Ok(())
@@ -216,7 +220,7 @@ fn kinds(rt: HostRuntime) -> Result<(), Fail> {
     ];
     for (msg_type, fields, what) in rows {
         let head = head(rt.alloc(), &names, Client, msg_type, HEADER, fields)?;
-        assert_eq!(rt; head.what, what);
+        assert_eq!(rt; head.what, what, "{fields:?}");
         assert_eq!(rt; (head.number, head.comp, head.time), (Some(2), None, None));
     }
     Ok(())
@@ -232,7 +236,7 @@ fn long_texts(rt: HostRuntime) -> Result<(), Fail> {
         }
         fields.push(b'|')?;
         let head = head(rt.alloc(), &names, Client, b"1", HEADER, &fields)?;
-        assert_eq!(rt; head.what, what);
+        assert_eq!(rt; head.what, what, "{len} bytes");
     }
     Ok(())
 }
@@ -298,13 +302,16 @@ fn logons(rt: HostRuntime) -> Result<(), Fail> {
             Venue => VENUE,
         };
         let head = head(rt.alloc(), &names, side, b"A", header, fields)?;
-        assert_eq!(rt; head.what, what);
+        assert_eq!(rt; head.what, what, "{fields:?}");
         assert_eq!(rt; (head.comp, head.time), (None, None));
     }
     let fields = body(rt.alloc(), b"98=0|108=86400|141=Y|", b"")?;
     let parts = split(rt.alloc(), &fields)?;
     assert_eq!(rt; check_logon(Client, &parts.fields), Ok((MAX_HEART, true)));
-    assert_eq!(rt; check_logon(Venue, &parts.fields), Err(LogonFault::Tag(1137)));
+    assert_eq!(rt;
+        check_logon(Venue, &parts.fields),
+        Err(LogonFault::Tag(1137))
+    );
     Ok(())
 }
 
@@ -331,15 +338,15 @@ fn logons_of_other_engines(rt: HostRuntime) -> Result<(), Fail> {
         (Client, b"35=A|49=CLNT|56=GATE|34=1|52=20240102-10:00:00|98=0|108=60|383=8192|\
 384=2|372=D|385=S|372=8|385=R|", logs_on(60, false)),
         // raw data before the heartbeat
-        (Client, b"35=A|49=CLNT|50=DESK|56=GATE|34=1|52=20240102-10:00:00|98=0|95=4|96=abcd|108=30|",
-            logs_on(30, false)),
+        (Client, b"35=A|49=CLNT|50=DESK|56=GATE|34=1|52=20240102-10:00:00|98=0|95=4|96=abcd|\
+108=30|", logs_on(30, false)),
         // FIXT 1.1 with the version of each type
         (Venue, b"35=A|34=1|49=VENU|52=20240102-10:00:00.000|56=GATE|1128=9|98=0|108=30|\
 384=1|372=8|385=S|1130=9|464=N|1137=9|1408=x|", logs_on(30, false)),
     ];
     for (side, fields, what) in rows {
         let head = head(rt.alloc(), &names, side, b"A", fields, b"")?;
-        assert_eq!(rt; head.what, what);
+        assert_eq!(rt; head.what, what, "{fields:?}");
         assert_eq!(rt; (head.number, head.comp, head.time), (Some(1), None, None));
     }
     Ok(())
@@ -400,7 +407,11 @@ fn what_is_said(rt: HostRuntime) -> Result<(), Fail> {
     ];
     for (side, admin, line) in rows {
         let said = say(rt.alloc(), side, &admin, 30, 17, 9, b"123456789", b"ping")?;
-        assert_eq!(rt; shown(rt.alloc(), &said)?.as_slice(), line);
+        assert_eq!(rt;
+            shown(rt.alloc(), &said)?.as_slice(),
+            line,
+            "{admin:?} to {side:?}"
+        );
     }
     Ok(())
 }
