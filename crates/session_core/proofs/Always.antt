@@ -1,95 +1,38 @@
 -- The laws of the session table, each by its rows.
-use Rattle.std.proofs.Common.{◌≡◌, ℕ, ◌+◌, ◌==◌, ◌⊎◌, Bool, true, false, Some, None, refl, nat_lt, nat_le, ap, ◌∙◌, sym, List, [], ◌∷◌, ◌++◌, if◌then◌else◌, subst, IfOk, inl, inr, IsSome, is_none}
+use Rattle.std.proofs.Common.{◌≡◌, ℕ, ◌≤◌, length, arith, ◌+◌, ◌==◌, ◌⊎◌, Bool, true, false, Some, None, refl, nat_lt, nat_le, ap, ◌∙◌, sym, List, [], ◌∷◌, ◌++◌, if◌then◌else◌, subst, IfOk, inl, inr, IsSome, is_none}
 use Rattle.std.specs.List.{Contains, list_any, Any}
-use Rattle.std.proofs.lemmas.List.Folds.{list_any_at, Any-from_list_any}
+use Rattle.std.proofs.lemmas.List.Folds.{Any-from_list_any}
 use Rattle.std.proofs.lemmas.Bool.{eqb-true}
 use Rattle.std.specs.declared.option.Option.{Option}
 use Rattle.std.specs.declared.cmp.Ordering.{Ordering}
 use Rattle.std.specs.declared.cmp.Ordering.TheVariants.{Less, Equal, Greater}
 use Rattle.std.specs.Ordering.{nat_cmp}
-use Rattle.order_meaning.specs.declared.Side.{Side}
-use Rattle.order_meaning.specs.declared.Side.TheVariants.{Client, Venue}
-use Rattle.session_core.specs.declared.types.LinkState.{LinkState}
-use Rattle.session_core.specs.declared.types.LinkState.TheVariants.{Down, Wait, Asked, Active}
-use Rattle.session_core.specs.declared.types.Ask.{Ask}
-use Rattle.session_core.specs.declared.types.Session.{Session}
-use Rattle.session_core.specs.declared.types.Step.{Step}
-use Rattle.session_core.specs.declared.types.Head.{Head}
-use Rattle.session_core.specs.declared.types.What.{What}
-use Rattle.session_core.specs.declared.types.What.TheVariants as what
-use Rattle.session_core.specs.declared.types.Why.TheVariants as why
-use Rattle.session_core.specs.declared.types.Admin.TheVariants as admin
-use Rattle.session_core.specs.declared.types.Act.{Act}
-use Rattle.session_core.specs.declared.types.Act.TheVariants.{Take, Skip, Say, HangUp}
-use Rattle.session_core.specs.Step.{Input, Opened, Closed, Message, Tick, End, Row, S3, S4, S5, S6, S8, S9, S11, S13, S14, S15, S16, S17, S19, S21, S22, S23, S24, S25, S26, S27, S28, S29, S30, S31, S32, S33, S34, S35, S36, Quiet, number_of, message_row, opened_row, tick_row, end_row, is_unanswered, elapsed, logon_wait, effect_of, taken_or_skipped, take_or_skip, expects, counted, says, does, heard, step, numbered_row, early_row, expected_row, active_case, only, asking, logout, reject, is_asked_for, tick_acts, is_test_due, is_heartbeat_due, is_ask_due}
-use Rattle.session_core.specs.Laws.{Always, IsExpected, ResetsFrom, IsReset, HangsUpAfterLogout}
+use Rattle.std.proofs.lemmas.Map.Lookups.{exact_unsigned}
+use Rattle.session_core.specs.declared.tag.TheConstants.{SENDING_TIME}
+use Rattle.session_core.specs.declared.reason.TheConstants.{COMP_ID_PROBLEM}
+use Rattle.session_core.specs.declared.session.LinkState.{LinkState}
+use Rattle.session_core.specs.declared.session.LinkState.TheVariants.{Down, Wait, Asked, Active}
+use Rattle.session_core.specs.declared.session.Ask.{Ask}
+use Rattle.session_core.specs.declared.session.Session.{Session}
+use Rattle.session_core.specs.declared.session.Step.{Step}
+use Rattle.session_core.specs.declared.head.Head.{Head}
+use Rattle.session_core.specs.declared.head.What.{What}
+use Rattle.session_core.specs.declared.head.What.TheVariants as what
+use Rattle.session_core.specs.declared.act.Why.TheVariants as why
+use Rattle.session_core.specs.declared.act.Admin.TheVariants as admin
+use Rattle.session_core.specs.declared.act.Act.{Act}
+use Rattle.session_core.specs.declared.act.Act.TheVariants.{Take, Skip, Say, HangUp}
+use Rattle.session_core.specs.Table.{Opened, Closed, Message, Tick, End, Row, S3, S4, S5, S6, S8, S9, S11, S13, S14, S15, S16, S17, S19, S21, S22, S23, S24, S25, S26, S27, S28, S29, S30, S31, S32, S33, S34, S35, S36, number_of, message_row, waiting_case, opened_row, tick_row, end_row, effect_of, taken_or_skipped, take_or_skip, expects, counted, says, does, heard, step, numbered_row, early_row, expected_row, active_case, only, asking, logout, reject, is_asked_for, tick_acts, is_test_due, is_heartbeat_due, is_ask_due}
+use Rattle.session_core.specs.Laws.{Always, IsExpected, ResetsFrom, IsReset, HangsUpAfterLogout, AreInOrder, AreResendAndSays, AreSays, RaisesTo, SetsExpected, IsForApplication}
 use Rattle.session_core.proofs.Premise.{Premise, Numbered, number_of-Message, message_premise}
 use Rattle.session_core.proofs.Kept.{if_settled}
-
--- ---- the premise of the row of any input. Where there is no message, the row speaks of none.
-
-abbrev no_message : Head
-no_message = record { number = None; dup = false; comp = None; time = None; what = what.Heartbeat }
-
-opened_premise : (side : Side) (expected : ℕ) → Premise (opened_row side) expected no_message
-opened_premise Client expected = tt
-opened_premise Venue expected = tt
-
-late_premise : (b : Bool) (expected : ℕ) → Premise (if b then S32 else Quiet) expected no_message
-late_premise true expected = tt
-late_premise false expected = tt
-
-unanswered_premise : (b : Bool) (expected : ℕ) → Premise (if b then S33 else S34) expected no_message
-unanswered_premise true expected = tt
-unanswered_premise false expected = tt
-
-tick_premise : (link : LinkState) (now : ℕ) (s : Session) → Premise (tick_row link now s) s.numbers.next_in no_message
-tick_premise Down now s = tt
-tick_premise Wait now s = late_premise (nat_lt logon_wait (elapsed now s.seen)) s.numbers.next_in
-tick_premise Asked now s = late_premise (nat_lt logon_wait (elapsed now s.seen)) s.numbers.next_in
-tick_premise Active now s = unanswered_premise (is_unanswered s.tested now s.heart) s.numbers.next_in
-
-end_premise : (link : LinkState) (expected : ℕ) → Premise (end_row link) expected no_message
-end_premise Down expected = tt
-end_premise Wait expected = tt
-end_premise Asked expected = tt
-end_premise Active expected = tt
-
--- what a row's effect makes of the session before, once its messages are counted
-abbrev After : (Session → ℕ → ℕ → Step → Type 0) → Row → ℕ → Session → Head → Type 0
-After P r now s head = let t = effect_of r (number_of (Message head)) now s in
-    P s (number_of (Message head)) now (does t.acts (counted now (says t.acts) t.next))
-
--- what holds of each row with its premise holds of each step; it may speak of the number and of the session that heard
-by_rows : (P : Session → ℕ → ℕ → Step → Type 0)
-    → ((r : Row) (now : ℕ) (s : Session) (head : Head) → Premise r s.numbers.next_in head → After P r now s head)
-    → (s : Session) (input : Input) (now : ℕ) → IfOk (step s input now) (P (heard input now s) (number_of input) now)
-by_rows P each s Opened now =
-    if_settled now (effect_of (opened_row s.side) 0 now s) (P s 0 now) (each (opened_row s.side) now s no_message (opened_premise s.side s.numbers.next_in))
-by_rows P each s Closed now = if_settled now (effect_of S3 0 now s) (P s 0 now) (each S3 now s no_message tt)
-by_rows P each s (Message head) now =
-    let h : Session = heard (Message head) now s in
-    if_settled now (effect_of (message_row h.link head h) (number_of (Message head)) now h) (P h (number_of (Message head)) now)
-    (each (message_row h.link head h) now h head (message_premise h.link head h))
-by_rows P each s Tick now =
-    if_settled now (effect_of (tick_row s.link now s) 0 now s) (P s 0 now) (each (tick_row s.link now s) now s no_message (tick_premise s.link now s))
-by_rows P each s End now =
-    if_settled now (effect_of (end_row s.link) 0 now s) (P s 0 now) (each (end_row s.link) now s no_message (end_premise s.link s.numbers.next_in))
-
--- the same, of a fact that speaks of the numbers, the link and the request of the session before, which hearing leaves alone
-abbrev ByRows : (Session → Step → Type 0) → Type 0
-ByRows P = (r : Row) (now : ℕ) (s : Session) (head : Head) → Premise r s.numbers.next_in head → After (λ s n now t. P s t) r now s head
-
--- ---- an act of a list is found by a test
-
-found : (test : Act → Bool) (acts : List Act) (act : Act) → test act ≡ true → Contains acts act → list_any test acts ≡ true
-found test acts act passes c = list_any_at test acts c.0 act c.1 (ap test c.2 ∙ passes)
-
-abbrev is_take : Act → Bool
-is_take Take = true
-is_take act = false
+use Rattle.session_core.proofs.ByRows.{no_message, opened_premise, tick_premise, end_premise, by_rows, ByRows, found, only_other, tick_other}
 
 -- ---- a message is taken in turn
+
+abbrev pub is_take : Act → Bool
+is_take Take = true
+is_take act = false
 
 abbrev TakenInTurn : Session → Head → Type 0
 TakenInTurn s head = Numbered s.numbers.next_in head ⊎ ResetsFrom s.numbers.next_in head.what
@@ -106,25 +49,6 @@ taken_head head s p h =
     let same : number_of (Message head) ≡ s.numbers.next_in = taken_number (number_of (Message head)) s h in
     inl (p.1 ∙ ap Some (sym (number_of-Message p.0 head p.1) ∙ same))
 
--- an act that may be missing is none that the test finds, where it is none itself
-only_other : (test : Act → Bool) (b : Bool) (act : Act) → test act ≡ false → list_any test (only b act) ≡ false
-only_other test true act h = rw h refl
-only_other test false act h = refl
-
-tick_other : (test : Act → Bool) (now : ℕ) (s : Session) → test (Say admin.TestRequest) ≡ false → test (Say (admin.Heartbeat false)) ≡ false
-    → test (asking s) ≡ false → list_any test (tick_acts now s) ≡ false
-tick_other test now s a b c = three (is_test_due now s) (is_heartbeat_due now s) (is_ask_due s.ask now s.heart)
-  where
-    three : (x y z : Bool) → list_any test (only x (Say admin.TestRequest) ++ only y (Say (admin.Heartbeat false)) ++ only z (asking s)) ≡ false
-    three true true true = rw (a, b, c) refl
-    three true true false = rw (a, b) refl
-    three true false true = rw (a, c) refl
-    three true false false = rw a refl
-    three false true true = rw (b, c) refl
-    three false true false = rw b refl
-    three false false true = rw c refl
-    three false false false = refl
-
 taken_row : (r : Row) (now : ℕ) (s : Session) (head : Head) → Premise r s.numbers.next_in head
     → list_any is_take (effect_of r (number_of (Message head)) now s).acts ≡ true → TakenInTurn s head
 taken_row (S4 true) now s head p h = absurd (cc h)
@@ -132,17 +56,17 @@ taken_row (S4 false) now s head p h = absurd (cc h)
 taken_row (S6 tag) now s head p h = taken_head head s p h
 taken_row (S9 heart reset) now s head p h = inl p
 taken_row S11 now s head p h = inl p
-taken_row (S14 tag) now s head p h = taken_head head s p h
-taken_row (S15 reason) now s head p h = taken_head head s p h
+taken_row (S14 tag) now s head p h = taken_head head s (p.0, p.1) h
+taken_row (S15 reason) now s head p h = taken_head head s (p.0, p.1) h
 taken_row (S16 to) now s head p h = inr (subst (ResetsFrom s.numbers.next_in) (sym p.0) p.1)
 taken_row (S22 from to dup) now s head p h = let none : list_any is_take (only (is_asked_for dup s.ask) (asking s)) ≡ false = only_other is_take (is_asked_for dup s.ask) (asking s) refl in absurd (cc (none, h))
 taken_row (S23 dup) now s head p h = let none : list_any is_take (only (is_asked_for dup s.ask) (asking s)) ≡ false = only_other is_take (is_asked_for dup s.ask) (asking s) refl in absurd (cc (none, h))
 taken_row S24 now s head p h = inl p
 taken_row S25 now s head p h = inl p
-taken_row (S26 from to) now s head p h = inl p
+taken_row (S26 from to) now s head p h = inl p.0
 taken_row (S27 to) now s head p h = inl p.1
-taken_row S28 now s head p h = inl p
-taken_row (S29 tag reason) now s head p h = inl p
+taken_row S28 now s head p h = inl p.0
+taken_row (S29 tag reason) now s head p h = inl p.0
 taken_row S30 now s head p h = inl p
 taken_row S31 now s head p h = inl p
 taken_row S34 now s head p h = let none : list_any is_take (tick_acts now s) ≡ false = tick_other is_take now s refl refl refl in absurd (cc (none, h))
@@ -220,7 +144,7 @@ only_taken_counts s other now = by_rows (λ s n now t. SkippedStays s t) skipped
 
 -- ---- a hang up ends
 
-abbrev is_hang_up : Act → Bool
+abbrev pub is_hang_up : Act → Bool
 is_hang_up HangUp = true
 is_hang_up act = false
 
@@ -294,8 +218,8 @@ logout_row (S4 false) now s head p = tt
 logout_row (S6 tag) now s head p = logout_after (number_of (Message head)) s (logout (why.Logon tag) ∷ HangUp ∷ []) refl
 logout_row S8 now s head p = refl
 logout_row S13 now s head p = refl
-logout_row (S14 tag) now s head p = logout_after (number_of (Message head)) s (reject tag 9 ∷ logout why.CompId ∷ HangUp ∷ []) refl
-logout_row (S15 reason) now s head p = logout_after (number_of (Message head)) s (reject 52 reason ∷ logout why.Clock ∷ HangUp ∷ []) refl
+logout_row (S14 tag) now s head p = logout_after (number_of (Message head)) s (reject tag COMP_ID_PROBLEM ∷ logout why.CompId ∷ HangUp ∷ []) refl
+logout_row (S15 reason) now s head p = logout_after (number_of (Message head)) s (reject SENDING_TIME reason ∷ logout why.Clock ∷ HangUp ∷ []) refl
 logout_row S19 now s head p = refl
 logout_row S21 now s head p = refl
 logout_row (S22 from to dup) now s head p = only_asks (is_asked_for dup s.ask) s
@@ -371,3 +295,198 @@ one_request s head now active unclosed first =
     let t : Step = effect_of (message_row h.link head h) (number_of (Message head)) now h in
     if_settled now t AsksForNothing
     (asks_for_nothing (does t.acts (counted now (says t.acts) t.next)) (message_request h.link head now h active first (is_open s.ask unclosed)))
+
+-- ---- the acts stand in the order in which they are done
+
+in_order_after : (n : ℕ) (s : Session) (acts : List Act) → AreResendAndSays acts → AreInOrder (take_or_skip n s ∷ acts)
+in_order_after n s acts h = elim (n == s.numbers.next_in) as (λ b. AreInOrder ((if b then Take else Skip) ∷ acts)) [ true ↦ h | false ↦ h ]
+
+asks_in_order : (b : Bool) (s : Session) → AreSays (only b (asking s))
+asks_in_order true s = tt
+asks_in_order false s = tt
+
+asks_after_skip : (b : Bool) (s : Session) → AreResendAndSays (only b (asking s))
+asks_after_skip true s = tt
+asks_after_skip false s = tt
+
+tick_in_order : (now : ℕ) (s : Session) → AreInOrder (tick_acts now s)
+tick_in_order now s = three (is_test_due now s) (is_heartbeat_due now s) (is_ask_due s.ask now s.heart)
+  where
+    three : (x y z : Bool) → AreInOrder (only x (Say admin.TestRequest) ++ only y (Say (admin.Heartbeat false)) ++ only z (asking s))
+    three true true true = tt
+    three true true false = tt
+    three true false true = tt
+    three true false false = tt
+    three false true true = tt
+    three false true false = tt
+    three false false true = tt
+    three false false false = tt
+
+abbrev InOrder : Session → Step → Type 0
+InOrder s t = AreInOrder t.acts
+
+in_order_row : ByRows InOrder
+in_order_row (S4 true) now s head p = tt
+in_order_row (S4 false) now s head p = tt
+in_order_row (S6 tag) now s head p = in_order_after (number_of (Message head)) s (logout (why.Logon tag) ∷ HangUp ∷ []) tt
+in_order_row (S14 tag) now s head p = in_order_after (number_of (Message head)) s (reject tag COMP_ID_PROBLEM ∷ logout why.CompId ∷ HangUp ∷ []) tt
+in_order_row (S15 reason) now s head p = in_order_after (number_of (Message head)) s (reject SENDING_TIME reason ∷ logout why.Clock ∷ HangUp ∷ []) tt
+in_order_row (S22 from to dup) now s head p = asks_in_order (is_asked_for dup s.ask) s
+in_order_row (S23 dup) now s head p = asks_after_skip (is_asked_for dup s.ask) s
+in_order_row S34 now s head p = tick_in_order now s
+in_order_row other now s head p = tt
+
+pub acts_in_order : Always (λ s input now t. AreInOrder t.acts)
+acts_in_order s (Message head) now = by_rows (λ s n now t. InOrder s t) in_order_row s (Message head) now
+acts_in_order s other now = by_rows (λ s n now t. InOrder s t) in_order_row s other now
+
+-- ---- a taken message makes the expected number one more, or its NewSeqNo
+
+one_more : (w : What) (expected next : ℕ) → next ≡ expected + 1 → RaisesTo w expected next
+one_more (what.Reset to) expected next h = inr h
+one_more (what.GapFill to) expected next h = inr h
+one_more other expected next h = h
+
+next_of : (head : Head) (expected : ℕ) → Numbered expected head → number_of (Message head) + 1 ≡ expected + 1
+next_of head expected p = ap (λ m. m + 1) (number_of-Message expected head p)
+
+taken_next : (n : ℕ) (s : Session) → list_any is_take (take_or_skip n s ∷ []) ≡ true → (taken_or_skipped n s).numbers.next_in ≡ s.numbers.next_in + 1
+taken_next n s h =
+    elim (n == s.numbers.next_in) as (λ b. (n == s.numbers.next_in) ≡ b → list_any is_take ((if b then Take else Skip) ∷ []) ≡ true
+    → (if b then expects (n + 1) s else s).numbers.next_in ≡ s.numbers.next_in + 1)
+    [ true ↦ λ e _. ap (λ m. m + 1) (eqb-true n s.numbers.next_in e) | false ↦ λ e h'. absurd (cc h') ] refl h
+
+counts_row : (r : Row) (now : ℕ) (s : Session) (head : Head) → Premise r s.numbers.next_in head
+    → list_any is_take (effect_of r (number_of (Message head)) now s).acts ≡ true
+    → RaisesTo head.what s.numbers.next_in (effect_of r (number_of (Message head)) now s).next.numbers.next_in
+counts_row (S4 true) now s head p h = absurd (cc h)
+counts_row (S4 false) now s head p h = absurd (cc h)
+counts_row (S6 tag) now s head p h = one_more head.what s.numbers.next_in _ (taken_next (number_of (Message head)) s h)
+counts_row (S9 heart reset) now s head p h = one_more head.what s.numbers.next_in _ (next_of head s.numbers.next_in p)
+counts_row S11 now s head p h = one_more head.what s.numbers.next_in _ (next_of head s.numbers.next_in p)
+counts_row (S14 tag) now s head p h = one_more head.what s.numbers.next_in _ (taken_next (number_of (Message head)) s h)
+counts_row (S15 reason) now s head p h = one_more head.what s.numbers.next_in _ (taken_next (number_of (Message head)) s h)
+counts_row (S16 to) now s head p h = subst (λ w. RaisesTo w s.numbers.next_in to) (sym p.0) (inl refl)
+counts_row (S22 from to dup) now s head p h = let none : list_any is_take (only (is_asked_for dup s.ask) (asking s)) ≡ false = only_other is_take (is_asked_for dup s.ask) (asking s) refl in absurd (cc (none, h))
+counts_row (S23 dup) now s head p h = let none : list_any is_take (only (is_asked_for dup s.ask) (asking s)) ≡ false = only_other is_take (is_asked_for dup s.ask) (asking s) refl in absurd (cc (none, h))
+counts_row S24 now s head p h = one_more head.what s.numbers.next_in _ (next_of head s.numbers.next_in p)
+counts_row S25 now s head p h = one_more head.what s.numbers.next_in _ (next_of head s.numbers.next_in p)
+counts_row (S26 from to) now s head p h = one_more head.what s.numbers.next_in _ (next_of head s.numbers.next_in p.0)
+counts_row (S27 to) now s head p h = subst (λ w. RaisesTo w s.numbers.next_in to) (sym p.0) (inl (refl, p.2))
+counts_row S28 now s head p h = one_more head.what s.numbers.next_in _ (next_of head s.numbers.next_in p.0)
+counts_row (S29 tag reason) now s head p h = one_more head.what s.numbers.next_in _ (next_of head s.numbers.next_in p.0)
+counts_row S30 now s head p h = one_more head.what s.numbers.next_in _ (next_of head s.numbers.next_in p)
+counts_row S31 now s head p h = one_more head.what s.numbers.next_in _ (next_of head s.numbers.next_in p)
+counts_row S34 now s head p h = let none : list_any is_take (tick_acts now s) ≡ false = tick_other is_take now s refl refl refl in absurd (cc (none, h))
+counts_row other now s head p h = absurd (cc h)
+
+pub taken_counts : Always (λ s input now t. Contains t.acts Take → SetsExpected s input t.next.numbers.next_in)
+taken_counts s Opened now =
+    if_settled now (effect_of (opened_row s.side) 0 now s) (λ t. Contains t.acts Take → ⊥)
+    (λ c. none_taken s (taken_row (opened_row s.side) now s no_message (opened_premise s.side s.numbers.next_in) (found is_take _ Take refl c)))
+taken_counts s Closed now = if_settled now (effect_of S3 0 now s) (λ t. Contains t.acts Take → ⊥) (λ c. absurd (cc (found is_take [] Take refl c)))
+taken_counts s (Message head) now =
+    let h : Session = heard (Message head) now s in
+    if_settled now (effect_of (message_row h.link head h) (number_of (Message head)) now h) (λ t. Contains t.acts Take → RaisesTo head.what s.numbers.next_in t.next.numbers.next_in)
+    (λ c. counts_row (message_row h.link head h) now h head (message_premise h.link head h) (found is_take _ Take refl c))
+taken_counts s Tick now =
+    if_settled now (effect_of (tick_row s.link now s) 0 now s) (λ t. Contains t.acts Take → ⊥)
+    (λ c. none_taken s (taken_row (tick_row s.link now s) now s no_message (tick_premise s.link now s) (found is_take _ Take refl c)))
+taken_counts s End now =
+    if_settled now (effect_of (end_row s.link) 0 now s) (λ t. Contains t.acts Take → ⊥)
+    (λ c. none_taken s (taken_row (end_row s.link) now s no_message (end_premise s.link s.numbers.next_in) (found is_take _ Take refl c)))
+
+-- ---- without a connection a message is passed over
+
+skips_row : (link : LinkState) (head : Head) (now : ℕ) (s : Session) → link ≡ Down
+    → (effect_of (message_row link head s) (number_of (Message head)) now s).acts ≡ Skip ∷ []
+skips_row link head now s down = rw down refl
+
+pub skips : (s : Session) (head : Head) (now : ℕ) → s.link ≡ Down → IfOk (step s (Message head) now) (λ t. t.acts ≡ Skip ∷ [])
+skips s head now down =
+    let h : Session = heard (Message head) now s in
+    if_settled now (effect_of (message_row h.link head h) (number_of (Message head)) now h) (λ t. t.acts ≡ Skip ∷ []) (skips_row h.link head now h down)
+
+-- ---- the application gets a message in turn alone
+
+place_of : (w : What) (place : Ordering) (dup : Bool) (m n now : ℕ) (s : Session) → IsForApplication w
+    → (effect_of (numbered_row w place dup m s.numbers.next_in) n now s).acts ≡ Take ∷ [] → place ≡ Equal
+place_of what.App Less true m n now s a h = absurd (cc h)
+place_of what.App Less false m n now s a h = absurd (cc h)
+place_of what.App Greater dup m n now s a h = absurd (cc h)
+place_of what.App Equal dup m n now s a h = refl
+place_of what.Reject Less true m n now s a h = absurd (cc h)
+place_of what.Reject Less false m n now s a h = absurd (cc h)
+place_of what.Reject Greater dup m n now s a h = absurd (cc h)
+place_of what.Reject Equal dup m n now s a h = refl
+place_of other place dup m n now s a h = absurd a
+
+active_turn : (number comp time : Option ℕ) (w : What) (dup : Bool) (n now : ℕ) (s : Session) → IsForApplication w
+    → (effect_of (active_case number comp time w dup s) n now s).acts ≡ Take ∷ []
+    → (comp ≡ None) × (time ≡ None) × (number ≡ Some s.numbers.next_in)
+active_turn None comp time w dup n now s a h = absurd (cc h)
+active_turn (Some m) (Some tag) time w dup n now s a h = absurd (cc h)
+active_turn (Some m) None (Some reason) w dup n now s a h = absurd (cc h)
+active_turn (Some m) None None w dup n now s a h =
+    let at_it : nat_cmp m s.numbers.next_in ≡ Equal = place_of w (nat_cmp m s.numbers.next_in) dup m n now s a h in
+    (refl, refl, ap Some (exact_unsigned m s.numbers.next_in at_it))
+
+waiting_turn : (number comp time : Option ℕ) (w : What) (dup : Bool) (n now : ℕ) (s : Session) → IsForApplication w
+    → (effect_of (waiting_case number comp time w dup s) n now s).acts ≡ Take ∷ [] → ⊥
+waiting_turn None comp time w dup n now s a h = absurd (cc h)
+waiting_turn (Some m) (Some tag) time w dup n now s a h = absurd (cc h)
+waiting_turn (Some m) None (Some reason) w dup n now s a h = absurd (cc h)
+waiting_turn (Some m) None None what.App dup n now s a h = absurd (cc h)
+waiting_turn (Some m) None None what.Reject dup n now s a h = absurd (cc h)
+waiting_turn (Some m) None None other dup n now s a h = absurd a
+
+message_turn : (link : LinkState) (head : Head) (now : ℕ) (s : Session) → IsForApplication head.what
+    → (effect_of (message_row link head s) (number_of (Message head)) now s).acts ≡ Take ∷ []
+    → (link ≡ Active) × (head.comp ≡ None) × (head.time ≡ None) × (head.number ≡ Some s.numbers.next_in)
+message_turn Down head now s a h = absurd (cc h)
+message_turn Wait head now s a h = absurd (waiting_turn head.number head.comp head.time head.what head.dup (number_of (Message head)) now s a h)
+message_turn Asked head now s a h = absurd (waiting_turn head.number head.comp head.time head.what head.dup (number_of (Message head)) now s a h)
+message_turn Active head now s a h =
+    let turn : (head.comp ≡ None) × (head.time ≡ None) × (head.number ≡ Some s.numbers.next_in) =
+    active_turn head.number head.comp head.time head.what head.dup (number_of (Message head)) now s a h in
+    (refl, turn.0, turn.1, turn.2)
+
+pub in_turn : (s : Session) (head : Head) (now : ℕ) → IsForApplication head.what
+    → IfOk (step s (Message head) now) (λ t. t.acts ≡ Take ∷ []
+    → (s.link ≡ Active) × (head.comp ≡ None) × (head.time ≡ None) × (head.number ≡ Some s.numbers.next_in))
+in_turn s head now a =
+    let h : Session = heard (Message head) now s in
+    if_settled now (effect_of (message_row h.link head h) (number_of (Message head)) now h)
+    (λ t. t.acts ≡ Take ∷ [] → (s.link ≡ Active) × (head.comp ≡ None) × (head.time ≡ None) × (head.number ≡ Some s.numbers.next_in))
+    (message_turn h.link head now h a)
+
+-- ---- five acts at most
+
+abbrev Few : Session → Step → Type 0
+Few s t = length t.acts ≤ 5
+
+few_ticks : (x y z : Bool) (s : Session) → length (only x (Say admin.TestRequest) ++ only y (Say (admin.Heartbeat false)) ++ only z (asking s)) ≤ 5
+few_ticks true true true s = omega arith
+few_ticks true true false s = omega arith
+few_ticks true false true s = omega arith
+few_ticks true false false s = omega arith
+few_ticks false true true s = omega arith
+few_ticks false true false s = omega arith
+few_ticks false false true s = omega arith
+few_ticks false false false s = omega arith
+
+few_asks : (b : Bool) (s : Session) → length (only b (asking s)) ≤ 1
+few_asks true s = omega arith
+few_asks false s = omega arith
+
+few_row : ByRows Few
+few_row (S4 true) now s head p = omega arith
+few_row (S4 false) now s head p = omega arith
+few_row (S22 from to dup) now s head p = let few : length (only (is_asked_for dup s.ask) (asking s)) ≤ 1 = few_asks (is_asked_for dup s.ask) s in omega arith
+few_row (S23 dup) now s head p = let few : length (only (is_asked_for dup s.ask) (asking s)) ≤ 1 = few_asks (is_asked_for dup s.ask) s in omega arith
+few_row S34 now s head p = few_ticks (is_test_due now s) (is_heartbeat_due now s) (is_ask_due s.ask now s.heart) s
+few_row other now s head p = omega arith
+
+pub five_acts : Always (λ s input now t. length t.acts ≤ 5)
+five_acts s (Message head) now = by_rows (λ s n now t. Few s t) few_row s (Message head) now
+five_acts s other now = by_rows (λ s n now t. Few s t) few_row s other now

@@ -1,3 +1,6 @@
-pub mod Always
-pub mod Kept
-pub mod Premise
+mod Always
+mod ByRows
+mod Kept
+mod Links
+mod Premise
+mod Worked

@@ -1,4 +1,4 @@
-pub mod Bounds
+pub mod Head
 pub mod Laws
-pub mod Rows
-pub mod Step
+pub mod Numbers
+pub mod Table

@@ -1,3 +1,5 @@
+//! The acts of a step.
+
 ghost use Rattle.std.specs.Prelude.{◌≡◌, ◌<◌, ◌≤◌, ◌++◌, [], ◌∷◌, ⊤, length};
 
 use crate::Act;
@@ -5,24 +7,26 @@ use std::alloc::AllocError;
 use std::fmt;
 use std::marker::Model;
 
-const CAPACITY: usize = 5;
+/// How many acts a step has at most.
+pub const MAX_ACTS: usize = 5;
 
 /// At most five acts, in order. Contracts see it as the list of them.
 #[derive(Drop)]
 pub struct Acts {
-    acts: [Act; 5],
+    acts: [Act; MAX_ACTS],
     len: usize,
 }
 
 impl Model for Acts {
     ghost use Rattle.std.specs.Prelude.{List, take, ◌≤◌};
-    ghost use Rattle.session_core.specs.declared.types.Act.{Act};
+    ghost use Rattle.session_core.specs.declared.act.Act.{Act};
+    ghost use Rattle.session_core.specs.declared.acts.TheConstants.{MAX_ACTS};
 
     ghost Value = { List Act };
 
     ghost view = { λ a. take a.len a.acts };
 
-    ghost invariant = { λ a. a.len ≤ 5 };
+    ghost invariant = { λ a. a.len ≤ MAX_ACTS };
 }
 
 impl Acts {
@@ -31,14 +35,14 @@ impl Acts {
         ensures { result ≡ [] }
     {
         Acts {
-            acts: [Act::Take; CAPACITY],
+            acts: [Act::Take; MAX_ACTS],
             len: 0,
         }
     }
 
     // The acts of a slice.
     pub(crate) fn of(items: &[Act]) -> Acts
-        requires { length items.now ≤ 5 }
+        requires { length items.now ≤ MAX_ACTS }
         ensures { result ≡ items.now }
     {
         let mut acts = Acts::new();
@@ -50,7 +54,7 @@ impl Acts {
 
     /// Adds an act at the end of fewer than five.
     pub fn push(&mut self, act: Act)
-        requires { length self.old < 5 }
+        requires { length self.old < MAX_ACTS }
         ensures { self.new ≡ self.old ++ act ∷ [] }
     {
         self.acts[self.len] = act;
@@ -60,7 +64,7 @@ impl Acts {
     /// The acts, in order.
     pub fn as_slice(&self) -> &[Act]
         ensures items { result.now ≡ self.now }
-        ensures few { length result.now ≤ 5 }
+        ensures few { length result.now ≤ MAX_ACTS }
     {
         &self.acts[..self.len]
     }
@@ -87,8 +91,8 @@ impl fmt::Debug for Acts {
 
 impl PartialEq for Acts {
     ghost use Rattle.std.specs.Cmp.Lexicographic.{pointwise, lists_per};
-    ghost use Rattle.session_core.specs.contracts.types.ActPartialEq.TheImpl.{eq-value};
-    ghost use Rattle.session_core.specs.contracts.types.ActPartialEq.TheImpl.Laws.{laws-law};
+    ghost use Rattle.session_core.specs.contracts.act.ActPartialEq.TheImpl.{eq-value};
+    ghost use Rattle.session_core.specs.contracts.act.ActPartialEq.TheImpl.Laws.{laws-law};
 
     ghost eq = { pointwise eq-value.it };
 
@@ -101,7 +105,7 @@ impl PartialEq for Acts {
 
 impl Eq for Acts {
     ghost use Rattle.std.specs.Cmp.Lexicographic.{lists_equiv};
-    ghost use Rattle.session_core.specs.contracts.types.ActEq.TheImpl.Laws.{laws-law};
+    ghost use Rattle.session_core.specs.contracts.act.ActEq.TheImpl.Laws.{laws-law};
 
     ghost laws = { lists_equiv laws-law };
 }

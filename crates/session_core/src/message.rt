@@ -1,10 +1,13 @@
-ghost use Rattle.std.specs.Prelude.{◌≡◌, true, [], ◌∷◌, if◌then◌else◌};
+ghost use Rattle.std.specs.Prelude.{◌≡◌, true, false, [], ◌∷◌, if◌then◌else◌};
 ghost use Rattle.std.specs.Ordering.{nat_cmp};
 ghost use Rattle.std.specs.declared.cmp.Ordering.TheVariants.{Equal, Greater};
-ghost use Rattle.session_core.specs.Bounds.{IsHead, IsNumber};
-ghost use Rattle.session_core.specs.Step.{Message, effect_of, does, down, taken_or_skipped, take_or_skip, is_fresh, message_row, waiting_row, logon_row, active_row, numbered_row, early_row, expected_row, number_of, is_asked_for, logout, S6, S19, S20};
+ghost use Rattle.session_core.specs.Head.{HasNumbers};
+ghost use Rattle.session_core.specs.Numbers.{IsMsgSeqNum};
+ghost use Rattle.session_core.specs.Table.{Message, effect_of, does, down, taken_or_skipped, take_or_skip, is_fresh, message_row, waiting_row, logon_row, active_row, numbered_row, early_row, expected_row, number_of, is_asked_for, logout, S6, S19, S20};
 
-use crate::parts::{does, logout, reject};
+use crate::reason::{COMP_ID_PROBLEM, VALUE_IS_INCORRECT};
+use crate::session::does;
+use crate::tag::{NEW_SEQ_NO, RESET_SEQ_NUM_FLAG, SENDING_TIME};
 use crate::{Act, Acts, Admin, Head, LinkState, Session, Step, What, Why};
 use order_meaning::Side;
 use std::cmp::Ordering;
@@ -35,17 +38,17 @@ impl Session {
             expected,
             got: number,
         };
-        does(&[Act::Skip, logout(why), Act::HangUp], self.down())
+        does(&[Act::Skip, Act::logout(why), Act::HangUp], self.down())
     }
 
     // A Logon that is answered by a Logout.
     fn logon_refused(&self, number: u32, tag: u32) -> Step
-        requires { IsNumber number }
+        requires { IsMsgSeqNum number }
         ensures { result ≡ effect_of (S6 tag) number 0 self.now }
     {
         let acts = [
             self.take_or_skip(number),
-            logout(Why::Logon(tag)),
+            Act::logout(Why::Logon(tag)),
             Act::HangUp,
         ];
         does(&acts, self.taken_or_skipped(number).down())
@@ -53,9 +56,9 @@ impl Session {
 
     // A Logon of the expected number.
     fn logon_taken(&self, number: u32, heart: u32, reset: bool) -> Step
-        requires { IsNumber number }
-        ensures { result ≡ effect_of (logon_row self.now.link (What.Logon heart reset) true Equal true)
-            number 0 self.now }
+        requires { IsMsgSeqNum number }
+        ensures { result ≡ effect_of (logon_row self.now.link (What.Logon heart reset) true Equal
+            true) number 0 self.now }
     {
         let next = Session {
             link: LinkState::Active,
@@ -71,9 +74,9 @@ impl Session {
     }
 
     // A Logon of a higher number.
-    fn logon_early(&self, number: u32, heart: u32, reset: bool, now: u64) -> Step
-        ensures { result ≡ effect_of (logon_row self.now.link (What.Logon heart reset) true Greater true)
-            number now self.now }
+    fn logon_early(&self, number: u32, heart: u32, now: u64) -> Step
+        ensures { result ≡ effect_of (logon_row self.now.link (What.Logon heart false) false Greater
+            true) number now self.now }
     {
         let next = Session {
             link: LinkState::Active,
@@ -81,7 +84,11 @@ impl Session {
         };
         match self.link {
             LinkState::Wait => does(
-                &[Act::Skip, Act::Say(Admin::Logon { reset }), self.asking()],
+                &[
+                    Act::Skip,
+                    Act::Say(Admin::Logon { reset: false }),
+                    self.asking(),
+                ],
                 Session { heart, ..next },
             ),
             _ => does(&[Act::Skip, self.asking()], next),
@@ -89,19 +96,19 @@ impl Session {
     }
 
     fn logon(&self, number: u32, what: What, dup: bool, now: u64) -> Step
-        requires { IsNumber number }
+        requires { IsMsgSeqNum number }
         ensures { result ≡ effect_of (logon_row self.now.link what (is_fresh number self.now)
             (nat_cmp number self.now.numbers.next_in) dup) number now self.now }
     {
         match what {
             What::BadLogon { tag } => self.logon_refused(number, tag),
             What::Logon { reset: true, .. } if !self.is_fresh(number) => {
-                self.logon_refused(number, 141)
+                self.logon_refused(number, RESET_SEQ_NUM_FLAG)
             }
             What::Logon { heart, reset } => match number.cmp(&self.numbers.next_in) {
                 Ordering::Less => self.too_low(number, dup),
                 Ordering::Equal => self.logon_taken(number, heart, reset),
-                Ordering::Greater => self.logon_early(number, heart, reset, now),
+                Ordering::Greater => self.logon_early(number, heart, now),
             },
             _ => self.hung_up(),
         }
@@ -109,7 +116,6 @@ impl Session {
 
     // A message before the Logon.
     fn waiting(&self, head: &Head, now: u64) -> Step
-        requires { IsHead head.now }
         ensures { result ≡ effect_of (waiting_row head.now self.now)
             (number_of (Message head.now)) now self.now }
     {
@@ -136,9 +142,15 @@ impl Session {
         acts.push(Act::Skip);
         match what {
             What::Logout => {
-                return does(&[Act::Skip, logout(Why::Answer), Act::HangUp], self.down());
+                return does(
+                    &[Act::Skip, Act::logout(Why::Answer), Act::HangUp],
+                    self.down(),
+                );
             }
-            What::ResendRequest { from, to } => acts.push(Act::Resend { from, to }),
+            What::ResendRequest { from, to } => acts.push(Act::Resend {
+                from,
+                to: self.resend_end(to),
+            }),
             _ => {}
         }
         if self.is_asked_for(dup) {
@@ -151,7 +163,8 @@ impl Session {
     }
 
     fn expected(&self, number: u32, what: What) -> Step
-        requires { IsNumber number }
+        requires number { IsMsgSeqNum number }
+        requires what { HasNumbers what }
         ensures { result ≡ effect_of (expected_row what number) number 0 self.now }
     {
         let next = self.expects(number + 1);
@@ -161,28 +174,47 @@ impl Session {
                 next,
             ),
             What::ResendRequest { from, to } => {
-                does(&[Act::Take, Act::Resend { from, to }], next)
+                does(
+                    &[
+                        Act::Take,
+                        Act::Resend {
+                            from,
+                            to: self.resend_end(to),
+                        },
+                    ],
+                    next,
+                )
             }
             What::GapFill { to } if number < to => does(&[Act::Take], self.expects(to)),
-            What::GapFill { .. } => does(&[Act::Take, reject(36, 5)], next),
-            What::Faulty { tag, reason } => does(&[Act::Take, reject(tag, reason)], next),
-            What::Logout => does(&[Act::Take, logout(Why::Answer), Act::HangUp], next.down()),
+            What::GapFill { .. } => does(
+                &[Act::Take, Act::reject(NEW_SEQ_NO, VALUE_IS_INCORRECT)],
+                next,
+            ),
+            What::Faulty { tag, reason } => does(&[Act::Take, Act::reject(tag, reason)], next),
+            What::Logout => does(
+                &[Act::Take, Act::logout(Why::Answer), Act::HangUp],
+                next.down(),
+            ),
             _ => does(&[Act::Take], next),
         }
     }
 
     fn numbered(&self, number: u32, what: What, dup: bool, now: u64) -> Step
-        requires { IsNumber number }
-        ensures { result ≡ effect_of (numbered_row what (nat_cmp number self.now.numbers.next_in) dup
-            number self.now.numbers.next_in) number now self.now }
+        requires number { IsMsgSeqNum number }
+        requires what { HasNumbers what }
+        ensures { result ≡ effect_of (numbered_row what (nat_cmp number self.now.numbers.next_in)
+            dup number self.now.numbers.next_in) number now self.now }
     {
         match what {
             What::Reset { to } if self.numbers.next_in <= to => {
                 return does(&[Act::Take], self.expects(to));
             }
-            What::Reset { .. } => return does(&[Act::Skip, reject(36, 5)], *self),
+            What::Reset { .. } => return does(
+                &[Act::Skip, Act::reject(NEW_SEQ_NO, VALUE_IS_INCORRECT)],
+                *self,
+            ),
             What::FaultyReset { reason, .. } => {
-                return does(&[Act::Skip, reject(36, reason)], *self);
+                return does(&[Act::Skip, Act::reject(NEW_SEQ_NO, reason)], *self);
             }
             _ => {}
         }
@@ -195,36 +227,47 @@ impl Session {
 
     // A message with a wrong name or time: it is answered by a Reject, and the session ends.
     fn wrong_head(&self, number: u32, reject: Act, why: Why) -> Step
-        requires { IsNumber number }
-        ensures { result ≡ does (take_or_skip number self.now ∷ reject ∷ logout why ∷ Act.HangUp ∷ [])
-            (down (taken_or_skipped number self.now)) }
+        requires { IsMsgSeqNum number }
+        ensures { result ≡ does (take_or_skip number self.now ∷ reject ∷ logout why
+            ∷ Act.HangUp ∷ []) (down (taken_or_skipped number self.now)) }
     {
-        let acts = [self.take_or_skip(number), reject, logout(why), Act::HangUp];
+        let acts = [
+            self.take_or_skip(number),
+            reject,
+            Act::logout(why),
+            Act::HangUp,
+        ];
         does(&acts, self.taken_or_skipped(number).down())
     }
 
     // A message of a session that is logged on.
     fn active(&self, head: &Head, now: u64) -> Step
-        requires { IsHead head.now }
         ensures { result ≡ effect_of (active_row head.now self.now)
             (number_of (Message head.now)) now self.now }
     {
         let Some(number) = head.number else {
             return does(
-                &[Act::Skip, logout(Why::NoNumber), Act::HangUp],
+                &[Act::Skip, Act::logout(Why::NoNumber), Act::HangUp],
                 self.down(),
             );
         };
         match (head.comp, head.time) {
-            (Some(tag), _) => self.wrong_head(number, reject(tag, 9), Why::CompId),
-            (None, Some(reason)) => self.wrong_head(number, reject(52, reason), Why::Clock),
+            (Some(tag), _) => self.wrong_head(
+                number,
+                Act::reject(tag, COMP_ID_PROBLEM),
+                Why::CompId,
+            ),
+            (None, Some(reason)) => self.wrong_head(
+                number,
+                Act::reject(SENDING_TIME, reason),
+                Why::Clock,
+            ),
             (None, None) => self.numbered(number, head.what, head.dup, now),
         }
     }
 
     // A message, by the state of the link.
     pub(crate) fn message(&self, head: &Head, now: u64) -> Step
-        requires { IsHead head.now }
         ensures { result ≡ effect_of (message_row self.now.link head.now self.now)
             (number_of (Message head.now)) now self.now }
     {

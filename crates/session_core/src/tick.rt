@@ -1,11 +1,21 @@
 ghost use Rattle.std.specs.Prelude.{◌≡◌};
-ghost use Rattle.session_core.specs.Step.{effect_of, is_test_due, is_heartbeat_due, is_unanswered, elapsed, silence_limit, is_ask_due, tick_row, S34};
+ghost use Rattle.session_core.specs.Table.{effect_of, is_test_due, is_heartbeat_due, is_unanswered, elapsed, silence_limit, is_ask_due, tick_row, S34};
 
-use crate::parts::does;
+use crate::session::does;
 use crate::{Act, Acts, Admin, Ask, LinkState, Session, Step};
 
-/// How long a Logon is awaited, in milliseconds.
+/// How long a Logon is awaited, in milliseconds (own).
 const LOGON_WAIT: u64 = 10_000;
+
+/// A second, in milliseconds.
+const SECOND: u64 = 1_000;
+
+/// How much silence is too much, in milliseconds for each second of HeartBtInt(108): a fifth more
+/// than the second itself, since the standard says "some reasonable transmission time" (own).
+const SILENCE: u64 = 1_200;
+
+/// The seconds after which a gap is asked for again where HeartBtInt(108) is 0 (own).
+const HEART_OF_NONE: u32 = 30;
 
 // The time since a moment; none where the clock went back.
 fn elapsed(now: u64, since: u64) -> u64
@@ -20,7 +30,7 @@ impl Session {
     fn silence_limit(&self) -> u64
         ensures { result ≡ silence_limit self.now.heart }
     {
-        1_200 * u64::from(self.heart)
+        SILENCE * u64::from(self.heart)
     }
 
     fn is_test_due(&self, now: u64) -> bool
@@ -37,7 +47,7 @@ impl Session {
         } else {
             self.said
         };
-        self.heart > 0 && 1_000 * u64::from(self.heart) <= elapsed(now, said)
+        self.heart > 0 && SECOND * u64::from(self.heart) <= elapsed(now, said)
     }
 
     fn is_unanswered(&self, now: u64) -> bool
@@ -52,9 +62,13 @@ impl Session {
     fn is_ask_due(&self, now: u64) -> bool
         ensures { result ≡ is_ask_due self.now.ask now self.now.heart }
     {
-        let heart = if self.heart == 0 { 30 } else { self.heart };
+        let heart = if self.heart == 0 {
+            HEART_OF_NONE
+        } else {
+            self.heart
+        };
         match self.ask {
-            Some(ask) => 1_000 * u64::from(heart) < elapsed(now, ask.since),
+            Some(ask) => SECOND * u64::from(heart) < elapsed(now, ask.since),
             None => false,
         }
     }

@@ -1,42 +1,56 @@
--- The session table: what one FIX session of the gateway does with each thing that may happen to it.
+-- Standard: FIX 4.2, "Session Protocol" and "Administrative Messages"; FIXT 1.1, the same chapters.
 --
--- `row_of` is the table's left half: by the state of the link and by what happens, the first row that applies.
--- `effect_of` is its right half: a line for each row, with its acts in order and the session afterwards.
--- `step` joins them, counts the row's own messages, and says where no number is left for one of them.
+-- The session table: what one FIX session of the gateway does with each thing that may happen to
+-- it.
 --
--- The gateway accepts the client's session (FIX 4.2) and opens the venue's (FIXT 1.1). What stands here is the same in
--- both: the chapters "Session Protocol" and "Administrative Messages", by whose titles the rows go. A row or a part
--- of one that is marked "own" is the gateway's choice where they leave one.
+-- `row_of` is the table's left half: by the state of the link and by what happens, the first row
+-- that applies. `effect_of` is its right half: a line for each row, with its acts in order and the
+-- session afterwards. `step` joins them, counts the row's own messages, and says where no number is
+-- left for one of them.
+--
+-- The gateway accepts the client's session (FIX 4.2) and opens the venue's (FIXT 1.1). What stands
+-- here is the same in both: the chapters "Session Protocol" and "Administrative Messages", by whose
+-- titles the rows go. A row or a part of one that is marked "own" is the gateway's choice where
+-- they leave one.
 --
 --   S1 S2         Logon: the side that opens the connection logs on first
---   S3 S4         own: a lost connection leaves nothing outstanding but the numbers; without one nothing is answered
---   S5            Logon: the first message is a Logon, of the right names and time, or the connection is hung up
---   S6            Logon: a Logon that is refused is answered by a Logout. ResetSeqNumFlag(141) is good on the very first
---                 Logon of a side alone (own)
---   S7 S20        Possible Duplicates: an old message with PossDupFlag(43) was taken before; OrigSendingTime(122) is not
---                 looked at (own)
---   S8 S19        Sequence Numbers: a low number without PossDupFlag is a serious error and ends the session
---   S9 S11        Logon: the acceptor answers by a Logon of its own, the initiator has had its answer
+--   S3 S4         own: a lost connection leaves nothing outstanding but the numbers; without one
+--                 nothing is answered
+--   S5            Logon: the first message is a Logon, of the right names and time, or the
+--                 connection is hung up
+--   S6            Logon: a Logon that is refused is answered by a Logout. ResetSeqNumFlag(141) is
+--                 good on the very first Logon of a side alone (own)
+--   S7 S20        Possible Duplicates: an old message with PossDupFlag(43) was taken before;
+--                 OrigSendingTime(122) is not looked at (own)
+--   S8 S19        Sequence Numbers: a low number without PossDupFlag is a serious error and ends
+--                 the session
+--   S9 S11        Logon: the acceptor answers by a Logon of its own, the initiator has had its
+--                 answer
 --   S10 S12       Logon, Message Recovery: the Logon is accepted, and what is missing is asked for
 --   S13           own: a message without a number can be neither taken nor asked for again
---   S14 S15       Reject (session-level) and Logout: wrong names or a wrong time are rejected and end the session
---   S16 S17 S18   Sequence Reset, Reset mode: its own number is ignored; it may only raise the expected number
+--   S14 S15       Reject (session-level) and Logout: wrong names or a wrong time are rejected and
+--                 end the session
+--   S16 S17 S18   Sequence Reset, Reset mode: its own number is ignored; it may only raise the
+--                 expected number
 --   S21 S30       Logout: it is answered by a Logout, and the gateway hangs up at once (own)
---   S22           Resend Request: it is answered first though it is early, so that two sides that ask do not wait for
---                 one another
---   S23           Ordered Message Processing, Resend Request: an early message is dropped, and all from the expected
---                 number on are asked for; at most one request is outstanding (own)
+--   S22           Resend Request: it is answered first though it is early, so that two sides that
+--                 ask do not wait for one another
+--   S23           Ordered Message Processing, Resend Request: an early message is dropped, and all
+--                 from the expected number on are asked for; at most one request is outstanding
+--                 (own)
 --   S24 S31       Sequence Numbers: the expected message is taken
 --   S25           Test Request: it is answered by a Heartbeat with its TestReqID(112)
 --   S26           Resend Request
 --   S27 S28       Sequence Reset, Gap Fill mode: it may only raise the expected number
---   S29           Reject (session-level): a message that breaks a rule is rejected, and its number is used up
+--   S29           Reject (session-level): a message that breaks a rule is rejected, and its number
+--                 is used up
 --   S32           own: a Logon is awaited for ten seconds
---   S33 S34       Heartbeat, Test Request: a Heartbeat after HeartBtInt(108) without a message sent; a TestRequest after
---                 HeartBtInt and some time of silence, here a fifth of it; the end after as much silence again. A gap
---                 that stays is asked for again after HeartBtInt (own)
+--   S33 S34       Heartbeat, Test Request: a Heartbeat after HeartBtInt(108) without a message
+--                 sent; a TestRequest after HeartBtInt and some time of silence, here a fifth of
+--                 it; the end after as much silence again. A gap that stays is asked for again
+--                 after HeartBtInt (own)
 --   S35 S36       Logout: the gateway ends the session, and hangs up at once (own)
-use Rattle.std.specs.Prelude.{ℕ, ◌+◌, ◌-◌, ◌*◌, Bool, true, false, ◌==◌, ◌&&◌, ◌||◌, nat_lt, nat_le, max, if◌then◌else◌, List, [], ◌∷◌, ◌++◌, Some, None, Ok, Err, is_none, count_by}
+use Rattle.std.specs.Prelude.{ℕ, ◌+◌, ◌-◌, ◌*◌, Bool, true, false, ◌==◌, ◌&&◌, ◌||◌, nat_lt, nat_le, max, min, if◌then◌else◌, List, [], ◌∷◌, ◌++◌, Some, None, Ok, Err, is_none, count_by}
 use Rattle.std.specs.declared.option.Option.{Option}
 use Rattle.std.specs.declared.result.Result.{Result}
 use Rattle.std.specs.declared.cmp.Ordering.{Ordering}
@@ -44,22 +58,27 @@ use Rattle.std.specs.declared.cmp.Ordering.TheVariants.{Less, Equal, Greater}
 use Rattle.std.specs.Ordering.{nat_cmp}
 use Rattle.order_meaning.specs.declared.Side.{Side}
 use Rattle.order_meaning.specs.declared.Side.TheVariants.{Client, Venue}
-use Rattle.session_core.specs.declared.types.LinkState.{LinkState}
-use Rattle.session_core.specs.declared.types.LinkState.TheVariants.{Down, Wait, Asked, Active}
-use Rattle.session_core.specs.declared.types.Ask.{Ask}
-use Rattle.session_core.specs.declared.types.Session.{Session}
-use Rattle.session_core.specs.declared.types.Head.{Head}
-use Rattle.session_core.specs.declared.types.What.{What}
-use Rattle.session_core.specs.declared.types.What.TheVariants as what
-use Rattle.session_core.specs.declared.types.Why.{Why}
-use Rattle.session_core.specs.declared.types.Why.TheVariants as why
-use Rattle.session_core.specs.declared.types.Admin.TheVariants as admin
-use Rattle.session_core.specs.declared.types.Act.{Act}
-use Rattle.session_core.specs.declared.types.Act.TheVariants.{Take, Skip, Say, Resend, HangUp}
-use Rattle.session_core.specs.declared.types.Step.{Step}
-use Rattle.session_core.specs.declared.types.Spent.{Spent}
+use Rattle.session_core.specs.declared.numbers.TheConstants.{ALL_USED}
+use Rattle.session_core.specs.declared.tag.TheConstants.{NEW_SEQ_NO, SENDING_TIME, RESET_SEQ_NUM_FLAG}
+use Rattle.session_core.specs.declared.reason.TheConstants.{COMP_ID_PROBLEM, VALUE_IS_INCORRECT}
+use Rattle.session_core.specs.declared.tick.TheConstants.{LOGON_WAIT, SECOND, SILENCE, HEART_OF_NONE}
+use Rattle.session_core.specs.declared.session.LinkState.{LinkState}
+use Rattle.session_core.specs.declared.session.LinkState.TheVariants.{Down, Wait, Asked, Active}
+use Rattle.session_core.specs.declared.session.Ask.{Ask}
+use Rattle.session_core.specs.declared.session.Session.{Session}
+use Rattle.session_core.specs.declared.head.Head.{Head}
+use Rattle.session_core.specs.declared.head.What.{What}
+use Rattle.session_core.specs.declared.head.What.TheVariants as what
+use Rattle.session_core.specs.declared.act.Why.{Why}
+use Rattle.session_core.specs.declared.act.Why.TheVariants as why
+use Rattle.session_core.specs.declared.act.Admin.TheVariants as admin
+use Rattle.session_core.specs.declared.act.Act.{Act}
+use Rattle.session_core.specs.declared.act.Act.TheVariants.{Take, Skip, Say, Resend, HangUp}
+use Rattle.session_core.specs.declared.session.Step.{Step}
+use Rattle.session_core.specs.declared.session.Spent.{Spent}
 
--- What may happen to a session: its connection opened or was lost, a whole frame came, time went by, the gateway ends.
+-- What may happen to a session: its connection opened or was lost, a whole frame came, time went
+-- by, the gateway ends.
 pub data Input : Type 0 where
   Opened : Input
   Closed : Input
@@ -75,7 +94,7 @@ pub data Row : Type 0 where
   S6 : (tag : ℕ) → Row
   S7 S8 : Row
   S9 : (heart : ℕ) (reset : Bool) → Row
-  S10 : (heart : ℕ) (reset : Bool) → Row
+  S10 : (heart : ℕ) → Row
   S11 S12 S13 : Row
   S14 : (tag : ℕ) → Row
   S15 : (reason : ℕ) → Row
@@ -95,8 +114,8 @@ pub data Row : Type 0 where
 
 -- ---- the left half: which row applies. In each part the first line that fits goes first.
 
--- a Logon with ResetSeqNumFlag(141) Y is good as the very first message of a side alone; the gateway has by then
--- sent its own Logon to the venue, and nothing to the client (own)
+-- a Logon with ResetSeqNumFlag(141) Y is good as the very first message of a side alone; the
+-- gateway has by then sent its own Logon to the venue, and nothing to the client (own)
 abbrev pub is_fresh : ℕ → Session → Bool
 is_fresh n s = n == 1 && s.numbers.next_in == 1 && s.numbers.next_out == first_out s.side
   where
@@ -104,22 +123,23 @@ is_fresh n s = n == 1 && s.numbers.next_in == 1 && s.numbers.next_out == first_o
     first_out Client = 1
     first_out Venue = 2
 
--- Before the Logon: the state, the message, whether a Logon with 141=Y is fresh, how the number stands to the
--- expected one, and PossDupFlag(43).
+-- Before the Logon: the state, the message, whether a Logon with 141=Y is fresh, how the number
+-- stands to the expected one, and PossDupFlag(43).
 abbrev pub logon_row : LinkState → What → Bool → Ordering → Bool → Row
 logon_row link (what.BadLogon tag) fresh place dup = S6 tag
-logon_row link (what.Logon heart true) false place dup = S6 141
+logon_row link (what.Logon heart true) false place dup = S6 RESET_SEQ_NUM_FLAG
 logon_row link (what.Logon heart reset) fresh Less true = S7
 logon_row link (what.Logon heart reset) fresh Less false = S8
 logon_row Wait (what.Logon heart reset) fresh Equal dup = S9 heart reset
-logon_row Wait (what.Logon heart reset) fresh Greater dup = S10 heart reset
+logon_row Wait (what.Logon heart reset) fresh Greater dup = S10 heart
 logon_row link (what.Logon heart reset) fresh Equal dup = S11
 logon_row link (what.Logon heart reset) fresh Greater dup = S12
 logon_row link other fresh place dup = S5
 
 -- the same, by the number, the faults of the names and of the time
 abbrev pub waiting_case : Option ℕ → Option ℕ → Option ℕ → What → Bool → Session → Row
-waiting_case (Some n) None None w dup s = logon_row s.link w (is_fresh n s) (nat_cmp n s.numbers.next_in) dup
+waiting_case (Some n) None None w dup s =
+    logon_row s.link w (is_fresh n s) (nat_cmp n s.numbers.next_in) dup
 waiting_case number comp time w dup s = S5
 
 -- Logged on: a number above the expected one.
@@ -139,8 +159,8 @@ expected_row what.Reject n = S31
 expected_row what.App n = S31
 expected_row other n = S24
 
--- Logged on: the message, how its number n stands to the expected one, and PossDupFlag(43). A SequenceReset that is
--- no gap fill goes by no number.
+-- Logged on: the message, how its number n stands to the expected one, and PossDupFlag(43). A
+-- SequenceReset that is no gap fill goes by no number.
 abbrev pub numbered_row : What → Ordering → Bool → ℕ → ℕ → Row
 numbered_row (what.Reset to) place dup n expected = if nat_le expected to then S16 to else S17
 numbered_row (what.FaultyReset tag reason) place dup n expected = S18 reason
@@ -154,7 +174,8 @@ abbrev pub active_case : Option ℕ → Option ℕ → Option ℕ → What → B
 active_case None comp time w dup s = S13
 active_case (Some n) (Some tag) time w dup s = S14 tag
 active_case (Some n) None (Some reason) w dup s = S15 reason
-active_case (Some n) None None w dup s = numbered_row w (nat_cmp n s.numbers.next_in) dup n s.numbers.next_in
+active_case (Some n) None None w dup s =
+    numbered_row w (nat_cmp n s.numbers.next_in) dup n s.numbers.next_in
 
 -- a message, by the state of the link
 abbrev pub waiting_row : Head → Session → Row
@@ -175,21 +196,17 @@ elapsed now since = now - since
 
 -- how much silence is too much: 1.2 times HeartBtInt(108), in milliseconds
 abbrev pub silence_limit : ℕ → ℕ
-silence_limit heart = 1200 * heart
+silence_limit heart = SILENCE * heart
 
 -- a TestRequest was sent, and nothing came for too long
 abbrev pub is_unanswered : Option ℕ → ℕ → ℕ → Bool
 is_unanswered None now heart = false
 is_unanswered (Some since) now heart = nat_lt (silence_limit heart) (elapsed now since)
 
--- how long a Logon is awaited: ten seconds (own)
-abbrev pub logon_wait : ℕ
-logon_wait = 10000
-
 abbrev pub tick_row : LinkState → ℕ → Session → Row
 tick_row Down now s = S4 false
-tick_row Wait now s = if nat_lt logon_wait (elapsed now s.seen) then S32 else Quiet
-tick_row Asked now s = if nat_lt logon_wait (elapsed now s.seen) then S32 else Quiet
+tick_row Wait now s = if nat_lt LOGON_WAIT (elapsed now s.seen) then S32 else Quiet
+tick_row Asked now s = if nat_lt LOGON_WAIT (elapsed now s.seen) then S32 else Quiet
 tick_row Active now s = if is_unanswered s.tested now s.heart then S33 else S34
 
 abbrev pub end_row : LinkState → Row
@@ -219,7 +236,8 @@ down s = record s { link = Down; tested = None; ask = None }
 abbrev pub expects : ℕ → Session → Session
 expects n s = record s { numbers = record s.numbers { next_in = n } }
 
--- a message that ends the session is used up if its number n is the expected one, and else passed over
+-- a message that ends the session is used up if its number n is the expected one, and else passed
+-- over
 abbrev pub take_or_skip : ℕ → Session → Act
 take_or_skip n s = if n == s.numbers.next_in then Take else Skip
 
@@ -233,10 +251,16 @@ logout w = Say (admin.Logout w)
 abbrev pub reject : ℕ → ℕ → Act
 reject tag reason = Say (admin.Reject tag reason)
 
+-- the last number that is sent again: EndSeqNo(16), where 0 means all, but none that was not given
+-- before the request
+abbrev pub resend_end : ℕ → Session → ℕ
+resend_end to s = if to == 0 then s.numbers.next_out - 1 else min to (s.numbers.next_out - 1)
+
 abbrev pub asking : Session → Act
 asking s = Say (admin.ResendRequest s.numbers.next_in)
 
--- A gap below n is asked for where no request is open, and anew at a repeated message; at most one is open (own).
+-- A gap below n is asked for where no request is open, and anew at a repeated message; at most one
+-- is open (own).
 abbrev pub is_asked_for : Bool → Option Ask → Bool
 is_asked_for dup ask = is_none ask || dup
 
@@ -255,11 +279,12 @@ only b act = if b then act ∷ [] else []
 -- A tick of a session that is logged on. HeartBtInt(108) 0 means no Heartbeat and no TestRequest.
 -- Nothing came for too long, and no TestRequest is out.
 abbrev pub is_test_due : ℕ → Session → Bool
-is_test_due now s = is_none s.tested && nat_lt 0 s.heart && nat_lt (silence_limit s.heart) (elapsed now s.seen)
+is_test_due now s =
+    is_none s.tested && nat_lt 0 s.heart && nat_lt (silence_limit s.heart) (elapsed now s.seen)
 
 -- Nothing was sent for HeartBtInt. The TestRequest of this tick was sent before this is asked.
 abbrev pub is_heartbeat_due : ℕ → Session → Bool
-is_heartbeat_due now s = nat_lt 0 s.heart && nat_le (1000 * s.heart) (elapsed now said)
+is_heartbeat_due now s = nat_lt 0 s.heart && nat_le (SECOND * s.heart) (elapsed now said)
   where
     said : ℕ
     said = if is_test_due now s then now else s.said
@@ -267,11 +292,13 @@ is_heartbeat_due now s = nat_lt 0 s.heart && nat_le (1000 * s.heart) (elapsed no
 -- A request is open for more than HeartBtInt, or for more than 30 seconds where that is 0 (own).
 abbrev pub is_ask_due : Option Ask → ℕ → ℕ → Bool
 is_ask_due None now heart = false
-is_ask_due (Some ask) now heart = nat_lt (1000 * (if heart == 0 then 30 else heart)) (elapsed now ask.since)
+is_ask_due (Some ask) now heart =
+    nat_lt (SECOND * (if heart == 0 then HEART_OF_NONE else heart)) (elapsed now ask.since)
 
 abbrev pub asked_again : Option Ask → ℕ → ℕ → Option Ask
 asked_again None now heart = None
-asked_again (Some ask) now heart = Some (if is_ask_due (Some ask) now heart then record ask { since = now } else ask)
+asked_again (Some ask) now heart =
+    Some (if is_ask_due (Some ask) now heart then record ask { since = now } else ask)
 
 abbrev pub tick_acts : ℕ → Session → List Act
 tick_acts now s = only (is_test_due now s) (Say admin.TestRequest)
@@ -279,7 +306,12 @@ tick_acts now s = only (is_test_due now s) (Say admin.TestRequest)
     ++ only (is_ask_due s.ask now s.heart) (asking s)
 
 abbrev pub ticked : ℕ → Session → Session
-ticked now s = record s { tested = if is_test_due now s then Some now else s.tested; ask = asked_again s.ask now s.heart }
+ticked now s =
+    record s {
+      tested = if is_test_due now s then Some now else s.tested;
+      ask =
+          asked_again s.ask now s.heart;
+    }
 
 -- acts, in order, and the session after them
 abbrev pub does : List Act → Session → Step
@@ -300,34 +332,39 @@ effect_of S7 n now s = does (Skip ∷ []) s
 effect_of S8 n now s = does (Skip ∷ logout (why.TooLow s.numbers.next_in n) ∷ HangUp ∷ []) (down s)
 effect_of (S9 heart reset) n now s = does (Take ∷ Say (admin.Logon reset) ∷ [])
     (record (expects (n + 1) s) { link = Active; heart = heart })
-effect_of (S10 heart reset) n now s = does (Skip ∷ Say (admin.Logon reset) ∷ asking s ∷ [])
+effect_of (S10 heart) n now s = does (Skip ∷ Say (admin.Logon false) ∷ asking s ∷ [])
     (record (asks n true now s) { link = Active; heart = heart })
 effect_of S11 n now s = does (Take ∷ []) (record (expects (n + 1) s) { link = Active })
 effect_of S12 n now s = does (Skip ∷ asking s ∷ []) (record (asks n true now s) { link = Active })
 -- logged on: a wrong head
 effect_of S13 n now s = does (Skip ∷ logout why.NoNumber ∷ HangUp ∷ []) (down s)
-effect_of (S14 tag) n now s = does (take_or_skip n s ∷ reject tag 9 ∷ logout why.CompId ∷ HangUp ∷ [])
+effect_of (S14 tag) n now s =
+    does (take_or_skip n s ∷ reject tag COMP_ID_PROBLEM ∷ logout why.CompId ∷ HangUp ∷ [])
     (down (taken_or_skipped n s))
-effect_of (S15 reason) n now s = does (take_or_skip n s ∷ reject 52 reason ∷ logout why.Clock ∷ HangUp ∷ [])
+effect_of (S15 reason) n now s =
+    does (take_or_skip n s ∷ reject SENDING_TIME reason ∷ logout why.Clock ∷ HangUp ∷ [])
     (down (taken_or_skipped n s))
 -- a SequenceReset that is no gap fill
 effect_of (S16 to) n now s = does (Take ∷ []) (expects to s)
-effect_of S17 n now s = does (Skip ∷ reject 36 5 ∷ []) s
-effect_of (S18 reason) n now s = does (Skip ∷ reject 36 reason ∷ []) s
+effect_of S17 n now s = does (Skip ∷ reject NEW_SEQ_NO VALUE_IS_INCORRECT ∷ []) s
+effect_of (S18 reason) n now s = does (Skip ∷ reject NEW_SEQ_NO reason ∷ []) s
 -- a number below the expected one
 effect_of S19 n now s = does (Skip ∷ logout (why.TooLow s.numbers.next_in n) ∷ HangUp ∷ []) (down s)
 effect_of S20 n now s = does (Skip ∷ []) s
 -- a number above it
 effect_of S21 n now s = does (Skip ∷ logout why.Answer ∷ HangUp ∷ []) (down s)
-effect_of (S22 from to dup) n now s = does (Skip ∷ Resend from to ∷ only (is_asked_for dup s.ask) (asking s))
+effect_of (S22 from to dup) n now s =
+    does (Skip ∷ Resend from (resend_end to s) ∷ only (is_asked_for dup s.ask) (asking s))
     (asks n dup now s)
-effect_of (S23 dup) n now s = does (Skip ∷ only (is_asked_for dup s.ask) (asking s)) (asks n dup now s)
+effect_of (S23 dup) n now s =
+    does (Skip ∷ only (is_asked_for dup s.ask) (asking s)) (asks n dup now s)
 -- the expected number
 effect_of S24 n now s = does (Take ∷ []) (expects (n + 1) s)
 effect_of S25 n now s = does (Take ∷ Say (admin.Heartbeat true) ∷ []) (expects (n + 1) s)
-effect_of (S26 from to) n now s = does (Take ∷ Resend from to ∷ []) (expects (n + 1) s)
+effect_of (S26 from to) n now s =
+    does (Take ∷ Resend from (resend_end to s) ∷ []) (expects (n + 1) s)
 effect_of (S27 to) n now s = does (Take ∷ []) (expects to s)
-effect_of S28 n now s = does (Take ∷ reject 36 5 ∷ []) (expects (n + 1) s)
+effect_of S28 n now s = does (Take ∷ reject NEW_SEQ_NO VALUE_IS_INCORRECT ∷ []) (expects (n + 1) s)
 effect_of (S29 tag reason) n now s = does (Take ∷ reject tag reason ∷ []) (expects (n + 1) s)
 effect_of S30 n now s = does (Take ∷ logout why.Answer ∷ HangUp ∷ []) (down (expects (n + 1) s))
 effect_of S31 n now s = does (Take ∷ []) (expects (n + 1) s)
@@ -364,9 +401,9 @@ is_say act = false
 abbrev pub says : List Act → ℕ
 says acts = count_by is_say acts
 
--- one of them would take a number past 999,999,999
+-- one of them would take a number past the greatest one
 abbrev pub is_spent : ℕ → ℕ → Bool
-is_spent next_out sent = nat_lt 0 sent && nat_lt 1000000000 (next_out + sent)
+is_spent next_out sent = nat_lt 0 sent && nat_lt ALL_USED (next_out + sent)
 
 -- a request is closed once the expected number is past the highest early one
 abbrev pub still_open : ℕ → Option Ask → Option Ask
@@ -388,11 +425,18 @@ abbrev pub settled : ℕ → Step → Result Step Spent
 settled now t = if is_spent t.next.numbers.next_out (says t.acts) then Err spent
     else Ok (does t.acts (counted now (says t.acts) t.next))
 
--- The step of a session at an input and a moment: a whole frame is a sign of life first, and then the row is gone by.
+-- The step of a session at an input and a moment: a whole frame is a sign of life first, and then
+-- the row is gone by.
 abbrev pub step : Session → Input → ℕ → Result Step Spent
-step s input now = let h = heard input now s in settled now (effect_of (row_of h input now) (number_of input) now h)
+step s input now =
+    let h = heard input now s in
+    settled now (effect_of (row_of h input now) (number_of input) now h)
 
 -- the next number, for a message that is not of the session's own, and the session that has sent it
 abbrev pub given : Session → ℕ → Result (ℕ × Session) Spent
 given s now = if is_spent s.numbers.next_out 1 then Err spent
-    else Ok (s.numbers.next_out, record s { numbers = record s.numbers { next_out = s.numbers.next_out + 1 }; said = now })
+    else Ok (
+      s.numbers.next_out,
+      record s
+          { numbers = record s.numbers { next_out = s.numbers.next_out + 1 }; said = now },
+    )

@@ -1,16 +1,16 @@
--- Worked rows of the session table, by computation.
+-- Worked examples of the session table, by computation.
 use Rattle.std.specs.Prelude.{◌≡◌, ℕ, true, false, [], ◌∷◌, Some, None, Ok, Err, refl}
 use Rattle.order_meaning.specs.declared.Side.TheVariants.{Client, Venue}
-use Rattle.session_core.specs.declared.types.LinkState.{LinkState}
-use Rattle.session_core.specs.declared.types.LinkState.TheVariants.{Down, Wait, Active}
-use Rattle.session_core.specs.declared.types.Session.{Session}
-use Rattle.session_core.specs.declared.types.Head.{Head}
-use Rattle.session_core.specs.declared.types.What.{What}
-use Rattle.session_core.specs.declared.types.What.TheVariants as what
-use Rattle.session_core.specs.declared.types.Why.TheVariants as why
-use Rattle.session_core.specs.declared.types.Admin.TheVariants as admin
-use Rattle.session_core.specs.declared.types.Act.TheVariants.{Take, Skip, Say, Resend, HangUp}
-use Rattle.session_core.specs.Step.{Opened, Message, Tick, End, step, given, does, spent}
+use Rattle.session_core.specs.declared.session.LinkState.{LinkState}
+use Rattle.session_core.specs.declared.session.LinkState.TheVariants.{Down, Wait, Active}
+use Rattle.session_core.specs.declared.session.Session.{Session}
+use Rattle.session_core.specs.declared.head.Head.{Head}
+use Rattle.session_core.specs.declared.head.What.{What}
+use Rattle.session_core.specs.declared.head.What.TheVariants as what
+use Rattle.session_core.specs.declared.act.Why.TheVariants as why
+use Rattle.session_core.specs.declared.act.Admin.TheVariants as admin
+use Rattle.session_core.specs.declared.act.Act.TheVariants.{Take, Skip, Say, Resend, HangUp}
+use Rattle.session_core.specs.Table.{Opened, Message, Tick, End, step, given, does, spent}
 
 -- a client's session with these next numbers, at HeartBtInt 30, silent since 0
 abbrev pub client : LinkState → ℕ → ℕ → Session
@@ -71,6 +71,16 @@ old_order = refl
 pub request_too_high : step (client Active 5 4) (Message (message 9 (what.ResendRequest 2 3))) 7
     ≡ Ok (does (Skip ∷ Resend 2 3 ∷ Say (admin.ResendRequest 5) ∷ []) (asking 9 (answered_at_7 Active 5 5)))
 request_too_high = refl
+
+-- ---- a resend ends at the last number that was given out: 7 where the next is 8, and 0 where none was
+
+pub resend_all : step (client Active 5 8) (Message (message 5 (what.ResendRequest 2 0))) 7
+    ≡ Ok (does (Take ∷ Resend 2 7 ∷ []) (heard_at_7 Active 6 8))
+resend_all = refl
+
+pub resend_none : step (client Active 5 1) (Message (message 5 (what.ResendRequest 1 1))) 7
+    ≡ Ok (does (Take ∷ Resend 1 0 ∷ []) (heard_at_7 Active 6 1))
+resend_none = refl
 
 -- ---- a SequenceReset that would lower the expected number
 

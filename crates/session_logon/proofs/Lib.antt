@@ -1,0 +1,4 @@
+mod FirstLemmas
+mod HeaderLemmas
+mod ReadBack
+mod Worked

@@ -1,0 +1,39 @@
+-- Inside: what one walk over the fields finds of the standard header; no other crate sees it.
+use Rattle.std.specs.Prelude.{ℕ, ◌==◌, List, Some, None, if◌then◌else◌}
+use Rattle.std.specs.declared.option.Option.{Option}
+use Rattle.std.specs.Option.{option_or}
+use Rattle.field_groups.specs.Field.{Field}
+use Rattle.session_core.specs.declared.tag.TheConstants.{MSG_SEQ_NUM, POSS_DUP_FLAG, SENDER_COMP_ID, SENDING_TIME, TARGET_COMP_ID}
+use Rattle.session_logon.specs.First.{first_value}
+
+-- the values of the header's fields
+pub record HeaderValues : Type 0 where
+  pub sender : Option (List ℕ)
+  pub target : Option (List ℕ)
+  pub number : Option (List ℕ)
+  pub dup : Option (List ℕ)
+  pub time : Option (List ℕ)
+
+-- each the first one of its tag
+abbrev pub header_of : List Field → HeaderValues
+header_of fields = record {
+  sender = first_value SENDER_COMP_ID fields;
+  target = first_value TARGET_COMP_ID fields;
+  number = first_value MSG_SEQ_NUM fields;
+  dup = first_value POSS_DUP_FLAG fields;
+  time = first_value SENDING_TIME fields;
+}
+
+-- the value of a field if it has this tag
+abbrev pub value_if : ℕ → Field → Option (List ℕ)
+value_if tag field = if field.0 == tag then Some field.1 else None
+
+-- the values once one more field was passed
+abbrev pub noted : Field → HeaderValues → HeaderValues
+noted field values = record {
+  sender = option_or values.sender (value_if SENDER_COMP_ID field);
+  target = option_or values.target (value_if TARGET_COMP_ID field);
+  number = option_or values.number (value_if MSG_SEQ_NUM field);
+  dup = option_or values.dup (value_if POSS_DUP_FLAG field);
+  time = option_or values.time (value_if SENDING_TIME field);
+}

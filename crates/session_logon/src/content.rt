@@ -1,0 +1,232 @@
+//! What a session says: the type and the content of each of its messages.
+
+ghost use Rattle.std.specs.Prelude.{◌≡◌, ◌++◌, [], IfOk, OnOk, codes, decimal};
+ghost use Rattle.field_groups.specs.Field.{body_of, field_bytes};
+ghost use Rattle.session_logon.specs.Content.{said, type_of, is_admin, fields_of, logon_fields, logout_text, logout_fields, heartbeat_fields, test_request_fields, resend_request_fields, rejected_fields, reason_fields, later_reason};
+
+use itoa::Buffer;
+use order_meaning::{Bytes, Side};
+use session_core::tag::{
+    BEGIN_SEQ_NO, DEFAULT_APPL_VER_ID, ENCRYPT_METHOD, END_SEQ_NO, HEART_BT_INT, REF_MSG_TYPE,
+    REF_SEQ_NUM, REF_TAG_ID, RESET_SEQ_NUM_FLAG, SESSION_REJECT_REASON, TEST_REQ_ID, TEXT,
+};
+use session_core::{Admin, Why};
+use std::alloc::{AllocError, Global};
+
+/// The byte that ends a field.
+const SOH: u8 = 1;
+
+/// How many bytes of a MsgType(35) a Reject repeats (own).
+pub const MAX_MSG_TYPE: usize = 8;
+
+/// The greatest SessionRejectReason(373) of FIX 4.2.
+pub const MAX_REASON42: u8 = 11;
+
+/// A message as it is said: the type, what stands behind the standard header, and what is done
+/// where messages are sent again.
+#[derive(Debug, Drop)]
+pub struct Said42 {
+    /// MsgType(35).
+    pub msg_type: Bytes,
+    /// The fields behind the header, as they are written.
+    pub content: Bytes,
+    /// A gap fill stands for it where messages are sent again. It does not for a Reject alone.
+    pub admin: bool,
+}
+
+// MsgType(35).
+fn type_of(admin: &Admin) -> &'static [u8]
+    ensures { result.now ≡ type_of admin.now }
+{
+    match admin {
+        Admin::Logon { .. } => b"A",
+        Admin::Logout(_) => b"5",
+        Admin::Heartbeat { .. } => b"0",
+        Admin::TestRequest => b"1",
+        Admin::ResendRequest { .. } => b"2",
+        Admin::Reject { .. } => b"3",
+    }
+}
+
+// Appends a number in decimal digits.
+fn push_number(out: &mut Bytes, number: u32) -> Result<(), AllocError>
+    ensures { OnOk result (out.new ≡ out.old ++ decimal number) }
+{
+    out.extend_from_slice(Buffer::new().format(number).as_bytes())
+}
+
+// Appends a field.
+#[tactic(auto, unfolding(field_groups::specs::Field::field_bytes))]
+fn push_field(out: &mut Bytes, tag: u32, value: &[u8]) -> Result<(), AllocError>
+    ensures { OnOk result (out.new ≡ out.old ++ field_bytes (tag, value.now)) }
+{
+    push_number(out, tag)?;
+    out.extend_from_slice(b"=")?;
+    out.extend_from_slice(value)?;
+    out.extend_from_slice(&[SOH])
+}
+
+// Appends a field whose value is a number.
+fn push_number_field(out: &mut Bytes, tag: u32, number: u32) -> Result<(), AllocError>
+    ensures { OnOk result (out.new ≡ out.old ++ field_bytes (tag, decimal number)) }
+{
+    push_field(out, tag, Buffer::new().format(number).as_bytes())
+}
+
+fn push_logon(out: &mut Bytes, side: Side, reset: bool, heart: u32) -> Result<(), AllocError>
+    ensures { OnOk result (out.new ≡ out.old ++ body_of (logon_fields side reset heart)) }
+{
+    push_field(out, ENCRYPT_METHOD, b"0")?;
+    push_number_field(out, HEART_BT_INT, heart)?;
+    match side {
+        Side::Client if reset => push_field(out, RESET_SEQ_NUM_FLAG, b"Y"),
+        Side::Client => Ok(()),
+        Side::Venue => push_field(out, DEFAULT_APPL_VER_ID, b"9"),
+    }
+}
+
+// The text of a Logout for a number that is too low.
+fn too_low(alloc: Global, expected: u32, got: u32) -> Result<Bytes, AllocError>
+    ensures { IfOk result (λ text. text ≡ codes "MsgSeqNum too low, expecting " ++ decimal expected
+        ++ codes " but received " ++ decimal got) }
+{
+    let mut text = Bytes::copy(alloc, b"MsgSeqNum too low, expecting ")?;
+    push_number(&mut text, expected)?;
+    text.extend_from_slice(b" but received ")?;
+    push_number(&mut text, got)?;
+    Ok(text)
+}
+
+// The text of a Logout for a refused Logon.
+fn refused(alloc: Global, tag: u32) -> Result<Bytes, AllocError>
+    ensures { IfOk result (λ text. text ≡ codes "Logon refused, tag " ++ decimal tag) }
+{
+    let mut text = Bytes::copy(alloc, b"Logon refused, tag ")?;
+    push_number(&mut text, tag)?;
+    Ok(text)
+}
+
+// The text of a Logout, which has none as an answer.
+fn logout_text(alloc: Global, why: &Why) -> Result<Bytes, AllocError>
+    ensures { IfOk result (λ text. text ≡ logout_text why.now) }
+{
+    match why {
+        Why::TooLow { expected, got } => too_low(alloc, *expected, *got),
+        Why::NoNumber => Bytes::copy(alloc, b"MsgSeqNum missing"),
+        Why::Logon(tag) => refused(alloc, *tag),
+        Why::CompId => Bytes::copy(alloc, b"CompID problem"),
+        Why::Clock => Bytes::copy(alloc, b"SendingTime accuracy problem"),
+        Why::Answer => Ok(Bytes::new(alloc)),
+        Why::End => Bytes::copy(alloc, b"session ended"),
+    }
+}
+
+fn push_logout(out: &mut Bytes, text: &[u8]) -> Result<(), AllocError>
+    ensures { OnOk result (out.new ≡ out.old ++ body_of (logout_fields text.now)) }
+{
+    if text.is_empty() {
+        Ok(())
+    } else {
+        push_field(out, TEXT, text)
+    }
+}
+
+fn push_heartbeat(out: &mut Bytes, has_echo: bool, echo: &[u8]) -> Result<(), AllocError>
+    ensures { OnOk result (out.new ≡ out.old ++ body_of (heartbeat_fields has_echo echo.now)) }
+{
+    if has_echo {
+        push_field(out, TEST_REQ_ID, echo)
+    } else {
+        Ok(())
+    }
+}
+
+fn push_test_request(alloc: Global, out: &mut Bytes, number: u32) -> Result<(), AllocError>
+    ensures { OnOk result (out.new ≡ out.old ++ body_of (test_request_fields number)) }
+{
+    let mut text = Bytes::copy(alloc, b"T")?;
+    push_number(&mut text, number)?;
+    push_field(out, TEST_REQ_ID, text.as_slice())
+}
+
+fn push_resend_request(out: &mut Bytes, from: u32) -> Result<(), AllocError>
+    ensures { OnOk result (out.new ≡ out.old ++ body_of (resend_request_fields from)) }
+{
+    push_number_field(out, BEGIN_SEQ_NO, from)?;
+    push_field(out, END_SEQ_NO, b"0")
+}
+
+// What stands for a reason that FIX 4.2 lacks.
+fn push_later_reason(out: &mut Bytes, reason: u8) -> Result<(), AllocError>
+    ensures { OnOk result (out.new ≡ out.old ++ body_of (later_reason reason)) }
+{
+    match reason {
+        13 => push_field(out, TEXT, b"tag appears more than once"),
+        15 => push_field(out, TEXT, b"group fields out of order"),
+        16 => push_field(out, TEXT, b"wrong group count"),
+        _ => Ok(()),
+    }
+}
+
+fn push_reason(out: &mut Bytes, side: Side, reason: u8) -> Result<(), AllocError>
+    ensures { OnOk result (out.new ≡ out.old ++ body_of (reason_fields side reason)) }
+{
+    match side {
+        Side::Client if reason > MAX_REASON42 => push_later_reason(out, reason),
+        _ => push_number_field(out, SESSION_REJECT_REASON, u32::from(reason)),
+    }
+}
+
+// Names the message that is rejected, and the field.
+fn push_rejected(out: &mut Bytes, tag: u32, number: u32, msg_type: &[u8]) -> Result<(), AllocError>
+    ensures { OnOk result (out.new ≡ out.old ++ body_of (rejected_fields tag number msg_type.now)) }
+{
+    push_number_field(out, REF_SEQ_NUM, number)?;
+    push_number_field(out, REF_TAG_ID, tag)?;
+    push_field(
+        out,
+        REF_MSG_TYPE,
+        &msg_type[..msg_type.len().min(MAX_MSG_TYPE)],
+    )
+}
+
+/// The message of a session to a side. (FIX 4.2 and FIXT 1.1, "Administrative Messages".)
+///
+/// `heart` is the session's HeartBtInt(108) in seconds, and `next_out` the message's own
+/// MsgSeqNum(34). The message that it answers has the number `number` and the type `msg_type`, and
+/// `echo` is its TestReqID(112).
+///
+/// # Errors
+///
+/// `AllocError` for want of memory.
+pub fn say(
+    alloc: Global,
+    side: Side,
+    admin: &Admin,
+    heart: u32,
+    next_out: u32,
+    number: u32,
+    msg_type: &[u8],
+    echo: &[u8],
+) -> Result<Said42, AllocError>
+    ensures { IfOk result (λ message. message
+        ≡ said side admin.now heart next_out number msg_type.now echo.now) }
+{
+    let mut content = Bytes::new(alloc);
+    match admin {
+        Admin::Logon { reset } => push_logon(&mut content, side, *reset, heart)?,
+        Admin::Logout(why) => push_logout(&mut content, logout_text(alloc, why)?.as_slice())?,
+        Admin::Heartbeat { echo: has_echo } => push_heartbeat(&mut content, *has_echo, echo)?,
+        Admin::TestRequest => push_test_request(alloc, &mut content, next_out)?,
+        Admin::ResendRequest { from } => push_resend_request(&mut content, *from)?,
+        Admin::Reject { tag, reason } => {
+            push_rejected(&mut content, *tag, number, msg_type)?;
+            push_reason(&mut content, side, *reason)?;
+        }
+    }
+    Ok(Said42 {
+        msg_type: Bytes::copy(alloc, type_of(admin))?,
+        content,
+        admin: !matches!(admin, Admin::Reject { .. }),
+    })
+}
