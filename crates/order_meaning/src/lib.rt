@@ -1,5 +1,19 @@
-//! What both dialects mean by an order message, and the words that the whole gateway shares.
+//! What both versions mean by an order message, and the words that the whole gateway shares.
 #![tactic(auto)]
+
+mod bytes;
+mod fault;
+mod names;
+mod party;
+mod refusal;
+#[cfg(test)]
+mod tests;
+
+pub use bytes::Bytes;
+pub use fault::{Fault, Lack};
+pub use names::{MAX_NAME, Name, Names};
+pub use party::{Lines, MAX_LINES, PartyLine, Three};
+pub use refusal::Refusal;
 
 /// One of the two sessions of the gateway, named by who is at its other end.
 #[derive(Clone, Copy, Debug, PartialEq, Eq)]
@@ -8,4 +22,11 @@ pub enum Side {
     Client,
     /// The FIXT 1.1 venue. The gateway logs on to it as soon as the connection opens.
     Venue,
+}
+
+/// A quantity or a price, in units of 10^-8.
+#[derive(Clone, Copy, Debug, PartialEq, Eq)]
+pub struct Amount {
+    /// How many units.
+    pub units: i128,
 }
