@@ -1,6 +1,8 @@
 -- Own: what contracts see of the forms in memory.
 use Rattle.std.specs.Prelude.{ℕ, List, Bool, Contains}
 use Rattle.outside.specs.Causes.{next_count}
+use Rattle.outside.specs.declared.mem_disk.DiskCall.{DiskCall}
+use Rattle.outside.specs.declared.mem_disk.Fuse.{Fuse}
 
 -- how many calls were made, the numbers of those that are to fail, and how many have failed
 pub record CallsState : Type 0 where
@@ -24,4 +26,23 @@ pub record SourceState : Type 0 where
 pub record SinkState : Type 0 where
   pub bytes : List ℕ
   pub calls : CallsState
+  pub refused : Bool
+
+-- a write since the last sync
+pub record Write : Type 0 where
+  pub at : ℕ
+  pub piece : List ℕ
+
+pub record DiskState : Type 0 where
+  -- as a read gives them
+  pub bytes : List ℕ
+  -- as they were at the last sync that answered Ok
+  pub stable : List ℕ
+  -- the writes since, failed ones too
+  pub pending : List Write
+  -- all calls that were made
+  pub made : List DiskCall
+  pub calls : CallsState
+  pub reads : ℕ
+  pub fuse : Fuse
   pub refused : Bool

@@ -8,10 +8,14 @@
 #![tactic(auto)]
 
 mod calls;
+mod disk;
+mod mem_disk;
 mod mem_sink;
 mod mem_source;
 mod stream;
 
+pub use disk::{Disk, MAX_DISK};
+pub use mem_disk::{DiskCall, Image, MemDisk};
 pub use mem_sink::MemSink;
 pub use mem_source::MemSource;
 pub use stream::{Failed, Sink, Source};
