@@ -1,10 +1,13 @@
 -- Own: what contracts see of the disk in memory.
 use Rattle.std.specs.Prelude.{◌≡◌, ◌⊎◌, ℕ, zero, suc, ◌+◌, ◌≤◌, max, List, [], ◌∷◌, ◌++◌, map, length, Bool}
-use Rattle.std.specs.Prelude.{if◌then◌else◌}
+use Rattle.std.specs.Prelude.{if◌then◌else◌, Result, IsErr, IsTrue}
 use Rattle.std.specs.Prelude.{true, false, replicate, Some, None}
 use Rattle.std.specs.declared.option.Option.{Option}
 use Rattle.outside.specs.Disk.{Torn, write, replaced}
-use Rattle.outside.specs.Memory.{DiskState, Write, IsListed}
+use Rattle.outside.specs.Causes.{faults_after}
+use Rattle.outside.specs.Memory.{DiskState, Write, IsListed, called}
+use Rattle.outside.specs.declared.stream.Failed.{Failed}
+use Rattle.outside.specs.declared.mem_disk.DiskCall.{DiskCall}
 use Rattle.outside.specs.declared.mem_disk.Pending.{Pending}
 use Rattle.outside.specs.declared.mem_disk.Image.{Image}
 use Rattle.outside.specs.declared.mem_disk.Image.TheVariants as images
@@ -110,3 +113,13 @@ burnt other = other
 -- the next call is listed, or the fuse is blown
 abbrev pub Fails : DiskState → Type 0
 Fails disk = IsListed disk.calls ⊎ (disk.fuse ≡ Blown)
+
+-- What every call of a disk in memory answers and counts: it fails where it is listed or behind the
+-- fuse, else only for want of memory, and counts one fault then; it stands in the list of calls.
+pub record Answers {T : Type 0} (call : DiskCall) (old new : DiskState) (result : Result T Failed) : Type 0 where
+  pub fails : Fails old → IsErr result
+  pub only : IsErr result → Fails old ⊎ IsTrue new.refused
+  pub noted : (new.made ≡ old.made ++ call ∷ []) ⊎ IsTrue new.refused
+  pub kept : IsTrue old.refused → IsTrue new.refused
+  pub counted : new.calls ≡ called old.calls (faults_after result old.calls.faults)
+  pub fuse : new.fuse ≡ old.fuse

@@ -8,12 +8,12 @@ ghost use mathlib.Core.Logic.{inl};
 ghost use Rattle.outside.specs.Causes.{HasCause, faults_after, next_count};
 ghost use Rattle.outside.specs.Disk.{replaced, write, Torn, Follows, AreAmong, HasOneImage, ReadsAt};
 ghost use Rattle.outside.specs.Memory.{IsListed, called};
-ghost use Rattle.outside.specs.MemDisk.{IsDisk, IsImageOf, Fails, burnt, fresh, staged, undo, undone};
+ghost use Rattle.outside.specs.MemDisk.{Answers, IsDisk, IsImageOf, burnt, fresh, staged, undo, undone};
 ghost use Rattle.outside.specs.MemDisk.{picked, picked_image, all_written, write_of};
 
 use crate::calls::Calls;
 use crate::mem_source::fill;
-use crate::{Disk, Failed};
+use crate::{Disk, Failed, MAX_DISK};
 use std::alloc::{AllocError, Global};
 use std::marker::Model;
 
@@ -236,10 +236,7 @@ impl MemDisk {
 
     // Counts a call. It fails where it is listed or the fuse is blown, or for want of memory.
     fn begin(&mut self, call: DiskCall) -> Result<(), Failed>
-        ensures fails { Fails self.old → IsErr result }
-        ensures only { IsErr result → Fails self.old ⊎ IsTrue self.new.refused }
-        ensures noted { (self.new.made ≡ self.old.made ++ call ∷ []) ⊎ IsTrue self.new.refused }
-        ensures kept { IsTrue self.old.refused → IsTrue self.new.refused }
+        ensures answers { Answers call self.old self.new result }
         ensures same { self.new ≡ record self.old {
           made = self.new.made;
           refused = self.new.refused;
@@ -361,18 +358,49 @@ impl Disk for MemDisk {
 
     ghost as_it_reads = { λ d. inl refl };
 
-    fn len(&mut self) -> Result<u64, Failed> {
+    fn len(&mut self) -> Result<u64, Failed>
+        ensures value { IfOk result (λ n. n ≡ length self.old.bytes) }
+        ensures same { self.new.bytes ≡ self.old.bytes }
+        ensures images { AreAmong (IsImageOf self.new) (IsImageOf self.old) }
+        ensures kept { AreAmong (IsImageOf self.old) (IsImageOf self.new) }
+        ensures counted { self.new.reads ≡ self.old.reads }
+        ensures cause { HasCause self.old.calls.faults self.new.calls.faults result }
+        ensures answers { Answers DiskCall.Len self.old self.new result }
+    {
         self.begin(DiskCall::Len)?;
         Ok(self.bytes.len() as u64)
     }
 
-    fn read_at(&mut self, at: u64, buf: &mut [u8]) -> Result<usize, Failed> {
+    fn read_at(&mut self, at: u64, buf: &mut [u8]) -> Result<usize, Failed>
+        ensures bound { ReadsAtMost result buf.new }
+        ensures value { ReadsAt (Some self.old.bytes) at result buf.new }
+        ensures same { self.new.bytes ≡ self.old.bytes }
+        ensures images { AreAmong (IsImageOf self.new) (IsImageOf self.old) }
+        ensures kept { AreAmong (IsImageOf self.old) (IsImageOf self.new) }
+        ensures counted { self.new.reads ≡ next_count self.old.reads }
+        ensures cause { HasCause self.old.calls.faults self.new.calls.faults result }
+        ensures answers { Answers (DiskCall.Read at (length buf.old)) self.old self.new result }
+    {
         self.reads = self.reads.saturating_add(1);
         self.begin(DiskCall::Read { at, len: buf.len() })?;
         Ok(fill_from(buf, &self.bytes, at as usize))
     }
 
-    fn write_at(&mut self, at: u64, piece: &[u8]) -> Result<(), Failed> {
+    fn write_at(&mut self, at: u64, piece: &[u8]) -> Result<(), Failed>
+        requires within { at ≤ length self.old.bytes }
+        requires limit { at + length piece.now ≤ MAX_DISK }
+        ensures written { OnOk result (self.new.bytes ≡ write at piece.now self.old.bytes) }
+        ensures images { Follows (Torn at (length piece.now)) (IsImageOf self.old) (IsImageOf self.new) }
+        ensures kept { AreAmong (IsImageOf self.old) (IsImageOf self.new) }
+        ensures counted { self.new.reads ≡ self.old.reads }
+        ensures cause { HasCause self.old.calls.faults self.new.calls.faults result }
+        ensures failed { OnErr result (self.new.bytes ≡ self.old.bytes) }
+        ensures stable { self.new.stable ≡ self.old.stable }
+        ensures pending { (self.new.pending ≡ self.old.pending ++ (record { at = at; piece = piece.now }) ∷ []) ⊎
+            IsTrue self.new.refused }
+        ensures answers { Answers (DiskCall.Write at (length piece.now))
+            (record self.old { fuse = burnt self.old.fuse }) self.new result }
+    {
         self.burn();
         let begun = self.begin(DiskCall::Write {
             at,
@@ -388,7 +416,18 @@ impl Disk for MemDisk {
         }
     }
 
-    fn sync(&mut self) -> Result<(), Failed> {
+    fn sync(&mut self) -> Result<(), Failed>
+        ensures durable { OnOk result (HasOneImage (Some self.new.bytes) (IsImageOf self.new)) }
+        ensures same { self.new.bytes ≡ self.old.bytes }
+        ensures images { AreAmong (IsImageOf self.new) (IsImageOf self.old) }
+        ensures kept { OnErr result (AreAmong (IsImageOf self.old) (IsImageOf self.new)) }
+        ensures counted { self.new.reads ≡ self.old.reads }
+        ensures cause { HasCause self.old.calls.faults self.new.calls.faults result }
+        ensures emptied { OnOk result (self.new.pending ≡ []) }
+        ensures failed { OnErr result (self.new.pending ≡ self.old.pending) }
+        ensures answers { Answers DiskCall.Sync
+            (record self.old { fuse = burnt self.old.fuse }) self.new result }
+    {
         self.burn();
         self.begin(DiskCall::Sync)?;
         self.pending.clear();

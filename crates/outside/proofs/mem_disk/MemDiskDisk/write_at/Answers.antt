@@ -28,7 +28,7 @@ returns-then-is_err-clause-images c =
     let burnt = c.burn.ensures.burnt in
     let same = c.begin-begun.ensures.same in
     let is = like old now (ap (λ d. d.bytes) same ∙ ap (λ d. d.bytes) burnt) (ap (λ d. d.stable) same ∙ ap (λ d. d.stable) burnt) (ap (λ d. d.pending) same ∙ ap (λ d. d.pending) burnt) in
-    follows_or_not c.args.at c.args.piece.now old now c.burn.ensures.is_disk (c.requires.within _ refl) is _ c.keep_failed.ensures
+    follows_or_not c.args.at c.args.piece.now old now c.burn.ensures.is_disk c.requires.within is _ c.keep_failed.ensures
 
 pub returns-then-is_err-clause-kept : goal.returns-then-is_err-clause-kept
 returns-then-is_err-clause-kept c =
@@ -37,7 +37,7 @@ returns-then-is_err-clause-kept c =
     let burnt = c.burn.ensures.burnt in
     let same = c.begin-begun.ensures.same in
     let is = like old now (ap (λ d. d.bytes) same ∙ ap (λ d. d.bytes) burnt) (ap (λ d. d.stable) same ∙ ap (λ d. d.stable) burnt) (ap (λ d. d.pending) same ∙ ap (λ d. d.pending) burnt) in
-    keeps_or_not c.args.at c.args.piece.now old now c.burn.ensures.is_disk (c.requires.within _ refl) is _ c.keep_failed.ensures
+    keeps_or_not c.args.at c.args.piece.now old now c.burn.ensures.is_disk c.requires.within is _ c.keep_failed.ensures
 
 pub returns-in-Ok-clause-images : goal.returns-in-Ok-clause-images
 returns-in-Ok-clause-images c =
@@ -46,7 +46,7 @@ returns-in-Ok-clause-images c =
     let burnt = c.burn.ensures.burnt in
     let same = c.begin-begun.ensures.same in
     let is = like old now (ap (λ d. d.bytes) same ∙ ap (λ d. d.bytes) burnt) (ap (λ d. d.stable) same ∙ ap (λ d. d.stable) burnt) (ap (λ d. d.pending) same ∙ ap (λ d. d.pending) burnt) in
-    follows c.args.at c.args.piece.now old now c.burn.ensures.is_disk (c.requires.within _ refl) is true _ c.in-Ok.ensures.ok
+    follows c.args.at c.args.piece.now old now c.burn.ensures.is_disk c.requires.within is true _ c.in-Ok.ensures.ok
 
 pub returns-in-Ok-clause-kept : goal.returns-in-Ok-clause-kept
 returns-in-Ok-clause-kept c =
@@ -55,4 +55,4 @@ returns-in-Ok-clause-kept c =
     let burnt = c.burn.ensures.burnt in
     let same = c.begin-begun.ensures.same in
     let is = like old now (ap (λ d. d.bytes) same ∙ ap (λ d. d.bytes) burnt) (ap (λ d. d.stable) same ∙ ap (λ d. d.stable) burnt) (ap (λ d. d.pending) same ∙ ap (λ d. d.pending) burnt) in
-    keeps c.args.at c.args.piece.now old now c.burn.ensures.is_disk (c.requires.within _ refl) is true _ c.in-Ok.ensures.ok
+    keeps c.args.at c.args.piece.now old now c.burn.ensures.is_disk c.requires.within is true _ c.in-Ok.ensures.ok
