@@ -1,0 +1,5 @@
+pub mod Blocks
+pub mod Crash
+pub mod Told
+pub mod CommitSteps
+pub mod Scanning

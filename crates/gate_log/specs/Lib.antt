@@ -1,0 +1,4 @@
+pub mod Records
+pub mod Commit
+pub mod Log
+pub mod Scan
