@@ -3,3 +3,4 @@ pub mod Crash
 pub mod Told
 pub mod CommitSteps
 pub mod Scanning
+pub mod Keeping

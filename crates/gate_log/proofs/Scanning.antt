@@ -51,16 +51,17 @@ pub holds : (before : List (List ℕ)) (behind rest : List ℕ) (at n : ℕ) →
 holds before behind rest at n place split test room within =
     let size : n ≡ length (take n rest) = omega (arith, length-take n rest) in
     let after : drop n rest ≡ get_or rest n 0 ∷ drop (n + 1) rest = drop_more rest n 0 room in
-    let parts : rest ≡ take n rest ++ get_or rest n 0 ∷ drop (n + 1) rest = sym (take-append-drop n rest) ∙ ap (λ l. take n rest ++ l) after in
-    (take n rest,
-    record {
-      next = get_or rest n 0;
-      after = drop (n + 1) rest;
-      split = split ∙ ap (λ (l : List ℕ). to_be_bytes w32 n ++ l) parts ∙ ap (λ k. to_be_bytes w32 k ++ (take n rest ++ get_or rest n 0 ∷ drop (n + 1) rest)) size ∙ sym (append_assoc (to_be_bytes w32 (length (take n rest))) (take n rest) (get_or rest n 0 ∷ drop (n + 1) rest));
-      fits = fits_of before (take n rest) at place (subst (λ k. fits_at at k ≡ true) size test);
-      within = omega (arith, size, place, within);
-    },
-    size)
+    let parts : rest ≡ take n rest ++ get_or rest n 0 ∷ drop (n + 1) rest = sym (take-append-drop n rest) ∙ ap (λ l. take n rest ++ l) after in (
+      take n rest,
+      record {
+        next = get_or rest n 0;
+        after = drop (n + 1) rest;
+        split = split ∙ ap (λ (l : List ℕ). to_be_bytes w32 n ++ l) parts ∙ ap (λ k. to_be_bytes w32 k ++ (take n rest ++ get_or rest n 0 ∷ drop (n + 1) rest)) size ∙ sym (append_assoc (to_be_bytes w32 (length (take n rest))) (take n rest) (get_or rest n 0 ∷ drop (n + 1) rest));
+        fits = fits_of before (take n rest) at place (subst (λ k. fits_at at k ≡ true) size test);
+        within = omega (arith, size, place, within);
+      },
+      size,
+    )
 
 -- what a record that stands there says of the length in front
 pub record Told (at n : ℕ) (rest : List ℕ) : Type 0 where
@@ -143,6 +144,7 @@ found image sizes payload at passed h is_shut =
       payloads = passed.payloads ++ payload ∷ [];
       log = log;
       stands = more_stands passed.payloads payload image log;
+      born = omega (arith, length-append passed.payloads (payload ∷ []));
       lens = ap (λ l. l ++ length payload ∷ []) passed.lens ∙ sym (map-append length passed.payloads (payload ∷ []));
       end = next_place image sizes payload at passed;
     }

@@ -1,5 +1,5 @@
 -- Inside: what one pass over an image finds.
-use Rattle.std.specs.Prelude.{◌≡◌, ℕ, List, map, length, Bool, ◌==◌, ◌&&◌, nat_le, if◌then◌else◌}
+use Rattle.std.specs.Prelude.{◌≡◌, ◌≤◌, ℕ, List, map, length, Bool, ◌==◌, ◌&&◌, nat_le, if◌then◌else◌}
 use Rattle.gate_log.specs.Records.{blocks, IsLog, IsUnborn, IsRefused, Stands}
 use Rattle.gate_log.specs.declared.TheConstants.{BIRTH_LEN, MAX_PAYLOAD}
 use Rattle.gate_log.specs.declared.scan.Found.{Found}
@@ -10,6 +10,7 @@ pub record HasRecords (image sizes : List ℕ) (at : ℕ) : Type 0 where
   pub payloads : List (List ℕ)
   pub log : IsLog image payloads
   pub stands : Stands image payloads
+  pub born : 1 ≤ length payloads
   pub lens : sizes ≡ map length payloads
   pub end : at ≡ length (blocks payloads)
 

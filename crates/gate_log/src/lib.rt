@@ -7,9 +7,11 @@
 
 mod commit;
 mod error;
+mod log;
 mod scan;
 
 pub use error::LogError;
+pub use log::Log;
 
 /// The number of bytes in the payload of the first record.
 pub const BIRTH_LEN: usize = 155;

@@ -47,8 +47,8 @@ fn may_have(at: usize, len: usize) -> bool
 fn payload_len(behind: &[u8], at: usize) -> Option<usize>
     requires { at < 2 ^ 63 }
     ensures { (before : List (List ℕ)) → at ≡ length (blocks before) → MatchOption result
-      ((payload : List ℕ) → HoldsRecord before behind.now payload → ⊥)
-      (λ len. (payload : List ℕ) × HoldsRecord before behind.now payload × (len ≡ length payload)) }
+        ((payload : List ℕ) → HoldsRecord before behind.now payload → ⊥)
+        (λ len. (payload : List ℕ) × HoldsRecord before behind.now payload × (len ≡ length payload)) }
 {
     let (len, rest) = split_len(behind)?;
     if may_have(at, len) && len < rest.len() && at + 5 + len < MAX_DISK as usize {
