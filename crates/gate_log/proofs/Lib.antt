@@ -4,3 +4,5 @@ pub mod Told
 pub mod CommitSteps
 pub mod Scanning
 pub mod Keeping
+pub mod Born
+pub mod Appending

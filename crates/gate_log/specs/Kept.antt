@@ -1,6 +1,7 @@
 -- Inside: how a log keeps its payloads in memory.
-use Rattle.std.specs.Prelude.{◌≡◌, ℕ, ◌+◌, ◌≤◌, ◌<◌, List, [], ◌∷◌, ◌++◌, map, length, take, drop, Bool, true}
+use Rattle.std.specs.Prelude.{◌≡◌, ℕ, ◌+◌, ◌^◌, ◌≤◌, ◌<◌, List, [], ◌∷◌, ◌++◌, map, length, take, drop, Bool, true}
 use Rattle.std.specs.Prelude.{if◌then◌else◌}
+use Rattle.std.specs.Int.{w32, to_be_bytes}
 use Rattle.std.specs.Vec.{vec_len, vec_capacity}
 use Rattle.outside.specs.declared.disk.TheConstants.{MAX_DISK}
 use Rattle.gate_log.specs.declared.TheConstants.{MAX_PAYLOAD}
@@ -32,3 +33,11 @@ pub record IsWhole (log : Inside) : Type 0 where
   pub kept : IsKept log.bytes.items log.lens.items (cut log.lens.items log.bytes.items)
   pub room : log.spare ≡ true → vec_len log.bytes + (5 + MAX_PAYLOAD) ≤ vec_capacity log.bytes
   pub place : log.spare ≡ true → vec_len log.lens < vec_capacity log.lens
+
+-- a payload of the list stands behind its gate
+pub record StandsBehind (bytes : List ℕ) (at : ℕ) (payload : List ℕ) : Type 0 where
+  pub front : List ℕ
+  pub after : List ℕ
+  pub small : length payload < 2 ^ 32
+  pub place : at ≡ length front
+  pub split : bytes ≡ front ++ 1 ∷ (to_be_bytes w32 (length payload) ++ (payload ++ after))

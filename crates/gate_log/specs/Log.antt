@@ -4,10 +4,10 @@ use Rattle.std.specs.Prelude.{true, Some, None, IfSome, Result, Ok, Err}
 use Rattle.std.specs.declared.option.Option.{Option}
 use Rattle.outside.specs.declared.disk.TheConstants.{MAX_DISK}
 use Rattle.outside.specs.Causes.{Rose}
-use Rattle.outside.specs.Disk.{Only, AreAmong}
+use Rattle.outside.specs.Disk.{Only, AreAmong, HasOneImage}
 use Rattle.gate_log.specs.declared.error.LogError.{LogError}
 use Rattle.gate_log.specs.declared.error.LogError.TheVariants as errors
-use Rattle.gate_log.specs.Records.{blocks, Stands, IsRefused}
+use Rattle.gate_log.specs.Records.{blocks, Stands, IsUnborn, IsRefused}
 use Rattle.gate_log.specs.Commit.{WithOrWithout}
 use Rattle.gate_log.specs.State.{LogState}
 
@@ -75,3 +75,11 @@ pub record IsAt (payloads : List (List ℕ)) (at : ℕ) (payload : List ℕ) : T
   pub after : List (List ℕ)
   pub split : payloads ≡ before ++ payload ∷ after
   pub place : at ≡ length (blocks before)
+
+-- where the one image of a disk is unborn, each image then is
+abbrev pub StaysUnborn : Option (List ℕ) → (List ℕ → Type 0) → (List ℕ → Type 0) → Type 0
+StaysUnborn told before after = IfSome told (λ bytes. Only bytes before → AreAmong after IsUnborn)
+
+-- a disk that had one image has one again
+abbrev pub KeepsOneImage : Option (List ℕ) → Option (List ℕ) → (List ℕ → Type 0) → (List ℕ → Type 0) → Type 0
+KeepsOneImage told_old told_new before after = HasOneImage told_old before → HasOneImage told_new after

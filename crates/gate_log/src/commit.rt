@@ -1,6 +1,6 @@
 //! How one record becomes part of the log, or does not.
 
-ghost use Rattle.std.specs.Prelude.{◌≡◌, ◌+◌, ◌<◌, length, OnOk};
+ghost use Rattle.std.specs.Prelude.{◌≡◌, ◌+◌, ◌<◌, length, is_some, OnOk};
 ghost use Rattle.std.specs.Option.{ForSome};
 ghost use Rattle.outside.specs.Causes.{HasCause};
 ghost use Rattle.outside.specs.Disk.{HasOneImage};
@@ -29,6 +29,7 @@ pub(crate) fn commit<D: Disk>(
     ensures appended { OnOk result (Commits (D.bytes disk.old) (D.bytes disk.new) payload.now) }
     ensures durable { OnOk result (HasOneImage (D.bytes disk.new) (D.image disk.new)) }
     ensures images { CommitsOrNot (D.bytes disk.old) (D.image disk.old) (D.image disk.new) payload.now }
+    ensures told { is_some (D.bytes disk.new) ≡ is_some (D.bytes disk.old) }
     ensures reads { D.reads disk.new ≡ D.reads disk.old }
     ensures cause { HasCause (D.faults disk.old) (D.faults disk.new) result }
 {

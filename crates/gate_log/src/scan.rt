@@ -21,7 +21,7 @@ pub(crate) enum Found {
 }
 
 /// The length that stands in front, and what is behind it; none where four bytes do not stand there.
-fn split_len(bytes: &[u8]) -> Option<(usize, &[u8])>
+pub(crate) fn split_len(bytes: &[u8]) -> Option<(usize, &[u8])>
     ensures { MatchOption result (length bytes.now < 4) (λ x.
         (bytes.now ≡ to_be_bytes w32 x.0 ++ x.1.now) × (x.0 < 2 ^ 32)) }
 {
