@@ -7,8 +7,11 @@
 
 mod commit;
 mod error;
+pub mod laws;
 mod log;
 mod scan;
+#[cfg(test)]
+mod tests;
 
 pub use error::LogError;
 pub use log::Log;

@@ -49,10 +49,11 @@ returns-in-Ok-clause-appends g c =
     let room : HasRoom ps payload = omega (arith, size) in
     let more = kept_more c.self.inside.bytes.items c.self.inside.lens.items c.add.new.bytes.items c.push_reserved.new.self.items payload ps kept c.requires.sized room (c.in-Ok.ensures.ok (blocks ps) kept.layout) c.push_reserved.ensures.items in
     let same : ps ≡ c.args.self.now.payloads = ap (λ s. s.payloads) c.self.view_is in
-    let place : c.len-end.result - 1 ≡ length (blocks ps) = omega (arith, size) in
-    (place ∙ ap (λ l. length (blocks l)) same,
-    subst (λ l. HasRoom l payload) same room,
-    seen_more c.args.self.now _ _ payload (kept_payloads c.add.new.bytes.items c.push_reserved.new.self.items (ps ++ payload ∷ []) more ∙ ap (λ l. l ++ payload ∷ []) same) (ap (λ s. s.broken) c.self.view_is) (spare_taken c.self.inside.spare _ (ap (λ s. s.spare) c.self.view_is)))
+    let place : c.len-end.result - 1 ≡ length (blocks ps) = omega (arith, size) in (
+      place ∙ ap (λ l. length (blocks l)) same,
+      subst (λ l. HasRoom l payload) same room,
+      seen_more c.args.self.now _ _ payload (kept_payloads c.add.new.bytes.items c.push_reserved.new.self.items (ps ++ payload ∷ []) more ∙ ap (λ l. l ++ payload ∷ []) same) (ap (λ s. s.broken) c.self.view_is) (spare_taken c.self.inside.spare _ (ap (λ s. s.spare) c.self.view_is)),
+    )
 
 pub returns-in-Ok-clause-stands : goal.returns-in-Ok-clause-stands
 returns-in-Ok-clause-stands g c = λ x e.
