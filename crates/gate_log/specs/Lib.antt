@@ -1,0 +1,6 @@
+pub mod Records
+pub mod Commit
+pub mod State
+pub mod Log
+pub mod Scan
+pub mod Kept
