@@ -22,7 +22,7 @@ impl Model for Bytes {
 }
 
 impl Bytes {
-    ghost use Rattle.std.specs.Prelude.{◌≡◌, ◌≤◌, [], length, IfOk, IsOk};
+    ghost use Rattle.std.specs.Prelude.{◌≡◌, ◌≤◌, ◌++◌, [], length, IfOk, IsOk, OnOk, OnErr};
 
     /// No bytes; it takes no memory.
     pub fn new(alloc: Global) -> Bytes
@@ -52,6 +52,18 @@ impl Bytes {
         ensures { result.now ≡ self.now }
     {
         self.bytes.as_slice()
+    }
+
+    /// Appends a copy of more bytes.
+    ///
+    /// # Errors
+    ///
+    /// `AllocError` for want of memory; then the bytes are as before.
+    pub fn extend_from_slice(&mut self, more: &[u8]) -> Result<(), AllocError>
+        ensures ok { OnOk result (self.new ≡ self.old ++ more.now) }
+        ensures err { OnErr result (self.new ≡ self.old) }
+    {
+        self.bytes.extend_from_slice(more)
     }
 
     /// A second one with the same bytes.
