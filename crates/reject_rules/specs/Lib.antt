@@ -1,0 +1,4 @@
+pub mod Content
+pub mod Reasons
+pub mod Refusals
+pub mod Renumbered
