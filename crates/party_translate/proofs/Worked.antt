@@ -9,12 +9,17 @@ line id role = record { id = id; role = role }
 
 -- 109=FUND|76=BRKR|439=CLRF
 abbrev all_three : Three
-all_three = record { client = Some (codes "FUND"); broker = Some (codes "BRKR"); firm = Some (codes "CLRF") }
+all_three = record {
+  client = Some (codes "FUND");
+  broker = Some (codes "BRKR");
+  firm = Some (codes "CLRF");
+}
 
 abbrev firm_alone : Three
 firm_alone = record { client = None; broker = None; firm = Some (codes "CLRF") }
 
-pub lines_of_all : parties_of all_three ≡ line (codes "FUND") 3 ∷ line (codes "BRKR") 1 ∷ line (codes "CLRF") 4 ∷ []
+pub lines_of_all : parties_of all_three
+    ≡ line (codes "FUND") 3 ∷ line (codes "BRKR") 1 ∷ line (codes "CLRF") 4 ∷ []
 lines_of_all = refl
 
 pub lines_of_one : parties_of firm_alone ≡ line (codes "CLRF") 4 ∷ []
@@ -25,5 +30,6 @@ pub first_counts : three_of (line (codes "B1") 1 ∷ line (codes "X") 17 ∷ lin
     ≡ record { client = None; broker = Some (codes "B1"); firm = None }
 first_counts = refl
 
-pub order_is_free : three_of (line (codes "CLRF") 4 ∷ line (codes "BRKR") 1 ∷ line (codes "FUND") 3 ∷ []) ≡ all_three
+pub order_is_free :
+    three_of (line (codes "CLRF") 4 ∷ line (codes "BRKR") 1 ∷ line (codes "FUND") 3 ∷ []) ≡ all_three
 order_is_free = refl

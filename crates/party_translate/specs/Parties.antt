@@ -1,4 +1,4 @@
--- Standard: FIX 5.0 SP2, Parties component block and PartyRole(452); FIX 4.2, ClientID(109), ExecBroker(76), ClearingFirm(439).
+-- Standard: FIX 5.0 SP2, Parties component block, PartyRole(452); FIX 4.2, fields 109, 76 and 439.
 use Rattle.std.specs.Prelude.{ℕ, ◌==◌, List, [], ◌∷◌, ◌++◌, find, Some, None}
 use Rattle.std.specs.declared.option.Option.{Option}
 use Rattle.std.specs.Option.{option_map}
@@ -10,7 +10,8 @@ abbrev pub line_of : ℕ → Option (List ℕ) → List PartyLine
 line_of role None = []
 line_of role (Some id) = record { id = id; role = role } ∷ []
 
--- the lines of three parties: roles 3 (ClientID), 1 (ExecBroker) and 4 (ClearingFirm), in this order, which is own
+-- the lines of three parties: roles 3 (ClientID), 1 (ExecBroker) and 4 (ClearingFirm), in this
+-- order, which is own
 abbrev pub parties_of : Three → List PartyLine
 parties_of three = line_of 3 three.client ++ line_of 1 three.broker ++ line_of 4 three.firm
 

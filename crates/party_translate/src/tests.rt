@@ -30,7 +30,8 @@ fn parties_are_lines_in_the_order_of_roles(rt: HostRuntime) -> Result<(), Fail> 
     // 109, 76, 439, each empty where it is absent; the lines
     #[rattlefmt::skip]
     let rows: [([&[u8]; 3], &[(&[u8], u32)]); 5] = [
-        ([b"FUND", b"BRKR", b"CLRF"], &[(b"FUND", CLIENT_ID), (b"BRKR", EXECUTING_FIRM), (b"CLRF", CLEARING_FIRM)]),
+        ([b"FUND", b"BRKR", b"CLRF"],
+            &[(b"FUND", CLIENT_ID), (b"BRKR", EXECUTING_FIRM), (b"CLRF", CLEARING_FIRM)]),
         ([b"FUND", b"", b""], &[(b"FUND", CLIENT_ID)]),
         ([b"", LONG, b""], &[(LONG, EXECUTING_FIRM)]),
         ([b"", b"", b"CLRF"], &[(b"CLRF", CLEARING_FIRM)]),
@@ -56,8 +57,10 @@ fn first_line_of_a_role_counts(rt: HostRuntime) -> Result<(), Fail> {
     // the lines; 109, 76, 439
     #[rattlefmt::skip]
     let rows: [(&[(&[u8], u32)], [&[u8]; 3]); 5] = [
-        (&[(b"B1", EXECUTING_FIRM), (b"X", CONTRA_FIRM), (b"B2", EXECUTING_FIRM)], [b"", b"B1", b""]),
-        (&[(b"CLRF", CLEARING_FIRM), (LONG, EXECUTING_FIRM), (b"FUND", CLIENT_ID)], [b"FUND", LONG, b"CLRF"]),
+        (&[(b"B1", EXECUTING_FIRM), (b"X", CONTRA_FIRM), (b"B2", EXECUTING_FIRM)],
+            [b"", b"B1", b""]),
+        (&[(b"CLRF", CLEARING_FIRM), (LONG, EXECUTING_FIRM), (b"FUND", CLIENT_ID)],
+            [b"FUND", LONG, b"CLRF"]),
         (&[(b"F1", CLIENT_ID), (b"C1", CLEARING_FIRM), (b"F2", CLIENT_ID)], [b"F1", b"", b"C1"]),
         (&[(b"X", CONTRA_FIRM)], [b"", b"", b""]),
         (&[], [b"", b"", b""]),

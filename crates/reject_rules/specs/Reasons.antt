@@ -1,4 +1,4 @@
--- Standard: SessionRejectReason(373) and BusinessRejectReason(380) of FIX 4.2, FIXT 1.1 and FIX 5.0 SP2.
+-- Standard: SessionRejectReason(373) of FIX 4.2 and FIXT 1.1, BusinessRejectReason(380) of FIX 4.2.
 -- What is said in place of a reason that FIX 4.2 lacks is own: docs/DECISIONS.md, "Refusals".
 use Rattle.std.specs.Prelude.{ℕ, nat_le, ◌==◌, List, [], ◌∷◌, ◌++◌, take, codes, Some, None, if◌then◌else◌}
 use Rattle.std.specs.declared.option.Option.{Option}
@@ -7,8 +7,8 @@ use Rattle.std.specs.Fmt.{decimal}
 use Rattle.order_meaning.specs.declared.Side.{Side}
 use Rattle.order_meaning.specs.declared.Side.TheVariants.{Client, Venue}
 
--- the words for a SessionRejectReason that came after FIX 4.2: 13 tag appears more than once, 15 repeating group
--- fields out of order, 16 incorrect NumInGroup count for repeating group
+-- the words for a SessionRejectReason that came after FIX 4.2: 13 tag appears more than once, 15
+-- repeating group fields out of order, 16 incorrect NumInGroup count for repeating group
 unfoldable pub reason_words : ℕ → Option (List ℕ)
 reason_words reason =
     if reason == 13 then Some (codes "tag appears more than once") else
@@ -32,9 +32,11 @@ reason_within highest other reason = if nat_le reason highest then reason else o
 -- what a text gets at its end, so that no reason is lost: ` [tag=reason]` for one above the highest
 abbrev pub reason_suffix : ℕ → ℕ → ℕ → List ℕ
 reason_suffix tag highest reason =
-    if nat_le reason highest then [] else codes " [" ++ decimal tag ++ codes "=" ++ decimal reason ++ codes "]"
+    if nat_le reason highest then []
+    else codes " [" ++ decimal tag ++ codes "=" ++ decimal reason ++ codes "]"
 
--- a text with this at its end: it is first cut to 2,000 bytes, and where there is none, the first space goes
+-- a text with this at its end: it is first cut to 2,000 bytes, and where there is none, the first
+-- space goes
 abbrev pub with_suffix : Option (List ℕ) → List ℕ → Option (List ℕ)
 with_suffix text [] = text
 with_suffix None (space ∷ suffix) = Some suffix

@@ -1,4 +1,4 @@
--- Standard: FIX 4.2, Reject (session-level) and Business Message Reject, of what the gateway itself refuses.
+-- Standard: FIX 4.2, Reject (session-level) and Business Message Reject.
 -- The texts, and the cut of RefMsgType(372), are own: docs/DECISIONS.md, "Refusals".
 use Rattle.std.specs.Prelude.{ℕ, List, ◌++◌, take, codes, Some, None}
 use Rattle.std.specs.declared.option.Option.{Option}
@@ -39,18 +39,22 @@ business_refusal number msg_type reason text = business_reject (record {
 unfoldable pub no_counterpart : ℕ → List ℕ
 no_counterpart tag = codes "tag " ++ decimal tag ++ codes " has no counterpart"
 
--- what is said to a side of its message with a fault: 380=0 is "other", 380=3 "unsupported message type";
--- nothing where memory was wanting to read it
+-- what is said to a side of its message with a fault: 380=0 is "other", 380=3 "unsupported message
+-- type"; nothing where memory was wanting to read it
 abbrev pub refusal_of : Side → ℕ → List ℕ → Fault → Option Said
-refusal_of side number msg_type (Session tag reason) = Some (session_refusal side number msg_type tag reason)
-refusal_of side number msg_type (NoCounterpart tag) = Some (business_refusal number msg_type 0 (no_counterpart tag))
-refusal_of side number msg_type NotSupported = Some (business_refusal number msg_type 3 (no_counterpart 35))
+refusal_of side number msg_type (Session tag reason) =
+    Some (session_refusal side number msg_type tag reason)
+refusal_of side number msg_type (NoCounterpart tag) =
+    Some (business_refusal number msg_type 0 (no_counterpart tag))
+refusal_of side number msg_type NotSupported =
+    Some (business_refusal number msg_type 3 (no_counterpart 35))
 refusal_of side number msg_type NoMemory = None
 
 -- what is said of a request whose ClOrdID(11) was used before
 abbrev pub used_refusal : ℕ → List ℕ → Said
 used_refusal number msg_type = business_refusal number msg_type 0 (codes "tag 11 is already used")
 
--- what is said of a request while the venue's session is not active: 380=4 is "application not available at this time"
+-- what is said of a request while the venue's session is not active: 380=4 is "application not
+-- available at this time"
 abbrev pub away_refusal : ℕ → List ℕ → Said
 away_refusal number msg_type = business_refusal number msg_type 4 (codes "venue is not connected")

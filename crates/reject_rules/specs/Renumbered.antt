@@ -31,13 +31,16 @@ abbrev pub quote_if : Option (List ℕ) → List ℕ
 quote_if None = []
 quote_if (Some text) = codes ": " ++ take 512 text
 
--- what a Reject(3) by the other side says, as a text to this side: RefTagID, SessionRejectReason and Text, where they stand
+-- what a Reject(3) by the other side says, as a text to this side: RefTagID, SessionRejectReason
+-- and Text, where they stand
 unfoldable pub rejected_text : Side → Refusal → List ℕ
 rejected_text side r =
-    codes "rejected by " ++ refuser_of side ++ words_if (codes " tag ") r.tag ++ words_if (codes " reason ") r.reason ++ quote_if r.text
+    codes "rejected by " ++ refuser_of side ++ words_if (codes " tag ") r.tag ++
+    words_if (codes " reason ") r.reason ++ quote_if r.text
 
--- What is said to a side of its own message of this number and type, which the other side refused, by a
--- BusinessMessageReject(j) or by a Reject(3). Of a j the BusinessRejectRefID, the reason and the text are passed on.
+-- What is said to a side of its own message of this number and type, which the other side refused,
+-- by a BusinessMessageReject(j) or by a Reject(3). Of a j the BusinessRejectRefID, the reason and
+-- the text are passed on.
 abbrev pub renumbered : Side → Bool → Refusal → ℕ → List ℕ → Said
 renumbered side true r far far_type = business_reject (record {
   number = Some far;

@@ -56,7 +56,8 @@ pub(crate) fn business_reject(alloc: Global, refusal: &Refusal) -> Result<Said, 
 
 /// The message of this type, with this content.
 fn said(alloc: Global, msg_type: &[u8], content: Bytes) -> Result<Said, AllocError>
-    ensures { IfOk result (λ said. said ≡ record { msg_type = msg_type.now; content = content; admin = false }) }
+    ensures { IfOk result (λ said. said ≡
+        record { msg_type = msg_type.now; content = content; admin = false }) }
 {
     Ok(Said {
         msg_type: Bytes::copy(alloc, msg_type)?,

@@ -1,8 +1,8 @@
 //! What the gateway says of a message that is refused: its own refusals, and those of one side that
 //! it tells the other.
 //!
-//! A refusal is a Reject(3) or a BusinessMessageReject(j). Each call gives the whole message after the
-//! header: its type, and its fields in their order, as they are written.
+//! A refusal is a Reject(3) or a BusinessMessageReject(j). Each call gives the whole message after
+//! the header: its type, and its fields in their order, as they are written.
 #![tactic(auto)]
 
 mod content;

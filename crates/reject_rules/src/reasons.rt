@@ -103,7 +103,8 @@ pub(crate) fn business_text(
     reason: Option<u32>,
     text: Option<&[u8]>,
 ) -> Result<Option<Bytes>, AllocError>
-    ensures { IfOk result (λ whole. whole ≡ business_text side reason (option_map (λ bytes. bytes.now) text.entry)) }
+    ensures { IfOk result (λ whole. whole ≡
+        business_text side reason (option_map (λ bytes. bytes.now) text.entry)) }
 {
     match (side, reason) {
         (Side::Client, Some(reason)) => {
@@ -135,7 +136,8 @@ fn with_suffix(
     text: Option<&[u8]>,
     suffix: &[u8],
 ) -> Result<Option<Bytes>, AllocError>
-    ensures { IfOk result (λ whole. whole ≡ with_suffix (option_map (λ bytes. bytes.now) text.entry) suffix.now) }
+    ensures { IfOk result (λ whole. whole ≡
+        with_suffix (option_map (λ bytes. bytes.now) text.entry) suffix.now) }
 {
     match (text, suffix) {
         (text, []) => copied(alloc, text),

@@ -21,11 +21,12 @@ const MSG_TYPE: u32 = 35;
 
 /// What is said to a side of its message of this number and type, which has this fault.
 ///
-/// A `Session` fault gives a Reject(3) with RefTagID(371), where a tag is known, and SessionRejectReason(373).
-/// FIX 4.2 has the reasons up to 11: to the client one above has no 373 and its words in Text(58), where it has
-/// any. Any other fault gives a BusinessMessageReject(j) whose Text(58) names the tag that has no counterpart;
-/// for a type that is not supported, BusinessRejectReason(380) is 3 and the tag 35, else 380 is 0.
-/// RefMsgType(372) has the first 8 bytes of the type.
+/// A `Session` fault gives a Reject(3) with RefTagID(371), where a tag is known, and
+/// SessionRejectReason(373). FIX 4.2 has the reasons up to 11: to the client one above has no 373
+/// and its words in Text(58), where it has any. Any other fault gives a BusinessMessageReject(j)
+/// whose Text(58) names the tag that has no counterpart; for a type that is not supported,
+/// BusinessRejectReason(380) is 3 and the tag 35, else 380 is 0. RefMsgType(372) has the first 8
+/// bytes of the type.
 ///
 /// FIX 4.2, "Reject (session-level)" and "Business Message Reject".
 ///
@@ -66,8 +67,8 @@ pub fn refusal(
     }
 }
 
-/// What is said to the client of a request of this number and type whose ClOrdID(11) was used before: a
-/// BusinessMessageReject(j) with 380=0 and the text `tag 11 is already used`.
+/// What is said to the client of a request of this number and type whose ClOrdID(11) was used
+/// before: a BusinessMessageReject(j) with 380=0 and the text `tag 11 is already used`.
 ///
 /// # Errors
 ///
@@ -78,8 +79,8 @@ pub fn used(alloc: Global, number: u32, msg_type: &[u8]) -> Result<Said, AllocEr
     business_refusal(alloc, number, msg_type, OTHER, b"tag 11 is already used")
 }
 
-/// What is said to the client of a request of this number and type while the venue's session is not active: a
-/// BusinessMessageReject(j) with 380=4 and the text `venue is not connected`.
+/// What is said to the client of a request of this number and type while the venue's session is
+/// not active: a BusinessMessageReject(j) with 380=4 and the text `venue is not connected`.
 ///
 /// # Errors
 ///

@@ -12,14 +12,15 @@ use itoa::Buffer;
 use order_meaning::{Bytes, Refusal, Side};
 use std::alloc::{AllocError, Global};
 
-/// What is said to a side of its own message of the number `far` and the type `far_type`, which the other side
-/// refused: a BusinessMessageReject(j), whichever message the refusal came as. `business` says that it came as a
-/// BusinessMessageReject(j), else it was a Reject(3).
+/// What is said to a side of its own message of the number `far` and the type `far_type`, which the
+/// other side refused: a BusinessMessageReject(j), whichever message the refusal came as.
+/// `business` says that it came as a BusinessMessageReject(j), else it was a Reject(3).
 ///
-/// Of a Reject(3), RefTagID(371), SessionRejectReason(373) and Text(58) are told in the text, as far as they stand,
-/// as `rejected by venue tag 40 reason 5: text`; BusinessRejectReason(380) is 0. Of a BusinessMessageReject(j),
-/// BusinessRejectRefID(379), 380 and 58 are passed on; to the client a 380 above 5, which FIX 4.2 lacks, is 0, and
-/// the text ends in ` [380=n]`. Of the text of a refusal 512 bytes are passed on.
+/// Of a Reject(3), RefTagID(371), SessionRejectReason(373) and Text(58) are told in the text, as
+/// far as they stand, as `rejected by venue tag 40 reason 5: text`; BusinessRejectReason(380) is 0.
+/// Of a BusinessMessageReject(j), BusinessRejectRefID(379), 380 and 58 are passed on; to the client
+/// a 380 above 5, which FIX 4.2 lacks, is 0, and the text ends in ` [380=n]`. Of the text of a
+/// refusal the first 512 bytes are passed on.
 ///
 /// FIX 4.2, "Business Message Reject".
 ///

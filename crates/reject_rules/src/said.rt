@@ -9,6 +9,6 @@ pub struct Said {
     pub msg_type: Bytes,
     /// The fields after the header, each as its tag, `=`, its value and SOH.
     pub content: Bytes,
-    /// Whether a gap fill stands for it where messages are resent: never, since a refusal is repeated.
+    /// Whether a gap fill stands for it where messages are resent: never, a refusal is repeated.
     pub admin: bool,
 }
