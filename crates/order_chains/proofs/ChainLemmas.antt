@@ -33,13 +33,20 @@ kept_at id entries = lookup (λ key. bytes_eq id key.items) entries
 abbrev kept_of : ChainItem → Kept
 kept_of item = record { orig = item.orig; number = item.number; letter = item.letter }
 
--- it is what is kept of the item with the id
-pub kept_at-map : (id : List ℕ) (es : Entries) → kept_at id es ≡ option_map kept_of (item_with (map item_of es) id)
+-- an item with another id
+abbrev with_id : ChainItem → List ℕ → ChainItem
+with_id item id =
+    record { id = id; orig = item.orig; number = item.number; letter = item.letter }
+
+-- what the map has under an id is what is kept of the item with the id
+pub kept_at-map : (id : List ℕ) (es : Entries) →
+    kept_at id es ≡ option_map kept_of (item_with (map item_of es) id)
 kept_at-map id [] = refl
 kept_at-map id (e ∷ es) = by (bytes_eq id e.0.items) (kept_at-map id es)
   where
     by : (b : Bool) → kept_at id es ≡ option_map kept_of (item_with (map item_of es) id) →
-        cond b (Some e.1) (kept_at id es) ≡ option_map kept_of (cond b (Some (item_of e)) (item_with (map item_of es) id))
+        cond b (Some e.1) (kept_at id es)
+        ≡ option_map kept_of (cond b (Some (item_of e)) (item_with (map item_of es) id))
     by true rest = refl
     by false rest = rest
 
@@ -48,7 +55,8 @@ has_kept None = refl
 has_kept (Some item) = refl
 
 orig_kept : (found : Option ChainItem) →
-    option_and_then (λ (kept : Kept). kept.orig) (option_map kept_of found) ≡ option_and_then (λ (item : ChainItem). item.orig) found
+    option_and_then (λ (kept : Kept). kept.orig) (option_map kept_of found)
+    ≡ option_and_then (λ (item : ChainItem). item.orig) found
 orig_kept None = refl
 orig_kept (Some item) = refl
 
@@ -58,7 +66,8 @@ numbers_of kept = (kept.number, kept.letter)
 abbrev item_numbers : ChainItem → ℕ × ℕ
 item_numbers item = (item.number, item.letter)
 
-number_kept : (found : Option ChainItem) → option_map numbers_of (option_map kept_of found) ≡ option_map item_numbers found
+number_kept : (found : Option ChainItem) →
+    option_map numbers_of (option_map kept_of found) ≡ option_map item_numbers found
 number_kept None = refl
 number_kept (Some item) = refl
 
@@ -66,34 +75,43 @@ module _ (items : List ChainItem) (es : Entries) (is : map item_of es ≡ items)
   -- the look-ups of a list of items, by what the map has under the id
   pub has_id-kept : (id : List ℕ) → is_some (kept_at id es) ≡ has_id items id
   has_id-kept id =
-      ap is_some (kept_at-map id es) ∙ has_kept (item_with (map item_of es) id) ∙ ap (λ (l : List ChainItem). has_id l id) is
+      ap is_some (kept_at-map id es) ∙ has_kept (item_with (map item_of es) id)
+      ∙ ap (λ (l : List ChainItem). has_id l id) is
 
   pub orig_of-kept : (id : List ℕ) (found : Option Kept) → found ≡ kept_at id es →
       option_and_then (λ (kept : Kept). kept.orig) found ≡ orig_of items id
   orig_of-kept id found e =
-      ap (option_and_then (λ (kept : Kept). kept.orig)) (e ∙ kept_at-map id es) ∙ orig_kept (item_with (map item_of es) id)
+      ap (option_and_then (λ (kept : Kept). kept.orig)) (e ∙ kept_at-map id es)
+      ∙ orig_kept (item_with (map item_of es) id)
       ∙ ap (λ (l : List ChainItem). orig_of l id) is
 
-  pub number_of-kept : (id : List ℕ) (found : Option Kept) → found ≡ kept_at id es → option_map numbers_of found ≡ number_of items id
+  pub number_of-kept : (id : List ℕ) (found : Option Kept) → found ≡ kept_at id es →
+      option_map numbers_of found ≡ number_of items id
   number_of-kept id found e =
-      ap (option_map numbers_of) (e ∙ kept_at-map id es) ∙ number_kept (item_with (map item_of es) id)
+      ap (option_map numbers_of) (e ∙ kept_at-map id es)
+      ∙ number_kept (item_with (map item_of es) id)
       ∙ ap (λ (l : List ChainItem). number_of l id) is
 
 -- a key that is not there goes last
-pub inserted : (es : Entries) (key : Key) (kept : Kept) → has_id (map item_of es) key.items ≡ false →
+pub inserted : (es : Entries) (key : Key) (kept : Kept) →
+    has_id (map item_of es) key.items ≡ false →
     insert_entry same_key es key kept ≡ es ++ (key, kept) ∷ []
 inserted [] key kept free = refl
 inserted (e ∷ es) key kept free = by (bytes_eq key.items e.0.items) free (inserted es key kept)
   where
-    by : (b : Bool) → is_some (cond b (Some (item_of e)) (item_with (map item_of es) key.items)) ≡ false →
-        (has_id (map item_of es) key.items ≡ false → insert_entry same_key es key kept ≡ es ++ (key, kept) ∷ []) →
-        (if b then (e.0, kept) ∷ es else e ∷ insert_entry same_key es key kept) ≡ e ∷ (es ++ (key, kept) ∷ [])
+    by : (b : Bool) →
+        is_some (cond b (Some (item_of e)) (item_with (map item_of es) key.items)) ≡ false →
+        (has_id (map item_of es) key.items ≡ false →
+        insert_entry same_key es key kept ≡ es ++ (key, kept) ∷ []) →
+        (if b then (e.0, kept) ∷ es else e ∷ insert_entry same_key es key kept)
+        ≡ e ∷ (es ++ (key, kept) ∷ [])
     by true taken rest = absurd (true≢false taken)
     by false free rest = ap (λ (l : Entries). e ∷ l) (rest free)
 
 -- so the item goes last
-pub added : (items : List ChainItem) (es new : Entries) (key : Key) (item : ChainItem) → map item_of es ≡ items →
-    has_id items item.id ≡ false → key.items ≡ item.id → new ≡ insert_entry same_key es key (kept_of item) →
+pub added : (items : List ChainItem) (es new : Entries) (key : Key) (item : ChainItem) →
+    map item_of es ≡ items → has_id items item.id ≡ false → key.items ≡ item.id →
+    new ≡ insert_entry same_key es key (kept_of item) →
     map item_of new ≡ items ++ item ∷ []
 added items es new key item is free named stored =
     let here : has_id (map item_of es) key.items ≡ false =
@@ -101,12 +119,13 @@ added items es new key item is free named stored =
     ap (map item_of) (stored ∙ inserted es key (kept_of item) here)
     ∙ map-append item_of es ((key, kept_of item) ∷ [])
     ∙ ap (λ (l : List ChainItem). l ++ item_of (key, kept_of item) ∷ []) is
-    ∙ ap (λ (id : List ℕ). items ++ record { id = id; orig = item.orig; number = item.number; letter = item.letter } ∷ []) named
+    ∙ ap (λ (id : List ℕ). items ++ with_id item id ∷ []) named
 
 abbrev ids_of : Entries → List (List ℕ)
 ids_of es = map (λ (item : ChainItem). item.id) (map item_of es)
 
-other_ids : (id : List ℕ) (es : Entries) → AllByRecursion (λ (key : Key). bytes_eq id key.items ≡ false) (keys_of es) →
+other_ids : (id : List ℕ) (es : Entries) →
+    AllByRecursion (λ (key : Key). bytes_eq id key.items ≡ false) (keys_of es) →
     AllByRecursion (λ (other : List ℕ). bytes_eq id other ≡ false) (ids_of es)
 other_ids id [] h = h
 other_ids id (e ∷ es) h = (h.0, other_ids id es h.1)

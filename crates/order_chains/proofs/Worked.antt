@@ -20,5 +20,7 @@ pub numbers :
     × (number_of day (codes "A") ≡ Some (5, 68)) × (number_of day (codes "a") ≡ None)
 numbers = (refl, refl, refl, refl)
 
-pub ids : (has_id day (codes "A") ≡ true) × (has_id day (codes "A11") ≡ false) × (has_id [] (codes "A1") ≡ false)
+pub ids :
+    (has_id day (codes "A") ≡ true) × (has_id day (codes "A11") ≡ false)
+    × (has_id [] (codes "A1") ≡ false)
 ids = (refl, refl, refl)

@@ -21,8 +21,8 @@ struct Kept {
     letter: u8,
 }
 
-/// The requests of type D, F and G that were forwarded, in order, seen as the list of them. No two have
-/// one id.
+/// The requests of type D, F and G that were forwarded, in order, seen as the list of them. No two
+/// have one id.
 #[derive(Drop)]
 pub struct Chains {
     items: IndexMap<Vec<u8>, Kept>,
@@ -79,7 +79,7 @@ impl Chains {
         Ok(())
     }
 
-    /// Takes out the last item, where there is one; it takes no memory.
+    /// Takes out the last item of a list that is not empty; it takes no memory.
     pub fn undo(&mut self)
         requires { 0 < length self.old }
         ensures items { self.new ≡ take (length self.old - 1) self.old }
@@ -88,8 +88,8 @@ impl Chains {
         let _ = self.items.pop();
     }
 
-    /// The OrigClOrdID(41) of the item with this ClOrdID(11): none where no item has the id, and where the
-    /// item has none, as that of a D. It takes no memory.
+    /// The OrigClOrdID(41) of the item with this ClOrdID(11): none where no item has the id, and
+    /// where the item has none, as that of a D. It takes no memory.
     pub fn orig_of(&self, id: &[u8]) -> Option<&[u8]>
         ensures { option_map (λ orig. orig.now) result ≡ orig_of self.now id.now }
     {
@@ -99,8 +99,8 @@ impl Chains {
         }
     }
 
-    /// MsgSeqNum(34) of the client's message and MsgType(35) of the item with this ClOrdID(11), where there
-    /// is one. It takes no memory.
+    /// MsgSeqNum(34) of the client's message and MsgType(35) of the item with this ClOrdID(11),
+    /// where there is one. It takes no memory.
     pub fn number_of(&self, id: &[u8]) -> Option<(u32, u8)>
         ensures { result ≡ number_of self.now id.now }
     {

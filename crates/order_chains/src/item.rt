@@ -2,7 +2,7 @@
 
 use order_meaning::Bytes;
 
-/// A New Order (D), Order Cancel Request (F) or Order Cancel/Replace Request (G) that was forwarded.
+/// A forwarded New Order (D), Order Cancel Request (F) or Order Cancel/Replace Request (G).
 #[derive(Debug, Drop)]
 pub struct ChainItem {
     /// ClOrdID(11).

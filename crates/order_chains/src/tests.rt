@@ -1,4 +1,4 @@
-//! Chains through a day of orders: the expected answers are the ids and numbers of the rows above them.
+//! Chains through a day of orders: the expected answers are the ids and numbers of its rows.
 
 use crate::{ChainItem, Chains};
 use order_meaning::Bytes;

@@ -31,5 +31,6 @@ pub first_counts : three_of (line (codes "B1") 1 ∷ line (codes "X") 17 ∷ lin
 first_counts = refl
 
 pub order_is_free :
-    three_of (line (codes "CLRF") 4 ∷ line (codes "BRKR") 1 ∷ line (codes "FUND") 3 ∷ []) ≡ all_three
+    three_of (line (codes "CLRF") 4 ∷ line (codes "BRKR") 1 ∷ line (codes "FUND") 3 ∷ [])
+    ≡ all_three
 order_is_free = refl

@@ -2,10 +2,12 @@
 //! it tells the other.
 //!
 //! A refusal is a Reject(3) or a BusinessMessageReject(j). Each call gives the whole message after
-//! the header: its type, and its fields in their order, as they are written.
+//! the header: its type, and its fields in their order, as they are written. What holds of all of
+//! them stands in [`laws`].
 #![tactic(auto)]
 
 mod content;
+pub mod laws;
 mod reasons;
 mod refusals;
 mod renumbering;
