@@ -1,0 +1,5 @@
+use Rattle.order_chains.proofs.ChainLemmas.{distinct_ids}
+use Rattle.order_chains.proofs.chains.Chains.undo.Goals as goal
+
+pub returns-clause-distinct : goal.returns-clause-distinct
+returns-clause-distinct c = distinct_ids c.pop.new.self.entries c.pop.ensures.unique

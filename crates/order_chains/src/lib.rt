@@ -1,0 +1,13 @@
+//! The requests that the gateway forwarded and that a report may speak of, by their ClOrdIDs.
+//!
+//! [`Chains`] is seen as the list of its items, in the order in which they were forwarded. Each
+//! call is answered by that list.
+#![tactic(auto)]
+
+mod chains;
+mod item;
+#[cfg(test)]
+mod tests;
+
+pub use chains::Chains;
+pub use item::ChainItem;

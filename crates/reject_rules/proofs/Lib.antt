@@ -1,0 +1,4 @@
+pub mod Lengths
+pub mod Plain
+pub mod Short
+mod Worked

@@ -1,0 +1,52 @@
+-- Standard: SessionRejectReason(373) of FIX 4.2 and FIXT 1.1, BusinessRejectReason(380) of FIX 4.2.
+-- What is said in place of a reason that FIX 4.2 lacks is own: docs/DECISIONS.md, "Refusals".
+use Rattle.std.specs.Prelude.{ℕ, nat_le, ◌==◌, List, [], ◌∷◌, ◌++◌, take, codes, Some, None, if◌then◌else◌}
+use Rattle.std.specs.declared.option.Option.{Option}
+use Rattle.std.specs.Fmt.{decimal}
+use Rattle.order_meaning.specs.declared.Side.{Side}
+use Rattle.order_meaning.specs.declared.Side.TheVariants.{Client, Venue}
+
+-- the words for a SessionRejectReason that came after FIX 4.2: 13 tag appears more than once, 15
+-- repeating group fields out of order, 16 incorrect NumInGroup count for repeating group
+unfoldable pub reason_words : ℕ → Option (List ℕ)
+reason_words reason =
+    if reason == 13 then Some (codes "tag appears more than once") else
+    (if reason == 15 then Some (codes "group fields out of order") else
+    (if reason == 16 then Some (codes "wrong group count") else None))
+
+-- SessionRejectReason to a side: FIX 4.2 has the reasons up to 11
+abbrev pub session_reason : Side → ℕ → Option ℕ
+session_reason Client reason = if nat_le reason 11 then Some reason else None
+session_reason Venue reason = Some reason
+
+-- Text to a side: its words in place of a reason that FIX 4.2 lacks
+abbrev pub session_text : Side → ℕ → Option (List ℕ)
+session_text Client reason = if nat_le reason 11 then None else reason_words reason
+session_text Venue reason = None
+
+-- a reason of FIX 4.2, where this is the highest that it has: one above it is written as another
+abbrev pub reason_within : ℕ → ℕ → ℕ → ℕ
+reason_within highest other reason = if nat_le reason highest then reason else other
+
+-- what a text gets at its end, so that no reason is lost: ` [tag=reason]` for one above the highest
+abbrev pub reason_suffix : ℕ → ℕ → ℕ → List ℕ
+reason_suffix tag highest reason =
+    if nat_le reason highest then []
+    else codes " [" ++ decimal tag ++ codes "=" ++ decimal reason ++ codes "]"
+
+-- a text with this at its end: it is first cut to 2,000 bytes, and where there is none, the first
+-- space goes
+abbrev pub with_suffix : Option (List ℕ) → List ℕ → Option (List ℕ)
+with_suffix text [] = text
+with_suffix None (space ∷ suffix) = Some suffix
+with_suffix (Some text) (space ∷ suffix) = Some (take 2000 text ++ space ∷ suffix)
+
+-- BusinessRejectReason to a side: FIX 4.2 has the reasons up to 5, and 0 is "other"
+abbrev pub business_reason : Side → ℕ → ℕ
+business_reason Client reason = reason_within 5 0 reason
+business_reason Venue reason = reason
+
+-- Text beside a BusinessRejectReason to a side
+abbrev pub business_text : Side → Option ℕ → Option (List ℕ) → Option (List ℕ)
+business_text Client (Some reason) text = with_suffix text (reason_suffix 380 5 reason)
+business_text side reason text = text

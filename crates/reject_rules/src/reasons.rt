@@ -1,0 +1,151 @@
+//! Reasons, and what is said in place of those that FIX 4.2 lacks.
+
+ghost use Rattle.std.specs.Prelude.{◌≡◌, IfOk};
+ghost use Rattle.std.specs.Option.{option_map};
+ghost use Rattle.reject_rules.specs.Reasons.{reason_words, session_reason, session_text, reason_suffix, with_suffix, business_reason, business_text};
+
+use crate::text::front;
+use itoa::Buffer;
+use order_meaning::{Bytes, Side};
+use std::alloc::{AllocError, Global};
+
+/// The highest SessionRejectReason(373) of FIX 4.2, invalid MsgType.
+const MAX_SESSION_REASON: u8 = 11;
+
+/// SessionRejectReason(373) of FIXT 1.1: a tag appears more than once.
+const TAG_APPEARS_MORE_THAN_ONCE: u8 = 13;
+
+/// SessionRejectReason(373) of FIXT 1.1: the fields of a repeating group are out of order.
+const GROUP_FIELDS_OUT_OF_ORDER: u8 = 15;
+
+/// SessionRejectReason(373) of FIXT 1.1: the count of a repeating group is incorrect.
+const WRONG_GROUP_COUNT: u8 = 16;
+
+/// BusinessRejectReason(380): any other.
+pub(crate) const OTHER: u32 = 0;
+
+/// BusinessRejectReason(380): unsupported message type.
+pub(crate) const UNSUPPORTED_MESSAGE_TYPE: u32 = 3;
+
+/// BusinessRejectReason(380): the application is not available at this time.
+pub(crate) const APPLICATION_NOT_AVAILABLE: u32 = 4;
+
+/// The highest BusinessRejectReason(380) of FIX 4.2, conditionally required field missing.
+const MAX_BUSINESS_REASON: u32 = 5;
+
+/// BusinessRejectReason(380).
+const BUSINESS_REJECT_REASON: u32 = 380;
+
+/// The most bytes of a text that a reason is added to.
+const MAX_TEXT: usize = 2000;
+
+/// The words for a SessionRejectReason(373) that came after FIX 4.2.
+#[tactic(auto, unfolding(crate::specs::Reasons::reason_words))]
+fn reason_words(reason: u8) -> Option<&'static [u8]>
+    ensures { option_map (λ words. words.now) result ≡ reason_words reason }
+{
+    match reason {
+        TAG_APPEARS_MORE_THAN_ONCE => Some(b"tag appears more than once".as_slice()),
+        GROUP_FIELDS_OUT_OF_ORDER => Some(b"group fields out of order".as_slice()),
+        WRONG_GROUP_COUNT => Some(b"wrong group count".as_slice()),
+        _ => None,
+    }
+}
+
+/// SessionRejectReason(373) to a side.
+pub(crate) fn session_reason(side: Side, reason: u8) -> Option<u32>
+    ensures { result ≡ session_reason side reason }
+{
+    match side {
+        Side::Client if reason > MAX_SESSION_REASON => None,
+        _ => Some(u32::from(reason)),
+    }
+}
+
+/// Text(58) beside a SessionRejectReason(373) to a side.
+pub(crate) fn session_text(
+    alloc: Global,
+    side: Side,
+    reason: u8,
+) -> Result<Option<Bytes>, AllocError>
+    ensures { IfOk result (λ text. text ≡ session_text side reason) }
+{
+    match side {
+        Side::Client if reason > MAX_SESSION_REASON => copied(alloc, reason_words(reason)),
+        _ => Ok(None),
+    }
+}
+
+/// A copy of a text, where there is one.
+fn copied(alloc: Global, text: Option<&[u8]>) -> Result<Option<Bytes>, AllocError>
+    ensures { IfOk result (λ copy. copy ≡ option_map (λ bytes. bytes.now) text.entry) }
+{
+    match text {
+        Some(text) => Ok(Some(Bytes::copy(alloc, text)?)),
+        None => Ok(None),
+    }
+}
+
+/// BusinessRejectReason(380) to a side.
+pub(crate) fn business_reason(side: Side, reason: u32) -> u32
+    ensures { result ≡ business_reason side reason }
+{
+    match side {
+        Side::Client if reason > MAX_BUSINESS_REASON => OTHER,
+        _ => reason,
+    }
+}
+
+/// Text(58) beside a BusinessRejectReason(380) to a side.
+pub(crate) fn business_text(
+    alloc: Global,
+    side: Side,
+    reason: Option<u32>,
+    text: Option<&[u8]>,
+) -> Result<Option<Bytes>, AllocError>
+    ensures { IfOk result (λ whole. whole ≡
+        business_text side reason (option_map (λ bytes. bytes.now) text.entry)) }
+{
+    match (side, reason) {
+        (Side::Client, Some(reason)) => {
+            let suffix = reason_suffix(alloc, BUSINESS_REJECT_REASON, MAX_BUSINESS_REASON, reason)?;
+            with_suffix(alloc, text, suffix.as_slice())
+        }
+        _ => copied(alloc, text),
+    }
+}
+
+/// What a text gets at its end for a reason above the highest of FIX 4.2: ` [tag=reason]`.
+fn reason_suffix(alloc: Global, tag: u32, highest: u32, reason: u32) -> Result<Bytes, AllocError>
+    ensures { IfOk result (λ suffix. suffix ≡ reason_suffix tag highest reason) }
+{
+    let mut suffix = Bytes::new(alloc);
+    if reason > highest {
+        suffix.extend_from_slice(b" [")?;
+        suffix.extend_from_slice(Buffer::new().format(tag).as_bytes())?;
+        suffix.extend_from_slice(b"=")?;
+        suffix.extend_from_slice(Buffer::new().format(reason).as_bytes())?;
+        suffix.extend_from_slice(b"]")?;
+    }
+    Ok(suffix)
+}
+
+/// A text with this at its end, which begins with a space.
+fn with_suffix(
+    alloc: Global,
+    text: Option<&[u8]>,
+    suffix: &[u8],
+) -> Result<Option<Bytes>, AllocError>
+    ensures { IfOk result (λ whole. whole ≡
+        with_suffix (option_map (λ bytes. bytes.now) text.entry) suffix.now) }
+{
+    match (text, suffix) {
+        (text, []) => copied(alloc, text),
+        (None, [_, suffix @ ..]) => Ok(Some(Bytes::copy(alloc, suffix)?)),
+        (Some(text), suffix) => {
+            let mut whole = Bytes::copy(alloc, front(text, MAX_TEXT))?;
+            whole.extend_from_slice(suffix)?;
+            Ok(Some(whole))
+        }
+    }
+}
