@@ -1,4 +1,5 @@
--- The stream and the answered pieces that a framer stands for, and what it answers for each such stream and list.
+-- Inside: the stream and the answered pieces that a framer stands for, and what it answers for each
+-- such stream and list; no clause of run rests on it.
 use Rattle.std.specs.Prelude.{◌≡◌, ◌≢◌, ℕ, ◌+◌, ◌<◌, ◌≤◌, List, [], ◌∷◌, ◌++◌, length, drop, slice_range, Some, None}
 use Rattle.std.specs.declared.option.Option.{Option}
 use Rattle.std.specs.List.{flat_map}

@@ -1,6 +1,6 @@
 use Rattle.std.proofs.Common.{◌≡◌, ◌≤◌, List, ℕ, length, drop}
 use Rattle.frame_grammar.specs.Found.{Found, expect_sum}
-use Rattle.frame_grammar.proofs.scan.expect_digits.Given as goal
+use Rattle.frame_grammar.proofs.scan.expect_sum.Given as goal
 
 abbrev pub invariant-loop-place : goal.invariant-loop-place
 invariant-loop-place l = record {
