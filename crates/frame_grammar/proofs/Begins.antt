@@ -17,10 +17,10 @@ use Rattle.frame_grammar.specs.Found.{Found, Whole, expect, expect_sum, found_tr
 same_byte : (b : ℕ) → (b == b) ≡ true
 same_byte b = grind (arith, nat_tests)
 
-if_true : {A : Type 0} (c : Bool) (x y : A) → c ≡ true → (if c then x else y) ≡ x
+pub if_true : {A : Type 0} (c : Bool) (x y : A) → c ≡ true → (if c then x else y) ≡ x
 if_true c x y is = ap (λ b. if b then x else y) is
 
-if_false : {A : Type 0} (c : Bool) (x y : A) → c ≡ false → (if c then x else y) ≡ y
+pub if_false : {A : Type 0} (c : Bool) (x y : A) → c ≡ false → (if c then x else y) ≡ y
 if_false c x y is = ap (λ b. if b then x else y) is
 
 pub expect_text : (text rest : List ℕ) (cause : Garble) (go : List ℕ → Found) → expect text cause go (text ++ rest) ≡ go rest
@@ -32,7 +32,7 @@ expect_digits [] rest go each = refl
 expect_digits (t ∷ text) rest go each =
     if_true (is_ascii_digit t) _ _ (All-head IsDigit t text each) ∙ if_true (t == t) _ _ (same_byte t) ∙ expect_digits text rest go (All-tail IsDigit t text each)
 
-found_length-digits : (start seen digits rest : List ℕ) → All IsDigit digits → length seen + length digits ≤ 7
+pub found_length-digits : (start seen digits rest : List ℕ) → All IsDigit digits → length seen + length digits ≤ 7
     → found_length start seen (digits ++ 1 ∷ rest) ≡ found_said start (seen ++ digits) (digits_value 10 (seen ++ digits)) rest
 found_length-digits start seen [] rest each short = ap (λ l. found_said start l (digits_value 10 l) rest) (sym (append-nil seen))
 found_length-digits start seen (d ∷ digits) rest each short =

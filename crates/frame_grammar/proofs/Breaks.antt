@@ -208,17 +208,17 @@ length_shrinks start digits (b ∷ rest) cause after is =
     let after_is : rest ≡ after = cc broken in
     (b ∷ [], ap (λ (l : List ℕ). b ∷ l) after_is, if_false (b == 1) _ _ other ∙ if_false (is_ascii_digit b && nat_lt (length digits) 7) _ _ none ∙ cause_is)))
 
-found_shrinks : (kind : Kind) → Shrinks (found kind)
+pub found_shrinks : (kind : Kind) → Shrinks (found kind)
 found_shrinks kind =
     expect_shrinks (begin_string kind) BeginString _ (expect_shrinks (codes "9=") LengthField _ (length_shrinks (opening kind) []))
 
-no_frame : (kind : Kind) (front : List ℕ) (cause : Garble) → found kind front ≡ Broken cause [] → (body more : List ℕ) → IsFrame kind body (front ++ more) → ⊥
+pub no_frame : (kind : Kind) (front : List ℕ) (cause : Garble) → found kind front ≡ Broken cause [] → (body more : List ℕ) → IsFrame kind body (front ++ more) → ⊥
 no_frame kind front cause is body more frame =
     let grows : found kind (front ++ more) ≡ Broken cause more = subst (λ f. Grows more f (found kind (front ++ more))) is (found_grows more kind front) in
     let whole : found kind (front ++ more) ≡ Whole body [] = ap (found kind) (sym (append-nil (front ++ more))) ∙ found_frame kind body (front ++ more) [] frame in
     cc (grows, whole)
 
-shorter : (kind : Kind) (front : List ℕ) (cause : Garble) → found kind front ≡ Broken cause [] → (n : ℕ) → n < length front → found kind (take n front) ≡ Short
+pub shorter : (kind : Kind) (front : List ℕ) (cause : Garble) → found kind front ≡ Broken cause [] → (n : ℕ) → n < length front → found kind (take n front) ≡ Short
 shorter kind front cause is n below = at (found kind (take n front)) grows
   where
     grows : Grows (drop n front) (found kind (take n front)) (Broken cause [])
@@ -228,8 +228,3 @@ shorter kind front cause is n below = at (found kind (take n front)) grows
     at (Whole body after) g = absurd (cc g)
     at Short g = refl
     at (Broken other after) g = let nothing : [] ≡ after ++ drop n front = cc g in absurd (omega (arith, ap length nothing, length-append after (drop n front), length-drop n front, below))
-
--- the shortest front that begins no frame
-pub shortest : (kind : Kind) (text : List ℕ) (cause : Garble) (after : List ℕ) → found kind text ≡ Broken cause after
-    → (front : List ℕ) × (text ≡ front ++ after) × ((body more : List ℕ) → IsFrame kind body (front ++ more) → ⊥) × ((n : ℕ) → n < length front → found kind (take n front) ≡ Short)
-shortest kind text cause after is = let r = found_shrinks kind text cause after is in (r.0, r.1, no_frame kind r.0 cause r.2, shorter kind r.0 cause r.2)

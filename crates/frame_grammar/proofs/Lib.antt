@@ -13,3 +13,4 @@ pub mod Bounded
 pub mod Sums
 pub mod Stands
 mod Worked
+pub mod Causes

@@ -252,6 +252,6 @@ fn a_framer_starts_again(rt: HostRuntime) -> Result<(), Fail> {
 fn laws_are_called() {
     laws::pieces_stay();
     laws::frames_are_found();
-    laws::the_shortest_front_is_broken();
+    laws::the_first_broken_rule_is_named();
     laws::less_than_a_frame_is_awaited();
 }
