@@ -4,6 +4,11 @@ use Rattle.frame_grammar.specs.declared.frame.Kind.TheVariants.{Fix42, Fixt11}
 use Rattle.frame_grammar.specs.declared.frame.Garble.TheVariants.{BeginString, LengthField, TooLong, TypeField, Trailer, Sum}
 use Rattle.frame_grammar.specs.declared.pieces.Lost.{Lost}
 use Rattle.frame_grammar.specs.declared.pieces.Next.TheVariants as next
+use Rattle.std.proofs.Common.{◌≢◌, ◌≤◌, All, lit≤, arith}
+use Rattle.std.proofs.lemmas.List.Elements.{All-cons}
+use Rattle.frame_grammar.specs.declared.frame.TheConstants.{SOH}
+use Rattle.frame_grammar.specs.Frame.{IsDigit}
+use Rattle.frame_grammar.specs.Cause.{Meets}
 use Rattle.frame_grammar.specs.Held.{Held, past, found_by}
 use Rattle.frame_grammar.specs.Found.{found, Whole, Short, Broken}
 use Rattle.frame_grammar.specs.Cut.{first_piece, Good, Bad, Cut}
@@ -107,3 +112,38 @@ far_garbled = refl
 
 far_garbled_on : found_by gone 6 ≡ next.Garbled 5000000000 18446744073709551615 Sum
 far_garbled_on = refl
+
+-- With another digit in CheckSum the rules before the sum's are met.
+digits_are : (a b c : ℕ) → IsDigit a → IsDigit b → IsDigit c → All IsDigit (a ∷ b ∷ c ∷ [])
+digits_are a b c a_is b_is c_is = All-cons IsDigit a (b ∷ c ∷ []) a_is (All-cons IsDigit b (c ∷ []) b_is (All-cons IsDigit c [] c_is (λ k d within. absurd (omega arith))))
+
+wrong_digits : Meets Fix42 Trailer wrong_sum
+wrong_digits = (
+  beat_body,
+  wire (codes "10=071|"),
+  codes "071",
+  record {
+    digits = codes "47";
+    says = record {
+      least = lit≤ tt;
+      most = lit≤ tt;
+      each = All-cons IsDigit 52 (codes "7") refl (All-cons IsDigit 55 [] refl (λ k d within. absurd (omega arith)));
+      value = refl;
+    };
+    most = lit≤ tt;
+    joined = refl;
+  },
+  (
+    codes "0",
+    wire (codes "49=CLNT|56=GATE|34=2|52=20240102-10:00:00|"),
+    (λ none. absurd (cc none)),
+    All-cons (λ b. b ≢ SOH) 48 [] (λ same. absurd (omega (arith, same))) (λ k d within. absurd (omega arith)),
+    refl,
+  ),
+  record {
+    ends = (wire (codes "35=0|49=CLNT|56=GATE|34=2|52=20240102-10:00:00"), refl);
+    three = refl;
+    each = digits_are 48 55 49 refl refl refl;
+    comes = ([], refl);
+  },
+)
