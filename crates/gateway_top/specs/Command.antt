@@ -1,10 +1,10 @@
--- The forms of the command line.
+-- Own: the forms of the command line; docs/DECISIONS.md, "Commands".
 use Rattle.std.specs.Prelude.{ℕ, ◌&&◌, List, [], ◌∷◌, codes, Some, None, if◌then◌else◌}
 use Rattle.std.specs.Str.{bytes_eq}
 use Rattle.std.specs.declared.option.Option.{Option}
 use Rattle.gateway_top.specs.declared.command.Command.{Command}
 use Rattle.gateway_top.specs.declared.command.Command.TheVariants.{Help, Version, Stream}
-use Rattle.gateway_top.specs.declared.command.Task.TheVariants.{TranslateUp, CheckClient, CheckVenue}
+use Rattle.gateway_top.specs.declared.task.Task.TheVariants.{TranslateUp, CheckClient, CheckVenue}
 
 -- the command of these words, where they are one of the forms
 abbrev pub command_of : List (List ℕ) → Option Command

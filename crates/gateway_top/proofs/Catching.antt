@@ -1,14 +1,15 @@
--- What is judged piece by piece.
+-- Pieces are judged one by one.
 use Rattle.std.proofs.Common.{◌≡◌, ℕ, Bool, true, false, ◌&&◌, List, [], ◌∷◌, ◌++◌, refl, sym, ◌∙◌, ap, subst, Some, None, Option, append_assoc, append-nil}
 use Rattle.std.specs.Prelude.{MatchBool}
 use Rattle.frame_grammar.specs.Held.{Held}
 use Rattle.frame_grammar.specs.Cut.{Piece}
 use Rattle.frame_grammar.specs.Framer.{StandsFor}
-use Rattle.gateway_top.specs.declared.command.Task.{Task}
-use Rattle.gateway_top.specs.Stream.{Judges, JudgesAll, has_ended, stops, first_of}
+use Rattle.gateway_top.specs.declared.task.Task.{Task}
+use Rattle.gateway_top.specs.Judge.{Judges, JudgesAll}
+use Rattle.gateway_top.specs.Task.{has_ended, stops, first_of}
 
 -- as far as pieces were judged
-pub record Judging (task : Task) (framer : Held) (stream : List ℕ) (answered : List Piece) (refused : Option ℕ) (before old new : List ℕ) : Type 0 where
+pub record Catching (task : Task) (framer : Held) (stream : List ℕ) (answered : List Piece) (refused : Option ℕ) (before old new : List ℕ) : Type 0 where
   pub more : List Piece
   pub said : List ℕ
   pub stands : StandsFor framer stream (answered ++ more)
@@ -80,10 +81,10 @@ judges_more task before (p ∷ ps) refused said piece at now (at0, now0, later_a
     )
 
 -- nothing more was judged yet
-pub judging_none : (task : Task) (framer : Held) (stream : List ℕ) (answered : List Piece) (refused : Option ℕ) (before old : List ℕ) →
+pub catching_none : (task : Task) (framer : Held) (stream : List ℕ) (answered : List Piece) (refused : Option ℕ) (before old : List ℕ) →
     StandsFor framer stream answered → JudgesAll task [] answered refused before →
-    Judging task framer stream answered refused before old old
-judging_none task framer stream answered refused before old stands judges = record {
+    Catching task framer stream answered refused before old old
+catching_none task framer stream answered refused before old stands judges = record {
   more = [];
   said = [];
   stands = subst (λ (ps : List Piece). StandsFor framer stream ps) (sym (append-nil answered)) stands;
@@ -92,12 +93,12 @@ judging_none task framer stream answered refused before old stands judges = reco
 }
 
 -- one piece more was judged
-pub judging_more : (task : Task) (framer later : Held) (stream : List ℕ) (answered : List Piece) (refused : Option ℕ) (before old mid new : List ℕ) →
-    (j : Judging task framer stream answered refused before old mid) → has_ended task refused ≡ false →
+pub catching_more : (task : Task) (framer later : Held) (stream : List ℕ) (answered : List Piece) (refused : Option ℕ) (before old mid new : List ℕ) →
+    (j : Catching task framer stream answered refused before old mid) → has_ended task refused ≡ false →
     (piece : Piece) (at : Option ℕ) (now : List ℕ) → StandsFor later stream ((answered ++ j.more) ++ piece ∷ []) →
     Judges task (answered ++ j.more) piece at now → new ≡ mid ++ now →
-    Judging task later stream answered (first_of refused at) before old new
-judging_more task framer later stream answered refused before old mid new j going piece at now stands judges written = record {
+    Catching task later stream answered (first_of refused at) before old new
+catching_more task framer later stream answered refused before old mid new j going piece at now stands judges written = record {
   more = j.more ++ piece ∷ [];
   said = j.said ++ now;
   stands = subst (λ (ps : List Piece). StandsFor later stream ps) (append_assoc answered j.more (piece ∷ [])) stands;

@@ -1,20 +1,22 @@
--- What a run of the program did, by the status with which it ended.
-use Rattle.std.specs.Prelude.{◌≡◌, ℕ, ◌+◌, ◌≤◌, true, false, List, [], ◌++◌, length, take, ◌⊎◌, Some, None}
+-- Own: what a run of the program did, by the status with which it ended; docs/DECISIONS.md, "Commands".
+use Rattle.std.specs.Prelude.{◌≡◌, ℕ, ◌+◌, ◌≤◌, Bool, true, false, List, [], ◌++◌, length, take, ◌⊎◌, Some, None}
 use Rattle.std.specs.declared.option.Option.{Option}
 use Rattle.std.specs.Io.KnownBytes.{Appends, Consumes, Keeps, IsAtEnd}
 use Rattle.outside.specs.Bytes.{AppendsFront}
 use Rattle.frame_grammar.specs.declared.pieces.Rest.{Rest}
 use Rattle.frame_grammar.specs.Cut.{Piece, ComeFirst, Cut}
 use Rattle.frame_grammar.specs.Framer.{place_after, EndsIn}
-use Rattle.gateway_top.specs.Stream.{input_limit, kind_of, stops, has_ended, first_of, JudgesAll, end_said, unfinished}
+use Rattle.gateway_top.specs.Judge.{JudgesAll, end_said, unfinished}
+use Rattle.gateway_top.specs.Task.{kind_of, stops, has_ended, first_of}
+use Rattle.gateway_top.specs.declared.stream.TheConstants.{MAX_INPUT, MAX_READ}
 use Rattle.gateway_top.specs.declared.command.Command.{Command}
 use Rattle.gateway_top.specs.declared.command.Command.TheVariants.{Help, Version, Stream}
-use Rattle.gateway_top.specs.declared.command.Task.{Task}
+use Rattle.gateway_top.specs.declared.task.Task.{Task}
 use Rattle.gateway_top.specs.declared.status.Status.{Status}
 use Rattle.gateway_top.specs.declared.status.Status.TheVariants.{Done, Refused, Usage, InputFault, OutputFault, NoMemory, InputTooLong}
 
--- The task has judged every piece that stands whole in these bytes, and has not ended: of those that it refused the first
--- begins here, and this is what it said.
+-- The task has judged every piece that stands whole in these bytes, and has not ended: of those that it
+-- refused the first begins here, and this is what it said.
 pub record Waits (task : Task) (bytes : List ℕ) (refused : Option ℕ) (said : List ℕ) : Type 0 where
   pub pieces : List Piece
   pub rest : List ℕ
@@ -22,8 +24,9 @@ pub record Waits (task : Task) (bytes : List ℕ) (refused : Option ℕ) (said :
   pub judges : JudgesAll task [] pieces refused said
   pub going : has_ended task refused ≡ false
 
--- The task has ended at a piece that stands whole in these bytes, which is the first that it refused and begins here. Before the
--- last read, of 4,096 bytes at most, it had judged every piece that stood whole, and had not ended.
+-- The task has ended at a piece that stands whole in these bytes, which is the first that it refused and
+-- begins here. Before the last read, of 4,096 bytes at most, it had judged every piece that stood whole,
+-- and had not ended.
 pub record Stopped (task : Task) (bytes : List ℕ) (at : ℕ) (said : List ℕ) : Type 0 where
   pub pieces : List Piece
   pub left : List ℕ
@@ -31,11 +34,11 @@ pub record Stopped (task : Task) (bytes : List ℕ) (at : ℕ) (said : List ℕ)
   pub judges : JudgesAll task [] pieces (Some at) said
   pub stops : stops task ≡ true
   pub before : ℕ
-  pub near : length bytes ≤ before + 4096
+  pub near : length bytes ≤ before + MAX_READ
   pub waited : (refused : Option ℕ) × (earlier : List ℕ) × Waits task (take before bytes) refused earlier
 
--- The task has judged every piece of these bytes, after which the input ends, and said how they end. The first piece that it
--- refused, or the unfinished one at the end, begins here.
+-- The task has judged every piece of these bytes, after which the input ends, and said how they end. The
+-- first piece that it refused, or the unfinished one at the end, begins here.
 pub record Finished (task : Task) (bytes : List ℕ) (found : Option ℕ) (said : List ℕ) : Type 0 where
   pub pieces : List Piece
   pub rest : List ℕ
@@ -59,20 +62,24 @@ Said task bytes left said =
 -- At this status of a task, which took these bytes of the input and left those, the sink went from old to new.
 abbrev pub Ran : Task → Status → List ℕ → Option (List ℕ) → Option (List ℕ) → Option (List ℕ) → Type 0
 Ran task Done taken left old new =
-    (length taken ≤ input_limit) × IsAtEnd left × ((said : List ℕ) × Finished task taken None said × Appends old new said)
+    (length taken ≤ MAX_INPUT) × IsAtEnd left × ((said : List ℕ) × Finished task taken None said × Appends old new said)
 Ran task (Refused at) taken left old new =
-    (length taken ≤ input_limit) × ((said : List ℕ) × (Stopped task taken at said ⊎ (IsAtEnd left × Finished task taken (Some at) said)) × Appends old new said)
+    (length taken ≤ MAX_INPUT) × ((said : List ℕ) ×
+    (Stopped task taken at said ⊎ (IsAtEnd left × Finished task taken (Some at) said)) × Appends old new said)
 Ran task Usage taken left old new = ⊥
 -- one byte more than an input may have was taken, and is not judged
 Ran task InputTooLong taken left old new =
-    (length taken ≡ input_limit + 1) × ((refused : Option ℕ) × (said : List ℕ) × Waits task (take input_limit taken) refused said × Appends old new said)
+    (length taken ≡ MAX_INPUT + 1) × ((refused : Option ℕ) × (said : List ℕ) ×
+    Waits task (take MAX_INPUT taken) refused said × Appends old new said)
 Ran task InputFault taken left old new =
-    (length taken ≤ input_limit) × ((refused : Option ℕ) × (said : List ℕ) × Waits task taken refused said × Appends old new said)
+    (length taken ≤ MAX_INPUT) × ((refused : Option ℕ) × (said : List ℕ) ×
+    Waits task taken refused said × Appends old new said)
 Ran task OutputFault taken left old new =
-    (length taken ≤ input_limit) × ((said : List ℕ) × Said task taken left said × AppendsFront old new said)
+    (length taken ≤ MAX_INPUT) × ((said : List ℕ) × Said task taken left said × AppendsFront old new said)
 -- of the bytes that were taken, some at the end may not have been judged
 Ran task NoMemory taken left old new =
-    (length taken ≤ input_limit) × ((n : ℕ) × (refused : Option ℕ) × (said : List ℕ) × Waits task (take n taken) refused said × Appends old new said)
+    (length taken ≤ MAX_INPUT) × ((n : ℕ) × (refused : Option ℕ) × (said : List ℕ) ×
+    Waits task (take n taken) refused said × Appends old new said)
 
 -- At this status of a command that writes a text and reads no input, the sink went from old to new.
 abbrev pub Wrote : Status → List ℕ → Option (List ℕ) → Option (List ℕ) → Type 0
@@ -80,21 +87,20 @@ Wrote Done text old new = Appends old new text
 Wrote OutputFault text old new = AppendsFront old new text
 Wrote status text old new = ⊥
 
--- What the end of a stream adds at a status: where the task refused first before it, and how the input ends, are known.
-abbrev pub Ends : Task → Rest → Option ℕ → Status → Option (List ℕ) → Option (List ℕ) → Type 0
-Ends task end refused Done old new = (first_of refused (unfinished end) ≡ None) × Appends old new (end_said task end)
-Ends task end refused (Refused at) old new = (first_of refused (unfinished end) ≡ Some at) × Appends old new (end_said task end)
-Ends task end refused OutputFault old new = AppendsFront old new (end_said task end)
-Ends task end refused NoMemory old new = Keeps old new
-Ends task end refused status old new = ⊥
-
 -- What a command did at a status: what it took of the input, and what it put.
-abbrev pub Does : List ℕ → List ℕ → Command → Status → Option (List ℕ) → Option (List ℕ) → Option (List ℕ) → Option (List ℕ) → Type 0
+abbrev pub Does : List ℕ → List ℕ → Command → Status →
+    Option (List ℕ) → Option (List ℕ) → Option (List ℕ) → Option (List ℕ) → Type 0
 Does help version Help status left_old left old new = Wrote status help old new
 Does help version Version status left_old left old new = Wrote status version old new
-Does help version (Stream task) status left_old left old new = (taken : List ℕ) × Consumes left_old left taken × Ran task status taken left old new
+Does help version (Stream task) status left_old left old new =
+    (taken : List ℕ) × Consumes left_old left taken × Ran task status taken left old new
 
 -- a command that reads no input leaves its source as it was
 abbrev pub Leaves : {A : Type 0} → Command → A → A → Type 0
 Leaves (Stream task) old new = Unit {0}
 Leaves command old new = new ≡ old
+
+-- a task is done only once its source has told that the input ended
+abbrev pub ReadsToEnd : Command → Status → Bool → Type 0
+ReadsToEnd (Stream task) Done ended = ended ≡ true
+ReadsToEnd command status ended = Unit {0}
