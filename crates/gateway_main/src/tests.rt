@@ -66,4 +66,15 @@ fn a_read_gives_what_came_or_counts_the_fault(rt: HostRuntime) {
     assert_eq!(rt; source.faults, 0);
     assert_eq!(rt; source.read(&mut buf), Err(Failed));
     assert_eq!(rt; source.faults, 1);
+    assert!(rt; !source.ended);
+}
+
+#[test]
+fn a_read_tells_the_end(rt: HostRuntime) {
+    let mut source = Reading::new(b"8".as_slice());
+    let mut buf = [0u8; 4];
+    assert_eq!(rt; source.read(&mut buf), Ok(1));
+    assert!(rt; !source.ended);
+    assert_eq!(rt; source.read(&mut buf), Ok(0));
+    assert!(rt; source.ended);
 }
