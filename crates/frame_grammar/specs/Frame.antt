@@ -1,5 +1,5 @@
--- Standard: FIX 4.2 and FIXT 1.1, "Message Format" and "Data Integrity". The limits of a body and of
--- BodyLength's digits are the gateway's own; docs/DECISIONS.md, "Frames".
+-- Standard: FIX 4.2 and FIXT 1.1, "Message Format" and "Data Integrity". The limits of a body and
+-- of BodyLength's digits are the gateway's own; docs/DECISIONS.md, "Frames".
 --
 -- A frame, as a relation on whole texts.
 use Rattle.std.specs.Prelude.{◌≡◌, ◌≢◌, ℕ, ◌+◌, ◌-◌, ◌/◌, ◌%◌, ◌≤◌, List, [], ◌∷◌, ◌++◌, IsTrue, length, take, sum, All, slice_index, codes, decimal}
@@ -36,8 +36,8 @@ three_digits n = (48 + n / 100) ∷ (48 + n / 10 % 10) ∷ (48 + n % 10) ∷ []
 abbrev pub trailer : List ℕ → List ℕ
 trailer before = codes "10=" ++ three_digits (sum before % 256) ++ SOH ∷ []
 
--- MsgType(35) is the third field of a message: the body begins with `35=` and a type of at least one
--- byte, which the next SOH ends. Each field ends with SOH, and so does the body.
+-- MsgType(35) is the third field of a message: the body begins with `35=` and a type of at least
+-- one byte, which the next SOH ends. Each field ends with SOH, and so does the body.
 pub record IsWritable (body : List ℕ) : Type 0 where
   pub begins : take 3 body ≡ codes "35="
   pub has_type : slice_index body 3 ≢ SOH

@@ -47,8 +47,9 @@ past count held = record held {
 
 -- and dropped them as the front of a garbled piece
 abbrev pub lost_by : Lost → ℕ → Held → Held
-lost_by lost count held =
-    record (past count held) { lost = Some (record lost { dropped = capped (lost.dropped + count) }) }
+lost_by lost count held = record (past count held) {
+  lost = Some (record lost { dropped = capped (lost.dropped + count) });
+}
 
 -- the garbled piece that ends after so many of them
 abbrev pub found_by : Lost → ℕ → Next

@@ -17,9 +17,12 @@ FindsEachFrame = (kind : Kind) (body bytes after : List ℕ) → IsFrame kind bo
 -- two frames that begin one text are one
 abbrev pub BeginsNoOther : Type 0
 BeginsNoOther = (kind : Kind) (body bytes after other_body other other_after : List ℕ)
-    → IsFrame kind body bytes → IsFrame kind other_body other → bytes ++ after ≡ other ++ other_after
+    → IsFrame kind body bytes → IsFrame kind other_body other
+    → bytes ++ after ≡ other ++ other_after
     → (body ≡ other_body) × (bytes ≡ other)
 
 abbrev pub NamesFirstBroken : Type 0
-NamesFirstBroken = (kind : Kind) (text : List ℕ) (cause : Garble) (after : List ℕ) → found kind text ≡ Broken cause after
-    → (front : List ℕ) × (text ≡ front ++ after) × IsShortest kind front × BreaksFirst kind cause front
+NamesFirstBroken = (kind : Kind) (text : List ℕ) (cause : Garble) (after : List ℕ)
+    → found kind text ≡ Broken cause after
+    → (front : List ℕ) × (text ≡ front ++ after) × IsShortest kind front
+    × BreaksFirst kind cause front

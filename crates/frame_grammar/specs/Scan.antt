@@ -1,4 +1,5 @@
--- Inside: what the parts of the scan say of what stands at the front of a text; no clause of run rests on it.
+-- Inside: what the parts of the scan say of what stands at the front of a text; no clause of run
+-- rests on it.
 use Rattle.std.specs.Prelude.{◌≡◌, ℕ, ◌+◌, ◌<◌, ◌≤◌, List, [], ◌∷◌, ◌++◌, length, take, drop, slice_range}
 use Rattle.std.specs.Prelude.{Ok, Err}
 use Rattle.std.specs.declared.result.Result.{Result}
@@ -24,11 +25,14 @@ abbrev pub ReadsLength : Result Length Stop → List ℕ → Type 0
 ReadsLength (Ok length_field) bytes = (length_field.digits < length bytes)
     × (bytes ≡ take length_field.digits bytes ++ SOH ∷ drop (length_field.digits + 1) bytes)
     × ((start : List ℕ) → found_length start [] bytes
-    ≡ found_said start (take length_field.digits bytes) length_field.said (drop (length_field.digits + 1) bytes))
+    ≡ found_said start (take length_field.digits bytes) length_field.said
+    (drop (length_field.digits + 1) bytes))
 ReadsLength (Err stop) bytes = (start : List ℕ) → IsStop stop (found_length start [] bytes)
 
 -- what a whole scan, or its end, found in a text
 abbrev pub IsFound : Result Front Stop → List ℕ → Found → Type 0
-IsFound (Ok front) bytes f = (front.body.start + front.body.len ≤ front.end) × (front.end ≤ length bytes)
-    × (f ≡ Whole (slice_range bytes front.body.start (front.body.start + front.body.len)) (drop front.end bytes))
+IsFound (Ok front) bytes f = (front.body.start + front.body.len ≤ front.end)
+    × (front.end ≤ length bytes)
+    × (f ≡ Whole (slice_range bytes front.body.start (front.body.start + front.body.len))
+    (drop front.end bytes))
 IsFound (Err stop) bytes f = IsStop stop f

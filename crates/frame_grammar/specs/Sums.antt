@@ -4,4 +4,5 @@ use Rattle.frame_grammar.specs.declared.buffer.TheConstants.{BLOCK}
 
 -- the k-th is the sum of the first k blocks of bytes, modulo 256, as far as they go
 abbrev pub AreSums : List ℕ → List ℕ → Type 0
-AreSums bytes sums = (k : ℕ) → BLOCK * k ≤ length bytes → slice_index sums k ≡ sum (take (BLOCK * k) bytes) % 256
+AreSums bytes sums = (k : ℕ) → BLOCK * k ≤ length bytes
+    → slice_index sums k ≡ sum (take (BLOCK * k) bytes) % 256

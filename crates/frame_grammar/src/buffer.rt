@@ -152,7 +152,8 @@ fn add_sums(bytes: &[u8], sums: &mut [u8], from: usize)
     requires room { length sums.old ≡ SUMS }
     requires most { length bytes.now ≤ CAPACITY }
     requires within { BLOCK * from ≤ length bytes.now }
-    requires right { (k : ℕ) → k ≤ from → slice_index sums.old k ≡ sum (take (BLOCK * k) bytes.now) % 256 }
+    requires right { (k : ℕ) → k ≤ from
+        → slice_index sums.old k ≡ sum (take (BLOCK * k) bytes.now) % 256 }
     ensures { AreSums bytes.now sums.new }
 {
     for block in from..bytes.len() / BLOCK {

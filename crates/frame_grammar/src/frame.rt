@@ -40,7 +40,8 @@ pub enum Garble {
     LengthField,
     /// BodyLength(9), which is given, is at most 8,192.
     TooLong(u32),
-    /// The body begins with `35=`, a type of at least one byte and SOH, and has at least five bytes.
+    /// The body begins with `35=`, a type of at least one byte and SOH, and has at least five
+    /// bytes.
     TypeField,
     /// The body's last byte is SOH, and then come `10=`, three digits and SOH.
     Trailer,

@@ -20,13 +20,13 @@ pub const LEAST_ROOM: usize = 8000;
 
 /// Cuts a stream of bytes into frames and garbled pieces, whatever the parts in which it comes.
 ///
-/// It has one buffer of 16,384 bytes, and keeps no history. Contracts see what it holds as a `Held`:
-/// which streams and answered pieces that stands for is `StandsFor`, and the clauses of each call hold
-/// for every such stream and list.
+/// It has one buffer of 16,384 bytes, and keeps no history. Contracts see what it holds as a
+/// `Held`: which streams and answered pieces that stands for is `StandsFor`, and the clauses of
+/// each call hold for every such stream and list.
 ///
 /// Fed in parts of 4,096 bytes, it looks at each byte a small number of times and moves it a small
-/// number of times, whatever comes: a frame is scanned once in each part that it comes in, a sum looks
-/// at no more than 128 bytes, and what is garbled is dropped as it is searched.
+/// number of times, whatever comes: a frame is scanned once in each part that it comes in, a sum
+/// looks at no more than 128 bytes, and what is garbled is dropped as it is searched.
 #[derive(Drop)]
 pub struct Framer {
     kind: Kind,
@@ -77,11 +77,11 @@ impl Framer {
         self.lost = None;
     }
 
-    /// Appends a front of the piece to the stream, and answers how many bytes: all of them where there
-    /// is room.
+    /// Appends a front of the piece to the stream, and answers how many bytes: all of them where
+    /// there is room.
     ///
-    /// There is room for 16,384 bytes less those that are unread; after `new`, `restart` and `More` for
-    /// 8,000 at least.
+    /// There is room for 16,384 bytes less those that are unread; after `new`, `restart` and `More`
+    /// for 8,000 at least.
     pub fn feed(&mut self, piece: &[u8]) -> usize
         ensures taken { result ≡ min (length piece.now) (room self.old) }
         // What was read may have left the buffer.
@@ -89,7 +89,8 @@ impl Framer {
           read = self.new.read;
           unread = self.old.unread ++ take result piece.now;
         } }
-        ensures stands { (stream : List ℕ) (answered : List Piece) → StandsFor self.old stream answered →
+        ensures stands { (stream : List ℕ) (answered : List Piece) →
+            StandsFor self.old stream answered →
             StandsFor self.new (stream ++ take result piece.now) answered }
     {
         let count = piece.len().min(self.room());
@@ -106,7 +107,10 @@ impl Framer {
 
     fn append(&mut self, bytes: &[u8])
         requires { length bytes.now ≤ room self.old }
-        ensures { self.new ≡ record self.old { read = self.new.read; unread = self.old.unread ++ bytes.now } }
+        ensures { self.new ≡ record self.old {
+          read = self.new.read;
+          unread = self.old.unread ++ bytes.now;
+        } }
     {
         self.buffer.append(bytes);
     }
@@ -126,9 +130,11 @@ impl Framer {
         self.lost = lost;
     }
 
-    /// The next piece of the stream, or `More` exactly where each piece that has come whole was answered.
+    /// The next piece of the stream, or `More` exactly where each piece that has come whole was
+    /// answered.
     pub fn next(&mut self) -> Next
-        ensures answers { (stream : List ℕ) (answered : List Piece) → StandsFor self.old stream answered →
+        ensures answers { (stream : List ℕ) (answered : List Piece) →
+            StandsFor self.old stream answered →
             Answers result self.new stream answered }
         ensures kind { self.new.kind ≡ self.old.kind }
         ensures part { HoldsPart result self.new }
@@ -176,14 +182,15 @@ impl Framer {
         }
     }
 
-    // The unread bytes go on with a garbled piece, which does not end in the first `from` of them. Of a
-    // piece whose end has not come all is dropped but what may be the front of `8=FIX`.
+    // The unread bytes go on with a garbled piece, which does not end in the first `from` of them.
+    // Of a piece whose end has not come all is dropped but what may be the front of `8=FIX`.
     fn next_garbled(&mut self, lost: Lost, from: usize) -> Next
         requires { from ≤ length self.old.unread }
         ensures ended { MatchOption (start_in (drop from self.old.unread))
             (result ≡ Next.More) (λ k. result ≡ found_by lost (from + k)) }
         ensures after { MatchOption (start_in (drop from self.old.unread))
-            (self.new ≡ lost_by lost (length self.old.unread - min 4 (length self.old.unread - from)) self.old)
+            (self.new ≡ lost_by lost
+            (length self.old.unread - min 4 (length self.old.unread - from)) self.old)
             (λ k. self.new ≡ record (past (from + k) self.old) { lost = None }) }
     {
         let unread = self.buffer.unread();
@@ -221,8 +228,9 @@ impl Framer {
 
     /// How the stream ends if nothing follows, once `next` has answered `More`.
     pub fn finish(&self) -> Rest
-        ensures { (stream rest : List ℕ) (answered : List Piece) → StandsFor self.now stream answered →
-            Cut self.now.kind stream answered rest → EndsIn result self.now.kind (place_after answered) rest }
+        ensures { (stream rest : List ℕ) (answered : List Piece) →
+            StandsFor self.now stream answered → Cut self.now.kind stream answered rest →
+            EndsIn result self.now.kind (place_after answered) rest }
     {
         let unread = self.buffer.unread();
         if let Some(lost) = self.lost {

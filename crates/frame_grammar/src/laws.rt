@@ -1,5 +1,5 @@
-//! Laws of frames and of the pieces of a stream, over the definitions alone. Each law is a contract: its
-//! function does nothing.
+//! Laws of frames and of the pieces of a stream, over the definitions alone. Each law is a
+//! contract: its function does nothing.
 ghost use Rattle.std.specs.Prelude.{◌≡◌, ◌++◌, List, ℕ};
 ghost use Rattle.std.specs.List.{flat_map};
 ghost use Rattle.frame_grammar.specs.declared.frame.Kind.{Kind};
@@ -16,7 +16,8 @@ pub fn pieces_stay()
     ensures join { (kind : Kind) (s t : List ℕ) (ps qs : List Piece) (rest end : List ℕ) →
         Cut kind s ps rest → Cut kind (rest ++ t) qs end → Cut kind (s ++ t) (ps ++ qs) end }
     // A stream has pieces, and one list of them.
-    ensures some { (kind : Kind) (s : List ℕ) → (ps : List Piece) × (rest : List ℕ) × Cut kind s ps rest }
+    ensures some { (kind : Kind) (s : List ℕ) → (ps : List Piece) × (rest : List ℕ)
+        × Cut kind s ps rest }
     ensures one { (kind : Kind) (s : List ℕ) (ps qs : List Piece) (rest end : List ℕ) →
         Cut kind s ps rest → Cut kind s qs end → (ps ≡ qs) × (rest ≡ end) }
     // The pieces and what is left are the stream.
@@ -32,14 +33,14 @@ pub fn frames_are_found()
     ensures first { BeginsNoOther }
 {}
 
-/// What is broken has a shortest front that no frame goes on from, and the cause is the first rule that
-/// the last byte of that front breaks.
+/// What is broken has a shortest front that no frame goes on from, and the cause is the first rule
+/// that the last byte of that front breaks.
 pub fn the_first_broken_rule_is_named()
     ensures { NamesFirstBroken }
 {}
 
-/// Less than a frame is a front of one. Or it ends in the digits of BodyLength, which are judged once
-/// SOH has ended them.
+/// Less than a frame is a front of one. Or it ends in the digits of BodyLength, which are judged
+/// once SOH has ended them.
 pub fn less_than_a_frame_is_awaited()
     ensures { (kind : Kind) (text : List ℕ) → found kind text ≡ Short → IsAwaited kind text }
 {}

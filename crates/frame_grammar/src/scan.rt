@@ -105,7 +105,8 @@ fn scan_body(buffer: &Buffer, start: usize, said: usize) -> Result<Front, Stop>
 
 // The rule that the last byte of a body breaks that is no SOH: the type's where no SOH ended that.
 fn open_body(behind: &[u8]) -> Garble
-    ensures { result ≡ (if list_any (λ b. b == SOH) behind.now then Garble.Trailer else Garble.TypeField) }
+    ensures { result ≡
+        (if list_any (λ b. b == SOH) behind.now then Garble.Trailer else Garble.TypeField) }
 {
     if behind.contains(&SOH) {
         Garble::Trailer
@@ -118,7 +119,8 @@ fn open_body(behind: &[u8]) -> Garble
 fn scan_trailer(buffer: &Buffer, end: usize) -> Result<(), Stop>
     requires within { end ≤ length buffer.now.unread }
     ensures leads { (before body : List ℕ) → before ++ body ≡ take end buffer.now.unread →
-        Leads result (found_trailer before body (drop end buffer.now.unread)) (Whole body (drop (end + 7) buffer.now.unread)) }
+        Leads result (found_trailer before body (drop end buffer.now.unread))
+        (Whole body (drop (end + 7) buffer.now.unread)) }
     ensures came { OnOk result (end + 7 ≤ length buffer.now.unread) }
 {
     let bytes = buffer.unread();
@@ -146,7 +148,8 @@ fn expect_text(text: &[u8], bytes: &[u8], rule: Garble) -> Result<(), Stop>
 // These digits of CheckSum have to come.
 fn expect_sum(digits: &[u8], bytes: &[u8]) -> Result<(), Stop>
     ensures leads { (go : List ℕ → Found) →
-        Leads result (expect_sum digits.now go bytes.now) (go (drop (length digits.now) bytes.now)) }
+        Leads result (expect_sum digits.now go bytes.now)
+        (go (drop (length digits.now) bytes.now)) }
     ensures came { OnOk result (length digits.now ≤ length bytes.now) }
 {
     for (place, want) in digits.iter().enumerate() {

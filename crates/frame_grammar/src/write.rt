@@ -9,10 +9,12 @@ use crate::{FrameError, Kind};
 use itoa::Buffer;
 use std::alloc::AllocError;
 
-// Appends the frame of a body, whose length these digits say. It leaves what was there at the front.
+// Appends the frame of a body, whose length these digits say. It leaves what was there at the
+// front.
 fn append(kind: Kind, digits: &[u8], body: &[u8], out: &mut Vec<u8>) -> Result<(), AllocError>
     ensures ok { OnOk result (out.new.items ≡
-        out.old.items ++ (front kind digits.now body.now ++ trailer (front kind digits.now body.now))) }
+        out.old.items ++
+        (front kind digits.now body.now ++ trailer (front kind digits.now body.now))) }
     ensures kept { take (length out.old.items) out.new.items ≡ out.old.items }
 {
     let start = out.len();
@@ -30,8 +32,8 @@ fn append(kind: Kind, digits: &[u8], body: &[u8], out: &mut Vec<u8>) -> Result<(
 ///
 /// # Errors
 ///
-/// `TooLong` exactly where the body has more than 8,192 bytes; `NoMemory` without memory for the frame,
-/// which has at most 8,219 bytes. After an error `out` is as before.
+/// `TooLong` exactly where the body has more than 8,192 bytes; `NoMemory` without memory for the
+/// frame, which has at most 8,219 bytes. After an error `out` is as before.
 pub fn write_frame(kind: Kind, body: &[u8], out: &mut Vec<u8>) -> Result<(), FrameError>
     requires { IsWritable body.now }
     ensures ok { OnOk result (out.new.items ≡ out.old.items ++ frame_of kind body.now) }

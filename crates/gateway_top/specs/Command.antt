@@ -13,8 +13,11 @@ command_of (word ∷ []) =
     else if bytes_eq word (codes "--version") then Some Version
     else None
 command_of (first ∷ second ∷ []) =
-    if bytes_eq first (codes "translate") && bytes_eq second (codes "up") then Some (Stream TranslateUp)
-    else if bytes_eq first (codes "check") && bytes_eq second (codes "client") then Some (Stream CheckClient)
-    else if bytes_eq first (codes "check") && bytes_eq second (codes "venue") then Some (Stream CheckVenue)
+    if bytes_eq first (codes "translate") && bytes_eq second (codes "up")
+    then Some (Stream TranslateUp)
+    else if bytes_eq first (codes "check") && bytes_eq second (codes "client")
+    then Some (Stream CheckClient)
+    else if bytes_eq first (codes "check") && bytes_eq second (codes "venue")
+    then Some (Stream CheckVenue)
     else None
 command_of words = None

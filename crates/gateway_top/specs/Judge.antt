@@ -13,20 +13,23 @@ use Rattle.gateway_top.specs.Task.{has_ended, first_of}
 use Rattle.gateway_top.specs.declared.task.Task.{Task}
 use Rattle.gateway_top.specs.declared.task.Task.TheVariants.{TranslateUp}
 
--- What a task writes for a piece that comes behind others, and where that piece begins if it is refused.
--- A translation is written for a plain order, and any other piece is refused. A check writes a line for
--- each piece, and refuses those that are garbled.
+-- What a task writes for a piece that comes behind others, and where that piece begins if it is
+-- refused. A translation is written for a plain order, and any other piece is refused. A check
+-- writes a line for each piece, and refuses those that are garbled.
 abbrev pub Judges : Task → List Piece → Piece → Option ℕ → List ℕ → Type 0
 Judges TranslateUp before (Good body bytes) None said = IsPlain body × IsTranslation body said
-Judges TranslateUp before (Good body bytes) (Some at) said = (¬ IsPlain body) × (at ≡ place_after before) × (said ≡ [])
-Judges TranslateUp before (Bad cause bytes) refused said = (refused ≡ Some (place_after before)) × (said ≡ [])
+Judges TranslateUp before (Good body bytes) (Some at) said = (¬ IsPlain body)
+    × (at ≡ place_after before) × (said ≡ [])
+Judges TranslateUp before (Bad cause bytes) refused said = (refused ≡ Some (place_after before))
+    × (said ≡ [])
 Judges task before (Good body bytes) refused said =
     (refused ≡ None) × (said ≡ frame_line (place_after before) (length bytes) body)
 Judges task before (Bad cause bytes) refused said =
-    (refused ≡ Some (place_after before)) × (said ≡ garbled_line (place_after before) (capped (length bytes)) cause)
+    (refused ≡ Some (place_after before))
+    × (said ≡ garbled_line (place_after before) (capped (length bytes)) cause)
 
--- what a task writes for pieces that come behind others, and where the first of them that it refuses
--- begins
+-- what a task writes for pieces that come behind others, and where the first of them that it
+-- refuses begins
 abbrev pub JudgesAll : Task → List Piece → List Piece → Option ℕ → List ℕ → Type 0
 JudgesAll task before [] refused said = (refused ≡ None) × (said ≡ [])
 JudgesAll task before (piece ∷ pieces) refused said =

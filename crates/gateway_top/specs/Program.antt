@@ -1,4 +1,5 @@
--- Own: what a run of the program did, by the status with which it ended; docs/DECISIONS.md, "Commands".
+-- Own: what a run of the program did, by the status with which it ended; docs/DECISIONS.md,
+-- "Commands".
 use Rattle.std.specs.Prelude.{◌≡◌, ℕ, ◌+◌, ◌≤◌, Bool, true, false, List, [], ◌++◌, length, take, ◌⊎◌, Some, None}
 use Rattle.std.specs.declared.option.Option.{Option}
 use Rattle.std.specs.Io.KnownBytes.{Appends, Consumes, Keeps, IsAtEnd}
@@ -15,8 +16,8 @@ use Rattle.gateway_top.specs.declared.task.Task.{Task}
 use Rattle.gateway_top.specs.declared.status.Status.{Status}
 use Rattle.gateway_top.specs.declared.status.Status.TheVariants.{Done, Refused, Usage, InputFault, OutputFault, NoMemory, InputTooLong}
 
--- The task has judged every piece that stands whole in these bytes, and has not ended: of those that it
--- refused the first begins here, and this is what it said.
+-- The task has judged every piece that stands whole in these bytes, and has not ended: of those
+-- that it refused the first begins here, and this is what it said.
 pub record Waits (task : Task) (bytes : List ℕ) (refused : Option ℕ) (said : List ℕ) : Type 0 where
   pub pieces : List Piece
   pub rest : List ℕ
@@ -24,9 +25,9 @@ pub record Waits (task : Task) (bytes : List ℕ) (refused : Option ℕ) (said :
   pub judges : JudgesAll task [] pieces refused said
   pub going : has_ended task refused ≡ false
 
--- The task has ended at a piece that stands whole in these bytes, which is the first that it refused and
--- begins here. Before the last read, of 4,096 bytes at most, it had judged every piece that stood whole,
--- and had not ended.
+-- The task has ended at a piece that stands whole in these bytes, which is the first that it
+-- refused and begins here. Before the last read, of 4,096 bytes at most, it had judged every piece
+-- that stood whole, and had not ended.
 pub record Stopped (task : Task) (bytes : List ℕ) (at : ℕ) (said : List ℕ) : Type 0 where
   pub pieces : List Piece
   pub left : List ℕ
@@ -35,10 +36,11 @@ pub record Stopped (task : Task) (bytes : List ℕ) (at : ℕ) (said : List ℕ)
   pub stops : stops task ≡ true
   pub before : ℕ
   pub near : length bytes ≤ before + MAX_READ
-  pub waited : (refused : Option ℕ) × (earlier : List ℕ) × Waits task (take before bytes) refused earlier
+  pub waited : (refused : Option ℕ) × (earlier : List ℕ)
+      × Waits task (take before bytes) refused earlier
 
--- The task has judged every piece of these bytes, after which the input ends, and said how they end. The
--- first piece that it refused, or the unfinished one at the end, begins here.
+-- The task has judged every piece of these bytes, after which the input ends, and said how they
+-- end. The first piece that it refused, or the unfinished one at the end, begins here.
 pub record Finished (task : Task) (bytes : List ℕ) (found : Option ℕ) (said : List ℕ) : Type 0 where
   pub pieces : List Piece
   pub rest : List ℕ
@@ -59,13 +61,17 @@ Said task bytes left said =
     (((at : ℕ) × Stopped task bytes at said) ⊎
     (IsAtEnd left × ((found : Option ℕ) × Finished task bytes found said)))
 
--- At this status of a task, which took these bytes of the input and left those, the sink went from old to new.
-abbrev pub Ran : Task → Status → List ℕ → Option (List ℕ) → Option (List ℕ) → Option (List ℕ) → Type 0
+-- At this status of a task, which took these bytes of the input and left those, the sink went from
+-- old to new.
+abbrev pub Ran : Task → Status → List ℕ → Option (List ℕ) → Option (List ℕ) → Option (List ℕ)
+    → Type 0
 Ran task Done taken left old new =
-    (length taken ≤ MAX_INPUT) × IsAtEnd left × ((said : List ℕ) × Finished task taken None said × Appends old new said)
+    (length taken ≤ MAX_INPUT) × IsAtEnd left × ((said : List ℕ) × Finished task taken None said
+    × Appends old new said)
 Ran task (Refused at) taken left old new =
     (length taken ≤ MAX_INPUT) × ((said : List ℕ) ×
-    (Stopped task taken at said ⊎ (IsAtEnd left × Finished task taken (Some at) said)) × Appends old new said)
+    (Stopped task taken at said ⊎ (IsAtEnd left × Finished task taken (Some at) said))
+    × Appends old new said)
 Ran task Usage taken left old new = ⊥
 -- one byte more than an input may have was taken, and is not judged
 Ran task InputTooLong taken left old new =
@@ -75,7 +81,8 @@ Ran task InputFault taken left old new =
     (length taken ≤ MAX_INPUT) × ((refused : Option ℕ) × (said : List ℕ) ×
     Waits task taken refused said × Appends old new said)
 Ran task OutputFault taken left old new =
-    (length taken ≤ MAX_INPUT) × ((said : List ℕ) × Said task taken left said × AppendsFront old new said)
+    (length taken ≤ MAX_INPUT) × ((said : List ℕ) × Said task taken left said
+    × AppendsFront old new said)
 -- of the bytes that were taken, some at the end may not have been judged
 Ran task NoMemory taken left old new =
     (length taken ≤ MAX_INPUT) × ((n : ℕ) × (refused : Option ℕ) × (said : List ℕ) ×

@@ -23,8 +23,8 @@ status_line OutputFault = codes "output fault"
 status_line NoMemory = codes "out of memory"
 status_line InputTooLong = codes "input too long"
 
--- what goes to standard error at the end: nothing where the command was done, else the program's name
--- and the status
+-- what goes to standard error at the end: nothing where the command was done, else the program's
+-- name and the status
 abbrev pub last_words : Status → List ℕ
 last_words Done = []
 last_words status = codes "fixgate: " ++ status_line status ++ LF ∷ []

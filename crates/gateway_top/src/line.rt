@@ -25,8 +25,8 @@ fn type_in(body: &[u8]) -> &[u8]
     }
 }
 
-/// What is said of a message of a type: those of the session are known, and no other is read yet. It
-/// ends the line.
+/// What is said of a message of a type: those of the session are known, and no other is read yet.
+/// It ends the line.
 fn result_of(msg_type: &[u8]) -> &'static [u8]
     ensures { result.now ≡ result_of msg_type.now }
 {

@@ -6,6 +6,7 @@ ghost use Rattle.outside.specs.Bytes.{AppendsFront};
 ghost use Rattle.outside.specs.Causes.{HasCause, Rose};
 ghost use Rattle.frame_grammar.specs.Cut.{Piece, Cut, Good, Bad};
 ghost use Rattle.frame_grammar.specs.Framer.{StandsFor, EndsIn, place_after};
+ghost use Rattle.frame_grammar.specs.declared.framer.TheConstants.{LEAST_ROOM};
 ghost use Rattle.frame_grammar.specs.declared.pieces.Rest.{Rest};
 ghost use Rattle.frame_grammar.specs.Held.{fresh, room, capped};
 ghost use Rattle.gateway_top.specs.Judge.{Judges, JudgesAll, end_said, unfinished};
@@ -59,9 +60,11 @@ impl Pass {
     // Writes what the task says of a frame, and answers the place of that where it is refused.
     fn frame(&mut self, at: u64, len: u32, body: Span) -> Result<Option<u64>, AllocError>
         requires { body.start + body.len ≤ length self.old.framer.read }
-        ensures said { IfOk result (λ refused. (before : List Piece) (bytes : List ℕ) → at ≡ place_after before → len ≡ length bytes →
-            (said : List ℕ) × (self.new.text.items ≡ self.old.text.items ++ said) × Judges self.old.task before
-            (Good (slice_range self.old.framer.read body.start (body.start + body.len)) bytes) refused said) }
+        ensures said { IfOk result (λ refused. (before : List Piece) (bytes : List ℕ) →
+            at ≡ place_after before → len ≡ length bytes →
+            let body = slice_range self.old.framer.read body.start (body.start + body.len) in
+            (said : List ℕ) × (self.new.text.items ≡ self.old.text.items ++ said) ×
+            Judges self.old.task before (Good body bytes) refused said) }
         ensures task { self.new.task ≡ self.old.task }
         ensures framer { self.new.framer ≡ self.old.framer }
         ensures refused { self.new.refused ≡ self.old.refused }
@@ -82,7 +85,8 @@ impl Pass {
 
     // Writes what the task says of a garbled piece, which is refused.
     fn garbled(&mut self, at: u64, len: u64, cause: Garble) -> Result<(), AllocError>
-        ensures said { OnOk result ((before : List Piece) (bytes : List ℕ) → at ≡ place_after before → len ≡ capped (length bytes) →
+        ensures said { OnOk result ((before : List Piece) (bytes : List ℕ) →
+            at ≡ place_after before → len ≡ capped (length bytes) →
             (said : List ℕ) × (self.new.text.items ≡ self.old.text.items ++ said) ×
             Judges self.old.task before (Bad cause bytes) (Some at) said) }
         ensures task { self.new.task ≡ self.old.task }
@@ -98,12 +102,15 @@ impl Pass {
     // Judges each piece that has come whole, up to the one at which the task ends.
     fn catch_up(&mut self) -> Result<(), AllocError>
         ensures judged { OnOk result ((stream : List ℕ) (answered : List Piece) (before : List ℕ) →
-            StandsFor self.old.framer stream answered → has_ended self.old.task self.old.refused ≡ false →
+            StandsFor self.old.framer stream answered →
+            has_ended self.old.task self.old.refused ≡ false →
             JudgesAll self.old.task [] answered self.old.refused before →
-            CaughtUp self.old.task self.new.framer stream answered self.new.refused before self.old.text.items self.new.text.items) }
+            CaughtUp self.old.task self.new.framer stream answered self.new.refused before
+            self.old.text.items self.new.text.items) }
         ensures task { self.new.task ≡ self.old.task }
         ensures kind { self.new.framer.kind ≡ self.old.framer.kind }
-        ensures room { OnOk result (has_ended self.old.task self.new.refused ≡ false → 8000 ≤ room self.new.framer) }
+        ensures room { OnOk result (has_ended self.old.task self.new.refused ≡ false
+            → LEAST_ROOM ≤ room self.new.framer) }
     {
         while !self.task.has_ended(self.refused) {
             match self.framer.next() {
@@ -121,25 +128,29 @@ impl Pass {
         Ok(())
     }
 
-    /// Feeds the next bytes of the stream, judges each piece that has come whole, and puts what is said
-    /// of them.
+    /// Feeds the next bytes of the stream, judges each piece that has come whole, and puts what is
+    /// said of them.
     pub(crate) fn take<O: Sink>(&mut self, bytes: &[u8], out: &mut O) -> Result<(), Stop>
         requires { length bytes.now ≤ room self.old.framer }
         ensures judged { OnOk result (Advances self.old.task self.old.framer self.new.framer
             self.old.refused self.new.refused bytes.now self.new.text.items) }
-        ensures put { OnOk result (Appends (O.bytes out.old) (O.bytes out.new) self.new.text.items) }
-        ensures fault { IsErrOf result Stop.OutputFault → Advances self.old.task self.old.framer self.new.framer
+        ensures put { OnOk result
+            (Appends (O.bytes out.old) (O.bytes out.new) self.new.text.items) }
+        ensures fault { IsErrOf result Stop.OutputFault
+            → Advances self.old.task self.old.framer self.new.framer
             self.old.refused self.new.refused bytes.now self.new.text.items }
         ensures fault_put { IsErrOf result Stop.OutputFault →
             AppendsFront (O.bytes out.old) (O.bytes out.new) self.new.text.items }
-        ensures fault_cause { IsErrOf result Stop.OutputFault → Rose (O.faults out.old) (O.faults out.new) }
+        ensures fault_cause { IsErrOf result Stop.OutputFault
+            → Rose (O.faults out.old) (O.faults out.new) }
         ensures memory { IsErrOf result Stop.NoMemory → Keeps (O.bytes out.old) (O.bytes out.new) }
         ensures later { O.faults out.old ≤ O.faults out.new }
         ensures still { OnOk result (O.faults out.new ≡ O.faults out.old) }
         ensures memory_still { IsErrOf result Stop.NoMemory → O.faults out.new ≡ O.faults out.old }
         ensures task { self.new.task ≡ self.old.task }
         ensures kind { self.new.framer.kind ≡ self.old.framer.kind }
-        ensures still_room { OnOk result (has_ended self.old.task self.new.refused ≡ false → 8000 ≤ room self.new.framer) }
+        ensures still_room { OnOk result (has_ended self.old.task self.new.refused ≡ false
+            → LEAST_ROOM ≤ room self.new.framer) }
     {
         self.framer.feed(bytes);
         self.text.clear();
@@ -155,15 +166,18 @@ impl Pass {
     /// Where the piece begins at which the task has ended, if it has.
     pub(crate) fn ended_at(&self) -> Option<u64>
         ensures none { IfNone result (has_ended self.now.task self.now.refused ≡ false) }
-        ensures some { IfSome result (λ at. (self.now.refused ≡ Some at) × (stops self.now.task ≡ true)) }
+        ensures some { IfSome result (λ at. (self.now.refused ≡ Some at)
+            × (stops self.now.task ≡ true)) }
     {
         self.task.ended_at(self.refused)
     }
 
     /// Puts what the task says of the end of the input, and answers how the run ended.
     pub(crate) fn end<O: Sink>(&mut self, out: &mut O) -> Status
-        ensures ends { (stream rest : List ℕ) (answered : List Piece) → StandsFor self.old.framer stream answered →
-            Cut self.old.framer.kind stream answered rest → (end : Rest) × EndsIn end self.old.framer.kind (place_after answered) rest ×
+        ensures ends { (stream rest : List ℕ) (answered : List Piece) →
+            StandsFor self.old.framer stream answered →
+            Cut self.old.framer.kind stream answered rest →
+            (end : Rest) × EndsIn end self.old.framer.kind (place_after answered) rest ×
             Ends self.old.task end self.old.refused result (O.bytes out.old) (O.bytes out.new) }
         ensures later { O.faults out.old ≤ O.faults out.new }
         ensures fault { result ≡ Status.OutputFault → Rose (O.faults out.old) (O.faults out.new) }

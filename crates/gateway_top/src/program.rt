@@ -48,7 +48,8 @@ const VERSION: &str = "fixgate 0.1.0\n";
 /// Writes a text.
 fn write_text<O: Sink>(out: &mut O, text: &str) -> Status
     ensures wrote { Wrote result text.now (O.bytes out.old) (O.bytes out.new) }
-    ensures output_fault { result ≡ Status.OutputFault → Rose (O.faults out.old) (O.faults out.new) }
+    ensures output_fault { result ≡ Status.OutputFault
+        → Rose (O.faults out.old) (O.faults out.new) }
     ensures output_still { result ≢ Status.OutputFault → O.faults out.new ≡ O.faults out.old }
 {
     match put_text(out, text.as_bytes()) {
@@ -57,14 +58,14 @@ fn write_text<O: Sink>(out: &mut O, text: &str) -> Status
     }
 }
 
-/// Does what the words of the command line ask for: reads `input`, which has not told its end, writes to
-/// `out`, and says how that ended. No read follows the end of the input.
+/// Does what the words of the command line ask for: reads `input`, which has not told its end,
+/// writes to `out`, and says how that ended. No read follows the end of the input.
 ///
-/// The clauses on the content of the input and the output hold where the source and the sink tell it.
-/// [`Status::Usage`] comes exactly where the words are none of the forms, and then nothing was read or
-/// put. [`Status::InputFault`] and [`Status::OutputFault`] come exactly where the source or the sink
-/// counted a fault in this call, but for a count that stands at its last value. Each other status says
-/// of the input what it is named for, and what was put.
+/// The clauses on the content of the input and the output hold where the source and the sink tell
+/// it. [`Status::Usage`] comes exactly where the words are none of the forms, and then nothing was
+/// read or put. [`Status::InputFault`] and [`Status::OutputFault`] come exactly where the source or
+/// the sink counted a fault in this call, but for a count that stands at its last value. Each other
+/// status says of the input what it is named for, and what was put.
 pub fn run<I: Source, O: Sink>(
     alloc: Global,
     words: &[String],
@@ -84,8 +85,10 @@ pub fn run<I: Source, O: Sink>(
     ensures to_the_end { MatchOption (command_of (map string_bytes words.now)) (Unit {0})
         (λ command. ReadsToEnd command result (I.ended input.new)) }
 
-    ensures input_fault { result ≡ Status.InputFault → Rose (I.faults input.old) (I.faults input.new) }
-    ensures output_fault { result ≡ Status.OutputFault → Rose (O.faults out.old) (O.faults out.new) }
+    ensures input_fault { result ≡ Status.InputFault
+        → Rose (I.faults input.old) (I.faults input.new) }
+    ensures output_fault { result ≡ Status.OutputFault
+        → Rose (O.faults out.old) (O.faults out.new) }
     // A fault that was counted is told.
     ensures input_still { result ≢ Status.InputFault → I.faults input.new ≡ I.faults input.old }
     ensures output_still { result ≢ Status.OutputFault → O.faults out.new ≡ O.faults out.old }

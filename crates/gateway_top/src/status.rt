@@ -59,8 +59,8 @@ pub fn code(status: &Status) -> u8
     }
 }
 
-/// How the program ends: the code with which it exits, and what it prints to standard error, which is
-/// its `Display`: nothing where the command was done, else a line with the status.
+/// How the program ends: the code with which it exits, and what it prints to standard error, which
+/// is its `Display`: nothing where the command was done, else a line with the status.
 #[derive(Drop)]
 pub struct End {
     status: Status,

@@ -23,7 +23,8 @@ fn read_some<I: Source>(input: &mut I, buf: &mut [u8], most: usize) -> Result<us
     requires within { most ≤ length buf.old }
     requires going { I.ended input.old ≡ false }
     ensures bound { IfOk result (λ count. count ≤ most) }
-    ensures bytes { IfOk result (λ count. Consumes (I.left input.old) (I.left input.new) (take count buf.new)) }
+    ensures bytes { IfOk result (λ count. Consumes (I.left input.old) (I.left input.new)
+        (take count buf.new)) }
     ensures end { IfOk result (λ count. count ≡ 0 → IsAtEnd (I.left input.new)) }
     ensures ended { IfOk result (λ count. I.ended input.new ≡ (count == 0)) }
     ensures err { OnErr result (Keeps (I.left input.old) (I.left input.new)) }
@@ -45,8 +46,10 @@ pub(crate) fn run_stream<I: Source, O: Sink>(
     ensures ended { result ≡ Status.Done → I.ended input.new ≡ true }
     ensures input_still { result ≢ Status.InputFault → I.faults input.new ≡ I.faults input.old }
     ensures output_still { result ≢ Status.OutputFault → O.faults out.new ≡ O.faults out.old }
-    ensures input_fault { result ≡ Status.InputFault → Rose (I.faults input.old) (I.faults input.new) }
-    ensures output_fault { result ≡ Status.OutputFault → Rose (O.faults out.old) (O.faults out.new) }
+    ensures input_fault { result ≡ Status.InputFault
+        → Rose (I.faults input.old) (I.faults input.new) }
+    ensures output_fault { result ≡ Status.OutputFault
+        → Rose (O.faults out.old) (O.faults out.new) }
 {
     let Ok(mut pass) = Pass::new(alloc, task) else {
         return Status::NoMemory;
