@@ -1,16 +1,18 @@
 -- Less than a frame is a front of one, or ends in the digits of its length.
 use Rattle.std.proofs.Common.{◌≡◌, ◌≢◌, ℕ, zero, suc, ◌+◌, ◌-◌, ◌%◌, ◌<◌, ◌≤◌, Bool, true, false, List, [], ◌∷◌, ◌++◌, length, take, drop, refl, sym, ◌∙◌, ap, subst, arith, append_assoc, append-nil, length-append, length-drop, Some, None, inl, inr, ◌⊎◌, All}
-use Rattle.std.specs.Prelude.{◌==◌, ◌&&◌, nat_lt, nat_le, if◌then◌else◌, slice_get, slice_index, codes, sum, replicate}
+use Rattle.std.specs.Prelude.{◌==◌, ◌&&◌, nat_lt, if◌then◌else◌, slice_get, slice_index, codes, sum, replicate}
 use Rattle.std.specs.declared.option.Option.{Option}
 use Rattle.std.proofs.lemmas.Bool.Decides.{nat_tests}
 use Rattle.std.proofs.lemmas.List.{take_at, take-append-le, drop-append-le}
 use Rattle.std.proofs.lemmas.List.Elements.{All-tail, All-cons}
+use Rattle.std.specs.Char.{is_ascii_digit}
+use Rattle.std.specs.Str.Parse.{digits_value}
 use Rattle.frame_grammar.specs.declared.frame.Kind.{Kind}
 use Rattle.frame_grammar.specs.declared.frame.Kind.TheVariants.{Fix42, Fixt11}
 use Rattle.frame_grammar.specs.declared.frame.Garble.{Garble}
 use Rattle.frame_grammar.specs.declared.frame.Garble.TheVariants.{BeginString, LengthField, TypeField, Trailer}
-use Rattle.frame_grammar.specs.Frame.{opening, three_digits, number_from, trailer, IsDigit, IsBody, IsFrame}
-use Rattle.frame_grammar.specs.Found.{Found, Whole, Short, is_digit, expect, expect_sum, found_trailer, found_last, found_type, found_body, found_said, found_length, found}
+use Rattle.frame_grammar.specs.Frame.{begin_string, opening, three_digits, trailer, IsDigit, IsBody, IsFrame}
+use Rattle.frame_grammar.specs.Found.{Found, Whole, Short, expect, expect_sum, found_trailer, found_last, found_type, found_body, found_said, found_length, found}
 use Rattle.frame_grammar.proofs.Begins.{expect_text, expect_digits, three_digits-digits, found_body-body}
 use Rattle.frame_grammar.proofs.Only.{frame_found}
 use Rattle.frame_grammar.proofs.Starts.{le_or}
@@ -55,9 +57,9 @@ sum_awaits : (text : List ℕ) (go : List ℕ → Found) → All IsDigit text �
 sum_awaits [] go each h start bytes is = h bytes is
 sum_awaits (t ∷ text) go each h start [] is = ((t ∷ text) ++ start.0, start.1, expect_digits (t ∷ text) start.0 go each ∙ start.2)
 sum_awaits (t ∷ text) go each h start (b ∷ bytes) is =
-    if_short (GoesOn (expect_sum (t ∷ text) go) (b ∷ bytes)) (is_digit b) _ _ is
+    if_short (GoesOn (expect_sum (t ∷ text) go) (b ∷ bytes)) (is_ascii_digit b) _ _ is
     (λ digit chosen. if_short (GoesOn (expect_sum (t ∷ text) go) (b ∷ bytes)) (b == t) _ _ chosen
-    (λ same short. let more = sum_awaits text go (All-tail IsDigit t text each) h start bytes short in (more.0, more.1, if_true (is_digit b) _ _ digit ∙ if_true (b == t) _ _ same ∙ more.2))
+    (λ same short. let more = sum_awaits text go (All-tail IsDigit t text each) h start bytes short in (more.0, more.1, if_true (is_ascii_digit b) _ _ digit ∙ if_true (b == t) _ _ same ∙ more.2))
     (λ _ broken. absurd (cc broken))) (λ _ broken. absurd (cc broken))
 
 module _ (before body : List ℕ) where
@@ -236,24 +238,18 @@ and_second : (c d : Bool) → (c && d) ≡ true → d ≡ true
 and_second true d is = is
 and_second false d is = absurd (cc is)
 
-digit_is : (b : ℕ) → is_digit b ≡ true → IsDigit b
-digit_is b is =
-    let low = and_first (nat_le 48 b) (nat_le b 57) is in
-    let high = and_second (nat_le 48 b) (nat_le b 57) is in
-    ((let l : 48 ≤ b = grind (arith, nat_tests, low) in l), (let h : b ≤ 57 = grind (arith, nat_tests, high) in h))
-
 length_awaits : (start seen bytes : List ℕ) → length seen ≤ 7 → found_length start seen bytes ≡ Short → GoesOn (found_length start seen) bytes ⊎ (All IsDigit bytes × (length seen + length bytes ≤ 7))
 length_awaits start seen [] few is = inr (λ k d h. absurd (omega arith), omega arith)
 length_awaits start seen (b ∷ rest) few is =
     let P : Type 0 = GoesOn (found_length start seen) (b ∷ rest) ⊎ (All IsDigit (b ∷ rest) × (length seen + length (b ∷ rest) ≤ 7)) in
-    if_short P (b == 1) _ _ is (λ soh said. let r = said_awaits start seen (number_from 0 seen) rest said in inl (r.0, r.1, if_true (b == 1) _ _ soh ∙ r.2)) (λ other more.
-    if_short P (is_digit b && nat_lt (length seen) 7) _ _ more (λ both later.
-    let room = and_second (is_digit b) (nat_lt (length seen) 7) both in
+    if_short P (b == 1) _ _ is (λ soh said. let r = said_awaits start seen (digits_value 10 seen) rest said in inl (r.0, r.1, if_true (b == 1) _ _ soh ∙ r.2)) (λ other more.
+    if_short P (is_ascii_digit b && nat_lt (length seen) 7) _ _ more (λ both later.
+    let room = and_second (is_ascii_digit b) (nat_lt (length seen) 7) both in
     let below : length seen < 7 = grind (arith, nat_tests, room) in
     let pushed = length-append seen (b ∷ []) in
     elim (length_awaits start (seen ++ b ∷ []) rest (omega (arith, pushed, below)) later) [
-      | inl r ↦ inl (r.0, r.1, if_false (b == 1) _ _ other ∙ if_true (is_digit b && nat_lt (length seen) 7) _ _ both ∙ r.2)
-      | inr r ↦ inr (All-cons IsDigit b rest (digit_is b (and_first (is_digit b) (nat_lt (length seen) 7) both)) r.0, omega (arith, r.1, pushed))
+      | inl r ↦ inl (r.0, r.1, if_false (b == 1) _ _ other ∙ if_true (is_ascii_digit b && nat_lt (length seen) 7) _ _ both ∙ r.2)
+      | inr r ↦ inr (All-cons IsDigit b rest (and_first (is_ascii_digit b) (nat_lt (length seen) 7) both) r.0, omega (arith, r.1, pushed))
     ]) (λ _ broken. absurd (cc broken)))
 
 -- the digits of a length
@@ -273,7 +269,7 @@ start_found Fixt11 = (codes "5" ++ 1 ∷ codes "35=0" ++ 1 ∷ codes "10=241" ++
 length_found : (kind : Kind) → GoesOn (expect (codes "9=") LengthField (found_length (opening kind) [])) []
 length_found kind = let r = start_found kind in (codes "9=" ++ r.0, r.1, expect_text (codes "9=") r.0 LengthField (found_length (opening kind) []) ∙ r.2)
 
-found_awaits : (kind : Kind) (head : List ℕ) → opening kind ≡ head ++ codes "9=" → take (length (opening kind) - 2) (opening kind) ≡ head → (text : List ℕ) → found kind text ≡ Short
+found_awaits : (kind : Kind) (head : List ℕ) → opening kind ≡ head ++ codes "9=" → begin_string kind ≡ head → (text : List ℕ) → found kind text ≡ Short
     → GoesOn (found kind) text ⊎ ((digits : List ℕ) × (text ≡ opening kind ++ digits) × InDigits digits)
 found_awaits kind head opens taken text is =
     let go2 : List ℕ → Found = found_length (opening kind) [] in
@@ -286,8 +282,7 @@ found_awaits kind head opens taken text is =
     ]
 
 found_awaits_of : (kind : Kind) (text : List ℕ) → found kind text ≡ Short → GoesOn (found kind) text ⊎ ((digits : List ℕ) × (text ≡ opening kind ++ digits) × InDigits digits)
-found_awaits_of Fix42 text is = found_awaits Fix42 (codes "8=FIX.4.2" ++ 1 ∷ []) refl refl text is
-found_awaits_of Fixt11 text is = found_awaits Fixt11 (codes "8=FIXT.1.1" ++ 1 ∷ []) refl refl text is
+found_awaits_of kind text is = found_awaits kind (begin_string kind) refl refl text is
 
 -- less than a frame begins one, or ends in the digits of its length
 pub awaited : (kind : Kind) (text : List ℕ) → found kind text ≡ Short

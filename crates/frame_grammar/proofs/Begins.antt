@@ -1,50 +1,49 @@
 -- A frame is found at the front of a text, whatever follows it.
-use Rattle.std.proofs.Common.{◌≡◌, ℕ, zero, suc, ◌+◌, ◌-◌, ◌%◌, ◌<◌, ◌≤◌, Bool, true, false, List, [], ◌∷◌, ◌++◌, length, take, drop, refl, sym, ◌∙◌, ap, arith, append_assoc, append-nil, length-append, take-append-drop, All, Some}
+use Rattle.std.proofs.Common.{◌≡◌, ℕ, zero, suc, ◌+◌, ◌-◌, ◌%◌, ◌/◌, ◌<◌, ◌≤◌, Bool, true, false, List, [], ◌∷◌, ◌++◌, length, drop, refl, sym, ◌∙◌, ap, arith, append_assoc, append-nil, length-append, take-append-drop, All, Some}
 use Rattle.std.proofs.lemmas.List.{append_cancel_right}
 use Rattle.std.specs.Prelude.{◌==◌, ◌&&◌, nat_lt, if◌then◌else◌, slice_get, slice_index, codes, sum}
 use Rattle.std.proofs.lemmas.List.{take_at, drop_at}
 use Rattle.std.proofs.lemmas.List.Elements.{All-head, All-tail}
 use Rattle.std.proofs.lemmas.Bool.Decides.{nat_tests}
+use Rattle.std.specs.Char.{is_ascii_digit}
+use Rattle.std.specs.Str.Parse.{digits_value}
 use Rattle.frame_grammar.specs.declared.frame.Kind.{Kind}
-use Rattle.frame_grammar.specs.declared.frame.Kind.TheVariants.{Fix42, Fixt11}
 use Rattle.frame_grammar.specs.declared.frame.Garble.{Garble}
 use Rattle.frame_grammar.specs.declared.frame.Garble.TheVariants.{BeginString, LengthField, TypeField, Trailer}
-use Rattle.frame_grammar.specs.Frame.{opening, three_digits, number_from, IsDigit, SaysLength, IsBody, IsFrame, front, trailer}
-use Rattle.frame_grammar.specs.Found.{Found, Whole, is_digit, expect, expect_sum, found_trailer, found_last, found_type, found_body, found_said, found_length, found}
+use Rattle.frame_grammar.specs.Frame.{begin_string, opening, three_digits, IsDigit, SaysLength, IsBody, IsFrame, front, trailer}
+use Rattle.frame_grammar.proofs.Digits.{digit_low, digit_is}
+use Rattle.frame_grammar.specs.Found.{Found, Whole, expect, expect_sum, found_trailer, found_last, found_type, found_body, found_said, found_length, found}
 
 same_byte : (b : ℕ) → (b == b) ≡ true
 same_byte b = grind (arith, nat_tests)
 
-if_true : {A : Type 0} (c : Bool) (x y : A) → c ≡ true → (if c then x else y) ≡ x
+pub if_true : {A : Type 0} (c : Bool) (x y : A) → c ≡ true → (if c then x else y) ≡ x
 if_true c x y is = ap (λ b. if b then x else y) is
 
-if_false : {A : Type 0} (c : Bool) (x y : A) → c ≡ false → (if c then x else y) ≡ y
+pub if_false : {A : Type 0} (c : Bool) (x y : A) → c ≡ false → (if c then x else y) ≡ y
 if_false c x y is = ap (λ b. if b then x else y) is
 
 pub expect_text : (text rest : List ℕ) (cause : Garble) (go : List ℕ → Found) → expect text cause go (text ++ rest) ≡ go rest
 expect_text [] rest cause go = refl
 expect_text (t ∷ text) rest cause go = if_true (t == t) _ _ (same_byte t) ∙ expect_text text rest cause go
 
-is_digit-true : (b : ℕ) → IsDigit b → is_digit b ≡ true
-is_digit-true b is = let low = is.0 in let high = is.1 in grind (arith, nat_tests)
-
 pub expect_digits : (text rest : List ℕ) (go : List ℕ → Found) → All IsDigit text → expect_sum text go (text ++ rest) ≡ go rest
 expect_digits [] rest go each = refl
 expect_digits (t ∷ text) rest go each =
-    if_true (is_digit t) _ _ (is_digit-true t (All-head IsDigit t text each)) ∙ if_true (t == t) _ _ (same_byte t) ∙ expect_digits text rest go (All-tail IsDigit t text each)
+    if_true (is_ascii_digit t) _ _ (All-head IsDigit t text each) ∙ if_true (t == t) _ _ (same_byte t) ∙ expect_digits text rest go (All-tail IsDigit t text each)
 
-found_length-digits : (start seen digits rest : List ℕ) → All IsDigit digits → length seen + length digits ≤ 7
-    → found_length start seen (digits ++ 1 ∷ rest) ≡ found_said start (seen ++ digits) (number_from 0 (seen ++ digits)) rest
-found_length-digits start seen [] rest each short = ap (λ l. found_said start l (number_from 0 l) rest) (sym (append-nil seen))
+pub found_length-digits : (start seen digits rest : List ℕ) → All IsDigit digits → length seen + length digits ≤ 7
+    → found_length start seen (digits ++ 1 ∷ rest) ≡ found_said start (seen ++ digits) (digits_value 10 (seen ++ digits)) rest
+found_length-digits start seen [] rest each short = ap (λ l. found_said start l (digits_value 10 l) rest) (sym (append-nil seen))
 found_length-digits start seen (d ∷ digits) rest each short =
     let digit = All-head IsDigit d digits each in
-    let low = digit.0 in
+    let low = digit_low d digit in
     let not_soh : (d == 1) ≡ false = grind (arith, nat_tests) in
     let room : nat_lt (length seen) 7 ≡ true = grind (arith, nat_tests) in
-    let both : (is_digit d && nat_lt (length seen) 7) ≡ true = ap (λ c. c && nat_lt (length seen) 7) (is_digit-true d digit) ∙ room in
+    let both : (is_ascii_digit d && nat_lt (length seen) 7) ≡ true = ap (λ c. c && nat_lt (length seen) 7) digit ∙ room in
     let more = found_length-digits start (seen ++ d ∷ []) digits rest (All-tail IsDigit d digits each) (omega (arith, length-append seen (d ∷ []))) in
-    if_false (d == 1) _ _ not_soh ∙ if_true (is_digit d && nat_lt (length seen) 7) _ _ both ∙ more
-    ∙ ap (λ l. found_said start l (number_from 0 l) rest) (append_assoc seen (d ∷ []) digits)
+    if_false (d == 1) _ _ not_soh ∙ if_true (is_ascii_digit d && nat_lt (length seen) 7) _ _ both ∙ more
+    ∙ ap (λ l. found_said start l (digits_value 10 l) rest) (append_assoc seen (d ∷ []) digits)
 
 get_front : (xs ys : List ℕ) (k : ℕ) → k < length xs → slice_get (xs ++ ys) k ≡ Some (slice_index xs k)
 get_front [] ys k within = absurd (omega arith)
@@ -52,9 +51,9 @@ get_front (x ∷ xs) ys zero within = refl
 get_front (x ∷ xs) ys (suc k) within = get_front xs ys k (omega arith)
 
 pub three_digits-digits : (n : ℕ) → n < 256 → All IsDigit (three_digits n)
-three_digits-digits n small zero d within = omega arith
-three_digits-digits n small (suc zero) d within = omega arith
-three_digits-digits n small (suc (suc zero)) d within = omega arith
+three_digits-digits n small zero d within = digit_is (48 + n / 100) (omega arith) (omega arith)
+three_digits-digits n small (suc zero) d within = digit_is (48 + n / 10 % 10) (omega arith) (omega arith)
+three_digits-digits n small (suc (suc zero)) d within = digit_is (48 + n % 10) (omega arith) (omega arith)
 three_digits-digits n small (suc (suc (suc k))) d within = absurd (omega arith)
 
 module _ (before body after : List ℕ) (is_body : IsBody body) where
@@ -88,13 +87,13 @@ module _ (before body after : List ℕ) (is_body : IsBody body) where
 
 module _ (body after : List ℕ) (is_body : IsBody body) where
   found_said-digits : (start digits : List ℕ) → SaysLength digits (length body)
-      → found_said start digits (number_from 0 digits) (body ++ (trailer (start ++ digits ++ 1 ∷ body) ++ after)) ≡ Whole body after
+      → found_said start digits (digits_value 10 digits) (body ++ (trailer (start ++ digits ++ 1 ∷ body) ++ after)) ≡ Whole body after
   found_said-digits start [] says = absurd (omega (arith, says.least))
   found_said-digits start (d ∷ digits) says =
       let most = is_body.most in
       let least = is_body.writable.least in
       let value = says.value in
-      let n = number_from 0 (d ∷ digits) in
+      let n = digits_value 10 (d ∷ digits) in
       let not_long : nat_lt 8192 n ≡ false = grind (arith, nat_tests, value, most) in
       let not_short : nat_lt n 5 ≡ false = grind (arith, nat_tests, value, least) in
       let grouped : start ++ (d ∷ digits) ++ 1 ∷ body ≡ (start ++ (d ∷ digits) ++ 1 ∷ []) ++ body = simp append_assoc in
@@ -103,7 +102,7 @@ module _ (body after : List ℕ) (is_body : IsBody body) where
       ∙ ap (λ l. found_body (start ++ (d ∷ digits) ++ 1 ∷ []) (length body) (body ++ (trailer l ++ after))) grouped
       ∙ found_body-body (start ++ (d ∷ digits) ++ 1 ∷ []) body after is_body
 
-assemble : (kind : Kind) (head : List ℕ) → opening kind ≡ head ++ codes "9=" → take (length (opening kind) - 2) (opening kind) ≡ head
+assemble : (kind : Kind) (head : List ℕ) → opening kind ≡ head ++ codes "9=" → begin_string kind ≡ head
     → (body bytes after : List ℕ) → IsFrame kind body bytes → found kind (bytes ++ after) ≡ Whole body after
 assemble kind head is_head taken body bytes after f =
     let last = trailer (front kind f.digits body) in
@@ -121,8 +120,7 @@ assemble kind head is_head taken body bytes after f =
 
 -- a frame at the front of a text is found there
 pub found_frame : (kind : Kind) (body bytes after : List ℕ) → IsFrame kind body bytes → found kind (bytes ++ after) ≡ Whole body after
-found_frame Fix42 body bytes after f = assemble Fix42 (codes "8=FIX.4.2" ++ 1 ∷ []) refl refl body bytes after f
-found_frame Fixt11 body bytes after f = assemble Fixt11 (codes "8=FIXT.1.1" ++ 1 ∷ []) refl refl body bytes after f
+found_frame kind body bytes after f = assemble kind (begin_string kind) refl refl body bytes after f
 
 -- two frames that begin one text are one
 pub no_other : (kind : Kind) (body bytes after other_body other other_after : List ℕ) → IsFrame kind body bytes → IsFrame kind other_body other

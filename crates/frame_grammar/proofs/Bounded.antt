@@ -3,12 +3,14 @@ use Rattle.std.proofs.Common.{◌≡◌, ℕ, zero, suc, ◌+◌, ◌-◌, ◌%�
 use Rattle.std.specs.Prelude.{◌==◌, ◌&&◌, nat_lt, if◌then◌else◌, slice_get, codes, sum}
 use Rattle.std.specs.declared.option.Option.{Option}
 use Rattle.std.proofs.lemmas.Bool.Decides.{nat_tests}
+use Rattle.std.specs.Char.{is_ascii_digit}
+use Rattle.std.specs.Str.Parse.{digits_value}
 use Rattle.frame_grammar.specs.declared.frame.Kind.{Kind}
 use Rattle.frame_grammar.specs.declared.frame.Kind.TheVariants.{Fix42, Fixt11}
 use Rattle.frame_grammar.specs.declared.frame.Garble.{Garble}
 use Rattle.frame_grammar.specs.declared.frame.Garble.TheVariants.{BeginString, LengthField, TypeField, Trailer}
-use Rattle.frame_grammar.specs.Frame.{opening, three_digits, number_from}
-use Rattle.frame_grammar.specs.Found.{Found, Short, Broken, is_digit, expect, expect_sum, found_trailer, found_last, found_type, found_body, found_said, found_length, found}
+use Rattle.frame_grammar.specs.Frame.{opening, three_digits}
+use Rattle.frame_grammar.specs.Found.{Found, Short, Broken, expect, expect_sum, found_trailer, found_last, found_type, found_body, found_said, found_length, found}
 
 -- what a choice that is Short was
 if_short : (P : Type 0) (c : Bool) (a b : Found) → (if c then a else b) ≡ Short → (c ≡ true → a ≡ Short → P) → (c ≡ false → b ≡ Short → P) → P
@@ -27,7 +29,7 @@ expect_sum_short : (text : List ℕ) (go : List ℕ → Found) (n : ℕ) → ((r
 expect_sum_short [] go n h bytes is = omega (arith, h bytes is)
 expect_sum_short (t ∷ text) go n h [] is = omega arith
 expect_sum_short (t ∷ text) go n h (b ∷ bytes) is =
-    if_short (length (b ∷ bytes) ≤ length (t ∷ text) + n) (is_digit b) _ _ is
+    if_short (length (b ∷ bytes) ≤ length (t ∷ text) + n) (is_ascii_digit b) _ _ is
     (λ _ digit. if_short (length (b ∷ bytes) ≤ length (t ∷ text) + n) (b == t) _ _ digit (λ _ more. omega (arith, expect_sum_short text go n h bytes more)) (λ _ broken. absurd (cc broken)))
     (λ _ broken. absurd (cc broken))
 
@@ -82,9 +84,9 @@ said_short start (d ∷ digits) said rest is =
 length_short : (start digits bytes : List ℕ) → length digits ≤ 7 → found_length start digits bytes ≡ Short → length bytes + length digits ≤ 8207
 length_short start digits [] few is = omega (arith, few)
 length_short start digits (b ∷ rest) few is =
-    if_short (length (b ∷ rest) + length digits ≤ 8207) (b == 1) _ _ is (λ _ said. omega (arith, said_short start digits (number_from 0 digits) rest said, few)) (λ _ more.
-    if_short (length (b ∷ rest) + length digits ≤ 8207) (is_digit b && nat_lt (length digits) 7) _ _ more (λ digit later.
-    let room : nat_lt (length digits) 7 ≡ true = and_second (is_digit b) (nat_lt (length digits) 7) digit in
+    if_short (length (b ∷ rest) + length digits ≤ 8207) (b == 1) _ _ is (λ _ said. omega (arith, said_short start digits (digits_value 10 digits) rest said, few)) (λ _ more.
+    if_short (length (b ∷ rest) + length digits ≤ 8207) (is_ascii_digit b && nat_lt (length digits) 7) _ _ more (λ digit later.
+    let room : nat_lt (length digits) 7 ≡ true = and_second (is_ascii_digit b) (nat_lt (length digits) 7) digit in
     let below : length digits < 7 = grind (arith, nat_tests, room) in
     let pushed : length (digits ++ b ∷ []) ≡ length digits + 1 = omega (arith, length-push digits b) in
     omega (arith, length_short start (digits ++ b ∷ []) rest (omega (arith, pushed, below)) later, pushed)) (λ _ broken. absurd (cc broken)))

@@ -5,11 +5,13 @@ use Rattle.std.specs.List.{list_any}
 use Rattle.std.specs.declared.option.Option.{Option}
 use Rattle.std.proofs.lemmas.Bool.Decides.{nat_tests}
 use Rattle.std.proofs.lemmas.List.{take-take, take_at, drop_at, take-append-le, drop_all}
+use Rattle.std.specs.Char.{is_ascii_digit}
+use Rattle.std.specs.Str.Parse.{digits_value}
 use Rattle.frame_grammar.specs.declared.frame.Kind.{Kind}
 use Rattle.frame_grammar.specs.declared.frame.Garble.{Garble}
 use Rattle.frame_grammar.specs.declared.frame.Garble.TheVariants.{BeginString, LengthField, TooLong, TypeField, Trailer, Sum}
-use Rattle.frame_grammar.specs.Frame.{opening, three_digits, number_from, IsFrame}
-use Rattle.frame_grammar.specs.Found.{Found, Whole, Short, Broken, is_digit, expect, expect_sum, found_trailer, found_last, found_type, found_body, found_said, found_length, found}
+use Rattle.frame_grammar.specs.Frame.{begin_string, opening, three_digits, IsFrame}
+use Rattle.frame_grammar.specs.Found.{Found, Whole, Short, Broken, expect, expect_sum, found_trailer, found_last, found_type, found_body, found_said, found_length, found}
 use Rattle.frame_grammar.proofs.Begins.{found_frame}
 use Rattle.frame_grammar.proofs.Grow.{Grows, found_grows}
 
@@ -40,17 +42,17 @@ sum_shrinks [] go shrinks bytes cause after is = shrinks bytes cause after is
 sum_shrinks (t ∷ text) go shrinks [] cause after is = absurd (cc is)
 sum_shrinks (t ∷ text) go shrinks (b ∷ bytes) cause after is =
     let P : Type 0 = (front : List ℕ) × (b ∷ bytes ≡ front ++ after) × (expect_sum (t ∷ text) go front ≡ Broken cause []) in
-    if_broken P (is_digit b) _ _ _ is
+    if_broken P (is_ascii_digit b) _ _ _ is
     (λ digit chosen. if_broken P (b == t) _ _ _ chosen
-    (λ same more. let r = sum_shrinks text go shrinks bytes cause after more in (b ∷ r.0, ap (λ (l : List ℕ). b ∷ l) r.1, if_true (is_digit b) _ _ digit ∙ if_true (b == t) _ _ same ∙ r.2))
+    (λ same more. let r = sum_shrinks text go shrinks bytes cause after more in (b ∷ r.0, ap (λ (l : List ℕ). b ∷ l) r.1, if_true (is_ascii_digit b) _ _ digit ∙ if_true (b == t) _ _ same ∙ r.2))
     (λ other broken.
     let after_is : bytes ≡ after = cc broken in
     let cause_is : Broken Sum [] ≡ Broken cause [] = cc broken in
-    (b ∷ [], ap (λ (l : List ℕ). b ∷ l) after_is, if_true (is_digit b) _ _ digit ∙ if_false (b == t) _ _ other ∙ cause_is)))
+    (b ∷ [], ap (λ (l : List ℕ). b ∷ l) after_is, if_true (is_ascii_digit b) _ _ digit ∙ if_false (b == t) _ _ other ∙ cause_is)))
     (λ none broken.
     let after_is : bytes ≡ after = cc broken in
     let cause_is : Broken Trailer [] ≡ Broken cause [] = cc broken in
-    (b ∷ [], ap (λ (l : List ℕ). b ∷ l) after_is, if_false (is_digit b) _ _ none ∙ cause_is))
+    (b ∷ [], ap (λ (l : List ℕ). b ∷ l) after_is, if_false (is_ascii_digit b) _ _ none ∙ cause_is))
 
 trailer_shrinks : (before body : List ℕ) → Shrinks (found_trailer before body)
 trailer_shrinks before body =
@@ -196,27 +198,27 @@ length_shrinks start digits [] cause after is = absurd (cc is)
 length_shrinks start digits (b ∷ rest) cause after is =
     let P : Type 0 = (front : List ℕ) × (b ∷ rest ≡ front ++ after) × (found_length start digits front ≡ Broken cause []) in
     if_broken P (b == 1) _ _ _ is
-    (λ soh said. let r = said_shrinks start digits (number_from 0 digits) rest cause after said in (b ∷ r.0, ap (λ (l : List ℕ). b ∷ l) r.1, if_true (b == 1) _ _ soh ∙ r.2))
-    (λ other more. if_broken P (is_digit b && nat_lt (length digits) 7) _ _ _ more
+    (λ soh said. let r = said_shrinks start digits (digits_value 10 digits) rest cause after said in (b ∷ r.0, ap (λ (l : List ℕ). b ∷ l) r.1, if_true (b == 1) _ _ soh ∙ r.2))
+    (λ other more. if_broken P (is_ascii_digit b && nat_lt (length digits) 7) _ _ _ more
     (λ digit later.
     let r = length_shrinks start (digits ++ b ∷ []) rest cause after later in
-    (b ∷ r.0, ap (λ (l : List ℕ). b ∷ l) r.1, if_false (b == 1) _ _ other ∙ if_true (is_digit b && nat_lt (length digits) 7) _ _ digit ∙ r.2))
+    (b ∷ r.0, ap (λ (l : List ℕ). b ∷ l) r.1, if_false (b == 1) _ _ other ∙ if_true (is_ascii_digit b && nat_lt (length digits) 7) _ _ digit ∙ r.2))
     (λ none broken.
     let cause_is : Broken LengthField [] ≡ Broken cause [] = cc broken in
     let after_is : rest ≡ after = cc broken in
-    (b ∷ [], ap (λ (l : List ℕ). b ∷ l) after_is, if_false (b == 1) _ _ other ∙ if_false (is_digit b && nat_lt (length digits) 7) _ _ none ∙ cause_is)))
+    (b ∷ [], ap (λ (l : List ℕ). b ∷ l) after_is, if_false (b == 1) _ _ other ∙ if_false (is_ascii_digit b && nat_lt (length digits) 7) _ _ none ∙ cause_is)))
 
-found_shrinks : (kind : Kind) → Shrinks (found kind)
+pub found_shrinks : (kind : Kind) → Shrinks (found kind)
 found_shrinks kind =
-    expect_shrinks (take (length (opening kind) - 2) (opening kind)) BeginString _ (expect_shrinks (codes "9=") LengthField _ (length_shrinks (opening kind) []))
+    expect_shrinks (begin_string kind) BeginString _ (expect_shrinks (codes "9=") LengthField _ (length_shrinks (opening kind) []))
 
-no_frame : (kind : Kind) (front : List ℕ) (cause : Garble) → found kind front ≡ Broken cause [] → (body more : List ℕ) → IsFrame kind body (front ++ more) → ⊥
+pub no_frame : (kind : Kind) (front : List ℕ) (cause : Garble) → found kind front ≡ Broken cause [] → (body more : List ℕ) → IsFrame kind body (front ++ more) → ⊥
 no_frame kind front cause is body more frame =
     let grows : found kind (front ++ more) ≡ Broken cause more = subst (λ f. Grows more f (found kind (front ++ more))) is (found_grows more kind front) in
     let whole : found kind (front ++ more) ≡ Whole body [] = ap (found kind) (sym (append-nil (front ++ more))) ∙ found_frame kind body (front ++ more) [] frame in
     cc (grows, whole)
 
-shorter : (kind : Kind) (front : List ℕ) (cause : Garble) → found kind front ≡ Broken cause [] → (n : ℕ) → n < length front → found kind (take n front) ≡ Short
+pub shorter : (kind : Kind) (front : List ℕ) (cause : Garble) → found kind front ≡ Broken cause [] → (n : ℕ) → n < length front → found kind (take n front) ≡ Short
 shorter kind front cause is n below = at (found kind (take n front)) grows
   where
     grows : Grows (drop n front) (found kind (take n front)) (Broken cause [])
@@ -226,8 +228,3 @@ shorter kind front cause is n below = at (found kind (take n front)) grows
     at (Whole body after) g = absurd (cc g)
     at Short g = refl
     at (Broken other after) g = let nothing : [] ≡ after ++ drop n front = cc g in absurd (omega (arith, ap length nothing, length-append after (drop n front), length-drop n front, below))
-
--- the shortest front that begins no frame
-pub shortest : (kind : Kind) (text : List ℕ) (cause : Garble) (after : List ℕ) → found kind text ≡ Broken cause after
-    → (front : List ℕ) × (text ≡ front ++ after) × ((body more : List ℕ) → IsFrame kind body (front ++ more) → ⊥) × ((n : ℕ) → n < length front → found kind (take n front) ≡ Short)
-shortest kind text cause after is = let r = found_shrinks kind text cause after is in (r.0, r.1, no_frame kind r.0 cause r.2, shorter kind r.0 cause r.2)

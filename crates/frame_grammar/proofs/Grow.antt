@@ -4,11 +4,13 @@ use Rattle.std.specs.Prelude.{◌==◌, ◌&&◌, nat_lt, if◌then◌else◌, s
 use Rattle.std.specs.declared.option.Option.{Option}
 use Rattle.std.proofs.lemmas.Bool.Decides.{nat_tests}
 use Rattle.std.proofs.lemmas.List.{take-append-le, drop-append-le}
+use Rattle.std.specs.Char.{is_ascii_digit}
+use Rattle.std.specs.Str.Parse.{digits_value}
 use Rattle.frame_grammar.specs.declared.frame.Kind.{Kind}
 use Rattle.frame_grammar.specs.declared.frame.Garble.{Garble}
 use Rattle.frame_grammar.specs.declared.frame.Garble.TheVariants.{BeginString, LengthField, TypeField, Trailer}
-use Rattle.frame_grammar.specs.Frame.{opening, three_digits, number_from}
-use Rattle.frame_grammar.specs.Found.{Found, Whole, Short, Broken, is_digit, expect, expect_sum, found_trailer, found_last, found_type, found_body, found_said, found_length, found}
+use Rattle.frame_grammar.specs.Frame.{begin_string, opening, three_digits}
+use Rattle.frame_grammar.specs.Found.{Found, Whole, Short, Broken, expect, expect_sum, found_trailer, found_last, found_type, found_body, found_said, found_length, found}
 
 -- what was found, with t behind it
 abbrev pub Grows : List ℕ → Found → Found → Type 0
@@ -30,7 +32,7 @@ module _ (t : List ℕ) where
   expect_sum_grows [] go more h bytes = h bytes
   expect_sum_grows (x ∷ text) go more h [] = tt
   expect_sum_grows (x ∷ text) go more h (b ∷ bytes) =
-      if_grows (is_digit b) _ _ _ _ (λ _. if_grows (b == x) _ _ _ _ (λ _. expect_sum_grows text go more h bytes) (λ _. refl)) (λ _. refl)
+      if_grows (is_ascii_digit b) _ _ _ _ (λ _. if_grows (b == x) _ _ _ _ (λ _. expect_sum_grows text go more h bytes) (λ _. refl)) (λ _. refl)
 
   trailer_grows : (before body bytes : List ℕ) → Grows t (found_trailer before body bytes) (found_trailer before body (bytes ++ t))
   trailer_grows before body bytes =
@@ -78,10 +80,10 @@ module _ (t : List ℕ) where
   length_grows : (start digits bytes : List ℕ) → Grows t (found_length start digits bytes) (found_length start digits (bytes ++ t))
   length_grows start digits [] = tt
   length_grows start digits (b ∷ bytes) =
-      if_grows (b == 1) _ _ _ _ (λ _. said_grows start digits (number_from 0 digits) bytes) (λ _.
-      if_grows (is_digit b && nat_lt (length digits) 7) _ _ _ _ (λ _. length_grows start (digits ++ b ∷ []) bytes) (λ _. refl))
+      if_grows (b == 1) _ _ _ _ (λ _. said_grows start digits (digits_value 10 digits) bytes) (λ _.
+      if_grows (is_ascii_digit b && nat_lt (length digits) 7) _ _ _ _ (λ _. length_grows start (digits ++ b ∷ []) bytes) (λ _. refl))
 
   -- what was found stays found, whatever comes
   pub found_grows : (kind : Kind) (bytes : List ℕ) → Grows t (found kind bytes) (found kind (bytes ++ t))
   found_grows kind bytes =
-      expect_grows (take (length (opening kind) - 2) (opening kind)) BeginString _ _ (λ b1. expect_grows (codes "9=") LengthField _ _ (λ b2. length_grows (opening kind) [] b2) b1) bytes
+      expect_grows (begin_string kind) BeginString _ _ (λ b1. expect_grows (codes "9=") LengthField _ _ (λ b2. length_grows (opening kind) [] b2) b1) bytes

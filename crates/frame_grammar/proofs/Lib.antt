@@ -1,3 +1,4 @@
+pub mod Digits
 pub mod Written
 pub mod Every
 pub mod Grow
@@ -11,4 +12,5 @@ pub mod Starts
 pub mod Bounded
 pub mod Sums
 pub mod Stands
-mod Rows
+mod Worked
+pub mod Causes

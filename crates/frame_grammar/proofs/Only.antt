@@ -5,12 +5,13 @@ use Rattle.std.specs.declared.option.Option.{Option}
 use Rattle.std.proofs.lemmas.List.Elements.{All-cons}
 use Rattle.std.proofs.lemmas.Bool.{cases_eq}
 use Rattle.std.proofs.lemmas.Bool.Decides.{nat_tests}
+use Rattle.std.specs.Char.{is_ascii_digit}
+use Rattle.std.specs.Str.Parse.{digits_value}
 use Rattle.frame_grammar.specs.declared.frame.Kind.{Kind}
-use Rattle.frame_grammar.specs.declared.frame.Kind.TheVariants.{Fix42, Fixt11}
 use Rattle.frame_grammar.specs.declared.frame.Garble.{Garble}
 use Rattle.frame_grammar.specs.declared.frame.Garble.TheVariants.{BeginString, LengthField, TooLong, TypeField, Trailer, Sum}
-use Rattle.frame_grammar.specs.Frame.{opening, three_digits, number_from, IsDigit, IsBody, IsFrame, front, trailer}
-use Rattle.frame_grammar.specs.Found.{Found, Whole, Broken, is_digit, expect, expect_sum, found_trailer, found_last, found_type, found_body, found_said, found_length, found}
+use Rattle.frame_grammar.specs.Frame.{begin_string, opening, three_digits, IsDigit, IsBody, IsFrame, front, trailer}
+use Rattle.frame_grammar.specs.Found.{Found, Whole, Broken, expect, expect_sum, found_trailer, found_last, found_type, found_body, found_said, found_length, found}
 
 module _ (body after : List ℕ) where
   -- a choice of which one side is no frame
@@ -38,7 +39,7 @@ module _ (body after : List ℕ) where
   sum_only [] go s is = (s, refl, is)
   sum_only (t ∷ text) go [] is = absurd (cc is)
   sum_only (t ∷ text) go (b ∷ s) is =
-      let digit = if_whole (is_digit b) _ Trailer s is in
+      let digit = if_whole (is_ascii_digit b) _ Trailer s is in
       let both = if_whole (b == t) _ Sum s digit.1 in
       let more = sum_only text go s both.1 in
       let same : b ≡ t = same_of b t both.0 in
@@ -117,14 +118,14 @@ body_only body after before n rest least most is =
 -- a length field that goes on to a frame
 pub record Said (start digits : List ℕ) (rest body after : List ℕ) : Type 0 where
   pub some : 1 ≤ length digits
-  pub least : 5 ≤ number_from 0 digits
-  pub most : number_from 0 digits ≤ 8192
-  pub goes_on : found_body (start ++ digits ++ 1 ∷ []) (number_from 0 digits) rest ≡ Whole body after
+  pub least : 5 ≤ digits_value 10 digits
+  pub most : digits_value 10 digits ≤ 8192
+  pub goes_on : found_body (start ++ digits ++ 1 ∷ []) (digits_value 10 digits) rest ≡ Whole body after
 
-said_only : (body after start digits rest : List ℕ) → found_said start digits (number_from 0 digits) rest ≡ Whole body after → Said start digits rest body after
+said_only : (body after start digits rest : List ℕ) → found_said start digits (digits_value 10 digits) rest ≡ Whole body after → Said start digits rest body after
 said_only body after start [] rest is = absurd (cc is)
 said_only body after start (d ∷ digits) rest is =
-    let n = number_from 0 (d ∷ digits) in
+    let n = digits_value 10 (d ∷ digits) in
     let long = else_whole body after (nat_lt 8192 n) _ (TooLong n) rest is in
     let short = else_whole body after (nat_lt n 5) _ TypeField rest long.1 in
     let not_long = long.0 in
@@ -149,16 +150,7 @@ pub record Length (start seen bytes body after : List ℕ) : Type 0 where
   pub split : bytes ≡ more ++ 1 ∷ rest
   pub each : All IsDigit more
   pub few : length seen + length more ≤ 7
-  pub goes_on : found_said start (seen ++ more) (number_from 0 (seen ++ more)) rest ≡ Whole body after
-
-is_digit-IsDigit : (b : ℕ) → is_digit b ≡ true → IsDigit b
-is_digit-IsDigit b is = (low b is, high b is)
-  where
-    low : (k : ℕ) → is_digit k ≡ true → 48 ≤ k
-    low k h = grind (arith, nat_tests)
-
-    high : (k : ℕ) → is_digit k ≡ true → k ≤ 57
-    high k h = grind (arith, nat_tests)
+  pub goes_on : found_said start (seen ++ more) (digits_value 10 (seen ++ more)) rest ≡ Whole body after
 
 length_only : (body after start seen bytes : List ℕ) → length seen ≤ 7 → found_length start seen bytes ≡ Whole body after → Length start seen bytes body after
 length_only body after start seen [] room is = absurd (cc is)
@@ -166,7 +158,7 @@ length_only body after start seen (b ∷ bytes) room is = go (b == 1) refl (λ r
   where
     go : (c : Bool) → (b == 1) ≡ c → (length (seen ++ b ∷ []) ≤ 7 → found_length start (seen ++ b ∷ []) bytes ≡ Whole body after → Length start (seen ++ b ∷ []) bytes body after) → Length start seen (b ∷ bytes) body after
     go true soh next =
-        let here : found_said start seen (number_from 0 seen) bytes ≡ Whole body after = sym (ap (λ t. if t then found_said start seen (number_from 0 seen) bytes else (if is_digit b && nat_lt (length seen) 7 then found_length start (seen ++ b ∷ []) bytes else Broken LengthField bytes)) soh) ∙ is in
+        let here : found_said start seen (digits_value 10 seen) bytes ≡ Whole body after = sym (ap (λ t. if t then found_said start seen (digits_value 10 seen) bytes else (if is_ascii_digit b && nat_lt (length seen) 7 then found_length start (seen ++ b ∷ []) bytes else Broken LengthField bytes)) soh) ∙ is in
         let same : b ≡ 1 = same_of body after b 1 soh in
         record {
           more = [];
@@ -174,22 +166,22 @@ length_only body after start seen (b ∷ bytes) room is = go (b == 1) refl (λ r
           split = ap (λ x. x ∷ bytes) same;
           each = λ k d within. absurd (omega arith);
           few = omega arith;
-          goes_on = ap (λ l. found_said start l (number_from 0 l) bytes) (append-nil seen) ∙ here;
+          goes_on = ap (λ l. found_said start l (digits_value 10 l) bytes) (append-nil seen) ∙ here;
         }
     go false other next =
-        let here : (if is_digit b && nat_lt (length seen) 7 then found_length start (seen ++ b ∷ []) bytes else Broken LengthField bytes) ≡ Whole body after =
-        sym (ap (λ t. if t then found_said start seen (number_from 0 seen) bytes else (if is_digit b && nat_lt (length seen) 7 then found_length start (seen ++ b ∷ []) bytes else Broken LengthField bytes)) other) ∙ is in
-        let both = if_whole body after (is_digit b && nat_lt (length seen) 7) _ LengthField bytes here in
-        let digit = first_true (is_digit b) (nat_lt (length seen) 7) both.0 in
+        let here : (if is_ascii_digit b && nat_lt (length seen) 7 then found_length start (seen ++ b ∷ []) bytes else Broken LengthField bytes) ≡ Whole body after =
+        sym (ap (λ t. if t then found_said start seen (digits_value 10 seen) bytes else (if is_ascii_digit b && nat_lt (length seen) 7 then found_length start (seen ++ b ∷ []) bytes else Broken LengthField bytes)) other) ∙ is in
+        let both = if_whole body after (is_ascii_digit b && nat_lt (length seen) 7) _ LengthField bytes here in
+        let digit = first_true (is_ascii_digit b) (nat_lt (length seen) 7) both.0 in
         let short = below_seven (length seen) digit.1 in
         let l = next (omega (arith, length-append seen (b ∷ []), short)) both.1 in
         record {
           more = b ∷ l.more;
           rest = l.rest;
           split = ap (λ x. b ∷ x) l.split;
-          each = All-cons IsDigit b l.more (is_digit-IsDigit b digit.0) l.each;
+          each = All-cons IsDigit b l.more digit.0 l.each;
           few = omega (arith, l.few, length-append seen (b ∷ []));
-          goes_on = ap (λ x. found_said start x (number_from 0 x) l.rest) (sym (append_assoc seen (b ∷ []) l.more)) ∙ l.goes_on;
+          goes_on = ap (λ x. found_said start x (digits_value 10 x) l.rest) (sym (append_assoc seen (b ∷ []) l.more)) ∙ l.goes_on;
         }
       where
         first_true : (c d : Bool) → (c && d) ≡ true → (c ≡ true) × (d ≡ true)
@@ -199,7 +191,7 @@ length_only body after start seen (b ∷ bytes) room is = go (b == 1) refl (λ r
         below_seven : (k : ℕ) → nat_lt k 7 ≡ true → k < 7
         below_seven k h = grind (arith, nat_tests)
 
-rebuild : (kind : Kind) (head : List ℕ) → opening kind ≡ head ++ codes "9=" → take (length (opening kind) - 2) (opening kind) ≡ head
+rebuild : (kind : Kind) (head : List ℕ) → opening kind ≡ head ++ codes "9=" → begin_string kind ≡ head
     → (s body after : List ℕ) → found kind s ≡ Whole body after → (bytes : List ℕ) × IsFrame kind body bytes × (s ≡ bytes ++ after)
 rebuild kind head is_head taken s body after is =
     let go2 : List ℕ → Found = found_length (opening kind) [] in
@@ -208,7 +200,7 @@ rebuild kind head is_head taken s body after is =
     let nine = expect_only body after (codes "9=") LengthField go2 begun.0 begun.2 in
     let l = length_only body after (opening kind) [] nine.0 (omega arith) nine.2 in
     let said = said_only body after (opening kind) l.more l.rest l.goes_on in
-    let b = body_only body after (opening kind ++ l.more ++ 1 ∷ []) (number_from 0 l.more) l.rest said.least said.most said.goes_on in
+    let b = body_only body after (opening kind ++ l.more ++ 1 ∷ []) (digits_value 10 l.more) l.rest said.least said.most said.goes_on in
     let bytes : List ℕ = front kind l.more body ++ trailer (front kind l.more body) in
     let grouped : (opening kind ++ l.more ++ 1 ∷ []) ++ body ≡ front kind l.more body = simp append_assoc in
     let rest : l.rest ≡ body ++ (trailer (front kind l.more body) ++ after) = b.2 ∙ ap (λ x. body ++ (trailer x ++ after)) grouped in
@@ -227,5 +219,4 @@ rebuild kind head is_head taken s body after is =
 
 -- a whole frame is found only where one stands
 pub frame_found : (kind : Kind) (s body after : List ℕ) → found kind s ≡ Whole body after → (bytes : List ℕ) × IsFrame kind body bytes × (s ≡ bytes ++ after)
-frame_found Fix42 s body after is = rebuild Fix42 (codes "8=FIX.4.2" ++ 1 ∷ []) refl refl s body after is
-frame_found Fixt11 s body after is = rebuild Fixt11 (codes "8=FIXT.1.1" ++ 1 ∷ []) refl refl s body after is
+frame_found kind s body after is = rebuild kind (begin_string kind) refl refl s body after is

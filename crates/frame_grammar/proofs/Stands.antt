@@ -16,9 +16,12 @@ use Rattle.frame_grammar.specs.Cut.{start_in, Piece, Good, Bad, bytes_of, piece_
 use Rattle.frame_grammar.specs.Held.{Held, capped, past, lost_by, found_by}
 use Rattle.frame_grammar.specs.Framer.{place_after, IsLost, KeepsPlaces, StandsFor, Answers, EndsIn}
 use Rattle.frame_grammar.proofs.Join.{come_later, joined}
-use Rattle.frame_grammar.specs.declared.scan.Scan.{Scan}
-use Rattle.frame_grammar.specs.declared.scan.Scan.TheVariants as scan
-use Rattle.frame_grammar.specs.Scan.{ScanIs}
+use Rattle.std.specs.Prelude.{Ok, Err}
+use Rattle.std.specs.declared.result.Result.{Result}
+use Rattle.frame_grammar.specs.declared.scan.Stop.{Stop}
+use Rattle.frame_grammar.specs.declared.scan.Stop.TheVariants as stop
+use Rattle.frame_grammar.specs.declared.scan.Front.{Front}
+use Rattle.frame_grammar.specs.Scan.{IsFound}
 use Rattle.frame_grammar.proofs.Bounded.{broken_some}
 use Rattle.frame_grammar.proofs.Grow.{Grows, found_grows}
 use Rattle.frame_grammar.proofs.Starts.{start_late, start_skip, start_grows}
@@ -270,7 +273,7 @@ module _ (held : Held) (stream left : List ℕ) (answered : List Piece) (s : Sta
     broken_ends cause is small =
         ((is.0, ap (found held.kind) left_unread ∙ is.1), place_is, (let e : length held.unread ≡ capped (length held.unread) = omega (arith, small) in e) ∙ ap (λ (l : List ℕ). capped (length l)) (sym left_unread))
 
-    pub short_ends : (front : Scan) → ScanIs front held.unread (found held.kind held.unread) → ((cause : Garble) → front ≡ scan.Garbled cause → ⊥) → (held.unread ≡ [] → ⊥)
+    pub short_ends : (front : Result Front Stop) → IsFound front held.unread (found held.kind held.unread) → ((cause : Garble) → front ≡ Err (stop.Garbled cause) → ⊥) → (held.unread ≡ [] → ⊥)
         → EndsIn (rest.Inside held.at (length held.unread)) held.kind (place_after answered) left
     short_ends front is other some = (
       λ empty. some (sym left_unread ∙ empty),
@@ -282,7 +285,7 @@ module _ (held : Held) (stream left : List ℕ) (answered : List Piece) (s : Sta
         nothing : first_piece held.kind held.unread ≡ None
         nothing = ap (first_piece held.kind) (sym left_unread) ∙ cut.1
 
-        short : (front : Scan) → ScanIs front held.unread (found held.kind held.unread) → ((cause : Garble) → front ≡ scan.Garbled cause → ⊥) → found held.kind held.unread ≡ Short
-        short (scan.Frame start len end) is other = let whole = ap (λ f. piece_at f held.unread) is.2 in absurd (cc (whole, nothing))
-        short scan.More is other = is
-        short (scan.Garbled cause) is other = absurd (other cause refl)
+        short : (front : Result Front Stop) → IsFound front held.unread (found held.kind held.unread) → ((cause : Garble) → front ≡ Err (stop.Garbled cause) → ⊥) → found held.kind held.unread ≡ Short
+        short (Ok front) is other = let whole = ap (λ f. piece_at f held.unread) is.2 in absurd (cc (whole, nothing))
+        short (Err stop.More) is other = is
+        short (Err (stop.Garbled cause)) is other = absurd (other cause refl)

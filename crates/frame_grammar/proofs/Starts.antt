@@ -6,6 +6,9 @@ use Rattle.std.specs.Option.{option_map}
 use Rattle.std.specs.declared.option.Option.{Option}
 use Rattle.std.proofs.lemmas.List.{take-append-le}
 use Rattle.std.proofs.lemmas.Slice.Eq.{bytes_eq-Decides}
+use Rattle.std.specs.Prelude.{slice_index}
+use Rattle.std.proofs.lemmas.List.{get_or-take}
+use Rattle.memchr.specs.Find.{Nowhere, OccursAt, FindsNeedle}
 use Rattle.frame_grammar.specs.Cut.{start_in}
 
 pub mapped : (o : Option ℕ) (k : ℕ) → option_map suc o ≡ Some k → (j : ℕ) × (o ≡ Some j) × (k ≡ suc j)
@@ -88,24 +91,62 @@ start_skip (suc n) (b ∷ xs) past = at (λ h. start_skip n xs h) (here (b ∷ x
         let more = later (λ k e. let h = past (suc k) (is ∙ ap (option_map suc) e) in omega (arith, h)) in
         is ∙ ap (option_map suc) more ∙ moved n (start_in (drop n xs))
 
--- one byte after another
-pub start_at : (xs : List ℕ) (i : ℕ) → i < length xs → start_in (drop i xs) ≡ (if here (drop i xs) then Some 0 else option_map suc (start_in (drop (suc i) xs)))
-start_at [] i within = absurd (omega arith)
-start_at (b ∷ xs) zero within = refl
-start_at (b ∷ xs) (suc i) within = start_at xs i (omega arith)
-
-pub start_here : (xs : List ℕ) (i : ℕ) → i < length xs → take 5 (drop i xs) ≡ codes "8=FIX" → start_in (drop i xs) ≡ Some 0
-start_here xs i within is =
-    let yes : here (drop i xs) ≡ true = (bytes_eq-Decides (codes "8=FIX") (take 5 (drop i xs))).1 (sym is) in
-    start_at xs i within ∙ ap (λ c. if c then Some 0 else option_map suc (start_in (drop (suc i) xs))) yes
-
-pub start_later : (xs : List ℕ) (i : ℕ) → i < length xs → (take 5 (drop i xs) ≡ codes "8=FIX" → ⊥) → start_in (drop i xs) ≡ option_map suc (start_in (drop (suc i) xs))
-start_later xs i within other = start_at xs i within ∙ ap (λ c. if c then Some 0 else option_map suc (start_in (drop (suc i) xs))) (no (here (drop i xs)) refl)
+-- where a search finds `8=FIX` first
+occurs_here : (xs : List ℕ) → here xs ≡ true → OccursAt xs (codes "8=FIX") 0
+occurs_here xs is =
+    let same = (bytes_eq-Decides (codes "8=FIX") (take 5 xs)).0 is in
+    record { fits = omega (arith, here_long xs is); reads = λ j below. reads xs j below (sym same) }
   where
-    no : (c : Bool) → here (drop i xs) ≡ c → here (drop i xs) ≡ false
-    no true is = absurd (other (sym ((bytes_eq-Decides (codes "8=FIX") (take 5 (drop i xs))).0 is)))
-    no false is = is
+    reads : (xs : List ℕ) (j : ℕ) → j < 5 → take 5 xs ≡ codes "8=FIX" → slice_index xs (0 + j) ≡ slice_index (codes "8=FIX") j
+    reads xs j below is =
+        let moved : slice_index (take 5 xs) j ≡ slice_index (codes "8=FIX") j = ap (λ (l : List ℕ). slice_index l j) is in
+        let place : 0 + j ≡ j = omega arith in
+        ap (slice_index xs) place ∙ sym (get_or-take 5 xs j 0 below) ∙ moved
 
-pub moved_back : (n : ℕ) (o : Option ℕ) → option_map (λ k. k + n) (option_map suc o) ≡ option_map (λ k. k + (n + 1)) o
-moved_back n None = refl
-moved_back n (Some k) = let same : suc k + n ≡ k + (n + 1) = omega arith in ap (λ (x : ℕ). Some x) same
+occurs_at_front : (xs : List ℕ) → OccursAt xs (codes "8=FIX") 0 → here xs ≡ true
+occurs_at_front [] o = absurd (omega (arith, o.fits))
+occurs_at_front (a ∷ []) o = absurd (omega (arith, o.fits))
+occurs_at_front (a ∷ b ∷ []) o = absurd (omega (arith, o.fits))
+occurs_at_front (a ∷ b ∷ c ∷ []) o = absurd (omega (arith, o.fits))
+occurs_at_front (a ∷ b ∷ c ∷ d ∷ []) o = absurd (omega (arith, o.fits))
+occurs_at_front (a ∷ b ∷ c ∷ d ∷ e ∷ xs) o =
+    let a_is : a ≡ 56 = o.reads 0 (omega arith) in
+    let b_is : b ≡ 61 = o.reads 1 (omega arith) in
+    let c_is : c ≡ 70 = o.reads 2 (omega arith) in
+    let d_is : d ≡ 73 = o.reads 3 (omega arith) in
+    let e_is : e ≡ 88 = o.reads 4 (omega arith) in
+    (bytes_eq-Decides (codes "8=FIX") (a ∷ b ∷ c ∷ d ∷ e ∷ [])).1 (cc (a_is, b_is, c_is, d_is, e_is))
+
+occurs_later : (b : ℕ) (xs : List ℕ) (k : ℕ) → OccursAt xs (codes "8=FIX") k → OccursAt (b ∷ xs) (codes "8=FIX") (suc k)
+occurs_later b xs k o = record {
+  fits = omega (arith, o.fits);
+  reads = λ j below. let n : suc k + j ≡ suc (k + j) = omega arith in ap (slice_index (b ∷ xs)) n ∙ o.reads j below;
+}
+
+occurs_earlier : (b : ℕ) (xs : List ℕ) (k : ℕ) → OccursAt (b ∷ xs) (codes "8=FIX") (suc k) → OccursAt xs (codes "8=FIX") k
+occurs_earlier b xs k o = record {
+  fits = omega (arith, o.fits);
+  reads = λ j below. let n : suc (k + j) ≡ suc k + j = omega arith in ap (slice_index (b ∷ xs)) n ∙ o.reads j below;
+}
+
+found_nowhere : (xs : List ℕ) → Nowhere (OccursAt xs (codes "8=FIX")) 0 (length xs + 1) → start_in xs ≡ None
+found_nowhere [] h = refl
+found_nowhere (b ∷ xs) h = at (found_nowhere xs (λ k low high o. h (suc k) (omega arith) (omega (arith, high)) (occurs_later b xs k o))) (here (b ∷ xs)) refl
+  where
+    at : start_in xs ≡ None → (c : Bool) → here (b ∷ xs) ≡ c → start_in (b ∷ xs) ≡ None
+    at later true is = absurd (h 0 (omega arith) (omega arith) (occurs_here (b ∷ xs) is))
+    at later false is = ap (λ c. if c then Some 0 else option_map suc (start_in xs)) is ∙ ap (option_map suc) later
+
+found_first : (xs : List ℕ) (k : ℕ) → Nowhere (OccursAt xs (codes "8=FIX")) 0 k → OccursAt xs (codes "8=FIX") k → start_in xs ≡ Some k
+found_first [] k before o = absurd (omega (arith, o.fits))
+found_first (b ∷ xs) zero before o = ap (λ c. if c then Some 0 else option_map suc (start_in xs)) (occurs_at_front (b ∷ xs) o)
+found_first (b ∷ xs) (suc k) before o =
+    at (found_first xs k (λ j low high p. before (suc j) (omega arith) (omega (arith, high)) (occurs_later b xs j p)) (occurs_earlier b xs k o)) (here (b ∷ xs)) refl
+  where
+    at : start_in xs ≡ Some k → (c : Bool) → here (b ∷ xs) ≡ c → start_in (b ∷ xs) ≡ Some (suc k)
+    at later true is = absurd (before 0 (omega arith) (omega arith) (occurs_here (b ∷ xs) is))
+    at later false is = ap (λ c. if c then Some 0 else option_map suc (start_in xs)) is ∙ ap (option_map suc) later
+
+pub start_found : (xs : List ℕ) (r : Option ℕ) → FindsNeedle xs (codes "8=FIX") 0 r → r ≡ start_in xs
+start_found xs None h = sym (found_nowhere xs h)
+start_found xs (Some k) h = sym (found_first xs k h.0.before h.1)

@@ -1,5 +1,9 @@
--- The pieces of a stream, as whole texts and with no buffer: frames, and what is garbled between them
--- (FIX 4.2 and FIXT 1.1, "Data Integrity": a garbled message is ignored, and reading goes on at the next BeginString).
+-- Standard: FIX 4.2 and FIXT 1.1, "Data Integrity": a garbled message is ignored, and reading goes
+-- on at the next BeginString. That this is the next `8=FIX` is the gateway's own;
+-- docs/DECISIONS.md, "Frames".
+--
+-- The pieces of a stream, as whole texts and with no buffer: frames, and what is garbled between
+-- them.
 use Rattle.std.specs.Prelude.{◌≡◌, ℕ, ◌+◌, ◌-◌, suc, nat_eq, if◌then◌else◌, List, [], ◌∷◌, length, take, drop, codes}
 use Rattle.std.specs.Prelude.{Some, None}
 use Rattle.std.specs.List.{starts_with}
@@ -21,7 +25,9 @@ bytes_of (Bad cause bytes) = bytes
 -- the first place where `8=FIX` stands
 abbrev pub start_in : List ℕ → Option ℕ
 start_in [] = None
-start_in (b ∷ bytes) = if starts_with nat_eq (b ∷ bytes) (codes "8=FIX") then Some 0 else option_map suc (start_in bytes)
+start_in (b ∷ bytes) =
+    if starts_with nat_eq (b ∷ bytes) (codes "8=FIX") then Some 0
+    else option_map suc (start_in bytes)
 
 -- A garbled piece runs to the next place, past its own start, where `8=FIX` stands.
 abbrev pub garbled : Garble → List ℕ → Option Piece
@@ -39,7 +45,9 @@ first_piece kind stream = piece_at (found kind stream) stream
 -- these pieces come first in the stream, and `left` follows them
 abbrev pub ComeFirst : Kind → List ℕ → List Piece → List ℕ → Type 0
 ComeFirst kind stream [] left = stream ≡ left
-ComeFirst kind stream (piece ∷ pieces) left = (first_piece kind stream ≡ Some piece) × ComeFirst kind (drop (length (bytes_of piece)) stream) pieces left
+ComeFirst kind stream (piece ∷ pieces) left =
+    (first_piece kind stream ≡ Some piece)
+    × ComeFirst kind (drop (length (bytes_of piece)) stream) pieces left
 
 -- the stream is these pieces, and then a rest of which no piece has come whole
 abbrev pub Cut : Kind → List ℕ → List Piece → List ℕ → Type 0

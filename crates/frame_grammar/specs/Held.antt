@@ -1,6 +1,7 @@
--- What a framer holds, as contracts see it.
+-- Inside: what a framer holds, as contracts see it; no clause of run rests on it.
 use Rattle.std.specs.Prelude.{ℕ, ◌+◌, ◌-◌, ◌^◌, List, [], ◌++◌, length, take, drop, min, Some, None}
 use Rattle.std.specs.declared.option.Option.{Option}
+use Rattle.frame_grammar.specs.declared.buffer.TheConstants.{CAPACITY}
 use Rattle.frame_grammar.specs.declared.frame.Kind.{Kind}
 use Rattle.frame_grammar.specs.declared.pieces.Lost.{Lost}
 use Rattle.frame_grammar.specs.declared.pieces.Next.{Next}
@@ -9,6 +10,13 @@ use Rattle.frame_grammar.specs.declared.pieces.Next.TheVariants as next
 -- a place or a length, as far as it is counted
 abbrev pub capped : ℕ → ℕ
 capped n = min n (2 ^ 64 - 1)
+
+-- what a buffer holds
+pub record Window : Type 0 where
+  -- bytes that were read, and are still there
+  pub read : List ℕ
+  -- bytes that were not
+  pub unread : List ℕ
 
 pub record Held : Type 0 where
   pub kind : Kind
@@ -25,17 +33,23 @@ pub record Held : Type 0 where
 abbrev pub fresh : Kind → Held
 fresh kind = record { kind = kind; read = []; unread = []; at = 0; lost = None }
 
--- how many bytes the framer takes, out of 16,384
+-- how many bytes the framer takes
 abbrev pub room : Held → ℕ
-room held = 16384 - length held.unread
+room held = CAPACITY - length held.unread
 
 -- the framer once it went past some of the unread bytes
 abbrev pub past : ℕ → Held → Held
-past count held = record held { read = held.read ++ take count held.unread; unread = drop count held.unread; at = capped (held.at + count) }
+past count held = record held {
+  read = held.read ++ take count held.unread;
+  unread = drop count held.unread;
+  at = capped (held.at + count);
+}
 
 -- and dropped them as the front of a garbled piece
 abbrev pub lost_by : Lost → ℕ → Held → Held
-lost_by lost count held = record (past count held) { lost = Some (record lost { dropped = capped (lost.dropped + count) }) }
+lost_by lost count held = record (past count held) {
+  lost = Some (record lost { dropped = capped (lost.dropped + count) });
+}
 
 -- the garbled piece that ends after so many of them
 abbrev pub found_by : Lost → ℕ → Next

@@ -5,3 +5,5 @@ pub mod Held
 pub mod Framer
 pub mod Scan
 pub mod Sums
+pub mod Cause
+pub mod Laws

@@ -1,7 +1,4 @@
-use crate::{
-    FrameError, Framer, Garble, Kind, Next, Rest, frames_are_found, less_than_a_frame_is_awaited,
-    pieces_stay, the_shortest_front_is_broken, write_frame,
-};
+use crate::{FrameError, Framer, Garble, Kind, Next, Rest, laws, write_frame};
 use std::alloc::{AllocError, Global};
 use std::process::Abort;
 use std::test::Fail;
@@ -253,8 +250,8 @@ fn a_framer_starts_again(rt: HostRuntime) -> Result<(), Fail> {
 
 #[test]
 fn laws_are_called() {
-    pieces_stay();
-    frames_are_found();
-    the_shortest_front_is_broken();
-    less_than_a_frame_is_awaited();
+    laws::pieces_stay();
+    laws::frames_are_found();
+    laws::the_first_broken_rule_is_named();
+    laws::less_than_a_frame_is_awaited();
 }

@@ -1,21 +1,25 @@
-// Writing a frame.
+//! Writing a frame.
 ghost use Rattle.std.specs.Prelude.{◌≡◌, ◌↔◌, ◌<◌, ◌++◌, ℕ, List, length, take, Err, OnOk, OnErr};
 ghost use Rattle.frame_grammar.specs.Frame.{IsWritable, IsFrame, frame_of, front, trailer};
 ghost use Rattle.frame_grammar.specs.Found.{Whole, found};
 
-use crate::checksum::{opening_of, trailer_of};
+use crate::checksum::{begin_string_of, trailer_of};
 use crate::frame::{MAX_BODY, SOH};
 use crate::{FrameError, Kind};
 use itoa::Buffer;
 use std::alloc::AllocError;
 
-// Appends the frame of a body, whose length these digits say. It leaves what was there at the front.
+// Appends the frame of a body, whose length these digits say. It leaves what was there at the
+// front.
 fn append(kind: Kind, digits: &[u8], body: &[u8], out: &mut Vec<u8>) -> Result<(), AllocError>
-    ensures ok { OnOk result (out.new.items ≡ out.old.items ++ (front kind digits.now body.now ++ trailer (front kind digits.now body.now))) }
+    ensures ok { OnOk result (out.new.items ≡
+        out.old.items ++
+        (front kind digits.now body.now ++ trailer (front kind digits.now body.now))) }
     ensures kept { take (length out.old.items) out.new.items ≡ out.old.items }
 {
     let start = out.len();
-    out.extend_from_slice(opening_of(kind))?;
+    out.extend_from_slice(begin_string_of(kind))?;
+    out.extend_from_slice(b"9=")?;
     out.extend_from_slice(digits)?;
     out.push(SOH)?;
     out.extend_from_slice(body)?;
@@ -23,17 +27,21 @@ fn append(kind: Kind, digits: &[u8], body: &[u8], out: &mut Vec<u8>) -> Result<(
     out.extend_from_slice(&last)
 }
 
-/// Appends the frame of a body ("Message Format"): BeginString (8), BodyLength (9) without zeros in front, the body, and CheckSum (10).
+/// Appends the frame of a body ("Message Format"): BeginString(8), BodyLength(9) without zeros in
+/// front, the body, and CheckSum(10). The body begins with MsgType(35) and ends with SOH.
 ///
-/// The body begins with MsgType (35) and ends with SOH. One of more than 8,192 bytes is `TooLong`, exactly then;
-/// without memory for the frame, of at most 8,219 bytes, the answer is `NoMemory`.
+/// # Errors
+///
+/// `TooLong` exactly where the body has more than 8,192 bytes; `NoMemory` without memory for the
+/// frame, which has at most 8,219 bytes. After an error `out` is as before.
 pub fn write_frame(kind: Kind, body: &[u8], out: &mut Vec<u8>) -> Result<(), FrameError>
     requires { IsWritable body.now }
     ensures ok { OnOk result (out.new.items ≡ out.old.items ++ frame_of kind body.now) }
     ensures frame { OnOk result (IsFrame kind body.now (frame_of kind body.now)) }
     // It is read again, whatever follows it.
-    ensures found { OnOk result ((after : List ℕ) → found kind (frame_of kind body.now ++ after) ≡ Whole body.now after) }
-    ensures too_long { (result ≡ Err FrameError.TooLong) ↔ (8192 < length body.now) }
+    ensures found { OnOk result ((after : List ℕ) →
+        found kind (frame_of kind body.now ++ after) ≡ Whole body.now after) }
+    ensures too_long { (result ≡ Err FrameError.TooLong) ↔ (MAX_BODY < length body.now) }
     ensures err { OnErr result (out.new.items ≡ out.old.items) }
 {
     if body.len() > MAX_BODY {

@@ -1,11 +1,13 @@
-//! The program `fixgate`: it makes the input and the output of the standard streams, and hands them to
-//! [`gateway_top::run`] with the words of the command line. All that it does is said there.
+//! The program `fixgate`: it makes the input and the output of the standard streams, hands them to
+//! [`gateway_top::run`] with the words of the command line, and ends as [`gateway_top::End`] says.
 #![tactic(auto)]
 
-mod streams;
+mod adapters;
+#[cfg(test)]
+mod tests;
 
-use crate::streams::{Reading, Writing};
-use gateway_top::{Status, code, run};
+use crate::adapters::{Reading, Writing};
+use gateway_top::{End, Status, run};
 use std::process::ExitCode;
 use std::rt::Env;
 use std::{env, io};
@@ -39,8 +41,7 @@ fn main(rt: HostRuntime) -> ExitCode {
         }
         Err(status) => status,
     };
-    if status != Status::Done {
-        let _ = eprintln!(rt; "fixgate: {status}");
-    }
-    ExitCode::from(code(&status))
+    let end = End::new(status);
+    let _ = eprint!(rt; "{end}"); // nothing is left to say where standard error fails too
+    ExitCode::from(end.code())
 }

@@ -1,2 +1,3 @@
-pub mod Judging
+pub mod Catching
 pub mod Midway
+mod Worked

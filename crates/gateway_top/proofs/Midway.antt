@@ -11,12 +11,15 @@ use Rattle.frame_grammar.specs.declared.pieces.Rest.{Rest}
 use Rattle.frame_grammar.specs.Held.{Held}
 use Rattle.frame_grammar.specs.Cut.{Piece, ComeFirst, Cut}
 use Rattle.frame_grammar.specs.Framer.{StandsFor, EndsIn, place_after}
-use Rattle.gateway_top.specs.declared.command.Task.{Task}
-use Rattle.gateway_top.specs.declared.command.Task.TheVariants.{TranslateUp, CheckClient, CheckVenue}
+use Rattle.gateway_top.specs.declared.task.Task.{Task}
+use Rattle.gateway_top.specs.declared.task.Task.TheVariants.{TranslateUp, CheckClient, CheckVenue}
 use Rattle.gateway_top.specs.declared.status.Status.{Status}
 use Rattle.gateway_top.specs.declared.status.Status.TheVariants.{Done, Refused, Usage, InputFault, OutputFault, NoMemory, InputTooLong}
-use Rattle.gateway_top.specs.Stream.{input_limit, JudgesAll, Judged, IsJudged, has_ended, kind_of, stops, first_of, end_said, unfinished}
-use Rattle.gateway_top.specs.Run.{Waits, Stopped, Finished, Said, Ran, Ends}
+use Rattle.gateway_top.specs.Judge.{JudgesAll, end_said, unfinished}
+use Rattle.gateway_top.specs.Task.{has_ended, kind_of, stops, first_of}
+use Rattle.gateway_top.specs.Pass.{CaughtUp, Advances, Ends}
+use Rattle.gateway_top.specs.declared.stream.TheConstants.{MAX_INPUT}
+use Rattle.gateway_top.specs.Program.{Waits, Stopped, Finished, Said, Ran}
 
 pub record Midway (task : Task) (input_old input out_old out : Option (List ℕ)) (framer : Held) (refused : Option ℕ) (taken : ℕ) : Type 0 where
   pub bytes : List ℕ
@@ -63,6 +66,12 @@ pub appended_front : (a b c : Option (List ℕ)) (said more : List ℕ) → Appe
 appended_front a b c said more before (n, after) =
     (length said + n, subst (λ (l : List ℕ). Appends a c l) (sym (take-append-add said more n)) (Appends-trans a b c said (take n more) before after))
 
+consumed_kept : (a b c : Option (List ℕ)) (bytes : List ℕ) → Consumes a b bytes → Keeps b c → Consumes a c bytes
+consumed_kept None b c bytes is kept = is
+consumed_kept (Some xs) None c bytes is kept = absurd is
+consumed_kept (Some xs) (Some ys) None bytes is kept = absurd kept
+consumed_kept (Some xs) (Some ys) (Some zs) bytes is kept = is ∙ ap (λ (l : List ℕ). bytes ++ l) (sym kept)
+
 take_front : (xs ys : List ℕ) (n : ℕ) → length xs ≡ n → take n (xs ++ ys) ≡ xs
 take_front xs ys n is = subst (λ (k : ℕ). take k (xs ++ ys) ≡ xs) is (take-append_seam xs ys)
 
@@ -80,8 +89,8 @@ module _ (task : Task) where
     consumed_more later piece more = Consumes-trans input_old input later m.bytes piece m.consumed more
 
     -- and judged
-    module _ (after : Held) (next : Option ℕ) (piece now : List ℕ) (kind : after.kind ≡ kind_of task) (judged : IsJudged task framer after refused next piece now) where
-      pub j : Judged task after (m.bytes ++ piece) m.answered next m.said [] now
+    module _ (after : Held) (next : Option ℕ) (piece now : List ℕ) (kind : after.kind ≡ kind_of task) (judged : Advances task framer after refused next piece now) where
+      pub j : CaughtUp task after (m.bytes ++ piece) m.answered next m.said [] now
       j = judged m.bytes m.answered m.said m.stands m.going m.judges
 
       pub now_is : now ≡ j.said
@@ -140,8 +149,8 @@ module _ (task : Task) where
       said_now few left = by_end few (stops task) refl next refl left
 
     -- the input has ended
-    module _ (left : Option (List ℕ)) (end : Rest) (at_end : IsAtEnd left) (within : taken ≤ input_limit) (ends : EndsIn end (kind_of task) (place_after m.answered) m.rest) where
-      short : length m.bytes ≤ input_limit
+    module _ (left : Option (List ℕ)) (end : Rest) (at_end : IsAtEnd left) (within : taken ≤ MAX_INPUT) (ends : EndsIn end (kind_of task) (place_after m.answered) m.rest) where
+      short : length m.bytes ≤ MAX_INPUT
       short = omega (arith, m.taken_is)
 
       finished : (found : Option ℕ) → first_of refused (unfinished end) ≡ found → Finished task m.bytes found (m.said ++ end_said task end)
@@ -177,19 +186,22 @@ module _ (task : Task) where
         subst (λ (l : List ℕ). Consumes input_old later l) (ap (λ (l : List ℕ). m.bytes ++ l) none ∙ append-nil m.bytes) (consumed_more later piece more)
 
     -- one byte more than the input may have was taken
-    pub too_long : (left : Option (List ℕ)) (piece : List ℕ) → taken ≡ input_limit → length piece ≡ 1 → Ran task InputTooLong (m.bytes ++ piece) left out_old out
+    pub too_long : (left : Option (List ℕ)) (piece : List ℕ) → taken ≡ MAX_INPUT → length piece ≡ 1 → Ran task InputTooLong (m.bytes ++ piece) left out_old out
     too_long left piece full one = (
       omega (arith, length-append m.bytes piece, m.taken_is),
-      (refused, m.said, subst (λ (l : List ℕ). Waits task l refused m.said) (sym (take_front m.bytes piece input_limit (m.taken_is ∙ full))) waits, m.put),
+      (refused, m.said, subst (λ (l : List ℕ). Waits task l refused m.said) (sym (take_front m.bytes piece MAX_INPUT (m.taken_is ∙ full))) waits, m.put),
     )
 
     -- the next bytes were taken, and memory was wanting to judge them
-    pub no_memory : (left put : Option (List ℕ)) (piece : List ℕ) → taken + length piece ≤ input_limit → Keeps out put → Ran task NoMemory (m.bytes ++ piece) left out_old put
+    pub no_memory : (left put : Option (List ℕ)) (piece : List ℕ) → taken + length piece ≤ MAX_INPUT → Keeps out put → Ran task NoMemory (m.bytes ++ piece) left out_old put
     no_memory left put piece within kept = (
       omega (arith, length-append m.bytes piece, m.taken_is),
       (length m.bytes, refused, m.said, subst (λ (l : List ℕ). Waits task l refused m.said) (sym (take_front m.bytes piece (length m.bytes) refl)) waits, Appends-kept out_old out put m.said m.put kept),
     )
 
+    pub consumed_still : (later : Option (List ℕ)) → Keeps input later → Consumes input_old later m.bytes
+    consumed_still later kept = consumed_kept input_old input later m.bytes m.consumed kept
+
     -- the source failed
-    pub input_failed : (left : Option (List ℕ)) → taken ≤ input_limit → Ran task InputFault m.bytes left out_old out
+    pub input_failed : (left : Option (List ℕ)) → taken ≤ MAX_INPUT → Ran task InputFault m.bytes left out_old out
     input_failed left within = (omega (arith, m.taken_is), (refused, m.said, waits, m.put))

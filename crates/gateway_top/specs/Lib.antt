@@ -1,5 +1,7 @@
-pub mod Words
+pub mod Command
+pub mod Task
 pub mod Status
-pub mod Lines
-pub mod Stream
-pub mod Run
+pub mod Line
+pub mod Judge
+pub mod Program
+pub mod Pass

@@ -1,6 +1,7 @@
--- The exit status and the printed line of each status.
-use Rattle.std.specs.Prelude.{ℕ, List, ◌++◌, codes}
+-- Own: the exit code and the printed line of each status; docs/DECISIONS.md, "Commands".
+use Rattle.std.specs.Prelude.{ℕ, List, [], ◌∷◌, ◌++◌, codes}
 use Rattle.std.specs.Fmt.{decimal}
+use Rattle.gateway_top.specs.Line.{LF}
 use Rattle.gateway_top.specs.declared.status.Status.{Status}
 use Rattle.gateway_top.specs.declared.status.Status.TheVariants.{Done, Refused, Usage, InputFault, OutputFault, NoMemory, InputTooLong}
 
@@ -21,3 +22,17 @@ status_line InputFault = codes "input fault"
 status_line OutputFault = codes "output fault"
 status_line NoMemory = codes "out of memory"
 status_line InputTooLong = codes "input too long"
+
+-- what goes to standard error at the end: nothing where the command was done, else the program's
+-- name and the status
+abbrev pub last_words : Status → List ℕ
+last_words Done = []
+last_words status = codes "fixgate: " ++ status_line status ++ LF ∷ []
+
+-- how the program ends: what it exits with, and what it prints to standard error
+pub record End : Type 0 where
+  pub code : ℕ
+  pub printed : List ℕ
+
+abbrev pub end_of : Status → End
+end_of status = record { code = code_of status; printed = last_words status }

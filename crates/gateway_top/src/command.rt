@@ -2,7 +2,9 @@
 
 ghost use Rattle.std.specs.Prelude.{◌≡◌, map};
 ghost use Rattle.std.specs.String.{string_bytes};
-ghost use Rattle.gateway_top.specs.Words.{command_of};
+ghost use Rattle.gateway_top.specs.Command.{command_of};
+
+use crate::task::Task;
 
 /// What the words of the command line ask for.
 #[derive(Clone, Copy, Debug, PartialEq, Eq)]
@@ -13,17 +15,6 @@ pub enum Command {
     Version,
     /// What is done to a stream of frames.
     Stream(Task),
-}
-
-/// What is done to a stream of frames.
-#[derive(Clone, Copy, Debug, PartialEq, Eq)]
-pub enum Task {
-    /// `translate up`: the orders of a client, FIX 4.2, are written as the venue takes them.
-    TranslateUp,
-    /// `check client`: a line is written for each piece of a stream of FIX 4.2.
-    CheckClient,
-    /// `check venue`: a line is written for each piece of a stream of FIXT 1.1.
-    CheckVenue,
 }
 
 /// The command of these words; `None` where they are none of the forms.

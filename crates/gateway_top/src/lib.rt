@@ -1,14 +1,16 @@
-//! The top call of the gateway: [`run`] is all that the program `fixgate` does with its words, its input and its output.
+//! The top call of the gateway: [`run`] is all that the program `fixgate` does with its words, its
+//! input and its output, and [`End`] is how it ends.
 #![tactic(auto)]
 
 mod command;
-mod judge;
 mod line;
+mod pass;
 mod program;
 mod status;
 mod stream;
+mod task;
 #[cfg(test)]
 mod tests;
 
 pub use program::run;
-pub use status::{Status, code};
+pub use status::{End, Status, code};

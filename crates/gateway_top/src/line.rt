@@ -1,18 +1,15 @@
 //! The lines that `check` prints.
 
 ghost use Rattle.std.specs.Prelude.{◌≡◌, ◌==◌, ◌++◌, position, decimal, OnOk};
-ghost use Rattle.gateway_top.specs.Lines.{head, type_in, result_of, cause_name, frame_line, garbled_line, inside_line};
+ghost use Rattle.gateway_top.specs.Line.{head, type_in, result_of, cause_name, frame_line, garbled_line, inside_line};
 
-use frame_grammar::Garble;
+use frame_grammar::{Garble, SOH};
 use itoa::Buffer;
 use std::alloc::AllocError;
 
-/// The byte that ends a field.
-const SOH: u8 = 1;
-
 /// The place of the first SOH.
 fn first_soh(bytes: &[u8]) -> Option<usize>
-    ensures { result ≡ position (λ byte. byte == 1) bytes.now }
+    ensures { result ≡ position (λ byte. byte == SOH) bytes.now }
 {
     bytes.iter().position(|byte| *byte == SOH)
 }
@@ -28,7 +25,8 @@ fn type_in(body: &[u8]) -> &[u8]
     }
 }
 
-/// What is said of a message of a type: those of the session are known, and no other is read yet. It ends the line.
+/// What is said of a message of a type: those of the session are known, and no other is read yet.
+/// It ends the line.
 fn result_of(msg_type: &[u8]) -> &'static [u8]
     ensures { result.now ≡ result_of msg_type.now }
 {
@@ -69,7 +67,7 @@ fn append_head(at: u64, what: &[u8], len: u64, out: &mut Vec<u8>) -> Result<(), 
 }
 
 /// Appends the line of a frame: its place, its length, its type, and what is said of it.
-#[tactic(auto, unfolding(crate::specs::Lines::frame_line))]
+#[tactic(auto, unfolding(crate::specs::Line::frame_line))]
 pub(crate) fn append_frame(
     at: u64,
     len: u64,
@@ -86,7 +84,7 @@ pub(crate) fn append_frame(
 }
 
 /// Appends the line of a garbled piece: its place, its length and its cause.
-#[tactic(auto, unfolding(crate::specs::Lines::garbled_line))]
+#[tactic(auto, unfolding(crate::specs::Line::garbled_line))]
 pub(crate) fn append_garbled(
     at: u64,
     len: u64,
@@ -102,8 +100,9 @@ pub(crate) fn append_garbled(
     Ok(())
 }
 
-/// Appends the line of the input's end inside a frame: where that begins, and how many bytes of it came.
-#[tactic(auto, unfolding(crate::specs::Lines::inside_line))]
+/// Appends the line of the input's end inside a frame: where that begins, and how many bytes of it
+/// came.
+#[tactic(auto, unfolding(crate::specs::Line::inside_line))]
 pub(crate) fn append_inside(at: u64, len: u64, out: &mut Vec<u8>) -> Result<(), AllocError>
     ensures { OnOk result (out.new.items ≡ out.old.items ++ inside_line at len) }
 {

@@ -1,14 +1,15 @@
 //! The one call that the program makes.
 
-ghost use Rattle.std.specs.Prelude.{◌≡◌, ◌↔◌, map, None, MatchOption, OnOk, OnErr};
+ghost use Rattle.std.specs.Prelude.{◌≢◌, ◌≡◌, ◌↔◌, map, false, None, MatchOption};
 ghost use Rattle.std.specs.String.{string_bytes};
 ghost use Rattle.outside.specs.Causes.{Rose};
-ghost use Rattle.gateway_top.specs.Words.{command_of};
-ghost use Rattle.gateway_top.specs.Run.{Wrote, Does, Leaves};
+ghost use Rattle.gateway_top.specs.Command.{command_of};
+ghost use Rattle.gateway_top.specs.Program.{Wrote, Does, Leaves, ReadsToEnd};
 
 use crate::Status;
 use crate::command::{Command, read_command};
-use crate::stream::{put_text, run_stream};
+use crate::pass::put_text;
+use crate::stream::run_stream;
 use outside::{Sink, Source};
 use std::alloc::Global;
 
@@ -47,7 +48,9 @@ const VERSION: &str = "fixgate 0.1.0\n";
 /// Writes a text.
 fn write_text<O: Sink>(out: &mut O, text: &str) -> Status
     ensures wrote { Wrote result text.now (O.bytes out.old) (O.bytes out.new) }
-    ensures output_fault { result ≡ Status.OutputFault → Rose (O.faults out.old) (O.faults out.new) }
+    ensures output_fault { result ≡ Status.OutputFault
+        → Rose (O.faults out.old) (O.faults out.new) }
+    ensures output_still { result ≢ Status.OutputFault → O.faults out.new ≡ O.faults out.old }
 {
     match put_text(out, text.as_bytes()) {
         Ok(()) => Status::Done,
@@ -55,28 +58,40 @@ fn write_text<O: Sink>(out: &mut O, text: &str) -> Status
     }
 }
 
-/// Does what the words of the command line ask for: reads `input`, writes to `out`, and says how that ended.
+/// Does what the words of the command line ask for: reads `input`, which has not told its end,
+/// writes to `out`, and says how that ended. No read follows the end of the input.
 ///
-/// The clauses on the content of the input and the output hold where the source and the sink tell it.
-/// [`Status::Usage`] comes exactly where the words are none of the forms, and then nothing was read or put.
-/// [`Status::InputFault`] and [`Status::OutputFault`] come only where the source or the sink counted a fault in this call.
-/// Each other status says of the input what it is named for, and what was put.
+/// The clauses on the content of the input and the output hold where the source and the sink tell
+/// it. [`Status::Usage`] comes exactly where the words are none of the forms, and then nothing was
+/// read or put. [`Status::InputFault`] and [`Status::OutputFault`] come exactly where the source or
+/// the sink counted a fault in this call, but for a count that stands at its last value. Each other
+/// status says of the input what it is named for, and what was put.
 pub fn run<I: Source, O: Sink>(
     alloc: Global,
     words: &[String],
     input: &mut I,
     out: &mut O,
 ) -> Status
+    requires { I.ended input.old ≡ false }
     ensures usage { (result ≡ Status.Usage) ↔ (command_of (map string_bytes words.now) ≡ None) }
     ensures unused { result ≡ Status.Usage → (input.new ≡ input.old) × (out.new ≡ out.old) }
 
     // What the command read and put, by the status.
     ensures does { MatchOption (command_of (map string_bytes words.now)) (Unit {0})
-        (λ command. Does HELP.now VERSION.now command result (I.left input.old) (I.left input.new) (O.bytes out.old) (O.bytes out.new)) }
-    ensures leaves { MatchOption (command_of (map string_bytes words.now)) (Unit {0}) (λ command. Leaves command input.old input.new) }
+        (λ command. Does HELP.now VERSION.now command result
+        (I.left input.old) (I.left input.new) (O.bytes out.old) (O.bytes out.new)) }
+    ensures leaves { MatchOption (command_of (map string_bytes words.now)) (Unit {0})
+        (λ command. Leaves command input.old input.new) }
+    ensures to_the_end { MatchOption (command_of (map string_bytes words.now)) (Unit {0})
+        (λ command. ReadsToEnd command result (I.ended input.new)) }
 
-    ensures input_fault { result ≡ Status.InputFault → Rose (I.faults input.old) (I.faults input.new) }
-    ensures output_fault { result ≡ Status.OutputFault → Rose (O.faults out.old) (O.faults out.new) }
+    ensures input_fault { result ≡ Status.InputFault
+        → Rose (I.faults input.old) (I.faults input.new) }
+    ensures output_fault { result ≡ Status.OutputFault
+        → Rose (O.faults out.old) (O.faults out.new) }
+    // A fault that was counted is told.
+    ensures input_still { result ≢ Status.InputFault → I.faults input.new ≡ I.faults input.old }
+    ensures output_still { result ≢ Status.OutputFault → O.faults out.new ≡ O.faults out.old }
 {
     match read_command(words) {
         Some(Command::Stream(task)) => run_stream(alloc, task, input, out),

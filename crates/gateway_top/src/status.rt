@@ -1,9 +1,10 @@
 //! How a run of the program ended.
 
 ghost use Rattle.std.specs.Prelude.{◌≡◌};
-ghost use Rattle.gateway_top.specs.Status.{code_of};
+ghost use Rattle.gateway_top.specs.Status.{code_of, end_of};
 
 use std::fmt;
+use std::marker::Model;
 
 /// How a run ended. Its `Display` is the line that the program prints for it.
 #[derive(Clone, Copy, Debug, PartialEq, Eq)]
@@ -55,5 +56,49 @@ pub fn code(status: &Status) -> u8
         Status::OutputFault => 5,
         Status::NoMemory => 11,
         Status::InputTooLong => 12,
+    }
+}
+
+/// How the program ends: the code with which it exits, and what it prints to standard error, which
+/// is its `Display`: nothing where the command was done, else a line with the status.
+#[derive(Drop)]
+pub struct End {
+    status: Status,
+}
+
+impl Model for End {
+    ghost use Rattle.gateway_top.specs.Status.{End, end_of};
+
+    ghost Value = { End };
+
+    ghost view = { λ end. end_of end.status };
+}
+
+impl End {
+    /// How the program ends after a run with this status.
+    pub fn new(status: Status) -> End
+        ensures { result ≡ end_of status }
+    {
+        End { status }
+    }
+
+    /// The exit code.
+    pub fn code(&self) -> u8
+        ensures { result ≡ self.now.code }
+    {
+        code(&self.status)
+    }
+}
+
+impl fmt::Display for End {
+    ghost use Rattle.std.specs.Prelude.{Some};
+
+    ghost output = { λ end. Some end.printed };
+
+    fn fmt<W: fmt::Write>(&self, f: &mut fmt::Formatter<W>) -> fmt::Result {
+        match self.status {
+            Status::Done => Ok(()),
+            status => writeln!(f, "fixgate: {status}"),
+        }
     }
 }

@@ -1,8 +1,40 @@
-use crate::{Status, code, run};
+//! The program over inputs and outputs in memory. Frames are cut and summed by hand; lines and codes are
+//! those of the help and of the README.
+
+use crate::{End, Status, code, run};
 use outside::{MemSink, MemSource};
 use std::alloc::Global;
 use std::process::Abort;
 use std::test::Fail;
+
+/// What `--help` prints.
+const HELP: &str = "\
+fixgate is a gateway from a trading client of FIX 4.2 to a venue of FIX 5.0 SP2 over FIXT 1.1.
+So far it translates plain orders and checks streams.
+
+Usage: fixgate COMMAND
+
+  translate up    reads FIX 4.2 orders from standard input and writes them to standard output as
+                  the venue takes them; ends at the first piece of the input that it refuses
+  check client    reads a stream of FIX 4.2 and prints a line for each frame and each garbled piece
+  check venue     the same of a stream of FIXT 1.1
+  --help          prints this text
+  --version       prints the version
+
+A plain order is a NewOrderSingle with the fields 35=D 49 56 34 52 11 [109] 21 55 54 60 38 40 [44] in
+this order; docs/DEFINITIONS.md has the form of each. Frames are read as they are on the wire, with
+SOH (byte 1) behind each field.
+
+Exit status:
+   0  done
+   1  refused: a piece of the input is garbled, unfinished or not translated; its place is printed
+   2  usage: the words are none of the above
+   4  the input failed
+   5  the output failed
+  11  out of memory
+  12  the input has more than 67,108,864 bytes
+On any status but 0 a line with the reason goes to standard error.
+";
 
 /// A plain order, and the same as the venue takes it.
 const ORDER: &[u8] =
@@ -23,7 +55,8 @@ const WRONG_SUM: &[u8] =
 const VENUE: &[u8] =
     b"8=FIXT.1.1\x019=47\x0135=0\x0149=VENU\x0156=GATE\x0134=2\x0152=20240102-10:00:00\x0110=163\x018=FIXT.1.1\x019=4";
 
-/// A run with these words separated by a space, over this input and a sink, each of which fails at the listed calls.
+/// A run with these words separated by a space, over this input and a sink, each of which fails at the
+/// listed calls.
 fn ran(
     alloc: Global,
     line: &str,
@@ -49,10 +82,11 @@ fn ends(
     input: &[u8],
     status: Status,
     put: &[u8],
+    name: &str,
 ) -> Result<(), Fail> {
     let (ended, sink) = ran(alloc, line, input, &[], &[])?;
-    assert_eq!(rt; ended, status, "{line}");
-    assert_eq!(rt; sink.bytes(), put, "{line}");
+    assert_eq!(rt; ended, status, "{line}: {name}");
+    assert_eq!(rt; sink.bytes(), put, "{line}: {name}");
     Ok(())
 }
 
@@ -61,93 +95,90 @@ fn orders_go_up(rt: HostRuntime) -> Result<(), Fail> {
     let alloc = rt.alloc();
     let twice = [ORDER, ORDER].concat(alloc)?;
     let up_twice = [UP, UP].concat(alloc)?;
-    let cut = [ORDER, &ORDER[..142]].concat(alloc)?;
-    ends(&rt, alloc, "translate up", ORDER, Status::Done, UP)?;
-    ends(&rt, alloc, "translate up", &twice, Status::Done, &up_twice)?;
-    ends(&rt, alloc, "translate up", b"", Status::Done, b"")?;
-    ends(
-        &rt,
-        alloc,
-        "translate up",
-        &ORDER[..142],
-        Status::Refused { at: 0 },
-        b"",
-    )?;
-    ends(
-        &rt,
-        alloc,
-        "translate up",
-        &cut,
-        Status::Refused { at: 143 },
-        UP,
-    )?;
-    ends(
-        &rt,
-        alloc,
-        "translate up",
-        STOP_ORDER,
-        Status::Refused { at: 0 },
-        b"",
-    )?;
-    ends(
-        &rt,
-        alloc,
-        "translate up",
-        &[ORDER, WRONG_SUM, ORDER].concat(alloc)?,
-        Status::Refused { at: 143 },
-        UP,
-    )?;
+    let unfinished = [ORDER, &ORDER[..142]].concat(alloc)?;
+    let garbled = [ORDER, WRONG_SUM, ORDER].concat(alloc)?;
+    for (name, input, status, put) in [
+        ("an order", ORDER, Status::Done, UP),
+        (
+            "two orders",
+            twice.as_slice(),
+            Status::Done,
+            up_twice.as_slice(),
+        ),
+        ("nothing", b"", Status::Done, b""),
+        (
+            "no last byte",
+            &ORDER[..142],
+            Status::Refused { at: 0 },
+            b"",
+        ),
+        (
+            "a second unfinished",
+            unfinished.as_slice(),
+            Status::Refused { at: 143 },
+            UP,
+        ),
+        ("a stop order", STOP_ORDER, Status::Refused { at: 0 }, b""),
+        (
+            "a wrong sum between",
+            garbled.as_slice(),
+            Status::Refused { at: 143 },
+            UP,
+        ),
+    ] {
+        ends(&rt, alloc, "translate up", input, status, put, name)?;
+    }
     Ok(())
 }
 
 #[test]
 fn streams_are_checked(rt: HostRuntime) -> Result<(), Fail> {
     let alloc = rt.alloc();
-    ends(
-        &rt,
-        alloc,
-        "check client",
-        WRONG_SUM,
-        Status::Refused { at: 0 },
-        b"0 garbled 69 Sum\n69 frame 79 1 session\n",
-    )?;
-    ends(
-        &rt,
-        alloc,
-        "check client",
-        &[ORDER, b"8=FIX.4.2\x019=8193\x01", ORDER].concat(alloc)?,
-        Status::Refused { at: 143 },
-        b"0 frame 143 D unread\n143 garbled 17 TooLong\n160 frame 143 D unread\n",
-    )?;
-    ends(
-        &rt,
-        alloc,
-        "check venue",
-        VENUE,
-        Status::Refused { at: 70 },
-        b"0 frame 70 0 session\n70 inside 14\n",
-    )?;
-    ends(
-        &rt,
-        alloc,
-        "check venue",
-        &VENUE[..70],
-        Status::Done,
-        b"0 frame 70 0 session\n",
-    )?;
-    ends(
-        &rt,
-        alloc,
-        "check client",
-        b"x",
-        Status::Refused { at: 0 },
-        b"0 garbled 1 BeginString\n",
-    )?;
+    let long = [ORDER, b"8=FIX.4.2\x019=8193\x01", ORDER].concat(alloc)?;
+    for (name, line, input, status, put) in [
+        (
+            "a wrong sum",
+            "check client",
+            WRONG_SUM,
+            Status::Refused { at: 0 },
+            b"0 garbled 69 Sum\n69 frame 79 1 session\n".as_slice(),
+        ),
+        (
+            "a body too long",
+            "check client",
+            long.as_slice(),
+            Status::Refused { at: 143 },
+            b"0 frame 143 D unread\n143 garbled 17 TooLong\n160 frame 143 D unread\n",
+        ),
+        (
+            "a front at the end",
+            "check venue",
+            VENUE,
+            Status::Refused { at: 70 },
+            b"0 frame 70 0 session\n70 inside 14\n",
+        ),
+        (
+            "a heartbeat",
+            "check venue",
+            &VENUE[..70],
+            Status::Done,
+            b"0 frame 70 0 session\n",
+        ),
+        (
+            "a byte",
+            "check client",
+            b"x",
+            Status::Refused { at: 0 },
+            b"0 garbled 1 BeginString\n",
+        ),
+    ] {
+        ends(&rt, alloc, line, input, status, put, name)?;
+    }
     Ok(())
 }
 
 #[test]
-fn words_and_faults(rt: HostRuntime) -> Result<(), Fail> {
+fn words_are_judged(rt: HostRuntime) -> Result<(), Fail> {
     let alloc = rt.alloc();
     for line in [
         "",
@@ -158,20 +189,32 @@ fn words_and_faults(rt: HostRuntime) -> Result<(), Fail> {
         "check gate",
         "--help up",
     ] {
-        ends(&rt, alloc, line, ORDER, Status::Usage, b"")?;
+        ends(&rt, alloc, line, ORDER, Status::Usage, b"", "no form")?;
     }
+    let version = b"fixgate 0.1.0\n";
     ends(
         &rt,
         alloc,
         "--version",
         b"",
         Status::Done,
-        b"fixgate 0.1.0\n",
+        version,
+        "the version",
     )?;
-    let (help, text) = ran(alloc, "--help", b"", &[], &[])?;
-    assert_eq!(rt; help, Status::Done);
-    assert!(rt; text.bytes().starts_with(b"fixgate "));
+    ends(
+        &rt,
+        alloc,
+        "--help",
+        b"",
+        Status::Done,
+        HELP.as_bytes(),
+        "the help",
+    )
+}
 
+#[test]
+fn faults_are_told(rt: HostRuntime) -> Result<(), Fail> {
+    let alloc = rt.alloc();
     // The second read finds the end of input.
     let (first, nothing) = ran(alloc, "translate up", ORDER, &[1], &[])?;
     assert_eq!(rt; first, Status::InputFault);
@@ -215,21 +258,15 @@ fn a_fault_in_the_middle_leaves_what_was_said(rt: HostRuntime) -> Result<(), Fai
 fn an_input_has_a_limit(rt: HostRuntime) -> Result<(), Fail> {
     let alloc = rt.alloc();
     let mut input = vec![in alloc; 0u8; 67_108_864]?;
+    let refused = Status::Refused { at: 0 };
     ends(
         &rt,
         alloc,
         "translate up",
         &input,
-        Status::Refused { at: 0 },
+        refused,
         b"",
-    )?;
-    ends(
-        &rt,
-        alloc,
-        "check client",
-        &input,
-        Status::Refused { at: 0 },
-        b"0 garbled 67108864 BeginString\n",
+        "the limit",
     )?;
     input.push(0)?;
     ends(
@@ -239,33 +276,56 @@ fn an_input_has_a_limit(rt: HostRuntime) -> Result<(), Fail> {
         &input,
         Status::InputTooLong,
         b"",
-    )?;
-    ends(
-        &rt,
-        alloc,
-        "check client",
-        &input,
-        Status::InputTooLong,
-        b"",
-    )?;
-    Ok(())
+        "a byte more",
+    )
 }
 
 #[test]
 fn a_status_has_a_code_and_a_line(rt: HostRuntime) -> Result<(), Fail> {
     let alloc = rt.alloc();
-    for (status, number, line) in [
-        (Status::Done, 0, "done"),
-        (Status::Refused { at: 143 }, 1, "refused at 143"),
-        (Status::Usage, 2, "usage"),
-        (Status::InputFault, 4, "input fault"),
-        (Status::OutputFault, 5, "output fault"),
-        (Status::NoMemory, 11, "out of memory"),
-        (Status::InputTooLong, 12, "input too long"),
+    // The help ends with the table of the codes.
+    let mut table = b"Exit status:\n".to_vec(alloc)?;
+    for (status, number, line, meaning) in [
+        (Status::Done, 0, "done", "done"),
+        (
+            Status::Refused { at: 143 },
+            1,
+            "refused at 143",
+            "refused: a piece of the input is garbled, unfinished or not translated; its place is printed",
+        ),
+        (
+            Status::Usage,
+            2,
+            "usage",
+            "usage: the words are none of the above",
+        ),
+        (Status::InputFault, 4, "input fault", "the input failed"),
+        (Status::OutputFault, 5, "output fault", "the output failed"),
+        (Status::NoMemory, 11, "out of memory", "out of memory"),
+        (
+            Status::InputTooLong,
+            12,
+            "input too long",
+            "the input has more than 67,108,864 bytes",
+        ),
     ] {
-        assert_eq!(rt; code(&status), number);
+        assert_eq!(rt; code(&status), number, "{line}");
+        let row = format!(in alloc; "{number:>4}  {meaning}\n")?;
+        table.extend_from_slice(row.as_bytes())?;
         let shown = format!(in alloc; "{status}")?;
-        assert_eq!(rt; shown.as_str(), line);
+        assert_eq!(rt; shown.as_bytes(), line.as_bytes());
+        let end = End::new(status);
+        assert_eq!(rt; end.code(), number, "{line}");
+        let printed = format!(in alloc; "{end}")?;
+        let words = match status {
+            Status::Done => String::new(alloc),
+            _ => format!(in alloc; "fixgate: {line}\n")?,
+        };
+        assert_eq!(rt; printed.as_bytes(), words.as_bytes());
     }
+    table.extend_from_slice(
+        b"On any status but 0 a line with the reason goes to standard error.\n",
+    )?;
+    assert!(rt; HELP.as_bytes().ends_with(&table));
     Ok(())
 }

@@ -1,0 +1,113 @@
+-- Own: what a run of the program did, by the status with which it ended; docs/DECISIONS.md,
+-- "Commands".
+use Rattle.std.specs.Prelude.{◌≡◌, ℕ, ◌+◌, ◌≤◌, Bool, true, false, List, [], ◌++◌, length, take, ◌⊎◌, Some, None}
+use Rattle.std.specs.declared.option.Option.{Option}
+use Rattle.std.specs.Io.KnownBytes.{Appends, Consumes, Keeps, IsAtEnd}
+use Rattle.outside.specs.Bytes.{AppendsFront}
+use Rattle.frame_grammar.specs.declared.pieces.Rest.{Rest}
+use Rattle.frame_grammar.specs.Cut.{Piece, ComeFirst, Cut}
+use Rattle.frame_grammar.specs.Framer.{place_after, EndsIn}
+use Rattle.gateway_top.specs.Judge.{JudgesAll, end_said, unfinished}
+use Rattle.gateway_top.specs.Task.{kind_of, stops, has_ended, first_of}
+use Rattle.gateway_top.specs.declared.stream.TheConstants.{MAX_INPUT, MAX_READ}
+use Rattle.gateway_top.specs.declared.command.Command.{Command}
+use Rattle.gateway_top.specs.declared.command.Command.TheVariants.{Help, Version, Stream}
+use Rattle.gateway_top.specs.declared.task.Task.{Task}
+use Rattle.gateway_top.specs.declared.status.Status.{Status}
+use Rattle.gateway_top.specs.declared.status.Status.TheVariants.{Done, Refused, Usage, InputFault, OutputFault, NoMemory, InputTooLong}
+
+-- The task has judged every piece that stands whole in these bytes, and has not ended: of those
+-- that it refused the first begins here, and this is what it said.
+pub record Waits (task : Task) (bytes : List ℕ) (refused : Option ℕ) (said : List ℕ) : Type 0 where
+  pub pieces : List Piece
+  pub rest : List ℕ
+  pub cut : Cut (kind_of task) bytes pieces rest
+  pub judges : JudgesAll task [] pieces refused said
+  pub going : has_ended task refused ≡ false
+
+-- The task has ended at a piece that stands whole in these bytes, which is the first that it
+-- refused and begins here. Before the last read, of 4,096 bytes at most, it had judged every piece
+-- that stood whole, and had not ended.
+pub record Stopped (task : Task) (bytes : List ℕ) (at : ℕ) (said : List ℕ) : Type 0 where
+  pub pieces : List Piece
+  pub left : List ℕ
+  pub come : ComeFirst (kind_of task) bytes pieces left
+  pub judges : JudgesAll task [] pieces (Some at) said
+  pub stops : stops task ≡ true
+  pub before : ℕ
+  pub near : length bytes ≤ before + MAX_READ
+  pub waited : (refused : Option ℕ) × (earlier : List ℕ)
+      × Waits task (take before bytes) refused earlier
+
+-- The task has judged every piece of these bytes, after which the input ends, and said how they
+-- end. The first piece that it refused, or the unfinished one at the end, begins here.
+pub record Finished (task : Task) (bytes : List ℕ) (found : Option ℕ) (said : List ℕ) : Type 0 where
+  pub pieces : List Piece
+  pub rest : List ℕ
+  pub cut : Cut (kind_of task) bytes pieces rest
+  pub refused : Option ℕ
+  pub judged : List ℕ
+  pub judges : JudgesAll task [] pieces refused judged
+  pub going : has_ended task refused ≡ false
+  pub end : Rest
+  pub ends : EndsIn end (kind_of task) (place_after pieces) rest
+  pub first : found ≡ first_of refused (unfinished end)
+  pub joined : said ≡ judged ++ end_said task end
+
+-- this is what the task said at some time of the run
+abbrev pub Said : Task → List ℕ → Option (List ℕ) → List ℕ → Type 0
+Said task bytes left said =
+    ((refused : Option ℕ) × Waits task bytes refused said) ⊎
+    (((at : ℕ) × Stopped task bytes at said) ⊎
+    (IsAtEnd left × ((found : Option ℕ) × Finished task bytes found said)))
+
+-- At this status of a task, which took these bytes of the input and left those, the sink went from
+-- old to new.
+abbrev pub Ran : Task → Status → List ℕ → Option (List ℕ) → Option (List ℕ) → Option (List ℕ)
+    → Type 0
+Ran task Done taken left old new =
+    (length taken ≤ MAX_INPUT) × IsAtEnd left × ((said : List ℕ) × Finished task taken None said
+    × Appends old new said)
+Ran task (Refused at) taken left old new =
+    (length taken ≤ MAX_INPUT) × ((said : List ℕ) ×
+    (Stopped task taken at said ⊎ (IsAtEnd left × Finished task taken (Some at) said))
+    × Appends old new said)
+Ran task Usage taken left old new = ⊥
+-- one byte more than an input may have was taken, and is not judged
+Ran task InputTooLong taken left old new =
+    (length taken ≡ MAX_INPUT + 1) × ((refused : Option ℕ) × (said : List ℕ) ×
+    Waits task (take MAX_INPUT taken) refused said × Appends old new said)
+Ran task InputFault taken left old new =
+    (length taken ≤ MAX_INPUT) × ((refused : Option ℕ) × (said : List ℕ) ×
+    Waits task taken refused said × Appends old new said)
+Ran task OutputFault taken left old new =
+    (length taken ≤ MAX_INPUT) × ((said : List ℕ) × Said task taken left said
+    × AppendsFront old new said)
+-- of the bytes that were taken, some at the end may not have been judged
+Ran task NoMemory taken left old new =
+    (length taken ≤ MAX_INPUT) × ((n : ℕ) × (refused : Option ℕ) × (said : List ℕ) ×
+    Waits task (take n taken) refused said × Appends old new said)
+
+-- At this status of a command that writes a text and reads no input, the sink went from old to new.
+abbrev pub Wrote : Status → List ℕ → Option (List ℕ) → Option (List ℕ) → Type 0
+Wrote Done text old new = Appends old new text
+Wrote OutputFault text old new = AppendsFront old new text
+Wrote status text old new = ⊥
+
+-- What a command did at a status: what it took of the input, and what it put.
+abbrev pub Does : List ℕ → List ℕ → Command → Status →
+    Option (List ℕ) → Option (List ℕ) → Option (List ℕ) → Option (List ℕ) → Type 0
+Does help version Help status left_old left old new = Wrote status help old new
+Does help version Version status left_old left old new = Wrote status version old new
+Does help version (Stream task) status left_old left old new =
+    (taken : List ℕ) × Consumes left_old left taken × Ran task status taken left old new
+
+-- a command that reads no input leaves its source as it was
+abbrev pub Leaves : {A : Type 0} → Command → A → A → Type 0
+Leaves (Stream task) old new = Unit {0}
+Leaves command old new = new ≡ old
+
+-- a task is done only once its source has told that the input ended
+abbrev pub ReadsToEnd : Command → Status → Bool → Type 0
+ReadsToEnd (Stream task) Done ended = ended ≡ true
+ReadsToEnd command status ended = Unit {0}
