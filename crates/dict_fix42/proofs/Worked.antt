@@ -87,10 +87,47 @@ pub record Orders : Type 0 where
 orders : Orders
 unfolding message42 message_of first_fault first_of judge spelling are_digits number_of has_pattern without_leading_zeros without_trailing_zeros digits zero_padded
 orders = record {
-  good = refl; no_such_type = refl; quantity_twice = refl; of_two = refl; header_twice = refl; members = refl; wrong_count = refl; count_of_none = refl;
-  no_count = refl; outside_group = refl; before_line = refl; again_in_line = refl; no_such_day = refl; a_day = refl; no_such_month = refl; two_bytes = refl;
-  empty_known = refl; empty_unknown = refl; no_month = refl; unknown_tag = refl; unknown_code = refl; of_one_byte = refl; space_at_end = refl; two_spaces = refl; unknown_inst = refl; some_insts = refl; long_code = refl; third_party = refl; unknown_word = refl; currency = refl; negative = refl; minus_zero = refl; bad_resend = refl; bad_count = refl; parted_group = refl; no_account = refl; form_then_twice = refl;
-  twice_then_form = refl; form_then_range = refl; range_then_form = refl; unknown_then_missing = refl;
+  good = refl;
+  no_such_type = refl;
+  quantity_twice = refl;
+  of_two = refl;
+  header_twice = refl;
+  members = refl;
+  wrong_count = refl;
+  count_of_none = refl;
+  no_count = refl;
+  outside_group = refl;
+  before_line = refl;
+  again_in_line = refl;
+  no_such_day = refl;
+  a_day = refl;
+  no_such_month = refl;
+  two_bytes = refl;
+  empty_known = refl;
+  empty_unknown = refl;
+  no_month = refl;
+  unknown_tag = refl;
+  unknown_code = refl;
+  of_one_byte = refl;
+  space_at_end = refl;
+  two_spaces = refl;
+  unknown_inst = refl;
+  some_insts = refl;
+  long_code = refl;
+  third_party = refl;
+  unknown_word = refl;
+  currency = refl;
+  negative = refl;
+  minus_zero = refl;
+  bad_resend = refl;
+  bad_count = refl;
+  parted_group = refl;
+  no_account = refl;
+  form_then_twice = refl;
+  twice_then_form = refl;
+  form_then_range = refl;
+  range_then_form = refl;
+  unknown_then_missing = refl;
 }
 
 -- of several required rows, the first of the table

@@ -11,9 +11,9 @@ abbrev pub allocs : RepeatingGroup Kind42
 allocs = record {
   count = 78;
   rows =
-    row Required 79 Id ∷  -- AllocAccount
-    row Optional 80 Qty ∷  -- AllocShares
-    [];
+      row Required 79 Id ∷  -- AllocAccount
+      row Optional 80 Qty ∷  -- AllocShares
+      [];
   skipped = [];
 }
 
@@ -22,8 +22,8 @@ abbrev pub sessions : RepeatingGroup Kind42
 sessions = record {
   count = 386;
   rows =
-    row Required 336 Id ∷  -- TradingSessionID
-    [];
+      row Required 336 Id ∷  -- TradingSessionID
+      [];
   skipped = [];
 }
 

@@ -40,42 +40,42 @@ new_says m = record {
   letter = 68;
   resend = m.resend;
   cells =
-    (Tag 11, Some m.cl_ord_id) ∷
-    (Tag 109, m.client_id) ∷
-    (Tag 76, m.exec_broker) ∷
-    (Tag 439, m.clearing_firm) ∷
-    (Tag 1, m.account) ∷
-    (Tag 63, option_map code_text m.settl_type) ∷
-    (Tag 64, option_map day_text m.settl_date) ∷
-    (Tag 21, Some (code_text m.hand_inst)) ∷
-    (Tag 18, m.exec_inst) ∷
-    (Tag 110, option_map dec_text m.min_qty) ∷
-    (Tag 111, option_map dec_text m.max_floor) ∷
-    (Tag 100, m.ex_destination) ∷
-    (Tag 55, Some m.symbol) ∷
-    (Tag 65, m.symbol_sfx) ∷
-    (Tag 48, m.security_id) ∷
-    (Tag 22, option_map code_text m.id_source) ∷
-    (Tag 167, m.security_type) ∷
-    (Tag 200, option_map month_text m.maturity) ∷
-    (Tag 205, option_and_then month_day_text m.maturity) ∷
-    (Tag 207, m.security_exchange) ∷
-    (Tag 54, Some (code_text m.side)) ∷
-    (Tag 114, option_map yes_text m.locate) ∷
-    (Tag 60, Some (stamp_text m.transact_time)) ∷
-    (Tag 38, Some (dec_text m.order_qty)) ∷
-    (Tag 40, Some (code_text m.ord_type)) ∷
-    (Tag 44, option_map dec_text m.price) ∷
-    (Tag 99, option_map dec_text m.stop_px) ∷
-    (Tag 15, m.currency) ∷
-    (Tag 59, option_map code_text m.time_in_force) ∷
-    (Tag 168, option_map stamp_text m.effective_time) ∷
-    (Tag 432, option_map day_text m.expire_date) ∷
-    (Tag 126, option_map stamp_text m.expire_time) ∷
-    (Tag 47, option_map code_text m.capacity) ∷
-    (Tag 77, option_map code_text m.open_close) ∷
-    (Tag 58, m.text) ∷
-    [];
+      (Tag 11, Some m.cl_ord_id) ∷
+      (Tag 109, m.client_id) ∷
+      (Tag 76, m.exec_broker) ∷
+      (Tag 439, m.clearing_firm) ∷
+      (Tag 1, m.account) ∷
+      (Tag 63, option_map code_text m.settl_type) ∷
+      (Tag 64, option_map day_text m.settl_date) ∷
+      (Tag 21, Some (code_text m.hand_inst)) ∷
+      (Tag 18, m.exec_inst) ∷
+      (Tag 110, option_map dec_text m.min_qty) ∷
+      (Tag 111, option_map dec_text m.max_floor) ∷
+      (Tag 100, m.ex_destination) ∷
+      (Tag 55, Some m.symbol) ∷
+      (Tag 65, m.symbol_sfx) ∷
+      (Tag 48, m.security_id) ∷
+      (Tag 22, option_map code_text m.id_source) ∷
+      (Tag 167, m.security_type) ∷
+      (Tag 200, option_map month_text m.maturity) ∷
+      (Tag 205, option_and_then month_day_text m.maturity) ∷
+      (Tag 207, m.security_exchange) ∷
+      (Tag 54, Some (code_text m.side)) ∷
+      (Tag 114, option_map yes_text m.locate) ∷
+      (Tag 60, Some (stamp_text m.transact_time)) ∷
+      (Tag 38, Some (dec_text m.order_qty)) ∷
+      (Tag 40, Some (code_text m.ord_type)) ∷
+      (Tag 44, option_map dec_text m.price) ∷
+      (Tag 99, option_map dec_text m.stop_px) ∷
+      (Tag 15, m.currency) ∷
+      (Tag 59, option_map code_text m.time_in_force) ∷
+      (Tag 168, option_map stamp_text m.effective_time) ∷
+      (Tag 432, option_map day_text m.expire_date) ∷
+      (Tag 126, option_map stamp_text m.expire_time) ∷
+      (Tag 47, option_map code_text m.capacity) ∷
+      (Tag 77, option_map code_text m.open_close) ∷
+      (Tag 58, m.text) ∷
+      [];
   groups = (78, map alloc_cells m.allocs) ∷ (386, map session_cells m.sessions) ∷ [];
 }
 
@@ -84,25 +84,25 @@ cancel_says m = record {
   letter = 70;
   resend = m.resend;
   cells =
-    (Tag 11, Some m.cl_ord_id) ∷
-    (Tag 41, Some m.orig_id) ∷
-    (Tag 37, m.order_id) ∷
-    (Tag 109, m.client_id) ∷
-    (Tag 76, m.exec_broker) ∷
-    (Tag 1, m.account) ∷
-    (Tag 55, Some m.symbol) ∷
-    (Tag 65, m.symbol_sfx) ∷
-    (Tag 48, m.security_id) ∷
-    (Tag 22, option_map code_text m.id_source) ∷
-    (Tag 167, m.security_type) ∷
-    (Tag 200, option_map month_text m.maturity) ∷
-    (Tag 205, option_and_then month_day_text m.maturity) ∷
-    (Tag 207, m.security_exchange) ∷
-    (Tag 54, Some (code_text m.side)) ∷
-    (Tag 60, Some (stamp_text m.transact_time)) ∷
-    (Tag 38, option_map dec_text m.order_qty) ∷
-    (Tag 58, m.text) ∷
-    [];
+      (Tag 11, Some m.cl_ord_id) ∷
+      (Tag 41, Some m.orig_id) ∷
+      (Tag 37, m.order_id) ∷
+      (Tag 109, m.client_id) ∷
+      (Tag 76, m.exec_broker) ∷
+      (Tag 1, m.account) ∷
+      (Tag 55, Some m.symbol) ∷
+      (Tag 65, m.symbol_sfx) ∷
+      (Tag 48, m.security_id) ∷
+      (Tag 22, option_map code_text m.id_source) ∷
+      (Tag 167, m.security_type) ∷
+      (Tag 200, option_map month_text m.maturity) ∷
+      (Tag 205, option_and_then month_day_text m.maturity) ∷
+      (Tag 207, m.security_exchange) ∷
+      (Tag 54, Some (code_text m.side)) ∷
+      (Tag 60, Some (stamp_text m.transact_time)) ∷
+      (Tag 38, option_map dec_text m.order_qty) ∷
+      (Tag 58, m.text) ∷
+      [];
   groups = [];
 }
 
@@ -111,44 +111,44 @@ replace_says m = record {
   letter = 71;
   resend = m.resend;
   cells =
-    (Tag 11, Some m.cl_ord_id) ∷
-    (Tag 41, Some m.orig_id) ∷
-    (Tag 37, m.order_id) ∷
-    (Tag 109, m.client_id) ∷
-    (Tag 76, m.exec_broker) ∷
-    (Tag 439, m.clearing_firm) ∷
-    (Tag 1, m.account) ∷
-    (Tag 63, option_map code_text m.settl_type) ∷
-    (Tag 64, option_map day_text m.settl_date) ∷
-    (Tag 21, Some (code_text m.hand_inst)) ∷
-    (Tag 18, m.exec_inst) ∷
-    (Tag 110, option_map dec_text m.min_qty) ∷
-    (Tag 111, option_map dec_text m.max_floor) ∷
-    (Tag 100, m.ex_destination) ∷
-    (Tag 55, Some m.symbol) ∷
-    (Tag 65, m.symbol_sfx) ∷
-    (Tag 48, m.security_id) ∷
-    (Tag 22, option_map code_text m.id_source) ∷
-    (Tag 167, m.security_type) ∷
-    (Tag 200, option_map month_text m.maturity) ∷
-    (Tag 205, option_and_then month_day_text m.maturity) ∷
-    (Tag 207, m.security_exchange) ∷
-    (Tag 54, Some (code_text m.side)) ∷
-    (Tag 114, option_map yes_text m.locate) ∷
-    (Tag 60, Some (stamp_text m.transact_time)) ∷
-    (Tag 38, Some (dec_text m.order_qty)) ∷
-    (Tag 40, Some (code_text m.ord_type)) ∷
-    (Tag 44, option_map dec_text m.price) ∷
-    (Tag 99, option_map dec_text m.stop_px) ∷
-    (Tag 15, m.currency) ∷
-    (Tag 59, option_map code_text m.time_in_force) ∷
-    (Tag 168, option_map stamp_text m.effective_time) ∷
-    (Tag 432, option_map day_text m.expire_date) ∷
-    (Tag 126, option_map stamp_text m.expire_time) ∷
-    (Tag 47, option_map code_text m.capacity) ∷
-    (Tag 77, option_map code_text m.open_close) ∷
-    (Tag 58, m.text) ∷
-    [];
+      (Tag 11, Some m.cl_ord_id) ∷
+      (Tag 41, Some m.orig_id) ∷
+      (Tag 37, m.order_id) ∷
+      (Tag 109, m.client_id) ∷
+      (Tag 76, m.exec_broker) ∷
+      (Tag 439, m.clearing_firm) ∷
+      (Tag 1, m.account) ∷
+      (Tag 63, option_map code_text m.settl_type) ∷
+      (Tag 64, option_map day_text m.settl_date) ∷
+      (Tag 21, Some (code_text m.hand_inst)) ∷
+      (Tag 18, m.exec_inst) ∷
+      (Tag 110, option_map dec_text m.min_qty) ∷
+      (Tag 111, option_map dec_text m.max_floor) ∷
+      (Tag 100, m.ex_destination) ∷
+      (Tag 55, Some m.symbol) ∷
+      (Tag 65, m.symbol_sfx) ∷
+      (Tag 48, m.security_id) ∷
+      (Tag 22, option_map code_text m.id_source) ∷
+      (Tag 167, m.security_type) ∷
+      (Tag 200, option_map month_text m.maturity) ∷
+      (Tag 205, option_and_then month_day_text m.maturity) ∷
+      (Tag 207, m.security_exchange) ∷
+      (Tag 54, Some (code_text m.side)) ∷
+      (Tag 114, option_map yes_text m.locate) ∷
+      (Tag 60, Some (stamp_text m.transact_time)) ∷
+      (Tag 38, Some (dec_text m.order_qty)) ∷
+      (Tag 40, Some (code_text m.ord_type)) ∷
+      (Tag 44, option_map dec_text m.price) ∷
+      (Tag 99, option_map dec_text m.stop_px) ∷
+      (Tag 15, m.currency) ∷
+      (Tag 59, option_map code_text m.time_in_force) ∷
+      (Tag 168, option_map stamp_text m.effective_time) ∷
+      (Tag 432, option_map day_text m.expire_date) ∷
+      (Tag 126, option_map stamp_text m.expire_time) ∷
+      (Tag 47, option_map code_text m.capacity) ∷
+      (Tag 77, option_map code_text m.open_close) ∷
+      (Tag 58, m.text) ∷
+      [];
   groups = (78, map alloc_cells m.allocs) ∷ (386, map session_cells m.sessions) ∷ [];
 }
 
@@ -157,22 +157,22 @@ status_says m = record {
   letter = 72;
   resend = m.resend;
   cells =
-    (Tag 11, Some m.cl_ord_id) ∷
-    (Tag 37, m.order_id) ∷
-    (Tag 109, m.client_id) ∷
-    (Tag 76, m.exec_broker) ∷
-    (Tag 1, m.account) ∷
-    (Tag 55, Some m.symbol) ∷
-    (Tag 65, m.symbol_sfx) ∷
-    (Tag 48, m.security_id) ∷
-    (Tag 22, option_map code_text m.id_source) ∷
-    (Tag 167, m.security_type) ∷
-    (Tag 200, option_map month_text m.maturity) ∷
-    (Tag 205, option_and_then month_day_text m.maturity) ∷
-    (Tag 207, m.security_exchange) ∷
-    (Tag 54, Some (code_text m.side)) ∷
-    (Tag 58, m.text) ∷
-    [];
+      (Tag 11, Some m.cl_ord_id) ∷
+      (Tag 37, m.order_id) ∷
+      (Tag 109, m.client_id) ∷
+      (Tag 76, m.exec_broker) ∷
+      (Tag 1, m.account) ∷
+      (Tag 55, Some m.symbol) ∷
+      (Tag 65, m.symbol_sfx) ∷
+      (Tag 48, m.security_id) ∷
+      (Tag 22, option_map code_text m.id_source) ∷
+      (Tag 167, m.security_type) ∷
+      (Tag 200, option_map month_text m.maturity) ∷
+      (Tag 205, option_and_then month_day_text m.maturity) ∷
+      (Tag 207, m.security_exchange) ∷
+      (Tag 54, Some (code_text m.side)) ∷
+      (Tag 58, m.text) ∷
+      [];
   groups = [];
 }
 

@@ -80,7 +80,11 @@ fn day_mark(month: Option<MonthYear>, day: Option<u8>, mark: Mark) -> Mark
         Some(month) => match day {
             None => mark,
             Some(day) => {
-                if has_day(&month, day) { mark } else { Mark::Wrong(RANGE) }
+                if has_day(&month, day) {
+                    mark
+                } else {
+                    Mark::Wrong(RANGE)
+                }
             }
         },
     }

@@ -41,10 +41,22 @@ fn of_split(fault: &SplitFault) -> Fault
     ensures { result ≡ of_split fault.now }
 {
     match fault {
-        SplitFault::NoTag { at: _ } | SplitFault::BadTag { at: _ } => Fault::Session { tag: None, reason: 0 },
-        SplitFault::NoEnd { at: _ } => Fault::Session { tag: None, reason: 6 },
-        SplitFault::DataLength { tag } => Fault::Session { tag: Some(*tag), reason: 6 },
-        SplitFault::TooMany => Fault::Session { tag: None, reason: 5 },
+        SplitFault::NoTag { at: _ } | SplitFault::BadTag { at: _ } => Fault::Session {
+            tag: None,
+            reason: 0,
+        },
+        SplitFault::NoEnd { at: _ } => Fault::Session {
+            tag: None,
+            reason: 6,
+        },
+        SplitFault::DataLength { tag } => Fault::Session {
+            tag: Some(*tag),
+            reason: 6,
+        },
+        SplitFault::TooMany => Fault::Session {
+            tag: None,
+            reason: 5,
+        },
     }
 }
 
@@ -53,7 +65,10 @@ fn of_table(fault: TableFault) -> Fault
     ensures { result ≡ of_table fault }
 {
     match fault {
-        TableFault::Reason { tag, reason } => Fault::Session { tag: Some(tag), reason },
+        TableFault::Reason { tag, reason } => Fault::Session {
+            tag: Some(tag),
+            reason,
+        },
         TableFault::Outside { tag } => Fault::NoCounterpart { tag },
     }
 }

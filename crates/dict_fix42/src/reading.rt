@@ -13,8 +13,8 @@ ghost use Rattle.dict_fix42.specs.Requests.{allocs, sessions};
 ghost use Rattle.dict_fix42.specs.Reading.{said, group_lines, IsResend, IsMaturity, AreAllocs, AreSessions, IsNew, IsCancel, IsReplace, IsStatus};
 
 use crate::groups::{AllocLine, Allocs, SessionLine, Sessions};
-use crate::tables::{ALLOCS_GROUP, SESSIONS_GROUP};
 use crate::request::{Cancel42, Maturity, New42, Replace42, Status42};
+use crate::tables::{ALLOCS_GROUP, SESSIONS_GROUP};
 use field_groups::{Field, line_end, value};
 use order_meaning::Bytes;
 use std::alloc::{AllocError, Global};
@@ -123,7 +123,10 @@ fn owned(alloc: Global, text: Option<&[u8]>) -> Result<Option<Bytes>, AllocError
 }
 
 /// Texts of their own: the one step of a reading that can fail.
-fn all_owned<const N: usize>(alloc: Global, texts: [Option<&[u8]>; N]) -> Result<[Option<Bytes>; N], AllocError>
+fn all_owned<const N: usize>(
+    alloc: Global,
+    texts: [Option<&[u8]>; N],
+) -> Result<[Option<Bytes>; N], AllocError>
     ensures { IfOk result (λ copies. copies ≡ map (option_map (λ text. text.now)) texts.entry) }
 {
     texts.try_map(|text| owned(alloc, text))
@@ -310,7 +313,14 @@ pub(crate) fn new(alloc: Global, fields: &[Field<'_>]) -> Result<New42, AllocErr
 {
     let allocs = allocs(alloc, fields)?;
     let sessions = sessions(alloc, fields)?;
-    new_with(alloc, fields, resend(fields), maturity(fields), allocs, sessions)
+    new_with(
+        alloc,
+        fields,
+        resend(fields),
+        maturity(fields),
+        allocs,
+        sessions,
+    )
 }
 
 /// Order Cancel Request (F), by its fields, which are at no fault.
@@ -487,7 +497,14 @@ pub(crate) fn replace(alloc: Global, fields: &[Field<'_>]) -> Result<Replace42, 
 {
     let allocs = allocs(alloc, fields)?;
     let sessions = sessions(alloc, fields)?;
-    replace_with(alloc, fields, resend(fields), maturity(fields), allocs, sessions)
+    replace_with(
+        alloc,
+        fields,
+        resend(fields),
+        maturity(fields),
+        allocs,
+        sessions,
+    )
 }
 
 /// Order Status Request (H), by its fields, which are at no fault.

@@ -8,7 +8,9 @@ ghost use Rattle.dict_fix42.specs.CodeKinds.{kind_of};
 
 use crate::kinds::Kind;
 use field_groups::{Item, Need, RepeatingGroup, Row, Table, Test};
-use typed_fields::ValueKind::{Code, Codes, Currency, Day, Filled, Flag, Id, MonthYear, OneByte, Price, Qty, Stamp, Text, Word};
+use typed_fields::ValueKind::{
+    Code, Codes, Currency, Day, Filled, Flag, Id, MonthYear, OneByte, Price, Qty, Stamp, Text, Word,
+};
 
 /// The standard header.
 #[rattlefmt::skip]
@@ -37,10 +39,18 @@ const ALLOCS: [Row<Kind>; 2] = [
 ];
 
 /// NoAllocs(78).
-pub(crate) static ALLOCS_GROUP: RepeatingGroup<Kind> = RepeatingGroup { count: 78, rows: &ALLOCS, skipped: &[] };
+pub(crate) static ALLOCS_GROUP: RepeatingGroup<Kind> = RepeatingGroup {
+    count: 78,
+    rows: &ALLOCS,
+    skipped: &[],
+};
 
 /// NoTradingSessions(386).
-pub(crate) static SESSIONS_GROUP: RepeatingGroup<Kind> = RepeatingGroup { count: 386, rows: &SESSIONS, skipped: &[] };
+pub(crate) static SESSIONS_GROUP: RepeatingGroup<Kind> = RepeatingGroup {
+    count: 386,
+    rows: &SESSIONS,
+    skipped: &[],
+};
 
 /// The rows of NoTradingSessions(386).
 #[rattlefmt::skip]
@@ -178,13 +188,33 @@ const STATUS_REQUEST: [Item<Kind>; 15] = [
 ];
 
 /// The tables.
-static NEW_ORDER_TABLE: Table<Kind> = Table { letter: b'D', header: &HEADER, items: &NEW_ORDER, strict: true };
+static NEW_ORDER_TABLE: Table<Kind> = Table {
+    letter: b'D',
+    header: &HEADER,
+    items: &NEW_ORDER,
+    strict: true,
+};
 
-static CANCEL_REQUEST_TABLE: Table<Kind> = Table { letter: b'F', header: &HEADER, items: &CANCEL_REQUEST, strict: true };
+static CANCEL_REQUEST_TABLE: Table<Kind> = Table {
+    letter: b'F',
+    header: &HEADER,
+    items: &CANCEL_REQUEST,
+    strict: true,
+};
 
-static REPLACE_REQUEST_TABLE: Table<Kind> = Table { letter: b'G', header: &HEADER, items: &REPLACE_REQUEST, strict: true };
+static REPLACE_REQUEST_TABLE: Table<Kind> = Table {
+    letter: b'G',
+    header: &HEADER,
+    items: &REPLACE_REQUEST,
+    strict: true,
+};
 
-static STATUS_REQUEST_TABLE: Table<Kind> = Table { letter: b'H', header: &HEADER, items: &STATUS_REQUEST, strict: true };
+static STATUS_REQUEST_TABLE: Table<Kind> = Table {
+    letter: b'H',
+    header: &HEADER,
+    items: &STATUS_REQUEST,
+    strict: true,
+};
 
 /// The table of a MsgType; `None` where it is no type of a request.
 pub(crate) fn table(msg_type: &[u8]) -> Option<&'static Table<Kind>>

@@ -65,7 +65,16 @@ fn the_first_fault_is_told(rt: HostRuntime) -> Result<(), Fail> {
         text.push_str(between)?;
         text.push_str(TAIL)?;
         match outcome(rt.alloc(), "D", &text)? {
-            Err(fault) => assert_eq!(rt; (name, fault), (name, Fault::Session { tag: Some(tag), reason })),
+            Err(fault) => assert_eq!(rt;
+                (name, fault),
+                (
+                    name,
+                    Fault::Session {
+                        tag: Some(tag),
+                        reason
+                    }
+                )
+            ),
             Ok(message) => assert_eq!(rt; (name, type42(&message)), (name, b"".as_slice())),
         }
     }

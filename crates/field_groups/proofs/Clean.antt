@@ -41,9 +41,9 @@ stands tag (f ∷ fs) h = here (eqb f.0 tag) refl (λ there. stands tag fs there
   where
     here : (b : Bool) → eqb f.0 tag ≡ b → (has_tag tag fs ≡ true → Stands tag fs) → Stands tag (f ∷ fs)
     here true e later = let same : f.0 ≡ tag = grind (arith, nat_tests) in
-      record { value = f.1; place = 0; first = rw e refl; field = ap (λ (t : ℕ). Some (t, f.1)) same }
+        record { value = f.1; place = 0; first = rw e refl; field = ap (λ (t : ℕ). Some (t, f.1)) same }
     here false e later = let s = later (rw e at h) in
-      record { value = s.value; place = suc s.place; first = rw e s.first; field = s.field }
+        record { value = s.value; place = suc s.place; first = rw e s.first; field = s.field }
 
 -- a tag that no field has has no value
 pub value_at-none : (tag : ℕ) (fields : List Field) → has_tag tag fields ≡ false → value_at tag fields ≡ None

@@ -52,6 +52,7 @@ module _ {X : Type 0} (view : X → Field) where
     where
       n : ℕ
       n = prefix_len (λ z. not ((view z).0 == first)) ys
+
       here : (b : Bool) → in_lines first (view y ∷ map view ys) ≡ (view y ∷ map view (take n ys)) ∷ in_lines first (map view (drop n ys))
           → cond b ((view x ∷ []) ∷ (view y ∷ map view (take n ys)) ∷ in_lines first (map view (drop n ys))) ((view x ∷ view y ∷ map view (take n ys)) ∷ in_lines first (map view (drop n ys)))
           ≡ (view x ∷ map view (take (cond (not b) (1 + n) 0) (y ∷ ys))) ∷ in_lines first (map view (drop (cond (not b) (1 + n) 0) (y ∷ ys)))
@@ -61,7 +62,7 @@ module _ {X : Type 0} (view : X → Field) where
   -- the line that begins at a place
   pub line_at : (first : ℕ) (fs : List X) (from : ℕ) (d : X) → from < length fs
       → in_lines first (drop from (map view fs)) ≡ take (from + 1 + prefix_len (λ y. not ((view y).0 == first)) (drop (from + 1) fs) - from) (drop from (map view fs))
-        ∷ in_lines first (drop (from + 1 + prefix_len (λ y. not ((view y).0 == first)) (drop (from + 1) fs)) (map view fs))
+      ∷ in_lines first (drop (from + 1 + prefix_len (λ y. not ((view y).0 == first)) (drop (from + 1) fs)) (map view fs))
   line_at first fs from d lt =
       let ys : List X = drop (from + 1) fs in
       let n : ℕ = prefix_len (λ y. not ((view y).0 == first)) ys in
@@ -74,7 +75,7 @@ module _ {X : Type 0} (view : X → Field) where
 
   pub line_there : (first : ℕ) (fs : List X) (from : ℕ) → from < length fs
       → in_lines first (drop from (map view fs)) ≡ take (from + 1 + prefix_len (λ y. not ((view y).0 == first)) (drop (from + 1) fs) - from) (drop from (map view fs))
-        ∷ in_lines first (drop (from + 1 + prefix_len (λ y. not ((view y).0 == first)) (drop (from + 1) fs)) (map view fs))
+      ∷ in_lines first (drop (from + 1 + prefix_len (λ y. not ((view y).0 == first)) (drop (from + 1) fs)) (map view fs))
   line_there first [] from lt = absurd (omega arith)
   line_there first (x ∷ xs) from lt = line_at first (x ∷ xs) from x lt
 

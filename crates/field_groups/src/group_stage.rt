@@ -140,7 +140,10 @@ impl<K> RepeatingGroup<K> {
         let (tag, value) = field_at(fields, place);
         if tag == self.count {
             let lines = count_of(self.run(rest(fields, place + 1)), self.first());
-            fault_if(!is_count(value, lines), TableFault::Reason { tag, reason: COUNT })
+            fault_if(
+                !is_count(value, lines),
+                TableFault::Reason { tag, reason: COUNT },
+            )
         } else if self.has(tag) {
             self.misplaced_member(front(fields, place), tag)
         } else {

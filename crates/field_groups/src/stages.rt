@@ -10,8 +10,8 @@ ghost use Rattle.field_groups.specs.Stages.{IsFound};
 ghost use Rattle.field_groups.specs.CodeTables.{seen, seen_at, row_of, group_of, own_tags, item_of, table_of};
 
 use crate::fields::Field;
-use crate::group_stage::first_misplaced;
 use crate::group_lines::line_end;
+use crate::group_stage::first_misplaced;
 use crate::lookup::{field_at, front, rest, stands};
 use crate::table::{Item, RepeatingGroup, Row, Table};
 use crate::table_fault::{Mark, TableFault};
@@ -41,7 +41,10 @@ fn twice_at<K>(table: &Table<K>, fields: &[Field<'_>], place: usize) -> Option<T
     if !stands(front(fields, place), tag) {
         return None;
     }
-    fault_if(table.is_once(tag), TableFault::Reason { tag, reason: TWICE })
+    fault_if(
+        table.is_once(tag),
+        TableFault::Reason { tag, reason: TWICE },
+    )
 }
 
 /// The first tag of the profile that stands again.
@@ -180,7 +183,11 @@ fn wrong_version(tag: u32, mark: Mark) -> Option<TableFault>
     ensures { result ≡ wrong_version (tag, mark) }
 {
     match mark {
-        Mark::Wrong(reason) => if reason == VERSION { Some(TableFault::Reason { tag, reason }) } else { None },
+        Mark::Wrong(reason) => if reason == VERSION {
+            Some(TableFault::Reason { tag, reason })
+        } else {
+            None
+        },
         _ => None,
     }
 }

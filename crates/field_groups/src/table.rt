@@ -11,7 +11,6 @@ use crate::fields::Field;
 use crate::lookup::{is_among, stands, value};
 use crate::table_fault::Mark;
 
-
 /// What a condition looks at.
 #[derive(Clone, Copy, Debug)]
 pub enum Test {

@@ -18,8 +18,8 @@ ghost use Rattle.typed_fields.specs.ValueKind.{Qty, Price, Reason, DayOfMonth, s
 ghost use Rattle.typed_fields.specs.CodeKinds.{kind_of, judged, is_good, is_verbatim, is_byte_kind, code_text, two_digit_text};
 
 use crate::laws::spellings_are_plain;
-use jiff::civil::Date;
 use crate::{Day, Dec, FieldFault, Flag, MonthYear, Number, Stamp};
+use jiff::civil::Date;
 
 /// The most bytes of an id.
 const MAX_ID: usize = 128;
@@ -124,7 +124,11 @@ fn are_codes(listed: &[u8], bytes: &[u8]) -> bool
 fn is_next(listed: &[u8], come: bool, byte: u8) -> bool
     ensures { result ≡ (if come then byte == 32 else list_any (λ code. code == byte) listed.now) }
 {
-    if come { byte == b' ' } else { listed.contains(&byte) }
+    if come {
+        byte == b' '
+    } else {
+        listed.contains(&byte)
+    }
 }
 
 /// Whether each byte is a capital letter.
@@ -138,14 +142,22 @@ fn are_capitals(bytes: &[u8]) -> bool
 fn formed(good: bool) -> Result<bool, FieldFault>
     ensures { result ≡ (if good then Ok true else Err FieldFault.Form) }
 {
-    if good { Ok(true) } else { Err(FieldFault::Form) }
+    if good {
+        Ok(true)
+    } else {
+        Err(FieldFault::Form)
+    }
 }
 
 /// A value of the profile, where its bound holds.
 fn within(good: bool) -> Result<bool, FieldFault>
     ensures { result ≡ (if good then Ok true else Err FieldFault.Range) }
 {
-    if good { Ok(true) } else { Err(FieldFault::Range) }
+    if good {
+        Ok(true)
+    } else {
+        Err(FieldFault::Range)
+    }
 }
 
 /// A value of the profile, where it was read.
@@ -252,7 +264,11 @@ pub fn text<'a>(kind: &ValueKind, value: &'a [u8]) -> Option<&'a [u8]>
     requires { IsTrue (is_verbatim (kind_of kind.now)) }
     ensures { option_map (λ text. text.now) result ≡ spelled (kind_of kind.now) value.now }
 {
-    if is_good(kind.judge(value)) { Some(value) } else { None }
+    if is_good(kind.judge(value)) {
+        Some(value)
+    } else {
+        None
+    }
 }
 
 /// The byte of a code.
@@ -260,7 +276,11 @@ pub fn code(kind: &ValueKind, value: &[u8]) -> Option<u8>
     requires { IsTrue (is_byte_kind (kind_of kind.now)) }
     ensures { option_map code_text result ≡ spelled (kind_of kind.now) value.now }
 {
-    if is_good(kind.judge(value)) { value.first().copied() } else { None }
+    if is_good(kind.judge(value)) {
+        value.first().copied()
+    } else {
+        None
+    }
 }
 
 /// A decimal number that is not negative.
@@ -330,7 +350,11 @@ pub fn reason(value: &[u8]) -> Option<Number>
     ensures { option_map number_text result ≡ spelled Reason value.now }
 {
     match Number::read(value) {
-        Ok(number) => if number.value <= MAX_REASON { Some(number) } else { None },
+        Ok(number) => if number.value <= MAX_REASON {
+            Some(number)
+        } else {
+            None
+        },
         Err(_) => None,
     }
 }

@@ -9,7 +9,7 @@ pub returns-in-Some : goal.returns-in-Some
 returns-in-Some g c =
     let p = place_in (seen c.args.fields.now) c.args.place (seen_at c.args.fields.now c.args.place) in
     sym (first_of-items (misplaced p) group_tags_of c.args.table.now.items.now
-      ∙ first_found (λ item. in_groups (group_tags_of (item_of (λ k. k) item)) p) c.args.table.now.items.now c.loop-item.item-index c.item-item.result _ c.item-item.is c.loop-item-test.true c.loop-item.invariant (sym c.in-Some.ensures))
+    ∙ first_found (λ item. in_groups (group_tags_of (item_of (λ k. k) item)) p) c.args.table.now.items.now c.loop-item.item-index c.item-item.result _ c.item-item.is c.loop-item-test.true c.loop-item.invariant (sym c.in-Some.ensures))
 
 pub loop-item-init : goal.loop-item-init
 loop-item-init g c = first_none (λ item. in_groups (group_tags_of (item_of (λ k. k) item)) (place_in (seen c.args.fields.now) c.args.place (seen_at c.args.fields.now c.args.place)))
@@ -23,4 +23,4 @@ pub returns : goal.returns
 returns g c =
     let p = place_in (seen c.args.fields.now) c.args.place (seen_at c.args.fields.now c.args.place) in
     sym (first_of-items (misplaced p) group_tags_of c.args.table.now.items.now
-      ∙ first_ended (λ item. in_groups (group_tags_of (item_of (λ k. k) item)) p) c.args.table.now.items.now c.loop-item.item-index c.loop-item-test.false c.loop-item.invariant)
+    ∙ first_ended (λ item. in_groups (group_tags_of (item_of (λ k. k) item)) p) c.args.table.now.items.now c.loop-item.item-index c.loop-item-test.false c.loop-item.invariant)

@@ -8,7 +8,7 @@ use Rattle.field_groups.proofs.stages.first_missing.Goals as goal
 pub returns-in-Some : goal.returns-in-Some
 returns-in-Some g c =
     sym (sym (first_of-map (missing_of (seen c.args.fields.now)) (item_of (λ k. k)) c.args.table.now.items.now)
-      ∙ first_found (λ item. missing_of (seen c.args.fields.now) (item_of (λ k. k) item)) c.args.table.now.items.now c.loop-item.item-index c.item-item.result _ c.item-item.is c.loop-item-test.true c.loop-item.invariant (sym c.in-Some.ensures))
+    ∙ first_found (λ item. missing_of (seen c.args.fields.now) (item_of (λ k. k) item)) c.args.table.now.items.now c.loop-item.item-index c.item-item.result _ c.item-item.is c.loop-item-test.true c.loop-item.invariant (sym c.in-Some.ensures))
 
 pub loop-item-init : goal.loop-item-init
 loop-item-init g c = first_none (λ item. missing_of (seen c.args.fields.now) (item_of (λ k. k) item))
@@ -19,4 +19,4 @@ loop-item-preserved g c = first_passed (λ item. missing_of (seen c.args.fields.
 pub returns : goal.returns
 returns g c =
     sym (sym (first_of-map (missing_of (seen c.args.fields.now)) (item_of (λ k. k)) c.args.table.now.items.now)
-      ∙ first_ended (λ item. missing_of (seen c.args.fields.now) (item_of (λ k. k) item)) c.args.table.now.items.now c.loop-item.item-index c.loop-item-test.false c.loop-item.invariant)
+    ∙ first_ended (λ item. missing_of (seen c.args.fields.now) (item_of (λ k. k) item)) c.args.table.now.items.now c.loop-item.item-index c.loop-item-test.false c.loop-item.invariant)

@@ -12,7 +12,7 @@ returns-in-Some g c =
     let f = λ (line : List Field). first_of (missing line) (group_of (λ k. k) c.args.group.now).rows in
     let first = (own_tags c.args.group.now).first in
     line_found f first (seen c.lines-fields.result.now) c.loop-from.from c.line_end-end.result (seen c.line.result.now) _ c.in-Some.fault _
-      (rw c.first.ensures at c.line_end-end.ensures.line) c.line.ensures (sym c.in-Some.ensures) c.loop-from.invariant.same
+    (rw c.first.ensures at c.line_end-end.ensures.line) c.line.ensures (sym c.in-Some.ensures) c.loop-from.invariant.same
     ∙ ap (λ (fields : List Field). first_of f (in_lines first fields)) c.lines-fields.ensures
 
 pub loop-from-preserved : goal.loop-from-preserved
@@ -22,7 +22,7 @@ loop-from-preserved g c =
     record {
       within = c.line_end-end.ensures.within;
       same = line_passed f first (seen c.lines-fields.result.now) c.loop-from.from c.line_end-end.result (seen c.line.result.now) _ _
-        (rw c.first.ensures at c.line_end-end.ensures.line) c.line.ensures (sym c.in_default.ensures) c.loop-from.invariant.same;
+          (rw c.first.ensures at c.line_end-end.ensures.line) c.line.ensures (sym c.in_default.ensures) c.loop-from.invariant.same;
     }
 
 pub returns : goal.returns

@@ -11,5 +11,5 @@ abbrev pub invariant-loop-from : goal.invariant-loop-from
 invariant-loop-from g l = record {
   within : l.from ≤ length l.fields;
   same : first_of (λ line. first_of (missing line) (group_of (λ k. k) l.group).rows) (in_lines (own_tags l.group).first (drop l.from (seen l.fields)))
-       ≡ first_of (λ line. first_of (missing line) (group_of (λ k. k) l.group).rows) (in_lines (own_tags l.group).first (seen l.fields));
+      ≡ first_of (λ line. first_of (missing line) (group_of (λ k. k) l.group).rows) (in_lines (own_tags l.group).first (seen l.fields));
 }

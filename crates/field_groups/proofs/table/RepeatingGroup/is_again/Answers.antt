@@ -27,5 +27,5 @@ loop-place-preserved g c =
     record {
       within = omega (arith, c.loop-place.invariant.within);
       same = sym (again_on first c.args.tag f (reverse (take (c.loop-place.place - 1) fs)) (rw (← c.first.ensures) (ne_eqb _ _ c.if-other-first.false)) (ne_eqb _ _ c.if-other-tag.false))
-        ∙ sym (ap (λ (back : List Field). has_tag c.args.tag (line_before (own_tags c.args.self.now) back)) e) ∙ c.loop-place.invariant.same;
+          ∙ sym (ap (λ (back : List Field). has_tag c.args.tag (line_before (own_tags c.args.self.now) back)) e) ∙ c.loop-place.invariant.same;
     }

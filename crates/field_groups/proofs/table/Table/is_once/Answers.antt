@@ -16,7 +16,7 @@ loop-item-init g c = refl
 pub returns-then-is_once : goal.returns-then-is_once
 returns-then-is_once g c =
     sym (once-table c.args.tag c.args.self.now ∙ ap (λ (b : Bool). b || list_any (item_once c.args.tag) c.args.self.now.items.now) (sym c.if-has_row.ensures)
-      ∙ any_found (item_once c.args.tag) c.args.self.now.items.now c.loop-item.item-index c.item-item.result c.item-item.is c.loop-item-test.true c.loop-item.invariant (sym c.if-is_once.ensures))
+    ∙ any_found (item_once c.args.tag) c.args.self.now.items.now c.loop-item.item-index c.item-item.result c.item-item.is c.loop-item-test.true c.loop-item.invariant (sym c.if-is_once.ensures))
 
 pub loop-item-preserved : goal.loop-item-preserved
 loop-item-preserved g c = any_passed (item_once c.args.tag) c.args.self.now.items.now c.loop-item.item-index c.item-item.result c.item-item.is c.loop-item-test.true c.loop-item.invariant (sym c.if-is_once.ensures)
@@ -24,4 +24,4 @@ loop-item-preserved g c = any_passed (item_once c.args.tag) c.args.self.now.item
 pub returns : goal.returns
 returns g c =
     sym (once-table c.args.tag c.args.self.now ∙ ap (λ (b : Bool). b || list_any (item_once c.args.tag) c.args.self.now.items.now) (sym c.if-has_row.ensures)
-      ∙ any_ended (item_once c.args.tag) c.args.self.now.items.now c.loop-item.item-index c.loop-item-test.false c.loop-item.invariant)
+    ∙ any_ended (item_once c.args.tag) c.args.self.now.items.now c.loop-item.item-index c.loop-item-test.false c.loop-item.invariant)
