@@ -1,3 +1,0 @@
-mod Means
-mod Worked
-pub mod Marks
