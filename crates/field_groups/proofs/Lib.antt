@@ -15,4 +15,5 @@ pub mod Placed
 pub mod Mapped
 pub mod Plain
 pub mod Grouped
+pub mod Few
 mod Worked

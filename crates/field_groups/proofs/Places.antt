@@ -1,5 +1,6 @@
 -- The first place that passes a test.
-use Rattle.std.proofs.Common.{◌-◌, Option, option_map, length, ◌≡◌, ℕ, ◌+◌, ◌<◌, Bool, false, cond, List, [], ◌∷◌, take, length-take, Some, None, refl, ap, arith}
+use Rattle.std.proofs.Common.{◌-◌, Option, option_map, length, ◌≡◌, ℕ, ◌+◌, ◌<◌, Bool, false, cond}
+use Rattle.std.proofs.Common.{List, [], ◌∷◌, take, length-take, Some, None, refl, ap, arith}
 use Rattle.std.specs.Prelude.{map, position, not}
 use Rattle.std.specs.List.{list_any, position_or_len, last_or, slice_get}
 use Rattle.std.proofs.lemmas.List.{get_or-take}
@@ -9,30 +10,41 @@ use Rattle.std.proofs.lemmas.List.{length-map}
 use Rattle.std.proofs.lemmas.Bool.{false_from_ne_true}
 use Rattle.memchr.specs.Find.{IsFirstByte}
 
-position_or_len-map : {X Y : Type 0} (test : Y → Bool) (view : X → Y) (xs : List X) → position_or_len test (map view xs) ≡ position_or_len (λ x. test (view x)) xs
+position_or_len-map : {X Y : Type 0} (test : Y → Bool) (view : X → Y) (xs : List X)
+    → position_or_len test (map view xs) ≡ position_or_len (λ x. test (view x)) xs
 position_or_len-map test view [] = refl
-position_or_len-map test view (x ∷ xs) = ap (λ (n : ℕ). cond (not (test (view x))) (1 + n) 0) (position_or_len-map test view xs)
+position_or_len-map test view (x ∷ xs) =
+    ap (λ (n : ℕ). cond (not (test (view x))) (1 + n) 0) (position_or_len-map test view xs)
 
-pub position-map : {X Y : Type 0} (test : Y → Bool) (view : X → Y) (xs : List X) → position test (map view xs) ≡ position (λ x. test (view x)) xs
+pub position-map : {X Y : Type 0} (test : Y → Bool) (view : X → Y) (xs : List X)
+    → position test (map view xs) ≡ position (λ x. test (view x)) xs
 position-map test view xs = rw (position_or_len-map test view xs, length-map xs view) refl
 
 -- no byte passes where a search finds none
-pub none_passes : (test : ℕ → Bool) (hay : List ℕ) → IsFirstByte test hay None → list_any test hay ≡ false
+pub none_passes : (test : ℕ → Bool) (hay : List ℕ)
+    → IsFirstByte test hay None → list_any test hay ≡ false
 none_passes test hay nowhere =
-    list_any_none test hay (All-from_get_or (λ (x : ℕ). test x ≡ false) hay 0 (λ k lt. false_from_ne_true _ (nowhere k (omega arith) lt)))
+    list_any_none test hay (All-from_get_or (λ (x : ℕ). test x ≡ false)
+    hay 0 (λ k lt. false_from_ne_true _ (nowhere k (omega arith) lt)))
 
 -- no byte passes before the one that a search finds
-pub none_before : (test : ℕ → Bool) (hay : List ℕ) (place : ℕ) → IsFirstByte test hay (Some place) → list_any test (take place hay) ≡ false
+pub none_before : (test : ℕ → Bool) (hay : List ℕ) (place : ℕ)
+    → IsFirstByte test hay (Some place) → list_any test (take place hay) ≡ false
 none_before test hay place found =
-    list_any_none test (take place hay) (All-from_get_or (λ (x : ℕ). test x ≡ false) (take place hay) 0 (λ k lt.
+    list_any_none test
+    (take place hay) (All-from_get_or (λ (x : ℕ). test x ≡ false) (take place hay) 0 (λ k lt.
     let below : k < place = omega (arith, length-take place hay) in
-    rw (get_or-take place hay k 0 below) (false_from_ne_true _ (found.0.before k (omega arith) below))))
+    rw (get_or-take place hay k 0 below)
+    (false_from_ne_true _ (found.0.before k (omega arith) below))))
 
-last_is : {X Y : Type 0} (view : X → Y) (o : Option Y) (x : X) (xs : List X) → option_map view (slice_get (x ∷ xs) (length xs)) ≡ last_or o (map view (x ∷ xs))
+last_is : {X Y : Type 0} (view : X → Y) (o : Option Y) (x : X) (xs : List X)
+    → option_map view (slice_get (x ∷ xs) (length xs)) ≡ last_or o (map view (x ∷ xs))
 last_is view o x [] = refl
 last_is view o x (y ∷ xs) = last_is view (Some (view x)) y xs
 
 -- the element that stands last
-pub last_seen : {X Y : Type 0} (view : X → Y) (xs : List X) → option_map view (slice_get xs (length xs - 1)) ≡ last_or None (map view xs)
+pub last_seen : {X Y : Type 0} (view : X → Y) (xs : List X)
+    → option_map view (slice_get xs (length xs - 1)) ≡ last_or None (map view xs)
 last_seen view [] = refl
-last_seen view (x ∷ xs) = let one : length (x ∷ xs) - 1 ≡ length xs = omega arith in rw one (last_is view None x xs)
+last_seen view (x ∷ xs) =
+    let one : length (x ∷ xs) - 1 ≡ length xs = omega arith in rw one (last_is view None x xs)

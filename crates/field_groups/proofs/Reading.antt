@@ -1,5 +1,6 @@
 -- The field at the front, read from its bytes.
-use Rattle.std.proofs.Common.{◌≡◌, ◌≢◌, ℕ, suc, ◌+◌, ◌-◌, ◌^◌, ◌<◌, ◌≤◌, true, List, ◌∷◌, ◌++◌, length, get_or, take, drop, sym, ap, ◌∙◌, arith, ⊎_elim}
+use Rattle.std.proofs.Common.{◌≡◌, ◌≢◌, ℕ, suc, ◌+◌, ◌-◌, ◌^◌, ◌<◌, ◌≤◌, true, List, ◌∷◌, ◌++◌}
+use Rattle.std.proofs.Common.{length, get_or, take, drop, sym, ap, ◌∙◌, arith, ⊎_elim}
 use Rattle.std.proofs.Math.Seq.{drop-cons}
 use Rattle.std.proofs.lemmas.Bool.{cases_lt}
 use Rattle.std.specs.Prelude.{not, nat_lt, nat_le, ◌&&◌, ◌==◌}
@@ -9,10 +10,12 @@ use Rattle.std.specs.Int.{IsInRange}
 use Rattle.std.specs.Str.Parse.{digits_value}
 use Rattle.std.proofs.lemmas.Bool.Decides.{nat_tests}
 use Rattle.std.proofs.lemmas.Fmt.{decimal-digits_value, decimal_digit}
-use Rattle.std.proofs.lemmas.List.{take-append-drop, get_or-take, get_or_past, take_all, length-drop}
+use Rattle.std.proofs.lemmas.List.{take-append-drop, get_or-take, get_or_past, take_all}
+use Rattle.std.proofs.lemmas.List.{length-drop}
 use Rattle.std.proofs.lemmas.List.Folds.{length-prefix_len}
 use Rattle.std.proofs.lemmas.List.Sums.{prefix_len_passes}
-use Rattle.std.proofs.lemmas.Str.Parse.{IsNumeralModel, numerals_by_value, tells_by_index, digits_value_short}
+use Rattle.std.proofs.lemmas.Str.Parse.{IsNumeralModel, numerals_by_value, tells_by_index}
+use Rattle.std.proofs.lemmas.Str.Parse.{digits_value_short}
 use Rattle.field_groups.specs.Fields.{digit_count, has_tag, is_tag_good, after_tag, front_tag}
 
 -- the bounds of a digit
@@ -33,7 +36,8 @@ front_digits bytes = take (digit_count bytes) bytes
 front_digits-range : (bytes : List ℕ) → AllInRange (front_digits bytes)
 front_digits-range bytes i lt =
     let below : i < digit_count bytes = omega (arith, length-prefix_len is_ascii_digit bytes) in
-    rw (get_or-take (digit_count bytes) bytes i 0 below) (range (get_or bytes i 0) (prefix_len_passes is_ascii_digit bytes i 0 below))
+    rw (get_or-take (digit_count bytes) bytes i 0 below)
+    (range (get_or bytes i 0) (prefix_len_passes is_ascii_digit bytes i 0 below))
 
 -- what the tests of a tag say
 record Tag (bytes : List ℕ) : Type 0 where
@@ -42,44 +46,74 @@ record Tag (bytes : List ℕ) : Type 0 where
   no_zero : get_or bytes 0 0 ≢ 48
   nine : digit_count bytes ≤ 9
 
-tests : (n first next : ℕ) → (nat_lt 0 n && (next == 61)) ≡ true → (not (first == 48) && nat_le n 9) ≡ true → (0 < n) × (next ≡ 61) × (first ≢ 48) × (n ≤ 9)
-tests n first next tag good = (grind (arith, nat_tests), grind (arith, nat_tests), grind (arith, nat_tests), grind (arith, nat_tests))
+tests : (n first next : ℕ) → (nat_lt 0 n && (next == 61)) ≡ true
+    → (not (first == 48) && nat_le n 9) ≡ true → (0 < n) × (next ≡ 61) × (first ≢ 48) × (n ≤ 9)
+tests n first next tag good = (
+  grind (arith, nat_tests),
+  grind (arith, nat_tests),
+  grind (arith, nat_tests),
+  grind (arith, nat_tests),
+)
 
 tag_facts : (bytes : List ℕ) → has_tag bytes ≡ true → is_tag_good bytes ≡ true → Tag bytes
 unfolding has_tag is_tag_good
 tag_facts bytes tag good =
-    let facts = tests (digit_count bytes) (get_or bytes 0 0) (get_or bytes (digit_count bytes) 0) tag good in
+    let facts = tests
+    (digit_count bytes) (get_or bytes 0 0) (get_or bytes (digit_count bytes) 0) tag good in
     record { some = facts.0; equals = facts.1; no_zero = facts.2; nine = facts.3 }
 
 -- bytes are cut where a byte that is not 0 stands
-pub cut_at : (bytes : List ℕ) (n byte : ℕ) → 0 < byte → get_or bytes n 0 ≡ byte → (n < length bytes) × (bytes ≡ take n bytes ++ byte ∷ drop (n + 1) bytes)
+pub cut_at : (bytes : List ℕ) (n byte : ℕ) → 0 < byte → get_or bytes n 0 ≡ byte
+    → (n < length bytes) × (bytes ≡ take n bytes ++ byte ∷ drop (n + 1) bytes)
 cut_at bytes n byte some is =
-    let within : n < length bytes = ⊎_elim (λ lt. lt) (λ le. absurd (omega (arith, get_or_past bytes n 0 le))) (cases_lt n (length bytes)) in
-    let next : suc n ≡ n + 1 = omega arith in
-    (within, sym (take-append-drop n bytes) ∙ ap (λ (bs : List ℕ). take n bytes ++ bs) (drop-cons bytes n 0 within ∙ ap (λ (b : ℕ). b ∷ drop (suc n) bytes) is ∙ ap (λ (i : ℕ). byte ∷ drop i bytes) next))
+    let within : n < length bytes = ⊎_elim (λ lt. lt)
+    (λ le. absurd (omega (arith, get_or_past bytes n 0 le))) (cases_lt n (length bytes)) in
+    let next : suc n ≡ n + 1 = omega arith in (
+      within,
+      sym (take-append-drop n bytes)
+          ∙ ap (λ (bs : List ℕ). take n bytes ++ bs) (drop-cons bytes n 0 within
+          ∙ ap (λ (b : ℕ). b ∷ drop (suc n) bytes) is ∙ ap (λ (i : ℕ). byte ∷ drop i bytes) next),
+    )
 
 front_tag-decimal : (bytes : List ℕ) → Tag bytes → decimal (front_tag bytes) ≡ front_digits bytes
 front_tag-decimal bytes tag =
-    let len : length (front_digits bytes) ≡ digit_count bytes = length-prefix_len is_ascii_digit bytes in
-    let below : front_tag bytes < 10 ^ 9 = digits_value_short own (front_digits bytes) 9 (front_digits-range bytes) (omega (arith, len, tag.nine)) in
-    let first : get_or (front_digits bytes) 0 0 ≡ get_or bytes 0 0 = get_or-take (digit_count bytes) bytes 0 0 tag.some in
-    decimal-digits_value own (front_digits bytes) (front_digits-range bytes) (omega (arith, len, tag.some)) (λ zero. absurd (tag.no_zero (sym first ∙ zero))) (omega (arith, below))
+    let len : length (front_digits bytes) ≡ digit_count bytes =
+    length-prefix_len is_ascii_digit bytes in
+    let below : front_tag bytes < 10 ^ 9 = digits_value_short
+    own (front_digits bytes) 9 (front_digits-range bytes) (omega (arith, len, tag.nine)) in
+    let first : get_or (front_digits bytes) 0 0 ≡ get_or bytes 0 0 =
+    get_or-take (digit_count bytes) bytes 0 0 tag.some in
+    decimal-digits_value own (front_digits bytes) (front_digits-range bytes) (omega (
+      arith,
+      len,
+      tag.some,
+    )) (λ zero. absurd (tag.no_zero (sym first ∙ zero))) (omega (arith, below))
 
-pub tag_range : (bytes : List ℕ) → has_tag bytes ≡ true → is_tag_good bytes ≡ true → (1 ≤ front_tag bytes) × (front_tag bytes ≤ 999999999)
+pub tag_range : (bytes : List ℕ) → has_tag bytes ≡ true
+    → is_tag_good bytes ≡ true → (1 ≤ front_tag bytes) × (front_tag bytes ≤ 999999999)
 tag_range bytes has good =
     let tag = tag_facts bytes has good in
-    let len : length (front_digits bytes) ≡ digit_count bytes = length-prefix_len is_ascii_digit bytes in
-    let below : front_tag bytes < 10 ^ 9 = digits_value_short own (front_digits bytes) 9 (front_digits-range bytes) (omega (arith, len, tag.nine)) in
-    let first : get_or (front_digits bytes) 0 0 ≡ get_or bytes 0 0 = get_or-take (digit_count bytes) bytes 0 0 tag.some in
-    let no_zero : front_tag bytes ≢ 0 = λ zero. tag.no_zero (sym first ∙ ap (λ (ds : List ℕ). get_or ds 0 0) (sym (front_tag-decimal bytes tag) ∙ ap decimal zero ∙ decimal_digit 0 (omega arith))) in
+    let len : length (front_digits bytes) ≡ digit_count bytes =
+    length-prefix_len is_ascii_digit bytes in
+    let below : front_tag bytes < 10 ^ 9 = digits_value_short
+    own (front_digits bytes) 9 (front_digits-range bytes) (omega (arith, len, tag.nine)) in
+    let first : get_or (front_digits bytes) 0 0 ≡ get_or bytes 0 0 =
+    get_or-take (digit_count bytes) bytes 0 0 tag.some in
+    let no_zero : front_tag bytes ≢ 0 =
+    λ zero. tag.no_zero (sym first ∙ ap (λ (ds : List ℕ). get_or ds 0 0)
+    (sym (front_tag-decimal bytes tag) ∙ ap decimal zero ∙ decimal_digit 0 (omega arith))) in
     (omega (arith, no_zero), omega (arith, below))
 
-pub tag_written : (bytes : List ℕ) → has_tag bytes ≡ true → is_tag_good bytes ≡ true → bytes ≡ decimal (front_tag bytes) ++ 61 ∷ after_tag bytes
+pub tag_written : (bytes : List ℕ) → has_tag bytes ≡ true
+    → is_tag_good bytes ≡ true → bytes ≡ decimal (front_tag bytes) ++ 61 ∷ after_tag bytes
 tag_written bytes has good =
     let tag = tag_facts bytes has good in
-    (cut_at bytes (digit_count bytes) 61 (omega arith) tag.equals).1 ∙ ap (λ (ds : List ℕ). ds ++ 61 ∷ after_tag bytes) (sym (front_tag-decimal bytes tag))
+    (cut_at bytes (digit_count bytes) 61 (omega arith) tag.equals).1
+    ∙ ap (λ (ds : List ℕ). ds ++ 61 ∷ after_tag bytes) (sym (front_tag-decimal bytes tag))
 
 -- what the slice after the tag and its `=` holds
-pub rest_is : (bytes : List ℕ) (n : ℕ) → n ≡ digit_count bytes → take (length bytes - (n + 1)) (drop (n + 1) bytes) ≡ after_tag bytes
+pub rest_is : (bytes : List ℕ) (n : ℕ)
+    → n ≡ digit_count bytes → take (length bytes - (n + 1)) (drop (n + 1) bytes) ≡ after_tag bytes
 rest_is bytes n is =
-    take_all (length bytes - (n + 1)) (drop (n + 1) bytes) (omega (arith, length-drop (n + 1) bytes)) ∙ ap (λ (i : ℕ). drop (i + 1) bytes) is
+    take_all (length bytes - (n + 1)) (drop (n + 1) bytes)
+    (omega (arith, length-drop (n + 1) bytes)) ∙ ap (λ (i : ℕ). drop (i + 1) bytes) is

@@ -11,6 +11,7 @@ pub record Taken (body : List ℕ) (fields : List Field) (left : List ℕ) : Typ
   pub written : body ≡ body_of fields ++ left
 
 -- one more field
-pub one_more : (before : Option Field) (fs : List Field) (f : Field) → AreFields before fs → IsField (last_or before fs) f → AreFields before (fs ++ f ∷ [])
+pub one_more : (before : Option Field) (fs : List Field) (f : Field)
+    → AreFields before fs → IsField (last_or before fs) f → AreFields before (fs ++ f ∷ [])
 one_more before [] f are is = (is, tt)
 one_more before (g ∷ fs) f are is = (are.0, one_more (Some g) fs f are.1 is)

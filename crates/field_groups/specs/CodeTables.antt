@@ -1,5 +1,5 @@
 -- Inside: the table that a table of the code is; a dictionary's contract says that it is its own.
-use Rattle.std.specs.Prelude.{ℕ, List, [], ◌∷◌, map, slice_index_or}
+use Rattle.std.specs.Prelude.{ℕ, List, [], map, slice_index_or}
 use Rattle.std.specs.Borrow.{Bor}
 use Rattle.field_groups.specs.Field.{Field}
 use Rattle.field_groups.specs.declared.table.Test.{Test as CodeTest}
@@ -11,7 +11,9 @@ use Rattle.field_groups.specs.declared.table.RepeatingGroup.{RepeatingGroup as C
 use Rattle.field_groups.specs.declared.table.Item.{Item as CodeItem}
 use Rattle.field_groups.specs.declared.table.Item.TheVariants as items
 use Rattle.field_groups.specs.declared.table.Table.{Table as CodeTable}
-use Rattle.field_groups.specs.Tables.{Test, Stands, Is, Need, Required, Optional, Lenient, Fixed, When, Row, RepeatingGroup, GroupTags, tags_in, Item, One, Party, Lines, Table}
+use Rattle.field_groups.specs.Tables.{Test, Stands, Is, Need, Required, Optional, Lenient, Fixed}
+use Rattle.field_groups.specs.Tables.{When, Row, RepeatingGroup, GroupTags, tags_in, Item, One}
+use Rattle.field_groups.specs.Tables.{Party, Lines, Table}
 
 abbrev pub test_of : CodeTest → Test
 test_of (tests.Stands tag) = Stands tag

@@ -1,10 +1,11 @@
--- Own: the one content in which a message is written, after its header: the fields of its rows in the
--- order of its table, each by its canonical spelling; a group that has no lines is not written.
+-- Own: the one content in which a message is written, after its header: the fields of its rows in
+-- the order of its table, each by its canonical spelling; a group that has no lines is not written.
 use Rattle.std.specs.Prelude.{ℕ, List, [], ◌∷◌, length, Some, None}
 use Rattle.std.specs.List.{flat_map}
 use Rattle.std.specs.Fmt.{decimal}
 use Rattle.field_groups.specs.Field.{Field}
-use Rattle.field_groups.specs.Tables.{Tag, Role, Cell, Message, Item, One, Party, Lines, Table, said_at, lines_of}
+use Rattle.field_groups.specs.Tables.{Tag, Role, Cell, Message, Item, One, Party, Lines, Table}
+use Rattle.field_groups.specs.Tables.{said_at, lines_of}
 
 abbrev pub cell_fields : Cell → List Field
 cell_fields (Tag tag, None) = []

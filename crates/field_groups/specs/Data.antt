@@ -1,4 +1,5 @@
--- Standard: FIX 4.2 and FIX 5.0 SP2, Data Types, Length and data; their field definitions for the pairs of tags.
+-- Standard: FIX 4.2 and FIX 5.0 SP2, Data Types, Length and data; their field definitions for the
+-- pairs of tags.
 use Rattle.std.specs.Prelude.{ℕ, Bool, ◌&&◌, ◌==◌, List, [], ◌∷◌}
 use Rattle.std.specs.List.{list_any}
 

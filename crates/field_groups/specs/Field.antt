@@ -1,6 +1,8 @@
--- Standard: FIX 4.2, "FIX Message Format and Delivery", "Message Format" and "Field Delimiter", and Data Types, data;
--- FIX 5.0 SP2, volume 1, "FIX Tag=Value Syntax", the same parts. Tags of at most nine digits are this gateway's own bound.
-use Rattle.std.specs.Prelude.{◌≡◌, ℕ, ◌≤◌, ◌==◌, Bool, true, false, not, List, [], ◌∷◌, ◌++◌, length, Option, Some, None, if◌then◌else◌}
+-- Standard: FIX 4.2, "FIX Message Format and Delivery", "Message Format" and "Field Delimiter", and
+-- Data Types, data; FIX 5.0 SP2, volume 1, "FIX Tag=Value Syntax", the same parts. Tags of at most
+-- nine digits are this gateway's own bound.
+use Rattle.std.specs.Prelude.{◌≡◌, ℕ, ◌≤◌, ◌==◌, Bool, true, false, not, List, [], ◌∷◌, ◌++◌}
+use Rattle.std.specs.Prelude.{length, Option, Some, None, if◌then◌else◌}
 use Rattle.std.specs.Fmt.{decimal}
 use Rattle.std.specs.List.{flat_map, list_any}
 use Rattle.field_groups.specs.HeadValues.{number_in}
@@ -22,7 +24,8 @@ field_bytes f = decimal f.0 ++ 61 ∷ f.1 ++ 1 ∷ []
 abbrev pub body_of : List Field → List ℕ
 body_of fs = flat_map field_bytes fs
 
--- A field of this tag is raw data where its length field stands directly before it. Anywhere else its tag is like any other.
+-- A field of this tag is raw data where its length field stands directly before it. Anywhere else
+-- its tag is like any other.
 abbrev pub is_data : Option Field → ℕ → Bool
 is_data None tag = false
 is_data (Some before) tag = is_data_pair before.0 tag
@@ -42,7 +45,8 @@ abbrev pub is_value : Option Field → Field → Bool
 is_value before f =
     if is_data before f.0 then says (said_length before) (length f.1) else not (list_any is_soh f.1)
 
--- A field, directly behind this one or at the front: a tag is positive and is written without leading zeros (TagNum).
+-- A field, directly behind this one or at the front: a tag is positive and is written without
+-- leading zeros (TagNum).
 pub record IsField (before : Option Field) (f : Field) : Type 0 where
   pub positive : 1 ≤ f.0
   pub nine_digits : f.0 ≤ 999_999_999

@@ -1,6 +1,8 @@
--- Own: the first fault of a message's fields beside its table, stage by stage; the reasons are those
--- of SessionRejectReason(373), FIX 4.2 and FIXT 1.1, Reject.
-use Rattle.std.specs.Prelude.{ℕ, ◌+◌, take, drop, reverse, ◌==◌, ◌&&◌, ◌||◌, Bool, true, false, not, List, [], ◌∷◌, ◌++◌, map, take_while, count_by, nat_le, unwrap_or, Some, None, Result, Ok, Err, if◌then◌else◌}
+-- Own: the first fault of a message's fields beside its table, stage by stage; the reasons are
+-- those of SessionRejectReason(373), FIX 4.2 and FIXT 1.1, Reject.
+use Rattle.std.specs.Prelude.{ℕ, ◌+◌, take, drop, reverse, ◌==◌, ◌&&◌, ◌||◌, Bool, true, false, not}
+use Rattle.std.specs.Prelude.{List, [], ◌∷◌, ◌++◌, map, take_while, count_by, nat_le, unwrap_or}
+use Rattle.std.specs.Prelude.{Some, None, Result, Ok, Err, if◌then◌else◌}
 use Rattle.std.specs.declared.option.Option.{Option}
 use Rattle.std.specs.Option.{option_map}
 use Rattle.std.specs.List.{list_any, flat_map}
@@ -10,7 +12,12 @@ use Rattle.field_groups.specs.declared.table_fault.Mark.{Mark}
 use Rattle.field_groups.specs.declared.table_fault.Mark.TheVariants as marks
 use Rattle.field_groups.specs.Field.{Field}
 use Rattle.field_groups.specs.HeadValues.{number_in}
-use Rattle.field_groups.specs.Tables.{Cell, Verdict, Spells, Outside, Wrong, Need, Lenient, Fixed, Row, GroupTags, Item, One, Party, Lines, Table, Message, Judge, or_else, first_of, value_at, has_tag, is_one_of, is_needed, row_at, all_rows, groups_of, groups_in, tags_of, tags_in, is_inside, run, lines_in, group_says, flag_of, cells_of}
+use Rattle.field_groups.specs.Tables.{Cell, Verdict, Spells, Outside, Wrong, Need, Lenient, Fixed}
+use Rattle.field_groups.specs.Tables.{Row, GroupTags, Item, One, Party, Lines, Table, Message}
+use Rattle.field_groups.specs.Tables.{Judge, or_else, first_of, value_at, has_tag, is_one_of}
+use Rattle.field_groups.specs.Tables.{is_needed, row_at, all_rows, groups_of, groups_in, tags_of}
+use Rattle.field_groups.specs.Tables.{tags_in, is_inside, run, lines_in, group_says, flag_of}
+use Rattle.field_groups.specs.Tables.{cells_of}
 
 -- a field, with the fields before it, from it backwards, and those after it
 pub record Placed : Type 0 where
@@ -83,22 +90,24 @@ is_opened group [] = false
 is_opened group (f ∷ fs) =
     if f.0 == group.count then true else (if is_inside group f.0 then is_opened group fs else false)
 
--- The fault of a member beside the fields before it, from it backwards: outside its group, before the
--- first line, or again in its line (15); a line past the last that may be (5, of the count).
+-- The fault of a member beside the fields before it, from it backwards: outside its group, before
+-- the first line, or again in its line (15); a line past the last that may be (5, of the count).
 abbrev pub misplaced_member : GroupTags → List Field → ℕ → Option TableFault
 misplaced_member group before tag =
     if not (is_opened group before) then Some (faults.Reason tag 15)
     else (if is_one_of group.skipped tag then None
     else (if tag == group.first
     then fault_if (nat_le most_lines (lines_begun group before)) (faults.Reason group.count 5)
-    else fault_if (lines_begun group before == 0 || has_tag tag (line_before group before)) (faults.Reason tag 15)))
+    else fault_if (lines_begun group before == 0 || has_tag tag (line_before group before))
+    (faults.Reason tag 15)))
 
 -- The fault of a field that a group has: a count that is no number or not the number of lines (16),
 -- or that of a member.
 abbrev pub misplaced : Placed → GroupTags → Option TableFault
 misplaced p group =
     if p.field.0 == group.count
-    then fault_if (not (is_count (number_in p.field.1) (lines_begun group p.after))) (faults.Reason p.field.0 16)
+    then fault_if (not (is_count (number_in p.field.1) (lines_begun group p.after)))
+    (faults.Reason p.field.0 16)
     else (if is_inside group p.field.0 then misplaced_member group p.before p.field.0 else None)
 
 abbrev pub in_groups : List GroupTags → Placed → Option TableFault
@@ -118,14 +127,16 @@ allowed Lenient marks.Outside = marks.Good
 allowed (Fixed text) marks.Outside = marks.Good
 allowed need mark = mark
 
--- A field without a row is at fault where it is empty (4), and else outside the profile, where it may
--- not be passed over.
+-- A field without a row is at fault where it is empty (4), and else outside the profile, where it
+-- may not be passed over.
 abbrev pub without_row : Bool → List ℕ → Mark
 without_row passed [] = marks.Wrong 4
 without_row passed (byte ∷ bytes) = if passed then marks.Good else marks.Outside
 
-abbrev pub by_row : {Kind : Type 0} → Judge Kind → Bool → List Field → List ℕ → Option (Row Kind) → Mark
-by_row judge passed fields value (Some row) = allowed row.need (mark_of (judge fields row.kind value))
+abbrev pub by_row : {Kind : Type 0}
+    → Judge Kind → Bool → List Field → List ℕ → Option (Row Kind) → Mark
+by_row judge passed fields value (Some row) =
+    allowed row.need (mark_of (judge fields row.kind value))
 by_row judge passed fields value None = without_row passed value
 
 -- a tag, and what its field is

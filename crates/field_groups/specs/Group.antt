@@ -1,11 +1,15 @@
--- Standard: FIX 4.2, "FIX Message Format and Delivery", "Repeating Groups"; FIX 5.0 SP2, volume 1, "FIX Tag=Value Syntax",
--- "Repeating Groups". At most 32 lines is this gateway's own bound, as is the order in which faults are told.
-use Rattle.std.specs.Prelude.{◌≡◌, ℕ, ◌+◌, ◌==◌, ◌&&◌, ◌||◌, Bool, true, false, not, List, [], ◌∷◌, ◌++◌, length, drop, filter, count_by, take_while, nat_le, slice_get, Option, Some, None, option_and_then, if◌then◌else◌}
+-- Standard: FIX 4.2, "FIX Message Format and Delivery", "Repeating Groups"; FIX 5.0 SP2, volume 1,
+-- "FIX Tag=Value Syntax", "Repeating Groups". At most 32 lines is this gateway's own bound, as is
+-- the order in which faults are told.
+use Rattle.std.specs.Prelude.{◌≡◌, ℕ, ◌+◌, ◌==◌, ◌&&◌, ◌||◌, Bool, true, false, not, List, [], ◌∷◌}
+use Rattle.std.specs.Prelude.{◌++◌, length, drop, filter, count_by, take_while, nat_le, slice_get}
+use Rattle.std.specs.Prelude.{Option, Some, None, option_and_then, if◌then◌else◌}
 use Rattle.std.specs.Option.{option_or}
 use Rattle.std.specs.List.{list_any, last_or}
 use Rattle.field_groups.specs.declared.group.Shape.{Shape}
 use Rattle.field_groups.specs.declared.group.GroupFault.{GroupFault}
-use Rattle.field_groups.specs.declared.group.GroupFault.TheVariants.{Count, Order, TooMany, NoMemory}
+use Rattle.field_groups.specs.declared.group.GroupFault.TheVariants.{Count, Order, TooMany}
+use Rattle.field_groups.specs.declared.group.GroupFault.TheVariants.{NoMemory}
 use Rattle.field_groups.specs.HeadValues.{number_in}
 use Rattle.field_groups.specs.Field.{Field, says}
 
@@ -13,7 +17,8 @@ use Rattle.field_groups.specs.Field.{Field, says}
 abbrev pub max_lines : ℕ
 max_lines = 32
 
--- the tags of a group: of its count, of the member that begins each line, of its other members, and those that are passed over
+-- the tags of a group: of its count, of the member that begins each line, of its other members, and
+-- those that are passed over
 pub record Tags : Type 0 where
   pub count : ℕ
   pub first : ℕ
@@ -42,7 +47,8 @@ is_skipped tags tag = not (tag == tags.first) && is_one_of tags.skip tag
 abbrev pub Member : Type 0
 Member = ℕ × ℕ
 
--- what is read of a group: its lines, and the place of the first field after it, or the number of fields where none follows
+-- what is read of a group: its lines, and the place of the first field after it, or the number of
+-- fields where none follows
 pub record Lines : Type 0 where
   pub lines : List (List Member)
   pub end : ℕ
@@ -52,9 +58,11 @@ abbrev pub placed : ℕ → List Field → List Member
 placed place [] = []
 placed place (f ∷ fs) = (f.0, place) ∷ placed (place + 1) fs
 
--- what stands of the group behind its count field at this place: the fields up to the first with another tag
+-- what stands of the group behind its count field at this place: the fields up to the first with
+-- another tag
 abbrev pub run : Tags → ℕ → List Field → List Member
-run tags from fields = take_while (λ m. is_inside tags m.0) (placed (from + 1) (drop (from + 1) fields))
+run tags from fields =
+    take_while (λ m. is_inside tags m.0) (placed (from + 1) (drop (from + 1) fields))
 
 -- the members of the group
 abbrev pub members_of : Tags → List Member → List Member
@@ -65,10 +73,12 @@ abbrev pub begins : ℕ → List Member → Bool
 begins first [] = false
 begins first (m ∷ ms) = m.0 == first
 
--- a member before lines: it stands alone before a line that begins with the first tag, and else at the front of that line
+-- a member before lines: it stands alone before a line that begins with the first tag, and else at
+-- the front of that line
 abbrev pub before_lines : ℕ → Member → List (List Member) → List (List Member)
 before_lines first m [] = (m ∷ []) ∷ []
-before_lines first m (line ∷ lines) = if begins first line then (m ∷ []) ∷ line ∷ lines else (m ∷ line) ∷ lines
+before_lines first m (line ∷ lines) =
+    if begins first line then (m ∷ []) ∷ line ∷ lines else (m ∷ line) ∷ lines
 
 -- members in lines: a line ends where the first tag begins the next
 unfoldable pub lines_of : ℕ → List Member → List (List Member)
@@ -96,7 +106,8 @@ misplaced tags before m =
 -- the fault of the first member that has one, behind these
 unfoldable pub first_misplaced : Tags → List Member → List Member → Option GroupFault
 first_misplaced tags before [] = None
-first_misplaced tags before (m ∷ ms) = option_or (misplaced tags before m) (first_misplaced tags (before ++ m ∷ []) ms)
+first_misplaced tags before (m ∷ ms) =
+    option_or (misplaced tags before m) (first_misplaced tags (before ++ m ∷ []) ms)
 
 -- whether the count field at this place says how many lines begin
 abbrev pub is_counted : Tags → ℕ → List Field → Bool
@@ -104,7 +115,8 @@ is_counted tags from fields =
     says (option_and_then (λ f. number_in f.1) (slice_get fields from))
     (count_by (λ m. m.0 == tags.first) (run tags from fields))
 
--- THE FAULT of a group, the first by its place: that of the count stands at the count field, before all others
+-- THE FAULT of a group, the first by its place: that of the count stands at the count field, before
+-- all others
 abbrev pub group_fault : Tags → ℕ → List Field → Option GroupFault
 group_fault tags from fields =
     if is_counted tags from fields

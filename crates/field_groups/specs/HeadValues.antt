@@ -1,5 +1,7 @@
--- Standard: FIX 4.2, Data Types, int without a sign; FIX 5.0 SP2, Length and NumInGroup. The bound is this gateway's own.
-use Rattle.std.specs.Prelude.{ℕ, Bool, ◌&&◌, List, Option, Some, None, length, nat_le, if◌then◌else◌}
+-- Standard: FIX 4.2, Data Types, int without a sign; FIX 5.0 SP2, Length and NumInGroup. The bound
+-- is this gateway's own.
+use Rattle.std.specs.Prelude.{ℕ, Bool, ◌&&◌, List, Option, Some, None, length, nat_le}
+use Rattle.std.specs.Prelude.{if◌then◌else◌}
 use Rattle.std.specs.Int.{is_in_range}
 use Rattle.std.specs.Char.{is_ascii_digit}
 use Rattle.std.specs.List.{list_all}

@@ -1,14 +1,17 @@
 -- Inside: what `src/laws.rt` says of the definitions.
-use Rattle.std.specs.Prelude.{◌≡◌, ℕ, ◌≤◌, ◌↔◌, ◌==◌, true, false, List, [], ◌∷◌, Option, None, length, count_by, All}
+use Rattle.std.specs.Prelude.{◌≡◌, ℕ, ◌≤◌, ◌↔◌, ◌==◌, true, false, List, [], ◌∷◌, Option, None}
+use Rattle.std.specs.Prelude.{length, count_by, All}
 use Rattle.std.specs.List.{flat_map, AllByRecursion}
 use Rattle.field_groups.specs.declared.fault.SplitFault.{SplitFault}
 use Rattle.field_groups.specs.Field.{Field, AreFields, IsPlainField, body_of}
 use Rattle.field_groups.specs.Fields.{SplitsInto, max_fields}
-use Rattle.field_groups.specs.Group.{Tags, Member, max_lines, run, members_of, begins, has_member, is_counted, group_fault, group_lines}
+use Rattle.field_groups.specs.Group.{Tags, Member, max_lines, run, members_of, begins, has_member}
+use Rattle.field_groups.specs.Group.{is_counted, group_fault, group_lines}
 
 -- each body has a list of fields, and a fault or none
 abbrev pub EveryBodySplits : Type 0
-EveryBodySplits = (body : List ℕ) → (fields : List Field) × (fault : Option SplitFault) × SplitsInto body fields fault
+EveryBodySplits = (body : List ℕ)
+    → (fields : List Field) × (fault : Option SplitFault) × SplitsInto body fields fault
 
 -- and only one
 abbrev pub FieldsAreDetermined : Type 0
@@ -20,11 +23,13 @@ FieldsAreDetermined =
 abbrev pub FieldsReadAgain : Type 0
 FieldsReadAgain =
     (body : List ℕ) (fields : List Field) →
-    (SplitsInto body fields None) ↔ ((body ≡ body_of fields) × AreFields None fields × (length fields ≤ max_fields))
+    (SplitsInto body fields None)
+    ↔ ((body ≡ body_of fields) × AreFields None fields × (length fields ≤ max_fields))
 
 -- fields of no raw bytes are read again in any order
 abbrev pub PlainFieldsReadAgain : Type 0
-PlainFieldsReadAgain = (fields : List Field) → All IsPlainField fields → length fields ≤ max_fields → SplitsInto (body_of fields) fields None
+PlainFieldsReadAgain = (fields : List Field)
+    → All IsPlainField fields → length fields ≤ max_fields → SplitsInto (body_of fields) fields None
 
 -- no tag stands twice among these
 abbrev pub IsOnce : List Member → Type 0
@@ -36,7 +41,8 @@ pub record IsLine (first : ℕ) (line : List Member) : Type 0 where
   pub begun : begins first line ≡ true
   pub once : IsOnce line
 
--- These are the lines of these members: they have them in their order, and there are at most 32, as many as first tags.
+-- These are the lines of these members: they have them in their order, and there are at most 32, as
+-- many as first tags.
 pub record AreLines (first : ℕ) (members : List Member) (lines : List (List Member)) : Type 0 where
   pub joined : flat_map (λ line. line) lines ≡ members
   pub each : AllByRecursion (IsLine first) lines
@@ -47,5 +53,6 @@ pub record AreLines (first : ℕ) (members : List Member) (lines : List (List Me
 abbrev pub GroupsAreLines : Type 0
 GroupsAreLines =
     (tags : Tags) (from : ℕ) (fields : List Field) → group_fault tags from fields ≡ None →
-    AreLines tags.first (members_of tags (run tags from fields)) (group_lines tags from fields).lines
+    AreLines
+    tags.first (members_of tags (run tags from fields)) (group_lines tags from fields).lines
     × (is_counted tags from fields ≡ true)

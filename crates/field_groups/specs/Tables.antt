@@ -1,5 +1,7 @@
--- Own: how the tables of messages are written as data, and what the fields of a body say by their rows.
-use Rattle.std.specs.Prelude.{ℕ, ◌==◌, ◌&&◌, ◌||◌, Bool, true, false, List, [], ◌∷◌, ◌++◌, map, take_while, codes, unwrap_or, Some, None, if◌then◌else◌}
+-- Own: how the tables of messages are written as data, and what the fields of a body say by their
+-- rows.
+use Rattle.std.specs.Prelude.{ℕ, ◌==◌, ◌||◌, Bool, true, false, List, [], ◌∷◌, ◌++◌, map}
+use Rattle.std.specs.Prelude.{take_while, codes, unwrap_or, Some, None, if◌then◌else◌}
 use Rattle.std.specs.declared.option.Option.{Option}
 use Rattle.std.specs.Option.{option_map}
 use Rattle.std.specs.List.{find, list_any, list_all, flat_map}
@@ -166,8 +168,8 @@ first_tag (row ∷ rows) = row.tag
 
 -- ---- the lines of a group
 
--- the tags of a group: of its count, of the member that begins a line, of all members of a line, and
--- those that say nothing
+-- the tags of a group: of its count, of the member that begins a line, of all members of a line,
+-- and those that say nothing
 pub record GroupTags : Type 0 where
   pub count : ℕ
   pub first : ℕ
@@ -240,9 +242,12 @@ lines_of count [] = []
 lines_of count (group ∷ groups) = if group.0 == count then group.1 else lines_of count groups
 
 -- a kind is judged in a line beside the fields of that line
-abbrev pub group_says : {Kind : Type 0} → Judge Kind → List Field → RepeatingGroup Kind → ℕ × List (List Cell)
-group_says judge fields group =
-    (group.count, map (λ line. map (cell_of judge line) group.rows) (lines_in (tags_in group) fields))
+abbrev pub group_says : {Kind : Type 0}
+    → Judge Kind → List Field → RepeatingGroup Kind → ℕ × List (List Cell)
+group_says judge fields group = (
+  group.count,
+  map (λ line. map (cell_of judge line) group.rows) (lines_in (tags_in group) fields),
+)
 
 abbrev pub is_place : Place → Place → Bool
 is_place (Tag tag) (Tag other) = tag == other
@@ -277,10 +282,12 @@ code_in cells tag = unwrap_or (code_if cells tag) 0
 -- the PartyID (448) of the first line of the Parties group (453) with a PartyRole (452)
 abbrev pub party_in : ℕ → List (List Cell) → Said
 party_in role lines =
-    first_of (λ line. if bytes_eq (text_in line 452) (decimal role) then Some (text_in line 448) else None)
+    first_of (λ line. if bytes_eq (text_in line 452) (decimal role)
+    then Some (text_in line 448) else None)
     lines
 
-abbrev pub cells_of : {Kind : Type 0} → Judge Kind → List Field → List (ℕ × List (List Cell)) → Item Kind → List Cell
+abbrev pub cells_of : {Kind : Type 0}
+    → Judge Kind → List Field → List (ℕ × List (List Cell)) → Item Kind → List Cell
 cells_of judge fields groups (One row) = cell_of judge fields row ∷ []
 cells_of judge fields groups (Party role) = (Role role, party_in role (lines_of 453 groups)) ∷ []
 cells_of judge fields groups (Lines group) = []

@@ -8,6 +8,9 @@ use std::alloc::{AllocError, Global};
 use std::marker::Model;
 use std::slice::Iter;
 
+/// The byte that ends a field.
+pub const SOH: u8 = 1;
+
 /// A field: its tag and its value, a part of the body.
 pub type Field<'a> = (u32, &'a [u8]);
 
@@ -27,7 +30,8 @@ impl<'a> Model for Fields<'a> {
 }
 
 impl<'a> Fields<'a> {
-    ghost use Rattle.std.specs.Prelude.{◌≡◌, ◌==◌, ◌++◌, ◌∷◌, [], None, length, map, slice_get, IfOk, OnOk, OnErr, position};
+    ghost use Rattle.std.specs.Prelude.{◌≡◌, ◌==◌, ◌++◌, ◌∷◌, [], None, length, map, slice_get};
+    ghost use Rattle.std.specs.Prelude.{IfOk, OnOk, OnErr, position};
     ghost use Rattle.std.specs.Option.{option_map};
     ghost use Rattle.std.specs.List.{last_or};
     ghost use Rattle.std.specs.Slice.Iter.{iter_rest};
@@ -106,7 +110,8 @@ impl<'f, 'a> IntoIterator for &'f Fields<'a> {
 
     type IntoIter = Iter<'f, Field<'a>>;
 
-    ghost into_iter_gives = { λ fields iter. map (λ field. (field.0, field.1.now)) (iter_rest iter) ≡ fields.now };
+    ghost into_iter_gives = { λ fields iter.
+        map (λ field. (field.0, field.1.now)) (iter_rest iter) ≡ fields.now };
 
     fn into_iter(self) -> Iter<'f, Field<'a>> {
         self.iter()

@@ -1,10 +1,15 @@
 //! The lines of a repeating group.
 
-ghost use Rattle.std.specs.Prelude.{◌≡◌, ◌==◌, ◌+◌, ◌-◌, ◌^◌, ◌<◌, ◌≤◌, ◌++◌, ◌∷◌, [], ℕ, List, Some, None, length, map, count_by, slice_get, option_and_then, IfOk, IfErr, OnOk, OnErr};
-ghost use Rattle.std.specs.List.{list_any, prefix_len, last_or, slice_set, slice_index_or};
+ghost use Rattle.std.specs.Prelude.{◌≡◌, ◌==◌, ◌+◌, ◌-◌, ◌^◌, ◌<◌, ◌≤◌, ◌++◌, ◌∷◌, [], List};
+ghost use Rattle.std.specs.Prelude.{Some, None, length, map, count_by, slice_get, option_and_then};
+ghost use Rattle.std.specs.Prelude.{IfOk, IfErr, OnOk};
+ghost use Rattle.std.specs.List.{prefix_len, last_or, slice_set, slice_index_or};
 ghost use Rattle.field_groups.specs.HeadValues.{number_in};
 ghost use Rattle.field_groups.specs.Field.{says};
-ghost use Rattle.field_groups.specs.Group.{Member, placed, run, members_of, first_misplaced, tags_of, is_one_of, is_inside, is_skipped, lines_of, has_member, is_astray, misplaced, group_fault, group_lines, TellsFault};
+ghost use Rattle.field_groups.specs.Group.{Member, placed, run, members_of, first_misplaced};
+ghost use Rattle.field_groups.specs.Group.{tags_of, is_inside, is_skipped, lines_of};
+ghost use Rattle.field_groups.specs.Group.{has_member, is_astray, misplaced, group_fault};
+ghost use Rattle.field_groups.specs.Group.{group_lines, TellsFault};
 
 use crate::fields::{Field, Fields};
 use crate::head_values::number_in;
@@ -179,7 +184,8 @@ impl Group {
             self.new.lines ≡ lines_of shape.now.first (before ++ (tag, place) ∷ [])) }
         ensures in_order { OnOk result ((before : List Member) → self.old.lines ≡ lines_of shape.now.first before →
             misplaced (tags_of shape.now) before (tag, place) ≡ None) }
-        ensures fault { IfErr result (λ e. (before : List Member) → self.old.lines ≡ lines_of shape.now.first before →
+        ensures fault { IfErr
+            result (λ e. (before : List Member) → self.old.lines ≡ lines_of shape.now.first before →
             TellsFault e (misplaced (tags_of shape.now) before (tag, place))) }
         ensures end { self.new.end ≡ self.old.end }
     {
@@ -239,7 +245,8 @@ fn run_len(fields: &[Field<'_>], shape: &Shape) -> usize
 /// The fields of the group behind its count field.
 fn run_of<'f, 'a>(fields: &'f Fields<'a>, from: usize, shape: &Shape) -> &'f [Field<'a>]
     requires { from < length fields.now }
-    ensures run { placed (from + 1) (map (λ field. (field.0, field.1.now)) result.now) ≡ run (tags_of shape.now) from fields.now }
+    ensures run { placed (from + 1) (map (λ field. (field.0, field.1.now)) result.now)
+        ≡ run (tags_of shape.now) from fields.now }
     ensures within { from + 1 + length result.now ≤ length fields.now }
     ensures bound { length fields.now < 2 ^ 63 }
 {
@@ -280,12 +287,15 @@ fn read_lines(
 ) -> Result<Group, GroupFault>
     requires { place + length run.now < 2 ^ 63 }
     ensures in_order { OnOk result (first_misplaced (tags_of shape.now) []
-        (members_of (tags_of shape.now) (placed place (map (λ field. (field.0, field.1.now)) run.now))) ≡ None) }
+        (members_of (tags_of shape.now)
+        (placed place (map (λ field. (field.0, field.1.now)) run.now))) ≡ None) }
     ensures lines { IfOk result (λ group. group.lines ≡ lines_of shape.now.first
-        (members_of (tags_of shape.now) (placed place (map (λ field. (field.0, field.1.now)) run.now)))) }
+        (members_of
+        (tags_of shape.now) (placed place (map (λ field. (field.0, field.1.now)) run.now)))) }
     ensures end { IfOk result (λ group. group.end ≡ place + length run.now) }
     ensures fault { IfErr result (λ e. TellsFault e (first_misplaced (tags_of shape.now) []
-        (members_of (tags_of shape.now) (placed place (map (λ field. (field.0, field.1.now)) run.now))))) }
+        (members_of
+        (tags_of shape.now) (placed place (map (λ field. (field.0, field.1.now)) run.now))))) }
 {
     let mut group = Group::with_end(alloc, place + run.len());
     for (i, field) in run.iter().enumerate() {

@@ -2,7 +2,8 @@
 
 ghost use Rattle.std.specs.Prelude.{◌≡◌, ◌==◌, ◌-◌, ◌<◌, ◌≤◌, ◌∷◌, not, length, drop, take};
 ghost use Rattle.std.specs.List.{prefix_len};
-ghost use Rattle.field_groups.specs.Tables.{is_inside, run, after_tag, from_tag, line_fields_in, in_lines};
+ghost use Rattle.field_groups.specs.Tables.{is_inside, run, after_tag, from_tag, line_fields_in};
+ghost use Rattle.field_groups.specs.Tables.{in_lines};
 ghost use Rattle.field_groups.specs.CodeTables.{seen, own_tags};
 
 use crate::fields::Field;
@@ -39,7 +40,8 @@ fn from<'f, 'a>(fields: &'f [Field<'a>], tag: u32) -> &'f [Field<'a>]
 impl<K> RepeatingGroup<K> {
     /// How many fields at the front are inside the group.
     fn run_len(&self, fields: &[Field<'_>]) -> usize
-        ensures value { result ≡ prefix_len (λ field. is_inside (own_tags self.now) field.0) (seen fields.now) }
+        ensures value { result
+            ≡ prefix_len (λ field. is_inside (own_tags self.now) field.0) (seen fields.now) }
         ensures within { result ≤ length fields.now }
     {
         for place in 0..fields.len() {
@@ -71,7 +73,17 @@ pub fn line_end(fields: &[Field<'_>], from: usize, first: u32) -> usize
     requires { from < length fields.now }
     ensures later { from < result }
     ensures within { result ≤ length fields.now }
-    ensures line { in_lines first (drop from (seen fields.now)) ≡ take (result - from) (drop from (seen fields.now)) ∷ in_lines first (drop result (seen fields.now)) }
+    ensures line { in_lines first (drop from (seen fields.now)) ≡ take (result - from)
+        (drop from (seen fields.now)) ∷ in_lines first (drop result (seen fields.now)) }
 {
     from + 1 + before_tag(rest(fields, from + 1), first)
+}
+
+/// The fields from one place to another.
+pub fn line<'f, 'a>(fields: &'f [Field<'a>], from: usize, end: usize) -> &'f [Field<'a>]
+    requires ordered { from ≤ end }
+    requires within { end ≤ length fields.now }
+    ensures { seen result.now ≡ take (end - from) (drop from (seen fields.now)) }
+{
+    front(rest(fields, from), end - from)
 }

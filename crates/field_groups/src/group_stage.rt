@@ -2,7 +2,9 @@
 
 ghost use Rattle.std.specs.Prelude.{◌≡◌, ◌==◌, ◌<◌, [], length, reverse, count_by};
 ghost use Rattle.field_groups.specs.Tables.{has_tag, first_of};
-ghost use Rattle.field_groups.specs.FirstFault.{group_tags_of, group_tags_in, placed_from, in_groups, misplaced, misplaced_member, place_in, lines_begun, line_before, is_opened, is_count};
+ghost use Rattle.field_groups.specs.FirstFault.{group_tags_of, group_tags_in, placed_from};
+ghost use Rattle.field_groups.specs.FirstFault.{in_groups, misplaced, misplaced_member, place_in};
+ghost use Rattle.field_groups.specs.FirstFault.{lines_begun, line_before, is_opened, is_count};
 ghost use Rattle.field_groups.specs.HeadValues.{number_in};
 ghost use Rattle.field_groups.specs.CodeTables.{seen, seen_at, own_tags, item_of, table_of};
 
@@ -90,7 +92,8 @@ impl<K> RepeatingGroup<K> {
 
     /// Whether a tag stands in the last line of these fields, past the field that begins it.
     fn is_again(&self, before: &[Field<'_>], tag: u32) -> bool
-        ensures { result ≡ has_tag tag (line_before (own_tags self.now) (reverse (seen before.now))) }
+        ensures { result
+            ≡ has_tag tag (line_before (own_tags self.now) (reverse (seen before.now))) }
     {
         let mut place = before.len();
         while place > 0 {
@@ -135,7 +138,8 @@ impl<K> RepeatingGroup<K> {
     /// The fault that the group has at a place.
     fn misplaced(&self, fields: &[Field<'_>], place: usize) -> Option<TableFault>
         requires { place < length fields.now }
-        ensures { result ≡ misplaced (place_in (seen fields.now) place (seen_at fields.now place)) (own_tags self.now) }
+        ensures { result ≡ misplaced
+            (place_in (seen fields.now) place (seen_at fields.now place)) (own_tags self.now) }
     {
         let (tag, value) = field_at(fields, place);
         if tag == self.count {
@@ -156,7 +160,8 @@ impl<K> Item<K> {
     /// The fault that the item's group, if it has one, has at a place.
     fn misplaced(&self, fields: &[Field<'_>], place: usize) -> Option<TableFault>
         requires { place < length fields.now }
-        ensures { result ≡ in_groups (group_tags_of (item_of (λ k. k) self.now)) (place_in (seen fields.now) place (seen_at fields.now place)) }
+        ensures { result ≡ in_groups (group_tags_of (item_of (λ k. k) self.now))
+            (place_in (seen fields.now) place (seen_at fields.now place)) }
     {
         match self {
             Item::One(_) => None,
@@ -169,7 +174,8 @@ impl<K> Item<K> {
 /// The fault of a group of the table at a place.
 fn misplaced_at<K>(table: &Table<K>, fields: &[Field<'_>], place: usize) -> Option<TableFault>
     requires { place < length fields.now }
-    ensures { result ≡ in_groups (group_tags_in (table_of (λ k. k) table.now)) (place_in (seen fields.now) place (seen_at fields.now place)) }
+    ensures { result ≡ in_groups (group_tags_in (table_of (λ k. k) table.now))
+        (place_in (seen fields.now) place (seen_at fields.now place)) }
 {
     for item in table.items {
         if let Some(fault) = item.misplaced(fields, place) {
@@ -181,7 +187,8 @@ fn misplaced_at<K>(table: &Table<K>, fields: &[Field<'_>], place: usize) -> Opti
 
 /// The first fault of a group of the table.
 pub(crate) fn first_misplaced<K>(table: &Table<K>, fields: &[Field<'_>]) -> Option<TableFault>
-    ensures { result ≡ first_of (in_groups (group_tags_in (table_of (λ k. k) table.now))) (placed_from [] (seen fields.now)) }
+    ensures { result ≡ first_of (in_groups (group_tags_in (table_of (λ k. k) table.now)))
+        (placed_from [] (seen fields.now)) }
 {
     for place in 0..fields.len() {
         if let Some(fault) = misplaced_at(table, fields, place) {

@@ -22,10 +22,10 @@ mod table_fault;
 mod tests;
 
 pub use fault::SplitFault;
-pub use fields::{Field, Fields, Split};
+pub use fields::{Field, Fields, SOH, Split};
 pub use group::{Group, GroupFault, Shape, read_group};
-pub use group_lines::line_end;
-pub use lookup::{stands, value};
+pub use group_lines::{line, line_end};
+pub use lookup::{field_at, stands, value};
 pub use splitting::split;
 pub use stages::Found;
 pub use table::{Item, Need, RepeatingGroup, Row, Table, Test};

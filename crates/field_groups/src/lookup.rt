@@ -48,9 +48,9 @@ pub(crate) fn is_among(tags: &[u32], tag: u32) -> bool
     tags.contains(&tag)
 }
 
-/// The field at a place.
+/// The field at a place, counted from 0.
 #[tactic(auto, using(crate::proofs::Seen::seen_at_is))]
-pub(crate) fn field_at<'a>(fields: &[Field<'a>], place: usize) -> Field<'a>
+pub fn field_at<'a>(fields: &[Field<'a>], place: usize) -> Field<'a>
     requires { place < length fields.now }
     ensures { (result.0, result.1.now) ≡ seen_at fields.now place }
 {

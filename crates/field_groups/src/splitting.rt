@@ -1,18 +1,19 @@
 //! The fields of a body, from the front.
 
-ghost use Rattle.std.specs.Prelude.{◌≡◌, ◌≤◌, ◌^◌, ◌++◌, ◌∷◌, ℕ, false, true, Option, None, length, take, IfOk, IfErr, IfNone, IfSome, OnOk, IsTrue};
-ghost use Rattle.std.specs.List.{list_any, list_all, prefix_len};
+ghost use Rattle.std.specs.Prelude.{◌≡◌, ◌≤◌, ◌++◌, ◌∷◌, false, true, Option, None, length};
+ghost use Rattle.std.specs.Prelude.{IfOk, IfErr, IfNone, IfSome, OnOk};
+ghost use Rattle.std.specs.List.{list_any};
 ghost use Rattle.std.specs.Option.{option_map};
 ghost use Rattle.std.specs.Char.{is_ascii_digit};
 ghost use Rattle.std.specs.Fmt.{decimal};
-ghost use Rattle.std.specs.Str.Parse.{digits_value};
-ghost use Rattle.field_groups.specs.Field.{Field, IsField, field_bytes, is_soh, is_data, says, said_length};
+ghost use Rattle.field_groups.specs.Field.{Field, IsField, field_bytes, is_soh, says};
 ghost use Rattle.field_groups.specs.HeadValues.{number_in};
-ghost use Rattle.field_groups.specs.Fields.{NoField, SplitsInto, after_tag, front_tag, has_tag, is_tag_good, digit_count, has_soh, has_soh_after};
+ghost use Rattle.field_groups.specs.Fields.{NoField, SplitsInto, after_tag, front_tag, has_tag};
+ghost use Rattle.field_groups.specs.Fields.{is_tag_good, digit_count, has_soh, has_soh_after};
 
 use crate::data::is_data_pair;
 use crate::fault::SplitFault;
-use crate::fields::{Fields, Split};
+use crate::fields::{Fields, SOH, Split};
 use crate::head_values::{number_in, value_of};
 use memchr::memchr;
 use std::alloc::{AllocError, Global};
@@ -26,9 +27,6 @@ const FIRST_ROOM: usize = 32;
 /// The most digits of a tag.
 const MAX_DIGITS: usize = 9;
 
-/// The byte that ends a field.
-const SOH: u8 = 1;
-
 /// How many digits stand at the front.
 fn digit_count(bytes: &[u8]) -> usize
     ensures value { result ≡ digit_count bytes.now }
@@ -40,7 +38,8 @@ fn digit_count(bytes: &[u8]) -> usize
         .count()
 }
 
-/// The tag at the front, and what is left after its `=`. The field begins at this place of the body.
+/// The tag at the front, and what is left after its `=`. The field begins at this place of the
+/// body.
 #[tactic(auto, using(crate::proofs::Reading::tag_written, crate::proofs::Reading::tag_range), unfolding(crate::specs::Fields::has_tag, crate::specs::Fields::is_tag_good))]
 fn tag_at(place: usize, bytes: &[u8]) -> Result<(u32, &[u8]), SplitFault>
     ensures good { OnOk result ((has_tag bytes.now ≡ true) × (is_tag_good bytes.now ≡ true)) }
@@ -118,8 +117,8 @@ fn field_at<'a>(
 /// stopped it.
 ///
 /// An empty value is a value, and a body with no bytes has no fields and no fault. A field of raw
-/// bytes directly behind its length field has as many bytes as that says, which may be SOH; anywhere
-/// else its tag is like any other.
+/// bytes directly behind its length field has as many bytes as that says, which may be SOH;
+/// anywhere else its tag is like any other.
 ///
 /// # Errors
 ///

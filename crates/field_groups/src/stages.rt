@@ -1,18 +1,21 @@
 //! The first fault of a message's fields, stage by stage.
 
-ghost use Rattle.std.specs.Prelude.{◌≡◌, ◌-◌, ◌<◌, ◌≤◌, ◌++◌, ◌∷◌, [], List, length, map, take, drop};
+ghost use Rattle.std.specs.Prelude.{◌≡◌, ◌-◌, ◌<◌, ◌++◌, ◌∷◌, [], List, length, map};
 ghost use Rattle.field_groups.specs.Field.{Field};
-ghost use Rattle.field_groups.specs.Tables.{is_one_of, has_tag, first_of, or_else};
-ghost use Rattle.field_groups.specs.FirstFault.{once_in, twice, placed_from, fault_if, missing, missing_of, in_groups, wrong_version, wrong, beyond};
+ghost use Rattle.field_groups.specs.Tables.{first_of, or_else};
+ghost use Rattle.field_groups.specs.FirstFault.{once_in, twice, placed_from, fault_if, missing};
+ghost use Rattle.field_groups.specs.FirstFault.{missing_of, in_groups, wrong_version, wrong};
+ghost use Rattle.field_groups.specs.FirstFault.{beyond};
 ghost use Rattle.field_groups.specs.Tables.{lines_in};
 ghost use Rattle.field_groups.specs.FirstFault.{Marked, group_tags_in, place_in};
 ghost use Rattle.field_groups.specs.Stages.{IsFound};
-ghost use Rattle.field_groups.specs.CodeTables.{seen, seen_at, row_of, group_of, own_tags, item_of, table_of};
+ghost use Rattle.field_groups.specs.CodeTables.{seen, seen_at, row_of, group_of, own_tags, item_of};
+ghost use Rattle.field_groups.specs.CodeTables.{table_of};
 
 use crate::fields::Field;
-use crate::group_lines::line_end;
+use crate::group_lines::{line, line_end};
 use crate::group_stage::first_misplaced;
-use crate::lookup::{field_at, front, rest, stands};
+use crate::lookup::{field_at, front, stands};
 use crate::table::{Item, RepeatingGroup, Row, Table};
 use crate::table_fault::{Mark, TableFault};
 
@@ -35,7 +38,8 @@ pub(crate) fn fault_if(is_there: bool, fault: TableFault) -> Option<TableFault>
 /// The fault of a tag of the profile that stands again at a place.
 fn twice_at<K>(table: &Table<K>, fields: &[Field<'_>], place: usize) -> Option<TableFault>
     requires { place < length fields.now }
-    ensures { result ≡ twice (once_in (table_of (λ k. k) table.now)) (place_in (seen fields.now) place (seen_at fields.now place)) }
+    ensures { result ≡ twice (once_in (table_of (λ k. k) table.now))
+        (place_in (seen fields.now) place (seen_at fields.now place)) }
 {
     let (tag, _) = field_at(fields, place);
     if !stands(front(fields, place), tag) {
@@ -49,7 +53,8 @@ fn twice_at<K>(table: &Table<K>, fields: &[Field<'_>], place: usize) -> Option<T
 
 /// The first tag of the profile that stands again.
 fn first_twice<K>(table: &Table<K>, fields: &[Field<'_>]) -> Option<TableFault>
-    ensures { result ≡ first_of (twice (once_in (table_of (λ k. k) table.now))) (placed_from [] (seen fields.now)) }
+    ensures { result ≡ first_of
+        (twice (once_in (table_of (λ k. k) table.now))) (placed_from [] (seen fields.now)) }
 {
     for place in 0..fields.len() {
         if let Some(fault) = twice_at(table, fields, place) {
@@ -85,18 +90,10 @@ fn missing_in<K>(rows: &[Row<K>], line: &[Field<'_>]) -> Option<TableFault>
     None
 }
 
-/// The fields from one place to another.
-fn line<'f, 'a>(fields: &'f [Field<'a>], from: usize, end: usize) -> &'f [Field<'a>]
-    requires ordered { from ≤ end }
-    requires within { end ≤ length fields.now }
-    ensures { seen result.now ≡ take (end - from) (drop from (seen fields.now)) }
-{
-    front(rest(fields, from), end - from)
-}
-
 /// The first line of a group that does not say what it has to.
 fn missing_line<K>(group: &RepeatingGroup<K>, fields: &[Field<'_>]) -> Option<TableFault>
-    ensures { result ≡ first_of (λ line. first_of (missing line) (group_of (λ k. k) group.now).rows) (lines_in (own_tags group.now) (seen fields.now)) }
+    ensures { result ≡ first_of (λ line. first_of (missing line) (group_of (λ k. k) group.now).rows)
+        (lines_in (own_tags group.now) (seen fields.now)) }
 {
     let fields = group.lines(fields);
     let mut from = 0;
@@ -158,7 +155,8 @@ impl Found {
 
     /// With one more field, of this tag and mark, behind those that it has.
     pub fn with(self, tag: u32, mark: Mark) -> Found
-        ensures { (marks : List Marked) → IsFound marks self → IsFound (marks ++ (tag, mark) ∷ []) result }
+        ensures { (marks : List Marked)
+            → IsFound marks self → IsFound (marks ++ (tag, mark) ∷ []) result }
     {
         Found {
             version: first(self.version, wrong_version(tag, mark)),
@@ -215,11 +213,15 @@ fn beyond(tag: u32, mark: Mark) -> Option<TableFault>
 impl<K> Table<K> {
     /// The first fault of these fields, by stage and place, with what was found of their values.
     pub fn first_fault(&self, fields: &[Field<'_>], found: &Found) -> Option<TableFault>
-        ensures { result ≡ or_else (first_of (twice (once_in (table_of (λ k. k) self.now))) (placed_from [] (seen fields.now)))
+        ensures { result ≡
+            or_else (first_of (twice (once_in (table_of (λ k. k) self.now)))
+            (placed_from [] (seen fields.now)))
             (or_else found.now.version
-            (or_else (first_of (in_groups (group_tags_in (table_of (λ k. k) self.now))) (placed_from [] (seen fields.now)))
+            (or_else (first_of (in_groups (group_tags_in (table_of (λ k. k) self.now)))
+            (placed_from [] (seen fields.now)))
             (or_else found.now.wrong
-            (or_else (first_of (missing_of (seen fields.now)) (table_of (λ k. k) self.now).items) found.now.outside)))) }
+            (or_else (first_of (missing_of (seen fields.now)) (table_of (λ k. k) self.now).items)
+            found.now.outside)))) }
     {
         let late = first(first_missing(self, fields), found.outside);
         let form = first(found.wrong, late);

@@ -1,11 +1,14 @@
 //! Tables of messages, as the code has them.
 
-ghost use Rattle.std.specs.Prelude.{◌≡◌, ◌==◌, map};
+ghost use Rattle.std.specs.Prelude.{◌≡◌, ◌==◌};
 ghost use Rattle.std.specs.Option.{option_map};
 ghost use Rattle.std.specs.List.{find, list_all, list_any};
-ghost use Rattle.field_groups.specs.Tables.{passes, is_one_of, is_needed, is_inside, row_at, rows_of, all_rows};
-ghost use Rattle.field_groups.specs.FirstFault.{allowed, group_tags_of, once_of, once_in, is_of_group, is_passed, without_row};
-ghost use Rattle.field_groups.specs.CodeTables.{seen, test_of, need_of, row_of, own_tags, item_of, table_of};
+ghost use Rattle.field_groups.specs.Tables.{passes, is_one_of, is_needed, is_inside, row_at};
+ghost use Rattle.field_groups.specs.Tables.{rows_of, all_rows};
+ghost use Rattle.field_groups.specs.FirstFault.{allowed, group_tags_of, once_of, once_in};
+ghost use Rattle.field_groups.specs.FirstFault.{is_of_group, is_passed, without_row};
+ghost use Rattle.field_groups.specs.CodeTables.{seen, test_of, need_of, row_of, own_tags, item_of};
+ghost use Rattle.field_groups.specs.CodeTables.{table_of};
 
 use crate::fields::Field;
 use crate::lookup::{is_among, stands, value};
@@ -109,7 +112,8 @@ fn all_pass(tests: &[Test], fields: &[Field<'_>]) -> bool
 
 /// Whether all tests of one of these lists hold.
 fn any_holds(condition: &[&[Test]], fields: &[Field<'_>]) -> bool
-    ensures { result ≡ list_any (λ tests. list_all (λ test. passes (seen fields.now) (test_of test)) tests.now) condition.now }
+    ensures { result ≡ list_any (λ tests.
+        list_all (λ test. passes (seen fields.now) (test_of test)) tests.now) condition.now }
 {
     condition.iter().any(|tests| all_pass(tests, fields))
 }
@@ -197,7 +201,8 @@ impl<K> Item<K> {
     /// The row of a tag.
     #[tactic(auto, using(crate::proofs::Seen::row_seen))]
     fn row(&self, tag: u32) -> Option<&Row<K>>
-        ensures { option_map (λ row. row_of (λ k. k) row.now) result ≡ row_at tag (rows_of (item_of (λ k. k) self.now)) }
+        ensures { option_map (λ row. row_of (λ k. k) row.now) result
+            ≡ row_at tag (rows_of (item_of (λ k. k) self.now)) }
     {
         match self {
             Item::One(row) => if row.tag == tag { Some(row) } else { None },
@@ -210,7 +215,8 @@ impl<K> Item<K> {
 impl<K> Table<K> {
     /// The row of a tag.
     pub fn row(&self, tag: u32) -> Option<&Row<K>>
-        ensures { option_map (λ row. row_of (λ k. k) row.now) result ≡ row_at tag (all_rows (table_of (λ k. k) self.now)) }
+        ensures { option_map (λ row. row_of (λ k. k) row.now) result
+            ≡ row_at tag (all_rows (table_of (λ k. k) self.now)) }
     {
         if let Some(row) = find_row(self.header, tag) {
             return Some(row);
@@ -223,8 +229,8 @@ impl<K> Table<K> {
         None
     }
 
-    /// Whether a field without a row may be passed over: in a table that is not strict, and where it
-    /// is of a group, which judges it by its place.
+    /// Whether a field without a row may be passed over: in a table that is not strict, and where
+    /// it is of a group, which judges it by its place.
     pub(crate) fn is_passed(&self, tag: u32) -> bool
         ensures { result ≡ is_passed (table_of (λ k. k) self.now) tag }
     {

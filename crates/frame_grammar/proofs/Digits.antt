@@ -16,7 +16,8 @@ pub digit_is : (b : ℕ) → 48 ≤ b → b ≤ 57 → IsDigit b
 digit_is b low high = grind (arith, nat_tests)
 
 -- one digit more
-pub value_push : (digits : List ℕ) (d : ℕ) → IsDigit d → digits_value 10 (digits ++ d ∷ []) ≡ 10 * digits_value 10 digits + (d - 48)
+pub value_push : (digits : List ℕ) (d : ℕ)
+    → IsDigit d → digits_value 10 (digits ++ d ∷ []) ≡ 10 * digits_value 10 digits + (d - 48)
 value_push digits d is =
     let last = digit_value_digit d (digit_low d is, digit_high d is) in
     digits_value_push 10 digits d ∙ omega (arith, last, digit_low d is)

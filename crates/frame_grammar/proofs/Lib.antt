@@ -13,4 +13,5 @@ pub mod Bounded
 pub mod Sums
 pub mod Stands
 mod Worked
+pub mod Meets
 pub mod Causes

@@ -1,10 +1,12 @@
 -- Worked examples, by computation.
-use Rattle.std.specs.Prelude.{◌≡◌, ℕ, ◌==◌, if◌then◌else◌, List, [], ◌∷◌, ◌++◌, map, codes, refl, Some, None, replicate}
+use Rattle.std.specs.Prelude.{◌≡◌, ℕ, ◌==◌, if◌then◌else◌, List, [], ◌∷◌, ◌++◌, map, codes, refl}
+use Rattle.std.specs.Prelude.{Some, None, replicate}
 use Rattle.frame_grammar.specs.declared.frame.Kind.TheVariants.{Fix42, Fixt11}
-use Rattle.frame_grammar.specs.declared.frame.Garble.TheVariants.{BeginString, LengthField, TooLong, TypeField, Trailer, Sum}
+use Rattle.frame_grammar.specs.declared.frame.Garble.TheVariants.{BeginString, LengthField, TooLong}
+use Rattle.frame_grammar.specs.declared.frame.Garble.TheVariants.{TypeField, Trailer, Sum}
 use Rattle.frame_grammar.specs.declared.pieces.Lost.{Lost}
 use Rattle.frame_grammar.specs.declared.pieces.Next.TheVariants as next
-use Rattle.std.proofs.Common.{◌≢◌, ◌≤◌, All, lit≤, arith}
+use Rattle.std.proofs.Common.{◌≢◌, All, lit≤, arith}
 use Rattle.std.proofs.lemmas.List.Elements.{All-cons}
 use Rattle.frame_grammar.specs.declared.frame.TheConstants.{SOH}
 use Rattle.frame_grammar.specs.Frame.{IsDigit}
@@ -27,11 +29,14 @@ one_frame : found Fix42 beat ≡ Whole beat_body []
 one_frame = refl
 
 -- a Logon of the other kind
-other_kind : found Fixt11 (wire (codes "8=FIXT.1.1|9=70|35=A|49=GATE|56=VENU|34=1|52=20240102-10:00:00.000|98=0|108=30|1137=9|10=201|"))
-    ≡ Whole (wire (codes "35=A|49=GATE|56=VENU|34=1|52=20240102-10:00:00.000|98=0|108=30|1137=9|")) []
+other_kind : found Fixt11 (wire (codes
+    "8=FIXT.1.1|9=70|35=A|49=GATE|56=VENU|34=1|52=20240102-10:00:00.000|98=0|108=30|1137=9|10=201|"))
+    ≡ Whole
+    (wire (codes "35=A|49=GATE|56=VENU|34=1|52=20240102-10:00:00.000|98=0|108=30|1137=9|")) []
 other_kind = refl
 
-wrong_kind : found Fixt11 beat ≡ Broken BeginString (wire (codes "4.2|9=47|35=0|49=CLNT|56=GATE|34=2|52=20240102-10:00:00|10=070|"))
+wrong_kind : found Fixt11 beat ≡ Broken
+    BeginString (wire (codes "4.2|9=47|35=0|49=CLNT|56=GATE|34=2|52=20240102-10:00:00|10=070|"))
 wrong_kind = refl
 
 two_frames : Cut Fix42 (beat ++ beat) (Good beat_body beat ∷ Good beat_body beat ∷ []) []
@@ -41,26 +46,33 @@ abbrev wrong_sum : List ℕ
 wrong_sum = wire (codes "8=FIX.4.2|9=47|35=0|49=CLNT|56=GATE|34=2|52=20240102-10:00:00|10=071|")
 
 abbrev echoed : List ℕ
-echoed = wire (codes "8=FIX.4.2|9=57|35=1|49=CLNT|56=GATE|34=3|52=20240102-10:00:00|112=8=FIX|10=119|")
+echoed =
+    wire (codes "8=FIX.4.2|9=57|35=1|49=CLNT|56=GATE|34=3|52=20240102-10:00:00|112=8=FIX|10=119|")
 
 abbrev echoed_body : List ℕ
 echoed_body = wire (codes "35=1|49=CLNT|56=GATE|34=3|52=20240102-10:00:00|112=8=FIX|")
 
 -- `8=FIX` inside a good frame begins no piece
-wrong_sum_then_frame : Cut Fix42 (wrong_sum ++ echoed) (Bad Sum wrong_sum ∷ Good echoed_body echoed ∷ []) []
+wrong_sum_then_frame : Cut
+    Fix42 (wrong_sum ++ echoed) (Bad Sum wrong_sum ∷ Good echoed_body echoed ∷ []) []
 wrong_sum_then_frame = ((refl, (refl, refl)), refl)
 
-zeros_in_front : first_piece Fix42 (wire (codes "8=FIX.4.2|9=0000047|35=0|49=CLNT|56=GATE|34=2|52=20240102-10:00:00|10=054|"))
-    ≡ Some (Good beat_body (wire (codes "8=FIX.4.2|9=0000047|35=0|49=CLNT|56=GATE|34=2|52=20240102-10:00:00|10=054|")))
+zeros_in_front : first_piece Fix42
+    (wire (codes "8=FIX.4.2|9=0000047|35=0|49=CLNT|56=GATE|34=2|52=20240102-10:00:00|10=054|"))
+    ≡ Some (Good beat_body
+    (wire (codes "8=FIX.4.2|9=0000047|35=0|49=CLNT|56=GATE|34=2|52=20240102-10:00:00|10=054|")))
 zeros_in_front = refl
 
-too_long : Cut Fix42 (wire (codes "8=FIX.4.2|9=8193|8=FIX.4.2|")) (Bad (TooLong 8193) (wire (codes "8=FIX.4.2|9=8193|")) ∷ []) (wire (codes "8=FIX.4.2|"))
+too_long : Cut Fix42 (wire (codes "8=FIX.4.2|9=8193|8=FIX.4.2|"))
+    (Bad (TooLong 8193) (wire (codes "8=FIX.4.2|9=8193|")) ∷ []) (wire (codes "8=FIX.4.2|"))
 too_long = ((refl, refl), refl)
 
-too_short : Cut Fix42 (wire (codes "8=FIX.4.2|9=4|8=FIX.4.2|")) (Bad TypeField (wire (codes "8=FIX.4.2|9=4|")) ∷ []) (wire (codes "8=FIX.4.2|"))
+too_short : Cut Fix42 (wire (codes "8=FIX.4.2|9=4|8=FIX.4.2|"))
+    (Bad TypeField (wire (codes "8=FIX.4.2|9=4|")) ∷ []) (wire (codes "8=FIX.4.2|"))
 too_short = ((refl, refl), refl)
 
-starts : Cut Fix42 (codes "8=FIX8=FIX8=FIX") (Bad BeginString (codes "8=FIX") ∷ Bad BeginString (codes "8=FIX") ∷ []) (codes "8=FIX")
+starts : Cut Fix42 (codes "8=FIX8=FIX8=FIX")
+    (Bad BeginString (codes "8=FIX") ∷ Bad BeginString (codes "8=FIX") ∷ []) (codes "8=FIX")
 starts = ((refl, (refl, refl)), refl)
 
 -- digits count as a front of a frame until the SOH that ends them, whatever they say
@@ -80,18 +92,23 @@ open_type = refl
 open_end : found Fix42 (wire (codes "8=FIX.4.2|9=8|35=0|58=10=")) ≡ Broken Trailer (codes "10=")
 open_end = refl
 
-empty_type : found Fix42 (wire (codes "8=FIX.4.2|9=5|35=||10=")) ≡ Broken TypeField (wire (codes "|10="))
+empty_type : found Fix42 (wire (codes "8=FIX.4.2|9=5|35=||10="))
+    ≡ Broken TypeField (wire (codes "|10="))
 empty_type = refl
 
 -- another digit breaks the sum, a byte that is no digit the trailer
-other_digit : found Fix42 (wire (codes "8=FIX.4.2|9=47|35=0|49=CLNT|56=GATE|34=2|52=20240102-10:00:00|10=08")) ≡ Broken Sum []
+other_digit : found Fix42 (wire
+    (codes "8=FIX.4.2|9=47|35=0|49=CLNT|56=GATE|34=2|52=20240102-10:00:00|10=08")) ≡ Broken Sum []
 other_digit = refl
 
-two_digits : found Fix42 (wire (codes "8=FIX.4.2|9=47|35=0|49=CLNT|56=GATE|34=2|52=20240102-10:00:00|10=07|")) ≡ Broken Trailer []
+two_digits : found
+    Fix42 (wire (codes "8=FIX.4.2|9=47|35=0|49=CLNT|56=GATE|34=2|52=20240102-10:00:00|10=07|"))
+    ≡ Broken Trailer []
 two_digits = refl
 
 -- a body of 8,192 bytes is awaited
-longest : found Fix42 (wire (codes "8=FIX.4.2|9=8192|35=0|58=") ++ replicate 8183 120 ++ 1 ∷ []) ≡ Short
+longest : found Fix42 (wire (codes "8=FIX.4.2|9=8192|35=0|58=") ++ replicate 8183 120 ++ 1 ∷ [])
+    ≡ Short
 longest = refl
 
 -- places beyond 2^32, and where they are no longer counted
@@ -115,7 +132,8 @@ far_garbled_on = refl
 
 -- With another digit in CheckSum the rules before the sum's are met.
 digits_are : (a b c : ℕ) → IsDigit a → IsDigit b → IsDigit c → All IsDigit (a ∷ b ∷ c ∷ [])
-digits_are a b c a_is b_is c_is = All-cons IsDigit a (b ∷ c ∷ []) a_is (All-cons IsDigit b (c ∷ []) b_is (All-cons IsDigit c [] c_is (λ k d within. absurd (omega arith))))
+digits_are a b c a_is b_is c_is = All-cons IsDigit a (b ∷ c ∷ []) a_is (All-cons
+    IsDigit b (c ∷ []) b_is (All-cons IsDigit c [] c_is (λ k d within. absurd (omega arith))))
 
 wrong_digits : Meets Fix42 Trailer wrong_sum
 wrong_digits = (
@@ -127,7 +145,8 @@ wrong_digits = (
     says = record {
       least = lit≤ tt;
       most = lit≤ tt;
-      each = All-cons IsDigit 52 (codes "7") refl (All-cons IsDigit 55 [] refl (λ k d within. absurd (omega arith)));
+      each = All-cons IsDigit
+          52 (codes "7") refl (All-cons IsDigit 55 [] refl (λ k d within. absurd (omega arith)));
       value = refl;
     };
     most = lit≤ tt;
@@ -137,7 +156,8 @@ wrong_digits = (
     codes "0",
     wire (codes "49=CLNT|56=GATE|34=2|52=20240102-10:00:00|"),
     (λ none. absurd (cc none)),
-    All-cons (λ b. b ≢ SOH) 48 [] (λ same. absurd (omega (arith, same))) (λ k d within. absurd (omega arith)),
+    All-cons (λ b. b ≢ SOH)
+        48 [] (λ same. absurd (omega (arith, same))) (λ k d within. absurd (omega arith)),
     refl,
   ),
   record {

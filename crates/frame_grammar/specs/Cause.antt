@@ -4,12 +4,15 @@
 --
 -- A rule is stated on a text, together with those before it. A byte breaks a rule where no text
 -- goes on from it that meets the rule.
-use Rattle.std.specs.Prelude.{◌≡◌, ◌≢◌, ℕ, ◌+◌, ◌<◌, ◌≤◌, ◌⊎◌, List, [], ◌∷◌, ◌++◌, length, take, All, codes}
+use Rattle.std.specs.Prelude.{◌≡◌, ◌≢◌, ℕ, ◌<◌, ◌≤◌, ◌⊎◌, List, [], ◌∷◌, ◌++◌, length, take}
+use Rattle.std.specs.Prelude.{All, codes}
 use Rattle.frame_grammar.specs.declared.frame.Kind.{Kind}
 use Rattle.frame_grammar.specs.declared.frame.Garble.{Garble}
-use Rattle.frame_grammar.specs.declared.frame.Garble.TheVariants.{BeginString, LengthField, TooLong, TypeField, Trailer, Sum}
+use Rattle.frame_grammar.specs.declared.frame.Garble.TheVariants.{BeginString, LengthField, TooLong}
+use Rattle.frame_grammar.specs.declared.frame.Garble.TheVariants.{TypeField, Trailer, Sum}
 use Rattle.frame_grammar.specs.declared.frame.TheConstants.{MAX_BODY, MAX_LENGTH_DIGITS, SOH}
-use Rattle.frame_grammar.specs.Frame.{begin_string, opening, front, trailer, IsDigit, SaysLength, IsFrame}
+use Rattle.frame_grammar.specs.Frame.{begin_string, opening, front, IsDigit, SaysLength}
+use Rattle.frame_grammar.specs.Frame.{IsFrame}
 
 abbrev pub StartsWith : List ℕ → List ℕ → Type 0
 StartsWith start text = (rest : List ℕ) × (text ≡ start ++ rest)

@@ -1,7 +1,8 @@
 -- Own: a table of what stands at the front of a text, byte by byte; docs/DECISIONS.md, "Frames". It
 -- is believed for its laws alone: it finds the frames of specs/Frame.antt, awaits what may still
 -- become one, and names the first broken rule of specs/Cause.antt.
-use Rattle.std.specs.Prelude.{ℕ, ◌-◌, ◌%◌, ◌==◌, ◌&&◌, nat_lt, if◌then◌else◌, List, [], ◌∷◌, ◌++◌, length, take, drop, sum, codes, slice_get}
+use Rattle.std.specs.Prelude.{ℕ, ◌-◌, ◌%◌, ◌==◌, ◌&&◌, nat_lt, if◌then◌else◌, List, [], ◌∷◌, ◌++◌}
+use Rattle.std.specs.Prelude.{length, take, drop, sum, codes, slice_get}
 use Rattle.std.specs.Prelude.{Some, None}
 use Rattle.std.specs.Char.{is_ascii_digit}
 use Rattle.std.specs.List.{list_any}
@@ -9,8 +10,10 @@ use Rattle.std.specs.Str.Parse.{digits_value}
 use Rattle.std.specs.declared.option.Option.{Option}
 use Rattle.frame_grammar.specs.declared.frame.Kind.{Kind}
 use Rattle.frame_grammar.specs.declared.frame.Garble.{Garble}
-use Rattle.frame_grammar.specs.declared.frame.Garble.TheVariants.{BeginString, LengthField, TooLong, TypeField, Trailer, Sum}
-use Rattle.frame_grammar.specs.declared.frame.TheConstants.{MAX_BODY, MIN_BODY, MAX_LENGTH_DIGITS, SOH}
+use Rattle.frame_grammar.specs.declared.frame.Garble.TheVariants.{BeginString, LengthField, TooLong}
+use Rattle.frame_grammar.specs.declared.frame.Garble.TheVariants.{TypeField, Trailer, Sum}
+use Rattle.frame_grammar.specs.declared.frame.TheConstants.{MAX_BODY, MIN_BODY, MAX_LENGTH_DIGITS}
+use Rattle.frame_grammar.specs.declared.frame.TheConstants.{SOH}
 use Rattle.frame_grammar.specs.Frame.{begin_string, opening, three_digits}
 
 -- A whole frame, with its body and what is after it; or less than a frame; or a byte that breaks a

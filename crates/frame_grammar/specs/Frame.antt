@@ -2,10 +2,12 @@
 -- of BodyLength's digits are the gateway's own; docs/DECISIONS.md, "Frames".
 --
 -- A frame, as a relation on whole texts.
-use Rattle.std.specs.Prelude.{◌≡◌, ◌≢◌, ℕ, ◌+◌, ◌-◌, ◌/◌, ◌%◌, ◌≤◌, List, [], ◌∷◌, ◌++◌, IsTrue, length, take, sum, All, slice_index, codes, decimal}
+use Rattle.std.specs.Prelude.{◌≡◌, ◌≢◌, ℕ, ◌+◌, ◌-◌, ◌/◌, ◌%◌, ◌≤◌, List, [], ◌∷◌, ◌++◌, IsTrue}
+use Rattle.std.specs.Prelude.{length, take, sum, All, slice_index, codes, decimal}
 use Rattle.std.specs.Char.{is_ascii_digit}
 use Rattle.std.specs.Str.Parse.{digits_value}
-use Rattle.frame_grammar.specs.declared.frame.TheConstants.{MAX_BODY, MIN_BODY, MAX_LENGTH_DIGITS, SOH}
+use Rattle.frame_grammar.specs.declared.frame.TheConstants.{MAX_BODY, MIN_BODY, MAX_LENGTH_DIGITS}
+use Rattle.frame_grammar.specs.declared.frame.TheConstants.{SOH}
 use Rattle.frame_grammar.specs.declared.frame.Kind.{Kind}
 use Rattle.frame_grammar.specs.declared.frame.Kind.TheVariants.{Fix42, Fixt11}
 

@@ -1,5 +1,6 @@
 //! The bytes that a framer holds, with what the sum of any part of them needs.
-ghost use Rattle.std.specs.Prelude.{◌≡◌, ◌+◌, ◌-◌, ◌*◌, ◌%◌, ◌≤◌, ◌++◌, [], ℕ, IfOk, length, drop, take, sum, slice_index};
+ghost use Rattle.std.specs.Prelude.{◌≡◌, ◌+◌, ◌-◌, ◌*◌, ◌%◌, ◌≤◌, ◌++◌, [], ℕ, IfOk, length, drop};
+ghost use Rattle.std.specs.Prelude.{take, sum, slice_index};
 ghost use Rattle.frame_grammar.specs.Frame.{trailer};
 ghost use Rattle.frame_grammar.specs.Held.{Window};
 ghost use Rattle.frame_grammar.specs.Sums.{AreSums};
@@ -27,7 +28,7 @@ pub(crate) struct Buffer {
 }
 
 impl Model for Buffer {
-    ghost use Rattle.std.specs.Prelude.{ℕ, List, ◌≤◌, length, take, drop};
+    ghost use Rattle.std.specs.Prelude.{ℕ, ◌≤◌, length, take, drop};
     ghost use Rattle.std.specs.Vec.{vec_capacity};
     ghost use Rattle.frame_grammar.specs.Held.{Window};
     ghost use Rattle.frame_grammar.specs.Sums.{AreSums};

@@ -1,5 +1,6 @@
 //! Cutting a stream into its pieces, over one buffer.
-ghost use Rattle.std.specs.Prelude.{◌≡◌, ◌≢◌, ◌+◌, ◌-◌, ◌<◌, ◌≤◌, ◌++◌, [], List, ℕ, IfOk, IfSome, Some, None, MatchOption, length, min, take, drop, slice_range};
+ghost use Rattle.std.specs.Prelude.{◌≡◌, ◌≢◌, ◌+◌, ◌-◌, ◌<◌, ◌≤◌, ◌++◌, [], List, ℕ, IfOk, IfSome};
+ghost use Rattle.std.specs.Prelude.{Some, None, MatchOption, length, min, take, drop, slice_range};
 ghost use Rattle.frame_grammar.specs.Cut.{Piece, Cut, start_in};
 ghost use Rattle.frame_grammar.specs.Held.{fresh, past, pending, room, lost_by, found_by};
 ghost use Rattle.frame_grammar.specs.Framer.{StandsFor, Answers, HoldsPart, EndsIn, place_after};

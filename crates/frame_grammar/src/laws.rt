@@ -3,12 +3,11 @@
 ghost use Rattle.std.specs.Prelude.{◌≡◌, ◌++◌, List, ℕ};
 ghost use Rattle.std.specs.List.{flat_map};
 ghost use Rattle.frame_grammar.specs.declared.frame.Kind.{Kind};
-ghost use Rattle.frame_grammar.specs.declared.frame.Garble.{Garble};
 ghost use Rattle.frame_grammar.specs.Cause.{IsAwaited};
 ghost use Rattle.frame_grammar.specs.Cut.{Piece, ComeFirst, Cut, bytes_of};
 ghost use Rattle.frame_grammar.specs.Found.{Short, found};
-ghost use Rattle.frame_grammar.specs.Frame.{IsFrame};
-ghost use Rattle.frame_grammar.specs.Laws.{FindsFramesAlone, FindsEachFrame, BeginsNoOther, NamesFirstBroken};
+ghost use Rattle.frame_grammar.specs.Laws.{FindsFramesAlone, FindsEachFrame, BeginsNoOther};
+ghost use Rattle.frame_grammar.specs.Laws.{NamesFirstBroken};
 
 /// The pieces of a stream do not depend on how it came.
 pub fn pieces_stay()

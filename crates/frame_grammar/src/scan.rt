@@ -1,7 +1,9 @@
 //! The scan of what stands at the front of the unread bytes: rule by rule, as `Found` defines it.
 ghost use Rattle.std.specs.List.{list_any};
-ghost use Rattle.std.specs.Prelude.{◌==◌, ◌≡◌, ◌+◌, ◌≤◌, ◌++◌, List, ℕ, length, take, drop, if◌then◌else◌, OnOk, Ok};
-ghost use Rattle.frame_grammar.specs.Found.{Found, Whole, found, expect, expect_sum, found_body, found_said, found_trailer};
+ghost use Rattle.std.specs.Prelude.{◌==◌, ◌≡◌, ◌+◌, ◌≤◌, ◌++◌, List, ℕ, length, take, drop};
+ghost use Rattle.std.specs.Prelude.{if◌then◌else◌, OnOk, Ok};
+ghost use Rattle.frame_grammar.specs.Found.{Found, Whole, found, expect, expect_sum, found_body};
+ghost use Rattle.frame_grammar.specs.Found.{found_said, found_trailer};
 ghost use Rattle.frame_grammar.specs.Scan.{Leads, ReadsLength, IsFound};
 
 use crate::buffer::{Buffer, CAPACITY};

@@ -1,5 +1,5 @@
 -- A list of three forwarded requests, worked through: an order, its replacement, and another order.
-use Rattle.std.proofs.Common.{◌≡◌, ℕ, true, false, List, [], ◌∷◌, codes, Some, None, refl}
+use Rattle.std.proofs.Common.{◌≡◌, true, false, List, [], ◌∷◌, codes, Some, None, refl}
 use Rattle.order_chains.specs.declared.item.ChainItem.{ChainItem}
 use Rattle.order_chains.specs.Chains.{has_id, orig_of, number_of}
 

@@ -1,4 +1,5 @@
 pub mod Names
 pub mod PlainRequest
+pub mod Reasons
 pub mod Request
 pub mod Rows

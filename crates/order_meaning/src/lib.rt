@@ -5,6 +5,7 @@ mod bytes;
 mod fault;
 mod names;
 mod party;
+mod reasons;
 mod refusal;
 #[cfg(test)]
 mod tests;
@@ -13,6 +14,7 @@ pub use bytes::Bytes;
 pub use fault::{Fault, Lack};
 pub use names::{MAX_NAME, Name, Names};
 pub use party::{Lines, MAX_LINES, PartyLine, Three};
+pub use reasons::{MAX_REASON42, later_reason_words};
 pub use refusal::Refusal;
 
 /// One of the two sessions of the gateway, named by who is at its other end.

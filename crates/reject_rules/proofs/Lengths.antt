@@ -1,5 +1,7 @@
 -- How long a refusal is at most.
-use Rattle.std.proofs.Common.{◌≡◌, ℕ, ◌+◌, ◌≤◌, ◌<◌, ◌^◌, Bool, true, false, List, [], ◌∷◌, ◌++◌, take, length, codes, Option, Some, None, IfSome, ap, ◌∙◌, if◌then◌else◌, arith, length-append, lit<, lit≤}
+use Rattle.std.proofs.Common.{◌≡◌, ℕ, ◌+◌, ◌≤◌, ◌<◌, ◌^◌, Bool, true, false, List, [], ◌∷◌, ◌++◌}
+use Rattle.std.proofs.Common.{take, length, codes, Option, Some, None, IfSome, ap, ◌∙◌}
+use Rattle.std.proofs.Common.{if◌then◌else◌, arith, length-append, lit<, lit≤}
 use Rattle.std.specs.Prelude.{nat_le, ◌==◌}
 use Rattle.std.specs.Option.{option_map}
 use Rattle.std.specs.Fmt.{decimal}
@@ -11,7 +13,10 @@ use Rattle.order_meaning.specs.declared.Side.{Side}
 use Rattle.order_meaning.specs.declared.Side.TheVariants.{Client, Venue}
 use Rattle.order_meaning.specs.declared.refusal.Refusal.{Refusal}
 use Rattle.reject_rules.specs.Content.{field_if, number_if, reject, business_reject}
-use Rattle.reject_rules.specs.Reasons.{reason_words, session_reason, session_text, reason_suffix, with_suffix, business_reason, business_text}
+use Rattle.order_meaning.specs.declared.reasons.TheConstants.{MAX_REASON42}
+use Rattle.order_meaning.specs.Reasons.{later_reason_words}
+use Rattle.reject_rules.specs.Reasons.{session_reason, session_text, reason_suffix, with_suffix}
+use Rattle.reject_rules.specs.Reasons.{business_reason, business_text}
 use Rattle.reject_rules.specs.Refusals.{no_counterpart}
 use Rattle.reject_rules.specs.Renumbered.{refuser_of, words_if, quoted, quote_if, rejected_text}
 use Rattle.reject_rules.specs.Laws.{IsWord}
@@ -98,8 +103,8 @@ by_words false true c = lit≤ tt
 by_words false false true = lit≤ tt
 by_words false false false = tt
 
-words_len : (reason : ℕ) → IfSome (reason_words reason) (λ t. length t ≤ 512)
-unfolding reason_words
+words_len : (reason : ℕ) → IfSome (later_reason_words reason) (λ t. length t ≤ 512)
+unfolding later_reason_words
 words_len reason = by_words (reason == 13) (reason == 15) (reason == 16)
 
 text_by : (low : Bool) (words : Option (List ℕ)) → IfSome words (λ t. length t ≤ 512) →
@@ -109,7 +114,8 @@ text_by false words short = short
 
 pub session_text_len : (side : Side) (reason : ℕ) →
     IfSome (session_text side reason) (λ t. length t ≤ 512)
-session_text_len Client reason = text_by (nat_le reason 11) (reason_words reason) (words_len reason)
+session_text_len Client reason =
+    text_by (nat_le reason MAX_REASON42) (later_reason_words reason) (words_len reason)
 session_text_len Venue reason = tt
 
 reason_by : (low : Bool) (reason : ℕ) → reason < 2 ^ 32 → IsWord (if low then Some reason else None)
@@ -118,7 +124,7 @@ reason_by false reason word = tt
 
 pub session_reason_word : (side : Side) (reason : ℕ) → reason < 2 ^ 32 →
     IsWord (session_reason side reason)
-session_reason_word Client reason word = reason_by (nat_le reason 11) reason word
+session_reason_word Client reason word = reason_by (nat_le reason MAX_REASON42) reason word
 session_reason_word Venue reason word = word
 
 pub no_counterpart_len : (tag : ℕ) → tag < 2 ^ 32 → length (no_counterpart tag) ≤ 512

@@ -1,5 +1,7 @@
 -- What a refusal says is fields that end at their SOH.
-use Rattle.std.proofs.Common.{◌≡◌, ℕ, ◌<◌, ◌^◌, Bool, true, false, List, [], ◌∷◌, ◌++◌, take, drop, codes, Option, Some, None, IfSome, refl, sym, ap, subst, ◌∙◌, if◌then◌else◌, arith, lit<}
+use Rattle.std.proofs.Common.{◌≡◌, ℕ, ◌<◌, ◌^◌, Bool, true, false, List, [], ◌∷◌, ◌++◌, take, drop}
+use Rattle.std.proofs.Common.{codes, Option, Some, None, IfSome, refl, sym, ap, subst, ◌∙◌}
+use Rattle.std.proofs.Common.{if◌then◌else◌, arith, lit<}
 use Rattle.std.specs.Prelude.{nat_le, ◌==◌, All}
 use Rattle.std.specs.Option.{option_map}
 use Rattle.std.specs.Fmt.{decimal}
@@ -16,14 +18,21 @@ use Rattle.field_groups.specs.Field.{Field, is_soh}
 use Rattle.order_meaning.specs.declared.Side.{Side}
 use Rattle.order_meaning.specs.declared.Side.TheVariants.{Client, Venue}
 use Rattle.order_meaning.specs.declared.fault.Fault.{Fault}
-use Rattle.order_meaning.specs.declared.fault.Fault.TheVariants.{Session, NoCounterpart, NotSupported, NoMemory}
+use Rattle.order_meaning.specs.declared.fault.Fault.TheVariants.{Session, NoCounterpart}
+use Rattle.order_meaning.specs.declared.fault.Fault.TheVariants.{NotSupported, NoMemory}
 use Rattle.order_meaning.specs.declared.refusal.Refusal.{Refusal}
 use Rattle.reject_rules.specs.declared.said.Said.{Said}
 use Rattle.reject_rules.specs.Content.{field_if, number_if, reject, business_reject}
-use Rattle.reject_rules.specs.Reasons.{reason_words, session_reason, session_text, reason_suffix, with_suffix, business_reason, business_text}
-use Rattle.reject_rules.specs.Refusals.{refusal_of, session_refusal, business_refusal, ref_msg_type, no_counterpart, used_refusal, away_refusal}
-use Rattle.reject_rules.specs.Renumbered.{renumbered, refuser_of, words_if, quoted, quote_if, rejected_text}
-use Rattle.reject_rules.specs.Laws.{IsWord, HasWords, IsBounded, HasNoSoh, HasTexts, refusal_tags, IsRefusalField, IsOf}
+use Rattle.order_meaning.specs.declared.reasons.TheConstants.{MAX_REASON42}
+use Rattle.order_meaning.specs.Reasons.{later_reason_words}
+use Rattle.reject_rules.specs.Reasons.{session_reason, session_text, reason_suffix, with_suffix}
+use Rattle.reject_rules.specs.Reasons.{business_reason, business_text}
+use Rattle.reject_rules.specs.Refusals.{refusal_of, session_refusal, business_refusal, ref_msg_type}
+use Rattle.reject_rules.specs.Refusals.{no_counterpart, used_refusal, away_refusal}
+use Rattle.reject_rules.specs.Renumbered.{renumbered, refuser_of, words_if, quoted, quote_if}
+use Rattle.reject_rules.specs.Renumbered.{rejected_text}
+use Rattle.reject_rules.specs.Laws.{IsWord, HasWords, IsBounded, HasNoSoh, HasTexts, refusal_tags}
+use Rattle.reject_rules.specs.Laws.{IsRefusalField, IsOf}
 use Rattle.reject_rules.proofs.Lengths.{session_reason_word, business_reason_word}
 
 -- digits are no SOH
@@ -159,8 +168,8 @@ by_words false true c = refl
 by_words false false true = refl
 by_words false false false = tt
 
-words_plain : (reason : ℕ) → IfSome (reason_words reason) HasNoSoh
-unfolding reason_words
+words_plain : (reason : ℕ) → IfSome (later_reason_words reason) HasNoSoh
+unfolding later_reason_words
 words_plain reason = by_words (reason == 13) (reason == 15) (reason == 16)
 
 text_by : (low : Bool) (words : Option (List ℕ)) → IfSome words HasNoSoh →
@@ -170,7 +179,7 @@ text_by false words plain = plain
 
 session_text_plain : (side : Side) (reason : ℕ) → IfSome (session_text side reason) HasNoSoh
 session_text_plain Client reason =
-    text_by (nat_le reason 11) (reason_words reason) (words_plain reason)
+    text_by (nat_le reason MAX_REASON42) (later_reason_words reason) (words_plain reason)
 session_text_plain Venue reason = tt
 
 no_counterpart_plain : (tag : ℕ) → tag < 2 ^ 32 → HasNoSoh (no_counterpart tag)

@@ -1,18 +1,23 @@
 -- A refusal is short, whatever it answers to.
-use Rattle.std.proofs.Common.{◌≡◌, ℕ, ◌+◌, ◌≤◌, ◌<◌, ◌^◌, Bool, true, false, List, length, codes, Option, Some, None, IfSome, refl, subst, arith, lit<, lit≤}
+use Rattle.std.proofs.Common.{◌≡◌, ℕ, ◌+◌, ◌≤◌, ◌<◌, ◌^◌, Bool, true, false, List, length, codes}
+use Rattle.std.proofs.Common.{Option, Some, None, IfSome, refl, subst, arith, lit<, lit≤}
 use Rattle.std.proofs.lemmas.List.{length-take}
 use Rattle.std.specs.Option.{option_map}
 use Rattle.order_meaning.specs.declared.Side.{Side}
 use Rattle.order_meaning.specs.declared.fault.Fault.{Fault}
-use Rattle.order_meaning.specs.declared.fault.Fault.TheVariants.{Session, NoCounterpart, NotSupported, NoMemory}
+use Rattle.order_meaning.specs.declared.fault.Fault.TheVariants.{Session, NoCounterpart}
+use Rattle.order_meaning.specs.declared.fault.Fault.TheVariants.{NotSupported, NoMemory}
 use Rattle.order_meaning.specs.declared.refusal.Refusal.{Refusal}
 use Rattle.reject_rules.specs.declared.said.Said.{Said}
 use Rattle.reject_rules.specs.Content.{reject, business_reject}
 use Rattle.reject_rules.specs.Reasons.{session_reason, session_text, business_reason, business_text}
-use Rattle.reject_rules.specs.Refusals.{refusal_of, session_refusal, business_refusal, ref_msg_type, no_counterpart, used_refusal, away_refusal}
+use Rattle.reject_rules.specs.Refusals.{refusal_of, session_refusal, business_refusal, ref_msg_type}
+use Rattle.reject_rules.specs.Refusals.{no_counterpart, used_refusal, away_refusal}
 use Rattle.reject_rules.specs.Renumbered.{renumbered, quoted, rejected_text}
 use Rattle.reject_rules.specs.Laws.{IsShort, HasWords, IsBounded, IsWord}
-use Rattle.reject_rules.proofs.Lengths.{reject_len, business_len, session_text_len, session_reason_word, no_counterpart_len, rejected_text_len, quoted_len, business_text_len, business_reason_word}
+use Rattle.reject_rules.proofs.Lengths.{reject_len, business_len, session_text_len}
+use Rattle.reject_rules.proofs.Lengths.{session_reason_word, no_counterpart_len, rejected_text_len}
+use Rattle.reject_rules.proofs.Lengths.{quoted_len, business_text_len, business_reason_word}
 
 type_len : (msg_type : List ℕ) → length (ref_msg_type msg_type) ≤ 8
 type_len msg_type = omega (arith, length-take 8 msg_type)

@@ -1,5 +1,6 @@
 -- Refusals that are worked through from the definitions alone, as bytes with `|` for SOH.
-use Rattle.std.proofs.Common.{◌≡◌, ℕ, true, false, List, ◌++◌, map, replicate, codes, Option, Some, None, refl, if◌then◌else◌}
+use Rattle.std.proofs.Common.{◌≡◌, ℕ, true, false, List, ◌++◌, map, replicate, codes, Option, Some}
+use Rattle.std.proofs.Common.{None, refl, if◌then◌else◌}
 use Rattle.std.specs.Prelude.{◌==◌}
 use Rattle.std.specs.Fmt.{digits}
 use Rattle.std.specs.Option.{option_map}
@@ -7,11 +8,12 @@ use Rattle.field_groups.specs.Field.{field_bytes}
 use Rattle.order_meaning.specs.declared.Side.{Side}
 use Rattle.order_meaning.specs.declared.Side.TheVariants.{Client, Venue}
 use Rattle.order_meaning.specs.declared.fault.Fault.{Fault}
-use Rattle.order_meaning.specs.declared.fault.Fault.TheVariants.{Session, NoCounterpart, NotSupported, NoMemory}
+use Rattle.order_meaning.specs.declared.fault.Fault.TheVariants.{Session, NoCounterpart}
+use Rattle.order_meaning.specs.declared.fault.Fault.TheVariants.{NotSupported, NoMemory}
 use Rattle.order_meaning.specs.declared.refusal.Refusal.{Refusal}
 use Rattle.reject_rules.specs.declared.said.Said.{Said}
 use Rattle.reject_rules.specs.Content.{reject, business_reject}
-use Rattle.reject_rules.specs.Reasons.{reason_words}
+use Rattle.order_meaning.specs.Reasons.{later_reason_words}
 use Rattle.reject_rules.specs.Refusals.{refusal_of, used_refusal, away_refusal, no_counterpart}
 use Rattle.reject_rules.specs.Renumbered.{renumbered, rejected_text}
 
@@ -33,7 +35,7 @@ pub session_faults :
     × (refused Client 2 (codes "D") (Session (Some 60) 14) ≡ Some (codes "45=2|371=60|372=D|"))
     × (refused Client 2 (codes "ABCDEFGHI") (Session None 6)
     ≡ Some (codes "45=2|372=ABCDEFGH|373=6|"))
-unfolding digits field_bytes reject reason_words
+unfolding digits field_bytes reject later_reason_words
 session_faults = (refl, refl, refl, refl, refl)
 
 -- EncodedTextLen and ExecType without a counterpart, a type that is not supported, and no memory

@@ -1,27 +1,22 @@
 -- Standard: SessionRejectReason(373) of FIX 4.2 and FIXT 1.1, BusinessRejectReason(380) of FIX 4.2.
 -- What is said in place of a reason that FIX 4.2 lacks is own: docs/DECISIONS.md, "Refusals".
-use Rattle.std.specs.Prelude.{ℕ, nat_le, ◌==◌, List, [], ◌∷◌, ◌++◌, take, codes, Some, None, if◌then◌else◌}
+use Rattle.std.specs.Prelude.{ℕ, nat_le, List, [], ◌∷◌, ◌++◌, take, codes, Some, None}
+use Rattle.std.specs.Prelude.{if◌then◌else◌}
 use Rattle.std.specs.declared.option.Option.{Option}
 use Rattle.std.specs.Fmt.{decimal}
 use Rattle.order_meaning.specs.declared.Side.{Side}
 use Rattle.order_meaning.specs.declared.Side.TheVariants.{Client, Venue}
-
--- the words for a SessionRejectReason that came after FIX 4.2: 13 tag appears more than once, 15
--- repeating group fields out of order, 16 incorrect NumInGroup count for repeating group
-unfoldable pub reason_words : ℕ → Option (List ℕ)
-reason_words reason =
-    if reason == 13 then Some (codes "tag appears more than once") else
-    (if reason == 15 then Some (codes "group fields out of order") else
-    (if reason == 16 then Some (codes "wrong group count") else None))
+use Rattle.order_meaning.specs.declared.reasons.TheConstants.{MAX_REASON42}
+use Rattle.order_meaning.specs.Reasons.{later_reason_words}
 
 -- SessionRejectReason to a side: FIX 4.2 has the reasons up to 11
 abbrev pub session_reason : Side → ℕ → Option ℕ
-session_reason Client reason = if nat_le reason 11 then Some reason else None
+session_reason Client reason = if nat_le reason MAX_REASON42 then Some reason else None
 session_reason Venue reason = Some reason
 
 -- Text to a side: its words in place of a reason that FIX 4.2 lacks
 abbrev pub session_text : Side → ℕ → Option (List ℕ)
-session_text Client reason = if nat_le reason 11 then None else reason_words reason
+session_text Client reason = if nat_le reason MAX_REASON42 then None else later_reason_words reason
 session_text Venue reason = None
 
 -- a reason of FIX 4.2, where this is the highest that it has: one above it is written as another

@@ -5,7 +5,8 @@ use Rattle.std.specs.declared.option.Option.{Option}
 use Rattle.std.specs.Fmt.{decimal}
 use Rattle.order_meaning.specs.declared.Side.{Side}
 use Rattle.order_meaning.specs.declared.fault.Fault.{Fault}
-use Rattle.order_meaning.specs.declared.fault.Fault.TheVariants.{Session, NoCounterpart, NotSupported, NoMemory}
+use Rattle.order_meaning.specs.declared.fault.Fault.TheVariants.{Session, NoCounterpart}
+use Rattle.order_meaning.specs.declared.fault.Fault.TheVariants.{NotSupported, NoMemory}
 use Rattle.reject_rules.specs.declared.said.Said.{Said}
 use Rattle.reject_rules.specs.Content.{reject, business_reject}
 use Rattle.reject_rules.specs.Reasons.{session_reason, session_text}

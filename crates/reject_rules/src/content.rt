@@ -5,6 +5,7 @@ ghost use Rattle.field_groups.specs.Field.{body_of, field_bytes};
 ghost use Rattle.reject_rules.specs.Content.{field_if, number_if, reject, business_reject};
 
 use crate::Said;
+use field_groups::SOH;
 use itoa::Buffer;
 use order_meaning::{Bytes, Refusal};
 use std::alloc::{AllocError, Global};
@@ -22,9 +23,6 @@ const SESSION_REJECT_REASON: u32 = 373;
 const BUSINESS_REJECT_REF_ID: u32 = 379;
 
 const BUSINESS_REJECT_REASON: u32 = 380;
-
-/// The byte that ends a field.
-const SOH: u8 = 1;
 
 /// The Reject(3) of a refusal.
 #[tactic(auto, unfolding(crate::specs::Content::reject))]

@@ -2,24 +2,13 @@
 
 ghost use Rattle.std.specs.Prelude.{◌≡◌, IfOk};
 ghost use Rattle.std.specs.Option.{option_map};
-ghost use Rattle.reject_rules.specs.Reasons.{reason_words, session_reason, session_text, reason_suffix, with_suffix, business_reason, business_text};
+ghost use Rattle.reject_rules.specs.Reasons.{session_reason, session_text, reason_suffix};
+ghost use Rattle.reject_rules.specs.Reasons.{with_suffix, business_reason, business_text};
 
 use crate::text::front;
 use itoa::Buffer;
-use order_meaning::{Bytes, Side};
+use order_meaning::{Bytes, MAX_REASON42, Side, later_reason_words};
 use std::alloc::{AllocError, Global};
-
-/// The highest SessionRejectReason(373) of FIX 4.2, invalid MsgType.
-const MAX_SESSION_REASON: u8 = 11;
-
-/// SessionRejectReason(373) of FIXT 1.1: a tag appears more than once.
-const TAG_APPEARS_MORE_THAN_ONCE: u8 = 13;
-
-/// SessionRejectReason(373) of FIXT 1.1: the fields of a repeating group are out of order.
-const GROUP_FIELDS_OUT_OF_ORDER: u8 = 15;
-
-/// SessionRejectReason(373) of FIXT 1.1: the count of a repeating group is incorrect.
-const WRONG_GROUP_COUNT: u8 = 16;
 
 /// BusinessRejectReason(380): any other.
 pub(crate) const OTHER: u32 = 0;
@@ -39,25 +28,12 @@ const BUSINESS_REJECT_REASON: u32 = 380;
 /// The most bytes of a text that a reason is added to.
 const MAX_TEXT: usize = 2000;
 
-/// The words for a SessionRejectReason(373) that came after FIX 4.2.
-#[tactic(auto, unfolding(crate::specs::Reasons::reason_words))]
-fn reason_words(reason: u8) -> Option<&'static [u8]>
-    ensures { option_map (λ words. words.now) result ≡ reason_words reason }
-{
-    match reason {
-        TAG_APPEARS_MORE_THAN_ONCE => Some(b"tag appears more than once".as_slice()),
-        GROUP_FIELDS_OUT_OF_ORDER => Some(b"group fields out of order".as_slice()),
-        WRONG_GROUP_COUNT => Some(b"wrong group count".as_slice()),
-        _ => None,
-    }
-}
-
 /// SessionRejectReason(373) to a side.
 pub(crate) fn session_reason(side: Side, reason: u8) -> Option<u32>
     ensures { result ≡ session_reason side reason }
 {
     match side {
-        Side::Client if reason > MAX_SESSION_REASON => None,
+        Side::Client if reason > MAX_REASON42 => None,
         _ => Some(u32::from(reason)),
     }
 }
@@ -71,7 +47,7 @@ pub(crate) fn session_text(
     ensures { IfOk result (λ text. text ≡ session_text side reason) }
 {
     match side {
-        Side::Client if reason > MAX_SESSION_REASON => copied(alloc, reason_words(reason)),
+        Side::Client if reason > MAX_REASON42 => copied(alloc, later_reason_words(reason)),
         _ => Ok(None),
     }
 }

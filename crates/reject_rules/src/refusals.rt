@@ -1,7 +1,8 @@
 //! What the gateway itself refuses.
 
 ghost use Rattle.std.specs.Prelude.{◌≡◌, Some, IfOk};
-ghost use Rattle.reject_rules.specs.Refusals.{refusal_of, business_refusal, no_counterpart, used_refusal, away_refusal, ref_msg_type};
+ghost use Rattle.reject_rules.specs.Refusals.{refusal_of, business_refusal, no_counterpart};
+ghost use Rattle.reject_rules.specs.Refusals.{used_refusal, away_refusal, ref_msg_type};
 
 use crate::Said;
 use crate::content::{business_reject, reject};

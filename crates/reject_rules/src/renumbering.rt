@@ -1,7 +1,8 @@
 //! What one side refused, told to the other side.
 
 ghost use Rattle.std.specs.Prelude.{◌≡◌, ◌++◌, true, false, IfOk, OnOk};
-ghost use Rattle.reject_rules.specs.Renumbered.{renumbered, refuser_of, words_if, quote_if, rejected_text};
+ghost use Rattle.reject_rules.specs.Renumbered.{renumbered, refuser_of, words_if, quote_if};
+ghost use Rattle.reject_rules.specs.Renumbered.{rejected_text};
 
 use crate::Said;
 use crate::content::business_reject;

@@ -41,14 +41,16 @@ message n w = record { number = Some n; dup = false; comp = None; time = None; w
 abbrev pub repeated : ℕ → What → Head
 repeated n w = record (message n w) { dup = true }
 
--- ---- a gap: messages 5 to 7 were lost. The early Heartbeat 8 shows it, and all from 5 on is asked for.
+-- ---- a gap: messages 5 to 7 were lost. The early Heartbeat 8 shows it, and all from 5 on is asked
+-- for.
 
 pub gap_opens : step (client Active 5 2) (Message (message 8 what.Heartbeat)) 7
     ≡ Ok (does (Skip ∷ Say (admin.ResendRequest 5) ∷ []) (asking 8 (answered_at_7 Active 5 3)))
 gap_opens = refl
 
 -- 5 and 6 were no orders, and a gap fill stands for them
-pub gap_filled : step (asking 8 (answered_at_7 Active 5 3)) (Message (repeated 5 (what.GapFill 7))) 7
+pub gap_filled : step
+    (asking 8 (answered_at_7 Active 5 3)) (Message (repeated 5 (what.GapFill 7))) 7
     ≡ Ok (does (Take ∷ []) (asking 8 (answered_at_7 Active 7 3)))
 gap_filled = refl
 
@@ -63,16 +65,19 @@ pub gap_closed : step (asking 8 (answered_at_7 Active 8 3)) (Message (repeated 8
 gap_closed = refl
 
 -- the order 7 once more is passed over
-pub old_order : step (answered_at_7 Active 9 3) (Message (repeated 7 what.App)) 7 ≡ Ok (does (Skip ∷ []) (answered_at_7 Active 9 3))
+pub old_order : step (answered_at_7 Active 9 3) (Message (repeated 7 what.App)) 7
+    ≡ Ok (does (Skip ∷ []) (answered_at_7 Active 9 3))
 old_order = refl
 
 -- ---- a ResendRequest that is itself too high is answered before the gap is asked for
 
 pub request_too_high : step (client Active 5 4) (Message (message 9 (what.ResendRequest 2 3))) 7
-    ≡ Ok (does (Skip ∷ Resend 2 3 ∷ Say (admin.ResendRequest 5) ∷ []) (asking 9 (answered_at_7 Active 5 5)))
+    ≡ Ok (does (Skip ∷ Resend 2 3 ∷ Say (admin.ResendRequest 5) ∷ [])
+    (asking 9 (answered_at_7 Active 5 5)))
 request_too_high = refl
 
--- ---- a resend ends at the last number that was given out: 7 where the next is 8, and 0 where none was
+-- ---- a resend ends at the last number that was given out: 7 where the next is 8, and 0 where none
+-- was
 
 pub resend_all : step (client Active 5 8) (Message (message 5 (what.ResendRequest 2 0))) 7
     ≡ Ok (does (Take ∷ Resend 2 7 ∷ []) (heard_at_7 Active 6 8))
@@ -98,13 +103,16 @@ pub later_logon : step (client Wait 4 1) (Message (message 1 (what.Logon 30 true
     ≡ Ok (does (Skip ∷ Say (admin.Logout (why.Logon 141)) ∷ HangUp ∷ []) (answered_at_7 Down 4 2))
 later_logon = refl
 
--- ---- silence: 36 seconds are not too long, a millisecond more is; the TestRequest is then no Heartbeat's company
+-- ---- silence: 36 seconds are not too long, a millisecond more is; the TestRequest is then no
+-- Heartbeat's company
 
-pub silent : step (record (client Active 5 8) { said = 36000 }) Tick 36000 ≡ Ok (does [] (record (client Active 5 8) { said = 36000 }))
+pub silent : step (record (client Active 5 8) { said = 36000 }) Tick 36000
+    ≡ Ok (does [] (record (client Active 5 8) { said = 36000 }))
 silent = refl
 
 pub too_silent : step (client Active 5 8) Tick 36001
-    ≡ Ok (does (Say admin.TestRequest ∷ []) (record (client Active 5 9) { said = 36001; tested = Some 36001 }))
+    ≡ Ok (does (Say admin.TestRequest ∷ [])
+    (record (client Active 5 9) { said = 36001; tested = Some 36001 }))
 too_silent = refl
 
 -- ---- the last number, 999,999,999, is given, and no other after it
@@ -116,11 +124,13 @@ last_given = refl
 pub none_given : given (client Active 5 1000000000) 7 ≡ Err spent
 none_given = refl
 
-pub none_for_a_heartbeat : step (client Active 5 1000000000) (Message (message 5 what.TestRequest)) 7 ≡ Err spent
+pub none_for_a_heartbeat : step
+    (client Active 5 1000000000) (Message (message 5 what.TestRequest)) 7 ≡ Err spent
 none_for_a_heartbeat = refl
 
 pub none_for_a_logout : step (client Active 5 1000000000) End 7 ≡ Err spent
 none_for_a_logout = refl
 
-pub none_for_a_logon : step (record (client Down 5 1000000000) { side = Venue }) Opened 7 ≡ Err spent
+pub none_for_a_logon : step (record (client Down 5 1000000000) { side = Venue }) Opened 7
+    ≡ Err spent
 none_for_a_logon = refl

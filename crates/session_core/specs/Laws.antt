@@ -1,7 +1,8 @@
 -- Standard: what the session protocol asks of every step; laws over the table.
 --
 -- What the session table keeps, whatever happens to a session.
-use Rattle.std.specs.Prelude.{◌≡◌, ℕ, ◌+◌, ◌≤◌, ◌<◌, ◌⊎◌, Bool, true, List, [], ◌∷◌, Some, None, IfOk, Contains}
+use Rattle.std.specs.Prelude.{◌≡◌, ℕ, ◌+◌, ◌≤◌, ◌<◌, ◌⊎◌, Bool, true, List, [], ◌∷◌, Some, None}
+use Rattle.std.specs.Prelude.{IfOk, Contains}
 use Rattle.session_core.specs.declared.head.Head.{Head}
 use Rattle.session_core.specs.declared.session.LinkState.TheVariants.{Down, Wait, Asked}
 use Rattle.session_core.specs.declared.reason.TheConstants.{COMP_ID_PROBLEM}

@@ -50,7 +50,9 @@
 --                 it; the end after as much silence again. A gap that stays is asked for again
 --                 after HeartBtInt (own)
 --   S35 S36       Logout: the gateway ends the session, and hangs up at once (own)
-use Rattle.std.specs.Prelude.{ℕ, ◌+◌, ◌-◌, ◌*◌, Bool, true, false, ◌==◌, ◌&&◌, ◌||◌, nat_lt, nat_le, max, min, if◌then◌else◌, List, [], ◌∷◌, ◌++◌, Some, None, Ok, Err, is_none, count_by}
+use Rattle.std.specs.Prelude.{ℕ, ◌+◌, ◌-◌, ◌*◌, Bool, true, false, ◌==◌, ◌&&◌, ◌||◌, nat_lt, nat_le}
+use Rattle.std.specs.Prelude.{max, min, if◌then◌else◌, List, [], ◌∷◌, ◌++◌, Some, None, Ok, Err}
+use Rattle.std.specs.Prelude.{is_none, count_by}
 use Rattle.std.specs.declared.option.Option.{Option}
 use Rattle.std.specs.declared.result.Result.{Result}
 use Rattle.std.specs.declared.cmp.Ordering.{Ordering}
@@ -59,9 +61,11 @@ use Rattle.std.specs.Ordering.{nat_cmp}
 use Rattle.order_meaning.specs.declared.Side.{Side}
 use Rattle.order_meaning.specs.declared.Side.TheVariants.{Client, Venue}
 use Rattle.session_core.specs.declared.numbers.TheConstants.{ALL_USED}
-use Rattle.session_core.specs.declared.tag.TheConstants.{NEW_SEQ_NO, SENDING_TIME, RESET_SEQ_NUM_FLAG}
+use Rattle.session_core.specs.declared.tag.TheConstants.{NEW_SEQ_NO, SENDING_TIME}
+use Rattle.session_core.specs.declared.tag.TheConstants.{RESET_SEQ_NUM_FLAG}
 use Rattle.session_core.specs.declared.reason.TheConstants.{COMP_ID_PROBLEM, VALUE_IS_INCORRECT}
-use Rattle.session_core.specs.declared.tick.TheConstants.{LOGON_WAIT, SECOND, SILENCE, HEART_OF_NONE}
+use Rattle.session_core.specs.declared.tick.TheConstants.{LOGON_WAIT, SECOND, SILENCE}
+use Rattle.session_core.specs.declared.tick.TheConstants.{HEART_OF_NONE}
 use Rattle.session_core.specs.declared.session.LinkState.{LinkState}
 use Rattle.session_core.specs.declared.session.LinkState.TheVariants.{Down, Wait, Asked, Active}
 use Rattle.session_core.specs.declared.session.Ask.{Ask}
@@ -309,8 +313,7 @@ abbrev pub ticked : ℕ → Session → Session
 ticked now s =
     record s {
       tested = if is_test_due now s then Some now else s.tested;
-      ask =
-          asked_again s.ask now s.heart;
+      ask = asked_again s.ask now s.heart;
     }
 
 -- acts, in order, and the session after them

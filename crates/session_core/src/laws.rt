@@ -1,7 +1,12 @@
 //! What the session table keeps, whatever happens to a session. Each law is a contract: its
 //! function does nothing.
-ghost use Rattle.std.specs.Prelude.{◌≡◌, ℕ, ◌+◌, ◌≤◌, ◌⊎◌, ◌==◌, ◌<◌, if◌then◌else◌, IsOk, IsOkAnd, IsSomeAnd, Contains, IfOk, IfSome, IsSome, length, Some, None, [], ◌∷◌, true, false};
-ghost use Rattle.session_core.specs.Laws.{IsOfApplication, IsGoodLogon, IsDownBy, GoesByNumber, IsRequestFrom, IsRejectedFor, Always, IsExpected, IsReset, HangsUpAfterLogout, AreInOrder, SetsExpected, IsForApplication};
+ghost use Rattle.std.specs.Prelude.{◌≡◌, ℕ, ◌+◌, ◌≤◌, ◌⊎◌, ◌==◌, ◌<◌, if◌then◌else◌, IsOk, IsOkAnd};
+ghost use Rattle.std.specs.Prelude.{IsSomeAnd, Contains, IfOk, IfSome, IsSome, length, Some, None};
+ghost use Rattle.std.specs.Prelude.{[], ◌∷◌, false};
+ghost use Rattle.session_core.specs.Laws.{IsOfApplication, IsGoodLogon, IsDownBy, GoesByNumber};
+ghost use Rattle.session_core.specs.Laws.{IsRequestFrom, IsRejectedFor, Always, IsExpected};
+ghost use Rattle.session_core.specs.Laws.{IsReset, HangsUpAfterLogout, AreInOrder, SetsExpected};
+ghost use Rattle.session_core.specs.Laws.{IsForApplication};
 ghost use Rattle.session_core.specs.Table.{Input, Message, Tick, step, says, given};
 ghost use Rattle.session_core.specs.declared.session.Session.{Session};
 ghost use Rattle.session_core.specs.declared.head.Head.{Head};

@@ -3,7 +3,11 @@ ghost use Rattle.std.specs.Ordering.{nat_cmp};
 ghost use Rattle.std.specs.declared.cmp.Ordering.TheVariants.{Equal, Greater};
 ghost use Rattle.session_core.specs.Head.{HasNumbers};
 ghost use Rattle.session_core.specs.Numbers.{IsMsgSeqNum};
-ghost use Rattle.session_core.specs.Table.{Message, effect_of, does, down, taken_or_skipped, take_or_skip, is_fresh, message_row, waiting_row, logon_row, active_row, numbered_row, early_row, expected_row, number_of, is_asked_for, logout, S6, S19, S20};
+ghost use Rattle.session_core.specs.Table.{Message, effect_of, does, down, taken_or_skipped};
+ghost use Rattle.session_core.specs.Table.{take_or_skip, is_fresh, message_row, waiting_row};
+ghost use Rattle.session_core.specs.Table.{logon_row, active_row, numbered_row, early_row};
+ghost use Rattle.session_core.specs.Table.{expected_row, number_of, is_asked_for, logout, S6, S19};
+ghost use Rattle.session_core.specs.Table.{S20};
 
 use crate::reason::{COMP_ID_PROBLEM, VALUE_IS_INCORRECT};
 use crate::session::does;

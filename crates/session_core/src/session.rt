@@ -2,7 +2,10 @@
 
 ghost use Rattle.std.specs.Prelude.{◌≡◌, ◌≤◌, ℕ, None, Ok, IfOk, [], length};
 ghost use Rattle.session_core.specs.Numbers.{IsMsgSeqNum, IsNextNumber};
-ghost use Rattle.session_core.specs.Table.{Opened, Closed, Message, Tick, End, step, settled, given, does, says, down, expects, asks, taken_or_skipped, take_or_skip, asking, resend_end, effect_of, S5};
+ghost use Rattle.session_core.specs.Table.{Opened, Closed, Message, Tick, End, step, settled};
+ghost use Rattle.session_core.specs.Table.{given, does, says, down, expects, asks};
+ghost use Rattle.session_core.specs.Table.{taken_or_skipped, take_or_skip, asking, resend_end};
+ghost use Rattle.session_core.specs.Table.{effect_of, S5};
 
 use crate::{ALL_USED, Act, Acts, Admin, Head, MAX_ACTS, Numbers, Why};
 use order_meaning::Side;

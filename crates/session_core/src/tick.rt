@@ -1,5 +1,6 @@
 ghost use Rattle.std.specs.Prelude.{◌≡◌};
-ghost use Rattle.session_core.specs.Table.{effect_of, is_test_due, is_heartbeat_due, is_unanswered, elapsed, silence_limit, is_ask_due, tick_row, S34};
+ghost use Rattle.session_core.specs.Table.{effect_of, is_test_due, is_heartbeat_due, is_unanswered};
+ghost use Rattle.session_core.specs.Table.{elapsed, silence_limit, is_ask_due, tick_row, S34};
 
 use crate::session::does;
 use crate::{Act, Acts, Admin, Ask, LinkState, Session, Step};

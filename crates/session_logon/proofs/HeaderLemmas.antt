@@ -1,55 +1,81 @@
 -- The header of the fields up to a place, and one more.
-use Rattle.std.proofs.Common.{◌≡◌, ℕ, ◌+◌, ◌==◌, ◌∙◌, true, false, List, [], ◌∷◌, ◌++◌, Some, None, refl, ap, take, find, slice_get, get_or, length, ◌≤◌, ◌<◌, if◌then◌else◌}
+use Rattle.std.proofs.Common.{◌≡◌, ℕ, ◌+◌, ◌==◌, ◌∙◌, true, false, List, [], ◌∷◌, ◌++◌, Some, None}
+use Rattle.std.proofs.Common.{refl, ap, take, find, slice_get, get_or, length, ◌≤◌, ◌<◌}
+use Rattle.std.proofs.Common.{if◌then◌else◌}
 use Rattle.std.specs.declared.option.Option.{Option}
 use Rattle.std.specs.Option.{option_map, option_or}
 use Rattle.std.proofs.lemmas.List.Folds.{find-append}
 use Rattle.std.proofs.lemmas.List.{take_more, take_all}
 use Rattle.std.proofs.lemmas.Option.{slice_get_within, get_or_from_slice_get, slice_get-get_or}
 use Rattle.field_groups.specs.Field.{Field}
-use Rattle.session_core.specs.declared.tag.TheConstants.{MSG_SEQ_NUM, POSS_DUP_FLAG, SENDER_COMP_ID, SENDING_TIME, TARGET_COMP_ID}
+use Rattle.session_core.specs.declared.tag.TheConstants.{MSG_SEQ_NUM, POSS_DUP_FLAG, SENDER_COMP_ID}
+use Rattle.session_core.specs.declared.tag.TheConstants.{SENDING_TIME, TARGET_COMP_ID}
 use Rattle.session_logon.specs.First.{first_value}
 use Rattle.session_logon.specs.Header.{HeaderValues, header_of, noted, value_if}
 use Rattle.session_logon.proofs.FirstLemmas.{has}
 
 -- the value of what was found first, or then
-value_or : (a b : Option Field) → option_map (λ f. f.1) (option_or a b) ≡ option_or (option_map (λ f. f.1) a) (option_map (λ f. f.1) b)
+value_or : (a b : Option Field) → option_map (λ f. f.1) (option_or a b)
+    ≡ option_or (option_map (λ f. f.1) a) (option_map (λ f. f.1) b)
 value_or None b = refl
 value_or (Some f) b = refl
 
 value_one : (tag : ℕ) (field : Field) → first_value tag (field ∷ []) ≡ value_if tag field
-value_one tag field = elim (field.0 == tag) as (λ b. option_map (λ f. f.1) (if b then Some field else None) ≡ (if b then Some field.1 else None)) [ true ↦ refl | false ↦ refl ]
+value_one tag field =
+    elim (field.0 == tag) as (λ b. option_map (λ f. f.1) (if b then Some field else None)
+    ≡ (if b then Some field.1 else None)) [ true ↦ refl | false ↦ refl ]
 
 -- the first value among some fields and one more
-pub first_value-push : (tag : ℕ) (fields : List Field) (field : Field) → first_value tag (fields ++ field ∷ []) ≡ option_or (first_value tag fields) (value_if tag field)
+pub first_value-push : (tag : ℕ) (fields : List Field) (field : Field) → first_value
+    tag (fields ++ field ∷ []) ≡ option_or (first_value tag fields) (value_if tag field)
 first_value-push tag fields field =
-    ap (λ o. option_map (λ f. f.1) o) (find-append (has tag) fields (field ∷ [])) ∙ value_or (find (has tag) fields) (find (has tag) (field ∷ []))
+    ap (λ o. option_map (λ f. f.1) o) (find-append (has tag) fields (field ∷ []))
+    ∙ value_or (find (has tag) fields) (find (has tag) (field ∷ []))
     ∙ ap (option_or (first_value tag fields)) (value_one tag field)
 
-abbrev header : Option (List ℕ) → Option (List ℕ) → Option (List ℕ) → Option (List ℕ) → Option (List ℕ) → HeaderValues
-header sender target number dup time = record { sender = sender; target = target; number = number; dup = dup; time = time }
+abbrev header : Option (List ℕ)
+    → Option (List ℕ) → Option (List ℕ) → Option (List ℕ) → Option (List ℕ) → HeaderValues
+header sender target number dup time =
+    record { sender = sender; target = target; number = number; dup = dup; time = time }
 
-header_of_push : (fields : List Field) (field : Field) → header_of (fields ++ field ∷ []) ≡ noted field (header_of fields)
+header_of_push : (fields : List Field) (field : Field)
+    → header_of (fields ++ field ∷ []) ≡ noted field (header_of fields)
 header_of_push fields field =
-    let sender : first_value SENDER_COMP_ID (fields ++ field ∷ []) ≡ option_or (first_value SENDER_COMP_ID fields) (value_if SENDER_COMP_ID field) = first_value-push SENDER_COMP_ID fields field in
-    let target : first_value TARGET_COMP_ID (fields ++ field ∷ []) ≡ option_or (first_value TARGET_COMP_ID fields) (value_if TARGET_COMP_ID field) = first_value-push TARGET_COMP_ID fields field in
-    let number : first_value MSG_SEQ_NUM (fields ++ field ∷ []) ≡ option_or (first_value MSG_SEQ_NUM fields) (value_if MSG_SEQ_NUM field) = first_value-push MSG_SEQ_NUM fields field in
-    let dup : first_value POSS_DUP_FLAG (fields ++ field ∷ []) ≡ option_or (first_value POSS_DUP_FLAG fields) (value_if POSS_DUP_FLAG field) = first_value-push POSS_DUP_FLAG fields field in
-    let time : first_value SENDING_TIME (fields ++ field ∷ []) ≡ option_or (first_value SENDING_TIME fields) (value_if SENDING_TIME field) = first_value-push SENDING_TIME fields field in
+    let sender : first_value SENDER_COMP_ID (fields ++ field ∷ [])
+    ≡ option_or (first_value SENDER_COMP_ID fields) (value_if SENDER_COMP_ID field) =
+    first_value-push SENDER_COMP_ID fields field in
+    let target : first_value TARGET_COMP_ID (fields ++ field ∷ [])
+    ≡ option_or (first_value TARGET_COMP_ID fields) (value_if TARGET_COMP_ID field) =
+    first_value-push TARGET_COMP_ID fields field in
+    let number : first_value MSG_SEQ_NUM (fields ++ field ∷ [])
+    ≡ option_or (first_value MSG_SEQ_NUM fields) (value_if MSG_SEQ_NUM field) =
+    first_value-push MSG_SEQ_NUM fields field in
+    let dup : first_value POSS_DUP_FLAG (fields ++ field ∷ [])
+    ≡ option_or (first_value POSS_DUP_FLAG fields) (value_if POSS_DUP_FLAG field) =
+    first_value-push POSS_DUP_FLAG fields field in
+    let time : first_value SENDING_TIME (fields ++ field ∷ [])
+    ≡ option_or (first_value SENDING_TIME fields) (value_if SENDING_TIME field) =
+    first_value-push SENDING_TIME fields field in
     rw (sender, target, number, dup, time) refl
 
 -- one place more
-more_fields : (fields : List Field) (i : ℕ) (field : Field) → slice_get fields i ≡ Some field → take (i + 1) fields ≡ take i fields ++ field ∷ []
+more_fields : (fields : List Field) (i : ℕ) (field : Field)
+    → slice_get fields i ≡ Some field → take (i + 1) fields ≡ take i fields ++ field ∷ []
 more_fields fields i field e =
     let is : get_or fields i field ≡ field = get_or_from_slice_get fields i field field e in
-    take_more fields i field (slice_get_within fields i field e) ∙ ap (λ f. take i fields ++ f ∷ []) is
+    take_more fields i field (slice_get_within fields i field e)
+    ∙ ap (λ f. take i fields ++ f ∷ []) is
 
 pub header_of_more : (fields : List Field) (i : ℕ) (field : Field) → slice_get fields i ≡ Some field
     → header_of (take (i + 1) fields) ≡ noted field (header_of (take i fields))
-header_of_more fields i field e = ap header_of (more_fields fields i field e) ∙ header_of_push (take i fields) field
+header_of_more fields i field e =
+    ap header_of (more_fields fields i field e) ∙ header_of_push (take i fields) field
 
-pub header_of_all : (fields : List Field) (i : ℕ) → length fields ≤ i → header_of (take i fields) ≡ header_of fields
+pub header_of_all : (fields : List Field) (i : ℕ)
+    → length fields ≤ i → header_of (take i fields) ≡ header_of fields
 header_of_all fields i h = ap header_of (take_all i fields h)
 
 -- a place before the last has a field
 pub none_within : (fields : List Field) (i : ℕ) → i < length fields → None ≡ slice_get fields i → ⊥
-none_within fields i within e = let at : slice_get fields i ≡ Some (get_or fields i (0, [])) = slice_get-get_or fields i (0, []) within in absurd (cc (e, at))
+none_within fields i within e = let at : slice_get fields i ≡ Some (get_or fields i (0, [])) =
+    slice_get-get_or fields i (0, []) within in absurd (cc (e, at))

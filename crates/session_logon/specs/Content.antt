@@ -2,17 +2,26 @@
 -- Own: the order of the fields, and the texts of a Logout; docs/DECISIONS.md, "Heads and Logon".
 --
 -- What a session says: the type and the fields of each of its messages, behind the standard header.
-use Rattle.std.specs.Prelude.{ℕ, ◌==◌, Bool, true, false, List, [], ◌∷◌, ◌++◌, codes, length, nat_le, take, if◌then◌else◌}
+use Rattle.std.specs.Prelude.{ℕ, ◌==◌, Bool, true, false, List, [], ◌∷◌, ◌++◌, Some, None, codes}
+use Rattle.std.specs.Prelude.{length, nat_le, take, if◌then◌else◌}
+use Rattle.std.specs.declared.option.Option.{Option}
 use Rattle.std.specs.Fmt.{decimal}
 use Rattle.order_meaning.specs.declared.Side.{Side}
 use Rattle.order_meaning.specs.declared.Side.TheVariants.{Client, Venue}
+use Rattle.order_meaning.specs.declared.reasons.TheConstants.{MAX_REASON42}
+use Rattle.order_meaning.specs.Reasons.{later_reason_words}
 use Rattle.field_groups.specs.Field.{Field, body_of}
 use Rattle.session_core.specs.declared.act.Admin.{Admin}
 use Rattle.session_core.specs.declared.act.Admin.TheVariants as admin
 use Rattle.session_core.specs.declared.act.Why.{Why}
 use Rattle.session_core.specs.declared.act.Why.TheVariants as why
-use Rattle.session_core.specs.declared.tag.TheConstants.{BEGIN_SEQ_NO, END_SEQ_NO, NEW_SEQ_NO, REF_SEQ_NUM, TEXT, ENCRYPT_METHOD, HEART_BT_INT, TEST_REQ_ID, GAP_FILL_FLAG, RESET_SEQ_NUM_FLAG, REF_TAG_ID, REF_MSG_TYPE, SESSION_REJECT_REASON, DEFAULT_APPL_VER_ID}
-use Rattle.session_logon.specs.declared.content.TheConstants.{MAX_MSG_TYPE, MAX_REASON42}
+use Rattle.session_core.specs.declared.tag.TheConstants.{BEGIN_SEQ_NO, END_SEQ_NO, NEW_SEQ_NO}
+use Rattle.session_core.specs.declared.tag.TheConstants.{REF_SEQ_NUM, TEXT, ENCRYPT_METHOD}
+use Rattle.session_core.specs.declared.tag.TheConstants.{HEART_BT_INT, TEST_REQ_ID, GAP_FILL_FLAG}
+use Rattle.session_core.specs.declared.tag.TheConstants.{RESET_SEQ_NUM_FLAG, REF_TAG_ID}
+use Rattle.session_core.specs.declared.tag.TheConstants.{REF_MSG_TYPE, SESSION_REJECT_REASON}
+use Rattle.session_core.specs.declared.tag.TheConstants.{DEFAULT_APPL_VER_ID}
+use Rattle.session_logon.specs.declared.content.TheConstants.{MAX_MSG_TYPE}
 use Rattle.session_logon.specs.declared.content.Said42.{Said42}
 
 -- MsgType(35)
@@ -62,17 +71,15 @@ test_request_fields number = (TEST_REQ_ID, codes "T" ++ decimal number) ∷ []
 abbrev pub resend_request_fields : ℕ → List Field
 resend_request_fields from = (BEGIN_SEQ_NO, decimal from) ∷ (END_SEQ_NO, codes "0") ∷ []
 
--- what stands for a reason that FIX 4.2 lacks: words, where there are some
-abbrev pub later_reason : ℕ → List Field
-later_reason reason =
-    if reason == 13 then (TEXT, codes "tag appears more than once") ∷ []
-    else (if reason == 15 then (TEXT, codes "group fields out of order") ∷ []
-    else (if reason == 16 then (TEXT, codes "wrong group count") ∷ [] else []))
+abbrev pub text_field : Option (List ℕ) → List Field
+text_field None = []
+text_field (Some text) = (TEXT, text) ∷ []
 
+-- for a reason that FIX 4.2 lacks stand words, where there are some
 abbrev pub reason_fields : Side → ℕ → List Field
 reason_fields Client reason =
-    if nat_le reason MAX_REASON42 then (SESSION_REJECT_REASON, decimal reason)
-    ∷ [] else later_reason reason
+    if nat_le reason MAX_REASON42 then (SESSION_REJECT_REASON, decimal reason) ∷ []
+    else text_field (later_reason_words reason)
 reason_fields Venue reason = (SESSION_REJECT_REASON, decimal reason) ∷ []
 
 -- a Reject names the message by its number and its type, of which 8 bytes are kept, and the field

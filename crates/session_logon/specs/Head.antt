@@ -2,7 +2,8 @@
 -- Own: numbers of nine digits, a window of time; where a tag stands twice, the first counts.
 --
 -- What a session has to know of a message with these fields: its head. It is judged field by field.
-use Rattle.std.specs.Prelude.{ℕ, ◌*◌, Bool, true, false, List, codes, nat_le, Some, None, Ok, Err, pos, ◌-ℤ◌, unsigned_abs, if◌then◌else◌}
+use Rattle.std.specs.Prelude.{ℕ, ◌*◌, Bool, true, false, List, codes, nat_le, Some, None, Ok, Err}
+use Rattle.std.specs.Prelude.{pos, ◌-ℤ◌, unsigned_abs, if◌then◌else◌}
 use Rattle.std.specs.declared.option.Option.{Option}
 use Rattle.std.specs.declared.result.Result.{Result}
 use Rattle.std.specs.Result.{result_ok}
@@ -15,7 +16,10 @@ use Rattle.typed_fields.specs.Stamp.{read_stamp, stamp_millis}
 use Rattle.field_groups.specs.Field.{Field}
 use Rattle.session_core.specs.declared.numbers.TheConstants.{MAX_MSG_SEQ_NUM, ALL_USED}
 use Rattle.session_core.specs.declared.reason.TheConstants.{SENDING_TIME_ACCURACY_PROBLEM}
-use Rattle.session_core.specs.declared.tag.TheConstants.{BEGIN_SEQ_NO, END_SEQ_NO, MSG_SEQ_NUM, NEW_SEQ_NO, POSS_DUP_FLAG, SENDER_COMP_ID, SENDING_TIME, TARGET_COMP_ID, TEST_REQ_ID, GAP_FILL_FLAG}
+use Rattle.session_core.specs.declared.tag.TheConstants.{BEGIN_SEQ_NO, END_SEQ_NO, MSG_SEQ_NUM}
+use Rattle.session_core.specs.declared.tag.TheConstants.{NEW_SEQ_NO, POSS_DUP_FLAG, SENDER_COMP_ID}
+use Rattle.session_core.specs.declared.tag.TheConstants.{SENDING_TIME, TARGET_COMP_ID, TEST_REQ_ID}
+use Rattle.session_core.specs.declared.tag.TheConstants.{GAP_FILL_FLAG}
 use Rattle.session_core.specs.declared.head.Head.{Head}
 use Rattle.session_core.specs.declared.head.What.{What}
 use Rattle.session_core.specs.declared.head.What.TheVariants as what

@@ -3,7 +3,8 @@ use Rattle.std.specs.Prelude.{ℕ, ◌==◌, List, Some, None, if◌then◌else�
 use Rattle.std.specs.declared.option.Option.{Option}
 use Rattle.std.specs.Option.{option_or}
 use Rattle.field_groups.specs.Field.{Field}
-use Rattle.session_core.specs.declared.tag.TheConstants.{MSG_SEQ_NUM, POSS_DUP_FLAG, SENDER_COMP_ID, SENDING_TIME, TARGET_COMP_ID}
+use Rattle.session_core.specs.declared.tag.TheConstants.{MSG_SEQ_NUM, POSS_DUP_FLAG, SENDER_COMP_ID}
+use Rattle.session_core.specs.declared.tag.TheConstants.{SENDING_TIME, TARGET_COMP_ID}
 use Rattle.session_logon.specs.First.{first_value}
 
 -- the values of the header's fields

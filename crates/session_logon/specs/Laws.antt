@@ -1,5 +1,6 @@
 -- Standard: FIX 4.2 and FIXT 1.1, "Standard message header": what one side writes the other reads.
-use Rattle.std.specs.Prelude.{◌≡◌, ℕ, ◌*◌, ◌≤◌, Bool, true, false, List, [], ◌∷◌, ◌++◌, codes, Some, None}
+use Rattle.std.specs.Prelude.{◌≡◌, ℕ, ◌*◌, ◌≤◌, Bool, true, false, List, [], ◌∷◌, ◌++◌, codes, Some}
+use Rattle.std.specs.Prelude.{None}
 use Rattle.std.specs.declared.option.Option.{Option}
 use Rattle.std.specs.Fmt.{decimal}
 use Rattle.order_meaning.specs.declared.Side.{Side}
@@ -9,7 +10,10 @@ use Rattle.typed_fields.specs.declared.stamp.Stamp.{Stamp}
 use Rattle.typed_fields.specs.Stamp.{stamp_text, IsStamp}
 use Rattle.field_groups.specs.Field.{Field}
 use Rattle.session_core.specs.Numbers.{IsMsgSeqNum}
-use Rattle.session_core.specs.declared.tag.TheConstants.{MSG_TYPE, MSG_SEQ_NUM, POSS_DUP_FLAG, SENDER_COMP_ID, SENDING_TIME, TARGET_COMP_ID, POSS_RESEND, ORIG_SENDING_TIME}
+use Rattle.session_core.specs.declared.tag.TheConstants.{MSG_TYPE, MSG_SEQ_NUM, POSS_DUP_FLAG}
+use Rattle.session_core.specs.declared.tag.TheConstants.{SENDER_COMP_ID, SENDING_TIME}
+use Rattle.session_core.specs.declared.tag.TheConstants.{TARGET_COMP_ID, POSS_RESEND}
+use Rattle.session_core.specs.declared.tag.TheConstants.{ORIG_SENDING_TIME}
 use Rattle.session_core.specs.declared.act.Admin.{Admin}
 use Rattle.session_core.specs.declared.act.Admin.TheVariants as admin
 use Rattle.session_core.specs.declared.head.Head.{Head}

@@ -2,7 +2,8 @@
 -- Own: HeartBtInt(108) up to a day; only EncryptMethod(98) 0 and DefaultApplVerID(1137) 9.
 --
 -- The Logon that a session accepts.
-use Rattle.std.specs.Prelude.{ℕ, Bool, true, false, List, codes, Some, None, Ok, Err, is_ok, if◌then◌else◌}
+use Rattle.std.specs.Prelude.{ℕ, Bool, true, false, List, codes, Some, None, Ok, Err, is_ok}
+use Rattle.std.specs.Prelude.{if◌then◌else◌}
 use Rattle.std.specs.declared.option.Option.{Option}
 use Rattle.std.specs.declared.result.Result.{Result}
 use Rattle.std.specs.Str.{bytes_eq}
@@ -12,7 +13,8 @@ use Rattle.typed_fields.specs.declared.fault.FieldFault.{FieldFault}
 use Rattle.typed_fields.specs.declared.flag.Flag.{Flag}
 use Rattle.typed_fields.specs.Flag.{read_flag}
 use Rattle.field_groups.specs.Field.{Field}
-use Rattle.session_core.specs.declared.tag.TheConstants.{ENCRYPT_METHOD, HEART_BT_INT, DEFAULT_APPL_VER_ID, RESET_SEQ_NUM_FLAG}
+use Rattle.session_core.specs.declared.tag.TheConstants.{ENCRYPT_METHOD, HEART_BT_INT}
+use Rattle.session_core.specs.declared.tag.TheConstants.{DEFAULT_APPL_VER_ID, RESET_SEQ_NUM_FLAG}
 use Rattle.session_logon.specs.declared.logon.TheConstants.{MAX_HEART}
 use Rattle.session_logon.specs.declared.logon.LogonFault.{LogonFault}
 use Rattle.session_logon.specs.declared.logon.LogonFault.TheVariants.{Tag}

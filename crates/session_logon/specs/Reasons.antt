@@ -2,14 +2,18 @@
 --
 -- Why a field that must be there is wrong. It is missing, or empty, or has a wrong form, or its
 -- value is out of range; the first of these counts.
-use Rattle.std.specs.Prelude.{ℕ, ◌==◌, ◌&&◌, ◌||◌, List, length, nat_le, Some, None, Ok, Err, if◌then◌else◌}
+use Rattle.std.specs.Prelude.{ℕ, ◌==◌, ◌&&◌, ◌||◌, List, length, nat_le, Some, None, Ok, Err}
+use Rattle.std.specs.Prelude.{if◌then◌else◌}
 use Rattle.std.specs.declared.option.Option.{Option}
 use Rattle.std.specs.declared.result.Result.{Result}
 use Rattle.typed_fields.specs.declared.fault.FieldFault.{FieldFault}
 use Rattle.typed_fields.specs.declared.fault.FieldFault.TheVariants.{Empty, Form, Range}
 use Rattle.typed_fields.specs.declared.number.Number.{Number}
 use Rattle.typed_fields.specs.Number.{read_number}
-use Rattle.session_core.specs.declared.reason.TheConstants.{REQUIRED_TAG_MISSING, TAG_WITHOUT_A_VALUE, INCORRECT_DATA_FORMAT, VALUE_IS_INCORRECT}
+use Rattle.session_core.specs.declared.reason.TheConstants.{REQUIRED_TAG_MISSING}
+use Rattle.session_core.specs.declared.reason.TheConstants.{TAG_WITHOUT_A_VALUE}
+use Rattle.session_core.specs.declared.reason.TheConstants.{INCORRECT_DATA_FORMAT}
+use Rattle.session_core.specs.declared.reason.TheConstants.{VALUE_IS_INCORRECT}
 use Rattle.session_logon.specs.declared.reasons.TheConstants.{MAX_TEXT}
 
 abbrev pub reason_of : FieldFault → ℕ

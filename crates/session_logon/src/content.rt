@@ -1,11 +1,16 @@
 //! What a session says: the type and the content of each of its messages.
 
-ghost use Rattle.std.specs.Prelude.{◌≡◌, ◌++◌, [], IfOk, OnOk, codes, decimal};
+ghost use Rattle.std.specs.Prelude.{◌≡◌, ◌++◌, IfOk, OnOk, codes, decimal};
+ghost use Rattle.std.specs.Option.{option_map};
 ghost use Rattle.field_groups.specs.Field.{body_of, field_bytes};
-ghost use Rattle.session_logon.specs.Content.{said, type_of, is_admin, fields_of, logon_fields, logout_text, logout_fields, heartbeat_fields, test_request_fields, resend_request_fields, rejected_fields, reason_fields, later_reason};
+ghost use Rattle.session_logon.specs.Content.{said, type_of, logon_fields};
+ghost use Rattle.session_logon.specs.Content.{logout_text, logout_fields, heartbeat_fields};
+ghost use Rattle.session_logon.specs.Content.{test_request_fields, resend_request_fields};
+ghost use Rattle.session_logon.specs.Content.{rejected_fields, reason_fields, text_field};
 
+use field_groups::SOH;
 use itoa::Buffer;
-use order_meaning::{Bytes, Side};
+use order_meaning::{Bytes, MAX_REASON42, Side, later_reason_words};
 use session_core::tag::{
     BEGIN_SEQ_NO, DEFAULT_APPL_VER_ID, ENCRYPT_METHOD, END_SEQ_NO, HEART_BT_INT, REF_MSG_TYPE,
     REF_SEQ_NUM, REF_TAG_ID, RESET_SEQ_NUM_FLAG, SESSION_REJECT_REASON, TEST_REQ_ID, TEXT,
@@ -13,14 +18,8 @@ use session_core::tag::{
 use session_core::{Admin, Why};
 use std::alloc::{AllocError, Global};
 
-/// The byte that ends a field.
-const SOH: u8 = 1;
-
 /// How many bytes of a MsgType(35) a Reject repeats (own).
 pub const MAX_MSG_TYPE: usize = 8;
-
-/// The greatest SessionRejectReason(373) of FIX 4.2.
-pub const MAX_REASON42: u8 = 11;
 
 /// A message as it is said: the type, what stands behind the standard header, and what is done
 /// where messages are sent again.
@@ -156,15 +155,14 @@ fn push_resend_request(out: &mut Bytes, from: u32) -> Result<(), AllocError>
     push_field(out, END_SEQ_NO, b"0")
 }
 
-// What stands for a reason that FIX 4.2 lacks.
-fn push_later_reason(out: &mut Bytes, reason: u8) -> Result<(), AllocError>
-    ensures { OnOk result (out.new ≡ out.old ++ body_of (later_reason reason)) }
+// Appends a text, where there is one.
+fn push_text(out: &mut Bytes, text: Option<&[u8]>) -> Result<(), AllocError>
+    ensures { OnOk result (out.new ≡ out.old
+        ++ body_of (text_field (option_map (λ text. text.now) text.entry))) }
 {
-    match reason {
-        13 => push_field(out, TEXT, b"tag appears more than once"),
-        15 => push_field(out, TEXT, b"group fields out of order"),
-        16 => push_field(out, TEXT, b"wrong group count"),
-        _ => Ok(()),
+    match text {
+        Some(text) => push_field(out, TEXT, text),
+        None => Ok(()),
     }
 }
 
@@ -172,7 +170,7 @@ fn push_reason(out: &mut Bytes, side: Side, reason: u8) -> Result<(), AllocError
     ensures { OnOk result (out.new ≡ out.old ++ body_of (reason_fields side reason)) }
 {
     match side {
-        Side::Client if reason > MAX_REASON42 => push_later_reason(out, reason),
+        Side::Client if reason > MAX_REASON42 => push_text(out, later_reason_words(reason)),
         _ => push_number_field(out, SESSION_REJECT_REASON, u32::from(reason)),
     }
 }

@@ -1,15 +1,17 @@
 //! What a session has to know of a message.
 
-ghost use Rattle.std.specs.Prelude.{◌≡◌, IfSome};
-ghost use Rattle.std.specs.Option.{option_map, ForSome};
+ghost use Rattle.std.specs.Prelude.{◌≡◌};
+ghost use Rattle.std.specs.Option.{option_map};
 ghost use Rattle.session_core.specs.Head.{HasNumbers};
-ghost use Rattle.session_core.specs.Numbers.{IsMsgSeqNum};
 ghost use Rattle.session_logon.specs.First.{first_value};
-ghost use Rattle.session_logon.specs.Header.{header_of};
-ghost use Rattle.session_logon.specs.Head.{number_in, wrong_of, wrong_time, time_fault, distance, peer, our, logon_kind, test_request_kind, end_kind, resend_request_kind, sequence_reset_kind, kind_of, head_of};
+ghost use Rattle.session_logon.specs.Head.{wrong_of, wrong_time, time_fault, distance};
+ghost use Rattle.session_logon.specs.Head.{peer, our, logon_kind, test_request_kind};
+ghost use Rattle.session_logon.specs.Head.{resend_request_kind, sequence_reset_kind, kind_of};
+ghost use Rattle.session_logon.specs.Head.{head_of};
 ghost use Rattle.typed_fields.specs.Stamp.{read_stamp};
 ghost use Rattle.session_logon.specs.Logon.{logon_of, is_yes};
-ghost use Rattle.session_logon.specs.Reasons.{required, read_between, read_zero_or_from, text_fault};
+ghost use Rattle.session_logon.specs.Reasons.{required, read_between};
+ghost use Rattle.session_logon.specs.Reasons.{text_fault};
 
 use crate::first::first_value;
 use crate::header::Header;

@@ -19,7 +19,7 @@ mod reasons;
 #[cfg(test)]
 mod tests;
 
-pub use content::{MAX_MSG_TYPE, MAX_REASON42, Said42, say};
+pub use content::{MAX_MSG_TYPE, Said42, say};
 pub use head::read_head;
 pub use logon::{LogonFault, MAX_HEART, check_logon};
 pub use order_meaning::{Name, Names};

@@ -2,7 +2,8 @@
 
 ghost use Rattle.std.specs.Prelude.{◌≡◌, ◌≤◌, IfOk};
 ghost use Rattle.std.specs.Option.{option_map};
-ghost use Rattle.session_logon.specs.Reasons.{reason_of, required, read_between, read_zero_or_from, text_fault};
+ghost use Rattle.session_logon.specs.Reasons.{reason_of, required, read_between, read_zero_or_from};
+ghost use Rattle.session_logon.specs.Reasons.{text_fault};
 
 use session_core::reason::{
     INCORRECT_DATA_FORMAT, REQUIRED_TAG_MISSING, TAG_WITHOUT_A_VALUE, VALUE_IS_INCORRECT,

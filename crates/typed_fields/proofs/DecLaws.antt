@@ -1,20 +1,33 @@
 -- The laws of decimal numbers.
-use Rattle.std.proofs.Common.{◌≡◌, ◌==◌, ◌&&◌, not, if◌then◌else◌, ℕ, zero, suc, ◌+◌, ◌-◌, ◌*◌, ◌/◌, ◌%◌, ◌^◌, ◌<◌, ◌≤◌, nat_le, Bool, true, false, List, [], ◌∷◌, ◌++◌, length, take, drop, replicate, Ok, refl, sym, ap, ◌∙◌, arith, ℤ, pos, negsuc, unsigned_abs}
+use Rattle.std.proofs.Common.{◌≡◌, ◌==◌, ◌&&◌, not, if◌then◌else◌, ℕ, zero, suc, ◌+◌, ◌-◌, ◌*◌, ◌/◌}
+use Rattle.std.proofs.Common.{◌%◌, ◌^◌, ◌<◌, ◌≤◌, nat_le, Bool, true, false, List, [], ◌∷◌, ◌++◌}
+use Rattle.std.proofs.Common.{length, take, drop, replicate, Ok, refl, sym, ap, ◌∙◌, arith, ℤ, pos}
+use Rattle.std.proofs.Common.{negsuc, unsigned_abs}
 use Rattle.std.specs.Char.{is_ascii_digit}
 use Rattle.std.specs.Fmt.{decimal}
 use Rattle.std.specs.Int.{is_negative}
 use Rattle.std.specs.List.{list_all, position_or_len, before_first, after_first}
 use Rattle.std.proofs.lemmas.Bool.Decides.{nat_tests}
-use Rattle.std.proofs.lemmas.List.{length-append, length-take, length-drop, take_at, drop_at, drop-drop, append-nil, append_assoc, take-append-drop, length-replicate}
+use Rattle.std.proofs.lemmas.List.{length-append, length-take, length-drop, take_at, drop_at}
+use Rattle.std.proofs.lemmas.List.{drop-drop, append-nil, append_assoc, take-append-drop}
+use Rattle.std.proofs.lemmas.List.{length-replicate}
 use Rattle.std.proofs.lemmas.Nat.{div-mul-add, mod-mul-add, pow-add, mul-le}
 use Rattle.std.proofs.Math.Nat.{mul-lt-mul_of_pos_right}
 use Rattle.typed_fields.specs.declared.dec.Dec.{Dec}
-use Rattle.typed_fields.specs.Digits.{are_digits, number_of, zero_padded, without_leading_zeros, without_trailing_zeros, before_others, or_zero}
-use Rattle.typed_fields.specs.Dec.{has_minus, is_point, whole_part, fraction_part, is_dec_form, whole_digits, fraction_digits, is_dec_bounded, units_of, signed, read_dec, IsDec, sign_text, with_point, dec_text, plain_dec}
+use Rattle.typed_fields.specs.Digits.{are_digits, number_of, zero_padded, without_leading_zeros}
+use Rattle.typed_fields.specs.Digits.{without_trailing_zeros, before_others, or_zero}
+use Rattle.typed_fields.specs.Dec.{has_minus, is_point, whole_part, fraction_part, is_dec_form}
+use Rattle.typed_fields.specs.Dec.{whole_digits, fraction_digits, is_dec_bounded, units_of, signed}
+use Rattle.typed_fields.specs.Dec.{read_dec, IsDec, sign_text, with_point, dec_text, plain_dec}
 use Rattle.typed_fields.specs.Laws.{ReadsBack, IsPlain, IsStable}
-use Rattle.typed_fields.proofs.DigitsLemmas.{both_true, number_of-append, number_of-lt, are_digits-append, are_digits-take, are_digits-drop, are_digits-leading, are_digits-trailing}
-use Rattle.typed_fields.proofs.SpellingLemmas.{judged_ok, number_of_first, zero_padded-number_of, digit_bounds, power_some, length-zero_padded, are_digits-zero_padded, number_of-zero_padded}
-use Rattle.typed_fields.proofs.NumberLaws.{decimal-number_of, number_of-leading, or_zero_some, are_digits-or_zero}
+use Rattle.typed_fields.proofs.DigitsLemmas.{both_true, number_of-append, number_of-lt}
+use Rattle.typed_fields.proofs.DigitsLemmas.{are_digits-append, are_digits-take, are_digits-drop}
+use Rattle.typed_fields.proofs.DigitsLemmas.{are_digits-leading, are_digits-trailing}
+use Rattle.typed_fields.proofs.SpellingLemmas.{judged_ok, number_of_first, zero_padded-number_of}
+use Rattle.typed_fields.proofs.SpellingLemmas.{digit_bounds, power_some, length-zero_padded}
+use Rattle.typed_fields.proofs.SpellingLemmas.{are_digits-zero_padded, number_of-zero_padded}
+use Rattle.typed_fields.proofs.NumberLaws.{decimal-number_of, number_of-leading, or_zero_some}
+use Rattle.typed_fields.proofs.NumberLaws.{are_digits-or_zero}
 use Rattle.typed_fields.proofs.DecLemmas.{read_dec-good, units_of-is}
 
 -- a digit is no point and no minus sign
@@ -23,7 +36,8 @@ digit_is_other c h =
     let bounds = digit_bounds c h in (grind (arith, nat_tests), grind (arith, nat_tests))
 
 -- the point stands behind the whole part
-point_place : (w f : List ℕ) → are_digits w ≡ true → position_or_len is_point (w ++ with_point f) ≡ length w
+point_place : (w f : List ℕ)
+    → are_digits w ≡ true → position_or_len is_point (w ++ with_point f) ≡ length w
 unfolding are_digits
 point_place [] [] h = refl
 point_place [] (d ∷ ds) h = refl
@@ -34,12 +48,14 @@ point_place (c ∷ cs) f h =
     rw (other, rest) (omega arith)
 
 whole_back : (w f : List ℕ) → are_digits w ≡ true → before_first is_point (w ++ with_point f) ≡ w
-whole_back w f h = ap (λ n. take n (w ++ with_point f)) (point_place w f h) ∙ take_at w (with_point f) (length w) refl
+whole_back w f h = ap (λ n. take n (w ++ with_point f)) (point_place w f h)
+    ∙ take_at w (with_point f) (length w) refl
 
 fraction_back : (w f : List ℕ) → are_digits w ≡ true → after_first is_point (w ++ with_point f) ≡ f
 fraction_back w f h =
     ap (λ n. drop (n + 1) (w ++ with_point f)) (point_place w f h)
-    ∙ (sym (drop-drop 1 (length w) (w ++ with_point f)) ∙ (ap (drop 1) (drop_at w (with_point f) (length w) refl) ∙ behind f))
+    ∙ (sym (drop-drop 1 (length w) (w ++ with_point f))
+    ∙ (ap (drop 1) (drop_at w (with_point f) (length w) refl) ∙ behind f))
   where
     behind : (f : List ℕ) → drop 1 (with_point f) ≡ f
     behind [] = refl
@@ -56,14 +72,22 @@ record Parts (s : Bool) (w f : List ℕ) : Type 0 where
 
 parts_of : (s : Bool) (w f : List ℕ) → are_digits w ≡ true → 0 < length w → Parts s w f
 unfolding are_digits
-parts_of true w f h some = record { minus = refl; whole = whole_back w f h; fraction = fraction_back w f h }
+parts_of true w f h some =
+    record { minus = refl; whole = whole_back w f h; fraction = fraction_back w f h }
 parts_of false [] f h some = absurd (omega arith)
 parts_of false (c ∷ cs) f h some =
-    let other = (digit_is_other c (both_true (is_ascii_digit c) (list_all is_ascii_digit cs) h).0).1 in
-    record { minus = other; whole = rw other (whole_back (c ∷ cs) f h); fraction = rw other (fraction_back (c ∷ cs) f h) }
+    let other =
+    (digit_is_other c (both_true (is_ascii_digit c) (list_all is_ascii_digit cs) h).0).1 in
+    record {
+      minus = other;
+      whole = rw other (whole_back (c ∷ cs) f h);
+      fraction = rw other (fraction_back (c ∷ cs) f h);
+    }
 
-spelled_long : (s : Bool) (w f : List ℕ) → (length (spelled s w f) ≤ 2 + length w + length f) × (length w ≤ length (spelled s w f))
-spelled_long s w f = (simp length-append (omega (arith, sign s, point f)), simp length-append (omega arith))
+spelled_long : (s : Bool) (w f : List ℕ)
+    → (length (spelled s w f) ≤ 2 + length w + length f) × (length w ≤ length (spelled s w f))
+spelled_long s w f =
+    (simp length-append (omega (arith, sign s, point f)), simp length-append (omega arith))
   where
     sign : (s : Bool) → length (sign_text s) ≤ 1
     sign true = omega arith
@@ -73,9 +97,13 @@ spelled_long s w f = (simp length-append (omega (arith, sign s, point f)), simp 
     point [] = omega arith
     point (d ∷ ds) = omega arith
 
-read_spelled : (s : Bool) (w f : List ℕ) → are_digits w ≡ true → are_digits f ≡ true → 0 < length w → length w ≤ 15 → length f ≤ 8
-    → length (without_leading_zeros w) + length (without_trailing_zeros f) ≤ 15 → length (without_trailing_zeros f) ≤ 8
-    → read_dec (spelled s w f) ≡ Ok (record { units = signed s (units_of (without_leading_zeros w) (without_trailing_zeros f)) })
+read_spelled : (s : Bool) (w f : List ℕ)
+    → are_digits w ≡ true → are_digits f ≡ true → 0 < length w → length w ≤ 15 → length f ≤ 8
+    → length (without_leading_zeros w) + length (without_trailing_zeros f) ≤ 15
+    → length (without_trailing_zeros f) ≤ 8
+    → read_dec (spelled s w f) ≡ Ok (record {
+      units = signed s (units_of (without_leading_zeros w) (without_trailing_zeros f));
+    })
 read_spelled s w f h k some long places few few_places =
     let p = parts_of s w f h some in
     let v = spelled s w f in
@@ -83,37 +111,50 @@ read_spelled s w f h k some long places few few_places =
     let not_empty : (length v == 0) ≡ false = grind (arith, nat_tests, size.1) in
     let whole : are_digits (whole_part v) ≡ true = rw p.whole h in
     let fraction : are_digits (fraction_part v) ≡ true = rw p.fraction k in
-    let any : length (whole_part v) + length (fraction_part v) ≡ 0 → ⊥ = rw (p.whole, p.fraction) (λ e. absurd (omega (arith, some))) in
-    let few' : length (whole_digits v) + length (fraction_digits v) ≤ 15 = rw (p.whole, p.fraction) few in
+    let any : length (whole_part v) + length (fraction_part v) ≡ 0 → ⊥ =
+    rw (p.whole, p.fraction) (λ e. absurd (omega (arith, some))) in
+    let few' : length (whole_digits v) + length (fraction_digits v) ≤ 15 =
+    rw (p.whole, p.fraction) few in
     let places' : length (fraction_digits v) ≤ 8 = rw p.fraction few_places in
     read_dec-good v not_empty (omega (arith, size.0)) whole fraction any few' places'
-    ∙ (λ i. Ok (record { units = signed (p.minus i) (units_of (without_leading_zeros (p.whole i)) (without_trailing_zeros (p.fraction i))) }))
+    ∙ (λ i. Ok (record {
+      units = signed (p.minus i)
+          (units_of (without_leading_zeros (p.whole i)) (without_trailing_zeros (p.fraction i)));
+    }))
 
 -- zeros that are gone stay gone
-leading_twice : (ds : List ℕ) → without_leading_zeros (without_leading_zeros ds) ≡ without_leading_zeros ds
+leading_twice : (ds : List ℕ)
+    → without_leading_zeros (without_leading_zeros ds) ≡ without_leading_zeros ds
 unfolding without_leading_zeros
 leading_twice [] = refl
 leading_twice (d ∷ ds) = go (d == 48) refl (leading_twice ds)
   where
-    go : (b : Bool) → (d == 48) ≡ b → without_leading_zeros (without_leading_zeros ds) ≡ without_leading_zeros ds → without_leading_zeros (if b then without_leading_zeros ds else (d ∷ ds)) ≡ (if b then without_leading_zeros ds else (d ∷ ds))
+    go : (b : Bool) → (d == 48) ≡ b
+        → without_leading_zeros (without_leading_zeros ds) ≡ without_leading_zeros ds
+        → without_leading_zeros (if b then without_leading_zeros ds else (d ∷ ds))
+        ≡ (if b then without_leading_zeros ds else (d ∷ ds))
     go true e rest = rest
     go false e rest = rw e
 
-leading-or_zero : (ds : List ℕ) → without_leading_zeros ds ≡ ds → without_leading_zeros (or_zero ds) ≡ ds
+leading-or_zero : (ds : List ℕ)
+    → without_leading_zeros ds ≡ ds → without_leading_zeros (or_zero ds) ≡ ds
 unfolding without_leading_zeros
 leading-or_zero [] e = refl
 leading-or_zero (d ∷ ds) e = e
 
-trailing_twice : (ds : List ℕ) → without_trailing_zeros (without_trailing_zeros ds) ≡ without_trailing_zeros ds
+trailing_twice : (ds : List ℕ)
+    → without_trailing_zeros (without_trailing_zeros ds) ≡ without_trailing_zeros ds
 unfolding without_trailing_zeros
 trailing_twice [] = refl
 trailing_twice (d ∷ ds) = go (without_trailing_zeros ds) (trailing_twice ds)
   where
-    last : (b : Bool) → (d == 48) ≡ b → without_trailing_zeros (if b then [] else (d ∷ [])) ≡ (if b then [] else (d ∷ []))
+    last : (b : Bool) → (d == 48) ≡ b
+        → without_trailing_zeros (if b then [] else (d ∷ [])) ≡ (if b then [] else (d ∷ []))
     last true e = refl
     last false e = rw e
 
-    go : (ys : List ℕ) → without_trailing_zeros ys ≡ ys → without_trailing_zeros (before_others d ys) ≡ before_others d ys
+    go : (ys : List ℕ) → without_trailing_zeros ys ≡ ys
+        → without_trailing_zeros (before_others d ys) ≡ before_others d ys
     go [] e = last (d == 48) refl
     go (y ∷ ys) e = rw e
 
@@ -123,15 +164,18 @@ unfolding without_trailing_zeros
 trailing_push [] = refl
 trailing_push (d ∷ ds) = ap (before_others d) (trailing_push ds)
 
-trailing-zeros : (ds : List ℕ) (k : ℕ) → without_trailing_zeros (ds ++ replicate k 48) ≡ without_trailing_zeros ds
+trailing-zeros : (ds : List ℕ) (k : ℕ)
+    → without_trailing_zeros (ds ++ replicate k 48) ≡ without_trailing_zeros ds
 trailing-zeros ds zero = ap without_trailing_zeros (append-nil ds)
 trailing-zeros ds (suc k) =
-    ap without_trailing_zeros (sym (append_assoc ds (48 ∷ []) (replicate k 48))) ∙ (trailing-zeros (ds ++ (48 ∷ [])) k ∙ trailing_push ds)
+    ap without_trailing_zeros (sym (append_assoc ds (48 ∷ []) (replicate k 48)))
+    ∙ (trailing-zeros (ds ++ (48 ∷ [])) k ∙ trailing_push ds)
 
 number_of-zeros : (k : ℕ) → number_of (replicate k 48) ≡ 0
 unfolding number_of
 number_of-zeros zero = refl
-number_of-zeros (suc k) = number_of_first 48 (replicate k 48) (omega arith) (omega arith) ∙ omega (arith, number_of-zeros k)
+number_of-zeros (suc k) = number_of_first 48 (replicate k 48) (omega arith) (omega arith)
+    ∙ omega (arith, number_of-zeros k)
 
 are_digits-zeros : (k : ℕ) → are_digits (replicate k 48) ≡ true
 unfolding are_digits
@@ -139,58 +183,80 @@ are_digits-zeros zero = refl
 are_digits-zeros (suc k) = are_digits-zeros k
 
 -- a number with no needless zero is zero only where no digit is left
-no_leading_digit : (ds : List ℕ) → are_digits ds ≡ true → number_of (without_leading_zeros ds) ≡ 0 → without_leading_zeros ds ≡ []
+no_leading_digit : (ds : List ℕ) → are_digits ds ≡ true
+    → number_of (without_leading_zeros ds) ≡ 0 → without_leading_zeros ds ≡ []
 unfolding without_leading_zeros are_digits
 no_leading_digit [] h e = refl
 no_leading_digit (d ∷ ds) h e =
     let parts = both_true (is_ascii_digit d) (list_all is_ascii_digit ds) h in
     go (d == 48) refl (no_leading_digit ds parts.1) (digit_bounds d parts.0) e
   where
-    go : (b : Bool) → (d == 48) ≡ b → (number_of (without_leading_zeros ds) ≡ 0 → without_leading_zeros ds ≡ []) → (48 ≤ d) × (d ≤ 57) → number_of (if b then without_leading_zeros ds else (d ∷ ds)) ≡ 0 → (if b then without_leading_zeros ds else (d ∷ ds)) ≡ []
+    go : (b : Bool)
+        → (d == 48) ≡ b → (number_of (without_leading_zeros ds) ≡ 0 → without_leading_zeros ds ≡ [])
+        → (48 ≤ d) × (d ≤ 57) → number_of (if b then without_leading_zeros ds else (d ∷ ds)) ≡ 0
+        → (if b then without_leading_zeros ds else (d ∷ ds)) ≡ []
     go true t rest bounds e = rest e
     go false t rest bounds e =
         let some : 1 ≤ d - 48 = grind (arith, nat_tests) in
-        absurd (omega (arith, e, number_of_first d ds bounds.0 bounds.1, mul-le 1 1 (d - 48) (10 ^ length ds) some (power_some (length ds))))
+        absurd (omega (
+          arith,
+          e,
+          number_of_first d ds bounds.0 bounds.1,
+          mul-le 1 1 (d - 48) (10 ^ length ds) some (power_some (length ds)),
+        ))
 
-no_trailing_digit : (ds : List ℕ) → are_digits ds ≡ true → number_of (without_trailing_zeros ds) ≡ 0 → without_trailing_zeros ds ≡ []
+no_trailing_digit : (ds : List ℕ) → are_digits ds ≡ true
+    → number_of (without_trailing_zeros ds) ≡ 0 → without_trailing_zeros ds ≡ []
 unfolding without_trailing_zeros are_digits
 no_trailing_digit [] h e = refl
 no_trailing_digit (d ∷ ds) h e =
     let parts = both_true (is_ascii_digit d) (list_all is_ascii_digit ds) h in
     go (without_trailing_zeros ds) (no_trailing_digit ds parts.1) (digit_bounds d parts.0) e
   where
-    last : (b : Bool) → (d == 48) ≡ b → (48 ≤ d) × (d ≤ 57) → number_of (if b then [] else (d ∷ [])) ≡ 0 → (if b then [] else (d ∷ [])) ≡ []
+    last : (b : Bool) → (d == 48) ≡ b → (48 ≤ d) × (d ≤ 57)
+        → number_of (if b then [] else (d ∷ [])) ≡ 0 → (if b then [] else (d ∷ [])) ≡ []
     last true t bounds e = refl
-    last false t bounds e = absurd (let low = bounds.0 in let some : 1 ≤ d - 48 = grind (arith, nat_tests) in omega (arith, e, number_of_first d [] bounds.0 bounds.1))
+    last false t bounds e = absurd (let low = bounds.0 in let some : 1 ≤ d - 48 =
+        grind (arith, nat_tests) in omega (arith, e, number_of_first d [] bounds.0 bounds.1))
 
-    go : (ys : List ℕ) → (number_of ys ≡ 0 → ys ≡ []) → (48 ≤ d) × (d ≤ 57) → number_of (before_others d ys) ≡ 0 → before_others d ys ≡ []
+    go : (ys : List ℕ) → (number_of ys ≡ 0 → ys ≡ [])
+        → (48 ≤ d) × (d ≤ 57) → number_of (before_others d ys) ≡ 0 → before_others d ys ≡ []
     go [] rest bounds e = last (d == 48) refl bounds e
-    go (y ∷ ys) rest bounds e = absurd (let gone : y ∷ ys ≡ [] = rest (omega (arith, e, number_of_first d (y ∷ ys) bounds.0 bounds.1)) in cc)
+    go (y ∷ ys) rest bounds e = absurd (let gone : y ∷ ys ≡ [] =
+        rest (omega (arith, e, number_of_first d (y ∷ ys) bounds.0 bounds.1)) in cc)
 
 -- the parts of the units
-units-parts : (w f : List ℕ) → are_digits f ≡ true → length f ≤ 8 → (units_of w f / 10 ^ 8 ≡ number_of w) × (units_of w f % 10 ^ 8 ≡ number_of f * 10 ^ (8 - length f))
+units-parts : (w f : List ℕ)
+    → are_digits f ≡ true → length f ≤ 8 → (units_of w f / 10 ^ 8 ≡ number_of w)
+    × (units_of w f % 10 ^ 8 ≡ number_of f * 10 ^ (8 - length f))
 units-parts w f h places =
-    let small : number_of f * 10 ^ (8 - length f) < 10 ^ 8 = below (number_of f) (10 ^ length f) (10 ^ (8 - length f)) (number_of-lt f (length f) h (omega arith)) (power_some (8 - length f)) (sym (pow-add 10 (length f) (8 - length f)) ∙ ap (λ k. 10 ^ k) (let e : length f + (8 - length f) ≡ 8 = omega arith in e)) in
+    let small : number_of f * 10 ^ (8 - length f) < 10 ^ 8 = below (number_of f)
+    (10 ^ length f) (10 ^ (8 - length f)) (number_of-lt f (length f) h (omega arith))
+    (power_some (8 - length f)) (sym (pow-add 10 (length f) (8 - length f))
+    ∙ ap (λ k. 10 ^ k) (let e : length f + (8 - length f) ≡ 8 = omega arith in e)) in
     (div-mul-add (number_of w) (10 ^ 8) _ small, mod-mul-add (number_of w) (10 ^ 8) _ small)
   where
     below : (n a b : ℕ) → n < a → 0 < b → a * b ≡ 10 ^ 8 → n * b < 10 ^ 8
     below n a b h some e = rw (← e) (mul-lt-mul_of_pos_right h some)
 
 -- eight digits of a fraction, without the zeros behind it
-fraction_text_back : (f : List ℕ) → are_digits f ≡ true → length f ≤ 8 → without_trailing_zeros (zero_padded 8 (number_of f * 10 ^ (8 - length f))) ≡ without_trailing_zeros f
+fraction_text_back : (f : List ℕ) → are_digits f ≡ true → length f ≤ 8 → without_trailing_zeros
+    (zero_padded 8 (number_of f * 10 ^ (8 - length f))) ≡ without_trailing_zeros f
 fraction_text_back f h places =
     let k = 8 - length f in
     let whole = f ++ replicate k 48 in
     let long : length whole ≡ 8 = simp (length-append, length-replicate) (omega arith) in
     let number : number_of whole ≡ number_of f * 10 ^ k =
-    number_of-append f (replicate k 48) ∙ (rw (number_of-zeros k, length-replicate) (omega arith)) in
+    number_of-append f (replicate k 48) ∙ (rw (number_of-zeros k, length-replicate) (omega arith))
+    in
     let digits = are_digits-append f (replicate k 48) h (are_digits-zeros k) in
     let padded : zero_padded 8 (number_of f * 10 ^ k) ≡ whole =
     (λ i. zero_padded (sym long i) (sym number i)) ∙ zero_padded-number_of whole digits in
     ap without_trailing_zeros padded ∙ trailing-zeros f k
 
 -- what the sign of zero is
-negative_of : (s : Bool) (n : ℕ) → 0 < n → (is_negative (signed s n) ≡ s) × (unsigned_abs (signed s n) ≡ n)
+negative_of : (s : Bool) (n : ℕ)
+    → 0 < n → (is_negative (signed s n) ≡ s) × (unsigned_abs (signed s n) ≡ n)
 negative_of true zero h = absurd (omega arith)
 negative_of true (suc n) h = (refl, refl)
 negative_of false zero h = absurd (omega arith)
@@ -208,7 +274,9 @@ nothing_is_zero [] (d ∷ ds) e = absurd (omega arith)
 nothing_is_zero (d ∷ ds) f e = absurd (omega arith)
 
 -- units are zero only where no digit counts
-units_some : (w f : List ℕ) → are_digits w ≡ true → are_digits f ≡ true → (length (without_leading_zeros w) + length (without_trailing_zeros f) ≡ 0 → ⊥) → 0 < units_of (without_leading_zeros w) (without_trailing_zeros f)
+units_some : (w f : List ℕ) → are_digits w ≡ true → are_digits f ≡ true
+    → (length (without_leading_zeros w) + length (without_trailing_zeros f) ≡ 0 → ⊥)
+    → 0 < units_of (without_leading_zeros w) (without_trailing_zeros f)
 units_some w f h k some = go (units_of (without_leading_zeros w) (without_trailing_zeros f)) refl
   where
     zero_factor : (n p : ℕ) → 0 < p → n * p ≡ 0 → n ≡ 0
@@ -218,8 +286,10 @@ units_some w f h k some = go (units_of (without_leading_zeros w) (without_traili
     go : (n : ℕ) → units_of (without_leading_zeros w) (without_trailing_zeros f) ≡ n → 0 < n
     go zero e =
         let whole : number_of (without_leading_zeros w) ≡ 0 = omega (arith, e) in
-        let product : number_of (without_trailing_zeros f) * 10 ^ (8 - length (without_trailing_zeros f)) ≡ 0 = omega (arith, e) in
-        let fraction = zero_factor _ _ (power_some (8 - length (without_trailing_zeros f))) product in
+        let product : number_of (without_trailing_zeros f)
+        * 10 ^ (8 - length (without_trailing_zeros f)) ≡ 0 = omega (arith, e) in
+        let fraction =
+        zero_factor _ _ (power_some (8 - length (without_trailing_zeros f))) product in
         let no_w = ap length (no_leading_digit w h whole) in
         let no_f = ap length (no_trailing_digit f k fraction) in
         absurd (some (omega (arith, no_w, no_f)))
@@ -232,11 +302,13 @@ record Signs (s : Bool) (w f : List ℕ) : Type 0 where
 signs : (s : Bool) (w f : List ℕ) → ((length w + length f ≡ 0 → ⊥) → 0 < units_of w f) → Signs s w f
 signs s w f some = go (length w + length f == 0) refl
   where
-    zero_case : (s : Bool) (n : ℕ) → n ≡ 0 → (is_negative (signed s n) ≡ (s && false)) × (signed (s && false) n ≡ signed s n)
+    zero_case : (s : Bool) (n : ℕ)
+        → n ≡ 0 → (is_negative (signed s n) ≡ (s && false)) × (signed (s && false) n ≡ signed s n)
     zero_case true n e = rw e (refl, refl)
     zero_case false n e = rw e (refl, refl)
 
-    some_case : (s : Bool) (n : ℕ) → 0 < n → (is_negative (signed s n) ≡ (s && true)) × (signed (s && true) n ≡ signed s n)
+    some_case : (s : Bool) (n : ℕ)
+        → 0 < n → (is_negative (signed s n) ≡ (s && true)) × (signed (s && true) n ≡ signed s n)
     some_case true n h = ((negative_of true n h).0, refl)
     some_case false n h = ((negative_of false n h).0, refl)
 
@@ -256,21 +328,29 @@ record IsRead (v : List ℕ) (d : Dec) : Type 0 where
   few : length (whole_digits v) + length (fraction_digits v) ≤ 15
   places : length (fraction_digits v) ≤ 8
   signs : Signs (has_minus v) (whole_digits v) (fraction_digits v)
-  value : ◌≡◌ {A = Dec} (record { units = signed (has_minus v) (units_of (whole_digits v) (fraction_digits v)) }) d
+  value : ◌≡◌ {A = Dec}
+      (record { units = signed (has_minus v) (units_of (whole_digits v) (fraction_digits v)) }) d
 
 is_read : (v : List ℕ) (d : Dec) → read_dec v ≡ Ok d → IsRead v d
 is_read v d e =
-    let j = judged_ok v (is_dec_form v) (is_dec_bounded v) (record { units = signed (has_minus v) (units_of (whole_digits v) (fraction_digits v)) }) d e in
-    let form = both_true (nat_le (length v) 32) (are_digits (whole_part v) && (are_digits (fraction_part v) && not (length (whole_part v) + length (fraction_part v) == 0))) j.form in
-    let digits = both_true (are_digits (whole_part v)) (are_digits (fraction_part v) && not (length (whole_part v) + length (fraction_part v) == 0)) form.1 in
-    let fraction = both_true (are_digits (fraction_part v)) (not (length (whole_part v) + length (fraction_part v) == 0)) digits.1 in
-    let bound = both_true (nat_le (length (whole_digits v) + length (fraction_digits v)) 15) (nat_le (length (fraction_digits v)) 8) j.bound in
+    let j = judged_ok v (is_dec_form v) (is_dec_bounded v) (record {
+      units = signed (has_minus v) (units_of (whole_digits v) (fraction_digits v));
+    }) d e in
+    let form = both_true (nat_le (length v) 32) (are_digits (whole_part v) && (are_digits
+    (fraction_part v) && not (length (whole_part v) + length (fraction_part v) == 0))) j.form in
+    let digits = both_true (are_digits (whole_part v)) (are_digits (fraction_part v)
+    && not (length (whole_part v) + length (fraction_part v) == 0)) form.1 in
+    let fraction = both_true (are_digits (fraction_part v))
+    (not (length (whole_part v) + length (fraction_part v) == 0)) digits.1 in
+    let bound = both_true (nat_le (length (whole_digits v) + length (fraction_digits v)) 15)
+    (nat_le (length (fraction_digits v)) 8) j.bound in
     record {
       whole = digits.0;
       fraction = fraction.0;
       few = (let b = bound.0 in grind (arith, nat_tests));
       places = (let b = bound.1 in grind (arith, nat_tests));
-      signs = signs (has_minus v) (whole_digits v) (fraction_digits v) (units_some (whole_part v) (fraction_part v) digits.0 fraction.0);
+      signs = signs (has_minus v) (whole_digits v)
+          (fraction_digits v) (units_some (whole_part v) (fraction_part v) digits.0 fraction.0);
       value = j.value;
     }
 
@@ -284,14 +364,19 @@ dec_is_plain v d e =
     let parts = units-parts w f digits r.places in
     let magnitude = magnitude_of (has_minus v) n in
     let small : number_of (whole_part v) < 10 ^ 15 =
-    rw (number_of-leading (whole_part v)) at (number_of-lt w 15 (are_digits-leading (whole_part v) r.whole) (omega (arith, r.few))) in
+    rw (number_of-leading (whole_part v))
+    at (number_of-lt w 15 (are_digits-leading (whole_part v) r.whole) (omega (arith, r.few))) in
     let whole : decimal (unsigned_abs (signed (has_minus v) n) / 10 ^ 8) ≡ or_zero w =
     ap (λ k. decimal (k / 10 ^ 8)) magnitude
-    ∙ (ap decimal (parts.0 ∙ number_of-leading (whole_part v)) ∙ decimal-number_of (whole_part v) r.whole (omega (arith, small))) in
-    let fraction : without_trailing_zeros (zero_padded 8 (unsigned_abs (signed (has_minus v) n) % 10 ^ 8)) ≡ f =
+    ∙ (ap decimal (parts.0 ∙ number_of-leading (whole_part v))
+    ∙ decimal-number_of (whole_part v) r.whole (omega (arith, small))) in
+    let fraction : without_trailing_zeros
+    (zero_padded 8 (unsigned_abs (signed (has_minus v) n) % 10 ^ 8)) ≡ f =
     ap (λ k. without_trailing_zeros (zero_padded 8 (k % 10 ^ 8))) magnitude
-    ∙ (ap (λ k. without_trailing_zeros (zero_padded 8 k)) parts.1 ∙ (fraction_text_back f digits r.places ∙ trailing_twice (fraction_part v))) in
-    ap dec_text (sym r.value) ∙ (λ i. sign_text (r.signs.sign i) ++ whole i ++ with_point (fraction i))
+    ∙ (ap (λ k. without_trailing_zeros (zero_padded 8 k)) parts.1
+    ∙ (fraction_text_back f digits r.places ∙ trailing_twice (fraction_part v))) in
+    ap dec_text (sym r.value)
+    ∙ (λ i. sign_text (r.signs.sign i) ++ whole i ++ with_point (fraction i))
 
 -- the plain spelling is read as the same
 or_zero_short : (w : List ℕ) → length w ≤ 15 → length (or_zero w) ≤ 15
@@ -303,14 +388,20 @@ plain_read v d e =
     let r = is_read v d e in
     let w = whole_digits v in
     let f = fraction_digits v in
-    let whole : without_leading_zeros (or_zero w) ≡ w = leading-or_zero w (leading_twice (whole_part v)) in
+    let whole : without_leading_zeros (or_zero w) ≡ w =
+    leading-or_zero w (leading_twice (whole_part v)) in
     let fraction : without_trailing_zeros f ≡ f = trailing_twice (fraction_part v) in
-    let few : length (without_leading_zeros (or_zero w)) + length (without_trailing_zeros f) ≤ 15 = rw (whole, fraction) r.few in
+    let few : length (without_leading_zeros (or_zero w)) + length (without_trailing_zeros f) ≤ 15 =
+    rw (whole, fraction) r.few in
     let places : length (without_trailing_zeros f) ≤ 8 = rw fraction r.places in
     read_spelled (has_minus v && not (length w + length f == 0)) (or_zero w) f
-    (are_digits-or_zero w (are_digits-leading (whole_part v) r.whole)) (are_digits-trailing (fraction_part v) r.fraction) (or_zero_some w)
+    (are_digits-or_zero w (are_digits-leading (whole_part v) r.whole))
+    (are_digits-trailing (fraction_part v) r.fraction) (or_zero_some w)
     (or_zero_short w (omega (arith, r.few))) r.places few places
-    ∙ ((λ i. Ok (record { units = signed (has_minus v && not (length w + length f == 0)) (units_of (whole i) (fraction i)) }))
+    ∙ ((λ i. Ok (record {
+      units =
+          signed (has_minus v && not (length w + length f == 0)) (units_of (whole i) (fraction i));
+    }))
     ∙ (ap (λ z. Ok (record { units = z })) r.signs.same ∙ ap Ok r.value))
 
 pub dec_is_stable : IsStable read_dec dec_text
@@ -326,28 +417,36 @@ unfolding without_trailing_zeros
 kept [] = record { k = 0; same = refl }
 kept (d ∷ ds) = go (without_trailing_zeros ds) (kept ds).k (kept ds).same
   where
-    last : (b : Bool) → (d == 48) ≡ b → (k : ℕ) → ds ≡ replicate k 48 → (j : ℕ) × (d ∷ ds ≡ (if b then [] else (d ∷ [])) ++ replicate j 48)
+    last : (b : Bool) → (d == 48) ≡ b → (k : ℕ)
+        → ds ≡ replicate k 48 → (j : ℕ) × (d ∷ ds ≡ (if b then [] else (d ∷ [])) ++ replicate j 48)
     last true t k e = let is_zero : d ≡ 48 = grind (arith, nat_tests) in (suc k, rw (is_zero, e))
     last false t k e = (k, rw e)
 
-    cases : (ys : List ℕ) (k : ℕ) → ds ≡ ys ++ replicate k 48 → (j : ℕ) × (d ∷ ds ≡ before_others d ys ++ replicate j 48)
+    cases : (ys : List ℕ) (k : ℕ)
+        → ds ≡ ys ++ replicate k 48 → (j : ℕ) × (d ∷ ds ≡ before_others d ys ++ replicate j 48)
     cases [] k e = last (d == 48) refl k e
     cases (y ∷ ys) k e = (k, ap (λ xs. d ∷ xs) e)
 
     go : (ys : List ℕ) (k : ℕ) → ds ≡ without_trailing_zeros ds ++ replicate k 48 → Kept (d ∷ ds)
-    go ys k e = let found = cases (without_trailing_zeros ds) k e in record { k = found.0; same = found.1 }
+    go ys k e =
+        let found = cases (without_trailing_zeros ds) k e in record { k = found.0; same = found.1 }
 
 -- zeros behind a fraction do not count
-trailing_units : (w f : List ℕ) → length f ≤ 8 → units_of w (without_trailing_zeros f) ≡ units_of w f
+trailing_units : (w f : List ℕ)
+    → length f ≤ 8 → units_of w (without_trailing_zeros f) ≡ units_of w f
 trailing_units w f places =
     let part = kept f in
     let t = without_trailing_zeros f in
-    let long : length f ≡ length t + part.k = ap length part.same ∙ simp (length-append, length-replicate) in
+    let long : length f ≡ length t + part.k =
+    ap length part.same ∙ simp (length-append, length-replicate) in
     let number : number_of f ≡ number_of t * 10 ^ part.k =
-    ap number_of part.same ∙ (number_of-append t (replicate part.k 48) ∙ rw (number_of-zeros part.k, length-replicate) (omega arith)) in
+    ap number_of part.same ∙ (number_of-append t (replicate part.k 48)
+    ∙ rw (number_of-zeros part.k, length-replicate) (omega arith)) in
     let power : 10 ^ part.k * 10 ^ (8 - length f) ≡ 10 ^ (8 - length t) =
-    sym (pow-add 10 part.k (8 - length f)) ∙ ap (λ k. 10 ^ k) (let e : part.k + (8 - length f) ≡ 8 - length t = omega (arith, long, places) in e) in
-    joined (number_of t) (number_of f) (10 ^ part.k) (10 ^ (8 - length f)) (10 ^ (8 - length t)) (number_of w * 10 ^ 8) number power
+    sym (pow-add 10 part.k (8 - length f)) ∙ ap (λ k. 10 ^ k)
+    (let e : part.k + (8 - length f) ≡ 8 - length t = omega (arith, long, places) in e) in
+    joined (number_of t) (number_of f) (10 ^ part.k)
+    (10 ^ (8 - length f)) (10 ^ (8 - length t)) (number_of w * 10 ^ 8) number power
   where
     joined : (t f p q r x : ℕ) → f ≡ t * p → p * q ≡ r → x + t * r ≡ x + f * q
     joined t f p q r x e g = rw (e, ← g) (omega arith)
@@ -358,7 +457,8 @@ leading_units w f = ap (λ n. n * 10 ^ 8 + number_of f * 10 ^ (8 - length f)) (n
 
 signed_back : (z : ℤ) → signed (is_negative z) (unsigned_abs z) ≡ z
 signed_back (pos zero) = refl
-signed_back (pos (suc n)) = let e : is_negative (pos (suc n)) ≡ false = grind (arith, nat_tests) in rw e
+signed_back (pos (suc n)) =
+    let e : is_negative (pos (suc n)) ≡ false = grind (arith, nat_tests) in rw e
 signed_back (negsuc n) = refl
 
 leading_shorter : (ds : List ℕ) → length (without_leading_zeros ds) ≤ length ds
@@ -366,14 +466,16 @@ unfolding without_leading_zeros
 leading_shorter [] = omega arith
 leading_shorter (d ∷ ds) = go (d == 48) (leading_shorter ds)
   where
-    go : (b : Bool) → length (without_leading_zeros ds) ≤ length ds → length (if b then without_leading_zeros ds else (d ∷ ds)) ≤ length (d ∷ ds)
+    go : (b : Bool) → length (without_leading_zeros ds) ≤ length ds
+        → length (if b then without_leading_zeros ds else (d ∷ ds)) ≤ length (d ∷ ds)
     go true h = omega arith
     go false h = omega arith
 
 trailing_shorter : (ds : List ℕ) → length (without_trailing_zeros ds) ≤ length ds
 trailing_shorter ds =
     let part = kept ds in
-    let long : length ds ≡ length (without_trailing_zeros ds) + part.k = ap length part.same ∙ simp (length-append, length-replicate) in
+    let long : length ds ≡ length (without_trailing_zeros ds) + part.k =
+    ap length part.same ∙ simp (length-append, length-replicate) in
     omega (arith, long)
 
 -- a number that can be read has a spelling: its fifteen digits with the point between them
@@ -389,15 +491,21 @@ some_spelling d h =
     let whole = are_digits-take (7 + h.zeros) all digits in
     let fraction = are_digits-drop (7 + h.zeros) all digits in
     let back : 8 - length f ≡ h.zeros = omega (arith, long_f, h.at_most_eight) in
-    let units : units_of (without_leading_zeros w) (without_trailing_zeros f) ≡ unsigned_abs d.units =
+    let units : units_of (without_leading_zeros w) (without_trailing_zeros f)
+    ≡ unsigned_abs d.units =
     leading_units w (without_trailing_zeros f)
     ∙ (trailing_units w f (omega (arith, long_f)) ∙ (units_of-is w f (omega (arith, long_f))
     ∙ ((λ i. number_of (take-append-drop (7 + h.zeros) all i) * 10 ^ (back i))
-    ∙ (ap (λ n. n * 10 ^ h.zeros) (number_of-zero_padded 15 h.digits h.at_most_fifteen) ∙ sym h.units)))) in (
+    ∙ (ap (λ n. n * 10 ^ h.zeros) (number_of-zero_padded 15 h.digits h.at_most_fifteen)
+    ∙ sym h.units))))
+    in (
       spelled (is_negative d.units) w f,
-      read_spelled (is_negative d.units) w f whole fraction (omega (arith, long_w)) (omega (arith, long_w, h.at_most_eight)) (omega (arith, long_f))
-          (omega (arith, long_w, long_f, h.at_most_eight, leading_shorter w, trailing_shorter f)) (omega (arith, long_f, trailing_shorter f))
-          ∙ ap (λ z. Ok (record { units = z })) (ap (signed (is_negative d.units)) units ∙ signed_back d.units),
+      read_spelled (is_negative d.units) w f whole fraction
+          (omega (arith, long_w)) (omega (arith, long_w, h.at_most_eight)) (omega (arith, long_f))
+          (omega (arith, long_w, long_f, h.at_most_eight, leading_shorter w, trailing_shorter f))
+          (omega (arith, long_f, trailing_shorter f))
+          ∙ ap (λ z. Ok (record { units = z }))
+          (ap (signed (is_negative d.units)) units ∙ signed_back d.units),
     )
 
 pub dec_reads_back : ReadsBack read_dec IsDec dec_text

@@ -1,9 +1,12 @@
 -- Inside: the kind that a kind of the code is, and what its judgement says.
-use Rattle.std.specs.Prelude.{ℕ, ◌+◌, ◌/◌, ◌%◌, List, [], ◌∷◌, Bool, true, false, map, Result, Ok, Err, is_some}
+use Rattle.std.specs.Prelude.{ℕ, ◌+◌, ◌/◌, ◌%◌, List, [], ◌∷◌, Bool, true, false, map, Result, Ok}
+use Rattle.std.specs.Prelude.{Err, is_some}
 use Rattle.typed_fields.specs.declared.fault.FieldFault.{FieldFault}
 use Rattle.typed_fields.specs.declared.value_kind.ValueKind.{ValueKind as CodeKind}
 use Rattle.typed_fields.specs.declared.value_kind.ValueKind.TheVariants as kinds
-use Rattle.typed_fields.specs.ValueKind.{ValueKind, Filled, Id, Text, OneByte, Code, Known, Codes, Word, Currency, Flag, Number, Reason, Qty, Price, Stamp, Day, MonthYear, DayOfMonth, Spelling, spelling}
+use Rattle.typed_fields.specs.ValueKind.{ValueKind, Filled, Id, Text, OneByte, Code, Known, Codes}
+use Rattle.typed_fields.specs.ValueKind.{Word, Currency, Flag, Number, Reason, Qty, Price, Stamp}
+use Rattle.typed_fields.specs.ValueKind.{Day, MonthYear, DayOfMonth, Spelling}
 
 abbrev pub kind_of : CodeKind → ValueKind
 kind_of kinds.Filled = Filled

@@ -1,6 +1,8 @@
--- Standard: LocalMktDate and UTCDate (FIX 4.2, Data Types), in FIX 5.0 SP2 UTCDateOnly: YYYYMMDD, on the calendar of jiff, which is
--- the proleptic Gregorian one. A day is known by its number: 0 is 1 January 1970.
-use Rattle.std.specs.Prelude.{ℕ, zero, suc, ◌+◌, ◌-◌, Bool, true, false, ◌&&◌, List, ◌++◌, Result, slice_range, codes, nat_lt, ℤ, pos, negsuc, ◌+ℤ◌, unsigned_abs}
+-- Standard: LocalMktDate and UTCDate (FIX 4.2, Data Types), in FIX 5.0 SP2 UTCDateOnly: YYYYMMDD,
+-- on the calendar of jiff, which is the proleptic Gregorian one. A day is known by its number: 0 is
+-- 1 January 1970.
+use Rattle.std.specs.Prelude.{ℕ, zero, suc, ◌+◌, ◌-◌, Bool, true, false, ◌&&◌, List, ◌++◌, Result}
+use Rattle.std.specs.Prelude.{slice_range, codes, nat_lt, ℤ, pos, negsuc, ◌+ℤ◌, unsigned_abs}
 use Rattle.std.specs.Int.{is_in_range}
 use Rattle.jiff_core.specs.Calendar.{days_from_civil, days_in_month, days_in_year, IsBetween}
 use Rattle.typed_fields.specs.declared.fault.FieldFault.{FieldFault}
@@ -20,7 +22,8 @@ day_in bytes = number_of (slice_range bytes 6 8)
 
 -- whether the calendar has a date of a year from 0000 to 9999
 abbrev pub is_date : ℕ → ℕ → ℕ → Bool
-is_date year month day = is_in_range 1 12 month && is_in_range 1 (days_in_month (pos year) month) day
+is_date year month day =
+    is_in_range 1 12 month && is_in_range 1 (days_in_month (pos year) month) day
 
 -- whether YYYYMMDD.. spells a date that the calendar has, and the number of its day
 abbrev pub spells_date : List ℕ → Bool
@@ -31,7 +34,8 @@ day_number bytes = days_from_civil (pos (year_in bytes)) (month_in bytes) (day_i
 
 -- the reading of a day
 abbrev pub read_day : List ℕ → Result Day FieldFault
-read_day bytes = judged bytes (has_pattern (codes "YYYYMMDD") bytes) (spells_date bytes) (record { day = day_number bytes })
+read_day bytes = judged bytes
+    (has_pattern (codes "YYYYMMDD") bytes) (spells_date bytes) (record { day = day_number bytes })
 
 -- the number of a day from 1 January 0000 to 31 December 9999
 abbrev pub IsDayNumber : ℤ → Type 0
@@ -45,8 +49,8 @@ IsDay d = IsDayNumber d.day
 abbrev pub Date : Type 0
 Date = ℕ × ℕ × ℕ
 
--- which of some years or months, counted from `first` on, holds a day so many days after the first began, and the place of the
--- day in it: whole ones are counted off, at most `room` of them
+-- which of some years or months, counted from `first` on, holds a day so many days after the first
+-- began, and the place of the day in it: whole ones are counted off, at most `room` of them
 unfoldable pub counted_off : (ℕ → ℕ) → ℕ → ℕ → ℕ → ℕ × ℕ
 counted_off days_in zero first days = (first, days)
 counted_off days_in (suc room) first days =
@@ -62,10 +66,11 @@ date_in_month year month = (year, month.0, month.1 + 1)
 abbrev pub date_in_year : ℕ × ℕ → Date
 date_in_year year = date_in_month year.0 (counted_off (days_in_month (pos year.0)) 11 1 year.1)
 
--- the date of a day from 1 January 0000, which is 719,528 days before 1 January 1970, to 31 December 9999: whole years are
--- counted off, and then whole months
+-- the date of a day from 1 January 0000, which is 719,528 days before 1 January 1970, to 31
+-- December 9999: whole years are counted off, and then whole months
 unfoldable pub date_of : ℤ → Date
-date_of day = date_in_year (counted_off (λ year. days_in_year (pos year)) 9999 0 (unsigned_abs (day +ℤ pos 719_528)))
+date_of day = date_in_year
+    (counted_off (λ year. days_in_year (pos year)) 9999 0 (unsigned_abs (day +ℤ pos 719_528)))
 
 -- a date as YYYYMMDD
 abbrev pub date_text : Date → List ℕ

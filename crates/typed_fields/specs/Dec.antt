@@ -1,14 +1,18 @@
--- Standard: float (FIX 4.2, Data Types), and with it Price and Qty: digits with an optional point and an optional minus sign. Zeros may
--- lead (00023.23 is 23.23), and zeros behind the point may stand or be left out (23.0 is 23.0000 is 23 is 23.). Up to fifteen
--- significant digits are held. A value is exact: a whole number of units of 10^-8.
-use Rattle.std.specs.Prelude.{◌≡◌, ℕ, ◌+◌, ◌-◌, ◌*◌, ◌/◌, ◌%◌, ◌^◌, ◌<◌, ◌≤◌, Bool, not, ◌&&◌, List, [], ◌∷◌, ◌++◌, length, drop, slice_index, Result, nat_le, ◌==◌, ℤ, pos, neg_ℤ, unsigned_abs, if◌then◌else◌}
+-- Standard: float (FIX 4.2, Data Types), and with it Price and Qty: digits with an optional point
+-- and an optional minus sign. Zeros may lead (00023.23 is 23.23), and zeros behind the point may
+-- stand or be left out (23.0 is 23.0000 is 23 is 23.). Up to fifteen significant digits are held. A
+-- value is exact: a whole number of units of 10^-8.
+use Rattle.std.specs.Prelude.{◌≡◌, ℕ, ◌+◌, ◌-◌, ◌*◌, ◌/◌, ◌%◌, ◌^◌, ◌<◌, ◌≤◌, Bool, not, ◌&&◌, List}
+use Rattle.std.specs.Prelude.{[], ◌∷◌, ◌++◌, length, drop, slice_index, Result, nat_le, ◌==◌, ℤ}
+use Rattle.std.specs.Prelude.{pos, neg_ℤ, unsigned_abs, if◌then◌else◌}
 use Rattle.std.specs.Int.{is_negative}
 use Rattle.std.specs.Fmt.{decimal}
 use Rattle.std.specs.List.{before_first, after_first}
 use Rattle.typed_fields.specs.declared.fault.FieldFault.{FieldFault}
 use Rattle.typed_fields.specs.declared.dec.Dec.{Dec}
 use Rattle.typed_fields.specs.Reading.{judged}
-use Rattle.typed_fields.specs.Digits.{are_digits, number_of, zero_padded, without_leading_zeros, without_trailing_zeros, or_zero}
+use Rattle.typed_fields.specs.Digits.{are_digits, number_of, zero_padded, without_leading_zeros}
+use Rattle.typed_fields.specs.Digits.{without_trailing_zeros, or_zero}
 
 -- whether the bytes begin with a minus sign, and what stands behind it
 abbrev pub has_minus : List ℕ → Bool
@@ -58,9 +62,12 @@ signed minus magnitude = if minus then neg_ℤ (pos magnitude) else pos magnitud
 abbrev pub read_dec : List ℕ → Result Dec FieldFault
 read_dec bytes =
     judged bytes (is_dec_form bytes) (is_dec_bounded bytes)
-    (record { units = signed (has_minus bytes) (units_of (whole_digits bytes) (fraction_digits bytes)) })
+    (record {
+      units = signed (has_minus bytes) (units_of (whole_digits bytes) (fraction_digits bytes));
+    })
 
--- a decimal number that can be read: a number of at most fifteen digits over a power of ten up to 10^8
+-- a decimal number that can be read: a number of at most fifteen digits over a power of ten up to
+-- 10^8
 pub record IsDec (d : Dec) : Type 0 where
   pub digits : ℕ
   pub zeros : ℕ
@@ -77,8 +84,8 @@ abbrev pub with_point : List ℕ → List ℕ
 with_point [] = []
 with_point (d ∷ ds) = 46 ∷ d ∷ ds
 
--- the one canonical spelling of a decimal number: no needless zeros, no minus sign of zero, a digit before the point, and
--- no point without a digit behind it
+-- the one canonical spelling of a decimal number: no needless zeros, no minus sign of zero, a digit
+-- before the point, and no point without a digit behind it
 abbrev pub dec_text : Dec → List ℕ
 dec_text d =
     let magnitude = unsigned_abs d.units in
@@ -88,5 +95,6 @@ dec_text d =
 -- a spelling without its needless bytes
 abbrev pub plain_dec : List ℕ → List ℕ
 plain_dec bytes =
-    sign_text (has_minus bytes && not (length (whole_digits bytes) + length (fraction_digits bytes) == 0))
+    sign_text
+    (has_minus bytes && not (length (whole_digits bytes) + length (fraction_digits bytes) == 0))
     ++ or_zero (whole_digits bytes) ++ with_point (fraction_digits bytes)

@@ -1,6 +1,7 @@
--- Inside: words of std for texts of digits, which the definitions of the types share: the numbers that they spell, those
--- that spell a number, and the patterns of dates and times.
-use Rattle.std.specs.Prelude.{ℕ, zero, suc, ◌+◌, ◌/◌, ◌%◌, ◌^◌, Bool, List, [], ◌∷◌, length, ◌==◌, ◌&&◌, if◌then◌else◌}
+-- Inside: words of std for texts of digits, which the definitions of the types share: the numbers
+-- that they spell, those that spell a number, and the patterns of dates and times.
+use Rattle.std.specs.Prelude.{ℕ, zero, suc, ◌+◌, ◌/◌, ◌%◌, ◌^◌, Bool, List, [], ◌∷◌, length, ◌==◌}
+use Rattle.std.specs.Prelude.{◌&&◌, if◌then◌else◌}
 use Rattle.std.specs.Char.{is_ascii_digit, is_ascii_alphabetic}
 use Rattle.std.specs.List.{list_all, zip}
 use Rattle.std.specs.Str.Parse.{digits_value}
@@ -26,7 +27,8 @@ has_mark mark byte = if is_ascii_alphabetic mark then is_ascii_digit byte else b
 abbrev pub have_marks : List ℕ → List ℕ → Bool
 have_marks marks bytes = list_all (λ pair. has_mark pair.0 pair.1) (zip marks bytes)
 
--- whether bytes have a pattern such as YYYYMMDD-HH:MM:SS: as many bytes as marks, and each byte has its mark
+-- whether bytes have a pattern such as YYYYMMDD-HH:MM:SS: as many bytes as marks, and each byte has
+-- its mark
 unfoldable pub has_pattern : List ℕ → List ℕ → Bool
 has_pattern marks bytes = (length marks == length bytes) && have_marks marks bytes
 

@@ -1,5 +1,6 @@
 -- Standard: Boolean (FIX 4.2, Data Types): Y for yes or true, N for no or false.
-use Rattle.std.specs.Prelude.{ℕ, Bool, true, List, [], ◌∷◌, Result, ◌==◌, ◌||◌, ◌&&◌, length, slice_index, if◌then◌else◌, ⊤}
+use Rattle.std.specs.Prelude.{ℕ, Bool, true, List, [], ◌∷◌, Result, ◌==◌, ◌||◌, ◌&&◌, length}
+use Rattle.std.specs.Prelude.{slice_index, if◌then◌else◌, ⊤}
 use Rattle.typed_fields.specs.declared.fault.FieldFault.{FieldFault}
 use Rattle.typed_fields.specs.declared.flag.Flag.{Flag}
 use Rattle.typed_fields.specs.Reading.{judged}
@@ -10,7 +11,8 @@ is_flag_form bytes = (length bytes == 1) && (slice_index bytes 0 == 89 || slice_
 
 -- the reading of a flag, which has no bound
 abbrev pub read_flag : List ℕ → Result Flag FieldFault
-read_flag bytes = judged bytes (is_flag_form bytes) true (record { yes = slice_index bytes 0 == 89 })
+read_flag bytes =
+    judged bytes (is_flag_form bytes) true (record { yes = slice_index bytes 0 == 89 })
 
 -- each flag can be read
 abbrev pub IsFlag : Flag → Type 0

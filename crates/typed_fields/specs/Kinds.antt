@@ -1,5 +1,7 @@
--- The kinds of values that the tables of messages speak of, and the canonical spelling of their values.
-use Rattle.std.specs.Prelude.{ℕ, ℤ, Bool, List, [], ◌∷◌, length, nat_le, ◌==◌, ◌&&◌, not, if◌then◌else◌, Some, None, option_and_then}
+-- The kinds of values that the tables of messages speak of, and the canonical spelling of their
+-- values.
+use Rattle.std.specs.Prelude.{ℕ, ℤ, List, [], ◌∷◌, length, nat_le, ◌==◌, ◌&&◌}
+use Rattle.std.specs.Prelude.{if◌then◌else◌, Some, None, option_and_then}
 use Rattle.std.specs.declared.option.Option.{Option}
 use Rattle.std.specs.Int.{is_negative}
 use Rattle.std.specs.Option.{option_map}
@@ -30,18 +32,21 @@ pub data Kind : Type 0 where
 
 -- bytes of which there are so many or more, and at most so many
 abbrev pub sized : ℕ → ℕ → List ℕ → Option (List ℕ)
-sized least most bytes = if nat_le least (length bytes) && nat_le (length bytes) most then Some bytes else None
+sized least most bytes =
+    if nat_le least (length bytes) && nat_le (length bytes) most then Some bytes else None
 
 -- a value of one byte, which is among these
 abbrev pub code_among : List ℕ → List ℕ → Option (List ℕ)
-code_among listed (byte ∷ []) = if list_any (λ code. code == byte) listed then Some (byte ∷ []) else None
+code_among listed (byte ∷ []) =
+    if list_any (λ code. code == byte) listed then Some (byte ∷ []) else None
 code_among listed bytes = None
 
 -- a decimal number that is not negative
 abbrev pub not_negative : Dec → Option Dec
 not_negative d = if is_negative d.units then None else Some d
 
--- the canonical spelling of a value of a kind, however it is spelled; nothing where the bytes are no such value
+-- the canonical spelling of a value of a kind, however it is spelled; nothing where the bytes are
+-- no such value
 unfoldable pub spelled : Kind → List ℕ → Option (List ℕ)
 spelled Filled bytes = if nat_le 1 (length bytes) then Some bytes else None
 spelled Id bytes = sized 1 128 bytes

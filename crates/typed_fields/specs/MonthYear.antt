@@ -1,4 +1,5 @@
--- Standard: month-year (FIX 4.2, Data Types): YYYYMM, with YYYY from 0000 to 9999 and MM from 01 to 12.
+-- Standard: month-year (FIX 4.2, Data Types): YYYYMM, with YYYY from 0000 to 9999 and MM from 01 to
+-- 12.
 use Rattle.std.specs.Prelude.{ℕ, ◌<◌, List, ◌++◌, Result, slice_range, codes}
 use Rattle.std.specs.Int.{is_in_range, IsInRange}
 use Rattle.typed_fields.specs.declared.fault.FieldFault.{FieldFault}

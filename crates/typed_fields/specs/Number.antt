@@ -1,4 +1,5 @@
--- Standard: int (FIX 4.2, Data Types) without a sign; in FIX 5.0 SP2 Length, NumInGroup and SeqNum. Zeros may lead: 00023 is 23.
+-- Standard: int (FIX 4.2, Data Types) without a sign; in FIX 5.0 SP2 Length, NumInGroup and SeqNum.
+-- Zeros may lead: 00023 is 23.
 use Rattle.std.specs.Prelude.{ℕ, ◌≤◌, ◌&&◌, Bool, List, length, Result, nat_le}
 use Rattle.std.specs.Fmt.{decimal}
 use Rattle.typed_fields.specs.declared.fault.FieldFault.{FieldFault}
@@ -13,7 +14,8 @@ is_number_form bytes = are_digits bytes && nat_le (length bytes) 10
 -- the reading of a number, of at most 1,000,000,000
 abbrev pub read_number : List ℕ → Result Number FieldFault
 read_number bytes =
-    judged bytes (is_number_form bytes) (nat_le (number_of bytes) 1_000_000_000) (record { value = number_of bytes })
+    judged bytes (is_number_form bytes)
+    (nat_le (number_of bytes) 1_000_000_000) (record { value = number_of bytes })
 
 -- a number that can be read
 abbrev pub IsNumber : Number → Type 0

@@ -1,6 +1,8 @@
--- Standard: UTCTimestamp (FIX 4.2, Data Types): YYYYMMDD-HH:MM:SS or YYYYMMDD-HH:MM:SS.sss, with hours 00 to 23, minutes 00 to 59
--- and seconds 00 to 60, where 60 is a leap second.
-use Rattle.std.specs.Prelude.{ℕ, ◌+◌, ◌*◌, ◌/◌, ◌%◌, ◌≤◌, Bool, ◌&&◌, ◌||◌, List, [], ◌∷◌, ◌++◌, length, Option, Some, None, Result, slice_range, codes, nat_le, ◌==◌, ℤ, pos, ◌+ℤ◌, ◌*ℤ◌, if◌then◌else◌}
+-- Standard: UTCTimestamp (FIX 4.2, Data Types): YYYYMMDD-HH:MM:SS or YYYYMMDD-HH:MM:SS.sss, with
+-- hours 00 to 23, minutes 00 to 59 and seconds 00 to 60, where 60 is a leap second.
+use Rattle.std.specs.Prelude.{ℕ, ◌+◌, ◌*◌, ◌/◌, ◌%◌, ◌≤◌, Bool, ◌&&◌, ◌||◌, List, [], ◌∷◌, ◌++◌}
+use Rattle.std.specs.Prelude.{length, Option, Some, None, Result, slice_range, codes, nat_le, ◌==◌}
+use Rattle.std.specs.Prelude.{ℤ, pos, ◌+ℤ◌, ◌*ℤ◌, if◌then◌else◌}
 use Rattle.std.specs.Option.{unwrap_or}
 use Rattle.typed_fields.specs.declared.fault.FieldFault.{FieldFault}
 use Rattle.typed_fields.specs.declared.stamp.Stamp.{Stamp}
@@ -11,7 +13,8 @@ use Rattle.typed_fields.specs.Day.{spells_date, day_number, day_digits, IsDayNum
 -- the form: whole seconds, or milliseconds
 abbrev pub is_stamp_form : List ℕ → Bool
 is_stamp_form bytes =
-    has_pattern (codes "YYYYMMDD-HH:MM:SS") bytes || has_pattern (codes "YYYYMMDD-HH:MM:SS.sss") bytes
+    has_pattern (codes "YYYYMMDD-HH:MM:SS") bytes
+    || has_pattern (codes "YYYYMMDD-HH:MM:SS.sss") bytes
 
 -- what the bytes spell behind the date
 abbrev pub hour_in : List ℕ → ℕ
@@ -29,7 +32,8 @@ milli_in bytes = if length bytes == 17 then None else Some (number_of (slice_ran
 -- the bound: a date of the calendar, and a time with hours to 23, minutes to 59 and seconds to 60
 abbrev pub spells_moment : List ℕ → Bool
 spells_moment bytes =
-    spells_date bytes && (nat_le (hour_in bytes) 23 && (nat_le (minute_in bytes) 59 && nat_le (second_in bytes) 60))
+    spells_date bytes && (nat_le (hour_in bytes) 23
+    && (nat_le (minute_in bytes) 59 && nat_le (second_in bytes) 60))
 
 -- the stamp that the bytes spell
 abbrev pub stamp_in : List ℕ → Stamp
@@ -61,7 +65,8 @@ milli_text (Some milli) = 46 ∷ zero_padded 3 milli
 -- the spelling of a stamp without its milliseconds: 45 is '-', and 58 is ':'
 abbrev pub seconds_text : Stamp → List ℕ
 seconds_text s =
-    day_digits s.day ++ 45 ∷ [] ++ zero_padded 2 s.hour ++ 58 ∷ [] ++ zero_padded 2 s.minute ++ 58 ∷ [] ++ zero_padded 2 s.second
+    day_digits s.day ++ 45 ∷ [] ++ zero_padded 2 s.hour
+    ++ 58 ∷ [] ++ zero_padded 2 s.minute ++ 58 ∷ [] ++ zero_padded 2 s.second
 
 -- the one spelling of a stamp
 abbrev pub stamp_text : Stamp → List ℕ

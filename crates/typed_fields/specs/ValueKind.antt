@@ -1,6 +1,7 @@
 -- Own: the kinds of values of which the tables of messages speak, by the data types of FIX 4.2 and
 -- FIX 5.0 SP2, and what bytes are as a value of a kind.
-use Rattle.std.specs.Prelude.{ℕ, ℤ, ◌+◌, ◌-◌, ◌*◌, Bool, true, false, List, [], ◌∷◌, length, nat_le, not, ◌==◌, ◌&&◌, if◌then◌else◌, Some, None, Result, Ok, Err}
+use Rattle.std.specs.Prelude.{ℕ, ℤ, ◌+◌, ◌-◌, ◌*◌, Bool, true, false, List, [], ◌∷◌, length, nat_le}
+use Rattle.std.specs.Prelude.{not, ◌==◌, ◌&&◌, if◌then◌else◌, Some, None, Result, Ok, Err}
 use Rattle.std.specs.declared.option.Option.{Option}
 use Rattle.std.specs.Int.{is_negative}
 use Rattle.std.specs.Option.{option_map}
@@ -10,8 +11,6 @@ use Rattle.std.specs.List.{list_any, list_all}
 use Rattle.std.specs.Str.{bytes_eq}
 use Rattle.typed_fields.specs.declared.fault.FieldFault.{FieldFault}
 use Rattle.typed_fields.specs.declared.fault.FieldFault.TheVariants.{Empty, Form, Range}
-use Rattle.typed_fields.specs.declared.number.Number.{Number as NumberValue}
-use Rattle.typed_fields.specs.declared.dec.Dec.{Dec}
 use Rattle.typed_fields.specs.Number.{read_number, number_text}
 use Rattle.typed_fields.specs.Flag.{read_flag}
 use Rattle.typed_fields.specs.Dec.{read_dec, dec_text}
@@ -53,8 +52,8 @@ pub data ValueKind : Type 0 where
   -- one or two digits
   DayOfMonth : ValueKind
 
--- What reading the bytes of a value gives: the one canonical spelling of the value, or nothing where
--- it is outside the profile; or why the bytes are no value of the kind.
+-- What reading the bytes of a value gives: the one canonical spelling of the value, or nothing
+-- where it is outside the profile; or why the bytes are no value of the kind.
 abbrev pub Spelling : Type 0
 Spelling = Result (Option (List ℕ)) FieldFault
 
@@ -92,7 +91,8 @@ are_codes listed false (byte ∷ bytes) =
 -- values parted by single spaces; a value that is no listed code is outside the profile
 abbrev pub codes_among : List ℕ → List ℕ → Spelling
 codes_among listed bytes =
-    if are_parted false bytes then Ok (listed_word (are_codes listed false bytes) bytes) else Err Form
+    if are_parted false bytes
+    then Ok (listed_word (are_codes listed false bytes) bytes) else Err Form
 
 -- a value that was read, by a spelling of it
 abbrev pub spelt : {A : Type 0} → (A → List ℕ) → Result A FieldFault → Spelling
@@ -132,7 +132,8 @@ spelling (Word listed) bytes = Ok (listed_word (list_any (bytes_eq bytes) listed
 spelling Currency bytes = formed ((length bytes == 3) && list_all is_ascii_uppercase bytes) bytes
 spelling Flag bytes = spelt (λ _. bytes) (read_flag bytes)
 spelling Number bytes = spelt number_text (read_number bytes)
-spelling Reason bytes = spelt number_text (if_in_range (λ n. nat_le n.value most_reason) (read_number bytes))
+spelling Reason bytes =
+    spelt number_text (if_in_range (λ n. nat_le n.value most_reason) (read_number bytes))
 spelling Qty bytes = spelt dec_text (if_in_range (λ d. not (is_negative d.units)) (read_dec bytes))
 spelling Price bytes = spelt dec_text (read_dec bytes)
 spelling Stamp bytes = spelt (λ _. bytes) (read_stamp bytes)

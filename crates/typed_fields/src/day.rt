@@ -1,8 +1,10 @@
 //! Days.
 
-ghost use Rattle.std.specs.Prelude.{◌≡◌, ◌≤◌, ◌<◌, ◌++◌, pos, take, length, IsTrue, OnOk, OnErr, IfOk, if◌then◌else◌};
+ghost use Rattle.std.specs.Prelude.{◌≡◌, ◌≤◌, ◌<◌, ◌++◌, take, length, IsTrue, OnOk, OnErr};
+ghost use Rattle.std.specs.Prelude.{IfOk, if◌then◌else◌};
 ghost use Rattle.typed_fields.specs.Digits.{are_digits};
-ghost use Rattle.typed_fields.specs.Day.{read_day, spells_date, day_number, day_digits, day_text, IsDayNumber, IsDay};
+ghost use Rattle.typed_fields.specs.Day.{read_day, spells_date, day_number, day_digits, day_text};
+ghost use Rattle.typed_fields.specs.Day.{IsDayNumber, IsDay};
 
 use crate::digits::{four_digits, has_pattern, number_at, two_digits};
 use crate::fault::FieldFault;

@@ -1,9 +1,11 @@
 //! Decimal numbers.
 
-ghost use Rattle.std.specs.Prelude.{◌≡◌, ◌+◌, ◌/◌, ◌^◌, ◌<◌, ◌≤◌, ◌++◌, unsigned_abs, length, IsTrue, OnOk, OnErr, IfOk};
+ghost use Rattle.std.specs.Prelude.{◌≡◌, ◌+◌, ◌/◌, ◌^◌, ◌<◌, ◌≤◌, ◌++◌, unsigned_abs, length};
+ghost use Rattle.std.specs.Prelude.{IsTrue, OnOk, OnErr, IfOk};
 ghost use Rattle.std.specs.List.{before_first, after_first, position};
 ghost use Rattle.typed_fields.specs.Digits.{are_digits};
-ghost use Rattle.typed_fields.specs.Dec.{read_dec, dec_text, IsDec, has_minus, without_minus, is_point, units_of, signed, sign_text};
+ghost use Rattle.typed_fields.specs.Dec.{read_dec, dec_text, IsDec, has_minus, without_minus};
+ghost use Rattle.typed_fields.specs.Dec.{is_point, units_of, signed, sign_text};
 ghost use Rattle.std.specs.Fmt.{decimal};
 ghost use Rattle.std.specs.Int.{is_negative};
 ghost use Rattle.arrayvec.specs.ArrayVec.{array_vec_len};
@@ -30,9 +32,9 @@ const MAX_PLACES: usize = 8;
 
 /// An exact decimal number, as the data types float, Price and Qty of FIX 4.2.
 ///
-/// Its form is an optional `-`, digits and an optional `.` with digits before or behind it, in at most
-/// 32 bytes. Without needless zeros it has at most 15 digits, of which at most 8 stand behind the
-/// point.
+/// Its form is an optional `-`, digits and an optional `.` with digits before or behind it, in at
+/// most 32 bytes. Without needless zeros it has at most 15 digits, of which at most 8 stand behind
+/// the point.
 #[derive(Clone, Copy, Debug, PartialEq, Eq, PartialOrd, Ord, Hash)]
 pub struct Dec {
     /// The units of 10^-8.
@@ -160,7 +162,8 @@ impl Dec {
     /// The sign and the whole part.
     fn whole_text(&self) -> ArrayVec<u8, 32>
         requires { IsDec self.now }
-        ensures items { result.items ≡ sign_text (is_negative self.now.units) ++ decimal (unsigned_abs self.now.units / 10 ^ 8) }
+        ensures items { result.items ≡ sign_text (is_negative self.now.units)
+            ++ decimal (unsigned_abs self.now.units / 10 ^ 8) }
         ensures len { array_vec_len result ≤ 16 }
     {
         let mut buffer = Buffer::new();

@@ -1,8 +1,11 @@
 //! Texts of digits and the numbers that they spell.
 
-ghost use Rattle.std.specs.Prelude.{◌≡◌, ◌+◌, ◌-◌, ◌^◌, ◌<◌, ◌≤◌, ◌++◌, length, slice_range, IsTrue};
+ghost use Rattle.std.specs.Prelude.{◌≡◌, ◌+◌, ◌-◌, ◌^◌, ◌<◌, ◌≤◌, ◌++◌, length, slice_range};
+ghost use Rattle.std.specs.Prelude.{IsTrue};
 ghost use Rattle.arrayvec.specs.ArrayVec.{array_vec_len};
-ghost use Rattle.typed_fields.specs.Digits.{are_digits, number_of, has_mark, have_marks, has_pattern, zero_padded, without_leading_zeros, without_trailing_zeros};
+ghost use Rattle.typed_fields.specs.Digits.{are_digits, number_of, has_mark, have_marks};
+ghost use Rattle.typed_fields.specs.Digits.{has_pattern, zero_padded, without_leading_zeros};
+ghost use Rattle.typed_fields.specs.Digits.{without_trailing_zeros};
 
 use arrayvec::ArrayVec;
 
@@ -39,7 +42,8 @@ pub(crate) fn number_at(bytes: &[u8], from: usize, to: usize) -> u16
     number(&bytes[from..to]) as u16
 }
 
-/// Whether a byte has its mark in a pattern: a letter stands for any digit, and every other mark for itself.
+/// Whether a byte has its mark in a pattern: a letter stands for any digit, and every other mark
+/// for itself.
 fn has_mark(mark: u8, byte: u8) -> bool
     ensures { result ≡ has_mark mark byte }
 {

@@ -30,8 +30,9 @@ pub fn spellings_are_apart()
     ensures stamp { AreApart IsStamp stamp_text }
 {}
 
-/// The canonical spelling of what bytes are read as is those bytes without the needless ones. So bytes with no needless one
-/// are the canonical spelling of their value, and no value has two canonical spellings.
+/// The canonical spelling of what bytes are read as is those bytes without the needless ones. So
+/// bytes with no needless one are the canonical spelling of their value, and no value has two
+/// canonical spellings.
 pub fn spellings_are_plain()
     ensures dec { IsPlain read_dec dec_text plain_dec }
     ensures number { IsPlain read_number number_text plain_number }
@@ -51,7 +52,8 @@ pub fn spellings_are_stable()
     ensures stamp { IsStable read_stamp stamp_text }
 {}
 
-/// A moment is that of its stamp, and a stamp with milliseconds, which is no leap second, is that of its moment.
+/// A moment is that of its stamp, and a stamp with milliseconds, which is no leap second, is that
+/// of its moment.
 pub fn moments_fit_stamps()
     ensures moment { (millis : ℕ) → stamp_millis (stamp_at millis) ≡ pos millis }
     ensures stamp { (s : Stamp) (millis : ℕ) → IsStamp s → IsSome s.milli → s.second ≤ 59

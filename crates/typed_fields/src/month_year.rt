@@ -23,8 +23,8 @@ impl MonthYear {
     ///
     /// # Errors
     ///
-    /// `Empty` for no bytes, `Form` for anything but six digits, and `Range` for a month that is not
-    /// 01 to 12.
+    /// `Empty` for no bytes, `Form` for anything but six digits, and `Range` for a month that is
+    /// not 01 to 12.
     pub fn read(value: &[u8]) -> Result<MonthYear, FieldFault>
         ensures value { result ≡ read_month_year value.now }
         ensures bound { IfOk result IsMonthYear }

@@ -1,9 +1,12 @@
 //! Moments.
 
-ghost use Rattle.std.specs.Prelude.{◌≡◌, ◌^◌, ◌<◌, ◌≤◌, ◌++◌, codes, take, length, pos, IsTrue, OnOk, OnErr, IfOk, unwrap_or, if◌then◌else◌};
+ghost use Rattle.std.specs.Prelude.{◌≡◌, ◌^◌, ◌<◌, ◌≤◌, ◌++◌, codes, take, IsTrue};
+ghost use Rattle.std.specs.Prelude.{OnOk, OnErr, IfOk, unwrap_or, if◌then◌else◌};
 ghost use Rattle.arrayvec.specs.ArrayVec.{array_vec_len};
 ghost use Rattle.typed_fields.specs.Digits.{has_pattern};
-ghost use Rattle.typed_fields.specs.Stamp.{read_stamp, milli_in, spells_moment, stamp_in, seconds_text, stamp_text, millis_of_day, stamp_millis, stamp_at, IsStamp};
+ghost use Rattle.typed_fields.specs.Stamp.{read_stamp, milli_in, spells_moment, stamp_in};
+ghost use Rattle.typed_fields.specs.Stamp.{seconds_text, stamp_text, millis_of_day, stamp_millis};
+ghost use Rattle.typed_fields.specs.Stamp.{stamp_at, IsStamp};
 
 use crate::day::{day_digits, day_number};
 use crate::digits::{append, has_pattern, number_at, three_digits, two_digits};
@@ -37,7 +40,8 @@ fn read_moment(bytes: &[u8], milli: Option<u16>) -> Result<Stamp, FieldFault>
     requires form { IsTrue (has_pattern (codes "YYYYMMDD-HH:MM:SS") (take 17 bytes.now)) }
     requires milli { milli ≡ milli_in bytes.now }
     requires small { unwrap_or milli 0 ≤ 999 }
-    ensures value { result ≡ (if spells_moment bytes.now then Ok (stamp_in bytes.now) else Err FieldFault.Range) }
+    ensures value { result
+        ≡ (if spells_moment bytes.now then Ok (stamp_in bytes.now) else Err FieldFault.Range) }
     ensures bound { IfOk result IsStamp }
 {
     let hour = number_at(bytes, 9, 11) as u8;
@@ -135,8 +139,8 @@ impl Stamp {
             + u32::from(self.milli.unwrap_or(0))
     }
 
-    /// The milliseconds from 1 January 1970, 00:00, to the moment: its day, hour, minute, second and
-    /// milliseconds added up.
+    /// The milliseconds from 1 January 1970, 00:00, to the moment: its day, hour, minute, second
+    /// and milliseconds added up.
     pub fn millis(&self) -> i64
         ensures { result ≡ stamp_millis self.now }
     {

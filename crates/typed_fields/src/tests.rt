@@ -1,4 +1,5 @@
-//! Spellings of each type at and past its bounds. The expected values are those of the FIX data types, written by hand.
+//! Spellings of each type at and past its bounds. The expected values are those of the FIX data
+//! types, written by hand.
 
 use crate::{
     Day, Dec, FieldFault, FieldValue, Flag, MAX_MILLIS, MonthYear, Number, Stamp, are_digits,
@@ -141,8 +142,9 @@ fn months(rt: HostRuntime) -> Result<(), Fail> {
     Ok(())
 }
 
-// The numbers of the days are those of Python's `(datetime.date(y, m, d) - datetime.date(1970, 1, 1)).days`; that of the year
-// 0000, which Python lacks, is the 366 days of that leap year before 1 January 0001.
+// The numbers of the days are those of Python's `(datetime.date(y, m, d) - datetime.date(1970, 1,
+// 1)).days`; that of the year 0000, which Python lacks, is the 366 days of that leap year before 1
+// January 0001.
 #[test]
 fn days(rt: HostRuntime) -> Result<(), Fail> {
     let rows: [(&[u8], Result<i32, FieldFault>); 19] = [
@@ -215,9 +217,9 @@ fn stamps(rt: HostRuntime) -> Result<(), Fail> {
     Ok(())
 }
 
-// The texts are those of Python's `datetime(1970, 1, 1) + timedelta(milliseconds=millis)`, written by
-// `strftime("%Y%m%d-%H:%M:%S")` and the milliseconds in three digits: ends of days, months, leap years and of the range, and
-// moments drawn from all of it.
+// The texts are those of Python's `datetime(1970, 1, 1) + timedelta(milliseconds=millis)`, written
+// by `strftime("%Y%m%d-%H:%M:%S")` and the milliseconds in three digits: ends of days, months, leap
+// years and of the range, and moments drawn from all of it.
 #[test]
 fn moments(rt: HostRuntime) -> Result<(), Fail> {
     let rows: [(u64, &[u8]); 52] = [

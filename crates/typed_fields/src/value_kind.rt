@@ -1,6 +1,7 @@
 //! The kinds of values of which the tables of messages speak.
 
-ghost use Rattle.std.specs.Prelude.{◌≡◌, ◌==◌, ◌&&◌, ◌≤◌, ℕ, List, [], ◌∷◌, not, nat_le, IsTrue, Ok, Err, Some, None, IfSome, true, false, if◌then◌else◌};
+ghost use Rattle.std.specs.Prelude.{◌≡◌, ◌==◌, ◌&&◌, ◌≤◌, ℕ, List, [], ◌∷◌, not, nat_le, IsTrue};
+ghost use Rattle.std.specs.Prelude.{Ok, Err, Some, None, IfSome, true, false, if◌then◌else◌};
 ghost use Rattle.std.specs.Int.{is_negative};
 ghost use Rattle.std.specs.Option.{option_map};
 ghost use Rattle.std.specs.Result.{result_ok};
@@ -14,8 +15,11 @@ ghost use Rattle.typed_fields.specs.Day.{day_text, is_date};
 ghost use Rattle.typed_fields.specs.MonthYear.{read_month_year, month_year_text, IsMonthYear};
 ghost use Rattle.typed_fields.specs.Flag.{flag_text};
 ghost use Rattle.typed_fields.specs.ValueKind as kinds;
-ghost use Rattle.typed_fields.specs.ValueKind.{Qty, Price, Reason, DayOfMonth, spelling, spelled, spelt, if_in_range, is_code, are_parted, are_codes, codes_among, two_digits};
-ghost use Rattle.typed_fields.specs.CodeKinds.{kind_of, judged, is_good, is_verbatim, is_byte_kind, code_text, two_digit_text};
+ghost use Rattle.typed_fields.specs.ValueKind.{Qty, Price, Reason, DayOfMonth, spelling, spelled};
+ghost use Rattle.typed_fields.specs.ValueKind.{spelt, if_in_range, is_code, are_parted, are_codes};
+ghost use Rattle.typed_fields.specs.ValueKind.{codes_among, two_digits};
+ghost use Rattle.typed_fields.specs.CodeKinds.{kind_of, judged, is_good, is_verbatim, is_byte_kind};
+ghost use Rattle.typed_fields.specs.CodeKinds.{code_text, two_digit_text};
 
 use crate::laws::spellings_are_plain;
 use crate::{Day, Dec, FieldFault, Flag, MonthYear, Number, Stamp};
@@ -194,7 +198,8 @@ fn judge_day(value: &[u8]) -> Result<bool, FieldFault>
 
 /// Whether bytes are a number of at most 9,999.
 fn judge_reason(value: &[u8]) -> Result<bool, FieldFault>
-    ensures { result ≡ judged (spelt number_text (if_in_range (λ n. nat_le n.value 9999) (read_number value.now))) }
+    ensures { result ≡ judged
+        (spelt number_text (if_in_range (λ n. nat_le n.value 9999) (read_number value.now))) }
 {
     match Number::read(value) {
         Ok(number) => within(number.value <= MAX_REASON),
@@ -204,7 +209,8 @@ fn judge_reason(value: &[u8]) -> Result<bool, FieldFault>
 
 /// Whether bytes are a decimal number that is not negative.
 fn judge_qty(value: &[u8]) -> Result<bool, FieldFault>
-    ensures { result ≡ judged (spelt dec_text (if_in_range (λ d. not (is_negative d.units)) (read_dec value.now))) }
+    ensures { result ≡ judged
+        (spelt dec_text (if_in_range (λ d. not (is_negative d.units)) (read_dec value.now))) }
 {
     match Dec::read(value) {
         Ok(dec) => within(dec.units >= 0),
@@ -375,7 +381,8 @@ pub fn day_of_month(value: &[u8]) -> Option<u8>
 
 /// The number that two digits write.
 fn two_digits(ten: u8, one: u8) -> Option<u8>
-    ensures text { option_map two_digit_text result ≡ (if is_ascii_digit ten && is_ascii_digit one then Some (ten ∷ one ∷ []) else None) }
+    ensures text { option_map two_digit_text result
+        ≡ (if is_ascii_digit ten && is_ascii_digit one then Some (ten ∷ one ∷ []) else None) }
     ensures bound { IfSome result (λ day. day ≤ 99) }
 {
     if ten.is_ascii_digit() && one.is_ascii_digit() {

@@ -6,4 +6,5 @@ use Rattle.field_groups.proofs.group_stage.misplaced_at.Given as goal
 
 abbrev pub invariant-loop-item : goal.invariant-loop-item
 invariant-loop-item g l =
-    first_of (λ item. in_groups (group_tags_of (item_of (λ k. k) item)) (place_in (seen l.fields) l.place (seen_at l.fields l.place))) (take l.item-index l.item-items) ≡ None
+    first_of (λ item. in_groups (group_tags_of (item_of (λ k. k) item)) (place_in
+    (seen l.fields) l.place (seen_at l.fields l.place))) (take l.item-index l.item-items) ≡ None

@@ -7,15 +7,20 @@ use Rattle.field_groups.proofs.stages.first_twice.Goals as goal
 
 pub returns-in-Some : goal.returns-in-Some
 returns-in-Some g c =
-    found (twice (once_in (table_of (λ k. k) c.args.table.now))) (seen c.args.fields.now) c.loop-place.place c.in-Some.fault _
-    (seen_lt c.args.fields.now c.loop-place.place c.loop-place-test.true) (sym c.in-Some.ensures) c.loop-place.invariant
+    found (twice (once_in (table_of (λ k. k) c.args.table.now)))
+    (seen c.args.fields.now) c.loop-place.place c.in-Some.fault _
+    (seen_lt c.args.fields.now c.loop-place.place c.loop-place-test.true)
+    (sym c.in-Some.ensures) c.loop-place.invariant
 
 pub loop-place-preserved : goal.loop-place-preserved
 loop-place-preserved g c =
-    passed (twice (once_in (table_of (λ k. k) c.args.table.now))) (seen c.args.fields.now) c.loop-place.place _
-    (seen_lt c.args.fields.now c.loop-place.place c.loop-place-test.true) (sym c.in_default.ensures) c.loop-place.invariant
+    passed (twice (once_in (table_of (λ k. k) c.args.table.now)))
+    (seen c.args.fields.now) c.loop-place.place _
+    (seen_lt c.args.fields.now c.loop-place.place c.loop-place-test.true)
+    (sym c.in_default.ensures) c.loop-place.invariant
 
 pub returns : goal.returns
 returns g c =
-    ended (twice (once_in (table_of (λ k. k) c.args.table.now))) (seen c.args.fields.now) c.loop-place.place _
+    ended (twice (once_in (table_of (λ k. k) c.args.table.now)))
+    (seen c.args.fields.now) c.loop-place.place _
     (seen_le c.args.fields.now c.loop-place.place c.loop-place-test.false) c.loop-place.invariant

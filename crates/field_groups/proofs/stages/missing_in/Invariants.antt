@@ -5,4 +5,5 @@ use Rattle.field_groups.specs.CodeTables.{seen, row_of}
 use Rattle.field_groups.proofs.stages.missing_in.Given as goal
 
 abbrev pub invariant-loop-row : goal.invariant-loop-row
-invariant-loop-row g l = first_of (λ row. missing (seen l.line) (row_of (λ k. k) row)) (take l.row-index l.rows) ≡ None
+invariant-loop-row g l =
+    first_of (λ row. missing (seen l.line) (row_of (λ k. k) row)) (take l.row-index l.rows) ≡ None

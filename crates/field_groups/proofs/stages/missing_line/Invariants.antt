@@ -10,6 +10,8 @@ decreases-loop-from g l = length l.fields - l.from
 abbrev pub invariant-loop-from : goal.invariant-loop-from
 invariant-loop-from g l = record {
   within : l.from ≤ length l.fields;
-  same : first_of (λ line. first_of (missing line) (group_of (λ k. k) l.group).rows) (in_lines (own_tags l.group).first (drop l.from (seen l.fields)))
-      ≡ first_of (λ line. first_of (missing line) (group_of (λ k. k) l.group).rows) (in_lines (own_tags l.group).first (seen l.fields));
+  same : first_of (λ line. first_of (missing line) (group_of (λ k. k) l.group).rows)
+      (in_lines (own_tags l.group).first (drop l.from (seen l.fields)))
+      ≡ first_of (λ line. first_of (missing line) (group_of (λ k. k) l.group).rows)
+      (in_lines (own_tags l.group).first (seen l.fields));
 }

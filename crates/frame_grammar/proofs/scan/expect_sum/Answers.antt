@@ -11,8 +11,10 @@ pub returns-then-place-bytes-clause-leads : goal.returns-then-place-bytes-clause
 returns-then-place-bytes-clause-leads c go =
     let place = c.loop-place.place in
     c.loop-place.invariant.so_far go
-    ∙ ap (λ d. expect_sum d go (drop place c.args.bytes.now)) (drop_more c.args.digits.now place 0 c.loop-place-test.true)
-    ∙ ap (λ b. expect_sum (get_or c.args.digits.now place 0 ∷ drop (place + 1) c.args.digits.now) go b) (drop_all place c.args.bytes.now c.if-place-bytes.true)
+    ∙ ap (λ d. expect_sum d go (drop place c.args.bytes.now))
+    (drop_more c.args.digits.now place 0 c.loop-place-test.true)
+    ∙ ap (λ b. expect_sum (get_or c.args.digits.now place 0 ∷ drop (place + 1) c.args.digits.now)
+    go b) (drop_all place c.args.bytes.now c.if-place-bytes.true)
 
 pub returns-then-not-is_ascii_digit-clause-leads : goal.returns-then-not-is_ascii_digit-clause-leads
 returns-then-not-is_ascii_digit-clause-leads c go =
@@ -20,9 +22,12 @@ returns-then-not-is_ascii_digit-clause-leads c go =
     let b = get_or c.args.bytes.now place 0 in (
       drop (place + 1) c.args.bytes.now,
       c.loop-place.invariant.so_far go
-          ∙ ap (λ d. expect_sum d go (drop place c.args.bytes.now)) (drop_more c.args.digits.now place 0 c.loop-place-test.true)
-          ∙ ap (λ l. expect_sum (get_or c.args.digits.now place 0 ∷ drop (place + 1) c.args.digits.now) go l) (drop_more c.args.bytes.now place 0 c.if-place-bytes.false)
-          ∙ if_false (is_ascii_digit b) _ _ (sym c.is_ascii_digit.ensures.value ∙ c.if-not-is_ascii_digit.true),
+          ∙ ap (λ d. expect_sum d go (drop place c.args.bytes.now))
+          (drop_more c.args.digits.now place 0 c.loop-place-test.true)
+          ∙ ap (λ l. expect_sum (get_or c.args.digits.now place 0 ∷ drop (place + 1)
+          c.args.digits.now) go l) (drop_more c.args.bytes.now place 0 c.if-place-bytes.false)
+          ∙ if_false (is_ascii_digit b)
+          _ _ (sym c.is_ascii_digit.ensures.value ∙ c.if-not-is_ascii_digit.true),
     )
 
 pub returns-then-bytes-place-clause-leads : goal.returns-then-bytes-place-clause-leads
@@ -34,8 +39,11 @@ returns-then-bytes-place-clause-leads c go =
     let differs : (b == want) ≡ false = grind (arith, nat_tests, other) in (
       drop (place + 1) c.args.bytes.now,
       c.loop-place.invariant.so_far go
-          ∙ ap (λ d. expect_sum d go (drop place c.args.bytes.now)) (drop_more c.args.digits.now place 0 c.loop-place-test.true)
-          ∙ ap (λ l. expect_sum (get_or c.args.digits.now place 0 ∷ drop (place + 1) c.args.digits.now) go l) (drop_more c.args.bytes.now place 0 c.if-place-bytes.false)
-          ∙ if_true (is_ascii_digit b) _ _ (sym c.is_ascii_digit.ensures.value ∙ c.if-not-is_ascii_digit.false)
+          ∙ ap (λ d. expect_sum d go (drop place c.args.bytes.now))
+          (drop_more c.args.digits.now place 0 c.loop-place-test.true)
+          ∙ ap (λ l. expect_sum (get_or c.args.digits.now place 0 ∷ drop (place + 1)
+          c.args.digits.now) go l) (drop_more c.args.bytes.now place 0 c.if-place-bytes.false)
+          ∙ if_true (is_ascii_digit b)
+          _ _ (sym c.is_ascii_digit.ensures.value ∙ c.if-not-is_ascii_digit.false)
           ∙ if_false (b == want) _ _ differs,
     )

@@ -8,7 +8,8 @@ returns-then-starts_with-clause-leads c go =
     let text = c.args.text.now in
     let bytes = c.args.bytes.now in
     let begins = bytes_eq-Decides text (take (length text) bytes) in
-    came text bytes c.args.rule go (sym (begins.0 (sym c.starts_with.ensures.value ∙ c.if-starts_with.true)))
+    came text bytes
+    c.args.rule go (sym (begins.0 (sym c.starts_with.ensures.value ∙ c.if-starts_with.true)))
 
 pub returns-then-starts_with-2-clause-leads : goal.returns-then-starts_with-2-clause-leads
 returns-then-starts_with-2-clause-leads c go =
@@ -16,7 +17,8 @@ returns-then-starts_with-2-clause-leads c go =
     let bytes = c.args.bytes.now in
     let begins = bytes_eq-Decides text (take (length text) bytes) in
     let ends = bytes_eq-Decides bytes (take (length bytes) text) in
-    more text bytes c.args.rule go (λ is. let yes = c.starts_with.ensures.value ∙ begins.1 (sym is) in let no = c.if-starts_with.false in absurd (cc (yes, no)))
+    more text bytes c.args.rule go (λ is. let yes = c.starts_with.ensures.value ∙ begins.1 (sym is)
+    in let no = c.if-starts_with.false in absurd (cc (yes, no)))
     (sym (ends.0 (sym c.starts_with-else-starts_with.ensures.value ∙ c.if-starts_with-2.true)))
 
 pub returns-else-starts_with-2-clause-leads : goal.returns-else-starts_with-2-clause-leads
@@ -25,5 +27,7 @@ returns-else-starts_with-2-clause-leads c go =
     let bytes = c.args.bytes.now in
     let begins = bytes_eq-Decides text (take (length text) bytes) in
     let ends = bytes_eq-Decides bytes (take (length bytes) text) in
-    wrong text bytes c.args.rule go (λ is. let yes = c.starts_with.ensures.value ∙ begins.1 (sym is) in let no = c.if-starts_with.false in absurd (cc (yes, no)))
-    (λ is. let yes = c.starts_with-else-starts_with.ensures.value ∙ ends.1 (sym is) in let no = c.if-starts_with-2.false in absurd (cc (yes, no)))
+    wrong text bytes c.args.rule go (λ is. let yes = c.starts_with.ensures.value ∙ begins.1 (sym is)
+    in let no = c.if-starts_with.false in absurd (cc (yes, no)))
+    (λ is. let yes = c.starts_with-else-starts_with.ensures.value ∙ ends.1 (sym is) in let no =
+    c.if-starts_with-2.false in absurd (cc (yes, no)))

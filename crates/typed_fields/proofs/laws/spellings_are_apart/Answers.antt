@@ -4,7 +4,8 @@ use Rattle.typed_fields.specs.MonthYear.{read_month_year, month_year_text, IsMon
 use Rattle.typed_fields.specs.Day.{read_day, day_text, IsDay}
 use Rattle.typed_fields.specs.Stamp.{read_stamp, stamp_text, IsStamp}
 use Rattle.typed_fields.specs.Dec.{read_dec, dec_text, IsDec}
-use Rattle.typed_fields.proofs.NumberLaws.{number_reads_back, flag_reads_back, month_year_reads_back}
+use Rattle.typed_fields.proofs.NumberLaws.{number_reads_back, flag_reads_back}
+use Rattle.typed_fields.proofs.NumberLaws.{month_year_reads_back}
 use Rattle.typed_fields.proofs.DayLaws.{day_reads_back}
 use Rattle.typed_fields.proofs.StampLaws.{stamp_reads_back}
 use Rattle.typed_fields.proofs.DecLaws.{dec_reads_back}

@@ -3,7 +3,8 @@ use Rattle.typed_fields.specs.Flag.{read_flag, flag_text}
 use Rattle.typed_fields.specs.MonthYear.{read_month_year, month_year_text}
 use Rattle.typed_fields.specs.Day.{read_day, day_text}
 use Rattle.typed_fields.specs.Stamp.{read_stamp, stamp_text}
-use Rattle.typed_fields.proofs.NumberLaws.{number_reads_back, number_in_bound, flag_is_plain, month_year_is_plain}
+use Rattle.typed_fields.proofs.NumberLaws.{number_reads_back, number_in_bound, flag_is_plain}
+use Rattle.typed_fields.proofs.NumberLaws.{month_year_is_plain}
 use Rattle.typed_fields.proofs.DayLaws.{day_is_plain}
 use Rattle.typed_fields.proofs.StampLaws.{stamp_is_plain}
 use Rattle.typed_fields.proofs.DecLaws.{dec_is_stable}

@@ -1,4 +1,5 @@
-use Rattle.typed_fields.proofs.NumberLaws.{number_reads_back, flag_reads_back, month_year_reads_back}
+use Rattle.typed_fields.proofs.NumberLaws.{number_reads_back, flag_reads_back}
+use Rattle.typed_fields.proofs.NumberLaws.{month_year_reads_back}
 use Rattle.typed_fields.proofs.DayLaws.{day_reads_back}
 use Rattle.typed_fields.proofs.StampLaws.{stamp_reads_back}
 use Rattle.typed_fields.proofs.DecLaws.{dec_reads_back}

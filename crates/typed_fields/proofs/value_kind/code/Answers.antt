@@ -7,7 +7,9 @@ use Rattle.typed_fields.proofs.value_kind.code.Goals as goal
 pub returns-then-is_good : goal.returns-then-is_good
 returns-then-is_good c =
     ap (option_map code_text) (c.copied.ensures ∙ c.first.ensures.value)
-    ∙ code_good (kind_of c.args.kind.now) c.args.value.now c.requires (c.if-is_good.ensures ∙ ap is_good c.judge.ensures)
+    ∙ code_good (kind_of c.args.kind.now)
+    c.args.value.now c.requires (c.if-is_good.ensures ∙ ap is_good c.judge.ensures)
 
 pub returns-else-is_good : goal.returns-else-is_good
-returns-else-is_good c = code_bad (kind_of c.args.kind.now) c.args.value.now c.requires (c.if-is_good.ensures ∙ ap is_good c.judge.ensures)
+returns-else-is_good c = code_bad (kind_of c.args.kind.now)
+    c.args.value.now c.requires (c.if-is_good.ensures ∙ ap is_good c.judge.ensures)

@@ -8,4 +8,5 @@ use Rattle.typed_fields.proofs.value_kind.month_year.Goals as goal
 pub returns-clause-text : goal.returns-clause-text
 returns-clause-text c =
     ap (option_map month_year_text) (c.ok.ensures.value ∙ ap result_ok c.read.ensures.value)
-    ∙ as_month_year c.args.value.now (λ x h. c.spellings_are_plain.ensures.month_year c.args.value.now x h)
+    ∙ as_month_year
+    c.args.value.now (λ x h. c.spellings_are_plain.ensures.month_year c.args.value.now x h)

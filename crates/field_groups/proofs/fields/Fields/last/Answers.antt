@@ -1,4 +1,3 @@
-use Rattle.std.proofs.Common.{◌∙◌, ap, sym, option_map}
 use Rattle.field_groups.proofs.Places.{last_seen}
 use Rattle.field_groups.proofs.fields.Fields.last.Goals as goal
 

@@ -11,4 +11,5 @@ pub returns-in-Some : goal.returns-in-Some
 returns-in-Some c =
     rw (← c.self.view_is)
     (c.has.ensures ∙ ap (λ (line : Option (List Member)). is_astray c.args.tag line)
-    (ap (option_map members) c.in-Some.ensures.value ∙ rw c.deref.ensures.value (last_seen members c.self.inside.lines.items)))
+    (ap (option_map members) c.in-Some.ensures.value
+    ∙ rw c.deref.ensures.value (last_seen members c.self.inside.lines.items)))

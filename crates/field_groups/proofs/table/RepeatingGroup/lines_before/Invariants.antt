@@ -1,7 +1,6 @@
 use Rattle.std.proofs.Common.{◌≡◌, ◌+◌, ◌≤◌, length, take}
 use Rattle.std.specs.Prelude.{reverse}
-use Rattle.field_groups.specs.Tables.{has_tag}
-use Rattle.field_groups.specs.FirstFault.{is_opened, lines_begun, line_before}
+use Rattle.field_groups.specs.FirstFault.{lines_begun}
 use Rattle.field_groups.specs.CodeTables.{seen, own_tags}
 use Rattle.field_groups.proofs.table.RepeatingGroup.lines_before.Given as goal
 
@@ -11,5 +10,6 @@ decreases-loop-place g l = l.place
 abbrev pub invariant-loop-place : goal.invariant-loop-place
 invariant-loop-place g l = record {
   within : l.place ≤ length l.before;
-  same : l.lines + lines_begun (own_tags l.self) (reverse (take l.place (seen l.before))) ≡ lines_begun (own_tags l.self) (reverse (seen l.before));
+  same : l.lines + lines_begun (own_tags l.self) (reverse (take l.place (seen l.before)))
+      ≡ lines_begun (own_tags l.self) (reverse (seen l.before));
 }

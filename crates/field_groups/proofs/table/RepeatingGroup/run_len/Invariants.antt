@@ -6,5 +6,6 @@ use Rattle.field_groups.proofs.table.RepeatingGroup.run_len.Given as goal
 
 abbrev pub invariant-loop-place : goal.invariant-loop-place
 invariant-loop-place g l =
-    l.place + prefix_len (λ field. is_inside (own_tags l.self) field.0) (drop l.place (seen l.fields))
+    l.place
+    + prefix_len (λ field. is_inside (own_tags l.self) field.0) (drop l.place (seen l.fields))
     ≡ prefix_len (λ field. is_inside (own_tags l.self) field.0) (seen l.fields)

@@ -1,4 +1,4 @@
-use Rattle.std.proofs.Common.{◌≡◌, sym, ap, ◌∙◌, true, false, Bool, refl}
+use Rattle.std.proofs.Common.{sym, ap, ◌∙◌, true, false, Bool, refl}
 use Rattle.std.specs.Prelude.{◌||◌, not}
 use Rattle.std.specs.List.{list_any}
 use Rattle.field_groups.specs.FirstFault.{is_of_group, group_tags_in}
@@ -11,15 +11,22 @@ loop-item-init g c = refl
 
 pub returns-then-is_in_group : goal.returns-then-is_in_group
 returns-then-is_in_group g c =
-    sym (ap (λ (b : Bool). not b || list_any (is_of_group c.args.tag) (group_tags_in (own c.args.self.now))) c.if-not-self.false
+    sym (ap (λ (b : Bool). not b || list_any
+    (is_of_group c.args.tag) (group_tags_in (own c.args.self.now))) c.if-not-self.false
     ∙ groups-table c.args.tag c.args.self.now
-    ∙ any_found (item_group c.args.tag) c.args.self.now.items.now c.loop-item.item-index c.item-item.result c.item-item.is c.loop-item-test.true c.loop-item.invariant (sym c.if-is_in_group.ensures))
+    ∙ any_found
+    (item_group c.args.tag) c.args.self.now.items.now c.loop-item.item-index c.item-item.result
+    c.item-item.is c.loop-item-test.true c.loop-item.invariant (sym c.if-is_in_group.ensures))
 
 pub loop-item-preserved : goal.loop-item-preserved
-loop-item-preserved g c = any_passed (item_group c.args.tag) c.args.self.now.items.now c.loop-item.item-index c.item-item.result c.item-item.is c.loop-item-test.true c.loop-item.invariant (sym c.if-is_in_group.ensures)
+loop-item-preserved g c = any_passed
+    (item_group c.args.tag) c.args.self.now.items.now c.loop-item.item-index c.item-item.result
+    c.item-item.is c.loop-item-test.true c.loop-item.invariant (sym c.if-is_in_group.ensures)
 
 pub returns : goal.returns
 returns g c =
-    sym (ap (λ (b : Bool). not b || list_any (is_of_group c.args.tag) (group_tags_in (own c.args.self.now))) c.if-not-self.false
+    sym (ap (λ (b : Bool). not b || list_any
+    (is_of_group c.args.tag) (group_tags_in (own c.args.self.now))) c.if-not-self.false
     ∙ groups-table c.args.tag c.args.self.now
-    ∙ any_ended (item_group c.args.tag) c.args.self.now.items.now c.loop-item.item-index c.loop-item-test.false c.loop-item.invariant)
+    ∙ any_ended (item_group c.args.tag) c.args.self.now.items.now
+    c.loop-item.item-index c.loop-item-test.false c.loop-item.invariant)

@@ -10,5 +10,7 @@ returns c =
     let count = c.args.count in
     let items = c.self.inside.bytes.items in
     let build : List ℕ → List ℕ → Window = λ seen unread. record { read = seen; unread = unread } in
-    rw (← c.self.view_is) (ap (λ (l : List ℕ). build l (drop (start + count) items)) (take-add start count items)
-    ∙ ap (λ (l : List ℕ). build (take start items ++ take count (drop start items)) l) (sym (drop-drop count start items)))
+    rw (← c.self.view_is)
+    (ap (λ (l : List ℕ). build l (drop (start + count) items)) (take-add start count items)
+    ∙ ap (λ (l : List ℕ). build (take start items ++ take count (drop start items)) l)
+    (sym (drop-drop count start items)))

@@ -1,4 +1,4 @@
-use Rattle.std.proofs.Common.{◌≡◌, ◌∙◌, ℕ, List, Some, None, ap}
+use Rattle.std.proofs.Common.{◌≡◌, ◌∙◌, Some, None, ap}
 use Rattle.std.specs.Option.{option_map}
 use Rattle.order_chains.specs.Chains.{orig_of}
 use Rattle.order_chains.proofs.ChainLemmas.{orig_of-kept}

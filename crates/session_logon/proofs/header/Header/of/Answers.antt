@@ -11,9 +11,12 @@ loop-place-preserved c =
     elim c.match-at.branch [
       | in-Some w ↦
           let field : Field = (w.in-Some.tag, w.in-Some.value.now) in
-          let at : slice_get c.args.fields.now c.loop-place.place ≡ Some field = sym w.in-Some.ensures in
-          w.header-is ∙ w.note.ensures ∙ ap (noted field) c.loop-place.invariant ∙ sym (header_of_more c.args.fields.now c.loop-place.place field at)
+          let at : slice_get c.args.fields.now c.loop-place.place ≡ Some field =
+          sym w.in-Some.ensures in
+          w.header-is ∙ w.note.ensures ∙ ap (noted field) c.loop-place.invariant
+          ∙ sym (header_of_more c.args.fields.now c.loop-place.place field at)
       | in_default w ↦
-          let within : c.loop-place.place < length c.args.fields.now = omega (arith, c.loop-place-test.true, c.len-place-end.ensures) in
+          let within : c.loop-place.place < length c.args.fields.now =
+          omega (arith, c.loop-place-test.true, c.len-place-end.ensures) in
           absurd (none_within c.args.fields.now c.loop-place.place within w.in_default.ensures)
     ]

@@ -5,6 +5,11 @@ use Rattle.typed_fields.proofs.dec.Dec.whole_text.Goals as goal
 pub returns-clause-len : goal.returns-clause-len
 returns-clause-len c =
     let text : length c.as_bytes.result.now ≤ 15 =
-    rw (c.as_bytes.ensures.value, c.format-whole.ensures.text, c.unsigned_abs.ensures.value, dec_fits c.args.self.now c.requires) (whole_is_short c.args.self.now c.requires) in
+    rw (
+      c.as_bytes.ensures.value,
+      c.format-whole.ensures.text,
+      c.unsigned_abs.ensures.value,
+      dec_fits c.args.self.now c.requires,
+    ) (whole_is_short c.args.self.now c.requires) in
     let none = ap length c.new-text.ensures in
     grind (arith, text, none, c.append-2.ensures.len, c.append.ensures.len, c.sign.ensures.len)
