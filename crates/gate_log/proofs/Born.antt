@@ -1,14 +1,17 @@
 -- How an unborn disk gets its birth record.
-use Rattle.std.proofs.Common.{◌≡◌, ◌≢◌, inl, inr, ◌⊎◌, ℕ, ◌+◌, ◌<◌, ◌≤◌, max, List, [], ◌∷◌, ◌++◌, length, take, drop, refl, sym, ◌∙◌, ap, subst, arith, length-append, length-drop, Some, None, is_some, IfSome}
+use Rattle.std.proofs.Common.{◌≡◌, inl, inr, ℕ, ◌<◌, ◌≤◌, List, [], ◌∷◌, ◌++◌}
+use Rattle.std.proofs.Common.{length, drop, refl, sym, ◌∙◌, ap, subst, arith}
+use Rattle.std.proofs.Common.{length-drop, Some, None, is_some, IfSome}
 use Rattle.std.specs.declared.option.Option.{Option}
 use Rattle.std.specs.Option.{ForSome, option_map}
-use Rattle.outside.specs.declared.disk.TheConstants.{MAX_DISK}
-use Rattle.outside.specs.Disk.{write, Torn, Follows, AreAmong, Only, HasOneImage}
+use Rattle.outside.specs.Disk.{write, Torn, AreAmong, Only, HasOneImage}
 use Rattle.gate_log.specs.declared.TheConstants.{BIRTH_LEN}
-use Rattle.gate_log.specs.Records.{blocks, IsLog, IsShut, IsUnborn, Stands}
-use Rattle.gate_log.specs.Commit.{EndsAt, CommitsOrNot, Commits, WithOrWithout}
+use Rattle.gate_log.specs.Records.{IsShut, IsUnborn, Stands}
+use Rattle.gate_log.specs.Commit.{CommitsOrNot, Commits, WithOrWithout}
+use Rattle.gate_log.specs.Steps.{EndsAt, Ends, IsTorn}
 use Rattle.gate_log.specs.Log.{StaysUnborn, BornOrNot}
 use Rattle.gate_log.proofs.Blocks.{Stands-unique}
+use Rattle.gate_log.proofs.CommitSteps.{ends}
 use Rattle.gate_log.proofs.Told.{if_some, at_some, to_some}
 
 pub unborn_shut : (b : List ℕ) → IsUnborn b → 1 < length b → IsShut b
@@ -17,73 +20,99 @@ unborn_shut b (inr shut) long = shut.1
 
 -- ---- the first gate is shut
 
-module _ (told : Option (List ℕ)) (len : ℕ) (unborn : ForSome told (λ b. IsUnborn b × (len ≡ length b))) where
-  pub stays_unborn : len ≤ 1 → (im0 im1 : List ℕ → Type 0) → Follows (Torn 0 1) im0 im1 → StaysUnborn told im0 im1
+module _ (told : Option (List ℕ))
+    (len : ℕ) (unborn : ForSome told (λ b. IsUnborn b × (len ≡ length b))) where
+  pub stays_unborn : len ≤ 1
+      → (im0 im1 : List ℕ → Type 0) → IsTorn 0 1 im0 im1 → StaysUnborn told im0 im1
   stays_unborn short im0 im1 follows = if_some told _ (λ b e only image left.
-      let from = follows image left in
+      let from = follows.each image left in
       let torn = subst (λ d. Torn 0 1 d image) (only from.0 from.1) from.2 in
       let size = (unborn b e).1 in
       inl (omega (arith, torn.no_longer, size, short)))
 
-  pub shut_written : len ≤ 1 → (told1 : Option (List ℕ)) → told1 ≡ option_map (write 0 (0 ∷ [])) told → ForSome told1 (λ b. IsUnborn b × IsShut b)
+  pub shut_written : len ≤ 1 → (told1 : Option (List ℕ))
+      → told1 ≡ option_map (write 0 (0 ∷ [])) told → ForSome told1 (λ b. IsUnborn b × IsShut b)
   shut_written short told1 written x e = go told refl
     where
       go : (o : Option (List ℕ)) → told ≡ o → IsUnborn x × IsShut x
       go None none = absurd (cc (written ∙ ap (option_map (write 0 (0 ∷ []))) none, e))
       go (Some b) some =
           let same : x ≡ 0 ∷ drop 1 b = cc (written ∙ ap (option_map (write 0 (0 ∷ []))) some, e) in
-          let size = (unborn b some).1 in
-          (inl (omega (arith, ap length same, length-drop 1 b, size, short)), (0, drop 1 b, same, λ e. absurd (cc e)))
-
-pub fewer_unborn : (told : Option (List ℕ)) (before mid after : List ℕ → Type 0) → StaysUnborn told before mid → AreAmong after mid → StaysUnborn told before after
-fewer_unborn None before mid after so_far among = tt
-fewer_unborn (Some b) before mid after so_far among = λ only image left. so_far only image (among image left)
+          let size = (unborn b some).1 in (
+            inl (omega (arith, ap length same, length-drop 1 b, size, short)),
+            (0, drop 1 b, same, λ e. absurd (cc e)),
+          )
 
 -- ---- what a birth does to images
 
-pub born_same : (told : Option (List ℕ)) (before after : List ℕ → Type 0) (birth : List ℕ) → AreAmong after before → BornOrNot told before after birth
-born_same told before after birth among = if_some told _ (λ b e only ps stands image left. inl (subst (λ i. Stands i ps) (sym (only image (among image left))) stands))
+pub born_same : (told : Option (List ℕ)) (before after : List ℕ → Type 0) (birth : List ℕ)
+    → AreAmong after before → BornOrNot told before after birth
+born_same told before after birth among = if_some told _ (λ b e only ps stands image left.
+    inl (subst (λ i. Stands i ps) (sym (only image (among image left))) stands))
 
-module _ (told : Option (List ℕ)) (len : ℕ) (unborn : ForSome told (λ b. IsUnborn b × (len ≡ length b))) (birth : List ℕ) where
+module _ (told : Option (List ℕ))
+    (len : ℕ) (unborn : ForSome told (λ b. IsUnborn b × (len ≡ length b))) (birth : List ℕ) where
   no_payloads : (b : List ℕ) → told ≡ Some b → (ps : List (List ℕ)) → Stands b ps → [] ≡ ps
   no_payloads b e ps stands = Stands-unique b [] ps (unborn b e).0 stands
 
-  pub born_of_stays : (before after : List ℕ → Type 0) → StaysUnborn told before after → BornOrNot told before after birth
+  pub born_of_stays : (before after : List ℕ → Type 0)
+      → StaysUnborn told before after → BornOrNot told before after birth
   born_of_stays before after stays = if_some told _ (λ b e only ps stands image left.
-      inl (subst (Stands image) (no_payloads b e ps stands) (at_some told (λ x. Only x before → AreAmong after IsUnborn) b e stays only image left)))
+      inl (subst (Stands image) (no_payloads b e ps stands)
+      (at_some told (λ x. Only x before → AreAmong after IsUnborn) b e stays only image left)))
 
-  module _ (told1 : Option (List ℕ)) (shut : ForSome told1 (λ b. IsUnborn b × IsShut b)) (told_same : is_some told1 ≡ is_some told) (sized : length birth ≡ BIRTH_LEN) where
-    pub ends : ForSome told1 (EndsAt 0 birth)
-    ends b e =
+  module _ (told1 : Option (List ℕ)) (shut : ForSome told1 (λ b. IsUnborn b × IsShut b))
+      (told_same : is_some told1 ≡ is_some told) (sized : length birth ≡ BIRTH_LEN) where
+    ends_at : ForSome told1 (EndsAt 0 birth)
+    ends_at b e =
         let s = shut b e in
         record {
           payloads = [];
-          log = record { gate = s.1.0; after = s.1.1; split = s.1.2; shut = s.1.3; fit = tt; within = omega arith };
+          log = record {
+            gate =
+                s.1.0;
+            after = s.1.1;
+            split = s.1.2;
+            shut = s.1.3;
+            fit = tt;
+            within = omega arith;
+          };
           stands = s.0;
           fits = sized;
           place = refl;
         }
 
-    told_too : (o : Option (List ℕ)) → told1 ≡ o → (b : List ℕ) → told ≡ Some b → (x : List ℕ) × (told1 ≡ Some x)
+    pub birth_ends : Ends told1 0 birth
+    birth_ends = ends told1 0 birth ends_at
+
+    told_too : (o : Option (List ℕ))
+        → told1 ≡ o → (b : List ℕ) → told ≡ Some b → (x : List ℕ) × (told1 ≡ Some x)
     told_too None e b is = absurd (cc (ap is_some e, ap is_some is, told_same))
     told_too (Some x) e b is = (x, e)
 
-    pub born : (before mid after : List ℕ → Type 0) → (HasOneImage told before → HasOneImage told1 mid) → CommitsOrNot told1 mid after birth → BornOrNot told before after birth
+    pub born : (before mid after : List ℕ → Type 0)
+        → (HasOneImage told before → HasOneImage told1 mid)
+        → CommitsOrNot told1 mid after birth → BornOrNot told before after birth
     born before mid after one commits = if_some told _ (λ b e only ps stands image left.
         let none = no_payloads b e ps stands in
         let x = told_too told1 refl b e in
-        let only_mid = at_some told1 (λ y. Only y mid) x.0 x.1 (one (to_some told (λ y. Only y before) b e only)) in
-        let answer = at_some told1 (λ y. Only y mid → (qs : List (List ℕ)) → Stands y qs → (i : List ℕ) → after i → WithOrWithout qs birth i) x.0 x.1 commits only_mid [] (shut x.0 x.1).0 image left in
+        let only_mid = at_some
+        told1 (λ y. Only y mid) x.0 x.1 (one (to_some told (λ y. Only y before) b e only)) in
+        let answer = at_some
+        told1 (λ y. Only y mid → (qs : List (List ℕ)) → Stands y qs → (i : List ℕ) → after i
+        → WithOrWithout qs birth i) x.0 x.1 commits.each only_mid [] (shut x.0 x.1).0 image left in
         elim answer [
           | inl old ↦ inl (subst (Stands image) none old)
           | inr new ↦ inr (sym none, new)
         ])
 
-    pub stands_born : (told2 : Option (List ℕ)) → is_some told2 ≡ is_some told1 → Commits told1 told2 birth → ForSome told2 (λ b. Stands b (birth ∷ []))
+    pub stands_born : (told2 : Option (List ℕ)) → is_some told2 ≡ is_some told1
+        → Commits told1 told2 birth → ForSome told2 (λ b. Stands b (birth ∷ []))
     stands_born told2 same commits x e = go told1 refl
       where
         go : (o : Option (List ℕ)) → told1 ≡ o → Stands x (birth ∷ [])
         go None none = absurd (cc (ap is_some none, ap is_some e, same))
         go (Some y) some =
-            let answer = at_some told1 (λ z. (qs : List (List ℕ)) → Stands z qs → IfSome told2 (λ after. Stands after (qs ++ birth ∷ []))) y some commits [] (shut y some).0 in
+            let answer = at_some told1 (λ z. (qs : List (List ℕ)) → Stands z qs → IfSome told2
+            (λ after. Stands after (qs ++ birth ∷ []))) y some commits.added [] (shut y some).0 in
             at_some told2 (λ z. Stands z (birth ∷ [])) x e answer

@@ -1,4 +1,5 @@
 pub mod Blocks
+pub mod Refused
 pub mod Crash
 pub mod Told
 pub mod CommitSteps

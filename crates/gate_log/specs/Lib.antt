@@ -1,5 +1,6 @@
 pub mod Records
 pub mod Commit
+pub mod Steps
 pub mod State
 pub mod Log
 pub mod Scan

@@ -1,5 +1,5 @@
 -- Own: what contracts see of a log, and what its calls answer.
-use Rattle.std.specs.Prelude.{◌≡◌, ◌⊎◌, ℕ, ◌+◌, ◌-◌, ◌≤◌, ◌<◌, List, [], ◌∷◌, ◌++◌, length, Bool, false}
+use Rattle.std.specs.Prelude.{◌≡◌, ◌⊎◌, ℕ, ◌+◌, ◌-◌, ◌≤◌, ◌<◌, List, [], ◌∷◌, ◌++◌, length}
 use Rattle.std.specs.Prelude.{true, Some, None, IfSome, Result, Ok, Err}
 use Rattle.std.specs.declared.option.Option.{Option}
 use Rattle.outside.specs.declared.disk.TheConstants.{MAX_DISK}
@@ -12,18 +12,19 @@ use Rattle.gate_log.specs.Commit.{WithOrWithout}
 use Rattle.gate_log.specs.State.{LogState}
 
 -- what a call that only reads leaves of a disk
-pub record OnlyRead (told_old told_new : Option (List ℕ)) (before after : List ℕ → Type 0) : Type 0 where
-  pub same : told_new ≡ told_old
-  pub images : AreAmong after before
-  pub kept : AreAmong before after
+pub record OnlyRead (told_old told_new : Option (List ℕ)) (before after : List ℕ → Type 0) : Type 0
+  where
+    pub same : told_new ≡ told_old
+    pub images : AreAmong after before
+    pub kept : AreAmong before after
 
 -- a disk fault comes only where the count of faults rose, and else the count stands still
 abbrev pub HasFaultCause : {T : Type 0} → ℕ → ℕ → Result T LogError → Type 0
 HasFaultCause before now (Err errors.DiskFault) = (before ≤ now) × Rose before now
 HasFaultCause before now answer = now ≡ before
 
--- What a look at these bytes answers: a log exactly where they stand for records, none exactly where
--- they are unborn, a refusal exactly where they are refused at that place.
+-- What a look at these bytes answers: a log exactly where they stand for records, none exactly
+-- where they are unborn, a refusal exactly where they are refused at that place.
 abbrev pub Looks : List ℕ → Result (Option LogState) LogError → Type 0
 Looks bytes (Ok None) = Stands bytes []
 Looks bytes (Ok (Some log)) = Stands bytes log.payloads
@@ -31,7 +32,8 @@ Looks bytes (Err (errors.Foreign at)) = IsRefused bytes at
 Looks bytes (Err errors.Full) = ⊥
 Looks bytes (Err other) = Unit {0}
 
--- What a load of these bytes answers, and what the disk tells then. An unborn log gets its birth record.
+-- What a load of these bytes answers, and what the disk tells then. An unborn log gets its birth
+-- record.
 abbrev pub Loads : List ℕ → List ℕ → Result LogState LogError → Option (List ℕ) → Type 0
 Loads birth bytes (Ok log) told =
     (Stands bytes log.payloads ⊎ (Stands bytes [] × (log.payloads ≡ birth ∷ []))) ×
@@ -40,8 +42,8 @@ Loads birth bytes (Err (errors.Foreign at)) told = IsRefused bytes at × (told �
 Loads birth bytes (Err errors.Full) told = ⊥
 Loads birth bytes (Err other) told = Unit {0}
 
--- where the one image of a disk stands for a list, each image after a load stands for it, or the list
--- was empty and has its birth record
+-- where the one image of a disk stands for a list, each image after a load stands for it, or the
+-- list was empty and has its birth record
 abbrev pub BornOrNot : Option (List ℕ) → (List ℕ → Type 0) → (List ℕ → Type 0) → List ℕ → Type 0
 BornOrNot told before after birth = IfSome told (λ bytes. Only bytes before →
     (payloads : List (List ℕ)) → Stands bytes payloads → (image : List ℕ) → after image →
@@ -51,8 +53,8 @@ BornOrNot told before after birth = IfSome told (λ bytes. Only bytes before →
 abbrev pub HasRoom : List (List ℕ) → List ℕ → Type 0
 HasRoom payloads payload = length (blocks payloads) + 5 + length payload < MAX_DISK
 
--- What an append answers: the place of the record, which is now the last; `Full` exactly where it has no
--- room, and then nothing changed; or a disk fault, after which the log is broken.
+-- What an append answers: the place of the record, which is now the last; `Full` exactly where it
+-- has no room, and then nothing changed; or a disk fault, after which the log is broken.
 abbrev pub Appends : List ℕ → LogState → LogState → Result ℕ LogError → Type 0
 Appends payload old new (Ok place) =
     (place ≡ length (blocks old.payloads)) × HasRoom old.payloads payload ×
@@ -63,9 +65,10 @@ Appends payload old new (Err errors.Full) =
     (MAX_DISK ≤ length (blocks old.payloads) + 5 + length payload) × (new ≡ old)
 Appends payload old new (Err other) = ⊥
 
--- where the one image of a disk stands for these payloads, each image then stands for them, with the new
--- one or without
-abbrev pub KeepsList : Option (List ℕ) → (List ℕ → Type 0) → (List ℕ → Type 0) → List (List ℕ) → List ℕ → Type 0
+-- where the one image of a disk stands for these payloads, each image then stands for them, with
+-- the new one or without
+abbrev pub KeepsList : Option (List ℕ)
+    → (List ℕ → Type 0) → (List ℕ → Type 0) → List (List ℕ) → List ℕ → Type 0
 KeepsList told before after payloads payload =
     IfSome told (λ bytes. Only bytes before → AreAmong after (WithOrWithout payloads payload))
 
@@ -81,5 +84,7 @@ abbrev pub StaysUnborn : Option (List ℕ) → (List ℕ → Type 0) → (List �
 StaysUnborn told before after = IfSome told (λ bytes. Only bytes before → AreAmong after IsUnborn)
 
 -- a disk that had one image has one again
-abbrev pub KeepsOneImage : Option (List ℕ) → Option (List ℕ) → (List ℕ → Type 0) → (List ℕ → Type 0) → Type 0
-KeepsOneImage told_old told_new before after = HasOneImage told_old before → HasOneImage told_new after
+abbrev pub KeepsOneImage : Option (List ℕ)
+    → Option (List ℕ) → (List ℕ → Type 0) → (List ℕ → Type 0) → Type 0
+KeepsOneImage told_old told_new before after =
+    HasOneImage told_old before → HasOneImage told_new after

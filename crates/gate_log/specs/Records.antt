@@ -61,17 +61,19 @@ pub record HoldsRecord (before : List (List ℕ)) (behind payload : List ℕ) : 
   pub fits : Fits before payload
   pub within : length (blocks before) + 5 + length payload < MAX_DISK
 
--- The image has records, and then at this place an open gate behind which none stands.
+-- The image has records, and then at this place, before the limit, an open gate behind which none
+-- stands.
 pub record BreaksAt (image : List ℕ) (at : ℕ) : Type 0 where
   pub before : List (List ℕ)
   pub behind : List ℕ
   pub split : image ≡ blocks before ++ 1 ∷ behind
   pub place : at ≡ length (blocks before)
+  pub within : at < MAX_DISK
   pub fit : AllFit before
   pub none : (payload : List ℕ) → HoldsRecord before behind payload → ⊥
 
--- The image is refused at this place: it is not unborn, and either an open gate there has no record,
--- or its first gate is closed.
+-- The image is refused at this place: it is not unborn, and either an open gate there has no
+-- record, or its first gate is closed.
 abbrev pub IsRefused : List ℕ → ℕ → Type 0
 IsRefused image at = ((1 < length image) × BreaksAt image at) ⊎
     ((161 < length image) × (at ≡ 0) × IsShut image)

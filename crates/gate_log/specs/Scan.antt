@@ -1,5 +1,6 @@
 -- Inside: what one pass over an image finds.
-use Rattle.std.specs.Prelude.{◌≡◌, ◌≤◌, ℕ, List, map, length, Bool, ◌==◌, ◌&&◌, nat_le, if◌then◌else◌}
+use Rattle.std.specs.Prelude.{◌≡◌, ◌≤◌, ℕ, List, map, length, Bool, ◌==◌, ◌&&◌, nat_le}
+use Rattle.std.specs.Prelude.{if◌then◌else◌}
 use Rattle.gate_log.specs.Records.{blocks, IsLog, IsUnborn, IsRefused, Stands}
 use Rattle.gate_log.specs.declared.TheConstants.{BIRTH_LEN, MAX_PAYLOAD}
 use Rattle.gate_log.specs.declared.scan.Found.{Found}

@@ -1,8 +1,8 @@
 //! A list of records on a disk, which a crash at any moment leaves whole.
 //!
-//! Each record stands behind a gate byte, and counts once that byte is 1. A record is written behind
-//! its closed gate and made stable before the gate is opened, so a crash leaves the list as it was, or
-//! with the one record in hand.
+//! Each record stands behind a gate byte, and counts once that byte is 1. A record is written
+//! behind its closed gate and made stable before the gate is opened, so a crash leaves the list as
+//! it was, or with the one record in hand.
 #![tactic(auto)]
 
 mod commit;

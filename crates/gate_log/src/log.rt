@@ -1,19 +1,24 @@
 //! A log: its payloads, in order, and the calls that read and lengthen it.
 
-ghost use Rattle.std.specs.Prelude.{◌≡◌, ◌+◌, ◌-◌, ◌^◌, ◌≤◌, ◌<◌, ◌∷◌, ◌++◌, ℕ, [], List, length, take, drop, is_some, false, IfOk};
+ghost use Rattle.std.specs.Prelude.{◌≡◌, ◌↔◌, IsTrue, ◌+◌, ◌-◌, ◌≤◌, ◌<◌, ◌∷◌, ◌++◌, ℕ, [], List};
+ghost use Rattle.std.specs.Prelude.{length};
+ghost use Rattle.std.specs.Prelude.{take, drop, is_some, false, IfOk};
 ghost use Rattle.std.specs.Prelude.{IfSome, OnOk, OnErr, IsOkUnless, vec_len, vec_capacity};
 ghost use Rattle.std.specs.Option.{ForSome};
-ghost use Rattle.std.specs.Int.{w32, to_be_bytes};
+ghost use Rattle.std.specs.Int.{to_be_bytes};
 ghost use Rattle.outside.specs.Causes.{HasCause};
 ghost use Rattle.outside.specs.Disk.{HasOneImage};
-ghost use Rattle.gate_log.specs.Records.{Stands, IsSized, IsUnborn, IsShut, record_of};
-ghost use Rattle.gate_log.specs.Commit.{EndsAt, CommitsOrNot, Commits};
+ghost use Rattle.gate_log.specs.Records.{blocks, Stands, IsSized, IsUnborn, IsShut, record_of};
+ghost use Rattle.gate_log.specs.Commit.{CommitsOrNot, Commits};
+ghost use Rattle.gate_log.specs.Steps.{Ends};
 ghost use Rattle.gate_log.specs.Kept.{StandsBehind};
-ghost use Rattle.gate_log.specs.Log.{OnlyRead, HasFaultCause, Looks, Loads, BornOrNot, Appends, KeepsList};
+ghost use Rattle.gate_log.specs.Log.{OnlyRead, HasFaultCause, Looks, Loads, BornOrNot, Appends};
+ghost use Rattle.gate_log.specs.Log.{HasRoom};
+ghost use Rattle.gate_log.specs.Log.{KeepsList};
 ghost use Rattle.gate_log.specs.Log.{IsAt, StaysUnborn, KeepsOneImage};
 ghost use Rattle.gate_log.specs.Scan.{HasRecords};
 
-use crate::commit::commit;
+use crate::commit::{commit, write_stable};
 use crate::scan::{Found, scan, split_len};
 use crate::{BIRTH_LEN, LogError, MAX_PAYLOAD, OPEN};
 use outside::{Disk, Failed, MAX_DISK};
@@ -38,7 +43,6 @@ pub struct Log {
 
 impl Model for Log {
     ghost use Rattle.gate_log.specs.State.{LogState};
-    ghost use Rattle.gate_log.specs.Commit.{EndsAt, CommitsOrNot, Commits};
 
     ghost Value = { LogState };
 
@@ -52,7 +56,8 @@ impl Model for Log {
 /// All bytes of a disk.
 fn read_image<D: Disk>(alloc: Global, disk: &mut D) -> Result<Vec<u8>, LogError>
     ensures bytes { IfOk result (λ v. IfSome (D.bytes disk.old) (λ b. v.items ≡ b)) }
-    ensures only_read { OnlyRead (D.bytes disk.old) (D.bytes disk.new) (D.image disk.old) (D.image disk.new) }
+    ensures only_read { OnlyRead (D.bytes disk.old) (D.bytes disk.new)
+        (D.image disk.old) (D.image disk.new) }
     ensures cause { HasFaultCause (D.faults disk.old) (D.faults disk.new) result }
     ensures only { (result ≡ Err LogError.Full) → ⊥ }
     ensures not_foreign { (at : ℕ) → (result ≡ Err (LogError.Foreign at)) → ⊥ }
@@ -118,8 +123,7 @@ fn shut_first_gate<D: Disk>(disk: &mut D, len: usize) -> Result<(), Failed>
     if len > 1 {
         return Ok(());
     }
-    disk.write_at(0, &[CLOSED])?;
-    disk.sync()
+    write_stable(disk, 0, &[CLOSED])
 }
 
 /// Makes a log on a disk whose image, of this length, is unborn.
@@ -192,14 +196,15 @@ fn add<D: Disk>(disk: &mut D, bytes: &mut Vec<u8>, payload: &[u8]) -> Result<(),
     requires room { vec_len bytes.old + (5 + MAX_PAYLOAD) ≤ vec_capacity bytes.old }
     requires sized { length payload.now ≤ MAX_PAYLOAD }
     requires limit { length bytes.old.items + 4 + length payload.now < MAX_DISK }
-    requires stands { ForSome (D.bytes disk.old) (EndsAt (length bytes.old.items - 1) payload.now) }
+    requires ends { Ends (D.bytes disk.old) (length bytes.old.items - 1) payload.now }
     ensures ok { OnOk result ((front : List ℕ) → bytes.old.items ≡ front ++ 0 ∷ [] →
         bytes.new.items ≡ front ++ 1 ∷ record_of payload.now) }
     ensures err { OnErr result (bytes.new.items ≡ bytes.old.items) }
     ensures capacity { vec_capacity bytes.old ≤ vec_capacity bytes.new }
     ensures appended { OnOk result (Commits (D.bytes disk.old) (D.bytes disk.new) payload.now) }
     ensures durable { OnOk result (HasOneImage (D.bytes disk.new) (D.image disk.new)) }
-    ensures images { CommitsOrNot (D.bytes disk.old) (D.image disk.old) (D.image disk.new) payload.now }
+    ensures images { CommitsOrNot (D.bytes disk.old)
+        (D.image disk.old) (D.image disk.new) payload.now }
     ensures told { is_some (D.bytes disk.new) ≡ is_some (D.bytes disk.old) }
     ensures reads { D.reads disk.new ≡ D.reads disk.old }
     ensures cause { HasCause (D.faults disk.old) (D.faults disk.new) result }
@@ -235,11 +240,12 @@ impl Log {
     /// The log on a disk; none where the disk is unborn. It only reads.
     ///
     /// # Errors
-    /// `Foreign` exactly where the bytes are refused at that place; `DiskFault` only where the disk's count
-    /// of faults rose; `NoMemory`.
+    /// `Foreign` exactly where the bytes are refused at that place; `DiskFault` only where the
+    /// disk's count of faults rose; `NoMemory`.
     pub fn look<D: Disk>(alloc: Global, disk: &mut D) -> Result<Option<Log>, LogError>
         ensures looks { IfSome (D.bytes disk.old) (λ b. Looks b result) }
-        ensures only_read { OnlyRead (D.bytes disk.old) (D.bytes disk.new) (D.image disk.old) (D.image disk.new) }
+        ensures only_read { OnlyRead (D.bytes disk.old) (D.bytes disk.new)
+            (D.image disk.old) (D.image disk.new) }
         ensures cause { HasFaultCause (D.faults disk.old) (D.faults disk.new) result }
     {
         let image = read_image(alloc, disk)?;
@@ -252,9 +258,26 @@ impl Log {
 
     /// How many payloads it has.
     pub fn count(&self) -> u64
-        ensures { result ≡ length self.now.payloads }
+        ensures count { result ≡ length self.now.payloads }
+        ensures born { 1 ≤ result }
     {
         self.lens.len() as u64
+    }
+
+    /// The place of its closing gate.
+    fn end(&self) -> usize
+        ensures place { result ≡ length (blocks self.now.payloads) }
+        ensures bound { result < MAX_DISK }
+    {
+        self.bytes.len() - 1
+    }
+
+    /// Whether the record of this payload ends within a disk, with the gate behind it.
+    fn has_room(&self, payload: &[u8]) -> bool
+        requires { length payload.now ≤ MAX_PAYLOAD }
+        ensures { IsTrue result ↔ HasRoom self.now.payloads payload.now }
+    {
+        self.end() + 5 + payload.len() < MAX_DISK as usize
     }
 
     /// Makes room for one record.
@@ -282,8 +305,12 @@ impl Log {
     /// `DiskFault` only where the disk's count of faults rose; `NoMemory`.
     pub fn load<D: Disk>(alloc: Global, disk: &mut D, birth: &[u8]) -> Result<Log, LogError>
         requires { length birth.now ≡ BIRTH_LEN }
-        ensures loads { IfSome (D.bytes disk.old) (λ b. Loads birth.now b result (D.bytes disk.new)) }
-        ensures images { BornOrNot (D.bytes disk.old) (D.image disk.old) (D.image disk.new) birth.now }
+        ensures loads { IfSome (D.bytes disk.old) (λ b. Loads birth.now b result
+            (D.bytes disk.new)) }
+        ensures stands { IfOk result (λ log. ForSome (D.bytes disk.new) (λ b.
+            Stands b log.payloads)) }
+        ensures images { BornOrNot (D.bytes disk.old)
+            (D.image disk.old) (D.image disk.new) birth.now }
         ensures durable { OnOk result (HasOneImage (D.bytes disk.old) (D.image disk.old) →
             HasOneImage (D.bytes disk.new) (D.image disk.new)) }
         ensures whole { IfOk result (λ log. log.broken ≡ false) }
@@ -299,19 +326,20 @@ impl Log {
 
     /// Appends a record, and answers its place.
     ///
-    /// It makes four calls of the disk and takes no memory. A crash at any moment leaves the list as it was,
-    /// or with the record.
+    /// It makes four calls of the disk and takes no memory. A crash at any moment leaves the list
+    /// as it was, or with the record.
     ///
     /// # Errors
-    /// `Full` exactly where the record would end past the last byte of a disk, and then nothing was written;
-    /// `DiskFault` only where the disk's count of faults rose, and then the log is broken.
+    /// `Full` exactly where the record would end past the last byte of a disk, and then nothing was
+    /// written; `DiskFault` only where the disk's count of faults rose, and then the log is broken.
     pub fn append<D: Disk>(&mut self, disk: &mut D, payload: &[u8]) -> Result<u64, LogError>
         requires spare { 1 ≤ self.old.spare }
         requires sized { IsSized payload.now }
         requires whole { self.old.broken ≡ false }
         requires stands { ForSome (D.bytes disk.old) (λ b. Stands b self.old.payloads) }
         ensures appends { Appends payload.now self.old self.new result }
-        ensures stands { OnOk result (ForSome (D.bytes disk.new) (λ b. Stands b self.new.payloads)) }
+        ensures stands { OnOk result (ForSome (D.bytes disk.new)
+            (λ b. Stands b self.new.payloads)) }
         ensures durable { OnOk result (HasOneImage (D.bytes disk.new) (D.image disk.new)) }
         ensures images { KeepsList (D.bytes disk.old) (D.image disk.old) (D.image disk.new)
             self.old.payloads payload.now }
@@ -319,10 +347,10 @@ impl Log {
         ensures reads { D.reads disk.new ≡ D.reads disk.old }
         ensures cause { HasFaultCause (D.faults disk.old) (D.faults disk.new) result }
     {
-        let end = self.bytes.len() - 1;
-        if end + 5 + payload.len() >= MAX_DISK as usize {
+        if !self.has_room(payload) {
             return Err(LogError::Full);
         }
+        let end = self.end();
         match add(disk, &mut self.bytes, payload) {
             Ok(()) => {
                 self.lens.push_reserved(payload.len() as u32);
@@ -346,7 +374,8 @@ impl Log {
         ensures payload { OnOk result ((payload : List ℕ) → IsAt self.now.payloads place payload →
             out.new.items ≡ payload) }
         ensures refused { OnErr result (out.new.items ≡ []) }
-        ensures only_read { OnlyRead (D.bytes disk.old) (D.bytes disk.new) (D.image disk.old) (D.image disk.new) }
+        ensures only_read { OnlyRead (D.bytes disk.old) (D.bytes disk.new)
+            (D.image disk.old) (D.image disk.new) }
         ensures cause { HasFaultCause (D.faults disk.old) (D.faults disk.new) result }
         ensures only { (result ≡ Err LogError.Full) → ⊥ }
         ensures not_foreign { (at : ℕ) → (result ≡ Err (LogError.Foreign at)) → ⊥ }

@@ -1,6 +1,7 @@
 //! One pass over an image: the records that it holds, or where it is refused.
 
-ghost use Rattle.std.specs.Prelude.{◌≡◌, ◌<◌, ◌^◌, ◌∷◌, ◌++◌, List, ℕ, length, IfOk, MatchOption};
+ghost use Rattle.std.specs.Prelude.{◌≡◌, ◌==◌, ◌<◌, ◌^◌, ◌∷◌, ◌++◌, List, ℕ, length, IfOk};
+ghost use Rattle.std.specs.Prelude.{MatchOption};
 ghost use Rattle.std.specs.Int.{w32, to_be_bytes};
 ghost use Rattle.gate_log.specs.Records.{blocks, HoldsRecord};
 ghost use Rattle.gate_log.specs.Scan.{IsFound, fits_at};
@@ -20,7 +21,15 @@ pub(crate) enum Found {
     Refused(usize),
 }
 
-/// The length that stands in front, and what is behind it; none where four bytes do not stand there.
+/// Whether a gate is open. Any other byte than 1 closes it.
+fn is_open(gate: u8) -> bool
+    ensures { result ≡ (gate == 1) }
+{
+    gate == OPEN
+}
+
+/// The length that stands in front, and what is behind it; none where four bytes do not stand
+/// there.
 pub(crate) fn split_len(bytes: &[u8]) -> Option<(usize, &[u8])>
     ensures { MatchOption result (length bytes.now < 4) (λ x.
         (bytes.now ≡ to_be_bytes w32 x.0 ++ x.1.now) × (x.0 < 2 ^ 32)) }
@@ -48,7 +57,8 @@ fn payload_len(behind: &[u8], at: usize) -> Option<usize>
     requires { at < 2 ^ 63 }
     ensures { (before : List (List ℕ)) → at ≡ length (blocks before) → MatchOption result
         ((payload : List ℕ) → HoldsRecord before behind.now payload → ⊥)
-        (λ len. (payload : List ℕ) × HoldsRecord before behind.now payload × (len ≡ length payload)) }
+        (λ len. (payload : List ℕ) × HoldsRecord before behind.now payload
+        × (len ≡ length payload)) }
 {
     let (len, rest) = split_len(behind)?;
     if may_have(at, len) && len < rest.len() && at + 5 + len < MAX_DISK as usize {
@@ -64,7 +74,7 @@ fn payload_len(behind: &[u8], at: usize) -> Option<usize>
 pub(crate) fn scan(alloc: Global, image: &[u8]) -> Result<Found, AllocError>
     ensures { IfOk result (λ found. IsFound image.now found) }
 {
-    let is_shut = image.first().is_some_and(|gate| *gate != OPEN);
+    let is_shut = image.first().is_some_and(|gate| !is_open(*gate));
     if image.len() <= 1 || (image.len() <= UNBORN_LEN && is_shut) {
         return Ok(Found::Unborn);
     }
@@ -88,7 +98,7 @@ fn records(alloc: Global, image: &[u8]) -> Result<Found, AllocError>
         };
         lens.push(len as u32)?;
         end += 5 + len;
-        if image[end] != OPEN {
+        if !is_open(image[end]) {
             return Ok(Found::Records(lens, end));
         }
     }

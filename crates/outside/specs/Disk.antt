@@ -1,6 +1,7 @@
 -- Own: what the calls of a disk do to its bytes, and what a crash may leave; docs/DEFINITIONS.md,
 -- "Disk and journal".
-use Rattle.std.specs.Prelude.{◌≡◌, ℕ, ◌+◌, ◌-◌, ◌≤◌, max, min, List, ◌++◌, length, take, drop, IfSome}
+use Rattle.std.specs.Prelude.{◌≡◌, ℕ, ◌+◌, ◌-◌, ◌≤◌, max, min, List, ◌++◌, length, take, drop}
+use Rattle.std.specs.Prelude.{IfSome}
 use Rattle.std.specs.Prelude.{Result, IfOk}
 use Rattle.std.specs.declared.option.Option.{Option}
 

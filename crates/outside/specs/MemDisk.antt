@@ -1,8 +1,8 @@
 -- Own: what contracts see of the disk in memory.
-use Rattle.std.specs.Prelude.{◌≡◌, ◌⊎◌, ℕ, zero, suc, ◌+◌, ◌≤◌, max, List, [], ◌∷◌, ◌++◌, map, length, Bool}
+use Rattle.std.specs.Prelude.{◌≡◌, ◌⊎◌, ℕ, zero, suc, ◌+◌, ◌≤◌, max, List, [], ◌∷◌, ◌++◌, map}
+use Rattle.std.specs.Prelude.{length, Bool}
 use Rattle.std.specs.Prelude.{if◌then◌else◌, Result, IsErr, IsTrue}
-use Rattle.std.specs.Prelude.{true, false, replicate, Some, None}
-use Rattle.std.specs.declared.option.Option.{Option}
+use Rattle.std.specs.Prelude.{false, replicate, Some, None}
 use Rattle.outside.specs.Disk.{Torn, write, replaced}
 use Rattle.outside.specs.Causes.{faults_after}
 use Rattle.outside.specs.Memory.{DiskState, Write, IsListed, called}
@@ -13,7 +13,7 @@ use Rattle.outside.specs.declared.mem_disk.Image.{Image}
 use Rattle.outside.specs.declared.mem_disk.Image.TheVariants as images
 use Rattle.outside.specs.declared.mem_disk.Fuse.{Fuse}
 use Rattle.outside.specs.declared.mem_disk.MemDisk.TheInside.{Inside}
-use Rattle.outside.specs.declared.mem_disk.Fuse.TheVariants.{Unlit, Lit, Blown}
+use Rattle.outside.specs.declared.mem_disk.Fuse.TheVariants.{Lit, Blown}
 
 abbrev pub write_of : Pending → Write
 write_of p = record { at = p.at; piece = p.piece.items }
@@ -81,7 +81,8 @@ picked other piece = piece
 -- these bytes after each write
 abbrev pub all_written : Image → List ℕ → List Write → List ℕ
 all_written pick bytes [] = bytes
-all_written pick bytes (w ∷ pending) = all_written pick (write w.at (picked pick w.piece) bytes) pending
+all_written pick bytes (w ∷ pending) =
+    all_written pick (write w.at (picked pick w.piece) bytes) pending
 
 -- the image of this pick: pending ranges as before, as written, or each byte 255 at the new length
 abbrev pub picked_image : Image → DiskState → List ℕ
@@ -116,7 +117,8 @@ Fails disk = IsListed disk.calls ⊎ (disk.fuse ≡ Blown)
 
 -- What every call of a disk in memory answers and counts: it fails where it is listed or behind the
 -- fuse, else only for want of memory, and counts one fault then; it stands in the list of calls.
-pub record Answers {T : Type 0} (call : DiskCall) (old new : DiskState) (result : Result T Failed) : Type 0 where
+pub record Answers {T : Type 0}
+    (call : DiskCall) (old new : DiskState) (result : Result T Failed) : Type 0 where
   pub fails : Fails old → IsErr result
   pub only : IsErr result → Fails old ⊎ IsTrue new.refused
   pub noted : (new.made ≡ old.made ++ call ∷ []) ⊎ IsTrue new.refused

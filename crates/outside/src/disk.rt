@@ -16,8 +16,9 @@ pub const MAX_DISK: u64 = 1_073_741_824;
 /// Bytes that outlive the process, and what a crash may leave of them.
 ///
 /// Between two syncs each written range, and the part past the old end, may hold any bytes after a
-/// crash, with any length between the old and the new one; the bytes outside stay. A failed write or
-/// sync leaves its ranges so too. A stop at a moment is a disk whose calls all fail from then on.
+/// crash, with any length between the old and the new one; the bytes outside stay. A failed write
+/// or sync leaves its ranges so too. A stop at a moment is a disk whose calls all fail from then
+/// on.
 pub trait Disk {
     /// The bytes as a read gives them, where the disk tells them. Whether it does never changes.
     ghost bytes: { Self → Option (List ℕ) };

@@ -1,8 +1,9 @@
-//! What the gateway meets outside itself, as traits with a written meaning, and their forms in memory.
+//! What the gateway meets outside itself, as traits with a written meaning, and their forms in
+//! memory.
 //!
-//! Each trait says as ghost members what an object of it holds, where the object tells that, and how
-//! often it has failed. A call answers [`Failed`] only where that count rose in the call, so whoever
-//! made the object can see the cause of each failure that is passed up.
+//! Each trait says as ghost members what an object of it holds, where the object tells that, and
+//! how often it has failed. A call answers [`Failed`] only where that count rose in the call, so
+//! whoever made the object can see the cause of each failure that is passed up.
 //!
 //! The forms in memory tell all that they hold, and fail at the calls that their maker listed.
 #![tactic(auto)]

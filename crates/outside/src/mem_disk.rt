@@ -1,14 +1,17 @@
 //! A disk in memory, which tells its bytes and what a crash may leave of them.
 
-ghost use Rattle.std.specs.Prelude.{◌≡◌, ◌⊎◌, ◌↔◌, ◌+◌, ◌-◌, ◌≤◌, ◌++◌, min, [], ◌∷◌, length, map, Some, IsTrue};
-ghost use Rattle.std.specs.Prelude.{IsErr, OnOk, OnErr, IfOk, IfSome, take, drop, is_some, refl, true, false};
-ghost use Rattle.std.specs.Option.{option_map};
+ghost use Rattle.std.specs.Prelude.{◌≡◌, ◌⊎◌, ◌+◌, ◌-◌, ◌≤◌, ◌++◌, min, [], ◌∷◌, length, map};
+ghost use Rattle.std.specs.Prelude.{Some, IsTrue};
+ghost use Rattle.std.specs.Prelude.{OnOk, OnErr, IfOk, take, drop, refl};
+ghost use Rattle.std.specs.Prelude.{true, false};
 ghost use Rattle.std.specs.Io.{ReadsAtMost};
 ghost use mathlib.Core.Logic.{inl};
 ghost use Rattle.outside.specs.Causes.{HasCause, faults_after, next_count};
-ghost use Rattle.outside.specs.Disk.{replaced, write, Torn, Follows, AreAmong, HasOneImage, ReadsAt};
-ghost use Rattle.outside.specs.Memory.{IsListed, called};
-ghost use Rattle.outside.specs.MemDisk.{Answers, IsDisk, IsImageOf, burnt, fresh, staged, undo, undone};
+ghost use Rattle.outside.specs.Disk.{replaced, write, Torn, Follows, AreAmong, HasOneImage};
+ghost use Rattle.outside.specs.Disk.{ReadsAt};
+ghost use Rattle.outside.specs.Memory.{called};
+ghost use Rattle.outside.specs.MemDisk.{Answers, IsDisk, IsImageOf, burnt, fresh, staged, undo};
+ghost use Rattle.outside.specs.MemDisk.{undone};
 ghost use Rattle.outside.specs.MemDisk.{picked, picked_image, all_written, write_of};
 
 use crate::calls::Calls;

@@ -1,4 +1,4 @@
-use Rattle.std.proofs.Common.{◌-◌, ◌<◌, ◌≡◌, length}
+use Rattle.std.proofs.Common.{◌-◌, ◌<◌, length}
 use Rattle.gate_log.proofs.Scanning.{Passed}
 use Rattle.gate_log.proofs.scan.records.Given as goal
 
