@@ -1,0 +1,169 @@
+-- What a load answers, from what its log has.
+use Rattle.std.proofs.Common.{◌≡◌, inl, inr, ◌⊎◌, ℕ, List, [], ◌∷◌, ◌++◌, map, drop, refl, sym, ◌∙◌}
+use Rattle.std.proofs.Common.{ap, subst, Some, IfSome, IfOk, Ok, Err}
+use Rattle.std.specs.Prelude.{Result}
+use Rattle.std.specs.Option.{ForSome}
+use Rattle.std.specs.declared.option.Option.{Option}
+use Rattle.outside.specs.Disk.{Only, AreAmong}
+use Rattle.order_meaning.specs.declared.names.Names.{Names}
+use Rattle.gate_log.specs.Records.{Stands}
+use Rattle.gate_log.specs.Log as log
+use Rattle.gate_log.specs.State.{LogState}
+use Rattle.gate_log.proofs.Told.{if_some, at_some}
+use Rattle.pair_journal.specs.declared.entry.Entry.{Entry}
+use Rattle.pair_journal.specs.declared.error.JournalError.{JournalError}
+use Rattle.pair_journal.specs.declared.error.JournalError.TheVariants as errors
+use Rattle.pair_journal.specs.Payload.{entry_bytes}
+use Rattle.pair_journal.specs.Birth.{birth_bytes, AreNames}
+use Rattle.pair_journal.specs.Journal.{Spells, Misspells, IsMisspelt, JournalOf, Born}
+use Rattle.pair_journal.specs.Journal.{Refused}
+use Rattle.pair_journal.specs.State.{JournalState}
+use Rattle.pair_journal.specs.Calls.{Loads, BornOrNot}
+use Rattle.pair_journal.specs.Loading.{Misreads, Opens, HasNames}
+use Rattle.pair_journal.proofs.Names.{same_birth}
+
+-- ---- a birth record alone
+
+nothing_behind : (before : List (List ℕ)) (payload : List ℕ) (after : List (List ℕ))
+    → [] ≡ before ++ payload ∷ after → ⊥
+nothing_behind [] payload after is = absurd (cc is)
+nothing_behind (x ∷ before) payload after is = absurd (cc is)
+
+birth_spelt : (names : Names) (before : List (List ℕ)) (payload : List ℕ) (after : List (List ℕ))
+    → AreNames names
+    → birth_bytes names ∷ [] ≡ before ++ payload ∷ after → IsMisspelt before payload → ⊥
+birth_spelt names [] payload after are is none =
+    let same : payload ≡ birth_bytes names = cc (sym is) in none names are same
+birth_spelt names (x ∷ before) payload after are is none =
+    nothing_behind before payload after (ap (drop 1) is)
+
+not_misspelt : (names : Names) (payloads : List (List ℕ)) (at : ℕ)
+    → AreNames names → payloads ≡ birth_bytes names ∷ [] → Misspells payloads at → ⊥
+not_misspelt names payloads at are is m =
+    birth_spelt names m.before m.payload m.after are (sym is ∙ m.split) m.none
+
+first_of : (x y : List ℕ) (xs ys : List (List ℕ)) → x ∷ xs ≡ y ∷ ys → x ≡ y
+first_of x y xs ys e = cc
+
+no_entries : (entries : List Entry) → [] ≡ map entry_bytes entries → entries ≡ []
+no_entries [] is = refl
+no_entries (e ∷ es) is = absurd (cc is)
+
+-- ---- what the disk told, and tells
+
+pub opened : (names : Names) (told now : Option (List ℕ)) (birth : List ℕ) (state : LogState)
+    → birth ≡ birth_bytes names
+    → IfSome told (λ b. log.Loads birth b (Ok state) now) → Opens names told state.payloads now
+opened names told now birth state is loads =
+    subst (λ (p : List ℕ). IfSome told (λ b. log.Loads p b (Ok state) now)) is loads
+
+module _ (names : Names) (told0 told1 told2 : Option (List ℕ)) (payloads : List (List ℕ))
+    (named : AreNames names) (opens : Opens names told0 payloads told1) (same : told2 ≡ told1) where
+  at_first : (bytes : List ℕ) → told0 ≡ Some bytes
+      → (Stands bytes payloads ⊎ (Stands bytes [] × (payloads ≡ birth_bytes names ∷ [])))
+      × IfSome told1 (λ after. Stands after payloads)
+  at_first bytes e =
+      at_some told0 (λ b. (Stands b payloads ⊎ (Stands b [] × (payloads ≡ birth_bytes names ∷ [])))
+      × IfSome told1 (λ after. Stands after payloads)) bytes e opens
+
+  then : (Q : List ℕ → Type 0) (bytes : List ℕ)
+      → told0 ≡ Some bytes → ((after : List ℕ) → Stands after payloads → Q after) → IfSome told2 Q
+  then Q bytes e h = if_some told2 Q (λ after is.
+      h after (at_some told1 (λ x. Stands x payloads) after (sym same ∙ is) (at_first bytes e).1))
+
+  pub misread : (e : JournalError)
+      → Misreads payloads e → IfSome told0 (λ b. Loads names b (Err e) told2)
+  misread (errors.Refused at) m =
+      if_some told0 (λ b. Loads names b (Err (errors.Refused at)) told2) (λ b e. (
+        elim (at_first b e).0 [
+          | inl stands ↦ inr (payloads, stands, m)
+          | inr born ↦ absurd (not_misspelt names payloads at named born.1 m)
+        ],
+        then (λ after. JournalOf after (Refused at))
+            b e (λ after stands. inr (payloads, stands, m)),
+      ))
+  misread (errors.NamesDiffer kept given) m = absurd m
+  misread errors.Full m = absurd m
+  misread errors.DiskFault m =
+      if_some told0 (λ b. Loads names b (Err errors.DiskFault) told2) (λ b e. tt)
+  misread errors.NoMemory m =
+      if_some told0 (λ b. Loads names b (Err errors.NoMemory) told2) (λ b e. tt)
+
+  spelt_by : (kept : Names) (entries : List Entry) → Spells payloads kept entries
+      → payloads ≡ birth_bytes names ∷ [] → (names ≡ kept) × (entries ≡ [])
+  spelt_by kept entries spelt alone =
+      let whole : birth_bytes names ∷ [] ≡ birth_bytes kept ∷ map entry_bytes entries =
+      sym alone ∙ spelt.written in (
+        same_birth names kept (first_of (birth_bytes names) (birth_bytes kept)
+            [] (map entry_bytes entries) whole),
+        no_entries entries (ap (drop 1) whole),
+      )
+
+  pub judged : (journal : JournalState) (answer : Result JournalState JournalError)
+      → Spells payloads journal.names journal.entries
+      → HasNames names journal answer → IfSome told0 (λ b. Loads names b answer told2)
+  judged journal (Ok answer) spelt has =
+      let mine : Spells payloads names journal.entries =
+      subst (λ (n : Names). Spells payloads n journal.entries) has.1 spelt in
+      if_some told0 (λ b. Loads names b (Ok answer) told2)
+      (λ b e. subst (λ (j : JournalState). Loads names b (Ok j) told2) (sym has.0) (
+        has.1,
+        elim (at_first b e).0 [
+          | inl stands ↦ inl (payloads, stands, mine)
+          | inr born ↦ inr (born.0, (spelt_by journal.names journal.entries spelt born.1).1)
+        ],
+        then (λ after. JournalOf after (Born names journal.entries))
+            b e (λ after stands. (payloads, stands, mine)),
+      ))
+  judged journal (Err (errors.NamesDiffer kept given)) spelt has =
+      let mine : Spells payloads kept journal.entries =
+      subst (λ (n : Names). Spells payloads n journal.entries) (sym has.0) spelt in
+      if_some told0 (λ b. Loads names b (Err (errors.NamesDiffer kept given)) told2) (λ b e. (
+        has.1,
+        has.2,
+        journal.entries,
+        elim (at_first b e).0 [
+          | inl stands ↦ (payloads, stands, mine)
+          | inr born ↦ absurd (has.2 (sym (spelt_by kept journal.entries mine born.1).0))
+        ],
+        then (λ after. JournalOf after (Born kept journal.entries))
+            b e (λ after stands. (payloads, stands, mine)),
+      ))
+  judged journal (Err (errors.Refused at)) spelt has = absurd has
+  judged journal (Err errors.Full) spelt has = absurd has
+  judged journal (Err errors.DiskFault) spelt has = absurd has
+  judged journal (Err errors.NoMemory) spelt has = absurd has
+
+pub stands_loaded : (names : Names) (told : Option (List ℕ))
+    (payloads : List (List ℕ)) (journal : JournalState) (answer : Result JournalState JournalError)
+    → Spells payloads journal.names journal.entries
+    → ForSome told (λ b. Stands b payloads) → HasNames names journal answer
+    → IfOk answer (λ j. ForSome told (λ b. JournalOf b (Born j.names j.entries)))
+stands_loaded names told payloads journal (Ok answer) spelt stands has =
+    subst (λ (j : JournalState). ForSome told (λ b. JournalOf b (Born j.names j.entries)))
+    (sym has.0) (λ x e. (payloads, stands x e, spelt))
+stands_loaded names told payloads journal (Err error) spelt stands has = tt
+
+-- ---- images
+
+pub born_or_not : (names : Names) (told : Option (List ℕ)) (before mid after : List ℕ → Type 0)
+    → AreNames names → log.BornOrNot told before mid (birth_bytes names)
+    → AreAmong after mid → BornOrNot told before after names
+born_or_not names told before mid after named born among = if_some told _ (λ b e only image left.
+    let h = at_some
+    told (λ bytes. Only bytes before → (ps : List (List ℕ)) → Stands bytes ps → (i : List ℕ)
+    → mid i → Stands i ps ⊎ ((ps ≡ []) × Stands i (birth_bytes names ∷ []))) b e born only in (
+      λ unborn. elim (h [] unborn image (among image left)) [
+        | inl stands ↦ inl stands
+        | inr now ↦ inr
+            (birth_bytes names ∷ [], now.1, record { written = refl; named = named; sound = tt })
+      ],
+      λ kept entries journal. elim (h journal.0 journal.1 image (among image left)) [
+        | inl stands ↦ (journal.0, stands, journal.2)
+        | inr now ↦ absurd
+            (some (birth_bytes kept) (map entry_bytes entries) (sym now.0 ∙ journal.2.written))
+      ],
+    ))
+  where
+    some : (x : List ℕ) (xs : List (List ℕ)) → [] ≡ x ∷ xs → ⊥
+    some x xs is = absurd (cc is)

@@ -1,0 +1,256 @@
+-- What the payloads of a log, read one by one, say of a journal.
+use Rattle.std.proofs.Common.{◌≡◌, inl, inr, ℕ, ◌+◌, ◌-◌, ◌<◌, ◌≤◌, List, [], ◌∷◌, ◌++◌}
+use Rattle.std.proofs.Common.{map, length, drop, refl, sym, ◌∙◌, ap, subst, arith, append_assoc}
+use Rattle.std.proofs.Common.{length-append}
+use Rattle.order_meaning.specs.declared.names.Names.{Names}
+use Rattle.std.specs.declared.option.Option.{Option}
+use Rattle.std.specs.Option.{ForSome}
+use Rattle.gate_log.specs.Records.{blocks, Stands}
+use Rattle.gate_log.specs.Log.{IsAt, OnlyRead}
+use Rattle.gate_log.proofs.Blocks.{length-blocks-push}
+use Rattle.pair_journal.specs.declared.entry.Entry.{Entry}
+use Rattle.pair_journal.specs.Payload.{Next, entry_bytes}
+use Rattle.pair_journal.specs.Birth.{birth_bytes, AreNames}
+use Rattle.pair_journal.specs.Numbers.{GoesOn, first_numbers, numbers_after}
+use Rattle.pair_journal.specs.Journal.{AreEntries, Misspells}
+use Rattle.pair_journal.specs.Calls.{payloads_of}
+use Rattle.pair_journal.specs.Loading.{IsBorn, Follows}
+use Rattle.pair_journal.proofs.Names.{birth_size}
+use Rattle.pair_journal.proofs.Same.{same_entry}
+use Rattle.pair_journal.proofs.Fronts.{entry_short}
+use Rattle.pair_journal.proofs.Carrying.{AreEntries-push, numbers_after-push, payloads-push}
+
+-- ---- the first payload
+
+pub first_at : (payloads : List (List ℕ)) → 0 < length payloads → (p : List ℕ) × IsAt payloads 0 p
+first_at [] some = absurd (omega (arith, some))
+first_at (p ∷ after) some = (p, record { before = []; after = after; split = refl; place = refl })
+
+pub born : (payloads : List (List ℕ)) (bytes : List ℕ) (names : Names)
+    → 0 < length payloads → ((p : List ℕ) → IsAt payloads 0 p → bytes ≡ p)
+    → bytes ≡ birth_bytes names → AreNames names → IsBorn payloads names
+born [] bytes names some read is are = absurd (omega (arith, some))
+born (p ∷ after) bytes names some read is are = record {
+  named = are;
+  after = after;
+  split = ap (λ (q : List ℕ). q ∷ after)
+      (sym (read p (record { before = []; after = after; split = refl; place = refl })) ∙ is);
+}
+
+pub not_born : (payloads : List (List ℕ)) (bytes : List ℕ)
+    → 0 < length payloads → ((p : List ℕ) → IsAt payloads 0 p → bytes ≡ p)
+    → ((names : Names) → AreNames names → bytes ≡ birth_bytes names → ⊥) → Misspells payloads 0
+not_born [] bytes some read none = absurd (omega (arith, some))
+not_born (p ∷ after) bytes some read none =
+    let same : bytes ≡ p =
+    read p (record { before = []; after = after; split = refl; place = refl }) in
+    record {
+      before = [];
+      payload = p;
+      after = after;
+      split = refl;
+      place = refl;
+      sound = inl refl;
+      none = λ names are is. none names are (same ∙ is);
+    }
+
+no_payloads : (payloads : List (List ℕ)) → length payloads ≡ 0 → payloads ≡ []
+no_payloads [] none = refl
+no_payloads (p ∷ after) none = absurd (omega (arith, none))
+
+-- ---- the payloads behind it
+
+-- these entries were read, and the next stands at this place
+pub record Read (payloads : List (List ℕ))
+    (names : Names) (entries : List Entry) (index place : ℕ) (numbers : Next) : Type 0 where
+  pub after : List (List ℕ)
+  pub split : payloads ≡ payloads_of names entries ++ after
+  pub stands : place ≡ length (blocks (payloads_of names entries))
+  pub sound : AreEntries first_numbers entries
+  pub reached : numbers ≡ numbers_after first_numbers entries
+  pub count : index ≡ length entries + 1
+
+pub none_read : (payloads : List (List ℕ)) (names : Names)
+    → IsBorn payloads names → Read payloads names [] 1 160 first_numbers
+none_read payloads names is = record {
+  after = is.after;
+  split = is.split;
+  stands = omega (arith, birth_size names is.named, length-append (birth_bytes names) []);
+  sound = tt;
+  reached = refl;
+  count = refl;
+}
+
+map_length : (entries : List Entry) → length (map entry_bytes entries) ≡ length entries
+map_length [] = refl
+map_length (e ∷ es) = omega (arith, map_length es)
+
+next_of : (payloads : List (List ℕ)) (names : Names) (entries : List Entry)
+    (index place : ℕ) (numbers : Next) (r : Read payloads names entries index place numbers)
+    → index < length payloads → (p : List ℕ) × (left : List (List ℕ)) × (r.after ≡ p ∷ left)
+next_of payloads names entries index place numbers r within = cases r.after refl
+  where
+    cases : (l : List (List ℕ))
+        → r.after ≡ l → (p : List ℕ) × (left : List (List ℕ)) × (r.after ≡ p ∷ left)
+    cases [] none = absurd (omega (
+      arith,
+      ap length r.split,
+      ap (λ (l : List (List ℕ)). length (payloads_of names entries ++ l)) none,
+      length-append (payloads_of names entries) [],
+      map_length entries,
+      r.count,
+      within,
+    ))
+    cases (p ∷ left) e = (p, left, e)
+
+pub next_at : (payloads : List (List ℕ)) (names : Names) (entries : List Entry)
+    (index place : ℕ) (numbers : Next) → Read payloads names entries index place numbers
+    → index < length payloads → (p : List ℕ) × IsAt payloads place p
+next_at payloads names entries index place numbers r within =
+    let n = next_of payloads names entries index place numbers r within in (
+      n.0,
+      record {
+        before = payloads_of names entries;
+        after = n.1;
+        split = r.split
+            ∙ ap (λ (l : List (List ℕ)). payloads_of names entries ++ l) n.2;
+        place = r.stands;
+      },
+    )
+
+head_of : (x y : List ℕ) (xs ys : List (List ℕ)) → x ∷ xs ≡ y ∷ ys → (x ≡ y) × (xs ≡ ys)
+head_of x y xs ys e = (let h : x ≡ y = cc e in h, ap (drop 1) e)
+
+list_join : (e f : Entry) (es fs : List Entry) → e ≡ f → es ≡ fs → e ∷ es ≡ f ∷ fs
+list_join e f es fs h hs = cc
+
+pub same_entries : (before other : Next) (es fs : List Entry)
+    → AreEntries before es → AreEntries other fs → map entry_bytes es ≡ map entry_bytes fs → es ≡ fs
+same_entries before other [] [] he hf is = refl
+same_entries before other [] (f ∷ fs) he hf is = absurd (cc is)
+same_entries before other (e ∷ es) [] he hf is = absurd (cc is)
+same_entries before other (e ∷ es) (f ∷ fs) he hf is =
+    let parts =
+    head_of (entry_bytes e) (entry_bytes f) (map entry_bytes es) (map entry_bytes fs) is in
+    list_join e f es
+    fs (same_entry e f he.0 hf.0 parts.0) (same_entries e.next f.next es fs he.2 hf.2 parts.1)
+
+module _ (payloads : List (List ℕ)) (names : Names) (entries : List Entry) (index place : ℕ)
+    (numbers : Next) (bytes : List ℕ) (r : Read payloads names entries index place numbers)
+    (within : index < length payloads) (read : (p : List ℕ) → IsAt payloads place p → bytes ≡ p)
+  where
+    split_here : (left : List (List ℕ)) × (payloads ≡ payloads_of names entries ++ bytes ∷ left)
+    split_here =
+        let n = next_of payloads names entries index place numbers r within in
+        let split : payloads ≡ payloads_of names entries ++ n.0 ∷ n.1 =
+        r.split ∙ ap (λ (l : List (List ℕ)). payloads_of names entries ++ l) n.2 in
+        let same : bytes ≡ n.0 = read n.0 (record {
+          before =
+              payloads_of names entries;
+          after = n.1;
+          split = split;
+          place = r.stands;
+        }) in
+        (n.1, split ∙ ap (λ (p : List ℕ). payloads_of names entries ++ p ∷ n.1) (sym same))
+
+    -- the payload there is of no entry that goes on
+    pub misread : AreNames names
+        → ((entry : Entry) → Follows numbers bytes entry → ⊥) → Misspells payloads place
+    misread named none = record {
+      before = payloads_of names entries;
+      payload = bytes;
+      after = split_here.0;
+      split = split_here.1;
+      place = r.stands;
+      sound = inr (names, entries, record { written = refl; named = named; sound = r.sound });
+      none = λ other others entry whole sound is on written.
+          let parts = head_of (birth_bytes names)
+          (birth_bytes other) (map entry_bytes entries) (map entry_bytes others) whole in
+          let same =
+          same_entries first_numbers first_numbers entries others r.sound sound parts.1 in
+          let at : numbers_after first_numbers others ≡ numbers =
+          ap (numbers_after first_numbers) (sym same) ∙ sym r.reached in
+          none entry (record {
+            written =
+                written;
+            sound = is;
+            goes_on = subst (λ (n : Next). GoesOn n entry) at on;
+          });
+    }
+
+    -- one entry more was read
+    pub more_read : (entry : Entry) (more : List Entry)
+        → Follows numbers bytes entry → more ≡ entries
+        ++ entry ∷ [] → Read payloads names more (index + 1) (place + (5 + length bytes)) entry.next
+    more_read entry more follows pushed =
+        let written : payloads_of names entries
+        ++ bytes ∷ [] ≡ payloads_of names (entries ++ entry ∷ []) =
+        ap (λ (p : List ℕ). payloads_of names entries ++ p ∷ []) follows.written
+        ∙ payloads-push names entries entry in
+        let on = subst (λ (n : Next). GoesOn n entry) r.reached follows.goes_on in
+        let longer = length-blocks-push (payloads_of names entries) bytes in
+        subst (λ (es : List Entry). Read payloads
+        names es (index + 1) (place + (5 + length bytes)) entry.next) (sym pushed) (record {
+          after = split_here.0;
+          split = split_here.1 ∙ one_more (payloads_of names entries) bytes split_here.0
+              ∙ ap (λ (l : List (List ℕ)). l ++ split_here.0) written;
+          stands =
+              omega
+              (arith, r.stands, longer, ap (λ (l : List (List ℕ)). length (blocks l)) written);
+          sound = AreEntries-push first_numbers entries entry r.sound follows.sound on;
+          reached = sym (numbers_after-push first_numbers entries entry);
+          count = omega (arith, r.count, length-append entries (entry ∷ []));
+        })
+      where
+        one_more : (l : List (List ℕ)) (p : List ℕ) (left : List (List ℕ))
+            → l ++ p ∷ left ≡ (l ++ p ∷ []) ++ left
+        one_more l p left = sym (append_assoc l (p ∷ []) left)
+
+-- the payload of an entry is short
+pub fits : (numbers : Next) (bytes : List ℕ) (entry : Entry)
+    → Follows numbers bytes entry → length bytes ≤ 65536
+fits numbers bytes entry follows =
+    omega (arith, ap length follows.written, entry_short entry follows.sound)
+
+-- all were read
+pub all_read : (payloads : List (List ℕ)) (names : Names) (entries : List Entry) (index place : ℕ)
+    (numbers : Next) → Read payloads names entries index place numbers → length payloads ≤ index
+    → (drop 1 payloads ≡ map entry_bytes entries) × AreEntries first_numbers entries
+all_read payloads names entries index place numbers r done = (
+  ap (drop 1) r.split ∙ ap (λ (l : List (List ℕ)). map entry_bytes entries ++ l) none
+      ∙ append_none (map entry_bytes entries),
+  r.sound,
+)
+  where
+    none : r.after ≡ []
+    none = no_payloads r.after (omega (
+      arith,
+      ap length r.split,
+      length-append (payloads_of names entries) r.after,
+      map_length entries,
+      r.count,
+      done,
+    ))
+
+    append_none : (l : List (List ℕ)) → l ++ [] ≡ l
+    append_none [] = refl
+    append_none (x ∷ l) = ap (λ (k : List (List ℕ)). x ∷ k) (append_none l)
+
+-- ---- the disk, while it is read
+
+pub only_read_still : (told : Option (List ℕ)) (images : List ℕ → Type 0)
+    → OnlyRead told told images images
+only_read_still told images = record { same = refl; images = λ i here. here; kept = λ i here. here }
+
+pub only_read_on : (a b c : Option (List ℕ)) (i j k : List ℕ → Type 0)
+    → OnlyRead a b i j → OnlyRead b c j k → OnlyRead a c i k
+only_read_on a b c i j k one two = record {
+  same = two.same ∙ one.same;
+  images =
+      λ x here. one.images x (two.images x here);
+  kept = λ x here. two.kept x (one.kept x here);
+}
+
+pub stands_still : (a b : Option (List ℕ)) (i j : List ℕ → Type 0) (payloads : List (List ℕ))
+    → OnlyRead a b i j → ForSome a (λ x. Stands x payloads) → ForSome b (λ x. Stands x payloads)
+stands_still a b i j payloads one stands x e = stands x (sym one.same ∙ e)

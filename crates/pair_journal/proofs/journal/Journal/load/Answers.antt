@@ -1,0 +1,38 @@
+use Rattle.std.proofs.lemmas.Result.{err_from_is_err_and}
+use Rattle.pair_journal.proofs.Loaded.{misread, judged, stands_loaded, born_or_not}
+use Rattle.pair_journal.proofs.Walking.{stands_still}
+use Rattle.pair_journal.proofs.journal.Journal.load.Goals as goal
+
+pub returns-in_err-log-clause-images : goal.returns-in_err-log-clause-images
+returns-in_err-log-clause-images g c =
+    born_or_not
+    c.args.names.now _ _ _ _ c.open_log.ensures.named c.open_log.ensures.images (λ i here. here)
+
+pub returns-in_err-journal-clause-images : goal.returns-in_err-journal-clause-images
+returns-in_err-journal-clause-images g c =
+    born_or_not c.args.names.now
+    _ _ _ _ c.open_log.ensures.named c.open_log.ensures.images c.of_log.ensures.only_read.images
+
+pub returns-in_err-journal-clause-loads : goal.returns-in_err-journal-clause-loads
+returns-in_err-journal-clause-loads g c =
+    let p = err_from_is_err_and
+    c.from_residual-in_err-journal.result c.from_residual-in_err-journal.ensures.1 in
+    rw (p.1, p.2) (misread c.args.names.now _ _ _ c.in_ok-log.log.payloads c.open_log.ensures.named
+    c.in_ok-log.ensures.ok c.of_log.ensures.only_read.same _ c.in_err-journal.ensures.err)
+
+pub returns-clause-images : goal.returns-clause-images
+returns-clause-images g c =
+    born_or_not c.args.names.now
+    _ _ _ _ c.open_log.ensures.named c.open_log.ensures.images c.of_log.ensures.only_read.images
+
+pub returns-clause-loads : goal.returns-clause-loads
+returns-clause-loads g c =
+    judged c.args.names.now _ _ _ c.in_ok-log.log.payloads
+    c.open_log.ensures.named c.in_ok-log.ensures.ok c.of_log.ensures.only_read.same
+    c.in_ok-journal.journal c.if_named.result c.in_ok-journal.ensures.ok c.if_named.ensures
+
+pub returns-clause-stands : goal.returns-clause-stands
+returns-clause-stands g c =
+    stands_loaded c.args.names.now _ c.in_ok-log.log.payloads c.in_ok-journal.journal
+    c.if_named.result c.in_ok-journal.ensures.ok (stands_still _ _ _ _ c.in_ok-log.log.payloads
+    c.of_log.ensures.only_read c.in_ok-log.ensures.stands) c.if_named.ensures

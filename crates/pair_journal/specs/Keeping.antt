@@ -1,0 +1,17 @@
+-- Inside: how a journal keeps its entries: in memory beside the log.
+use Rattle.std.specs.Prelude.{◌-◌, min}
+use Rattle.std.specs.Vec.{vec_len, vec_capacity}
+use Rattle.pair_journal.specs.declared.journal.Journal.TheInside.{Inside}
+use Rattle.pair_journal.specs.Journal.{Spells}
+use Rattle.pair_journal.specs.State.{JournalState}
+
+abbrev pub state_of : Inside → JournalState
+state_of journal = record {
+  names = journal.names;
+  entries = journal.entries.items;
+  broken = journal.log.broken;
+  spare = min journal.log.spare (vec_capacity journal.entries - vec_len journal.entries);
+}
+
+abbrev pub IsKept : Inside → Type 0
+IsKept journal = Spells journal.log.payloads journal.names journal.entries.items

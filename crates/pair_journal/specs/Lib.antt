@@ -1,0 +1,13 @@
+pub mod Payload
+pub mod Birth
+pub mod Numbers
+pub mod Journal
+pub mod Parts
+pub mod Prepared
+pub mod State
+pub mod Given
+pub mod OutBuf
+pub mod Buffer
+pub mod Calls
+pub mod Keeping
+pub mod Loading

@@ -1,0 +1,262 @@
+//! A journal: its names and its entries, and the calls that read and lengthen it.
+
+ghost use Rattle.std.specs.Prelude.{◌≡◌, ◌≤◌, ◌<◌, length, false, Some, IfOk, IfErr};
+ghost use Rattle.std.specs.Prelude.{IfSome, OnOk, OnErr, IsOkUnless};
+ghost use Rattle.std.specs.Option.{ForSome};
+ghost use Rattle.std.specs.List.{slice_get};
+ghost use Rattle.outside.specs.Disk.{HasOneImage};
+ghost use Rattle.gate_log.specs.Records.{Stands};
+ghost use Rattle.gate_log.specs.Log.{OnlyRead};
+ghost use Rattle.pair_journal.specs.declared.error.JournalError.TheVariants as errors;
+ghost use Rattle.pair_journal.specs.Payload.{AreNext, IsEntry};
+ghost use Rattle.pair_journal.specs.Birth.{AreNames};
+ghost use Rattle.pair_journal.specs.Numbers.{GoesOn, first_numbers, numbers_after, next_out};
+ghost use Rattle.pair_journal.specs.Journal.{JournalOf, Born, Spells};
+ghost use Rattle.pair_journal.specs.Given.{given, source_of};
+ghost use Rattle.pair_journal.specs.OutBuf.{Tells, IsTold};
+ghost use Rattle.pair_journal.specs.Calls.{HasDiskCause, ReadsOnly, Looks, Loads, BornOrNot};
+ghost use Rattle.pair_journal.specs.Calls.{Commits, KeepsJournal};
+ghost use Rattle.pair_journal.specs.Loading.{HasNames, Misreads};
+
+use crate::birth::same_names;
+use crate::given::{given, source_in};
+use crate::loading::{open_log, read_entries, read_names};
+use crate::numbers::FIRST;
+use crate::{Entry, JournalError, OutBuf, Prepared};
+use gate_log::Log;
+use order_meaning::{Names, Side};
+use outside::Disk;
+use std::alloc::Global;
+use std::marker::Model;
+
+/// The names of two sessions and a list of entries, which stand on a disk and are kept in memory
+/// too.
+#[derive(Debug, Drop)]
+pub struct Journal {
+    log: Log,
+    names: Names,
+    entries: Vec<Entry>,
+}
+
+impl Model for Journal {
+    ghost use Rattle.pair_journal.specs.State.{JournalState};
+    ghost use Rattle.pair_journal.specs.Keeping.{state_of, IsKept};
+
+    ghost Value = { JournalState };
+
+    ghost view = { state_of };
+
+    ghost invariant = { IsKept };
+}
+
+impl Journal {
+    /// The journal of a log.
+    fn of_log<D: Disk>(alloc: Global, disk: &mut D, log: Log) -> Result<Journal, JournalError>
+        requires stands { ForSome (D.bytes disk.old) (λ b. Stands b log.payloads) }
+        ensures ok { IfOk result (λ journal. Spells log.payloads journal.names journal.entries) }
+        ensures whole { IfOk result (λ journal. journal.broken ≡ log.broken) }
+        ensures err { IfErr result (Misreads log.payloads) }
+        ensures only_read { OnlyRead (D.bytes disk.old) (D.bytes disk.new) (D.image disk.old) (D.image disk.new) }
+        ensures cause { HasDiskCause (D.faults disk.old) (D.faults disk.new) result }
+    {
+        let names = read_names(alloc, &log, disk)?;
+        let entries = read_entries(alloc, &log, disk)?;
+        Ok(Journal {
+            log,
+            names,
+            entries,
+        })
+    }
+
+    /// The journal on a disk; none where the disk is unborn. It only reads, and compares no names.
+    ///
+    /// # Errors
+    /// `Refused` exactly where the bytes are refused at that place; `DiskFault` only where the
+    /// disk's count of faults rose; `NoMemory`.
+    pub fn look<D: Disk>(alloc: Global, disk: &mut D) -> Result<Option<Journal>, JournalError>
+        ensures looks { IfSome (D.bytes disk.old) (λ b. Looks b result) }
+        ensures only_read { OnlyRead (D.bytes disk.old) (D.bytes disk.new) (D.image disk.old) (D.image disk.new) }
+        ensures cause { HasDiskCause (D.faults disk.old) (D.faults disk.new) result }
+    {
+        match Log::look(alloc, disk)? {
+            Some(log) => Ok(Some(Journal::of_log(alloc, disk, log)?)),
+            None => Ok(None),
+        }
+    }
+
+    /// The journal of these names on a disk. An unborn disk becomes one without entries.
+    ///
+    /// # Errors
+    /// `Refused` exactly where the bytes are refused at that place; `NamesDiffer` exactly where
+    /// they are a journal of other names; `DiskFault` only where the disk's count of faults rose;
+    /// `NoMemory`.
+    pub fn load<D: Disk>(
+        alloc: Global,
+        disk: &mut D,
+        names: &Names,
+    ) -> Result<Journal, JournalError>
+        ensures loads { IfSome (D.bytes disk.old) (λ b. Loads names.now b result (D.bytes disk.new)) }
+        ensures stands { IfOk result (λ journal. ForSome (D.bytes disk.new) (λ b.
+            JournalOf b (Born journal.names journal.entries))) }
+        ensures images { BornOrNot (D.bytes disk.old) (D.image disk.old) (D.image disk.new) names.now }
+        ensures durable { OnOk result (HasOneImage (D.bytes disk.old) (D.image disk.old) →
+            HasOneImage (D.bytes disk.new) (D.image disk.new)) }
+        ensures whole { IfOk result (λ journal. journal.broken ≡ false) }
+        ensures cause { HasDiskCause (D.faults disk.old) (D.faults disk.new) result }
+    {
+        let log = open_log(alloc, disk, names)?;
+        let journal = Journal::of_log(alloc, disk, log)?;
+        journal.if_named(names)
+    }
+
+    /// The journal, where it has these names.
+    fn if_named(self, names: &Names) -> Result<Journal, JournalError>
+        ensures { HasNames names.now self result }
+    {
+        if !same_names(&self.names, names) {
+            return Err(JournalError::NamesDiffer {
+                kept: self.names,
+                given: *names,
+            });
+        }
+        Ok(self)
+    }
+
+    /// Its names.
+    pub fn names(&self) -> Names
+        ensures names { result ≡ self.now.names }
+        ensures bounds { AreNames result }
+    {
+        self.names
+    }
+
+    /// How many entries it has.
+    pub fn count(&self) -> u64
+        ensures { result ≡ length self.now.entries }
+    {
+        self.entries.len() as u64
+    }
+
+    /// The next numbers after its last entry: client in, client out, venue in, venue out, each from
+    /// 1 to 1,000,000,000; all ones without an entry.
+    pub fn next(&self) -> (u32, u32, u32, u32)
+        ensures next { result ≡ numbers_after first_numbers self.now.entries }
+        ensures bounds { AreNext result }
+    {
+        match self.entries.last() {
+            Some(entry) => entry.next,
+            None => FIRST,
+        }
+    }
+
+    /// The entry of this index, which counts from 0.
+    ///
+    /// # Errors
+    /// `DiskFault` only where the disk's count of faults rose; `NoMemory`.
+    pub fn entry<D: Disk>(&self, disk: &mut D, index: u64) -> Result<Entry, JournalError>
+        requires index { index < length self.now.entries }
+        requires stands { ForSome (D.bytes disk.old) (λ b.
+            JournalOf b (Born self.now.names self.now.entries)) }
+        ensures entry { IfOk result (λ entry. slice_get self.now.entries index ≡ Some entry) }
+        ensures bounds { IfOk result IsEntry }
+        ensures only_read { OnlyRead (D.bytes disk.old) (D.bytes disk.new) (D.image disk.old) (D.image disk.new) }
+        ensures cause { HasDiskCause (D.faults disk.old) (D.faults disk.new) result }
+        ensures only { ReadsOnly result }
+    {
+        let _ = disk; // The entries are in memory, and no caller sees that.
+        Ok(self.entries[index as usize].duplicate()?)
+    }
+
+    /// Makes room for one commit.
+    ///
+    /// # Errors
+    /// `NoMemory` alone, and then nothing changed.
+    pub fn reserve(&mut self) -> Result<(), JournalError>
+        ensures ok { OnOk result (self.new ≡ record self.old { spare = 1 }) }
+        ensures err { OnErr result (self.new ≡ self.old) }
+        ensures only { IsOkUnless result errors.NoMemory }
+    {
+        self.log.reserve()?;
+        self.entries.reserve(1)?;
+        Ok(())
+    }
+
+    /// Appends an entry, and hands it back.
+    ///
+    /// It takes no memory. A crash at any moment leaves the journal as it was, or with the entry.
+    ///
+    /// # Errors
+    /// `Full` exactly where the record would end past the last byte of a disk, and then nothing was
+    /// written; `DiskFault` only where the disk's count of faults rose, and then the journal is
+    /// broken.
+    pub fn commit<D: Disk>(
+        &mut self,
+        disk: &mut D,
+        prepared: Prepared,
+    ) -> Result<Entry, JournalError>
+        requires spare { 1 ≤ self.old.spare }
+        requires whole { self.old.broken ≡ false }
+        requires goes_on { GoesOn (numbers_after first_numbers self.old.entries) prepared }
+        requires stands { ForSome (D.bytes disk.old) (λ b.
+            JournalOf b (Born self.old.names self.old.entries)) }
+        ensures commits { Commits prepared self.old self.new result }
+        ensures stands { OnOk result (ForSome (D.bytes disk.new) (λ b.
+            JournalOf b (Born self.new.names self.new.entries))) }
+        ensures durable { OnOk result (HasOneImage (D.bytes disk.new) (D.image disk.new)) }
+        ensures images { KeepsJournal (D.bytes disk.old) (D.image disk.old) (D.image disk.new)
+            self.old prepared }
+        ensures full { result ≡ Err errors.Full → disk.new ≡ disk.old }
+        ensures reads { D.reads disk.new ≡ D.reads disk.old }
+        ensures cause { HasDiskCause (D.faults disk.old) (D.faults disk.new) result }
+    {
+        self.log.append(disk, prepared.payload())?;
+        let (entry, copy) = prepared.into_entries();
+        self.entries.push_reserved(copy);
+        Ok(entry)
+    }
+
+    /// Reads the out of this side and number, which was given out. It takes no memory.
+    ///
+    /// # Errors
+    /// `DiskFault` alone, and only where the disk's count of faults rose; then nothing is said of
+    /// `into`.
+    pub fn out<D: Disk>(
+        &self,
+        disk: &mut D,
+        side: Side,
+        number: u32,
+        into: &mut OutBuf,
+    ) -> Result<(), JournalError>
+        requires above { 1 ≤ number }
+        requires below { number < next_out side (numbers_after first_numbers self.now.entries) }
+        requires stands { ForSome (D.bytes disk.old) (λ b.
+            JournalOf b (Born self.now.names self.now.entries)) }
+        ensures out { OnOk result (Tells (given side number self.now.entries) into.new) }
+        ensures bounds { OnOk result (IsTold into.new) }
+        ensures only_read { OnlyRead (D.bytes disk.old) (D.bytes disk.new) (D.image disk.old) (D.image disk.new) }
+        ensures cause { HasDiskCause (D.faults disk.old) (D.faults disk.new) result }
+        ensures only { IsOkUnless result errors.DiskFault }
+    {
+        let _ = disk; // The entries are in memory, and no caller sees that.
+        let Some((entry, out)) = given(side, number, &self.entries) else {
+            return Ok(()); // Each number below the next out was given out.
+        };
+        into.tell(entry.at, out);
+        Ok(())
+    }
+
+    /// The MsgSeqNum(34) and the type's letter of the message that the out of this side and number
+    /// translates; none exactly where there is no such out, or it translates none. It takes no
+    /// memory.
+    ///
+    /// An out was translated where its entry took a message of the other side whose body begins
+    /// with
+    /// MsgType(35) and the out's type, which is D, F, G or H to the venue, and 8 or 9 to the
+    /// client.
+    pub fn source_of(&self, side: Side, number: u32) -> Option<(u32, u8)>
+        ensures { result ≡ source_of side number self.now.entries }
+    {
+        let (entry, out) = given(side, number, &self.entries)?;
+        source_in(entry, out)
+    }
+}
