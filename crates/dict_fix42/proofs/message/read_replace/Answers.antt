@@ -1,0 +1,17 @@
+use Rattle.dict_fix42.proofs.Means.{replace_means}
+use Rattle.dict_fix42.proofs.Given.{no_fault, reads, replace_allocs, replace_sessions}
+use Rattle.dict_fix42.proofs.message.read_replace.Goals as goal
+
+pub read_groups-requires-clause-allocs : goal.read_groups-requires-clause-allocs
+read_groups-requires-clause-allocs c =
+    replace_allocs _ (no_fault c.replace_request.ensures c.in_ok-fields.ensures)
+
+pub read_groups-requires-clause-sessions : goal.read_groups-requires-clause-sessions
+read_groups-requires-clause-sessions c =
+    replace_sessions _ (no_fault c.replace_request.ensures c.in_ok-fields.ensures)
+
+pub returns-clause-says : goal.returns-clause-says
+returns-clause-says c =
+    let none = no_fault c.replace_request.ensures c.in_ok-fields.ensures in
+    reads c.replace_request.ensures c.in_ok-fields.ensures _
+    (replace_means _ none c.in_ok-replace_request.field-0 c.in_ok-replace_request.ensures.says)

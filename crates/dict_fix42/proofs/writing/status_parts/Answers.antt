@@ -1,0 +1,24 @@
+use Rattle.std.proofs.Common.{lit≤, refl}
+use Rattle.dict_fix42.proofs.Contents.{also}
+use Rattle.dict_fix42.proofs.writing.status_parts.Goals as goal
+
+pub returns : goal.returns
+returns c = record {
+  parts =
+      also (lit≤ tt, tt) (
+      also (lit≤ tt, tt) (
+      also (lit≤ tt, tt) (
+      also (lit≤ tt, tt) (
+      also (lit≤ tt, tt) (
+      also (lit≤ tt, tt) (
+      also (lit≤ tt, tt) (
+      also (lit≤ tt, tt) (
+      also (lit≤ tt, tt) (
+      also (lit≤ tt, tt) (
+      also (lit≤ tt, c.requires.maturity) (
+      also (lit≤ tt, tt) (
+      also (lit≤ tt, tt) (
+      also (lit≤ tt, tt) (
+      tt))))))))))))));
+  content = refl;
+}

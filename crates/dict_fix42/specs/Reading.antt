@@ -1,0 +1,275 @@
+-- Inside: what fields say at single tags and in the lines of groups, and requests that say the same
+-- at each row.
+use Rattle.std.specs.Prelude.{◌≡◌, ℕ, Bool, false, List, [], ◌∷◌, codes, Option, None}
+use Rattle.std.specs.Prelude.{unwrap_or, option_and_then, IfSome}
+use Rattle.std.specs.Option.{option_map}
+use Rattle.std.specs.List.{AllZip}
+use Rattle.typed_fields.specs.ValueKind.{Id, Text, OneByte, Code, Codes, Word, Currency, Flag}
+use Rattle.typed_fields.specs.ValueKind.{Qty, Price, Stamp, Day, MonthYear}
+use Rattle.typed_fields.specs.Dec.{dec_text, IsDec}
+use Rattle.typed_fields.specs.Day.{day_text}
+use Rattle.typed_fields.specs.Stamp.{stamp_text}
+use Rattle.typed_fields.specs.Flag.{flag_text}
+use Rattle.typed_fields.specs.CodeKinds.{code_text}
+use Rattle.field_groups.specs.Field.{Field}
+use Rattle.field_groups.specs.Tables.{Said, ◌>>=◌, flag_of, text_of, value_at, tags_in, lines_in}
+use Rattle.dict_fix42.specs.declared.lists.AllocLine.{AllocLine}
+use Rattle.dict_fix42.specs.declared.lists.SessionLine.{SessionLine}
+use Rattle.dict_fix42.specs.declared.groups.Groups.{Groups}
+use Rattle.dict_fix42.specs.declared.requests.Maturity.{Maturity}
+use Rattle.dict_fix42.specs.declared.requests.New42.{New42}
+use Rattle.dict_fix42.specs.declared.requests.Cancel42.{Cancel42}
+use Rattle.dict_fix42.specs.declared.requests.Replace42.{Replace42}
+use Rattle.dict_fix42.specs.declared.requests.Status42.{Status42}
+use Rattle.dict_fix42.specs.Kinds.{Kind42, Value, DayOf, judge}
+use Rattle.dict_fix42.specs.Requests.{allocs, sessions}
+use Rattle.dict_fix42.specs.Said.{month_text, month_day_text}
+
+-- what the field of a tag says, as a value of a kind
+abbrev pub said : List Field → ℕ → Kind42 → Said
+said fields tag kind = value_at tag fields >>= (λ bytes. text_of (judge fields kind bytes))
+
+-- whether the fields repeat what was sent before, PossResend (97)
+abbrev pub resend_of : List Field → Bool
+resend_of fields = unwrap_or (option_map flag_of (value_at 97 fields)) false
+
+-- a maturity says what the fields say, where a day has its month
+pub record IsMaturity (fields : List Field) (maturity : Option Maturity) : Type 0 where
+  pub month : option_map month_text maturity ≡ said fields 200 (Value MonthYear)
+  pub day : (said fields 200 (Value MonthYear) ≡ None → said fields 205 (DayOf 200) ≡ None)
+      → option_and_then month_day_text maturity ≡ said fields 205 (DayOf 200)
+
+-- lines say what the fields of their group say
+pub record IsAlloc (fields : List Field) (line : AllocLine) : Type 0 where
+  pub account : line.account ≡ unwrap_or (said fields 79 (Value Id)) []
+  pub qty : option_map dec_text line.qty ≡ said fields 80 (Value Qty)
+  pub bound : IfSome line.qty IsDec
+
+pub record IsSession (fields : List Field) (line : SessionLine) : Type 0 where
+  pub id : line.id ≡ unwrap_or (said fields 336 (Value Id)) []
+
+abbrev pub AreAllocs : List Field → List AllocLine → Type 0
+AreAllocs fields lines = AllZip IsAlloc (lines_in (tags_in allocs) fields) lines
+
+abbrev pub AreSessions : List Field → List SessionLine → Type 0
+AreSessions fields lines = AllZip IsSession (lines_in (tags_in sessions) fields) lines
+
+pub record AreGroups (fields : List Field) (groups : Groups) : Type 0 where
+  pub allocs : AreAllocs fields groups.allocs
+  pub sessions : AreSessions fields groups.sessions
+
+-- each row of a new order says what the fields say
+pub record IsNew (fields : List Field) (m : New42) : Type 0 where
+  pub resend : m.resend ≡ resend_of fields
+  pub cl_ord_id : m.cl_ord_id ≡ unwrap_or (said fields 11 (Value Id)) []
+  pub client_id : m.client_id ≡ said fields 109 (Value Id)
+  pub exec_broker : m.exec_broker ≡ said fields 76 (Value Id)
+  pub clearing_firm : m.clearing_firm ≡ said fields 439 (Value Id)
+  pub account : m.account ≡ said fields 1 (Value Id)
+  pub allocs : AreAllocs fields m.allocs
+  pub settl_type : option_map code_text m.settl_type
+      ≡ said fields 63 (Value (Code (codes "0123456789")))
+  pub settl_date : option_map day_text m.settl_date ≡ said fields 64 (Value Day)
+  pub hand_inst : IfSome (said fields 21 (Value (Code (codes "123"))))
+      (λ text. text ≡ code_text m.hand_inst)
+  pub exec_inst : m.exec_inst ≡ said fields 18 (Value (Codes (codes "123456G")))
+  pub min_qty : option_map dec_text m.min_qty ≡ said fields 110 (Value Qty)
+  pub max_floor : option_map dec_text m.max_floor ≡ said fields 111 (Value Qty)
+  pub ex_destination : m.ex_destination ≡ said fields 100 (Value Id)
+  pub sessions : AreSessions fields m.sessions
+  pub symbol : m.symbol ≡ unwrap_or (said fields 55 (Value Id)) []
+  pub symbol_sfx : m.symbol_sfx ≡ said fields 65 (Value Id)
+  pub security_id : m.security_id ≡ said fields 48 (Value Id)
+  pub id_source : option_map code_text m.id_source
+      ≡ said fields 22 (Value (Code (codes "123456789")))
+  pub security_type : m.security_type
+      ≡ said fields 167 (Value (Word (codes "CS" ∷ codes "PS" ∷ codes "FUT" ∷ [])))
+  pub maturity : IsMaturity fields m.maturity
+  pub security_exchange : m.security_exchange ≡ said fields 207 (Value Id)
+  pub side : IfSome (said fields 54 (Value (Code (codes "123456"))))
+      (λ text. text ≡ code_text m.side)
+  pub locate : option_map flag_text m.locate ≡ said fields 114 (Value Flag)
+  pub transact_time : IfSome (said fields 60 (Value Stamp))
+      (λ text. text ≡ stamp_text m.transact_time)
+  pub order_qty : IfSome (said fields 38 (Value Qty)) (λ text. text ≡ dec_text m.order_qty)
+  pub ord_type : IfSome (said fields 40 (Value (Code (codes "12345B"))))
+      (λ text. text ≡ code_text m.ord_type)
+  pub price : option_map dec_text m.price ≡ said fields 44 (Value Price)
+  pub stop_px : option_map dec_text m.stop_px ≡ said fields 99 (Value Price)
+  pub currency : m.currency ≡ said fields 15 (Value Currency)
+  pub time_in_force : option_map code_text m.time_in_force
+      ≡ said fields 59 (Value (Code (codes "0123456")))
+  pub effective_time : option_map stamp_text m.effective_time ≡ said fields 168 (Value Stamp)
+  pub expire_date : option_map day_text m.expire_date ≡ said fields 432 (Value Day)
+  pub expire_time : option_map stamp_text m.expire_time ≡ said fields 126 (Value Stamp)
+  pub capacity : option_map code_text m.capacity ≡ said fields 47 (Value OneByte)
+  pub open_close : option_map code_text m.open_close ≡ said fields 77 (Value (Code (codes "OC")))
+  pub text : m.text ≡ said fields 58 (Value Text)
+
+-- each row of a cancel request says what the fields say
+pub record IsCancel (fields : List Field) (m : Cancel42) : Type 0 where
+  pub resend : m.resend ≡ resend_of fields
+  pub cl_ord_id : m.cl_ord_id ≡ unwrap_or (said fields 11 (Value Id)) []
+  pub orig_id : m.orig_id ≡ unwrap_or (said fields 41 (Value Id)) []
+  pub order_id : m.order_id ≡ said fields 37 (Value Id)
+  pub client_id : m.client_id ≡ said fields 109 (Value Id)
+  pub exec_broker : m.exec_broker ≡ said fields 76 (Value Id)
+  pub account : m.account ≡ said fields 1 (Value Id)
+  pub symbol : m.symbol ≡ unwrap_or (said fields 55 (Value Id)) []
+  pub symbol_sfx : m.symbol_sfx ≡ said fields 65 (Value Id)
+  pub security_id : m.security_id ≡ said fields 48 (Value Id)
+  pub id_source : option_map code_text m.id_source
+      ≡ said fields 22 (Value (Code (codes "123456789")))
+  pub security_type : m.security_type
+      ≡ said fields 167 (Value (Word (codes "CS" ∷ codes "PS" ∷ codes "FUT" ∷ [])))
+  pub maturity : IsMaturity fields m.maturity
+  pub security_exchange : m.security_exchange ≡ said fields 207 (Value Id)
+  pub side : IfSome (said fields 54 (Value (Code (codes "123456"))))
+      (λ text. text ≡ code_text m.side)
+  pub transact_time : IfSome (said fields 60 (Value Stamp))
+      (λ text. text ≡ stamp_text m.transact_time)
+  pub order_qty : option_map dec_text m.order_qty ≡ said fields 38 (Value Qty)
+  pub text : m.text ≡ said fields 58 (Value Text)
+
+-- each row of a replace request says what the fields say
+pub record IsReplace (fields : List Field) (m : Replace42) : Type 0 where
+  pub resend : m.resend ≡ resend_of fields
+  pub cl_ord_id : m.cl_ord_id ≡ unwrap_or (said fields 11 (Value Id)) []
+  pub orig_id : m.orig_id ≡ unwrap_or (said fields 41 (Value Id)) []
+  pub order_id : m.order_id ≡ said fields 37 (Value Id)
+  pub client_id : m.client_id ≡ said fields 109 (Value Id)
+  pub exec_broker : m.exec_broker ≡ said fields 76 (Value Id)
+  pub clearing_firm : m.clearing_firm ≡ said fields 439 (Value Id)
+  pub account : m.account ≡ said fields 1 (Value Id)
+  pub allocs : AreAllocs fields m.allocs
+  pub settl_type : option_map code_text m.settl_type
+      ≡ said fields 63 (Value (Code (codes "0123456789")))
+  pub settl_date : option_map day_text m.settl_date ≡ said fields 64 (Value Day)
+  pub hand_inst : IfSome (said fields 21 (Value (Code (codes "123"))))
+      (λ text. text ≡ code_text m.hand_inst)
+  pub exec_inst : m.exec_inst ≡ said fields 18 (Value (Codes (codes "123456G")))
+  pub min_qty : option_map dec_text m.min_qty ≡ said fields 110 (Value Qty)
+  pub max_floor : option_map dec_text m.max_floor ≡ said fields 111 (Value Qty)
+  pub ex_destination : m.ex_destination ≡ said fields 100 (Value Id)
+  pub sessions : AreSessions fields m.sessions
+  pub symbol : m.symbol ≡ unwrap_or (said fields 55 (Value Id)) []
+  pub symbol_sfx : m.symbol_sfx ≡ said fields 65 (Value Id)
+  pub security_id : m.security_id ≡ said fields 48 (Value Id)
+  pub id_source : option_map code_text m.id_source
+      ≡ said fields 22 (Value (Code (codes "123456789")))
+  pub security_type : m.security_type
+      ≡ said fields 167 (Value (Word (codes "CS" ∷ codes "PS" ∷ codes "FUT" ∷ [])))
+  pub maturity : IsMaturity fields m.maturity
+  pub security_exchange : m.security_exchange ≡ said fields 207 (Value Id)
+  pub side : IfSome (said fields 54 (Value (Code (codes "123456"))))
+      (λ text. text ≡ code_text m.side)
+  pub locate : option_map flag_text m.locate ≡ said fields 114 (Value Flag)
+  pub transact_time : IfSome (said fields 60 (Value Stamp))
+      (λ text. text ≡ stamp_text m.transact_time)
+  pub order_qty : IfSome (said fields 38 (Value Qty)) (λ text. text ≡ dec_text m.order_qty)
+  pub ord_type : IfSome (said fields 40 (Value (Code (codes "12345B"))))
+      (λ text. text ≡ code_text m.ord_type)
+  pub price : option_map dec_text m.price ≡ said fields 44 (Value Price)
+  pub stop_px : option_map dec_text m.stop_px ≡ said fields 99 (Value Price)
+  pub currency : m.currency ≡ said fields 15 (Value Currency)
+  pub time_in_force : option_map code_text m.time_in_force
+      ≡ said fields 59 (Value (Code (codes "0123456")))
+  pub effective_time : option_map stamp_text m.effective_time ≡ said fields 168 (Value Stamp)
+  pub expire_date : option_map day_text m.expire_date ≡ said fields 432 (Value Day)
+  pub expire_time : option_map stamp_text m.expire_time ≡ said fields 126 (Value Stamp)
+  pub capacity : option_map code_text m.capacity ≡ said fields 47 (Value OneByte)
+  pub open_close : option_map code_text m.open_close ≡ said fields 77 (Value (Code (codes "OC")))
+  pub text : m.text ≡ said fields 58 (Value Text)
+
+-- each row of a status request says what the fields say
+pub record IsStatus (fields : List Field) (m : Status42) : Type 0 where
+  pub resend : m.resend ≡ resend_of fields
+  pub cl_ord_id : m.cl_ord_id ≡ unwrap_or (said fields 11 (Value Id)) []
+  pub order_id : m.order_id ≡ said fields 37 (Value Id)
+  pub client_id : m.client_id ≡ said fields 109 (Value Id)
+  pub exec_broker : m.exec_broker ≡ said fields 76 (Value Id)
+  pub account : m.account ≡ said fields 1 (Value Id)
+  pub symbol : m.symbol ≡ unwrap_or (said fields 55 (Value Id)) []
+  pub symbol_sfx : m.symbol_sfx ≡ said fields 65 (Value Id)
+  pub security_id : m.security_id ≡ said fields 48 (Value Id)
+  pub id_source : option_map code_text m.id_source
+      ≡ said fields 22 (Value (Code (codes "123456789")))
+  pub security_type : m.security_type
+      ≡ said fields 167 (Value (Word (codes "CS" ∷ codes "PS" ∷ codes "FUT" ∷ [])))
+  pub maturity : IsMaturity fields m.maturity
+  pub security_exchange : m.security_exchange ≡ said fields 207 (Value Id)
+  pub side : IfSome (said fields 54 (Value (Code (codes "123456"))))
+      (λ text. text ≡ code_text m.side)
+
+-- the names in a new order
+abbrev pub new_names : List Field → List Said
+new_names fields =
+    said fields 11 (Value Id) ∷
+    said fields 109 (Value Id) ∷
+    said fields 76 (Value Id) ∷
+    said fields 439 (Value Id) ∷
+    said fields 1 (Value Id) ∷
+    []
+
+-- the names in a replace request
+abbrev pub replace_names : List Field → List Said
+replace_names fields =
+    said fields 11 (Value Id) ∷
+    said fields 41 (Value Id) ∷
+    said fields 37 (Value Id) ∷
+    said fields 109 (Value Id) ∷
+    said fields 76 (Value Id) ∷
+    said fields 439 (Value Id) ∷
+    said fields 1 (Value Id) ∷
+    []
+
+-- the texts of a new order or a replace request beside its names
+abbrev pub order_texts : List Field → List Said
+order_texts fields =
+    said fields 18 (Value (Codes (codes "123456G"))) ∷
+    said fields 100 (Value Id) ∷
+    said fields 55 (Value Id) ∷
+    said fields 65 (Value Id) ∷
+    said fields 48 (Value Id) ∷
+    said fields 167 (Value (Word (codes "CS" ∷ codes "PS" ∷ codes "FUT" ∷ []))) ∷
+    said fields 207 (Value Id) ∷
+    said fields 15 (Value Currency) ∷
+    said fields 58 (Value Text) ∷
+    []
+
+-- the names in a cancel request
+abbrev pub cancel_names : List Field → List Said
+cancel_names fields =
+    said fields 11 (Value Id) ∷
+    said fields 41 (Value Id) ∷
+    said fields 37 (Value Id) ∷
+    said fields 109 (Value Id) ∷
+    said fields 76 (Value Id) ∷
+    said fields 1 (Value Id) ∷
+    []
+
+-- the texts of a cancel request beside its names
+abbrev pub cancel_texts : List Field → List Said
+cancel_texts fields =
+    said fields 55 (Value Id) ∷
+    said fields 65 (Value Id) ∷
+    said fields 48 (Value Id) ∷
+    said fields 167 (Value (Word (codes "CS" ∷ codes "PS" ∷ codes "FUT" ∷ []))) ∷
+    said fields 207 (Value Id) ∷
+    said fields 58 (Value Text) ∷
+    []
+
+-- the texts of a status request
+abbrev pub status_texts : List Field → List Said
+status_texts fields =
+    said fields 11 (Value Id) ∷
+    said fields 37 (Value Id) ∷
+    said fields 109 (Value Id) ∷
+    said fields 76 (Value Id) ∷
+    said fields 1 (Value Id) ∷
+    said fields 55 (Value Id) ∷
+    said fields 65 (Value Id) ∷
+    said fields 48 (Value Id) ∷
+    said fields 167 (Value (Word (codes "CS" ∷ codes "PS" ∷ codes "FUT" ∷ []))) ∷
+    said fields 207 (Value Id) ∷
+    []

@@ -1,0 +1,111 @@
+-- Standard: FIX 4.2, New Order - Single (D), Order Cancel Request (F), Order Cancel/Replace Request
+-- (G), Order Status Request (H), and Field Definitions: what their fields mean.
+-- Own: 59=0 says the same as no TimeInForce, beside an order on close.
+use Rattle.std.specs.Prelude.{ℕ, List, map, Some, None, ◌==◌, ◌||◌, ◌&&◌, Bool, false}
+use Rattle.std.specs.Prelude.{if◌then◌else◌}
+use Rattle.std.specs.declared.option.Option.{Option}
+use Rattle.std.specs.Option.{option_map}
+use Rattle.std.specs.Result.{result_ok}
+use Rattle.typed_fields.specs.ValueKind.{units_of_text, number_of_two}
+use Rattle.field_groups.specs.Field.{Field}
+use Rattle.field_groups.specs.Tables.{Tag, Cell, Said, Message, ◌>>=◌, said_at, lines_of, text_in}
+use Rattle.field_groups.specs.Tables.{code_if, code_in, flag_of}
+use Rattle.order_meaning.specs.declared.Amount.{Amount}
+use Rattle.order_meaning.specs.Request.{Request, RequestKind, New, Cancel, Replace, Status}
+use Rattle.order_meaning.specs.Request.{OrderType, Market, Limit, Stop, StopLimit, MarketOnClose}
+use Rattle.order_meaning.specs.Request.{LimitOnClose, NeutralAlloc, NeutralSession, NeutralMaturity}
+use Rattle.dict_fix42.specs.Message.{message42}
+
+abbrev pub amount_of : List ℕ → Option Amount
+amount_of text = option_map (λ units. record { units = units }) (units_of_text text)
+
+abbrev pub amount_if : List Cell → ℕ → Option Amount
+amount_if cells tag = said_at cells (Tag tag) >>= amount_of
+
+-- an account's part of an order, by its line of NoAllocs(78)
+abbrev pub alloc_of : List Cell → NeutralAlloc
+alloc_of line = record { account = text_in line 79; qty = amount_if line 80 }
+
+-- a session, by its line of NoTradingSessions(386)
+abbrev pub session_of : List Cell → NeutralSession
+session_of line = record { id = text_in line 336 }
+
+-- MaturityMonthYear(200) and MaturityDay(205)
+abbrev pub maturity_of : Said → Said → Option NeutralMaturity
+maturity_of month day =
+    option_map (λ month. record { month = month; day = option_map number_of_two day }) month
+
+-- OrdType(40): 1 Market, 2 Limit, 3 Stop, 4 Stop limit, 5 Market on close, B Limit on close
+abbrev pub order_type_of : ℕ → Option OrderType
+order_type_of code =
+    if code == 49 then Some Market else
+    (if code == 50 then Some Limit else
+    (if code == 51 then Some Stop else
+    (if code == 52 then Some StopLimit else
+    (if code == 53 then Some MarketOnClose else
+    (if code == 66 then Some LimitOnClose else None)))))
+
+abbrev pub is_on_close : Option ℕ → Bool
+is_on_close None = false
+is_on_close (Some code) = code == 53 || code == 66
+
+abbrev pub time_of : Bool → Option ℕ → Option ℕ
+time_of on_close None = None
+time_of on_close (Some time) = if on_close && (time == 48) then None else Some time
+
+-- what a message asks for
+abbrev pub request_of : RequestKind → Message → Request
+request_of kind m = record {
+  kind = kind;
+  resend = m.resend;
+  cl_ord_id = text_in m.cells 11;
+  orig_id = said_at m.cells (Tag 41);
+  order_id = said_at m.cells (Tag 37);
+  client_id = said_at m.cells (Tag 109);
+  exec_broker = said_at m.cells (Tag 76);
+  clearing_firm = said_at m.cells (Tag 439);
+  account = said_at m.cells (Tag 1);
+  allocs = map alloc_of (lines_of 78 m.groups);
+  settl_type = code_if m.cells 63;
+  settl_date = said_at m.cells (Tag 64);
+  hand_inst = code_if m.cells 21;
+  exec_inst = said_at m.cells (Tag 18);
+  min_qty = amount_if m.cells 110;
+  max_floor = amount_if m.cells 111;
+  ex_destination = said_at m.cells (Tag 100);
+  sessions = map session_of (lines_of 386 m.groups);
+  symbol = text_in m.cells 55;
+  symbol_sfx = said_at m.cells (Tag 65);
+  security_id = said_at m.cells (Tag 48);
+  id_source = code_if m.cells 22;
+  security_type = said_at m.cells (Tag 167);
+  maturity = maturity_of (said_at m.cells (Tag 200)) (said_at m.cells (Tag 205));
+  security_exchange = said_at m.cells (Tag 207);
+  side = code_in m.cells 54;
+  locate = option_map flag_of (said_at m.cells (Tag 114));
+  transact_time = said_at m.cells (Tag 60);
+  order_qty = amount_if m.cells 38;
+  ord_type = code_if m.cells 40 >>= order_type_of;
+  price = amount_if m.cells 44;
+  stop_px = amount_if m.cells 99;
+  currency = said_at m.cells (Tag 15);
+  time_in_force = time_of (is_on_close (code_if m.cells 40)) (code_if m.cells 59);
+  effective_time = said_at m.cells (Tag 168);
+  expire_date = said_at m.cells (Tag 432);
+  expire_time = said_at m.cells (Tag 126);
+  capacity = code_if m.cells 47;
+  open_close = code_if m.cells 77;
+  text = said_at m.cells (Tag 58);
+}
+
+-- the request of a message, by its letter
+abbrev pub request42 : Message → Option Request
+request42 m =
+    if m.letter == 68 then Some (request_of New m) else
+    (if m.letter == 70 then Some (request_of Cancel m) else
+    (if m.letter == 71 then Some (request_of Replace m) else
+    (if m.letter == 72 then Some (request_of Status m) else None)))
+
+-- THE SENSE of a message of FIX 4.2, by its MsgType and its fields
+unfoldable pub sense42 : List ℕ → List Field → Option Request
+sense42 msg_type fields = result_ok (message42 msg_type fields None) >>= request42

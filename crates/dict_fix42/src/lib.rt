@@ -1,0 +1,18 @@
+//! The order messages of FIX 4.2: requests (D, F, G, H), read and written by the profile's tables.
+#![tactic(auto)]
+
+mod groups;
+mod kinds;
+mod lists;
+mod message;
+mod reading;
+mod requests;
+mod tables;
+#[cfg(test)]
+mod tests;
+mod values;
+mod writing;
+
+pub use lists::{AllocLine, Allocs, SessionLine, Sessions};
+pub use message::{read42, type42, write42};
+pub use requests::{Cancel42, Maturity, Msg42, New42, Replace42, Status42};

@@ -1,0 +1,220 @@
+//! Reading and writing order messages of FIX 4.2.
+
+ghost use Rattle.std.specs.Prelude.{◌≡◌, ◌++◌, ◌∷◌, [], IfOk, OnErr, OnOk, Some, map};
+ghost use Rattle.field_groups.specs.Field.{body_of};
+ghost use Rattle.field_groups.specs.CodeTables.{seen, table_of as code_table};
+ghost use Rattle.field_groups.specs.FirstFault.{first_fault, marked};
+ghost use Rattle.field_groups.specs.Stages.{IsFound};
+ghost use Rattle.dict_fix42.specs.CodeKinds.{kind_of};
+ghost use Rattle.dict_fix42.specs.Kinds.{judge};
+ghost use Rattle.dict_fix42.specs.Message.{message42, message_by, of_split, of_table, table};
+ghost use Rattle.dict_fix42.specs.Gives.{Gives, IsClean};
+ghost use Rattle.dict_fix42.specs.Readable.{IsReadable42};
+ghost use Rattle.dict_fix42.specs.Requests.{cancel_request, new_order, replace_request};
+ghost use Rattle.dict_fix42.specs.Requests.{status_request};
+ghost use Rattle.dict_fix42.specs.Said.{says};
+ghost use Rattle.dict_fix42.specs.Content.{content42};
+
+use crate::groups::read_groups;
+use crate::kinds::Kind;
+use crate::reading::{cancel_request, new_order, replace_request, status_request};
+use crate::requests::Msg42;
+use crate::tables;
+use crate::writing::{cancel_parts, new_parts, put_parts, replace_parts, status_parts};
+use field_groups::{Field, Found, Mark, Split, SplitFault, Table, TableFault};
+use order_meaning::Fault;
+use std::alloc::{AllocError, Global};
+
+/// SessionRejectReason(373): invalid tag number.
+const BAD_TAG: u8 = 0;
+
+/// SessionRejectReason(373): value is incorrect (out of range) for this tag.
+const RANGE: u8 = 5;
+
+/// SessionRejectReason(373): incorrect data format for value.
+const FORM: u8 = 6;
+
+/// The letter of a message's type, as MsgType(35) has it; it takes no memory.
+pub fn type42(msg: &Msg42) -> &'static [u8]
+    ensures { result.now ≡ (says msg.now).letter ∷ [] }
+{
+    match msg {
+        Msg42::New(_) => b"D",
+        Msg42::Cancel(_) => b"F",
+        Msg42::Replace(_) => b"G",
+        Msg42::Status(_) => b"H",
+    }
+}
+
+/// What stopped the fields of a body, as a fault of the message.
+fn of_split(fault: SplitFault) -> Fault
+    ensures { result ≡ of_split fault }
+{
+    let (tag, reason) = match fault {
+        SplitFault::NoTag { at: _ } | SplitFault::BadTag { at: _ } => (None, BAD_TAG),
+        SplitFault::NoEnd { at: _ } => (None, FORM),
+        SplitFault::DataLength { tag } => (Some(tag), FORM),
+        SplitFault::TooMany => (None, RANGE),
+    };
+    Fault::Session { tag, reason }
+}
+
+/// A fault of the fields, as a fault of the message.
+fn of_table(fault: TableFault) -> Fault
+    ensures { result ≡ of_table fault }
+{
+    match fault {
+        TableFault::Reason { tag, reason } => Fault::Session {
+            tag: Some(tag),
+            reason,
+        },
+        TableFault::Outside { tag } => Fault::NoCounterpart { tag },
+    }
+}
+
+/// What a field is beside its row.
+fn mark(table: &Table<Kind>, fields: &[Field<'_>], tag: u32, value: &[u8]) -> Mark
+    ensures { (tag, result)
+        ≡ marked judge (code_table kind_of table.now) (seen fields.now) (tag, value.now) }
+{
+    match table.row(tag) {
+        Some(row) => row.need.allows(row.kind.judge(fields, value)),
+        None => table.without_row(tag, value),
+    }
+}
+
+/// The first faults of the values of these fields.
+fn found(table: &Table<Kind>, fields: &[Field<'_>]) -> Found
+    ensures { IsFound
+        (map (marked judge (code_table kind_of table.now) (seen fields.now)) (seen fields.now))
+        result }
+{
+    let mut found = Found::new();
+    for (tag, value) in fields {
+        found = found.with(*tag, mark(table, fields, *tag, value));
+    }
+    found
+}
+
+/// The first fault of these fields.
+fn first_fault(table: &Table<Kind>, fields: &[Field<'_>]) -> Option<TableFault>
+    ensures { result ≡ first_fault judge (code_table kind_of table.now) (seen fields.now) }
+{
+    table.first_fault(fields, &found(table, fields))
+}
+
+/// The fields of a body, where they are whole and at no fault.
+fn good_fields<'s, 'a>(table: &Table<Kind>, split: &'s Split<'a>) -> Result<&'s [Field<'a>], Fault>
+    ensures { IsClean (code_table kind_of table.now) split.now.fields split.now.fault result }
+{
+    match split.fault {
+        Some(fault) => Err(of_split(fault)),
+        None => {
+            let fields = split.fields.as_slice();
+            match first_fault(table, fields) {
+                Some(fault) => Err(of_table(fault)),
+                None => Ok(fields),
+            }
+        }
+    }
+}
+
+/// Reads New Order - Single (D).
+fn read_new(alloc: Global, split: &Split<'_>) -> Result<Msg42, Fault>
+    ensures says { Gives result
+        (message_by (Some (table 68 new_order)) split.now.fields split.now.fault) }
+    ensures readable { IfOk result IsReadable42 }
+{
+    let fields = good_fields(tables::new_order(), split)?;
+    let groups = read_groups(alloc, fields)?;
+    Ok(Msg42::New(new_order(alloc, fields, groups)?))
+}
+
+/// Reads Order Cancel Request (F).
+fn read_cancel(alloc: Global, split: &Split<'_>) -> Result<Msg42, Fault>
+    ensures says { Gives result
+        (message_by (Some (table 70 cancel_request)) split.now.fields split.now.fault) }
+    ensures readable { IfOk result IsReadable42 }
+{
+    let fields = good_fields(tables::cancel_request(), split)?;
+    Ok(Msg42::Cancel(cancel_request(alloc, fields)?))
+}
+
+/// Reads Order Cancel/Replace Request (G).
+fn read_replace(alloc: Global, split: &Split<'_>) -> Result<Msg42, Fault>
+    ensures says { Gives result
+        (message_by (Some (table 71 replace_request)) split.now.fields split.now.fault) }
+    ensures readable { IfOk result IsReadable42 }
+{
+    let fields = good_fields(tables::replace_request(), split)?;
+    let groups = read_groups(alloc, fields)?;
+    Ok(Msg42::Replace(replace_request(alloc, fields, groups)?))
+}
+
+/// Reads Order Status Request (H).
+fn read_status(alloc: Global, split: &Split<'_>) -> Result<Msg42, Fault>
+    ensures says { Gives result
+        (message_by (Some (table 72 status_request)) split.now.fields split.now.fault) }
+    ensures readable { IfOk result IsReadable42 }
+{
+    let fields = good_fields(tables::status_request(), split)?;
+    Ok(Msg42::Status(status_request(alloc, fields)?))
+}
+
+/// Reads a message of FIX 4.2, by its MsgType(35) and the fields of its body.
+///
+/// # Errors
+///
+/// `NotSupported` for a type that is none of these. `Session` and `NoCounterpart` for the first
+/// fault of the message: what stopped its fields; a tag of the profile twice; a count, an order or
+/// a length of a group; a value that is empty, of wrong form or out of range; a required field that
+/// is missing; a tag or a value outside the profile. `NoMemory` for want of memory.
+#[tactic(auto, unfolding(crate::specs::Message::message42))]
+pub fn read42(alloc: Global, msg_type: &[u8], split: &Split<'_>) -> Result<Msg42, Fault>
+    ensures says { Gives result (message42 msg_type.now split.now.fields split.now.fault) }
+    ensures readable { IfOk result IsReadable42 }
+{
+    if msg_type == b"D".as_slice() {
+        read_new(alloc, split)
+    } else if msg_type == b"F".as_slice() {
+        read_cancel(alloc, split)
+    } else if msg_type == b"G".as_slice() {
+        read_replace(alloc, split)
+    } else if msg_type == b"H".as_slice() {
+        read_status(alloc, split)
+    } else {
+        Err(Fault::NotSupported)
+    }
+}
+
+/// How many bytes the content of an ordinary request has at most.
+const ORDINARY: usize = 512;
+
+/// Appends the content of a message.
+fn put_content(out: &mut Vec<u8>, msg: &Msg42) -> Result<(), AllocError>
+    requires { IsReadable42 msg.now }
+    ensures { OnOk result (out.new.items ≡ out.old.items ++ body_of (content42 msg.now)) }
+{
+    match msg {
+        Msg42::New(order) => put_parts(out, &new_parts(order)),
+        Msg42::Cancel(request) => put_parts(out, &cancel_parts(request)),
+        Msg42::Replace(request) => put_parts(out, &replace_parts(request)),
+        Msg42::Status(request) => put_parts(out, &status_parts(request)),
+    }
+}
+
+/// Appends the content of a message whose values can be read: the fields after the header, in the
+/// order of the request table, each in its canonical spelling, and without PossResend(97).
+///
+/// # Errors
+///
+/// `AllocError` for want of memory; then `out` is unchanged.
+pub fn write42(msg: &Msg42, out: &mut Vec<u8>) -> Result<(), AllocError>
+    requires { IsReadable42 msg.now }
+    ensures ok { OnOk result (out.new.items ≡ out.old.items ++ body_of (content42 msg.now)) }
+    ensures err { OnErr result (out.new.items ≡ out.old.items) }
+{
+    let mut content = Vec::with_capacity(*out.allocator(), ORDINARY)?;
+    put_content(&mut content, msg)?;
+    out.extend_from_slice(&content)
+}

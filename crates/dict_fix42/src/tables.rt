@@ -1,0 +1,265 @@
+//! The tables of requests, as the code has them.
+
+ghost use Rattle.std.specs.Prelude.{◌≡◌};
+ghost use Rattle.field_groups.specs.CodeTables.{own_tags, table_of as code_table};
+ghost use Rattle.field_groups.specs.Tables.{tags_in};
+ghost use Rattle.dict_fix42.specs.Message.{table};
+ghost use Rattle.dict_fix42.specs.Requests.{allocs, sessions};
+ghost use Rattle.dict_fix42.specs.Requests.{cancel_request, new_order, replace_request};
+ghost use Rattle.dict_fix42.specs.Requests.{status_request};
+ghost use Rattle.dict_fix42.specs.CodeKinds.{kind_of};
+
+use crate::kinds::Kind;
+use crate::kinds::Kind::{DayOf, Value};
+use field_groups::Need::{Optional, Required, When};
+use field_groups::{Item, RepeatingGroup, Row, Table, Test};
+use typed_fields::ValueKind::{
+    Code, Codes, Currency, Day, Filled, Flag, Id, MonthYear, OneByte, Price, Qty, Stamp, Text, Word,
+};
+
+/// A row: the tag of its field, the kind of its values, and whether each message says it.
+macro_rules! row {
+    ($tag:literal, $kind:expr, $need:expr) => {
+        Row {
+            tag: $tag,
+            kind: $kind,
+            need: $need,
+        }
+    };
+}
+
+/// A row, as an item of a table.
+macro_rules! one {
+    ($tag:literal, $kind:expr, $need:expr) => {
+        Item::One(row!($tag, $kind, $need))
+    };
+}
+
+/// MaturityDay(205) is the day of a MaturityMonthYear(200).
+const HAS_DAY: &[&[Test]] = &[&[Test::Stands(205)]];
+
+/// The standard header.
+#[rattlefmt::skip]
+const HEADER: [Row<Kind>; 14] = [
+    row!(35, Value(Filled), Optional), // MsgType
+    row!(49, Value(Filled), Optional), // SenderCompID
+    row!(56, Value(Filled), Optional), // TargetCompID
+    row!(34, Value(Filled), Optional), // MsgSeqNum
+    row!(43, Value(Filled), Optional), // PossDupFlag
+    row!(97, Value(Flag), Optional), // PossResend
+    row!(52, Value(Filled), Optional), // SendingTime
+    row!(122, Value(Filled), Optional), // OrigSendingTime
+    row!(50, Value(Filled), Optional), // SenderSubID
+    row!(57, Value(Filled), Optional), // TargetSubID
+    row!(142, Value(Filled), Optional), // SenderLocationID
+    row!(143, Value(Filled), Optional), // TargetLocationID
+    row!(347, Value(Filled), Optional), // MessageEncoding
+    row!(369, Value(Filled), Optional), // LastMsgSeqNumProcessed
+];
+
+/// The rows of NoAllocs(78).
+#[rattlefmt::skip]
+const ALLOC_ROWS: [Row<Kind>; 2] = [
+    row!(79, Value(Id), Required), // AllocAccount
+    row!(80, Value(Qty), Optional), // AllocShares
+];
+
+/// The rows of NoTradingSessions(386).
+#[rattlefmt::skip]
+const SESSION_ROWS: [Row<Kind>; 1] = [
+    row!(336, Value(Id), Required), // TradingSessionID
+];
+
+/// NoAllocs(78).
+const ALLOCS: RepeatingGroup<Kind> = RepeatingGroup {
+    count: 78,
+    rows: &ALLOC_ROWS,
+    skipped: &[],
+};
+
+/// NoTradingSessions(386).
+const SESSIONS: RepeatingGroup<Kind> = RepeatingGroup {
+    count: 386,
+    rows: &SESSION_ROWS,
+    skipped: &[],
+};
+
+/// The items of New Order - Single (D) and of Order Cancel/Replace Request (G), in the order of
+/// writing; the request has the items that are given behind ClOrdID(11).
+#[rattlefmt::skip]
+macro_rules! order_items {
+    ($($id:expr),*) => {
+        [
+            one!(11, Value(Id), Required), // ClOrdID
+            $($id,)*
+            one!(109, Value(Id), Optional), // ClientID
+            one!(76, Value(Id), Optional), // ExecBroker
+            one!(439, Value(Id), Optional), // ClearingFirm
+            one!(1, Value(Id), Optional), // Account
+            Item::Lines(ALLOCS),
+            one!(63, Value(Code(b"0123456789")), Optional), // SettlmntTyp
+            one!(64, Value(Day), Optional), // FutSettDate
+            one!(21, Value(Code(b"123")), Required), // HandlInst
+            one!(18, Value(Codes(b"123456G")), Optional), // ExecInst
+            one!(110, Value(Qty), Optional), // MinQty
+            one!(111, Value(Qty), Optional), // MaxFloor
+            one!(100, Value(Id), Optional), // ExDestination
+            Item::Lines(SESSIONS),
+            one!(55, Value(Id), Required), // Symbol
+            one!(65, Value(Id), Optional), // SymbolSfx
+            one!(48, Value(Id), Optional), // SecurityID
+            one!(22, Value(Code(b"123456789")), Optional), // IDSource
+            one!(167, Value(Word(&[b"CS", b"PS", b"FUT"])), Optional), // SecurityType
+            one!(200, Value(MonthYear), When(HAS_DAY)), // MaturityMonthYear
+            one!(205, DayOf(200), Optional), // MaturityDay
+            one!(207, Value(Id), Optional), // SecurityExchange
+            one!(54, Value(Code(b"123456")), Required), // Side
+            one!(114, Value(Flag), Optional), // LocateReqd
+            one!(60, Value(Stamp), Required), // TransactTime
+            one!(38, Value(Qty), Required), // OrderQty
+            one!(40, Value(Code(b"12345B")), Required), // OrdType
+            one!(44, Value(Price), Optional), // Price
+            one!(99, Value(Price), Optional), // StopPx
+            one!(15, Value(Currency), Optional), // Currency
+            one!(59, Value(Code(b"0123456")), Optional), // TimeInForce
+            one!(168, Value(Stamp), Optional), // EffectiveTime
+            one!(432, Value(Day), Optional), // ExpireDate
+            one!(126, Value(Stamp), Optional), // ExpireTime
+            one!(47, Value(OneByte), Optional), // Rule80A
+            one!(77, Value(Code(b"OC")), Optional), // OpenClose
+            one!(58, Value(Text), Optional), // Text
+        ]
+    };
+}
+
+/// New Order - Single (D).
+const NEW_ORDER: [Item<Kind>; 37] = order_items!();
+
+/// Order Cancel Request (F), in the order of writing.
+#[rattlefmt::skip]
+const CANCEL_REQUEST: [Item<Kind>; 18] = [
+    one!(11, Value(Id), Required), // ClOrdID
+    one!(41, Value(Id), Required), // OrigClOrdID
+    one!(37, Value(Id), Optional), // OrderID
+    one!(109, Value(Id), Optional), // ClientID
+    one!(76, Value(Id), Optional), // ExecBroker
+    one!(1, Value(Id), Optional), // Account
+    one!(55, Value(Id), Required), // Symbol
+    one!(65, Value(Id), Optional), // SymbolSfx
+    one!(48, Value(Id), Optional), // SecurityID
+    one!(22, Value(Code(b"123456789")), Optional), // IDSource
+    one!(167, Value(Word(&[b"CS", b"PS", b"FUT"])), Optional), // SecurityType
+    one!(200, Value(MonthYear), When(HAS_DAY)), // MaturityMonthYear
+    one!(205, DayOf(200), Optional), // MaturityDay
+    one!(207, Value(Id), Optional), // SecurityExchange
+    one!(54, Value(Code(b"123456")), Required), // Side
+    one!(60, Value(Stamp), Required), // TransactTime
+    one!(38, Value(Qty), Optional), // OrderQty
+    one!(58, Value(Text), Optional), // Text
+];
+
+/// Order Cancel/Replace Request (G).
+#[rattlefmt::skip]
+const REPLACE_REQUEST: [Item<Kind>; 39] = order_items!(
+    one!(41, Value(Id), Required), // OrigClOrdID
+    one!(37, Value(Id), Optional) // OrderID
+);
+
+/// Order Status Request (H), in the order of writing.
+#[rattlefmt::skip]
+const STATUS_REQUEST: [Item<Kind>; 14] = [
+    one!(11, Value(Id), Required), // ClOrdID
+    one!(37, Value(Id), Optional), // OrderID
+    one!(109, Value(Id), Optional), // ClientID
+    one!(76, Value(Id), Optional), // ExecBroker
+    one!(1, Value(Id), Optional), // Account
+    one!(55, Value(Id), Required), // Symbol
+    one!(65, Value(Id), Optional), // SymbolSfx
+    one!(48, Value(Id), Optional), // SecurityID
+    one!(22, Value(Code(b"123456789")), Optional), // IDSource
+    one!(167, Value(Word(&[b"CS", b"PS", b"FUT"])), Optional), // SecurityType
+    one!(200, Value(MonthYear), When(HAS_DAY)), // MaturityMonthYear
+    one!(205, DayOf(200), Optional), // MaturityDay
+    one!(207, Value(Id), Optional), // SecurityExchange
+    one!(54, Value(Code(b"123456")), Required), // Side
+];
+
+/// The table of New Order - Single.
+static NEW_ORDER_TABLE: Table<Kind> = Table {
+    letter: b'D',
+    header: &HEADER,
+    items: &NEW_ORDER,
+    strict: true,
+};
+
+/// The table of Order Cancel Request.
+static CANCEL_REQUEST_TABLE: Table<Kind> = Table {
+    letter: b'F',
+    header: &HEADER,
+    items: &CANCEL_REQUEST,
+    strict: true,
+};
+
+/// The table of Order Cancel/Replace Request.
+static REPLACE_REQUEST_TABLE: Table<Kind> = Table {
+    letter: b'G',
+    header: &HEADER,
+    items: &REPLACE_REQUEST,
+    strict: true,
+};
+
+/// The table of Order Status Request.
+static STATUS_REQUEST_TABLE: Table<Kind> = Table {
+    letter: b'H',
+    header: &HEADER,
+    items: &STATUS_REQUEST,
+    strict: true,
+};
+
+/// NoAllocs(78).
+static ALLOCS_GROUP: RepeatingGroup<Kind> = ALLOCS;
+
+/// NoTradingSessions(386).
+static SESSIONS_GROUP: RepeatingGroup<Kind> = SESSIONS;
+
+/// NoAllocs(78).
+pub(crate) fn allocs() -> &'static RepeatingGroup<Kind>
+    ensures { own_tags result.now ≡ tags_in allocs }
+{
+    &ALLOCS_GROUP
+}
+
+/// NoTradingSessions(386).
+pub(crate) fn sessions() -> &'static RepeatingGroup<Kind>
+    ensures { own_tags result.now ≡ tags_in sessions }
+{
+    &SESSIONS_GROUP
+}
+
+/// The table of New Order - Single.
+pub(crate) fn new_order() -> &'static Table<Kind>
+    ensures { code_table kind_of result.now ≡ table 68 new_order }
+{
+    &NEW_ORDER_TABLE
+}
+
+/// The table of Order Cancel Request.
+pub(crate) fn cancel_request() -> &'static Table<Kind>
+    ensures { code_table kind_of result.now ≡ table 70 cancel_request }
+{
+    &CANCEL_REQUEST_TABLE
+}
+
+/// The table of Order Cancel/Replace Request.
+pub(crate) fn replace_request() -> &'static Table<Kind>
+    ensures { code_table kind_of result.now ≡ table 71 replace_request }
+{
+    &REPLACE_REQUEST_TABLE
+}
+
+/// The table of Order Status Request.
+pub(crate) fn status_request() -> &'static Table<Kind>
+    ensures { code_table kind_of result.now ≡ table 72 status_request }
+{
+    &STATUS_REQUEST_TABLE
+}

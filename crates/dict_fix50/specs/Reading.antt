@@ -1,0 +1,264 @@
+-- Inside: what fields say at single tags and in the lines of groups, and requests that say the same
+-- at each row.
+use Rattle.std.specs.Prelude.{◌≡◌, ℕ, ◌≤◌, Bool, false, List, [], ◌∷◌, ◌++◌, length, take}
+use Rattle.std.specs.Prelude.{drop}
+use Rattle.std.specs.Prelude.{codes, Option, Some, unwrap_or, option_and_then, IfSome}
+use Rattle.std.specs.Option.{option_map}
+use Rattle.std.specs.List.{AllZip}
+use Rattle.typed_fields.specs.ValueKind.{Id, Text, Word, Currency, Codes, Flag, Day, MonthYear, Qty}
+use Rattle.typed_fields.specs.ValueKind.{Price}
+use Rattle.typed_fields.specs.ValueKind.{Stamp, Code, Number, DayOfMonth, spelled}
+use Rattle.typed_fields.specs.Dec.{dec_text, IsDec}
+use Rattle.typed_fields.specs.Day.{day_text}
+use Rattle.typed_fields.specs.Stamp.{stamp_text}
+use Rattle.typed_fields.specs.Flag.{flag_text}
+use Rattle.std.specs.Fmt.{decimal}
+use Rattle.field_groups.specs.Field.{Field}
+use Rattle.field_groups.specs.Tables.{Said, ◌>>=◌, flag_of, text_of, value_at, tags_in, lines_in}
+use Rattle.order_meaning.specs.declared.party.PartyLine.{PartyLine}
+use Rattle.dict_fix50.specs.declared.lists.AllocLine.{AllocLine}
+use Rattle.dict_fix50.specs.declared.lists.SessionLine.{SessionLine}
+use Rattle.dict_fix50.specs.declared.groups.Groups.{Groups}
+use Rattle.dict_fix50.specs.declared.requests.Maturity.{Maturity}
+use Rattle.dict_fix50.specs.declared.requests.New50.{New50}
+use Rattle.dict_fix50.specs.declared.requests.Cancel50.{Cancel50}
+use Rattle.dict_fix50.specs.declared.requests.Replace50.{Replace50}
+use Rattle.dict_fix50.specs.declared.requests.Status50.{Status50}
+use Rattle.dict_fix50.specs.Kinds.{Kind50, Value, Byte, MonthBeside, TimeBeside, judge}
+use Rattle.dict_fix50.specs.Message.{month_by}
+use Rattle.dict_fix50.specs.Requests.{parties, allocs, sessions}
+use Rattle.typed_fields.specs.CodeKinds.{code_text}
+use Rattle.dict_fix50.specs.Said.{month_text, date_text}
+
+-- what the field of a tag says, as a value of a kind
+abbrev pub said : List Field → ℕ → Kind50 → Said
+said fields tag kind = value_at tag fields >>= (λ bytes. text_of (judge fields kind bytes))
+
+-- whether the fields repeat what was sent before, PossResend (97)
+abbrev pub resend_of : List Field → Bool
+resend_of fields = unwrap_or (option_map flag_of (value_at 97 fields)) false
+
+-- the parts of a date
+pub record IsDate (date : List ℕ) : Type 0 where
+  pub eight : length date ≡ 8
+  pub itself : spelled Day date ≡ Some date
+  pub month : spelled MonthYear (take 6 date) ≡ Some (take 6 date)
+  pub day : spelled DayOfMonth (drop 6 date) ≡ Some (drop 6 date)
+  pub whole : take 6 date ++ drop 6 date ≡ date
+
+-- a maturity says what the fields say
+pub record IsMaturity (fields : List Field) (maturity : Option Maturity) : Type 0 where
+  pub month : option_map month_text maturity
+      ≡ month_by (said fields 541 (Value Day)) (said fields 200 (MonthBeside 541))
+  pub date : option_and_then date_text maturity ≡ said fields 541 (Value Day)
+
+-- lines say what the fields of their group say
+pub record IsParty (fields : List Field) (line : PartyLine) : Type 0 where
+  pub id : line.id ≡ unwrap_or (said fields 448 (Value Id)) []
+  pub role : IfSome (said fields 452 (Value Number)) (λ text. text ≡ decimal line.role)
+  pub bound : line.role ≤ 1_000_000_000
+
+pub record IsAlloc (fields : List Field) (line : AllocLine) : Type 0 where
+  pub account : line.account ≡ unwrap_or (said fields 79 (Value Id)) []
+  pub qty : option_map dec_text line.qty ≡ said fields 80 (Value Qty)
+  pub bound : IfSome line.qty IsDec
+
+pub record IsSession (fields : List Field) (line : SessionLine) : Type 0 where
+  pub id : line.id ≡ unwrap_or (said fields 336 (Value Id)) []
+
+abbrev pub AreParties : List Field → List PartyLine → Type 0
+AreParties fields lines = AllZip IsParty (lines_in (tags_in parties) fields) lines
+
+abbrev pub AreAllocs : List Field → List AllocLine → Type 0
+AreAllocs fields lines = AllZip IsAlloc (lines_in (tags_in allocs) fields) lines
+
+abbrev pub AreSessions : List Field → List SessionLine → Type 0
+AreSessions fields lines = AllZip IsSession (lines_in (tags_in sessions) fields) lines
+
+pub record AreGroups (fields : List Field) (groups : Groups) : Type 0 where
+  pub parties : AreParties fields groups.parties
+  pub allocs : AreAllocs fields groups.allocs
+  pub sessions : AreSessions fields groups.sessions
+
+-- each row of a new order says what the fields say
+pub record IsNew (fields : List Field) (m : New50) : Type 0 where
+  pub resend : m.resend ≡ resend_of fields
+  pub cl_ord_id : m.cl_ord_id ≡ unwrap_or (said fields 11 (Value Id)) []
+  pub parties : AreParties fields m.parties
+  pub account : m.account ≡ said fields 1 (Value Id)
+  pub allocs : AreAllocs fields m.allocs
+  pub settl_type : option_map code_text m.settl_type
+      ≡ said fields 63 (Value (Code (codes "0123456789")))
+  pub settl_date : option_map day_text m.settl_date ≡ said fields 64 (Value Day)
+  pub hand_inst : IfSome (said fields 21 (Value (Code (codes "123"))))
+      (λ text. text ≡ code_text m.hand_inst)
+  pub exec_inst : m.exec_inst ≡ said fields 18 (Value (Codes (codes "123456G")))
+  pub min_qty : option_map dec_text m.min_qty ≡ said fields 110 (Value Qty)
+  pub max_floor : option_map dec_text m.max_floor ≡ said fields 1138 (Value Qty)
+  pub ex_destination : m.ex_destination ≡ said fields 100 (Value Id)
+  pub sessions : AreSessions fields m.sessions
+  pub symbol : m.symbol ≡ unwrap_or (said fields 55 (Value Id)) []
+  pub symbol_sfx : m.symbol_sfx ≡ said fields 65 (Value Id)
+  pub security_id : m.security_id ≡ said fields 48 (Value Id)
+  pub id_source : option_map code_text m.id_source
+      ≡ said fields 22 (Value (Code (codes "123456789")))
+  pub security_type : m.security_type
+      ≡ said fields 167 (Value (Word (codes "CS" ∷ codes "PS" ∷ codes "FUT" ∷ [])))
+  pub maturity : IsMaturity fields m.maturity
+  pub security_exchange : m.security_exchange ≡ said fields 207 (Value Id)
+  pub side : IfSome (said fields 54 (Value (Code (codes "123456"))))
+      (λ text. text ≡ code_text m.side)
+  pub locate : option_map flag_text m.locate ≡ said fields 114 (Value Flag)
+  pub transact_time : IfSome (said fields 60 (Value Stamp))
+      (λ text. text ≡ stamp_text m.transact_time)
+  pub order_qty : IfSome (said fields 38 (Value Qty)) (λ text. text ≡ dec_text m.order_qty)
+  pub ord_type : IfSome (said fields 40 (Value (Code (codes "1234"))))
+      (λ text. text ≡ code_text m.ord_type)
+  pub price : option_map dec_text m.price ≡ said fields 44 (Value Price)
+  pub stop_px : option_map dec_text m.stop_px ≡ said fields 99 (Value Price)
+  pub currency : m.currency ≡ said fields 15 (Value Currency)
+  pub time_in_force : option_map code_text m.time_in_force ≡ said fields 59 (TimeBeside 40)
+  pub effective_time : option_map stamp_text m.effective_time ≡ said fields 168 (Value Stamp)
+  pub expire_date : option_map day_text m.expire_date ≡ said fields 432 (Value Day)
+  pub expire_time : option_map stamp_text m.expire_time ≡ said fields 126 (Value Stamp)
+  pub capacity : option_map code_text m.capacity ≡ said fields 528 (Byte (codes "AIP"))
+  pub open_close : option_map code_text m.open_close ≡ said fields 77 (Value (Code (codes "OC")))
+  pub text : m.text ≡ said fields 58 (Value Text)
+
+-- each row of a cancel request says what the fields say
+pub record IsCancel (fields : List Field) (m : Cancel50) : Type 0 where
+  pub resend : m.resend ≡ resend_of fields
+  pub cl_ord_id : m.cl_ord_id ≡ unwrap_or (said fields 11 (Value Id)) []
+  pub orig_id : m.orig_id ≡ unwrap_or (said fields 41 (Value Id)) []
+  pub order_id : m.order_id ≡ said fields 37 (Value Id)
+  pub parties : AreParties fields m.parties
+  pub account : m.account ≡ said fields 1 (Value Id)
+  pub symbol : m.symbol ≡ unwrap_or (said fields 55 (Value Id)) []
+  pub symbol_sfx : m.symbol_sfx ≡ said fields 65 (Value Id)
+  pub security_id : m.security_id ≡ said fields 48 (Value Id)
+  pub id_source : option_map code_text m.id_source
+      ≡ said fields 22 (Value (Code (codes "123456789")))
+  pub security_type : m.security_type
+      ≡ said fields 167 (Value (Word (codes "CS" ∷ codes "PS" ∷ codes "FUT" ∷ [])))
+  pub maturity : IsMaturity fields m.maturity
+  pub security_exchange : m.security_exchange ≡ said fields 207 (Value Id)
+  pub side : IfSome (said fields 54 (Value (Code (codes "123456"))))
+      (λ text. text ≡ code_text m.side)
+  pub transact_time : IfSome (said fields 60 (Value Stamp))
+      (λ text. text ≡ stamp_text m.transact_time)
+  pub order_qty : option_map dec_text m.order_qty ≡ said fields 38 (Value Qty)
+  pub text : m.text ≡ said fields 58 (Value Text)
+
+-- each row of a replace request says what the fields say
+pub record IsReplace (fields : List Field) (m : Replace50) : Type 0 where
+  pub resend : m.resend ≡ resend_of fields
+  pub cl_ord_id : m.cl_ord_id ≡ unwrap_or (said fields 11 (Value Id)) []
+  pub orig_id : m.orig_id ≡ unwrap_or (said fields 41 (Value Id)) []
+  pub order_id : m.order_id ≡ said fields 37 (Value Id)
+  pub parties : AreParties fields m.parties
+  pub account : m.account ≡ said fields 1 (Value Id)
+  pub allocs : AreAllocs fields m.allocs
+  pub settl_type : option_map code_text m.settl_type
+      ≡ said fields 63 (Value (Code (codes "0123456789")))
+  pub settl_date : option_map day_text m.settl_date ≡ said fields 64 (Value Day)
+  pub hand_inst : IfSome (said fields 21 (Value (Code (codes "123"))))
+      (λ text. text ≡ code_text m.hand_inst)
+  pub exec_inst : m.exec_inst ≡ said fields 18 (Value (Codes (codes "123456G")))
+  pub min_qty : option_map dec_text m.min_qty ≡ said fields 110 (Value Qty)
+  pub max_floor : option_map dec_text m.max_floor ≡ said fields 1138 (Value Qty)
+  pub ex_destination : m.ex_destination ≡ said fields 100 (Value Id)
+  pub sessions : AreSessions fields m.sessions
+  pub symbol : m.symbol ≡ unwrap_or (said fields 55 (Value Id)) []
+  pub symbol_sfx : m.symbol_sfx ≡ said fields 65 (Value Id)
+  pub security_id : m.security_id ≡ said fields 48 (Value Id)
+  pub id_source : option_map code_text m.id_source
+      ≡ said fields 22 (Value (Code (codes "123456789")))
+  pub security_type : m.security_type
+      ≡ said fields 167 (Value (Word (codes "CS" ∷ codes "PS" ∷ codes "FUT" ∷ [])))
+  pub maturity : IsMaturity fields m.maturity
+  pub security_exchange : m.security_exchange ≡ said fields 207 (Value Id)
+  pub side : IfSome (said fields 54 (Value (Code (codes "123456"))))
+      (λ text. text ≡ code_text m.side)
+  pub locate : option_map flag_text m.locate ≡ said fields 114 (Value Flag)
+  pub transact_time : IfSome (said fields 60 (Value Stamp))
+      (λ text. text ≡ stamp_text m.transact_time)
+  pub order_qty : IfSome (said fields 38 (Value Qty)) (λ text. text ≡ dec_text m.order_qty)
+  pub ord_type : IfSome (said fields 40 (Value (Code (codes "1234"))))
+      (λ text. text ≡ code_text m.ord_type)
+  pub price : option_map dec_text m.price ≡ said fields 44 (Value Price)
+  pub stop_px : option_map dec_text m.stop_px ≡ said fields 99 (Value Price)
+  pub currency : m.currency ≡ said fields 15 (Value Currency)
+  pub time_in_force : option_map code_text m.time_in_force ≡ said fields 59 (TimeBeside 40)
+  pub effective_time : option_map stamp_text m.effective_time ≡ said fields 168 (Value Stamp)
+  pub expire_date : option_map day_text m.expire_date ≡ said fields 432 (Value Day)
+  pub expire_time : option_map stamp_text m.expire_time ≡ said fields 126 (Value Stamp)
+  pub capacity : option_map code_text m.capacity ≡ said fields 528 (Byte (codes "AIP"))
+  pub open_close : option_map code_text m.open_close ≡ said fields 77 (Value (Code (codes "OC")))
+  pub text : m.text ≡ said fields 58 (Value Text)
+
+-- each row of a status request says what the fields say
+pub record IsStatus (fields : List Field) (m : Status50) : Type 0 where
+  pub resend : m.resend ≡ resend_of fields
+  pub cl_ord_id : m.cl_ord_id ≡ unwrap_or (said fields 11 (Value Id)) []
+  pub order_id : m.order_id ≡ said fields 37 (Value Id)
+  pub parties : AreParties fields m.parties
+  pub account : m.account ≡ said fields 1 (Value Id)
+  pub symbol : m.symbol ≡ unwrap_or (said fields 55 (Value Id)) []
+  pub symbol_sfx : m.symbol_sfx ≡ said fields 65 (Value Id)
+  pub security_id : m.security_id ≡ said fields 48 (Value Id)
+  pub id_source : option_map code_text m.id_source
+      ≡ said fields 22 (Value (Code (codes "123456789")))
+  pub security_type : m.security_type
+      ≡ said fields 167 (Value (Word (codes "CS" ∷ codes "PS" ∷ codes "FUT" ∷ [])))
+  pub maturity : IsMaturity fields m.maturity
+  pub security_exchange : m.security_exchange ≡ said fields 207 (Value Id)
+  pub side : IfSome (said fields 54 (Value (Code (codes "123456"))))
+      (λ text. text ≡ code_text m.side)
+
+-- the texts of a new order
+abbrev pub new_texts : List Field → List Said
+new_texts fields =
+    said fields 11 (Value Id) ∷
+    said fields 1 (Value Id) ∷
+    said fields 18 (Value (Codes (codes "123456G"))) ∷
+    said fields 100 (Value Id) ∷
+    said fields 55 (Value Id) ∷
+    said fields 65 (Value Id) ∷
+    said fields 48 (Value Id) ∷
+    said fields 167 (Value (Word (codes "CS" ∷ codes "PS" ∷ codes "FUT" ∷ []))) ∷
+    said fields 207 (Value Id) ∷
+    said fields 15 (Value Currency) ∷
+    said fields 58 (Value Text) ∷
+    []
+
+-- the texts of a cancel request
+abbrev pub cancel_texts : List Field → List Said
+cancel_texts fields =
+    said fields 11 (Value Id) ∷
+    said fields 41 (Value Id) ∷
+    said fields 37 (Value Id) ∷
+    said fields 1 (Value Id) ∷
+    said fields 55 (Value Id) ∷
+    said fields 65 (Value Id) ∷
+    said fields 48 (Value Id) ∷
+    said fields 167 (Value (Word (codes "CS" ∷ codes "PS" ∷ codes "FUT" ∷ []))) ∷
+    said fields 207 (Value Id) ∷
+    said fields 58 (Value Text) ∷
+    []
+
+-- the ids that a replace request has beside the texts of a new order
+abbrev pub replace_ids : List Field → List Said
+replace_ids fields = said fields 41 (Value Id) ∷ said fields 37 (Value Id) ∷ []
+
+-- the texts of a status request
+abbrev pub status_texts : List Field → List Said
+status_texts fields =
+    said fields 11 (Value Id) ∷
+    said fields 37 (Value Id) ∷
+    said fields 1 (Value Id) ∷
+    said fields 55 (Value Id) ∷
+    said fields 65 (Value Id) ∷
+    said fields 48 (Value Id) ∷
+    said fields 167 (Value (Word (codes "CS" ∷ codes "PS" ∷ codes "FUT" ∷ []))) ∷
+    said fields 207 (Value Id) ∷
+    []

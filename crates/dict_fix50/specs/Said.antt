@@ -1,0 +1,198 @@
+-- Own: what the structs of the requests of FIX 5.0 SP2 say, row by row of the request table.
+use Rattle.std.specs.Prelude.{ℕ, List, [], ◌∷◌, ◌++◌, ◌==◌, map, codes, Option, Some}
+use Rattle.std.specs.Prelude.{option_and_then}
+use Rattle.std.specs.Option.{option_map}
+use Rattle.std.specs.List.{find}
+use Rattle.std.specs.Fmt.{decimal}
+use Rattle.typed_fields.specs.Dec.{dec_text}
+use Rattle.typed_fields.specs.Day.{day_text}
+use Rattle.typed_fields.specs.Stamp.{stamp_text}
+use Rattle.typed_fields.specs.Flag.{flag_text}
+use Rattle.typed_fields.specs.MonthYear.{month_year_text}
+use Rattle.typed_fields.specs.Digits.{zero_padded}
+use Rattle.typed_fields.specs.CodeKinds.{code_text}
+use Rattle.field_groups.specs.Tables.{Tag, Role, Said, Cell, Message}
+use Rattle.order_meaning.specs.declared.party.PartyLine.{PartyLine}
+use Rattle.dict_fix50.specs.declared.lists.AllocLine.{AllocLine}
+use Rattle.dict_fix50.specs.declared.lists.SessionLine.{SessionLine}
+use Rattle.dict_fix50.specs.declared.requests.Maturity.{Maturity}
+use Rattle.dict_fix50.specs.declared.requests.New50.{New50}
+use Rattle.dict_fix50.specs.declared.requests.Cancel50.{Cancel50}
+use Rattle.dict_fix50.specs.declared.requests.Replace50.{Replace50}
+use Rattle.dict_fix50.specs.declared.requests.Status50.{Status50}
+use Rattle.dict_fix50.specs.declared.requests.Msg50.{Msg50}
+use Rattle.dict_fix50.specs.declared.requests.Msg50.TheVariants as messages
+
+abbrev pub month_text : Maturity → List ℕ
+month_text maturity = month_year_text maturity.month
+
+-- the date, where there is a day
+abbrev pub date_text : Maturity → Option (List ℕ)
+date_text maturity = option_map (λ day. month_text maturity ++ zero_padded 2 day) maturity.day
+
+-- the id of the first party of a role
+abbrev pub id_of : ℕ → List PartyLine → Said
+id_of role lines = option_map (λ line. line.id) (find (λ line. line.role == role) lines)
+
+abbrev pub party_cells : PartyLine → List Cell
+party_cells line =
+    (Tag 448, Some line.id) ∷ (Tag 447, Some (codes "D")) ∷ (Tag 452, Some (decimal line.role)) ∷ []
+
+abbrev pub alloc_cells : AllocLine → List Cell
+alloc_cells line = (Tag 79, Some line.account) ∷ (Tag 80, option_map dec_text line.qty) ∷ []
+
+abbrev pub session_cells : SessionLine → List Cell
+session_cells line = (Tag 336, Some line.id) ∷ []
+
+-- what a new order says
+abbrev pub new_says : New50 → Message
+new_says m = record {
+  letter = 68;
+  resend = m.resend;
+  cells =
+      (Tag 11, Some m.cl_ord_id) ∷
+      (Role 3, id_of 3 m.parties) ∷
+      (Role 1, id_of 1 m.parties) ∷
+      (Role 4, id_of 4 m.parties) ∷
+      (Tag 1, m.account) ∷
+      (Tag 63, option_map code_text m.settl_type) ∷
+      (Tag 64, option_map day_text m.settl_date) ∷
+      (Tag 21, Some (code_text m.hand_inst)) ∷
+      (Tag 18, m.exec_inst) ∷
+      (Tag 110, option_map dec_text m.min_qty) ∷
+      (Tag 1138, option_map dec_text m.max_floor) ∷
+      (Tag 100, m.ex_destination) ∷
+      (Tag 55, Some m.symbol) ∷
+      (Tag 65, m.symbol_sfx) ∷
+      (Tag 48, m.security_id) ∷
+      (Tag 22, option_map code_text m.id_source) ∷
+      (Tag 167, m.security_type) ∷
+      (Tag 200, option_map month_text m.maturity) ∷
+      (Tag 541, option_and_then date_text m.maturity) ∷
+      (Tag 207, m.security_exchange) ∷
+      (Tag 54, Some (code_text m.side)) ∷
+      (Tag 114, option_map flag_text m.locate) ∷
+      (Tag 60, Some (stamp_text m.transact_time)) ∷
+      (Tag 38, Some (dec_text m.order_qty)) ∷
+      (Tag 40, Some (code_text m.ord_type)) ∷
+      (Tag 44, option_map dec_text m.price) ∷
+      (Tag 99, option_map dec_text m.stop_px) ∷
+      (Tag 15, m.currency) ∷
+      (Tag 59, option_map code_text m.time_in_force) ∷
+      (Tag 168, option_map stamp_text m.effective_time) ∷
+      (Tag 432, option_map day_text m.expire_date) ∷
+      (Tag 126, option_map stamp_text m.expire_time) ∷
+      (Tag 528, option_map code_text m.capacity) ∷
+      (Tag 77, option_map code_text m.open_close) ∷
+      (Tag 58, m.text) ∷
+      [];
+  groups = (453, map party_cells m.parties) ∷ (78, map alloc_cells m.allocs)
+      ∷ (386, map session_cells m.sessions) ∷ [];
+}
+
+-- what a cancel request says
+abbrev pub cancel_says : Cancel50 → Message
+cancel_says m = record {
+  letter = 70;
+  resend = m.resend;
+  cells =
+      (Tag 11, Some m.cl_ord_id) ∷
+      (Tag 41, Some m.orig_id) ∷
+      (Tag 37, m.order_id) ∷
+      (Role 3, id_of 3 m.parties) ∷
+      (Role 1, id_of 1 m.parties) ∷
+      (Tag 1, m.account) ∷
+      (Tag 55, Some m.symbol) ∷
+      (Tag 65, m.symbol_sfx) ∷
+      (Tag 48, m.security_id) ∷
+      (Tag 22, option_map code_text m.id_source) ∷
+      (Tag 167, m.security_type) ∷
+      (Tag 200, option_map month_text m.maturity) ∷
+      (Tag 541, option_and_then date_text m.maturity) ∷
+      (Tag 207, m.security_exchange) ∷
+      (Tag 54, Some (code_text m.side)) ∷
+      (Tag 60, Some (stamp_text m.transact_time)) ∷
+      (Tag 38, option_map dec_text m.order_qty) ∷
+      (Tag 58, m.text) ∷
+      [];
+  groups = (453, map party_cells m.parties) ∷ [];
+}
+
+-- what a replace request says
+abbrev pub replace_says : Replace50 → Message
+replace_says m = record {
+  letter = 71;
+  resend = m.resend;
+  cells =
+      (Tag 11, Some m.cl_ord_id) ∷
+      (Tag 41, Some m.orig_id) ∷
+      (Tag 37, m.order_id) ∷
+      (Role 3, id_of 3 m.parties) ∷
+      (Role 1, id_of 1 m.parties) ∷
+      (Role 4, id_of 4 m.parties) ∷
+      (Tag 1, m.account) ∷
+      (Tag 63, option_map code_text m.settl_type) ∷
+      (Tag 64, option_map day_text m.settl_date) ∷
+      (Tag 21, Some (code_text m.hand_inst)) ∷
+      (Tag 18, m.exec_inst) ∷
+      (Tag 110, option_map dec_text m.min_qty) ∷
+      (Tag 1138, option_map dec_text m.max_floor) ∷
+      (Tag 100, m.ex_destination) ∷
+      (Tag 55, Some m.symbol) ∷
+      (Tag 65, m.symbol_sfx) ∷
+      (Tag 48, m.security_id) ∷
+      (Tag 22, option_map code_text m.id_source) ∷
+      (Tag 167, m.security_type) ∷
+      (Tag 200, option_map month_text m.maturity) ∷
+      (Tag 541, option_and_then date_text m.maturity) ∷
+      (Tag 207, m.security_exchange) ∷
+      (Tag 54, Some (code_text m.side)) ∷
+      (Tag 114, option_map flag_text m.locate) ∷
+      (Tag 60, Some (stamp_text m.transact_time)) ∷
+      (Tag 38, Some (dec_text m.order_qty)) ∷
+      (Tag 40, Some (code_text m.ord_type)) ∷
+      (Tag 44, option_map dec_text m.price) ∷
+      (Tag 99, option_map dec_text m.stop_px) ∷
+      (Tag 15, m.currency) ∷
+      (Tag 59, option_map code_text m.time_in_force) ∷
+      (Tag 168, option_map stamp_text m.effective_time) ∷
+      (Tag 432, option_map day_text m.expire_date) ∷
+      (Tag 126, option_map stamp_text m.expire_time) ∷
+      (Tag 528, option_map code_text m.capacity) ∷
+      (Tag 77, option_map code_text m.open_close) ∷
+      (Tag 58, m.text) ∷
+      [];
+  groups = (453, map party_cells m.parties) ∷ (78, map alloc_cells m.allocs)
+      ∷ (386, map session_cells m.sessions) ∷ [];
+}
+
+-- what a status request says
+abbrev pub status_says : Status50 → Message
+status_says m = record {
+  letter = 72;
+  resend = m.resend;
+  cells =
+      (Tag 11, Some m.cl_ord_id) ∷
+      (Tag 37, m.order_id) ∷
+      (Role 3, id_of 3 m.parties) ∷
+      (Role 1, id_of 1 m.parties) ∷
+      (Tag 1, m.account) ∷
+      (Tag 55, Some m.symbol) ∷
+      (Tag 65, m.symbol_sfx) ∷
+      (Tag 48, m.security_id) ∷
+      (Tag 22, option_map code_text m.id_source) ∷
+      (Tag 167, m.security_type) ∷
+      (Tag 200, option_map month_text m.maturity) ∷
+      (Tag 541, option_and_then date_text m.maturity) ∷
+      (Tag 207, m.security_exchange) ∷
+      (Tag 54, Some (code_text m.side)) ∷
+      [];
+  groups = (453, map party_cells m.parties) ∷ [];
+}
+
+-- WHAT A MESSAGE SAYS
+abbrev pub says : Msg50 → Message
+says (messages.New m) = new_says m
+says (messages.Cancel m) = cancel_says m
+says (messages.Replace m) = replace_says m
+says (messages.Status m) = status_says m

@@ -1,0 +1,109 @@
+-- Standard: FIX 5.0 SP2, volume 4, New Order - Single (D), Order Cancel Request (F), Order
+-- Cancel/Replace Request (G), Order Status Request (H), and volume 6: what their fields mean.
+use Rattle.std.specs.Prelude.{ℕ, List, map, drop, Option, Some, None, ◌==◌}
+use Rattle.std.specs.Prelude.{if◌then◌else◌}
+use Rattle.std.specs.Option.{option_map}
+use Rattle.std.specs.Result.{result_ok}
+use Rattle.std.specs.Str.Parse.{digits_value}
+use Rattle.typed_fields.specs.ValueKind.{units_of_text}
+use Rattle.field_groups.specs.Field.{Field}
+use Rattle.field_groups.specs.Tables.{Tag, Role, Said, Cell, Message, ◌>>=◌, said_at, lines_of}
+use Rattle.field_groups.specs.Tables.{text_in, code_in, code_if, flag_of}
+use Rattle.order_meaning.specs.declared.Amount.{Amount}
+use Rattle.order_meaning.specs.Request.{RequestKind, New, Cancel, Replace, Status, OrderType}
+use Rattle.order_meaning.specs.Request.{Market, Limit, Stop, StopLimit, MarketOnClose, LimitOnClose}
+use Rattle.order_meaning.specs.Request.{NeutralAlloc, NeutralSession, NeutralMaturity, Request}
+use Rattle.dict_fix50.specs.Message.{message50}
+
+abbrev pub amount_of : List ℕ → Option Amount
+amount_of text = option_map (λ units. record { units = units }) (units_of_text text)
+
+abbrev pub amount_if : List Cell → ℕ → Option Amount
+amount_if cells tag = said_at cells (Tag tag) >>= amount_of
+
+-- OrdType and TimeInForce: market and limit at the close (7) are order types of their own.
+abbrev plain_type : ℕ → Option OrderType
+plain_type code =
+    if code == 49 then Some Market else (if code == 50 then Some Limit else
+    (if code == 51 then Some Stop else (if code == 52 then Some StopLimit else None)))
+
+abbrev close_type : ℕ → Option OrderType
+close_type code =
+    if code == 49 then Some MarketOnClose else (if code == 50 then Some LimitOnClose else None)
+
+abbrev pub terms_of : Option ℕ → Option ℕ → Option OrderType × Option ℕ
+terms_of None time = (None, time)
+terms_of (Some code) None = (plain_type code, None)
+terms_of (Some code) (Some time) =
+    if time == 55 then (close_type code, None) else (plain_type code, Some time)
+
+-- the last two digits of YYYYMMDD
+abbrev pub day_of : List ℕ → ℕ
+day_of date = digits_value 10 (drop 6 date)
+
+abbrev pub maturity_of : Said → Said → Option NeutralMaturity
+maturity_of None date = None
+maturity_of (Some month) date = Some (record { month = month; day = option_map day_of date })
+
+abbrev pub alloc_of : List Cell → NeutralAlloc
+alloc_of line = record { account = text_in line 79; qty = amount_if line 80 }
+
+abbrev pub session_of : List Cell → NeutralSession
+session_of line = record { id = text_in line 336 }
+
+-- what a message asks for
+abbrev pub request_of : RequestKind → Message → Request
+request_of kind m = record {
+  kind = kind;
+  resend = m.resend;
+  cl_ord_id = text_in m.cells 11;
+  orig_id = said_at m.cells (Tag 41);
+  order_id = said_at m.cells (Tag 37);
+  client_id = said_at m.cells (Role 3);
+  exec_broker = said_at m.cells (Role 1);
+  clearing_firm = said_at m.cells (Role 4);
+  account = said_at m.cells (Tag 1);
+  allocs = map alloc_of (lines_of 78 m.groups);
+  settl_type = code_if m.cells 63;
+  settl_date = said_at m.cells (Tag 64);
+  hand_inst = code_if m.cells 21;
+  exec_inst = said_at m.cells (Tag 18);
+  min_qty = amount_if m.cells 110;
+  max_floor = amount_if m.cells 1138;
+  ex_destination = said_at m.cells (Tag 100);
+  sessions = map session_of (lines_of 386 m.groups);
+  symbol = text_in m.cells 55;
+  symbol_sfx = said_at m.cells (Tag 65);
+  security_id = said_at m.cells (Tag 48);
+  id_source = code_if m.cells 22;
+  security_type = said_at m.cells (Tag 167);
+  maturity = maturity_of (said_at m.cells (Tag 200)) (said_at m.cells (Tag 541));
+  security_exchange = said_at m.cells (Tag 207);
+  side = code_in m.cells 54;
+  locate = option_map flag_of (said_at m.cells (Tag 114));
+  transact_time = said_at m.cells (Tag 60);
+  order_qty = amount_if m.cells 38;
+  ord_type = (terms_of (code_if m.cells 40) (code_if m.cells 59)).0;
+  price = amount_if m.cells 44;
+  stop_px = amount_if m.cells 99;
+  currency = said_at m.cells (Tag 15);
+  time_in_force = (terms_of (code_if m.cells 40) (code_if m.cells 59)).1;
+  effective_time = said_at m.cells (Tag 168);
+  expire_date = said_at m.cells (Tag 432);
+  expire_time = said_at m.cells (Tag 126);
+  capacity = code_if m.cells 528;
+  open_close = code_if m.cells 77;
+  text = said_at m.cells (Tag 58);
+}
+
+-- the request of a message, by its letter
+abbrev pub request50 : Message → Option Request
+request50 m =
+    if m.letter == 68 then Some (request_of New m) else
+    (if m.letter == 70 then Some (request_of Cancel m) else
+    (if m.letter == 71 then Some (request_of Replace m) else
+    (if m.letter == 72 then Some (request_of Status m) else None)))
+
+-- THE SENSE of a message of FIX 5.0 SP2, by its MsgType and its fields
+unfoldable pub sense50 : List ℕ → List Field → Option Request
+sense50 msg_type fields = result_ok (message50 msg_type fields None) >>= request50

@@ -1,0 +1,19 @@
+//! The order messages of FIX 5.0 SP2: requests (D, F, G, H), read and written by the profile's
+//! tables.
+#![tactic(auto)]
+
+mod groups;
+mod kinds;
+mod lists;
+mod message;
+mod reading;
+mod requests;
+mod tables;
+#[cfg(test)]
+mod tests;
+mod values;
+mod writing;
+
+pub use lists::{AllocLine, Allocs, SessionLine, Sessions};
+pub use message::{read50, type50, write50};
+pub use requests::{Cancel50, Maturity, Msg50, New50, Replace50, Status50};

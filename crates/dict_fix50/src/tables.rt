@@ -1,0 +1,290 @@
+//! The tables of requests, as the code has them.
+
+ghost use Rattle.std.specs.Prelude.{◌≡◌};
+ghost use Rattle.field_groups.specs.CodeTables.{own_tags, table_of as code_table};
+ghost use Rattle.field_groups.specs.Tables.{tags_in};
+ghost use Rattle.dict_fix50.specs.Message.{table};
+ghost use Rattle.dict_fix50.specs.Requests.{allocs, cancel_request, new_order, parties};
+ghost use Rattle.dict_fix50.specs.Requests.{replace_request, sessions, status_request};
+ghost use Rattle.dict_fix50.specs.CodeKinds.{kind_of};
+
+use crate::kinds::Kind;
+use crate::kinds::Kind::{Byte, MonthBeside, TimeBeside, Value, Version};
+use field_groups::Need::{Fixed, Lenient, Optional, Required};
+use field_groups::{Item, RepeatingGroup, Row, Table};
+use typed_fields::ValueKind::{
+    Code, Codes, Currency, Day, Filled, Flag, Id, Number, OneByte, Price, Qty, Stamp, Text, Word,
+};
+
+/// A row: the tag of its field, the kind of its values, and whether each message says it.
+macro_rules! row {
+    ($tag:literal, $kind:expr, $need:expr) => {
+        Row {
+            tag: $tag,
+            kind: $kind,
+            need: $need,
+        }
+    };
+}
+
+/// A row, as an item of a table.
+macro_rules! one {
+    ($tag:literal, $kind:expr, $need:expr) => {
+        Item::One(row!($tag, $kind, $need))
+    };
+}
+
+/// The standard header.
+#[rattlefmt::skip]
+const HEADER: [Row<Kind>; 15] = [
+    row!(35, Value(Filled), Optional), // MsgType
+    row!(1128, Version, Optional), // ApplVerID
+    row!(49, Value(Filled), Optional), // SenderCompID
+    row!(56, Value(Filled), Optional), // TargetCompID
+    row!(34, Value(Filled), Optional), // MsgSeqNum
+    row!(43, Value(Filled), Optional), // PossDupFlag
+    row!(97, Value(Flag), Optional), // PossResend
+    row!(52, Value(Filled), Optional), // SendingTime
+    row!(122, Value(Filled), Optional), // OrigSendingTime
+    row!(50, Value(Filled), Optional), // SenderSubID
+    row!(57, Value(Filled), Optional), // TargetSubID
+    row!(142, Value(Filled), Optional), // SenderLocationID
+    row!(143, Value(Filled), Optional), // TargetLocationID
+    row!(347, Value(Filled), Optional), // MessageEncoding
+    row!(369, Value(Filled), Optional), // LastMsgSeqNumProcessed
+];
+
+/// The rows of Parties(453).
+#[rattlefmt::skip]
+const PARTY_ROWS: [Row<Kind>; 3] = [
+    row!(448, Value(Id), Required), // PartyID
+    row!(447, Value(OneByte), Fixed(b"D")), // PartyIDSource
+    row!(452, Value(Number), Required), // PartyRole
+];
+
+/// The rows of PreAllocGrp(78).
+#[rattlefmt::skip]
+const ALLOC_ROWS: [Row<Kind>; 2] = [
+    row!(79, Value(Id), Required), // AllocAccount
+    row!(80, Value(Qty), Optional), // AllocQty
+];
+
+/// The rows of TrdgSesGrp(386).
+#[rattlefmt::skip]
+const SESSION_ROWS: [Row<Kind>; 1] = [
+    row!(336, Value(Id), Required), // TradingSessionID
+];
+
+/// Parties(453); NoPartySubIDs(802), PartySubID(523) and PartySubIDType(803) are passed over.
+const PARTIES: RepeatingGroup<Kind> = RepeatingGroup {
+    count: 453,
+    rows: &PARTY_ROWS,
+    skipped: &[802, 523, 803],
+};
+
+/// PreAllocGrp(78).
+const ALLOCS: RepeatingGroup<Kind> = RepeatingGroup {
+    count: 78,
+    rows: &ALLOC_ROWS,
+    skipped: &[],
+};
+
+/// TrdgSesGrp(386).
+const SESSIONS: RepeatingGroup<Kind> = RepeatingGroup {
+    count: 386,
+    rows: &SESSION_ROWS,
+    skipped: &[],
+};
+
+/// The items of New Order - Single (D) and of Order Cancel/Replace Request (G), in the order of
+/// writing; the request has the items that are given behind ClOrdID(11).
+#[rattlefmt::skip]
+macro_rules! order_items {
+    ($($id:expr),*) => {
+        [
+            one!(11, Value(Id), Required), // ClOrdID
+            $($id,)*
+            Item::Lines(PARTIES),
+            Item::Party(3), // ClientID of FIX 4.2
+            Item::Party(1), // ExecBroker of FIX 4.2
+            Item::Party(4), // ClearingFirm of FIX 4.2
+            one!(1, Value(Id), Optional), // Account
+            Item::Lines(ALLOCS),
+            one!(63, Value(Code(b"0123456789")), Lenient), // SettlType
+            one!(64, Value(Day), Optional), // SettlDate
+            one!(21, Value(Code(b"123")), Required), // HandlInst
+            one!(18, Value(Codes(b"123456G")), Lenient), // ExecInst
+            one!(110, Value(Qty), Optional), // MinQty
+            one!(1138, Value(Qty), Optional), // DisplayQty
+            one!(100, Value(Id), Optional), // ExDestination
+            Item::Lines(SESSIONS),
+            one!(55, Value(Id), Required), // Symbol
+            one!(65, Value(Id), Optional), // SymbolSfx
+            one!(48, Value(Id), Optional), // SecurityID
+            one!(22, Value(Code(b"123456789")), Lenient), // SecurityIDSource
+            one!(167, Value(Word(&[b"CS", b"PS", b"FUT"])), Lenient), // SecurityType
+            one!(200, MonthBeside(541), Lenient), // MaturityMonthYear
+            one!(541, Value(Day), Optional), // MaturityDate
+            one!(207, Value(Id), Optional), // SecurityExchange
+            one!(54, Value(Code(b"123456")), Required), // Side
+            one!(114, Value(Flag), Optional), // LocateReqd
+            one!(60, Value(Stamp), Required), // TransactTime
+            one!(38, Value(Qty), Required), // OrderQty
+            one!(40, Value(Code(b"1234")), Required), // OrdType
+            one!(44, Value(Price), Optional), // Price
+            one!(99, Value(Price), Optional), // StopPx
+            one!(15, Value(Currency), Optional), // Currency
+            one!(59, TimeBeside(40), Lenient), // TimeInForce
+            one!(168, Value(Stamp), Optional), // EffectiveTime
+            one!(432, Value(Day), Optional), // ExpireDate
+            one!(126, Value(Stamp), Optional), // ExpireTime
+            one!(528, Byte(b"AIP"), Lenient), // OrderCapacity
+            one!(77, Value(Code(b"OC")), Lenient), // PositionEffect
+            one!(58, Value(Text), Optional), // Text
+        ]
+    };
+}
+
+/// New Order - Single (D).
+const NEW_ORDER: [Item<Kind>; 38] = order_items!();
+
+/// Order Cancel Request (F), in the order of writing.
+#[rattlefmt::skip]
+const CANCEL_REQUEST: [Item<Kind>; 19] = [
+    one!(11, Value(Id), Required), // ClOrdID
+    one!(41, Value(Id), Required), // OrigClOrdID
+    one!(37, Value(Id), Optional), // OrderID
+    Item::Lines(PARTIES),
+    Item::Party(3), // ClientID of FIX 4.2
+    Item::Party(1), // ExecBroker of FIX 4.2
+    one!(1, Value(Id), Optional), // Account
+    one!(55, Value(Id), Required), // Symbol
+    one!(65, Value(Id), Optional), // SymbolSfx
+    one!(48, Value(Id), Optional), // SecurityID
+    one!(22, Value(Code(b"123456789")), Lenient), // SecurityIDSource
+    one!(167, Value(Word(&[b"CS", b"PS", b"FUT"])), Lenient), // SecurityType
+    one!(200, MonthBeside(541), Lenient), // MaturityMonthYear
+    one!(541, Value(Day), Optional), // MaturityDate
+    one!(207, Value(Id), Optional), // SecurityExchange
+    one!(54, Value(Code(b"123456")), Required), // Side
+    one!(60, Value(Stamp), Required), // TransactTime
+    one!(38, Value(Qty), Optional), // OrderQty
+    one!(58, Value(Text), Optional), // Text
+];
+
+/// Order Cancel/Replace Request (G).
+#[rattlefmt::skip]
+const REPLACE_REQUEST: [Item<Kind>; 40] = order_items!(
+    one!(41, Value(Id), Required), // OrigClOrdID
+    one!(37, Value(Id), Optional) // OrderID
+);
+
+/// Order Status Request (H), in the order of writing.
+#[rattlefmt::skip]
+const STATUS_REQUEST: [Item<Kind>; 15] = [
+    one!(11, Value(Id), Required), // ClOrdID
+    one!(37, Value(Id), Optional), // OrderID
+    Item::Lines(PARTIES),
+    Item::Party(3), // ClientID of FIX 4.2
+    Item::Party(1), // ExecBroker of FIX 4.2
+    one!(1, Value(Id), Optional), // Account
+    one!(55, Value(Id), Required), // Symbol
+    one!(65, Value(Id), Optional), // SymbolSfx
+    one!(48, Value(Id), Optional), // SecurityID
+    one!(22, Value(Code(b"123456789")), Lenient), // SecurityIDSource
+    one!(167, Value(Word(&[b"CS", b"PS", b"FUT"])), Lenient), // SecurityType
+    one!(200, MonthBeside(541), Lenient), // MaturityMonthYear
+    one!(541, Value(Day), Optional), // MaturityDate
+    one!(207, Value(Id), Optional), // SecurityExchange
+    one!(54, Value(Code(b"123456")), Required), // Side
+];
+
+/// The table of New Order - Single.
+static NEW_ORDER_TABLE: Table<Kind> = Table {
+    letter: b'D',
+    header: &HEADER,
+    items: &NEW_ORDER,
+    strict: false,
+};
+
+/// The table of Order Cancel Request.
+static CANCEL_REQUEST_TABLE: Table<Kind> = Table {
+    letter: b'F',
+    header: &HEADER,
+    items: &CANCEL_REQUEST,
+    strict: false,
+};
+
+/// The table of Order Cancel/Replace Request.
+static REPLACE_REQUEST_TABLE: Table<Kind> = Table {
+    letter: b'G',
+    header: &HEADER,
+    items: &REPLACE_REQUEST,
+    strict: false,
+};
+
+/// The table of Order Status Request.
+static STATUS_REQUEST_TABLE: Table<Kind> = Table {
+    letter: b'H',
+    header: &HEADER,
+    items: &STATUS_REQUEST,
+    strict: false,
+};
+
+/// Parties(453).
+static PARTIES_GROUP: RepeatingGroup<Kind> = PARTIES;
+
+/// PreAllocGrp(78).
+static ALLOCS_GROUP: RepeatingGroup<Kind> = ALLOCS;
+
+/// TrdgSesGrp(386).
+static SESSIONS_GROUP: RepeatingGroup<Kind> = SESSIONS;
+
+/// Parties(453).
+pub(crate) fn parties() -> &'static RepeatingGroup<Kind>
+    ensures { own_tags result.now ≡ tags_in parties }
+{
+    &PARTIES_GROUP
+}
+
+/// PreAllocGrp(78).
+pub(crate) fn allocs() -> &'static RepeatingGroup<Kind>
+    ensures { own_tags result.now ≡ tags_in allocs }
+{
+    &ALLOCS_GROUP
+}
+
+/// TrdgSesGrp(386).
+pub(crate) fn sessions() -> &'static RepeatingGroup<Kind>
+    ensures { own_tags result.now ≡ tags_in sessions }
+{
+    &SESSIONS_GROUP
+}
+
+/// The table of New Order - Single.
+pub(crate) fn new_order() -> &'static Table<Kind>
+    ensures { code_table kind_of result.now ≡ table 68 new_order }
+{
+    &NEW_ORDER_TABLE
+}
+
+/// The table of Order Cancel Request.
+pub(crate) fn cancel_request() -> &'static Table<Kind>
+    ensures { code_table kind_of result.now ≡ table 70 cancel_request }
+{
+    &CANCEL_REQUEST_TABLE
+}
+
+/// The table of Order Cancel/Replace Request.
+pub(crate) fn replace_request() -> &'static Table<Kind>
+    ensures { code_table kind_of result.now ≡ table 71 replace_request }
+{
+    &REPLACE_REQUEST_TABLE
+}
+
+/// The table of Order Status Request.
+pub(crate) fn status_request() -> &'static Table<Kind>
+    ensures { code_table kind_of result.now ≡ table 72 status_request }
+{
+    &STATUS_REQUEST_TABLE
+}
