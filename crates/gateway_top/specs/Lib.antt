@@ -1,6 +1,8 @@
 pub mod Command
 pub mod Task
 pub mod Status
+pub mod MsgType
+pub mod Finding
 pub mod Line
 pub mod Judge
 pub mod Program

@@ -1,33 +1,35 @@
 -- Own: the lines that `check` prints, each ended by LF: one for a frame, for a garbled piece, and
 -- for an end inside a frame; docs/DECISIONS.md, "Commands".
-use Rattle.std.specs.Prelude.{ℕ, ◌==◌, ◌||◌, List, [], ◌∷◌, ◌++◌, take, drop, codes, position, Some, None, if◌then◌else◌}
-use Rattle.std.specs.declared.option.Option.{Option}
+use Rattle.std.specs.Prelude.{ℕ, List, [], ◌∷◌, ◌++◌, codes, unwrap_or}
 use Rattle.std.specs.Fmt.{decimal}
-use Rattle.std.specs.Str.{bytes_eq}
-use Rattle.frame_grammar.specs.declared.frame.TheConstants.{SOH}
 use Rattle.frame_grammar.specs.declared.frame.Garble.{Garble}
-use Rattle.frame_grammar.specs.declared.frame.Garble.TheVariants.{BeginString, LengthField, TooLong, TypeField, Trailer, Sum}
+use Rattle.frame_grammar.specs.declared.frame.Garble.TheVariants.{BeginString, LengthField, TooLong}
+use Rattle.frame_grammar.specs.declared.frame.Garble.TheVariants.{TypeField, Trailer, Sum}
+use Rattle.gateway_top.specs.MsgType.{type_in}
+use Rattle.gateway_top.specs.declared.finding.Finding.{Finding}
+use Rattle.gateway_top.specs.declared.finding.Finding.TheVariants.{Session, Unread, Good, Reason}
+use Rattle.gateway_top.specs.declared.finding.Finding.TheVariants.{NoCounterpart, NotSupported}
 
 -- the byte that ends a line
 abbrev pub LF : ℕ
 LF = 10
 
--- the MsgType of a body: what stands behind `35=`, up to the next SOH
-abbrev pub up_to : Option ℕ → List ℕ → List ℕ
-up_to None bytes = bytes
-up_to (Some end) bytes = take end bytes
+-- the tag at which something is found
+abbrev pub tag_words : ℕ → List ℕ
+tag_words tag = codes " tag " ++ decimal tag
 
-abbrev pub type_in : List ℕ → List ℕ
-type_in body = up_to (position (λ byte. byte == SOH) (drop 3 body)) (drop 3 body)
+unfoldable pub no_counterpart : List ℕ
+no_counterpart = codes " no counterpart"
 
--- the end of a frame's line: Heartbeat, TestRequest, ResendRequest, SequenceReset, Logout and Logon
--- are messages of the session (FIX 4.2 and FIXT 1.1, MsgType)
-abbrev pub result_of : List ℕ → List ℕ
-result_of msg_type =
-    if bytes_eq msg_type (codes "0") || bytes_eq msg_type (codes "1")
-    || bytes_eq msg_type (codes "2") || bytes_eq msg_type (codes "4")
-    || bytes_eq msg_type (codes "5") || bytes_eq msg_type (codes "A")
-    then codes " session" ++ LF ∷ [] else codes " unread" ++ LF ∷ []
+-- what is found of a frame
+abbrev pub finding_words : Finding → List ℕ
+finding_words Session = codes " session"
+finding_words Unread = codes " unread"
+finding_words Good = codes " ok"
+finding_words (Reason tag reason) =
+    tag_words (unwrap_or tag 0) ++ codes " reason " ++ decimal reason
+finding_words (NoCounterpart tag) = tag_words tag ++ no_counterpart
+finding_words NotSupported = codes " not supported"
 
 abbrev pub cause_name : Garble → List ℕ
 cause_name BeginString = codes "BeginString"
@@ -41,9 +43,9 @@ cause_name Sum = codes "Sum"
 abbrev pub head : ℕ → List ℕ → ℕ → List ℕ
 head at what len = decimal at ++ what ++ decimal len
 
-unfoldable pub frame_line : ℕ → ℕ → List ℕ → List ℕ
-frame_line at len body =
-    head at (codes " frame ") len ++ codes " " ++ type_in body ++ result_of (type_in body)
+unfoldable pub frame_line : ℕ → ℕ → List ℕ → Finding → List ℕ
+frame_line at len body finding =
+    head at (codes " frame ") len ++ codes " " ++ type_in body ++ finding_words finding ++ LF ∷ []
 
 unfoldable pub garbled_line : ℕ → ℕ → Garble → List ℕ
 garbled_line at len cause =

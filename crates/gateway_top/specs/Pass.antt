@@ -11,7 +11,8 @@ use Rattle.gateway_top.specs.Judge.{JudgesAll, end_said, unfinished}
 use Rattle.gateway_top.specs.Task.{has_ended, first_of}
 use Rattle.gateway_top.specs.declared.task.Task.{Task}
 use Rattle.gateway_top.specs.declared.status.Status.{Status}
-use Rattle.gateway_top.specs.declared.status.Status.TheVariants.{Done, Refused, OutputFault, NoMemory}
+use Rattle.gateway_top.specs.declared.status.Status.TheVariants.{Done, Refused, OutputFault}
+use Rattle.gateway_top.specs.declared.status.Status.TheVariants.{NoMemory}
 
 -- What is there once the pieces that have come were judged, where the framer stood for this stream
 -- and these pieces were judged before: more pieces, and what is said of them. Unless the task has

@@ -1,8 +1,9 @@
 -- Own: what a run of the program did, by the status with which it ended; docs/DECISIONS.md,
 -- "Commands".
-use Rattle.std.specs.Prelude.{◌≡◌, ℕ, ◌+◌, ◌≤◌, Bool, true, false, List, [], ◌++◌, length, take, ◌⊎◌, Some, None}
+use Rattle.std.specs.Prelude.{◌≡◌, ℕ, ◌+◌, ◌≤◌, Bool, true, false, List, [], ◌++◌, length, take}
+use Rattle.std.specs.Prelude.{◌⊎◌, Some, None}
 use Rattle.std.specs.declared.option.Option.{Option}
-use Rattle.std.specs.Io.KnownBytes.{Appends, Consumes, Keeps, IsAtEnd}
+use Rattle.std.specs.Io.KnownBytes.{Appends, Consumes, IsAtEnd}
 use Rattle.outside.specs.Bytes.{AppendsFront}
 use Rattle.frame_grammar.specs.declared.pieces.Rest.{Rest}
 use Rattle.frame_grammar.specs.Cut.{Piece, ComeFirst, Cut}
@@ -14,7 +15,9 @@ use Rattle.gateway_top.specs.declared.command.Command.{Command}
 use Rattle.gateway_top.specs.declared.command.Command.TheVariants.{Help, Version, Stream}
 use Rattle.gateway_top.specs.declared.task.Task.{Task}
 use Rattle.gateway_top.specs.declared.status.Status.{Status}
-use Rattle.gateway_top.specs.declared.status.Status.TheVariants.{Done, Refused, Usage, InputFault, OutputFault, NoMemory, InputTooLong}
+use Rattle.gateway_top.specs.declared.status.Status.TheVariants.{Done, Refused, Usage, InputFault}
+use Rattle.gateway_top.specs.declared.status.Status.TheVariants.{OutputFault, NoMemory}
+use Rattle.gateway_top.specs.declared.status.Status.TheVariants.{InputTooLong}
 
 -- The task has judged every piece that stands whole in these bytes, and has not ended: of those
 -- that it refused the first begins here, and this is what it said.

@@ -3,7 +3,9 @@ use Rattle.std.specs.Prelude.{ℕ, List, [], ◌∷◌, ◌++◌, codes}
 use Rattle.std.specs.Fmt.{decimal}
 use Rattle.gateway_top.specs.Line.{LF}
 use Rattle.gateway_top.specs.declared.status.Status.{Status}
-use Rattle.gateway_top.specs.declared.status.Status.TheVariants.{Done, Refused, Usage, InputFault, OutputFault, NoMemory, InputTooLong}
+use Rattle.gateway_top.specs.declared.status.Status.TheVariants.{Done, Refused, Usage, InputFault}
+use Rattle.gateway_top.specs.declared.status.Status.TheVariants.{OutputFault, NoMemory}
+use Rattle.gateway_top.specs.declared.status.Status.TheVariants.{InputTooLong}
 
 abbrev pub code_of : Status → ℕ
 code_of Done = 0

@@ -3,6 +3,7 @@
 #![tactic(auto)]
 
 mod command;
+mod finding;
 mod line;
 mod pass;
 mod program;

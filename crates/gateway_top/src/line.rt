@@ -1,8 +1,12 @@
 //! The lines that `check` prints.
 
 ghost use Rattle.std.specs.Prelude.{◌≡◌, ◌==◌, ◌++◌, position, decimal, OnOk};
-ghost use Rattle.gateway_top.specs.Line.{head, type_in, result_of, cause_name, frame_line, garbled_line, inside_line};
+ghost use Rattle.gateway_top.specs.MsgType.{type_in};
+ghost use Rattle.gateway_top.specs.Line.{head, tag_words, no_counterpart, finding_words};
+ghost use Rattle.gateway_top.specs.Line.{cause_name};
+ghost use Rattle.gateway_top.specs.Line.{frame_line, garbled_line, inside_line};
 
+use crate::finding::Finding;
 use frame_grammar::{Garble, SOH};
 use itoa::Buffer;
 use std::alloc::AllocError;
@@ -15,24 +19,13 @@ fn first_soh(bytes: &[u8]) -> Option<usize>
 }
 
 /// The MsgType of a body: what stands behind `35=`, up to the next SOH.
-fn type_in(body: &[u8]) -> &[u8]
+pub(crate) fn type_in(body: &[u8]) -> &[u8]
     ensures { result.now ≡ type_in body.now }
 {
     let behind = &body[body.len().min(3)..];
     match first_soh(behind) {
         Some(end) => &behind[..end],
         None => behind,
-    }
-}
-
-/// What is said of a message of a type: those of the session are known, and no other is read yet.
-/// It ends the line.
-fn result_of(msg_type: &[u8]) -> &'static [u8]
-    ensures { result.now ≡ result_of msg_type.now }
-{
-    match msg_type {
-        b"0" | b"1" | b"2" | b"4" | b"5" | b"A" => b" session\n",
-        _ => b" unread\n",
     }
 }
 
@@ -66,21 +59,67 @@ fn append_head(at: u64, what: &[u8], len: u64, out: &mut Vec<u8>) -> Result<(), 
     append_number(len, out)
 }
 
-/// Appends the line of a frame: its place, its length, its type, and what is said of it.
+/// Appends a text.
+fn append_text(text: &[u8], out: &mut Vec<u8>) -> Result<(), AllocError>
+    ensures { OnOk result (out.new.items ≡ out.old.items ++ text.now) }
+{
+    out.extend_from_slice(text)
+}
+
+/// Appends the tag at which something is found.
+fn append_tag(tag: u32, out: &mut Vec<u8>) -> Result<(), AllocError>
+    ensures { OnOk result (out.new.items ≡ out.old.items ++ tag_words tag) }
+{
+    append_text(b" tag ", out)?;
+    append_number(u64::from(tag), out)
+}
+
+/// Appends that what stands at a tag has no counterpart.
+#[tactic(auto, unfolding(crate::specs::Line::no_counterpart))]
+fn append_no_counterpart(out: &mut Vec<u8>) -> Result<(), AllocError>
+    ensures { OnOk result (out.new.items ≡ out.old.items ++ no_counterpart) }
+{
+    append_text(b" no counterpart", out)
+}
+
+/// Appends what is found of a frame.
+fn append_finding(finding: Finding, out: &mut Vec<u8>) -> Result<(), AllocError>
+    ensures { OnOk result (out.new.items ≡ out.old.items ++ finding_words finding) }
+{
+    match finding {
+        Finding::Session => append_text(b" session", out),
+        Finding::Unread => append_text(b" unread", out),
+        Finding::Good => append_text(b" ok", out),
+        Finding::Reason { tag, reason } => {
+            append_tag(tag.unwrap_or(0), out)?;
+            append_text(b" reason ", out)?;
+            append_number(u64::from(reason), out)
+        }
+        Finding::NoCounterpart { tag } => {
+            append_tag(tag, out)?;
+            append_no_counterpart(out)
+        }
+        Finding::NotSupported => append_text(b" not supported", out),
+    }
+}
+
+/// Appends the line of a frame: its place, its length, its type, and what is found of it.
 #[tactic(auto, unfolding(crate::specs::Line::frame_line))]
 pub(crate) fn append_frame(
     at: u64,
     len: u64,
     body: &[u8],
+    finding: Finding,
     out: &mut Vec<u8>,
 ) -> Result<(), AllocError>
-    ensures { OnOk result (out.new.items ≡ out.old.items ++ frame_line at len body.now) }
+    ensures { OnOk result (out.new.items ≡ out.old.items ++ frame_line at len body.now finding) }
 {
-    let msg_type = type_in(body);
     append_head(at, b" frame ", len, out)?;
     out.push(b' ')?;
-    out.extend_from_slice(msg_type)?;
-    out.extend_from_slice(result_of(msg_type))
+    out.extend_from_slice(type_in(body))?;
+    append_finding(finding, out)?;
+    out.push(b'\n')?;
+    Ok(())
 }
 
 /// Appends the line of a garbled piece: its place, its length and its cause.

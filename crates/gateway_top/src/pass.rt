@@ -1,6 +1,8 @@
 //! A pass over a stream: its pieces are cut, judged, and what is said of them is put.
 
-ghost use Rattle.std.specs.Prelude.{◌≡◌, ◌≢◌, ◌++◌, ◌+◌, ◌≤◌, ◌∷◌, [], false, ℕ, List, length, slice_range, true, Some, None, OnOk, IfOk, OnErr, IsErrOf, IfNone, IfSome};
+ghost use Rattle.std.specs.Prelude.{◌≡◌, ◌≢◌, ◌++◌, ◌+◌, ◌≤◌, [], false, ℕ, List, length};
+ghost use Rattle.std.specs.Prelude.{slice_range, true, Some, None, OnOk, IfOk, OnErr, IsErrOf};
+ghost use Rattle.std.specs.Prelude.{IfNone, IfSome};
 ghost use Rattle.std.specs.Io.KnownBytes.{Appends, Keeps};
 ghost use Rattle.outside.specs.Bytes.{AppendsFront};
 ghost use Rattle.outside.specs.Causes.{HasCause, Rose};
@@ -14,6 +16,7 @@ ghost use Rattle.gateway_top.specs.Pass.{CaughtUp, Advances, Ends};
 ghost use Rattle.gateway_top.specs.Task.{has_ended, kind_of, stops, first_of};
 
 use crate::Status;
+use crate::finding::{of_client, of_venue};
 use crate::line::{append_frame, append_garbled, append_inside};
 use crate::task::{Task, first_of};
 use frame_grammar::{Framer, Garble, Next, Rest, Span};
@@ -70,17 +73,21 @@ impl Pass {
         ensures refused { self.new.refused ≡ self.old.refused }
     {
         let body = self.framer.part(body);
-        match self.task {
-            Task::TranslateUp => match self.translator.translate(body, &mut self.text) {
-                Ok(()) => Ok(None),
-                Err(TranslateError::NotPlain) => Ok(Some(at)),
-                Err(TranslateError::NoMemory) => Err(AllocError),
-            },
-            Task::CheckClient | Task::CheckVenue => {
-                append_frame(at, u64::from(len), body, &mut self.text)?;
-                Ok(None)
+        let finding = match self.task {
+            Task::TranslateUp => {
+                return match self.translator.translate(body, &mut self.text) {
+                    Ok(()) => Ok(None),
+                    Err(TranslateError::NoMemory) => Err(AllocError),
+                    Err(TranslateError::Faulty(_)) => Ok(Some(at)),
+                    Err(TranslateError::Lacking(_)) => Ok(Some(at)),
+                    Err(TranslateError::TooLong) => Ok(Some(at)),
+                };
             }
-        }
+            Task::CheckClient => of_client(&self.translator, body)?,
+            Task::CheckVenue => of_venue(body),
+        };
+        append_frame(at, u64::from(len), body, finding, &mut self.text)?;
+        Ok(finding.refusal_at(at))
     }
 
     // Writes what the task says of a garbled piece, which is refused.

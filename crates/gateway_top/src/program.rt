@@ -16,24 +16,25 @@ use std::alloc::Global;
 /// What `--help` prints.
 const HELP: &str = "\
 fixgate is a gateway from a trading client of FIX 4.2 to a venue of FIX 5.0 SP2 over FIXT 1.1.
-So far it translates plain orders and checks streams.
+So far it translates order requests upward and checks streams.
 
 Usage: fixgate COMMAND
 
-  translate up    reads FIX 4.2 orders from standard input and writes them to standard output as
-                  the venue takes them; ends at the first piece of the input that it refuses
+  translate up    reads FIX 4.2 order requests from standard input and writes them to standard output
+                  as the venue takes them; ends at the first piece of the input that it refuses
   check client    reads a stream of FIX 4.2 and prints a line for each frame and each garbled piece
   check venue     the same of a stream of FIXT 1.1
   --help          prints this text
   --version       prints the version
 
-A plain order is a NewOrderSingle with the fields 35=D 49 56 34 52 11 [109] 21 55 54 60 38 40 [44] in
-this order; docs/DEFINITIONS.md has the form of each. Frames are read as they are on the wire, with
-SOH (byte 1) behind each field.
+Order requests are New Order - Single(D), Order Cancel Request(F), Order Cancel/Replace Request(G)
+and Order Status Request(H); docs/REQUESTS.md has their fields and what each becomes. Frames are read
+as they are on the wire, with SOH (byte 1) behind each field.
 
 Exit status:
    0  done
-   1  refused: a piece of the input is garbled, unfinished or not translated; its place is printed
+   1  refused: a piece of the input is garbled, unfinished, at fault or has no counterpart; its
+      place is printed
    2  usage: the words are none of the above
    4  the input failed
    5  the output failed
@@ -43,7 +44,7 @@ On any status but 0 a line with the reason goes to standard error.
 ";
 
 /// What `--version` prints.
-const VERSION: &str = "fixgate 0.1.0\n";
+const VERSION: &str = "fixgate 0.2.0\n";
 
 /// Writes a text.
 fn write_text<O: Sink>(out: &mut O, text: &str) -> Status

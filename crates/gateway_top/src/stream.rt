@@ -1,6 +1,7 @@
 //! A task does all of its input, read by read.
 
-ghost use Rattle.std.specs.Prelude.{◌≡◌, ◌≢◌, ◌≤◌, ◌==◌, false, true, ℕ, List, take, length, OnErr, IfOk};
+ghost use Rattle.std.specs.Prelude.{◌≡◌, ◌≢◌, ◌≤◌, ◌==◌, false, true, ℕ, List, take, length, OnErr};
+ghost use Rattle.std.specs.Prelude.{IfOk};
 ghost use Rattle.std.specs.Io.KnownBytes.{Consumes, Keeps, IsAtEnd};
 ghost use Rattle.outside.specs.Causes.{HasCause, Rose};
 ghost use Rattle.gateway_top.specs.Program.{Ran};

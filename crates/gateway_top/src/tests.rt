@@ -1,33 +1,34 @@
-//! The program over inputs and outputs in memory. Frames are cut and summed by hand; lines and codes are
-//! those of the help and of the README.
+//! The program over inputs and outputs in memory. Frames are cut and summed by hand; lines and
+//! codes are those of the help and of the README.
 
 use crate::{End, Status, code, run};
 use outside::{MemSink, MemSource};
-use std::alloc::Global;
+use std::alloc::{AllocError, Global};
 use std::process::Abort;
 use std::test::Fail;
 
 /// What `--help` prints.
 const HELP: &str = "\
 fixgate is a gateway from a trading client of FIX 4.2 to a venue of FIX 5.0 SP2 over FIXT 1.1.
-So far it translates plain orders and checks streams.
+So far it translates order requests upward and checks streams.
 
 Usage: fixgate COMMAND
 
-  translate up    reads FIX 4.2 orders from standard input and writes them to standard output as
-                  the venue takes them; ends at the first piece of the input that it refuses
+  translate up    reads FIX 4.2 order requests from standard input and writes them to standard output
+                  as the venue takes them; ends at the first piece of the input that it refuses
   check client    reads a stream of FIX 4.2 and prints a line for each frame and each garbled piece
   check venue     the same of a stream of FIXT 1.1
   --help          prints this text
   --version       prints the version
 
-A plain order is a NewOrderSingle with the fields 35=D 49 56 34 52 11 [109] 21 55 54 60 38 40 [44] in
-this order; docs/DEFINITIONS.md has the form of each. Frames are read as they are on the wire, with
-SOH (byte 1) behind each field.
+Order requests are New Order - Single(D), Order Cancel Request(F), Order Cancel/Replace Request(G)
+and Order Status Request(H); docs/REQUESTS.md has their fields and what each becomes. Frames are read
+as they are on the wire, with SOH (byte 1) behind each field.
 
 Exit status:
    0  done
-   1  refused: a piece of the input is garbled, unfinished or not translated; its place is printed
+   1  refused: a piece of the input is garbled, unfinished, at fault or has no counterpart; its
+      place is printed
    2  usage: the words are none of the above
    4  the input failed
    5  the output failed
@@ -43,9 +44,12 @@ const ORDER: &[u8] =
 const UP: &[u8] =
     b"8=FIXT.1.1\x019=138\x0135=D\x0149=CLNT\x0156=GATE\x0134=2\x0152=20240102-10:00:00\x0111=A1\x01453=1\x01448=FUND\x01447=D\x01452=3\x0121=1\x0155=IBM\x0154=1\x0160=20240102-10:00:00\x0138=100\x0140=2\x0144=10.5\x0110=195\x01";
 
-/// The order with another OrdType, which is not plain.
+/// The order with another OrdType, and the same as the venue takes it.
 const STOP_ORDER: &[u8] =
     b"8=FIX.4.2\x019=120\x0135=D\x0149=CLNT\x0156=GATE\x0134=2\x0152=20240102-10:00:00\x0111=A1\x01109=FUND\x0121=1\x0155=IBM\x0154=1\x0160=20240102-10:00:00\x0138=100\x0140=3\x0144=10.5\x0110=045\x01";
+
+const UP_STOP: &[u8] =
+    b"8=FIXT.1.1\x019=138\x0135=D\x0149=CLNT\x0156=GATE\x0134=2\x0152=20240102-10:00:00\x0111=A1\x01453=1\x01448=FUND\x01447=D\x01452=3\x0121=1\x0155=IBM\x0154=1\x0160=20240102-10:00:00\x0138=100\x0140=3\x0144=10.5\x0110=196\x01";
 
 /// A Heartbeat whose sum is one too high, and a TestRequest.
 const WRONG_SUM: &[u8] =
@@ -55,8 +59,8 @@ const WRONG_SUM: &[u8] =
 const VENUE: &[u8] =
     b"8=FIXT.1.1\x019=47\x0135=0\x0149=VENU\x0156=GATE\x0134=2\x0152=20240102-10:00:00\x0110=163\x018=FIXT.1.1\x019=4";
 
-/// A run with these words separated by a space, over this input and a sink, each of which fails at the
-/// listed calls.
+/// A run with these words separated by a space, over this input and a sink, each of which fails at
+/// the listed calls.
 fn ran(
     alloc: Global,
     line: &str,
@@ -119,8 +123,8 @@ fn orders_go_up(rt: HostRuntime) -> Result<(), Fail> {
         alloc,
         "translate up",
         STOP_ORDER,
-        Status::Refused { at: 0 },
-        b"",
+        Status::Done,
+        UP_STOP,
     )?;
     ends(
         &rt,
@@ -150,7 +154,7 @@ fn streams_are_checked(rt: HostRuntime) -> Result<(), Fail> {
         "check client",
         &[ORDER, b"8=FIX.4.2\x019=8193\x01", ORDER].concat(alloc)?,
         Status::Refused { at: 143 },
-        b"0 frame 143 D unread\n143 garbled 17 TooLong\n160 frame 143 D unread\n",
+        b"0 frame 143 D ok\n143 garbled 17 TooLong\n160 frame 143 D ok\n",
     )?;
     ends(
         &rt,
@@ -179,6 +183,130 @@ fn streams_are_checked(rt: HostRuntime) -> Result<(), Fail> {
     Ok(())
 }
 
+/// A frame of a type, numbered 2, with a content; `|` stands for SOH.
+fn framed(
+    alloc: Global,
+    begin: &[u8],
+    msg_type: &[u8],
+    content: &[u8],
+) -> Result<Vec<u8>, AllocError> {
+    let header = b"|49=CLNT|56=GATE|34=2|52=20240102-10:00:00|";
+    let body = [b"35=", msg_type, header, content].concat(alloc)?;
+    let length = format!(in alloc; "|9={}|", body.len())?;
+    let mut frame = Vec::new(alloc);
+    let mut sum = 0u8;
+    for byte in [begin, length.as_bytes(), &body].concat(alloc)? {
+        let wire = if byte == b'|' { 1 } else { byte };
+        sum = sum.wrapping_add(wire);
+        frame.push(wire)?;
+    }
+    let trailer = format!(in alloc; "10={sum:03}\x01")?;
+    frame.extend_from_slice(trailer.as_bytes())?;
+    Ok(frame)
+}
+
+#[test]
+fn requests_go_up(rt: HostRuntime) -> Result<(), Fail> {
+    let alloc = rt.alloc();
+    // the type; the content of FIX 4.2; that of FIX 5.0 SP2
+    #[rattlefmt::skip]
+    let rows: [(&[u8], &[u8], &[u8]); 10] = [
+        // parties
+        (b"D", b"11=A1|109=FUND|76=BRKR|439=CLRF|21=1|55=IBM|54=1|60=20240102-10:00:00|38=1|40=1|",
+            b"11=A1|453=3|448=FUND|447=D|452=3|448=BRKR|447=D|452=1|448=CLRF|447=D|452=4|21=1|55=IBM|\
+54=1|60=20240102-10:00:00|38=1|40=1|"),
+        // on close
+        (b"D", b"11=A1|21=1|55=IBM|54=1|60=20240102-10:00:00|38=1|40=5|",
+            b"11=A1|21=1|55=IBM|54=1|60=20240102-10:00:00|38=1|40=1|59=7|"),
+        (b"D", b"11=A1|21=1|55=IBM|54=1|60=20240102-10:00:00|38=1|40=B|44=9.50|59=0|",
+            b"11=A1|21=1|55=IBM|54=1|60=20240102-10:00:00|38=1|40=2|44=9.5|59=7|"),
+        // codes and days
+        (b"D", b"11=A1|21=1|55=IBM|200=202406|205=30|54=1|60=20240102-10:00:00|38=1|40=1|47=A|",
+            b"11=A1|21=1|55=IBM|200=202406|541=20240630|54=1|60=20240102-10:00:00|38=1|40=1|528=A|"),
+        // MaxFloor and MinQty; fields in the order of their tags, as QuickFIX writes them
+        (b"D", b"11=A1|21=3|38=0100.0|40=2|44=10.5|54=1|55=IBM|58=a note|59=0|\
+60=20240102-10:00:00.123|110=10|111=20|",
+            b"11=A1|21=3|110=10|1138=20|55=IBM|54=1|60=20240102-10:00:00.123|38=100|40=2|44=10.5|\
+59=0|58=a note|"),
+        // groups
+        (b"D", b"11=A1|78=2|79=X|80=60|79=Y|80=40|21=1|386=1|336=DAY|55=IBM|54=2|\
+60=20240102-10:00:00|38=100|40=1|",
+            b"11=A1|78=2|79=X|80=60|79=Y|80=40|21=1|386=1|336=DAY|55=IBM|54=2|\
+60=20240102-10:00:00|38=100|40=1|"),
+        (b"F", b"41=A1|11=A2|55=IBM|54=1|60=20240102-10:00:00|38=100|58=enough|",
+            b"11=A2|41=A1|55=IBM|54=1|60=20240102-10:00:00|38=100|58=enough|"),
+        (b"G", b"41=A1|11=A2|21=1|55=IBM|54=1|60=20240102-10:00:00|38=50|40=2|44=-.5|",
+            b"11=A2|41=A1|21=1|55=IBM|54=1|60=20240102-10:00:00|38=50|40=2|44=-0.5|"),
+        (b"H", b"37=O1|11=A1|109=FUND|55=IBM|54=1|",
+            b"11=A1|37=O1|453=1|448=FUND|447=D|452=3|55=IBM|54=1|"),
+        (b"H", b"11=A1|55=IBM|54=6|", b"11=A1|55=IBM|54=6|"),
+    ];
+    for (msg_type, content, written) in rows {
+        let input = framed(alloc, b"8=FIX.4.2", msg_type, content)?;
+        let up = framed(alloc, b"8=FIXT.1.1", msg_type, written)?;
+        ends(&rt, alloc, "translate up", &input, Status::Done, &up)?;
+    }
+    Ok(())
+}
+
+#[test]
+fn requests_are_checked(rt: HostRuntime) -> Result<(), Fail> {
+    let alloc = rt.alloc();
+    // the type and the content; what the line says at its end
+    #[rattlefmt::skip]
+    let rows: [(&[u8], &[u8], &[u8]); 15] = [
+        (b"D", b"11=A1|21=1|55=IBM|54=1|60=20240102-10:00:00|38=1|40=1|", b"D ok\n"),
+        (b"D", b"11=A1|21=1|55=IBM|54=1|60=20240102-10:00:00|38=1|40=5|59=3|",
+            b"D tag 59 no counterpart\n"),
+        (b"D", b"11=A1|21=1|55=IBM|54=1|60=20240102-10:00:00|38=1|40=1|47=J|",
+            b"D tag 47 no counterpart\n"),
+        (b"D", b"11=A1|21=1|55=IBM|200=202406|205=31|54=1|60=20240102-10:00:00|38=1|40=1|",
+            b"D tag 205 reason 5\n"),
+        (b"D", b"11=A1|21=1|55=IBM|54=1|60=20240102-10:00:00|38=1|38=1|40=1|",
+            b"D tag 38 reason 13\n"),
+        (b"D", b"11=A1|21=1|55=IBM|54=1|60=20240102-10:00:00|38=1|40=1|354=8|355=x|10=070|58=t|",
+            b"D tag 354 no counterpart\n"),
+        (b"D", b"11=A1|354=99|355=x|", b"D tag 355 reason 6\n"),
+        (b"D", b"11=A1|x=1|", b"D tag 0 reason 0\n"),
+        (b"D", b"11=A1|78=2|79=X|21=1|55=IBM|54=1|60=20240102-10:00:00|38=1|40=1|",
+            b"D tag 78 reason 16\n"),
+        (b"D", b"11=A1|21=1|55=IBM|54=1|60=20240102-10:00:00|38=1|", b"D tag 40 reason 1\n"),
+        (b"H", b"11=A1|55=IBM|54=9|", b"H tag 54 no counterpart\n"),
+        (b"F", b"11=A2|41=|55=IBM|54=1|60=20240102-10:00:00|", b"F tag 41 reason 4\n"),
+        (b"8", b"x=1|", b"8 unread\n"),
+        (b"0", b"x=1|", b"0 session\n"),
+        (b"AE", b"11=A1|", b"AE not supported\n"),
+    ];
+    for (msg_type, content, words) in rows {
+        is_checked(&rt, alloc, msg_type, content, words)?;
+    }
+    Ok(())
+}
+
+/// A line ends like this for a frame of this type and content, which is refused or is fine.
+fn is_checked(
+    rt: &impl Abort,
+    alloc: Global,
+    msg_type: &[u8],
+    content: &[u8],
+    words: &[u8],
+) -> Result<(), Fail> {
+    let input = framed(alloc, b"8=FIX.4.2", msg_type, content)?;
+    let line = format!(in alloc; "0 frame {} ", input.len())?;
+    let mut put = Vec::new(alloc);
+    put.extend_from_slice(line.as_bytes())?;
+    put.extend_from_slice(words)?;
+    let is_fine = words.ends_with(b"ok\n")
+        || words.ends_with(b"unread\n")
+        || words.ends_with(b"session\n");
+    let status = if is_fine {
+        Status::Done
+    } else {
+        Status::Refused { at: 0 }
+    };
+    ends(rt, alloc, "check client", &input, status, &put)
+}
+
 #[test]
 fn words_are_judged(rt: HostRuntime) -> Result<(), Fail> {
     let alloc = rt.alloc();
@@ -199,7 +327,7 @@ fn words_are_judged(rt: HostRuntime) -> Result<(), Fail> {
         "--version",
         b"",
         Status::Done,
-        b"fixgate 0.1.0\n",
+        b"fixgate 0.2.0\n",
     )?;
     ends(&rt, alloc, "--help", b"", Status::Done, HELP.as_bytes())?;
     Ok(())
@@ -243,7 +371,7 @@ fn a_fault_in_the_middle_leaves_what_was_said(rt: HostRuntime) -> Result<(), Fai
     assert_eq!(rt; some.bytes(), up.as_slice());
     let (checked, lines) = ran(alloc, "check client", &stream, &[2], &[])?;
     assert_eq!(rt; checked, Status::InputFault);
-    assert!(rt; lines.bytes().ends_with(b"3861 frame 143 D unread\n"));
+    assert!(rt; lines.bytes().ends_with(b"3861 frame 143 D ok\n"));
     Ok(())
 }
 
@@ -282,7 +410,7 @@ fn a_status_has_a_code_and_a_line(rt: HostRuntime) -> Result<(), Fail> {
             Status::Refused { at: 143 },
             1,
             "refused at 143",
-            "refused: a piece of the input is garbled, unfinished or not translated; its place is printed",
+            "refused: a piece of the input is garbled, unfinished, at fault or has no counterpart; its\n      place is printed",
         ),
         (
             Status::Usage,

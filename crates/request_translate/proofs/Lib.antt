@@ -1,8 +1,31 @@
-pub mod Rules
-pub mod Shape
-pub mod Senses
-pub mod Amounts
-pub mod Values
-pub mod Orders
-pub mod Pieces
-pub mod Frames
+mod AgainFields
+mod Bodies
+mod CanonicalUp
+mod Carry
+mod ContentValues
+mod Copies
+mod Each
+mod Found
+mod Good
+mod GroupStage
+mod KeptSense
+mod Lacks
+mod Lookups
+mod Means
+mod OneContent
+mod Outcomes
+mod ReadAgain
+mod ReadSound
+mod Readable
+mod Requested
+mod SameRows
+mod Sayable
+mod SenseAgain
+mod ShortDays
+mod Sound42
+mod SoundUp
+mod SpelledAgain
+mod Stages
+mod Translated
+mod Values
+mod Writable

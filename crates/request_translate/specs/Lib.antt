@@ -1,9 +1,8 @@
-pub mod Forms
-pub mod Parties
-pub mod Sense42
-pub mod Sense50
-pub mod Rules
-pub mod Plain
-pub mod Content
+pub mod Canonical
+pub mod Lack
+pub mod Laws
+pub mod Sound
+pub mod Translation
 pub mod Up
-pub mod Rows
+pub mod Writing
+pub mod Written

@@ -1,30 +1,30 @@
-//! Laws of translations. Each stands as the contract of a function that does nothing.
+//! What holds of the translations of requests. Each law is the contract of a function that does
+//! nothing.
 
-ghost use Rattle.std.specs.Prelude.{◌≡◌, ◌∷◌, ℕ, List, Some, codes};
-ghost use Rattle.frame_grammar.specs.declared.frame.Kind.TheVariants.{Fix42};
-ghost use Rattle.frame_grammar.specs.Frame.{IsFrame};
-ghost use Rattle.field_groups.specs.Field.{Field};
-ghost use Rattle.order_meaning.specs.PlainRequest.{Request};
-ghost use Rattle.request_translate.specs.Plain.{ArePlain};
-ghost use Rattle.request_translate.specs.Sense42.{sense42};
-ghost use Rattle.request_translate.specs.Sense50.{sense50};
-ghost use Rattle.request_translate.specs.Content.{content_of};
-ghost use Rattle.request_translate.specs.Up.{IsUp, IsTranslation, KeepSense, FramesKeepSense, type_of};
+ghost use Rattle.request_translate.specs.Laws.{FramesKeepSense, LacksNothing, OneOutcome};
+ghost use Rattle.request_translate.specs.Laws.{RequestsHaveOneContent};
 
-/// A translation means what the order means.
-pub fn orders_keep_their_sense()
-    // Of the bodies: however each is split into its fields.
-    ensures bodies { (body up : List ℕ) → IsUp body up → KeepSense body up }
-    // Of the frames: however each is read as one.
-    ensures frames { (body input text : List ℕ) → IsFrame Fix42 body input → IsTranslation body text → FramesKeepSense input text }
+/// No message of FIX 5.0 SP2 means a request that has no spelling there. So where [`crate::up`]
+/// answers a lack, no message of FIX 5.0 SP2 means the same.
+pub fn messages_lack_nothing()
+    ensures { LacksNothing }
 {}
 
-/// The requests that plain orders mean have one content each in FIX 5.0 SP2.
+/// Canonical requests of FIX 5.0 SP2 that mean the same have the same content, so that a request
+/// has one content.
 pub fn requests_have_one_content()
-    // The content of a request, with its type alone before it, means that request.
-    ensures content { (fields : List Field) (request : Request) → ArePlain fields → sense42 (type_of fields) fields ≡ Some request →
-        sense50 (codes "D") ((35, codes "D") ∷ content_of request) ≡ Some request }
-    // So requests with the same content are the same.
-    ensures apart { (fields others : List Field) (request other : Request) → ArePlain fields → ArePlain others →
-        sense42 (type_of fields) fields ≡ Some request → sense42 (type_of others) others ≡ Some other → content_of request ≡ content_of other → request ≡ other }
+    ensures { RequestsHaveOneContent }
+{}
+
+/// A body has one outcome: a frame, a first fault, a lack, or a translation that is too long. So
+/// each answer of a [`crate::Translator`] other than want of memory comes exactly where it is the
+/// outcome.
+pub fn bodies_have_one_outcome()
+    ensures { OneOutcome }
+{}
+
+/// A frame of FIX 4.2 and its translation, a frame of FIXT 1.1, mean the same request, however both
+/// are read.
+pub fn translations_keep_their_sense()
+    ensures { FramesKeepSense }
 {}

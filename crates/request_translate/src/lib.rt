@@ -1,16 +1,19 @@
-//! Orders of FIX 4.2 (New Order - Single), written as orders of equal sense in FIX 5.0 SP2.
+//! Requests of FIX 4.2 as requests of FIX 5.0 SP2 that mean the same.
 //!
-//! What an order means is a `Request`, by the fields that each version spells it with: `specs/Sense42.antt` and
-//! `specs/Sense50.antt` say which, and name no translator.
+//! What a request means is a `Request` of order_meaning, by the tables of the two dictionaries,
+//! which name no translator.
 #![tactic(auto)]
 
-mod form;
-mod laws;
-mod plain;
+mod cancels;
+pub mod laws;
+mod new_orders;
+mod parts;
+mod replaces;
+mod statuses;
 #[cfg(test)]
 mod tests;
 mod translate;
-mod up;
+mod upward;
 
-pub use laws::{orders_keep_their_sense, requests_have_one_content};
-pub use translate::{TranslateError, Translator};
+pub use translate::{MAX_CONTENT, TranslateError, Translator};
+pub use upward::up;

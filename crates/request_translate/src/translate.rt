@@ -1,24 +1,48 @@
-//! Translating an order from FIX 4.2 to FIX 5.0 SP2.
+//! Translating the body of a request of FIX 4.2 to FIX 5.0 SP2.
 
-ghost use Rattle.std.specs.Prelude.{◌≡◌, ◌++◌, ℕ, List, Err, OnOk, OnErr};
-ghost use Rattle.request_translate.specs.Plain.{IsPlain};
-ghost use Rattle.request_translate.specs.Up.{IsTranslation};
+ghost use Rattle.std.specs.Prelude.{◌≡◌, ◌≤◌, ◌++◌, ℕ, List, Ok, None, IfOk, IfErr, OnOk};
+ghost use Rattle.std.specs.Prelude.{OnErr};
+ghost use Rattle.field_groups.specs.Field.{Field, AreFields, body_of, field_bytes};
+ghost use Rattle.dict_fix42.specs.Readable.{IsReadable42};
+ghost use Rattle.dict_fix50.specs.Readable.{IsReadable50};
+ghost use Rattle.dict_fix42.specs.Message.{message42};
+ghost use Rattle.dict_fix42.specs.Said as said42;
+ghost use Rattle.request_translate.specs.Up.{IsSound42};
+ghost use Rattle.request_translate.specs.Translation.{IsGood, IsTranslation, IsRefused};
+ghost use Rattle.request_translate.specs.Translation.{IsRefusedByCheck};
+ghost use Rattle.request_translate.specs.Translation.{carried_field, carried_tags, type_of};
+ghost use Rattle.request_translate.specs.Writing.{error_of_fault, error_of_lack, Means, IsUnsaid};
+ghost use Rattle.request_translate.specs.Writing.{IsRequestOf, Refuses};
+ghost use Rattle.request_translate.specs.Writing.{put, IsWritten, IsUnwritten, IsUpOf, RefusesUp};
 
-use crate::plain::are_plain;
-use crate::up::write_up;
-use field_groups::split;
-use frame_grammar::{FrameError, Kind, write_frame};
+use crate::upward::up;
+use dict_fix42::{Msg42, read42};
+use dict_fix50::{Msg50, write50};
+use field_groups::{Fields, SOH, Split, split, value};
+use frame_grammar::{FrameError, Kind, MAX_BODY, write_frame};
+use order_meaning::{Fault, Lack};
 use std::alloc::{AllocError, Global};
 use thiserror::Error;
+use typed_fields::{FieldValue, Number};
 
-/// Why a body was not translated.
+/// The most bytes of a content, which is what a body has after its header.
+pub const MAX_CONTENT: usize = 7936;
+
+/// Why a body is not translated.
 #[derive(Clone, Copy, Debug, PartialEq, Eq, Error)]
 pub enum TranslateError {
-    /// The body is not that of a plain order.
-    #[error("the message is no plain order")]
-    NotPlain,
+    /// The message has this first fault, or a type that is not translated. It is never
+    /// `Fault::NoMemory`.
+    #[error("the message is at fault")]
+    Faulty(Fault),
+    /// The field of this tag says what FIX 5.0 SP2 cannot say.
+    #[error("tag {0} has no counterpart")]
+    Lacking(u32),
+    /// The content has more than 7,936 bytes, or the body more than 8,192.
+    #[error("the translation is too long")]
+    TooLong,
     /// There is no memory for the translation.
-    #[error("there is no memory for the translation")]
+    #[error("out of memory")]
     NoMemory,
 }
 
@@ -33,7 +57,142 @@ impl From<AllocError> for TranslateError {
     }
 }
 
-/// Translates the bodies of plain orders. It keeps the memory for one body from each call to the next.
+/// The fault of a message that was read.
+fn faulty(fault: Fault) -> TranslateError
+    ensures { result ≡ error_of_fault fault }
+{
+    match fault {
+        Fault::NoMemory => TranslateError::NoMemory,
+        fault => TranslateError::Faulty(fault),
+    }
+}
+
+/// The lack of a message that was translated.
+fn lacking(lack: Lack) -> TranslateError
+    ensures { result ≡ error_of_lack lack }
+{
+    match lack {
+        Lack::NoMemory => TranslateError::NoMemory,
+        Lack::Tag(tag) => TranslateError::Lacking(tag),
+    }
+}
+
+/// MsgType(35), the value of the first field; nothing where there is none.
+fn msg_type<'a>(fields: &Fields<'a>) -> &'a [u8]
+    ensures { result.now ≡ type_of fields.now }
+{
+    match fields.at(0) {
+        Some((_, value)) => value,
+        None => b"",
+    }
+}
+
+/// The message of FIX 4.2 that the fields of a body are.
+fn message(alloc: Global, split: &Split<'_>) -> Result<Msg42, TranslateError>
+    ensures ok { IfOk result (λ m. message42 (type_of split.now.fields) split.now.fields
+        split.now.fault ≡ Ok (said42.says m)) }
+    ensures readable { IfOk result IsReadable42 }
+    ensures refused { IfErr result (Refuses split.now.fields split.now.fault) }
+{
+    match read42(alloc, msg_type(&split.fields), split) {
+        Ok(message) => Ok(message),
+        Err(fault) => Err(faulty(fault)),
+    }
+}
+
+/// The request of FIX 5.0 SP2 that means what a message of FIX 4.2 means.
+fn written(alloc: Global, message: &Msg42) -> Result<Msg50, TranslateError>
+    requires sound { IsSound42 message.now }
+    requires readable { IsReadable42 message.now }
+    ensures ok { IfOk result (Means (said42.says message.now)) }
+    ensures refused { IfErr result (IsUnsaid (said42.says message.now)) }
+{
+    match up(alloc, message) {
+        Ok(request) => Ok(request),
+        Err(lack) => Err(lacking(lack)),
+    }
+}
+
+/// The request of FIX 5.0 SP2 that stands for the fields of a body.
+fn request(alloc: Global, split: &Split<'_>) -> Result<Msg50, TranslateError>
+    requires { AreFields None split.now.fields }
+    ensures ok { IfOk result (IsRequestOf split.now.fields split.now.fault) }
+    ensures refused { IfErr result (Refuses split.now.fields split.now.fault) }
+{
+    let message = message(alloc, split)?;
+    written(alloc, &message)
+}
+
+/// Appends a field ("Message Format"): its tag, `=`, its value and SOH.
+#[tactic(auto, unfolding(field_groups::specs::Field::field_bytes))]
+fn write_field(tag: u32, value: &[u8], out: &mut Vec<u8>) -> Result<(), AllocError>
+    requires { tag ≤ 1_000_000_000 }
+    ensures { OnOk result (out.new.items ≡ out.old.items ++ field_bytes (tag, value.now)) }
+{
+    Number { value: tag }.write(out)?;
+    out.extend_from_slice(b"=")?;
+    out.extend_from_slice(value)?;
+    out.extend_from_slice(&[SOH])
+}
+
+/// Appends the first of these fields with a tag, if there is one.
+fn write_carried(tag: u32, fields: &Fields<'_>, out: &mut Vec<u8>) -> Result<(), AllocError>
+    requires { tag ≤ 1_000_000_000 }
+    ensures { OnOk result (out.new.items
+        ≡ out.old.items ++ body_of (carried_field fields.now tag)) }
+{
+    match value(fields.as_slice(), tag) {
+        None => Ok(()),
+        Some(value) => write_field(tag, value, out),
+    }
+}
+
+/// Appends the header of a translation: MsgType(35), and then SenderCompID(49), TargetCompID(56),
+/// MsgSeqNum(34), PossDupFlag(43), PossResend(97), SendingTime(52) and OrigSendingTime(122) where
+/// these fields have them.
+fn write_head(fields: &Fields<'_>, out: &mut Vec<u8>) -> Result<(), AllocError>
+    ensures { OnOk result (out.new.items
+        ≡ put (carried_field fields.now)
+        (out.old.items ++ field_bytes (35, type_of fields.now)) carried_tags) }
+{
+    write_field(35, msg_type(fields), out)?;
+    write_carried(49, fields, out)?;
+    write_carried(56, fields, out)?;
+    write_carried(34, fields, out)?;
+    write_carried(43, fields, out)?;
+    write_carried(97, fields, out)?;
+    write_carried(52, fields, out)?;
+    write_carried(122, fields, out)
+}
+
+/// Writes to `up`, in place of what it has, the header of these fields and the content of a
+/// request.
+fn write_body(fields: &Fields<'_>, request: &Msg50, up: &mut Vec<u8>) -> Result<(), TranslateError>
+    requires { IsReadable50 request.now }
+    ensures ok { OnOk result (IsWritten fields.now request.now up.new.items) }
+    ensures refused { IfErr result (IsUnwritten fields.now request.now) }
+{
+    up.clear();
+    write_head(fields, up)?;
+    let head = up.len();
+    write50(request, up)?;
+    if up.len() - head > MAX_CONTENT || up.len() > MAX_BODY {
+        return Err(TranslateError::TooLong);
+    }
+    Ok(())
+}
+
+/// Writes to `up`, in place of what it has, the body that stands for the fields of a body.
+fn write_up(alloc: Global, split: &Split<'_>, up: &mut Vec<u8>) -> Result<(), TranslateError>
+    requires { AreFields None split.now.fields }
+    ensures ok { OnOk result (IsUpOf split.now.fields split.now.fault up.new.items) }
+    ensures refused { IfErr result (RefusesUp split.now.fields split.now.fault) }
+{
+    let request = request(alloc, split)?;
+    write_body(&split.fields, &request, up)
+}
+
+/// Translates bodies. It keeps the memory for one body from each call to the next.
 #[derive(Debug, Drop)]
 pub struct Translator {
     alloc: Global,
@@ -49,38 +208,48 @@ impl Translator {
         }
     }
 
-    /// Appends to `out` the FIXT 1.1 frame of the FIX 5.0 SP2 order that stands for a body of FIX 4.2, the body of a plain order.
+    /// Appends to `out` the FIXT 1.1 frame of the request of FIX 5.0 SP2 that means what a body of
+    /// FIX 4.2 means.
     ///
-    /// A plain order is a New Order - Single of FIX 4.2 with just these fields, in this order, each once. Fields of the header:
-    /// MsgType (35) `D`; SenderCompID (49), TargetCompID (56), MsgSeqNum (34) and SendingTime (52), of 1 to 128 bytes each.
-    /// Then ClOrdID (11), of 1 to 128 bytes; ClientID (109), the same, which may be absent; HandlInst (21), `1` to `3`;
-    /// Symbol (55), of 1 to 128 bytes; Side (54), `1` to `6`; TransactTime (60), `YYYYMMDD-HH:MM:SS` with a day to 28 and a second
-    /// to 59; OrderQty (38), one to seven digits, the first not 0; OrdType (40), `1`, or `2` and then Price (44), which is written
-    /// as a quantity, and may have a point and one to four digits behind it, the last not 0.
-    ///
-    /// The order of FIX 5.0 SP2 carries the fields of the header as they stand, and has the same fields, but for ClientID: it is
-    /// the one party, of PartyRole (452) `3` and PartyIDSource (447) `D` (FIX 5.0 SP2, volume 4, New Order - Single, and volume 1,
-    /// Parties). The frame has at most 8,219 bytes.
+    /// The body is that of a New Order - Single(D), an Order Cancel Request(F), an Order
+    /// Cancel/Replace Request(G) or an Order Status Request(H). The frame has its MsgType(35), of
+    /// its header the fields 49, 56, 34, 43, 97, 52 and 122 that it has, as they stand and in this
+    /// order, and then the one canonical content that means the same (FIX 5.0 SP2, volume 4). It
+    /// has at most 8,219 bytes.
     ///
     /// # Errors
     ///
-    /// `NotPlain` where the body is not that of a plain order, and `NoMemory` without memory for the fields or the frame.
-    /// `out` is then as it was.
+    /// `Faulty` for the first fault of the body, `Lacking` where it says what FIX 5.0 SP2 cannot
+    /// say, `TooLong` where the content would have more than 7,936 bytes or the body more than
+    /// 8,192, each exactly there; `NoMemory` for want of memory. `out` is then as it was.
     pub fn translate(&mut self, body: &[u8], out: &mut Vec<u8>) -> Result<(), TranslateError>
-        ensures ok { OnOk result ((text : List ℕ) × IsTranslation body.now text × (out.new.items ≡ out.old.items ++ text)) }
-        ensures plain { OnOk result (IsPlain body.now) }
-        ensures not_plain { result ≡ Err TranslateError.NotPlain → ¬ IsPlain body.now }
+        ensures ok { OnOk result ((text : List ℕ)
+            × IsTranslation body.now text × (out.new.items ≡ out.old.items ++ text)) }
+        ensures refused { IfErr result (IsRefused body.now) }
         ensures err { OnErr result (out.new.items ≡ out.old.items) }
     {
         let split = split(self.alloc, body)?;
-        if split.fault.is_some() || !are_plain(&split.fields) {
-            return Err(TranslateError::NotPlain);
-        }
-        write_up(&split.fields, body, &mut self.up)?;
+        write_up(self.alloc, &split, &mut self.up)?;
         match write_frame(Kind::Fixt11, &self.up, out) {
             Ok(()) => Ok(()),
             Err(FrameError::NoMemory) => Err(TranslateError::NoMemory),
             Err(FrameError::TooLong) => unreachable!(),
+        }
+    }
+
+    /// Whether a body of FIX 4.2 has a translation, of whatever length.
+    ///
+    /// # Errors
+    ///
+    /// `Faulty` and `Lacking` as `translate` has them; `NoMemory` for want of memory.
+    pub fn check(&self, body: &[u8]) -> Result<(), TranslateError>
+        ensures ok { OnOk result ((fields : List Field) × IsGood body.now fields) }
+        ensures refused { IfErr result (IsRefusedByCheck body.now) }
+    {
+        let split = split(self.alloc, body)?;
+        match request(self.alloc, &split) {
+            Ok(_) => Ok(()),
+            Err(error) => Err(error),
         }
     }
 }

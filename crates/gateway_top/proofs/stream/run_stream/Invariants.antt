@@ -7,7 +7,8 @@ use Rattle.gateway_top.proofs.stream.run_stream.Given as goal
 
 abbrev pub invariant-loop-pass : goal.invariant-loop-pass
 invariant-loop-pass g l = record {
-  midway : Midway l.fn.task (g.I.Source.left l.fn.input) (g.I.Source.left l.input) (g.O.Sink.bytes l.fn.out) (g.O.Sink.bytes l.out) l.pass.framer l.pass.refused l.taken;
+  midway : Midway l.fn.task (g.I.Source.left l.fn.input) (g.I.Source.left l.input)
+      (g.O.Sink.bytes l.fn.out) (g.O.Sink.bytes l.out) l.pass.framer l.pass.refused l.taken;
   task : l.pass.task ≡ l.fn.task;
   kind : l.pass.framer.kind ≡ kind_of l.fn.task;
   room : 8000 ≤ room l.pass.framer;

@@ -1,8 +1,5 @@
-use Rattle.request_translate.proofs.Orders.{content_says, contents_are_apart}
+use Rattle.request_translate.proofs.OneContent.{news, cancels, replaces, statuses}
 use Rattle.request_translate.proofs.laws.requests_have_one_content.Goals as goal
 
-pub returns-clause-content : goal.returns-clause-content
-returns-clause-content c = content_says
-
-pub returns-clause-apart : goal.returns-clause-apart
-returns-clause-apart c = contents_are_apart
+pub returns : goal.returns
+returns c = record { news = news; cancels = cancels; replaces = replaces; statuses = statuses }

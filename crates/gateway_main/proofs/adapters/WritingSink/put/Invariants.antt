@@ -6,7 +6,8 @@ use Rattle.gateway_main.proofs.adapters.WritingSink.put.Given as goal
 abbrev pub invariant-loop-rest : goal.invariant-loop-rest
 invariant-loop-rest g l = record {
   faults : l.self.faults ≡ l.fn.self.faults;
-  written : (n : ℕ) × (n ≤ length l.fn.piece) × (l.rest ≡ drop n l.fn.piece) × Appends (g.W.Write.contents l.fn.self.inner) (g.W.Write.contents l.self.inner) (take n l.fn.piece);
+  written : (n : ℕ) × (n ≤ length l.fn.piece) × (l.rest ≡ drop n l.fn.piece) × Appends
+      (g.W.Write.contents l.fn.self.inner) (g.W.Write.contents l.self.inner) (take n l.fn.piece);
 }
 
 abbrev pub decreases-loop-rest : goal.decreases-loop-rest

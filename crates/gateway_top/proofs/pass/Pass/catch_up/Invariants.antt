@@ -9,9 +9,12 @@ use Rattle.gateway_top.proofs.pass.Pass.catch_up.Given as goal
 
 abbrev pub invariant-loop-self : goal.invariant-loop-self
 invariant-loop-self l = record {
-  catching : (stream : List ℕ) (answered : List Piece) (before : List ℕ) → StandsFor l.fn.self.framer stream answered →
-      has_ended l.fn.self.task l.fn.self.refused ≡ false → JudgesAll l.fn.self.task [] answered l.fn.self.refused before →
-      Catching l.fn.self.task l.self.framer stream answered l.self.refused before l.fn.self.text.items l.self.text.items;
+  catching : (stream : List ℕ) (answered : List Piece) (before : List ℕ)
+      → StandsFor l.fn.self.framer stream answered →
+      has_ended l.fn.self.task l.fn.self.refused ≡ false
+      → JudgesAll l.fn.self.task [] answered l.fn.self.refused before →
+      Catching l.fn.self.task l.self.framer
+      stream answered l.self.refused before l.fn.self.text.items l.self.text.items;
   task : l.self.task ≡ l.fn.self.task;
   kind : l.self.framer.kind ≡ l.fn.self.framer.kind;
 }

@@ -1,0 +1,83 @@
+-- What holds of each element of a list.
+use Rattle.std.proofs.Common.{◌≡◌, ℕ, suc, List, [], ◌∷◌, ◌++◌, map, Option, Some, None, Bool, true}
+use Rattle.std.proofs.Common.{false, refl, arith}
+use Rattle.std.specs.Prelude.{not, ◌&&◌, ◌||◌, ◌==◌}
+use Rattle.std.specs.List.{AllByRecursion, slice_get, flat_map}
+use Rattle.std.proofs.lemmas.Bool.Decides.{nat_tests}
+use Rattle.field_groups.specs.Tables.{or_else, first_of, is_one_of}
+
+module _ {A : Type 0} (P : A → Type 0) where
+  pub each_at : (xs : List A)
+      → ((i : ℕ) (x : A) → slice_get xs i ≡ Some x → P x) → AllByRecursion P xs
+  each_at [] h = tt
+  each_at (x ∷ xs) h = (h 0 x refl, each_at xs (λ i y at. h (suc i) y at))
+
+  pub each_front : (xs ys : List A) → AllByRecursion P (xs ++ ys) → AllByRecursion P xs
+  each_front [] ys h = tt
+  each_front (x ∷ xs) ys h = (h.0, each_front xs ys h.1)
+
+  pub each_back : (xs ys : List A) → AllByRecursion P (xs ++ ys) → AllByRecursion P ys
+  each_back [] ys h = h
+  each_back (x ∷ xs) ys h = each_back xs ys h.1
+
+  pub each_joined : (xs ys : List A)
+      → AllByRecursion P xs → AllByRecursion P ys → AllByRecursion P (xs ++ ys)
+  each_joined [] ys h k = k
+  each_joined (x ∷ xs) ys h k = (h.0, each_joined xs ys h.1 k)
+
+  pub each_part : {B : Type 0} (f : B → List A) (bs : List B)
+      → AllByRecursion P (flat_map f bs) → AllByRecursion (λ b. AllByRecursion P (f b)) bs
+  each_part f [] h = tt
+  each_part f (b ∷ bs) h =
+      (each_front (f b) (flat_map f bs) h, each_part f bs (each_back (f b) (flat_map f bs) h))
+
+  pub each_whole : {B : Type 0} (f : B → List A) (bs : List B)
+      → AllByRecursion (λ b. AllByRecursion P (f b)) bs → AllByRecursion P (flat_map f bs)
+  each_whole f [] h = tt
+  each_whole f (b ∷ bs) h = each_joined (f b) (flat_map f bs) h.0 (each_whole f bs h.1)
+
+pub each_map : {A B : Type 0} (P : B → Type 0) (f : A → B) (xs : List A)
+    → AllByRecursion P (map f xs) → AllByRecursion (λ x. P (f x)) xs
+each_map P f [] h = tt
+each_map P f (x ∷ xs) h = (h.0, each_map P f xs h.1)
+
+-- where no element gives an answer, none of them does
+pub none_each : {X A : Type 0} (f : X → Option A) (xs : List X)
+    → first_of f xs ≡ None → AllByRecursion (λ x. f x ≡ None) xs
+unfolding first_of
+none_each f [] h = tt
+none_each {X = X} {A = A} f (x ∷ xs) h = here (f x) refl h (λ later. none_each f xs later)
+  where
+    here : (a : Option A) → f x ≡ a → or_else a (first_of f xs) ≡ None
+        → (first_of f xs ≡ None → AllByRecursion (λ y. f y ≡ None) xs)
+        → (f x ≡ None) × AllByRecursion (λ y. f y ≡ None) xs
+    here None e h later = (e, later h)
+    here (Some a) e h later = absurd cc
+
+pub each_none : {X A : Type 0} (f : X → Option A) (xs : List X)
+    → AllByRecursion (λ x. f x ≡ None) xs → first_of f xs ≡ None
+unfolding first_of
+each_none f [] h = refl
+each_none f (x ∷ xs) h = rw h.0 (each_none f xs h.1)
+
+-- numbers that stand once each
+abbrev pub are_apart : List ℕ → Bool
+are_apart [] = true
+are_apart (t ∷ ts) = not (is_one_of ts t) && are_apart ts
+
+pub both : (a b : Bool) → (a && b) ≡ true → (a ≡ true) × (b ≡ true)
+both true true h = (refl, refl)
+both true false h = absurd cc
+both false b h = absurd cc
+
+pub either : (a b : Bool) → (a || b) ≡ false → (a ≡ false) × (b ≡ false)
+either false false h = (refl, refl)
+either false true h = absurd cc
+either true b h = absurd cc
+
+pub not_true : (b : Bool) → not b ≡ true → b ≡ false
+not_true true h = absurd cc
+not_true false h = refl
+
+pub same_number : (n : ℕ) → (n == n) ≡ true
+same_number n = grind (arith, nat_tests)

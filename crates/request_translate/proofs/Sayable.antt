@@ -1,0 +1,160 @@
+-- What a message of FIX 5.0 SP2 means lacks no spelling there.
+use Rattle.std.proofs.Common.{◌≡◌, ℕ, List, [], ◌∷◌, Bool, true, false, Option, Some, None, IfSome}
+use Rattle.std.proofs.Common.{refl, ap, codes, if◌then◌else◌, ◌==◌}
+use Rattle.std.specs.Prelude.{not}
+use Rattle.std.specs.Result.{result_ok}
+use Rattle.typed_fields.specs.ValueKind.{spelling, OneByte}
+use Rattle.field_groups.specs.declared.table_fault.TableFault.{TableFault}
+use Rattle.field_groups.specs.Field.{Field}
+use Rattle.field_groups.specs.Tables.{Verdict, Spells, Outside, Wrong, Table, Message, Lenient}
+use Rattle.field_groups.specs.Tables.{◌>>=◌, says, value_at, text_of, code_of, code_if, is_one_of}
+use Rattle.field_groups.specs.FirstFault.{unless, first_fault, message_in, message_of}
+use Rattle.order_meaning.specs.Request.{Request, RequestKind, New, Cancel, Replace, Status}
+use Rattle.order_meaning.specs.Request.{OrderType, Market, Limit, Stop, StopLimit, MarketOnClose}
+use Rattle.order_meaning.specs.Request.{LimitOnClose}
+use Rattle.dict_fix50.specs.Kinds.{Kind50, judge, Byte, counted, verdict_of}
+use Rattle.dict_fix50.specs.Message.{message50, message_by, table, told, completed}
+use Rattle.dict_fix50.specs.Requests.{new_order, cancel_request, replace_request, status_request}
+use Rattle.dict_fix50.specs.Sense.{sense50, request50, request_of, terms_of}
+use Rattle.std.specs.Str.{bytes_eq}
+use Rattle.request_translate.specs.Lack.{lacks_time, lacks_capacity, lack_in, lack_of}
+use Rattle.request_translate.specs.Laws.{LacksNothing}
+
+-- a request, if there is one, lacks nothing
+abbrev pub IsSayable : Option Request → Type 0
+IsSayable request = IfSome request (λ r. lack_of r ≡ None)
+
+no_time : (ord_type : Option OrderType) → lacks_time ord_type None ≡ false
+no_time None = refl
+no_time (Some Market) = refl
+no_time (Some Limit) = refl
+no_time (Some Stop) = refl
+no_time (Some StopLimit) = refl
+no_time (Some MarketOnClose) = refl
+no_time (Some LimitOnClose) = refl
+
+by_code : (a b c d : Bool) (time : ℕ) →
+    lacks_time (if a then Some Market else (if b then Some Limit
+    else (if c then Some Stop else (if d then Some StopLimit else None)))) (Some time) ≡ false
+by_code true b c d time = refl
+by_code false true c d time = refl
+by_code false false true d time = refl
+by_code false false false true time = refl
+by_code false false false false time = refl
+
+abbrev pick : Bool
+    → Option OrderType × Option ℕ → Option OrderType × Option ℕ → Option OrderType × Option ℕ
+pick close a b = if close then a else b
+
+by_close : (close : Bool) (closing plain : Option OrderType) (time : ℕ)
+    → lacks_time plain (Some time) ≡ false →
+    lacks_time (pick close (closing, None) (plain, Some time)).0
+    (pick close (closing, None) (plain, Some time)).1 ≡ false
+by_close true closing plain time h = no_time closing
+by_close false closing plain time h = h
+
+-- TimeInForce says that an order is on close, or something else
+pub terms_lack_nothing : (code time : Option ℕ)
+    → lacks_time (terms_of code time).0 (terms_of code time).1 ≡ false
+terms_lack_nothing None time = refl
+terms_lack_nothing (Some code) None = no_time (terms_of (Some code) None).0
+terms_lack_nothing (Some code) (Some time) =
+    by_close (time == 55) (terms_of (Some code) (Some 55)).0 (terms_of (Some code) None).0 time
+    (by_code (code == 49) (code == 50) (code == 51) (code == 52) time)
+
+by_listed : (listed : Bool) (byte : ℕ) → is_one_of (codes "AIP") byte ≡ listed →
+    lacks_capacity (text_of (counted listed (Spells (byte ∷ []))) >>= code_of) ≡ false
+by_listed true byte e = ap not e
+by_listed false byte e = refl
+
+outside : (verdict : Verdict) → lacks_capacity (text_of (counted false verdict) >>= code_of) ≡ false
+outside (Spells text) = refl
+outside Outside = refl
+outside (Wrong reason) = refl
+
+-- of OrderCapacity the values of the profile alone count
+pub capacity_lacks_nothing : (fields : List Field) (value : Option (List ℕ)) →
+    lacks_capacity (says Lenient (judge fields (Byte (codes "AIP"))) value >>= code_of) ≡ false
+unfolding judge spelling
+capacity_lacks_nothing fields None = refl
+capacity_lacks_nothing fields (Some []) = refl
+capacity_lacks_nothing fields (Some (byte ∷ [])) =
+    by_listed (is_one_of (codes "AIP") byte) byte refl
+capacity_lacks_nothing fields (Some (byte ∷ again ∷ bytes)) =
+    outside (verdict_of (spelling OneByte (byte ∷ again ∷ bytes)))
+
+abbrev tag_of : Bool → Bool → Option ℕ
+tag_of time capacity = if time then Some 59 else (if capacity then Some 47 else None)
+
+by_tests : (time capacity : Bool) → time ≡ false → capacity ≡ false → tag_of time capacity ≡ None
+by_tests true capacity e f = absurd (cc)
+by_tests false true e f = absurd (cc)
+by_tests false false e f = refl
+
+by_parts : (ord_type : Option OrderType) (time capacity : Option ℕ)
+    → lacks_time ord_type time ≡ false → lacks_capacity capacity ≡ false →
+    lack_in ord_type time capacity ≡ None
+by_parts ord_type time capacity on_close code =
+    by_tests (lacks_time ord_type time) (lacks_capacity capacity) on_close code
+
+-- what a message means lacks nothing, where its capacity does not
+of_message : (kind : RequestKind) (m : Message)
+    → lacks_capacity (code_if m.cells 528) ≡ false → lack_of (request_of kind m) ≡ None
+of_message kind m h = by_parts (terms_of (code_if m.cells 40) (code_if m.cells 59)).0
+    (terms_of (code_if m.cells 40) (code_if m.cells 59)).1
+    (code_if m.cells 528) (terms_lack_nothing (code_if m.cells 40) (code_if m.cells 59)) h
+
+new_is_sayable : (fields : List Field)
+    → IsSayable (request50 (completed (message_in judge (table 68 new_order) fields)))
+new_is_sayable fields = of_message New (completed (message_in judge (table 68 new_order) fields))
+    (capacity_lacks_nothing fields (value_at 528 fields))
+
+cancel_is_sayable : (fields : List Field)
+    → IsSayable (request50 (completed (message_in judge (table 70 cancel_request) fields)))
+cancel_is_sayable fields =
+    of_message Cancel (completed (message_in judge (table 70 cancel_request) fields)) refl
+
+replace_is_sayable : (fields : List Field)
+    → IsSayable (request50 (completed (message_in judge (table 71 replace_request) fields)))
+replace_is_sayable fields =
+    of_message Replace (completed (message_in judge (table 71 replace_request) fields))
+    (capacity_lacks_nothing fields (value_at 528 fields))
+
+status_is_sayable : (fields : List Field)
+    → IsSayable (request50 (completed (message_in judge (table 72 status_request) fields)))
+status_is_sayable fields =
+    of_message Status (completed (message_in judge (table 72 status_request) fields)) refl
+
+by_fault : (fault : Option TableFault) (m : Message) → IsSayable (request50 (completed m))
+    → IsSayable (result_ok (told (unless fault m)) >>= request50)
+by_fault None m h = h
+by_fault (Some fault) m h = tt
+
+by_message : (table : Table Kind50) (fields : List Field)
+    → IsSayable (request50 (completed (message_in judge table fields))) →
+    IsSayable (result_ok (told (message_of judge table fields)) >>= request50)
+unfolding message_of
+by_message table fields h =
+    by_fault (first_fault judge table fields) (message_in judge table fields) h
+
+by_type : (d f g h : Bool) (fields : List Field) → IsSayable (result_ok (message_by
+    (if d then Some (table 68 new_order) else (if f then Some (table 70 cancel_request) else
+    (if g then Some (table 71 replace_request)
+    else (if h then Some (table 72 status_request) else None))))
+    fields
+    None)
+    >>=
+    request50)
+by_type true f g h fields = by_message (table 68 new_order) fields (new_is_sayable fields)
+by_type false true g h fields =
+    by_message (table 70 cancel_request) fields (cancel_is_sayable fields)
+by_type false false true h fields =
+    by_message (table 71 replace_request) fields (replace_is_sayable fields)
+by_type false false false true fields =
+    by_message (table 72 status_request) fields (status_is_sayable fields)
+by_type false false false false fields = tt
+
+pub sayable : LacksNothing
+unfolding sense50 message50
+sayable msg_type fields = by_type (bytes_eq msg_type (codes "D")) (bytes_eq msg_type (codes "F"))
+    (bytes_eq msg_type (codes "G")) (bytes_eq msg_type (codes "H")) fields

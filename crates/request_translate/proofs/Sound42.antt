@@ -1,0 +1,468 @@
+-- What is read of the fields of a request of FIX 4.2 is a sound message.
+use Rattle.std.proofs.Common.{◌≡◌, ℕ, List, [], ◌∷◌, Option, Some, None, Bool, true, false, refl}
+use Rattle.std.proofs.Common.{sym, ap, subst, ◌∙◌, codes}
+use Rattle.std.specs.Prelude.{Result, Ok, Err, not, ◌&&◌, ◌||◌, ◌==◌, if◌then◌else◌}
+use Rattle.std.specs.Result.{result_ok}
+use Rattle.std.specs.List.{AllByRecursion, list_all}
+use Rattle.std.specs.Str.{bytes_eq}
+use Rattle.std.proofs.lemmas.Bool.{eqb-true}
+use Rattle.typed_fields.specs.declared.fault.FieldFault.{FieldFault}
+use Rattle.typed_fields.specs.declared.month_year.MonthYear.{MonthYear as MonthValue}
+use Rattle.typed_fields.specs.MonthYear.{read_month_year}
+use Rattle.typed_fields.specs.Day.{is_date}
+use Rattle.typed_fields.specs.ValueKind.{ValueKind, MonthYear, DayOfMonth, Spelling, spelling}
+use Rattle.typed_fields.specs.ValueKind.{spelt, number_of_two}
+use Rattle.field_groups.specs.declared.table_fault.TableFault.{TableFault}
+use Rattle.field_groups.specs.Field.{Field, AreFields}
+use Rattle.field_groups.specs.Data.{is_data_tag}
+use Rattle.field_groups.specs.Tables.{Verdict, Spells, Outside, Wrong, Need, Required, Optional}
+use Rattle.field_groups.specs.Tables.{Lenient, Fixed, When, Stands, Is, Row, Item, One, Party}
+use Rattle.field_groups.specs.Tables.{Lines, Table, Message, Said, ◌>>=◌, has_tag, value_at}
+use Rattle.field_groups.specs.Tables.{is_needed, text_of, tags_in}
+use Rattle.field_groups.specs.FirstFault.{first_fault, message_in, message_of, unless}
+use Rattle.field_groups.specs.Content.{content}
+use Rattle.field_groups.proofs.Clean.{stands, value_at-none}
+use Rattle.field_groups.proofs.Few.{IsPlain}
+use Rattle.field_groups.proofs.Plain.{is_plain}
+use Rattle.dict_fix42.specs.Kinds.{Kind42, Value, DayOf, judge, verdict_of, month_at, in_month}
+use Rattle.dict_fix42.specs.Message.{message42, message_by, table, told}
+use Rattle.dict_fix42.specs.Requests.{new_order, cancel_request, replace_request, status_request}
+use Rattle.dict_fix42.specs.Requests.{allocs, sessions}
+use Rattle.dict_fix42.specs.Said.{says as says42}
+use Rattle.dict_fix42.specs.declared.requests.Msg42.{Msg42}
+use Rattle.dict_fix42.specs.declared.requests.Msg42.TheVariants as messages
+use Rattle.request_translate.specs.Sound.{IsClear, IsSound}
+use Rattle.request_translate.specs.Up.{IsSound42}
+use Rattle.request_translate.proofs.Each.{both}
+use Rattle.request_translate.proofs.SpelledAgain.{spelled_again, spelled_clear}
+use Rattle.request_translate.proofs.ContentValues.{value_said}
+use Rattle.request_translate.proofs.ReadSound.{IsPlainRow, IsClearField, IsStableRow, IsStableItem}
+use Rattle.request_translate.proofs.ReadSound.{IsPlainItem, read_sound}
+
+-- ---- the values of FIX 4.2
+
+spelled : (s : Spelling) (text : List ℕ) → verdict_of s ≡ Spells text → s ≡ Ok (Some text)
+spelled (Ok (Some other)) text h = cc
+spelled (Ok None) text h = absurd cc
+spelled (Err fault) text h = absurd cc
+
+value_again : (kind : ValueKind) (bytes text : List ℕ)
+    → verdict_of (spelling kind bytes) ≡ Spells text → verdict_of (spelling kind text) ≡ Spells text
+value_again kind bytes text h =
+    ap verdict_of (spelled_again kind bytes text (spelled (spelling kind bytes) text h))
+
+value_clear : (kind : ValueKind) (bytes text : List ℕ)
+    → IsClear bytes → verdict_of (spelling kind bytes) ≡ Spells text → IsClear text
+value_clear kind bytes text c h =
+    spelled_clear kind bytes text c (spelled (spelling kind bytes) text h)
+
+-- a day that its month has is a day
+day_in : (month : Option MonthValue) (v : Verdict) (day : List ℕ)
+    → in_month month v ≡ Spells day → v ≡ Spells day
+day_in None v day h = h
+day_in (Some month) (Spells other) day h =
+    by (is_date month.year month.month (number_of_two other)) h
+  where
+    by : (good : Bool)
+        → (if good then Spells other else Wrong 5) ≡ Spells day → Spells other ≡ Spells day
+    by true h = h
+    by false h = absurd cc
+day_in (Some month) Outside day h = absurd cc
+day_in (Some month) (Wrong reason) day h = absurd cc
+
+-- the needs and kinds of the rows of FIX 4.2
+abbrev ours_need : Need → Bool
+ours_need Required = true
+ours_need Optional = true
+ours_need (When ((Stands tag ∷ []) ∷ [])) = tag == 205
+ours_need need = false
+
+abbrev ours_kind : Kind42 → Bool
+ours_kind (Value kind) = true
+ours_kind (DayOf month) = month == 200
+
+abbrev plain_need : Need → Bool
+plain_need Required = true
+plain_need Optional = true
+plain_need need = false
+
+abbrev plain_kind : Kind42 → Bool
+plain_kind (Value kind) = true
+plain_kind (DayOf month) = false
+
+abbrev is_ours_row : Row Kind42 → Bool
+is_ours_row row = not (is_data_tag row.tag) && (ours_need row.need && ours_kind row.kind)
+
+abbrev is_plain_row : Row Kind42 → Bool
+is_plain_row row = not (is_data_tag row.tag) && (plain_need row.need && plain_kind row.kind)
+
+abbrev is_ours : Item Kind42 → Bool
+is_ours (One row) = is_ours_row row
+is_ours (Party role) = true
+is_ours (Lines group) = list_all is_plain_row group.rows
+
+-- ---- members of groups
+
+not_true : (b : Bool) → not b ≡ true → b ≡ false
+not_true true h = absurd cc
+not_true false h = refl
+
+steady_need : (need : Need)
+    → plain_need need ≡ true → (l k : List Field) → is_needed need l ≡ is_needed need k
+steady_need Required h l k = refl
+steady_need Optional h l k = refl
+steady_need Lenient h l k = refl
+steady_need (Fixed text) h l k = refl
+steady_need (When condition) h l k = absurd cc
+
+unfixed : (need : Need) → plain_need need ≡ true → (text : List ℕ) → need ≡ Fixed text → ⊥
+unfixed Required h text e = absurd cc
+unfixed Optional h text e = absurd cc
+unfixed Lenient h text e = absurd cc
+unfixed (Fixed other) h text e = absurd cc
+unfixed (When condition) h text e = absurd cc
+
+plain_same : (kind : Kind42) → plain_kind kind ≡ true
+    → (l k : List Field) (bytes : List ℕ) → judge l kind bytes ≡ judge k kind bytes
+unfolding judge
+plain_same (Value kind) h l k bytes = refl
+plain_same (DayOf month) h l k bytes = absurd cc
+
+plain_again : (kind : Kind42) → plain_kind kind ≡ true
+    → (bytes text : List ℕ) → judge [] kind bytes ≡ Spells text → judge [] kind text ≡ Spells text
+unfolding judge
+plain_again (Value kind) h bytes text e = value_again kind bytes text e
+plain_again (DayOf month) h bytes text e = absurd cc
+
+plain_clear : (kind : Kind42) → plain_kind kind ≡ true
+    → (bytes text : List ℕ) → IsClear bytes → judge [] kind bytes ≡ Spells text → IsClear text
+unfolding judge
+plain_clear (Value kind) h bytes text c e = value_clear kind bytes text c e
+plain_clear (DayOf month) h bytes text c e = absurd cc
+
+plain_row : (row : Row Kind42) → is_plain_row row ≡ true → IsPlainRow judge row
+plain_row row h =
+    let a = both (not (is_data_tag row.tag)) (plain_need row.need && plain_kind row.kind) h in
+    let b = both (plain_need row.need) (plain_kind row.kind) a.1 in
+    record {
+      steady = steady_need row.need b.0;
+      same = plain_same row.kind b.1;
+      spelled = plain_again row.kind b.1;
+      clear = plain_clear row.kind b.1;
+      fixed = λ text e. absurd (unfixed row.need b.0 text e);
+      bare = not_true (is_data_tag row.tag) a.0;
+    }
+
+plain_rows : (rows : List (Row Kind42))
+    → list_all is_plain_row rows ≡ true → AllByRecursion (IsPlainRow judge) rows
+plain_rows [] h = tt
+plain_rows (row ∷ rows) h = let p = both (is_plain_row row) (list_all is_plain_row rows) h
+    in (plain_row row p.0, plain_rows rows p.1)
+
+-- fields of a body have no SOH, but where they are raw data
+pub clear_fields : (before : Option Field) (fields : List Field)
+    → AreFields before fields → AllByRecursion (IsClearField judge) fields
+clear_fields before [] h = tt
+clear_fields before (f ∷ fs) h =
+    (λ none. (is_plain before f h.0 none).no_soh, clear_fields (Some f) fs h.1)
+
+-- ---- a table
+
+module _ (table : Table Kind42) (fields : List Field) where
+  abbrev m : Message
+  m = message_in judge table fields
+
+  abbrev after : List Field
+  after = content table m
+
+  plain_items : (items : List (Item Kind42))
+      → list_all is_ours items ≡ true → AllByRecursion (IsPlainItem judge table fields) items
+  plain_items [] h = tt
+  plain_items (One row ∷ items) h =
+      (tt, plain_items items (both (is_ours_row row) (list_all is_ours items) h).1)
+  plain_items (Party role ∷ items) h = (tt, plain_items items h)
+  plain_items (Lines group ∷ items) h =
+      let p = both (list_all is_plain_row group.rows) (list_all is_ours items) h
+      in (plain_rows group.rows p.0, plain_items items p.1)
+
+  module _ (same_month : month_at 200 after ≡ month_at 200 fields)
+      (same_day : has_tag 205 after ≡ true → has_tag 205 fields ≡ true) where
+    kept_need : (need : Need)
+        → ours_need need ≡ true → is_needed need after ≡ true → is_needed need fields ≡ true
+    kept_need Required h n = refl
+    kept_need Optional h n = n
+    kept_need (When ((Stands tag ∷ []) ∷ [])) h n =
+        let is : tag ≡ 205 = eqb-true tag 205 h in
+        let P : ℕ → Type 0 = λ t. is_needed (When ((Stands t ∷ []) ∷ [])) after ≡ true
+        → is_needed (When ((Stands t ∷ []) ∷ [])) fields ≡ true in
+        subst P (sym is) by n
+      where
+        all_of : (a b : Bool)
+            → (a ≡ true → b ≡ true) → ((a && true) || false) ≡ true → ((b && true) || false) ≡ true
+        all_of true b k e = let is : b ≡ true = k refl in rw is refl
+        all_of false b k e = absurd cc
+
+        by : is_needed (When ((Stands 205 ∷ []) ∷ [])) after ≡ true
+            → is_needed (When ((Stands 205 ∷ []) ∷ [])) fields ≡ true
+        by e = all_of (has_tag 205 after) (has_tag 205 fields) same_day e
+    kept_need Lenient h n = absurd cc
+    kept_need (Fixed text) h n = absurd cc
+    kept_need (When []) h n = absurd cc
+    kept_need (When ([] ∷ more)) h n = absurd cc
+    kept_need (When ((Is tag listed ∷ tests) ∷ more)) h n = absurd cc
+    kept_need (When ((Stands tag ∷ test ∷ tests) ∷ more)) h n = absurd cc
+    kept_need (When ((Stands tag ∷ []) ∷ other ∷ more)) h n = absurd cc
+
+    ours_unfixed : (need : Need) → ours_need need ≡ true → (text : List ℕ) → need ≡ Fixed text → ⊥
+    ours_unfixed (Fixed other) h text e = absurd cc
+    ours_unfixed Required h text e = absurd cc
+    ours_unfixed Optional h text e = absurd cc
+    ours_unfixed Lenient h text e = absurd cc
+    ours_unfixed (When condition) h text e = absurd cc
+
+    ours_again : (kind : Kind42) → ours_kind kind ≡ true → (bytes text : List ℕ)
+        → judge fields kind bytes ≡ Spells text → judge after kind text ≡ Spells text
+    unfolding judge
+    ours_again (Value kind) h bytes text e = value_again kind bytes text e
+    ours_again (DayOf month) h bytes text e =
+        let is : month ≡ 200 = eqb-true month 200 h in
+        let month_is : month_at month after ≡ month_at month fields = let P : ℕ → Type 0 =
+        λ t. month_at t after ≡ month_at t fields in subst P (sym is) same_month in
+        let first =
+        day_in (month_at month fields) (verdict_of (spelling DayOfMonth bytes)) text e in
+        let again = value_again DayOfMonth bytes text first in
+        ap (λ mo. in_month mo (verdict_of (spelling DayOfMonth text))) month_is
+        ∙ ap (in_month (month_at month fields)) (again ∙ sym first) ∙ e
+
+    ours_clear : (kind : Kind42) (bytes text : List ℕ)
+        → IsClear bytes → judge fields kind bytes ≡ Spells text → IsClear text
+    unfolding judge
+    ours_clear (Value kind) bytes text c e = value_clear kind bytes text c e
+    ours_clear (DayOf month) bytes text c e = value_clear DayOfMonth bytes
+        text c (day_in (month_at month fields) (verdict_of (spelling DayOfMonth bytes)) text e)
+
+    stable_row : (row : Row Kind42) → is_ours_row row ≡ true → IsStableRow judge table fields row
+    stable_row row h =
+        let a = both (not (is_data_tag row.tag)) (ours_need row.need && ours_kind row.kind) h in
+        let b = both (ours_need row.need) (ours_kind row.kind) a.1 in
+        record {
+          kept = kept_need row.need b.0;
+          spelled = λ bytes text at e. ours_again row.kind b.1 bytes text e;
+          clear = ours_clear row.kind;
+          fixed = λ text e. absurd (ours_unfixed row.need b.0 text e);
+          bare = not_true (is_data_tag row.tag) a.0;
+        }
+
+    stable_items : (items : List (Item Kind42))
+        → list_all is_ours items ≡ true → AllByRecursion (IsStableItem judge table fields) items
+    stable_items [] h = tt
+    stable_items (One row ∷ items) h = let p = both (is_ours_row row) (list_all is_ours items) h
+        in (stable_row row p.0, stable_items items p.1)
+    stable_items (Party role ∷ items) h = (tt, stable_items items h)
+    stable_items (Lines group ∷ items) h = (
+      tt,
+      stable_items items (both (list_all is_plain_row group.rows) (list_all is_ours items) h).1,
+    )
+
+-- ---- the month and the day of the content are those of the fields
+
+abbrev month_said : List Field → Said
+month_said fields =
+    value_at 200 fields >>= (λ bytes. text_of (judge fields (Value MonthYear) bytes))
+
+read_by : (text : List ℕ) (r : Result MonthValue FieldFault)
+    → text_of (verdict_of (spelt (λ _. text) r)) >>= (λ t. result_ok r) ≡ result_ok r
+read_by text (Ok x) = refl
+read_by text (Err fault) = refl
+
+read_again : (text : List ℕ) (r : Result MonthValue FieldFault) → read_month_year text ≡ r →
+    text_of (verdict_of (spelt (λ _. text) r)) >>= (λ t. result_ok (read_month_year t))
+    ≡ result_ok r
+read_again text (Ok x) e = ap result_ok e
+read_again text (Err fault) e = refl
+
+month_read : (bytes : List ℕ) → text_of (verdict_of (spelling MonthYear bytes))
+    >>= (λ t. result_ok (read_month_year t)) ≡ result_ok (read_month_year bytes)
+unfolding spelling
+month_read [] = refl
+month_read (b ∷ bs) = read_again (b ∷ bs) (read_month_year (b ∷ bs)) refl
+
+month_same : (fields : List Field) (value : Said) → value_at 200 fields ≡ value →
+    (value >>= (λ bytes. text_of (judge fields (Value MonthYear) bytes)))
+    >>= (λ t. result_ok (read_month_year t)) ≡ value >>= (λ t. result_ok (read_month_year t))
+unfolding judge
+month_same fields None e = refl
+month_same fields (Some bytes) e = month_read bytes
+
+module _ (fields after : List Field) where
+  same_month_by : value_at 200 after ≡ month_said fields → month_at 200 after ≡ month_at 200 fields
+  same_month_by at = ap (λ (v : Said). v >>= (λ t. result_ok (read_month_year t))) at
+      ∙ month_same fields (value_at 200 fields) refl
+
+  same_day_by : value_at 205 after
+      ≡ value_at 205 fields >>= (λ bytes. text_of (judge fields (DayOf 200) bytes))
+      → has_tag 205 after ≡ true → has_tag 205 fields ≡ true
+  same_day_by at there = by (has_tag 205 fields) refl
+    where
+      by : (b : Bool) → has_tag 205 fields ≡ b → b ≡ true
+      by true e = refl
+      by false e =
+          let s = stands 205 after there in
+          let none : value_at 205 after ≡ None = at ∙ rw (value_at-none 205 fields e) refl in
+          absurd (let no : Some s.value ≡ None = sym s.first ∙ none in cc)
+
+-- ---- the four messages
+
+plain_allocs : IsPlain (tags_in allocs)
+plain_allocs = record {
+  first_inside =
+      refl;
+  first_counts_not = refl;
+  first_is_said = refl;
+  count_outside = refl;
+}
+
+plain_sessions : IsPlain (tags_in sessions)
+plain_sessions = record {
+  first_inside =
+      refl;
+  first_counts_not = refl;
+  first_is_said = refl;
+  count_outside = refl;
+}
+
+module _ (fields : List Field) (clear : AllByRecursion (IsClearField judge) fields) where
+  -- the table of a letter
+  abbrev Reads : ℕ → List (Item Kind42) → Type 0
+  Reads letter items = first_fault judge (table letter items) fields ≡ None
+      → IsSound judge (table letter items) (message_in judge (table letter items) fields)
+
+  new_read : Reads 68 new_order
+  unfolding is_data_tag
+  new_read h =
+      let t = table 68 new_order in
+      let m = message_in judge t fields in
+      read_sound judge t fields (record {
+        rows =
+            refl;
+        places = refl;
+        counts = refl;
+        plain = (plain_allocs, (plain_sessions, tt));
+      })
+      (plain_items t fields new_order refl)
+      (λ groups. stable_items t fields
+      (same_month_by fields (content t m) (value_said judge m 200 new_order refl groups))
+      (same_day_by fields (content t m) (value_said judge m 205 new_order refl groups))
+      new_order refl)
+      clear h
+
+  cancel_read : Reads 70 cancel_request
+  unfolding is_data_tag
+  cancel_read h =
+      let t = table 70 cancel_request in
+      let m = message_in judge t fields in
+      read_sound judge t fields (record { rows = refl; places = refl; counts = refl; plain = tt })
+      (plain_items t fields cancel_request refl)
+      (λ groups. stable_items t fields
+      (same_month_by fields (content t m) (value_said judge m 200 cancel_request refl groups))
+      (same_day_by fields (content t m) (value_said judge m 205 cancel_request refl groups))
+      cancel_request refl)
+      clear h
+
+  replace_read : Reads 71 replace_request
+  unfolding is_data_tag
+  replace_read h =
+      let t = table 71 replace_request in
+      let m = message_in judge t fields in
+      read_sound judge t fields (record {
+        rows =
+            refl;
+        places = refl;
+        counts = refl;
+        plain = (plain_allocs, (plain_sessions, tt));
+      })
+      (plain_items t fields replace_request refl)
+      (λ groups. stable_items t fields
+      (same_month_by fields (content t m) (value_said judge m 200 replace_request refl groups))
+      (same_day_by fields (content t m) (value_said judge m 205 replace_request refl groups))
+      replace_request refl)
+      clear h
+
+  status_read : Reads 72 status_request
+  unfolding is_data_tag
+  status_read h =
+      let t = table 72 status_request in
+      let m = message_in judge t fields in
+      read_sound judge t fields (record { rows = refl; places = refl; counts = refl; plain = tt })
+      (plain_items t fields status_request refl)
+      (λ groups. stable_items t fields
+      (same_month_by fields (content t m) (value_said judge m 200 status_request refl groups))
+      (same_day_by fields (content t m) (value_said judge m 205 status_request refl groups))
+      status_request refl)
+      clear h
+
+  -- a message of a table that was read
+  by_fault : (table : Table Kind42) (fault : Option TableFault) (m x : Message)
+      → (fault ≡ None → IsSound judge table m) →
+      told (unless fault m) ≡ Ok x → IsSound judge table x
+  by_fault table None m x h e =
+      let same : m ≡ x = cc in
+      let P : Message → Type 0 = λ y. IsSound judge table y in subst P same (h refl)
+  by_fault table (Some fault) m x h e = absurd cc
+
+  by_table : (letter : ℕ) (items : List (Item Kind42)) (x : Message)
+      → Reads letter items → told (message_of judge (table letter items) fields) ≡ Ok x →
+      IsSound judge (table letter items) x
+  unfolding message_of
+  by_table letter items x h e =
+      by_fault (table letter items) (first_fault judge (table letter items) fields)
+      (message_in judge (table letter items) fields) x h e
+
+  -- a sound message of the table of its letter
+  data IsSoundOf (x : Message) : Type 0 where
+    News : IsSound judge (table 68 new_order) x → IsSoundOf x
+    Cancels : IsSound judge (table 70 cancel_request) x → IsSoundOf x
+    Replaces : IsSound judge (table 71 replace_request) x → IsSoundOf x
+    Statuses : IsSound judge (table 72 status_request) x → IsSoundOf x
+
+  by_type : (d f g h : Bool) (x : Message) → message_by
+      (if d then Some (table 68 new_order) else (if f then Some (table 70 cancel_request) else
+      (if g then Some (table 71 replace_request)
+      else (if h then Some (table 72 status_request) else None))))
+      fields
+      None
+      ≡ Ok
+      x
+      → IsSoundOf
+      x
+  by_type true f g h x e = News (by_table 68 new_order x new_read e)
+  by_type false true g h x e = Cancels (by_table 70 cancel_request x cancel_read e)
+  by_type false false true h x e = Replaces (by_table 71 replace_request x replace_read e)
+  by_type false false false true x e = Statuses (by_table 72 status_request x status_read e)
+  by_type false false false false x e = absurd cc
+
+  by_letter : (m : Msg42) → IsSoundOf (says42 m) → IsSound42 m
+  by_letter (messages.New m) (News s) = s
+  by_letter (messages.New m) (Cancels s) = absurd (let no = s.letter in cc)
+  by_letter (messages.New m) (Replaces s) = absurd (let no = s.letter in cc)
+  by_letter (messages.New m) (Statuses s) = absurd (let no = s.letter in cc)
+  by_letter (messages.Cancel m) (Cancels s) = s
+  by_letter (messages.Cancel m) (News s) = absurd (let no = s.letter in cc)
+  by_letter (messages.Cancel m) (Replaces s) = absurd (let no = s.letter in cc)
+  by_letter (messages.Cancel m) (Statuses s) = absurd (let no = s.letter in cc)
+  by_letter (messages.Replace m) (Replaces s) = s
+  by_letter (messages.Replace m) (News s) = absurd (let no = s.letter in cc)
+  by_letter (messages.Replace m) (Cancels s) = absurd (let no = s.letter in cc)
+  by_letter (messages.Replace m) (Statuses s) = absurd (let no = s.letter in cc)
+  by_letter (messages.Status m) (Statuses s) = s
+  by_letter (messages.Status m) (News s) = absurd (let no = s.letter in cc)
+  by_letter (messages.Status m) (Cancels s) = absurd (let no = s.letter in cc)
+  by_letter (messages.Status m) (Replaces s) = absurd (let no = s.letter in cc)
+
+  -- WHAT IS READ IS SOUND.
+  pub read_is_sound : (msg_type : List ℕ) (m : Msg42)
+      → message42 msg_type fields None ≡ Ok (says42 m) → IsSound42 m
+  unfolding message42
+  read_is_sound msg_type m e =
+      by_letter m (by_type (bytes_eq msg_type (codes "D")) (bytes_eq msg_type (codes "F"))
+      (bytes_eq msg_type (codes "G")) (bytes_eq msg_type (codes "H")) (says42 m) e)

@@ -1,0 +1,135 @@
+-- What a translator answers of a body, by what is known of its fields.
+use Rattle.std.proofs.Common.{◌≡◌, ◌++◌, ℕ, List, Option, None, refl, sym, subst}
+use Rattle.frame_grammar.specs.declared.frame.Kind.TheVariants.{Fixt11}
+use Rattle.frame_grammar.specs.Frame.{IsFrame, IsWritable, frame_of}
+use Rattle.field_groups.specs.declared.fault.SplitFault.{SplitFault}
+use Rattle.field_groups.specs.Field.{Field}
+use Rattle.field_groups.specs.Fields.{SplitsInto}
+use Rattle.dict_fix50.specs.Content.{content50}
+use Rattle.dict_fix50.specs.Said as said50
+use Rattle.dict_fix50.specs.declared.requests.Msg50.{Msg50}
+use Rattle.dict_fix50.specs.declared.requests.Msg50.TheVariants as messages
+use Rattle.request_translate.specs.declared.translate.TranslateError.{TranslateError}
+use Rattle.request_translate.specs.declared.translate.TranslateError.TheVariants as errors
+use Rattle.request_translate.specs.Canonical.{IsCanonical50}
+use Rattle.request_translate.specs.Translation.{type_of, carried, up_fields, IsRequest, News}
+use Rattle.request_translate.specs.Translation.{Cancels, Replaces, Statuses, IsGood, StandsFor}
+use Rattle.request_translate.specs.Translation.{IsTranslation, IsRefused, IsRefusedByCheck}
+use Rattle.request_translate.specs.Writing.{IsRequestOf, Refuses, IsUpOf, RefusesUp}
+use Rattle.dict_fix42.specs.Sense.{sense42}
+use Rattle.dict_fix50.specs.Sense.{sense50}
+use Rattle.request_translate.proofs.AgainFields.{split_again}
+use Rattle.request_translate.proofs.SenseAgain.{same_sense}
+use Rattle.request_translate.proofs.Sound42.{clear_fields}
+use Rattle.request_translate.proofs.Writable.{type_is, writable}
+
+is_request : (request : Msg50)
+    → IsCanonical50 request → IsRequest (said50.says request) (content50 request)
+is_request (messages.New m) c = News c refl
+is_request (messages.Cancel m) c = Cancels c refl
+is_request (messages.Replace m) c = Replaces c refl
+is_request (messages.Status m) c = Statuses c refl
+
+module _ (body : List ℕ) (fields : List Field)
+    (stopped : Option SplitFault) (split : SplitsInto body fields stopped) where
+  whole : stopped ≡ None → SplitsInto body fields None
+  whole e = let P : Option SplitFault → Type 0 = λ s. SplitsInto body fields s in subst P e split
+
+  pub good : (request : Msg50) → IsRequestOf fields stopped request → IsGood body fields
+  good request asked = record {
+    message = asked.message;
+    split = whole asked.read.whole;
+    read = asked.read.read;
+    said = asked.written.said;
+  }
+
+  stands : (request : Msg50)
+      → IsRequestOf fields stopped request → StandsFor body fields (content50 request)
+  unfolding good
+  stands request asked = record {
+    good = good request asked;
+    request = said50.says request;
+    canonical = is_request request asked.written.canonical;
+    means = asked.written.means;
+  }
+
+  pub can_be_written : (up : List ℕ) → IsUpOf fields stopped up → IsWritable up
+  can_be_written up is =
+      let P : List ℕ → Type 0 = λ bytes. IsWritable bytes in
+      let asked = is.asked in
+      subst P (sym is.written.bytes)
+      (writable (type_of fields) (carried fields ++ content50 is.request)
+      (type_is (type_of fields) fields asked.message asked.read.read))
+
+  split_up : (up : List ℕ) (is : IsUpOf fields stopped up)
+      → SplitsInto up (up_fields fields (content50 is.request)) None
+  split_up up is =
+      let asked = is.asked in
+      let P : List ℕ → Type 0 =
+      λ bytes. SplitsInto bytes (up_fields fields (content50 is.request)) None in
+      subst P (sym is.written.bytes)
+      (split_again fields (content50 is.request) (said50.says is.request) split.good
+      (type_is (type_of fields) fields asked.message asked.read.read)
+      (is_request is.request asked.written.canonical))
+
+  same_up : (up : List ℕ) (is : IsUpOf fields stopped up) → sense50
+      (type_of fields) (up_fields fields (content50 is.request)) ≡ sense42 (type_of fields) fields
+  same_up up is =
+      let asked = is.asked in
+      same_sense (type_of fields) fields asked.message
+      (said50.says is.request) (type_is (type_of fields) fields asked.message asked.read.read)
+      (clear_fields None fields split.good) asked.written.means
+      (content50 is.request) (is_request is.request asked.written.canonical) asked.read.read
+
+  pub translation : (up : List ℕ) → IsUpOf fields stopped up
+      → IsFrame Fixt11 up (frame_of Fixt11 up) → IsTranslation body (frame_of Fixt11 up)
+  translation up is frame = record {
+    up = up;
+    stands = record {
+      fields = fields;
+      written = content50 is.request;
+      stands = stands is.request is.asked;
+      bytes = is.written.bytes;
+      content_fits = is.written.content_fits;
+      body_fits = is.written.body_fits;
+      again = split_up up is;
+      same = same_up up is;
+    };
+    written = refl;
+    frame = frame;
+  }
+
+  pub refused : (error : TranslateError) → RefusesUp fields stopped error → IsRefused body error
+  refused errors.NoMemory h = tt
+  refused errors.TooLong h = record {
+    fields =
+        fields;
+    written = content50 h.request;
+    stands = stands h.request h.asked;
+    long = h.long;
+  }
+  refused (errors.Faulty fault) h =
+      record { fields = fields; stopped = stopped; split = split; read = h }
+  refused (errors.Lacking tag) h = record {
+    fields =
+        fields;
+    message = h.0;
+    split = whole h.1.whole;
+    read = h.1.read;
+    lack = h.2;
+  }
+
+  pub refused_by_check : (error : TranslateError)
+      → Refuses fields stopped error → IsRefusedByCheck body error
+  refused_by_check errors.NoMemory h = tt
+  refused_by_check errors.TooLong h = h
+  refused_by_check (errors.Faulty fault) h =
+      record { fields = fields; stopped = stopped; split = split; read = h }
+  refused_by_check (errors.Lacking tag) h = record {
+    fields =
+        fields;
+    message = h.0;
+    split = whole h.1.whole;
+    read = h.1.read;
+    lack = h.2;
+  }

@@ -1,0 +1,5 @@
+use Rattle.request_translate.proofs.Outcomes.{one_outcome}
+use Rattle.request_translate.proofs.laws.bodies_have_one_outcome.Goals as goal
+
+pub returns : goal.returns
+returns c = one_outcome

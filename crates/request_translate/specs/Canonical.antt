@@ -1,0 +1,38 @@
+-- Own: the one content in which a request is written in FIX 5.0 SP2.
+use Rattle.std.specs.Prelude.{◌≡◌, ℕ, List, map}
+use Rattle.field_groups.specs.Tables.{Tag, Role, Item, Cell, Said, Message, said_at, lines_of}
+use Rattle.field_groups.specs.Content.{content}
+use Rattle.dict_fix50.specs.Kinds.{Kind50, judge}
+use Rattle.dict_fix50.specs.Message.{table, month_by}
+use Rattle.dict_fix50.specs.Requests as requests
+use Rattle.dict_fix50.specs.Said as said50
+use Rattle.dict_fix50.specs.Sense.{request50}
+use Rattle.dict_fix50.specs.declared.requests.Msg50.{Msg50}
+use Rattle.dict_fix50.specs.declared.requests.Msg50.TheVariants as messages
+use Rattle.request_translate.specs.Sound.{IsSound}
+use Rattle.request_translate.specs.Written.{parties_up}
+
+-- the lines of the parties of the roles 3, 1 and 4
+abbrev pub party_lines : Said → Said → Said → List (List Cell)
+party_lines client broker firm = map said50.party_cells (parties_up client broker firm)
+
+-- A CANONICAL request: it is sound, its month is that of its date where it has one, and its parties
+-- are those of the roles 3, 1 and 4, once each and in this order.
+pub record IsCanonical (letter : ℕ) (items : List (Item Kind50)) (m : Message) : Type 0 where
+  pub sound : IsSound judge (table letter items) m
+  pub month : said_at m.cells (Tag 200)
+      ≡ month_by (said_at m.cells (Tag 541)) (said_at m.cells (Tag 200))
+  pub parties : lines_of 453 m.groups
+      ≡ party_lines (said_at m.cells (Role 3)) (said_at m.cells (Role 1)) (said_at m.cells (Role 4))
+
+abbrev pub IsCanonical50 : Msg50 → Type 0
+IsCanonical50 (messages.New m) = IsCanonical 68 requests.new_order (said50.new_says m)
+IsCanonical50 (messages.Cancel m) = IsCanonical 70 requests.cancel_request (said50.cancel_says m)
+IsCanonical50 (messages.Replace m) = IsCanonical 71 requests.replace_request (said50.replace_says m)
+IsCanonical50 (messages.Status m) = IsCanonical 72 requests.status_request (said50.status_says m)
+
+-- canonical requests of a type that mean the same have the same content
+abbrev pub HaveOneContent : ℕ → List (Item Kind50) → Type 0
+HaveOneContent letter items =
+    (m n : Message) → IsCanonical letter items m → IsCanonical letter items n →
+    request50 m ≡ request50 n → content (table letter items) m ≡ content (table letter items) n

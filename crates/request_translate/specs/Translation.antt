@@ -1,0 +1,141 @@
+-- Own: what `translate up` makes of a body of FIX 4.2, and why it makes nothing of it.
+use Rattle.std.specs.Prelude.{◌≡◌, ◌≤◌, ◌<◌, ℕ, List, [], ◌∷◌, ◌++◌, length, Option, Some, None}
+use Rattle.std.specs.Prelude.{Result, Ok, Err, IsTrue, is_some}
+use Rattle.std.specs.List.{flat_map}
+use Rattle.frame_grammar.specs.declared.frame.Kind.TheVariants.{Fixt11}
+use Rattle.frame_grammar.specs.declared.frame.TheConstants.{MAX_BODY}
+use Rattle.frame_grammar.specs.Frame.{IsFrame, frame_of}
+use Rattle.field_groups.specs.declared.fault.SplitFault.{SplitFault}
+use Rattle.field_groups.specs.Field.{Field, body_of}
+use Rattle.field_groups.specs.Fields.{SplitsInto}
+use Rattle.field_groups.specs.Tables.{Message, Tag, value_at}
+use Rattle.field_groups.specs.Content.{content, cell_fields}
+use Rattle.order_meaning.specs.declared.fault.Fault.{Fault}
+use Rattle.dict_fix42.specs.Message.{message42}
+use Rattle.dict_fix42.specs.Sense.{sense42, request42}
+use Rattle.dict_fix50.specs.Message.{table}
+use Rattle.dict_fix50.specs.Sense.{sense50, request50}
+use Rattle.dict_fix50.specs.Requests.{new_order, cancel_request, replace_request, status_request}
+use Rattle.request_translate.specs.declared.translate.TheConstants.{MAX_CONTENT}
+use Rattle.request_translate.specs.declared.translate.TranslateError.{TranslateError}
+use Rattle.request_translate.specs.declared.translate.TranslateError.TheVariants as errors
+use Rattle.request_translate.specs.Canonical.{IsCanonical}
+use Rattle.request_translate.specs.Lack.{lack_if}
+
+-- the type of a message, which is the value of its first field, MsgType(35)
+abbrev pub type_of : List Field → List ℕ
+type_of [] = []
+type_of (field ∷ fields) = field.1
+
+-- The header fields that a translation carries, as they stand, in the order of writing:
+-- SenderCompID, TargetCompID, MsgSeqNum, PossDupFlag, PossResend, SendingTime, OrigSendingTime.
+abbrev pub carried_tags : List ℕ
+carried_tags = 49 ∷ 56 ∷ 34 ∷ 43 ∷ 97 ∷ 52 ∷ 122 ∷ []
+
+abbrev pub carried_field : List Field → ℕ → List Field
+carried_field fields tag = cell_fields (Tag tag, value_at tag fields)
+
+abbrev pub carried : List Field → List Field
+carried fields = flat_map (carried_field fields) carried_tags
+
+-- the fields that stand for these: those of the header, and then a content
+abbrev pub up_fields : List Field → List Field → List Field
+up_fields fields written = (35, type_of fields) ∷ carried fields ++ written
+
+-- a canonical request of one of the four types, and its content
+pub data IsRequest (m : Message) (fields : List Field) : Type 0 where
+  News : IsCanonical 68 new_order m → fields ≡ content (table 68 new_order) m → IsRequest m fields
+  Cancels : IsCanonical 70 cancel_request m
+      → fields ≡ content (table 70 cancel_request) m → IsRequest m fields
+  Replaces : IsCanonical 71 replace_request m
+      → fields ≡ content (table 71 replace_request) m → IsRequest m fields
+  Statuses : IsCanonical 72 status_request m
+      → fields ≡ content (table 72 status_request) m → IsRequest m fields
+
+-- A good body: it is read as a message of FIX 4.2, which lacks nothing in FIX 5.0 SP2.
+pub record IsGood (body : List ℕ) (fields : List Field) : Type 0 where
+  pub message : Message
+  pub split : SplitsInto body fields None
+  pub read : message42 (type_of fields) fields None ≡ Ok message
+  pub said : lack_if (request42 message) ≡ None
+
+-- The content of FIX 5.0 SP2 that stands for a good body: that of the canonical request that means
+-- what the body means.
+pub record StandsFor (body : List ℕ) (fields written : List Field) : Type 0 where
+  pub good : IsGood body fields
+  pub request : Message
+  pub canonical : IsRequest request written
+  pub means : request50 request ≡ request42 good.message
+
+-- A body of FIX 5.0 SP2 that stands for a body of FIX 4.2: the header fields, and then the content.
+-- It is split again into these fields, which mean the same.
+pub record IsUp (body up : List ℕ) : Type 0 where
+  pub fields : List Field
+  pub written : List Field
+  pub stands : StandsFor body fields written
+  pub bytes : up ≡ body_of (up_fields fields written)
+  pub content_fits : length (body_of written) ≤ MAX_CONTENT
+  pub body_fits : length up ≤ MAX_BODY
+  pub again : SplitsInto up (up_fields fields written) None
+  pub same : sense50 (type_of fields) (up_fields fields written) ≡ sense42 (type_of fields) fields
+
+-- Two bodies, one of FIX 4.2 and one of FIX 5.0 SP2, mean the same request: whatever fields they
+-- are read as, what those mean is equal, and they mean something.
+abbrev pub KeepSense : List ℕ → List ℕ → Type 0
+KeepSense body up =
+    (fields others : List Field) → SplitsInto body fields None → SplitsInto up others None →
+    (sense50 (type_of others) others ≡ sense42 (type_of fields) fields)
+    × IsTrue (is_some (sense42 (type_of fields) fields))
+
+-- a frame of FIXT 1.1 whose body stands for a body of FIX 4.2
+pub record IsTranslation (body text : List ℕ) : Type 0 where
+  pub up : List ℕ
+  pub stands : IsUp body up
+  pub written : text ≡ frame_of Fixt11 up
+  pub frame : IsFrame Fixt11 up text
+
+-- a body that has this first fault, or whose type is not one of the four
+pub record IsFaulty (body : List ℕ) (fault : Fault) : Type 0 where
+  pub fields : List Field
+  pub stopped : Option SplitFault
+  pub split : SplitsInto body fields stopped
+  pub read : message42 (type_of fields) fields stopped ≡ Err fault
+
+-- a body that says at this tag what FIX 5.0 SP2 cannot say
+pub record IsLacking (body : List ℕ) (tag : ℕ) : Type 0 where
+  pub fields : List Field
+  pub message : Message
+  pub split : SplitsInto body fields None
+  pub read : message42 (type_of fields) fields None ≡ Ok message
+  pub lack : lack_if (request42 message) ≡ Some tag
+
+-- a good body whose translation is longer than a content, or a body, may be
+pub record IsTooLong (body : List ℕ) : Type 0 where
+  pub fields : List Field
+  pub written : List Field
+  pub stands : StandsFor body fields written
+  pub long : length (body_of written) ≤ MAX_CONTENT
+      → MAX_BODY < length (body_of (up_fields fields written))
+
+-- THE OUTCOME of a body: the text of a frame, or why there is none. Want of memory is no outcome.
+abbrev pub IsOutcome : List ℕ → Result (List ℕ) TranslateError → Type 0
+IsOutcome body (Ok text) = IsTranslation body text
+IsOutcome body (Err (errors.Faulty fault)) = IsFaulty body fault
+IsOutcome body (Err (errors.Lacking tag)) = IsLacking body tag
+IsOutcome body (Err errors.TooLong) = IsTooLong body
+IsOutcome body (Err errors.NoMemory) = ⊥
+
+-- the outcome of a check, which judges no length
+abbrev pub IsChecked : List ℕ → Option TranslateError → Type 0
+IsChecked body None = (fields : List Field) × IsGood body fields
+IsChecked body (Some errors.TooLong) = ⊥
+IsChecked body (Some error) = IsOutcome body (Err error)
+
+-- why a body was refused; want of memory says nothing of it
+abbrev pub IsRefused : List ℕ → TranslateError → Type 0
+IsRefused body errors.NoMemory = Unit {0}
+IsRefused body error = IsOutcome body (Err error)
+
+abbrev pub IsRefusedByCheck : List ℕ → TranslateError → Type 0
+IsRefusedByCheck body errors.NoMemory = Unit {0}
+IsRefusedByCheck body error = IsChecked body (Some error)

@@ -1,0 +1,125 @@
+//! Requests to replace (G), each row as FIX 5.0 SP2 writes it.
+
+ghost use Rattle.std.specs.Prelude.{◌≡◌, map, IfOk};
+ghost use Rattle.dict_fix42.specs.Said as said42;
+ghost use Rattle.dict_fix50.specs.Said as said50;
+ghost use Rattle.request_translate.specs.Written.{AreTerms, IsReplace, replace_texts, parties_up};
+
+use crate::parts::{
+    Groups, TEXTS, Terms, all_copied, allocs, bytes_of, maturity, or_empty, parties, sessions,
+};
+use dict_fix42::Replace42;
+use dict_fix50::Replace50;
+use order_meaning::Bytes;
+use std::alloc::{AllocError, Global};
+
+/// The request to replace, Order Cancel/Replace Request(G), with these texts.
+fn replace_of(
+    alloc: Global,
+    msg: &Replace42,
+    texts: [Option<Bytes>; TEXTS],
+    groups: Groups,
+    terms: Terms,
+) -> Replace50
+    requires texts { texts ≡ replace_texts msg.now }
+    requires parties { groups.parties
+        ≡ parties_up msg.now.client_id msg.now.exec_broker msg.now.clearing_firm }
+    requires allocs { map said50.alloc_cells groups.allocs
+        ≡ map said42.alloc_cells msg.now.allocs }
+    requires qtys { map (λ line. line.qty) groups.allocs
+        ≡ map (λ line. line.qty) msg.now.allocs }
+    requires sessions { map said50.session_cells groups.sessions
+        ≡ map said42.session_cells msg.now.sessions }
+    requires terms { AreTerms msg.now.ord_type msg.now.time_in_force msg.now.capacity terms }
+    ensures { IsReplace msg.now result }
+{
+    let [
+        cl_ord_id,
+        orig_id,
+        order_id,
+        account,
+        exec_inst,
+        ex_destination,
+        symbol,
+        symbol_sfx,
+        security_id,
+        security_type,
+        security_exchange,
+        currency,
+        text,
+    ] = texts;
+    Replace50 {
+        resend: msg.resend,
+        cl_ord_id: or_empty(alloc, cl_ord_id),
+        orig_id: or_empty(alloc, orig_id),
+        order_id,
+        parties: groups.parties,
+        account,
+        allocs: groups.allocs,
+        settl_type: msg.settl_type,
+        settl_date: msg.settl_date,
+        hand_inst: msg.hand_inst,
+        exec_inst,
+        min_qty: msg.min_qty,
+        max_floor: msg.max_floor,
+        ex_destination,
+        sessions: groups.sessions,
+        symbol: or_empty(alloc, symbol),
+        symbol_sfx,
+        security_id,
+        id_source: msg.id_source,
+        security_type,
+        maturity: maturity(msg.maturity),
+        security_exchange,
+        side: msg.side,
+        locate: msg.locate,
+        transact_time: msg.transact_time,
+        order_qty: msg.order_qty,
+        ord_type: terms.ord_type,
+        price: msg.price,
+        stop_px: msg.stop_px,
+        currency,
+        time_in_force: terms.time_in_force,
+        effective_time: msg.effective_time,
+        expire_date: msg.expire_date,
+        expire_time: msg.expire_time,
+        capacity: terms.capacity,
+        open_close: msg.open_close,
+        text,
+    }
+}
+
+/// The request to replace, Order Cancel/Replace Request(G), row by row.
+pub(crate) fn replace_request(
+    alloc: Global,
+    msg: &Replace42,
+    terms: Terms,
+) -> Result<Replace50, AllocError>
+    requires { AreTerms msg.now.ord_type msg.now.time_in_force msg.now.capacity terms }
+    ensures { IfOk result (IsReplace msg.now) }
+{
+    let groups = Groups {
+        parties: parties(alloc, &msg.client_id, &msg.exec_broker, &msg.clearing_firm)?,
+        allocs: allocs(alloc, &msg.allocs)?,
+        sessions: sessions(alloc, &msg.sessions)?,
+    };
+    let texts = all_copied(
+        alloc,
+        [
+            Some(msg.cl_ord_id.as_slice()),
+            Some(msg.orig_id.as_slice()),
+            bytes_of(&msg.order_id),
+            bytes_of(&msg.account),
+            bytes_of(&msg.exec_inst),
+            bytes_of(&msg.ex_destination),
+            Some(msg.symbol.as_slice()),
+            bytes_of(&msg.symbol_sfx),
+            bytes_of(&msg.security_id),
+            bytes_of(&msg.security_type),
+            bytes_of(&msg.security_exchange),
+            bytes_of(&msg.currency),
+            bytes_of(&msg.text),
+        ],
+    )?;
+    Ok(replace_of(alloc, msg, texts, groups, terms))
+}
