@@ -1,12 +1,6 @@
-pub mod CodeTables
-pub mod Content
 pub mod Field
 pub mod HeadValues
 pub mod Data
 pub mod Fields
-pub mod FirstFault
-pub mod Stages
-pub mod TableLaws
-pub mod Tables
 pub mod Group
 pub mod Laws

@@ -68,8 +68,8 @@ impl<'a> Fields<'a> {
         self.parts.is_empty()
     }
 
-    /// The tag and the value of the field at a place, counted from 0; `None` past the last.
-    /// The value is a part of the body.
+    /// The tag and the value of the field at a place, counted from 0; `None` past the last. The
+    /// value is a part of the body.
     pub fn at(&self, place: usize) -> Option<Field<'a>>
         ensures { option_map (λ field. (field.0, field.1.now)) result ≡ slice_get self.now place }
     {

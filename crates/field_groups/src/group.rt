@@ -87,7 +87,10 @@ impl Model for Group {
 
     ghost Value = { Lines };
 
-    ghost view = { λ g. record { lines = map (λ line. line.members.items) g.lines.items; end = g.end } };
+    ghost view = { λ g. record {
+      lines = map (λ line. line.members.items) g.lines.items;
+      end = g.end;
+    } };
 }
 
 impl Group {
@@ -153,7 +156,8 @@ impl Group {
     /// Takes a member into the line that stands last.
     fn extend(&mut self, tag: u32, place: usize) -> Result<(), GroupFault>
         requires { 0 < length self.old.lines }
-        ensures ok { OnOk result (self.new.lines ≡ slice_set self.old.lines (length self.old.lines - 1)
+        ensures ok { OnOk result (self.new.lines ≡ slice_set
+            self.old.lines (length self.old.lines - 1)
             (slice_index_or self.old.lines (length self.old.lines - 1) [] ++ (tag, place) ∷ [])) }
         ensures err { IfErr result (λ e. e ≡ GroupFault.NoMemory) }
         ensures end { self.new.end ≡ self.old.end }
@@ -180,13 +184,15 @@ impl Group {
         tag: u32,
         place: usize,
     ) -> Result<(), GroupFault>
-        ensures ok { OnOk result ((before : List Member) → self.old.lines ≡ lines_of shape.now.first before →
-            self.new.lines ≡ lines_of shape.now.first (before ++ (tag, place) ∷ [])) }
-        ensures in_order { OnOk result ((before : List Member) → self.old.lines ≡ lines_of shape.now.first before →
-            misplaced (tags_of shape.now) before (tag, place) ≡ None) }
-        ensures fault { IfErr
-            result (λ e. (before : List Member) → self.old.lines ≡ lines_of shape.now.first before →
-            TellsFault e (misplaced (tags_of shape.now) before (tag, place))) }
+        ensures ok { OnOk result ((before : List Member)
+            → self.old.lines ≡ lines_of shape.now.first before
+            → self.new.lines ≡ lines_of shape.now.first (before ++ (tag, place) ∷ [])) }
+        ensures in_order { OnOk result ((before : List Member)
+            → self.old.lines ≡ lines_of shape.now.first before
+            → misplaced (tags_of shape.now) before (tag, place) ≡ None) }
+        ensures fault { IfErr result (λ e. (before : List Member)
+            → self.old.lines ≡ lines_of shape.now.first before
+            → TellsFault e (misplaced (tags_of shape.now) before (tag, place))) }
         ensures end { self.new.end ≡ self.old.end }
     {
         if tag == shape.first {
@@ -221,7 +227,8 @@ impl Line {
 
     /// One more member at the end.
     fn push(&mut self, tag: u32, place: usize) -> Result<(), GroupFault>
-        ensures ok { OnOk result (self.new.members.items ≡ self.old.members.items ++ (tag, place) ∷ []) }
+        ensures ok { OnOk result
+            (self.new.members.items ≡ self.old.members.items ++ (tag, place) ∷ []) }
         ensures err { IfErr result (λ e. e ≡ GroupFault.NoMemory) }
     {
         match self.members.push((tag, place)) {
@@ -233,7 +240,8 @@ impl Line {
 
 /// How many fields from the front on belong to the group.
 fn run_len(fields: &[Field<'_>], shape: &Shape) -> usize
-    ensures value { result ≡ prefix_len (λ field. is_inside (tags_of shape.now) field.0) fields.now }
+    ensures value { result
+        ≡ prefix_len (λ field. is_inside (tags_of shape.now) field.0) fields.now }
     ensures within { result ≤ length fields.now }
 {
     fields
@@ -325,7 +333,8 @@ pub fn read_group(
     requires { from < length fields.now }
     ensures in_order { OnOk result (group_fault (tags_of shape.now) from fields.now ≡ None) }
     ensures lines { IfOk result (λ group. group ≡ group_lines (tags_of shape.now) from fields.now) }
-    ensures fault { IfErr result (λ e. TellsFault e (group_fault (tags_of shape.now) from fields.now)) }
+    ensures fault { IfErr result
+        (λ e. TellsFault e (group_fault (tags_of shape.now) from fields.now)) }
 {
     let run = run_of(fields, from, shape);
     if !says(count_said(fields, from), count_of(run, shape.first)) {

@@ -33,9 +33,9 @@ pub(crate) fn value_of(digits: &[u8]) -> u64
     value
 }
 
-/// The number that 1 to 10 digits write, where it is at most 1,000,000,000.
+/// The number that 1 to 10 digits write, where it is at most 1,000,000,000; it takes no memory.
 #[tactic(auto, unfolding(crate::specs::HeadValues::number_in))]
-pub(crate) fn number_in(value: &[u8]) -> Option<u32>
+pub fn number_in(value: &[u8]) -> Option<u32>
     ensures { result ≡ number_in value.now }
 {
     if value.is_empty() || value.len() > MAX_DIGITS || !are_digits(value) {

@@ -99,8 +99,8 @@ fn reads_raw_bytes(rt: HostRuntime) -> Result<(), Fail> {
 
 #[test]
 fn reads_an_order(rt: HostRuntime) -> Result<(), Fail> {
-    let text =
-        "35=D|49=CLNT|56=GATE|34=2|52=20240102-10:00:00|11=A1|109=FUND|21=1|55=IBM|54=1|60=20240102-10:00:00|38=100|40=2|44=10.5|";
+    let text = "35=D|49=CLNT|56=GATE|34=2|52=20240102-10:00:00|11=A1|109=FUND|21=1|55=IBM|54=1|\
+        60=20240102-10:00:00|38=100|40=2|44=10.5|";
     let bytes = body(rt.alloc(), text)?;
     let order = split(rt.alloc(), &bytes)?;
     assert_eq!(rt; order.fault, None);
@@ -165,7 +165,8 @@ const GROUPS: &[(&str, &str, Result<(&[Members], usize), GroupFault>)] = &[
     ("three parties", "453=3|448=FUND|447=D|452=3|448=BRKR|447=D|452=1|448=CLRF|447=D|452=4|58=t|",
         Ok((&[&[(448, 1), (447, 2), (452, 3)], &[(448, 4), (447, 5), (452, 6)],
             &[(448, 7), (447, 8), (452, 9)]], 10))),
-    ("members in any order", "453=1|448=A|452=3|447=D|", Ok((&[&[(448, 1), (452, 2), (447, 3)]], 4))),
+    ("members in any order", "453=1|448=A|452=3|447=D|",
+        Ok((&[&[(448, 1), (452, 2), (447, 3)]], 4))),
     ("the first alone", "453=2|448=A|448=B|11=x|452=1|", Ok((&[&[(448, 1)], &[(448, 2)]], 3))),
     ("no line", "453=0|58=t|", Ok((&[], 1))),
     ("leading zeros", "453=01|448=A|", Ok((&[&[(448, 1)]], 2))),
@@ -179,8 +180,10 @@ const GROUPS: &[(&str, &str, Result<(&[Members], usize), GroupFault>)] = &[
     ("eleven digits", "453=00000000001|448=A|", Err(GroupFault::Count { tag: 453 })),
     ("before the first", "453=1|452=3|448=A|", Err(GroupFault::Order { tag: 452 })),
     ("twice in a line", "453=2|448=A|452=3|452=1|448=B|", Err(GroupFault::Order { tag: 452 })),
-    ("in the second line", "453=2|448=A|452=3|448=B|447=D|447=D|", Err(GroupFault::Order { tag: 447 })),
-    ("the first of two faults", "453=1|447=D|448=A|452=3|452=1|", Err(GroupFault::Order { tag: 447 })),
+    ("in the second line", "453=2|448=A|452=3|448=B|447=D|447=D|",
+        Err(GroupFault::Order { tag: 447 })),
+    ("the first of two faults", "453=1|447=D|448=A|452=3|452=1|",
+        Err(GroupFault::Order { tag: 447 })),
     ("count before order", "453=3|452=3|448=A|", Err(GroupFault::Count { tag: 453 })),
 ];
 

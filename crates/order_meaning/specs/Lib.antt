@@ -1,5 +1,3 @@
 pub mod Names
-pub mod PlainRequest
 pub mod Reasons
 pub mod Request
-pub mod Rows

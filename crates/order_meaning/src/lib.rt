@@ -3,6 +3,7 @@
 
 mod bytes;
 mod fault;
+mod lines;
 mod names;
 mod party;
 mod reasons;
@@ -12,8 +13,9 @@ mod tests;
 
 pub use bytes::Bytes;
 pub use fault::{Fault, Lack};
+pub use lines::{GroupLines, MAX_LINES};
 pub use names::{MAX_NAME, Name, Names};
-pub use party::{Lines, MAX_LINES, PartyLine, Three};
+pub use party::{Lines, PartyLine, Three};
 pub use reasons::{MAX_REASON42, later_reason_words};
 pub use refusal::Refusal;
 

@@ -8,9 +8,12 @@ fn bytes_are_copied(rt: HostRuntime) -> Result<(), Fail> {
     let long = [b'x'; 128];
     for length in [0, 2, 22, 23, 128] {
         let text = &long[..length];
-        let bytes = Bytes::copy(rt.alloc(), text)?;
+        let mut bytes = Bytes::copy(rt.alloc(), text)?;
         assert_eq!(rt; bytes.as_slice(), text);
         assert_eq!(rt; bytes.duplicate()?.as_slice(), text);
+        bytes.extend_from_slice(b"yz")?;
+        assert_eq!(rt; bytes.as_slice().len(), length + 2);
+        assert!(rt; bytes.as_slice().starts_with(text) && bytes.as_slice().ends_with(b"yz"));
     }
     assert!(rt; Bytes::new(rt.alloc()).as_slice().is_empty());
     Ok(())

@@ -9,4 +9,3 @@ pub mod LawLemmas
 mod Worked
 pub mod StampLemmas
 pub mod DecLemmas
-pub mod Spelled

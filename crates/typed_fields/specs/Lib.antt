@@ -7,6 +7,3 @@ pub mod Day
 pub mod Stamp
 pub mod Dec
 pub mod Laws
-pub mod Kinds
-pub mod ValueKind
-pub mod CodeKinds

@@ -20,7 +20,6 @@ mod stamp;
 #[cfg(test)]
 mod tests;
 mod value;
-pub mod value_kind;
 
 pub use day::Day;
 pub use dec::{Dec, point_in};
@@ -31,4 +30,3 @@ pub use month_year::MonthYear;
 pub use number::Number;
 pub use stamp::{MAX_MILLIS, Stamp};
 pub use value::FieldValue;
-pub use value_kind::ValueKind;

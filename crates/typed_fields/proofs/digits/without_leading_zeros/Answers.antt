@@ -2,7 +2,9 @@ use Rattle.std.proofs.Common.{◌<◌, length, sym, ◌∙◌, arith}
 use Rattle.std.proofs.lemmas.List.{take_rest}
 use Rattle.typed_fields.proofs.DigitsLemmas.{leading_zero, leading_other, leading_none}
 use Rattle.typed_fields.proofs.digits.without_leading_zeros.Goals as goal
-use Rattle.typed_fields.proofs.digits.without_leading_zeros.Goals.{then-loop-start-test+else-digits-start-eq48}
+use Rattle.typed_fields.proofs.digits.without_leading_zeros.Goals.{
+  then-loop-start-test+else-digits-start-eq48,
+}
 use Rattle.typed_fields.proofs.digits.without_leading_zeros.Goals.{else-loop-start-test}
 
 pub loop-start-preserved : goal.loop-start-preserved

@@ -1,7 +1,9 @@
 use Rattle.std.proofs.Common.{◌≡◌, ◌+◌, ◌-◌, ◌<◌, length, sym, ◌∙◌, arith}
 use Rattle.typed_fields.proofs.DigitsLemmas.{trailing_zero, trailing_other, trailing_none}
 use Rattle.typed_fields.proofs.digits.without_trailing_zeros.Goals as goal
-use Rattle.typed_fields.proofs.digits.without_trailing_zeros.Goals.{then-loop-end-test+else-digits-end-eq48}
+use Rattle.typed_fields.proofs.digits.without_trailing_zeros.Goals.{
+  then-loop-end-test+else-digits-end-eq48,
+}
 use Rattle.typed_fields.proofs.digits.without_trailing_zeros.Goals.{else-loop-end-test}
 
 pub loop-end-preserved : goal.loop-end-preserved

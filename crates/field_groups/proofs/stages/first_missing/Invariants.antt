@@ -1,9 +1,0 @@
-use Rattle.std.proofs.Common.{◌≡◌, take, None}
-use Rattle.field_groups.specs.Tables.{first_of}
-use Rattle.field_groups.specs.FirstFault.{missing_of}
-use Rattle.field_groups.specs.CodeTables.{seen, item_of}
-use Rattle.field_groups.proofs.stages.first_missing.Given as goal
-
-abbrev pub invariant-loop-item : goal.invariant-loop-item
-invariant-loop-item g l = first_of (λ item. missing_of (seen l.fields) (item_of (λ k. k) item))
-    (take l.item-index l.item-items) ≡ None
