@@ -1,0 +1,9 @@
+pub mod Clean
+pub mod Again
+pub mod Seen
+pub mod Loops
+pub mod Cuts
+pub mod Placed
+pub mod Mapped
+pub mod Few
+pub mod Members

@@ -1,0 +1,135 @@
+-- The first answer over the places of fields, and what stands before a place, as loops find them.
+use Rattle.std.proofs.Common.{◌≡◌, ℕ, ◌+◌, ◌<◌, ◌≤◌, List, [], ◌∷◌, ◌++◌, length, get_or}
+use Rattle.std.proofs.Common.{take, drop, Option, Some, None, refl, sym, ap, ◌∙◌, arith, zero-add}
+use Rattle.std.proofs.Common.{cond, ◌-◌, take_while, count_by, not, Bool, true, false, eqb}
+use mathlib.Core.List.{reverse_aux}
+use Rattle.std.proofs.lemmas.List.{drop_all, drop_more, take_more}
+use Rattle.std.specs.Prelude.{reverse, ◌||◌, ◌&&◌, ◌==◌}
+use Rattle.std.proofs.lemmas.List.Sums.{take_while-cons, sum_by-cons}
+use Rattle.message_tables.specs.declared.table_fault.TableFault.{TableFault}
+use Rattle.message_tables.specs.declared.table_fault.TableFault.TheVariants as faults
+use Rattle.field_groups.specs.Field.{Field}
+use Rattle.message_tables.specs.Tables.{first_of, has_tag, is_one_of}
+use Rattle.message_tables.specs.FirstFault.{Placed, placed_from, place_in, fault_if, twice}
+
+abbrev pub none : Field
+none = (0, [])
+
+-- the rest of the places, from one on
+abbrev pub rest_at : List Field → ℕ → List Placed
+rest_at fs i = placed_from (reverse (take i fs)) (drop i fs)
+
+abbrev pub at : List Field → ℕ → Placed
+at fs i = place_in fs i (get_or fs i none)
+
+reverse_push : (xs : List Field) (x : Field) (after : List Field)
+    → reverse_aux (xs ++ x ∷ []) after ≡ x ∷ reverse_aux xs after
+reverse_push [] x after = refl
+reverse_push (y ∷ ys) x after = reverse_push ys x (y ∷ after)
+
+-- the fields before the next place, backwards
+pub back : (fs : List Field) (i : ℕ)
+    → i < length fs → reverse (take (i + 1) fs) ≡ get_or fs i none ∷ reverse (take i fs)
+back fs i lt = ap reverse (take_more fs i none lt) ∙ reverse_push (take i fs) (get_or fs i none) []
+
+pub next_place : (fs : List Field) (i : ℕ)
+    → i < length fs → rest_at fs i ≡ at fs i ∷ rest_at fs (i + 1)
+next_place fs i lt =
+    ap (placed_from (reverse (take i fs))) (drop_more fs i none lt) ∙ ap (λ (before : List Field).
+    at fs i ∷ placed_from before (drop (i + 1) fs)) (sym (back fs i lt))
+
+pub passed : {A : Type 0} (judge : Placed → Option A) (fs : List Field) (i : ℕ) (r : Option A)
+    → i < length fs → judge (at fs i) ≡ None
+    → first_of judge (rest_at fs i) ≡ r → first_of judge (rest_at fs (i + 1)) ≡ r
+unfolding first_of
+passed judge fs i r lt none so_far = let e : first_of judge (rest_at fs i)
+    ≡ first_of judge (rest_at fs (i + 1)) = rw (next_place fs i lt, none) refl in sym e ∙ so_far
+
+pub found : {A : Type 0} (judge : Placed → Option A)
+    (fs : List Field) (i : ℕ) (a : A) (r : Option A) → i < length fs → judge (at fs i) ≡ Some a
+    → first_of judge (rest_at fs i) ≡ r → Some a ≡ r
+unfolding first_of
+found judge fs i a r lt some so_far = let e : first_of judge (rest_at fs i) ≡ Some a =
+    rw (next_place fs i lt, some) refl in sym e ∙ so_far
+
+pub ended : {A : Type 0} (judge : Placed → Option A) (fs : List Field) (i : ℕ) (r : Option A)
+    → length fs ≤ i → first_of judge (rest_at fs i) ≡ r → None ≡ r
+unfolding first_of
+ended judge fs i r le so_far =
+    let e : first_of judge (rest_at fs i) ≡ None = rw (drop_all i fs le) refl in sym e ∙ so_far
+
+has_tag-onto : (tag : ℕ) (xs after : List Field)
+    → has_tag tag (reverse_aux xs after) ≡ (has_tag tag xs || has_tag tag after)
+has_tag-onto tag [] after = refl
+has_tag-onto tag (x ∷ xs) after =
+    has_tag-onto tag xs (x ∷ after) ∙ swap (eqb x.0 tag) (has_tag tag xs) (has_tag tag after)
+  where
+    swap : (a b c : Bool) → (b || (a || c)) ≡ ((a || b) || c)
+    swap true true c = refl
+    swap true false c = refl
+    swap false true c = refl
+    swap false false c = refl
+
+pub has_tag-reverse : (tag : ℕ) (fs : List Field) → has_tag tag (reverse fs) ≡ has_tag tag fs
+has_tag-reverse tag fs = has_tag-onto tag fs [] ∙ or_false (has_tag tag fs)
+  where
+    or_false : (b : Bool) → (b || false) ≡ b
+    or_false true = refl
+    or_false false = refl
+
+pub with_true : (a b : Bool) (fault : TableFault)
+    → b ≡ true → fault_if a fault ≡ fault_if (a && b) fault
+with_true true b fault y = rw y refl
+with_true false b fault y = refl
+
+pub not_second : (a b : Bool) (fault : TableFault) → b ≡ false → None ≡ fault_if (a && b) fault
+not_second true b fault y = rw y refl
+not_second false b fault y = refl
+
+-- ---- lines, from a field backwards
+
+abbrev pub before_first : ℕ → Field → Bool
+before_first first f = not (f.0 == first)
+
+take_while_on : (p : Field → Bool) (f : Field) (fs : List Field)
+    → p f ≡ true → take_while p (f ∷ fs) ≡ f ∷ take_while p fs
+take_while_on p f fs h = take_while-cons p f fs ∙ rw h refl
+
+pub again_here : (first tag : ℕ) (f : Field) (fs : List Field) → eqb f.0 first ≡ false
+    → eqb f.0 tag ≡ true → has_tag tag (take_while (before_first first) (f ∷ fs)) ≡ true
+again_here first tag f fs other same =
+    rw (take_while_on (before_first first) f fs (rw other refl), same) refl
+
+pub again_on : (first tag : ℕ) (f : Field) (fs : List Field) → eqb f.0 first ≡ false
+    → eqb f.0 tag ≡ false → has_tag tag (take_while (before_first first) (f ∷ fs))
+    ≡ has_tag tag (take_while (before_first first) fs)
+again_on first tag f fs other differs =
+    rw (take_while_on (before_first first) f fs (rw other refl), differs) refl
+
+pub counted_on : (p q : Field → Bool) (f : Field) (fs : List Field)
+    → q f ≡ true → p f ≡ false → count_by p (take_while q (f ∷ fs)) ≡ count_by p (take_while q fs)
+counted_on p q f fs inside out = ap (count_by p) (take_while_on q f fs inside) ∙ sum_by-cons
+    (λ x. cond (p x) 1 0) f (take_while q fs) ∙ rw out (zero-add (count_by p (take_while q fs)))
+
+pub counted_one : (p q : Field → Bool) (f : Field) (fs : List Field) → q f ≡ true
+    → p f ≡ true → count_by p (take_while q (f ∷ fs)) ≡ 1 + count_by p (take_while q fs)
+counted_one p q f fs inside one = ap (count_by p) (take_while_on q f fs inside)
+    ∙ sum_by-cons (λ x. cond (p x) 1 0) f (take_while q fs) ∙ rw one refl
+
+-- ---- a step backwards
+
+-- what stands before a place, from the field before it backwards
+pub one_back : (fs : List Field) (place : ℕ) (f : Field) → 0 < place → place ≤ length fs
+    → f ≡ get_or fs (place - 1) none → reverse (take place fs) ≡ f ∷ reverse (take (place - 1) fs)
+one_back fs place f pos le at =
+    let e : place ≡ place - 1 + 1 = omega arith in
+    ap (λ (n : ℕ). reverse (take n fs)) e ∙ back fs (place - 1) (omega arith)
+    ∙ ap (λ (g : Field). g ∷ reverse (take (place - 1) fs)) (sym at)
+
+-- the judgement of a tag at a place, by the fields in front of it
+pub twice_as : (once : List ℕ) (fs front : List Field) (i : ℕ) (f : Field)
+    → front ≡ take i fs → fault_if (is_one_of once f.0 && has_tag f.0 front) (faults.Reason f.0 13)
+    ≡ twice once (place_in fs i f)
+twice_as once fs front i f e =
+    ap (λ (b : Bool). fault_if (is_one_of once f.0 && b) (faults.Reason f.0 13))
+    (ap (has_tag f.0) e ∙ sym (has_tag-reverse f.0 (take i fs)))

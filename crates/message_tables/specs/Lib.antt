@@ -1,0 +1,6 @@
+pub mod Tables
+pub mod FirstFault
+pub mod TableLaws
+pub mod Content
+pub mod CodeTables
+pub mod Stages

@@ -1,0 +1,198 @@
+//! The faults of groups: counts, members that stand elsewhere, and too many lines.
+
+ghost use Rattle.std.specs.Prelude.{◌≡◌, ◌==◌, ◌<◌, [], length, reverse, count_by};
+ghost use Rattle.message_tables.specs.Tables.{has_tag, first_of};
+ghost use Rattle.message_tables.specs.FirstFault.{group_tags_of, group_tags_in, placed_from};
+ghost use Rattle.message_tables.specs.FirstFault.{in_groups, misplaced, misplaced_member, place_in};
+ghost use Rattle.message_tables.specs.FirstFault.{lines_begun, line_before, is_opened, is_count};
+ghost use Rattle.field_groups.specs.HeadValues.{number_in};
+ghost use Rattle.message_tables.specs.CodeTables.{seen, seen_at, own_tags, item_of, table_of};
+
+use crate::lookup::{field_at, front, is_among, rest};
+use crate::stages::fault_if;
+use crate::table::{Item, RepeatingGroup, Table};
+use crate::table_fault::TableFault;
+use field_groups::{Field, number_in};
+
+/// The most lines of a group.
+const MAX_LINES: usize = 32;
+
+/// SessionRejectReason(373): incorrect NumInGroup count for repeating group.
+const COUNT: u8 = 16;
+
+/// SessionRejectReason(373): repeating group fields out of order.
+const ORDER: u8 = 15;
+
+/// SessionRejectReason(373): value is incorrect (out of range) for this tag.
+const RANGE: u8 = 5;
+
+/// How many fields have this tag.
+#[tactic(auto, using(crate::proofs::Seen::count_seen))]
+fn count_of(fields: &[Field<'_>], tag: u32) -> usize
+    ensures { result ≡ count_by (λ field. field.0 == tag) (seen fields.now) }
+{
+    count_in(fields, tag)
+}
+
+/// How many fields have this tag.
+fn count_in(fields: &[Field<'_>], tag: u32) -> usize
+    ensures { result ≡ count_by (λ field. field.0 == tag) fields.now }
+{
+    fields.iter().filter(|field| field.0 == tag).count()
+}
+
+/// Whether a value says so many lines.
+fn is_count(value: &[u8], lines: usize) -> bool
+    ensures { result ≡ is_count (number_in value.now) lines }
+{
+    match number_in(value) {
+        Some(said) => said as usize == lines,
+        None => false,
+    }
+}
+
+impl<K> RepeatingGroup<K> {
+    /// Whether the last of these fields are of the group after its count, or the count.
+    fn is_opened(&self, before: &[Field<'_>]) -> bool
+        ensures { result ≡ is_opened (own_tags self.now) (reverse (seen before.now)) }
+    {
+        let mut place = before.len();
+        while place > 0 {
+            place -= 1;
+            let (tag, _) = field_at(before, place);
+            if tag == self.count {
+                return true;
+            }
+            if !self.has(tag) {
+                return false;
+            }
+        }
+        false
+    }
+
+    /// How many of the last of these fields, as far as they are inside the group, begin a line.
+    fn lines_before(&self, before: &[Field<'_>]) -> usize
+        ensures { result ≡ lines_begun (own_tags self.now) (reverse (seen before.now)) }
+    {
+        let mut lines = 0;
+        let mut place = before.len();
+        while place > 0 {
+            place -= 1;
+            let (tag, _) = field_at(before, place);
+            if !self.has(tag) {
+                return lines;
+            }
+            if tag == self.first() {
+                lines += 1;
+            }
+        }
+        lines
+    }
+
+    /// Whether a tag stands in the last line of these fields, past the field that begins it.
+    fn is_again(&self, before: &[Field<'_>], tag: u32) -> bool
+        ensures { result
+            ≡ has_tag tag (line_before (own_tags self.now) (reverse (seen before.now))) }
+    {
+        let mut place = before.len();
+        while place > 0 {
+            place -= 1;
+            let (other, _) = field_at(before, place);
+            if other == self.first() {
+                return false;
+            }
+            if other == tag {
+                return true;
+            }
+        }
+        false
+    }
+
+    /// The fault of a member, with the fields before it.
+    fn misplaced_member(&self, before: &[Field<'_>], tag: u32) -> Option<TableFault>
+        ensures { result ≡ misplaced_member (own_tags self.now) (reverse (seen before.now)) tag }
+    {
+        if !self.is_opened(before) {
+            return Some(TableFault::Reason { tag, reason: ORDER });
+        }
+        if is_among(self.skipped, tag) {
+            return None;
+        }
+        let lines = self.lines_before(before);
+        if tag == self.first() {
+            if lines >= MAX_LINES {
+                return Some(TableFault::Reason {
+                    tag: self.count,
+                    reason: RANGE,
+                });
+            }
+            return None;
+        }
+        if lines == 0 || self.is_again(before, tag) {
+            return Some(TableFault::Reason { tag, reason: ORDER });
+        }
+        None
+    }
+
+    /// The fault that the group has at a place.
+    fn misplaced(&self, fields: &[Field<'_>], place: usize) -> Option<TableFault>
+        requires { place < length fields.now }
+        ensures { result ≡ misplaced
+            (place_in (seen fields.now) place (seen_at fields.now place)) (own_tags self.now) }
+    {
+        let (tag, value) = field_at(fields, place);
+        if tag == self.count {
+            let lines = count_of(self.run(rest(fields, place + 1)), self.first());
+            fault_if(
+                !is_count(value, lines),
+                TableFault::Reason { tag, reason: COUNT },
+            )
+        } else if self.has(tag) {
+            self.misplaced_member(front(fields, place), tag)
+        } else {
+            None
+        }
+    }
+}
+
+impl<K> Item<K> {
+    /// The fault that the item's group, if it has one, has at a place.
+    fn misplaced(&self, fields: &[Field<'_>], place: usize) -> Option<TableFault>
+        requires { place < length fields.now }
+        ensures { result ≡ in_groups (group_tags_of (item_of (λ k. k) self.now))
+            (place_in (seen fields.now) place (seen_at fields.now place)) }
+    {
+        match self {
+            Item::One(_) => None,
+            Item::Party(_) => None,
+            Item::Lines(group) => group.misplaced(fields, place),
+        }
+    }
+}
+
+/// The fault of a group of the table at a place.
+fn misplaced_at<K>(table: &Table<K>, fields: &[Field<'_>], place: usize) -> Option<TableFault>
+    requires { place < length fields.now }
+    ensures { result ≡ in_groups (group_tags_in (table_of (λ k. k) table.now))
+        (place_in (seen fields.now) place (seen_at fields.now place)) }
+{
+    for item in table.items {
+        if let Some(fault) = item.misplaced(fields, place) {
+            return Some(fault);
+        }
+    }
+    None
+}
+
+/// The first fault of a group of the table.
+pub(crate) fn first_misplaced<K>(table: &Table<K>, fields: &[Field<'_>]) -> Option<TableFault>
+    ensures { result ≡ first_of (in_groups (group_tags_in (table_of (λ k. k) table.now)))
+        (placed_from [] (seen fields.now)) }
+{
+    for place in 0..fields.len() {
+        if let Some(fault) = misplaced_at(table, fields, place) {
+            return Some(fault);
+        }
+    }
+    None
+}

@@ -1,0 +1,232 @@
+//! The first fault of a message's fields, stage by stage.
+
+ghost use Rattle.std.specs.Prelude.{◌≡◌, ◌-◌, ◌<◌, ◌++◌, ◌∷◌, [], List, length, map};
+ghost use Rattle.field_groups.specs.Field.{Field};
+ghost use Rattle.message_tables.specs.Tables.{first_of, or_else};
+ghost use Rattle.message_tables.specs.FirstFault.{once_in, twice, placed_from, fault_if, missing};
+ghost use Rattle.message_tables.specs.FirstFault.{missing_of, in_groups, wrong_version, wrong};
+ghost use Rattle.message_tables.specs.FirstFault.{beyond};
+ghost use Rattle.message_tables.specs.Tables.{lines_in};
+ghost use Rattle.message_tables.specs.FirstFault.{Marked, group_tags_in, place_in};
+ghost use Rattle.message_tables.specs.Stages.{IsFound};
+ghost use Rattle.message_tables.specs.CodeTables.{seen, seen_at, row_of, group_of, own_tags};
+ghost use Rattle.message_tables.specs.CodeTables.{item_of, table_of};
+
+use crate::group_lines::{line, line_end};
+use crate::group_stage::first_misplaced;
+use crate::lookup::{field_at, front, stands};
+use crate::table::{Item, RepeatingGroup, Row, Table};
+use crate::table_fault::{Mark, TableFault};
+use field_groups::Field;
+
+/// SessionRejectReason(373): tag appears more than once.
+const TWICE: u8 = 13;
+
+/// SessionRejectReason(373): required tag missing.
+const MISSING: u8 = 1;
+
+/// SessionRejectReason(373): the application version is not supported.
+const VERSION: u8 = 18;
+
+/// The fault, where there is one.
+pub(crate) fn fault_if(is_there: bool, fault: TableFault) -> Option<TableFault>
+    ensures { result ≡ fault_if is_there fault }
+{
+    if is_there { Some(fault) } else { None }
+}
+
+/// The fault of a tag of the profile that stands again at a place.
+fn twice_at<K>(table: &Table<K>, fields: &[Field<'_>], place: usize) -> Option<TableFault>
+    requires { place < length fields.now }
+    ensures { result ≡ twice (once_in (table_of (λ k. k) table.now))
+        (place_in (seen fields.now) place (seen_at fields.now place)) }
+{
+    let (tag, _) = field_at(fields, place);
+    if !stands(front(fields, place), tag) {
+        return None;
+    }
+    fault_if(
+        table.is_once(tag),
+        TableFault::Reason { tag, reason: TWICE },
+    )
+}
+
+/// The first tag of the profile that stands again.
+fn first_twice<K>(table: &Table<K>, fields: &[Field<'_>]) -> Option<TableFault>
+    ensures { result ≡ first_of
+        (twice (once_in (table_of (λ k. k) table.now))) (placed_from [] (seen fields.now)) }
+{
+    for place in 0..fields.len() {
+        if let Some(fault) = twice_at(table, fields, place) {
+            return Some(fault);
+        }
+    }
+    None
+}
+
+/// The fault of a row that has to be said and is not.
+fn missing_row<K>(row: &Row<K>, fields: &[Field<'_>]) -> Option<TableFault>
+    ensures { result ≡ missing (seen fields.now) (row_of (λ k. k) row.now) }
+{
+    if row.need.is_needed(fields) && !stands(fields, row.tag) {
+        Some(TableFault::Reason {
+            tag: row.tag,
+            reason: MISSING,
+        })
+    } else {
+        None
+    }
+}
+
+/// The first of these rows that a line has to say and does not.
+fn missing_in<K>(rows: &[Row<K>], line: &[Field<'_>]) -> Option<TableFault>
+    ensures { result ≡ first_of (missing (seen line.now)) (map (row_of (λ k. k)) rows.now) }
+{
+    for row in rows {
+        if let Some(fault) = missing_row(row, line) {
+            return Some(fault);
+        }
+    }
+    None
+}
+
+/// The first line of a group that does not say what it has to.
+fn missing_line<K>(group: &RepeatingGroup<K>, fields: &[Field<'_>]) -> Option<TableFault>
+    ensures { result ≡ first_of (λ line. first_of (missing line) (group_of (λ k. k) group.now).rows)
+        (lines_in (own_tags group.now) (seen fields.now)) }
+{
+    let fields = group.lines(fields);
+    let mut from = 0;
+    while from < fields.len() {
+        let end = line_end(fields, from, group.first());
+        if let Some(fault) = missing_in(group.rows, line(fields, from, end)) {
+            return Some(fault);
+        }
+        from = end;
+    }
+    None
+}
+
+/// The fault of an item that has to be said and is not.
+fn missing_item<K>(item: &Item<K>, fields: &[Field<'_>]) -> Option<TableFault>
+    ensures { result ≡ missing_of (seen fields.now) (item_of (λ k. k) item.now) }
+{
+    match item {
+        Item::One(row) => missing_row(row, fields),
+        Item::Party(_) => None,
+        Item::Lines(group) => missing_line(group, fields),
+    }
+}
+
+/// The first item that has to be said and is not.
+fn first_missing<K>(table: &Table<K>, fields: &[Field<'_>]) -> Option<TableFault>
+    ensures { result ≡ first_of (missing_of (seen fields.now)) (table_of (λ k. k) table.now).items }
+{
+    for item in table.items {
+        if let Some(fault) = missing_item(item, fields) {
+            return Some(fault);
+        }
+    }
+    None
+}
+
+/// The first faults of the values of fields, by their kinds.
+#[derive(Clone, Copy, Debug, PartialEq, Eq)]
+pub struct Found {
+    /// A version that is not spoken.
+    pub(crate) version: Option<TableFault>,
+    /// A value of wrong form or out of range.
+    pub(crate) wrong: Option<TableFault>,
+    /// A tag or a value outside the profile.
+    pub(crate) outside: Option<TableFault>,
+}
+
+impl Found {
+    /// Nothing yet.
+    pub fn new() -> Found
+        ensures { IsFound [] result }
+    {
+        Found {
+            version: None,
+            wrong: None,
+            outside: None,
+        }
+    }
+
+    /// With one more field, of this tag and mark, behind those that it has.
+    pub fn with(self, tag: u32, mark: Mark) -> Found
+        ensures { (marks : List Marked)
+            → IsFound marks self → IsFound (marks ++ (tag, mark) ∷ []) result }
+    {
+        Found {
+            version: first(self.version, wrong_version(tag, mark)),
+            wrong: first(self.wrong, wrong(tag, mark)),
+            outside: first(self.outside, beyond(tag, mark)),
+        }
+    }
+}
+
+/// The first of two faults.
+fn first(one: Option<TableFault>, other: Option<TableFault>) -> Option<TableFault>
+    ensures { result ≡ or_else one other }
+{
+    match one {
+        Some(fault) => Some(fault),
+        None => other,
+    }
+}
+
+/// The fault of a version that is not spoken.
+fn wrong_version(tag: u32, mark: Mark) -> Option<TableFault>
+    ensures { result ≡ wrong_version (tag, mark) }
+{
+    match mark {
+        Mark::Wrong(reason) => if reason == VERSION {
+            Some(TableFault::Reason { tag, reason })
+        } else {
+            None
+        },
+        _ => None,
+    }
+}
+
+/// The fault of a value of wrong form or out of range.
+fn wrong(tag: u32, mark: Mark) -> Option<TableFault>
+    ensures { result ≡ wrong (tag, mark) }
+{
+    match mark {
+        Mark::Wrong(reason) => Some(TableFault::Reason { tag, reason }),
+        _ => None,
+    }
+}
+
+/// The fault of a tag or a value outside the profile.
+fn beyond(tag: u32, mark: Mark) -> Option<TableFault>
+    ensures { result ≡ beyond (tag, mark) }
+{
+    match mark {
+        Mark::Outside => Some(TableFault::Outside { tag }),
+        _ => None,
+    }
+}
+
+impl<K> Table<K> {
+    /// The first fault of these fields, by stage and place, with what was found of their values.
+    pub fn first_fault(&self, fields: &[Field<'_>], found: &Found) -> Option<TableFault>
+        ensures { result ≡
+            or_else (first_of (twice (once_in (table_of (λ k. k) self.now)))
+            (placed_from [] (seen fields.now)))
+            (or_else found.now.version
+            (or_else (first_of (in_groups (group_tags_in (table_of (λ k. k) self.now)))
+            (placed_from [] (seen fields.now)))
+            (or_else found.now.wrong
+            (or_else (first_of (missing_of (seen fields.now)) (table_of (λ k. k) self.now).items)
+            found.now.outside)))) }
+    {
+        let late = first(first_missing(self, fields), found.outside);
+        let form = first(found.wrong, late);
+        let groups = first(first_misplaced(self, fields), form);
+        let version = first(found.version, groups);
+        first(first_twice(self, fields), version)
+    }
+}

@@ -1,0 +1,70 @@
+-- The bytes of contents, a part and a line at a time.
+use Rattle.std.proofs.Common.{◌≡◌, ℕ, ◌+◌, ◌/◌, ◌%◌, List, [], ◌∷◌, ◌++◌, length, map, refl, sym}
+use Rattle.std.proofs.Common.{ap, ◌∙◌, append_assoc, arith, ◌≤◌, take}
+use Rattle.std.proofs.lemmas.List.{length-map, take_all}
+use Rattle.std.specs.List.{AllByRecursion, flat_map}
+use Rattle.std.specs.Fmt.{decimal}
+use Rattle.field_groups.specs.Field.{Field, body_of, field_bytes}
+use Rattle.message_tables.specs.Tables.{Cell}
+use Rattle.message_tables.specs.Content.{line_fields, group_fields}
+use Rattle.typed_fields.specs.Digits.{zero_padded}
+use Rattle.row_values.specs.CodeKinds.{two_digit_text}
+use Rattle.row_values.specs.Writing.{count_fields}
+
+pub body-append : (xs ys : List Field) → body_of (xs ++ ys) ≡ body_of xs ++ body_of ys
+body-append [] ys = refl
+body-append (x ∷ xs) ys =
+    ap (λ (bytes : List ℕ). field_bytes x ++ bytes) (body-append xs ys)
+    ∙ sym (append_assoc (field_bytes x) (body_of xs) (body_of ys))
+
+lines_mapped : {L : Type 0} (cells : L → List Cell) (lines : List L)
+    → flat_map (λ line. line_fields (cells line)) lines ≡ flat_map line_fields (map cells lines)
+lines_mapped cells [] = refl
+lines_mapped cells (line ∷ lines) =
+    ap (λ (fs : List Field). line_fields (cells line) ++ fs) (lines_mapped cells lines)
+
+-- a group is its count, and then its lines
+pub group_written : {L : Type 0} (cells : L → List Cell) (tag : ℕ) (lines : List L)
+    → body_of (count_fields tag (length lines))
+    ++ body_of (flat_map (λ line. line_fields (cells line)) lines)
+    ≡ body_of (group_fields tag (map cells lines))
+group_written cells tag [] = refl
+group_written cells tag (line ∷ lines) =
+    let all = line ∷ lines in
+    let count : List Field → List Field = λ fs. (tag, decimal (length all)) ∷ fs in
+    sym (body-append ((tag, decimal (length all)) ∷ []) (flat_map (λ l. line_fields (cells l)) all))
+    ∙ ap (λ (fs : List Field). body_of (count fs)) (lines_mapped cells all)
+    ∙ ap (λ (n : ℕ). body_of ((tag, decimal n) ∷ flat_map line_fields (map cells all)))
+    (sym (length-map all cells))
+
+-- all lines of a group are written
+pub group_done : {L : Type 0} (cells : L → List Cell) (tag : ℕ) (old out : List ℕ)
+    (lines now : List L) (i : ℕ)
+    → out ≡ (old ++ body_of (count_fields tag (length lines)))
+    ++ body_of (flat_map (λ line. line_fields (cells line)) (take i lines))
+    → length lines ≤ i → lines ≡ now → out ≡ old ++ body_of (group_fields tag (map cells now))
+group_done {L} cells tag old out lines now i h le same =
+    let count = body_of (count_fields tag (length lines)) in
+    let written : List L → List ℕ =
+    λ ls. body_of (flat_map (λ line. line_fields (cells line)) ls) in
+    h ∙ ap (λ (ls : List L). (old ++ count) ++ written ls) (take_all i lines le)
+    ∙ append_assoc old count (written lines)
+    ∙ ap (λ (bytes : List ℕ). old ++ bytes) (group_written cells tag lines)
+    ∙ ap (λ (ls : List L). old ++ body_of (group_fields tag (map cells ls))) same
+
+-- the last two digits of a number
+pub last_two : (n : ℕ) → two_digit_text (n % 100) ≡ zero_padded 2 n
+unfolding zero_padded
+last_two n =
+    let tens : 48 + n % 100 / 10 ≡ 48 + n / 10 % 10 = omega arith in
+    let ones : 48 + n % 100 % 10 ≡ 48 + n / 1 % 10 = omega arith in
+    λ i. tens i ∷ ones i ∷ []
+
+-- nothing is asked of the lines
+pub nothing_asked : {L : Type 0} (lines : List L) → AllByRecursion (λ _. Unit {0}) lines
+nothing_asked [] = tt
+nothing_asked (line ∷ lines) = (tt, nothing_asked lines)
+
+-- one fact, and others
+pub also : {A B : Type 0} → A → B → A × B
+also a b = (a, b)

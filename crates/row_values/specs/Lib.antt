@@ -1,0 +1,9 @@
+pub mod ValueKind
+pub mod Kinds
+pub mod Faults
+pub mod Lines
+pub mod Groups
+pub mod Columns
+pub mod CodeKinds
+pub mod Gives
+pub mod Writing

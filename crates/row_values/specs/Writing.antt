@@ -1,0 +1,72 @@
+-- Inside: the parts in which a content is written.
+use Rattle.std.specs.Prelude.{ℕ, ◌≤◌, ◌++◌, zero, suc, List, [], ◌∷◌, map, Option, Some, IfSome}
+use Rattle.std.specs.Prelude.{option_and_then}
+use Rattle.std.specs.Option.{option_map}
+use Rattle.std.specs.Fmt.{decimal}
+use Rattle.typed_fields.specs.Dec.{dec_text, IsDec}
+use Rattle.typed_fields.specs.Day.{day_text, IsDay}
+use Rattle.typed_fields.specs.Digits.{zero_padded}
+use Rattle.typed_fields.specs.Stamp.{stamp_text, IsStamp}
+use Rattle.typed_fields.specs.Flag.{flag_text}
+use Rattle.typed_fields.specs.Number.{number_text, IsNumber}
+use Rattle.field_groups.specs.Field.{Field}
+use Rattle.message_tables.specs.Tables.{Tag, Said}
+use Rattle.message_tables.specs.Content.{cell_fields, group_fields}
+use Rattle.row_values.specs.declared.lines.Maturity.{Maturity}
+use Rattle.row_values.specs.declared.writing.Value.{Value}
+use Rattle.row_values.specs.declared.writing.Value.TheVariants as values
+use Rattle.row_values.specs.declared.writing.Part.{Part}
+use Rattle.row_values.specs.declared.writing.Part.TheVariants as parts
+use Rattle.row_values.specs.CodeKinds.{code_text, two_digit_text}
+use Rattle.row_values.specs.Lines.{month_text, party_cells, alloc_cells, session_cells}
+use Rattle.row_values.specs.Lines.{IsReadableMaturity, AreReadableParties, AreReadableAllocs}
+
+-- the day of the month, where there is one
+abbrev pub month_day_text : Maturity → Option (List ℕ)
+month_day_text maturity = option_map two_digit_text maturity.day
+
+-- the date, where there is a day
+abbrev pub date_text : Maturity → Option (List ℕ)
+date_text maturity = option_map (λ day. month_text maturity ++ zero_padded 2 day) maturity.day
+
+-- what a row says
+abbrev pub value_text : Value → Said
+value_text (values.Text text) = Some text.now
+value_text (values.Own text) = Some text.now
+value_text (values.TextIf text) = text.now
+value_text (values.Code code) = option_map code_text code
+value_text (values.Dec dec) = option_map dec_text dec
+value_text (values.Day day) = option_map day_text day
+value_text (values.Stamp stamp) = option_map stamp_text stamp
+value_text (values.Flag flag) = option_map flag_text flag
+value_text (values.Number number) = Some (number_text number)
+value_text (values.Month maturity) = option_map month_text maturity
+value_text (values.MonthDay maturity) = option_and_then month_day_text maturity
+value_text (values.Date maturity) = option_and_then date_text maturity
+
+-- a value that can be written
+abbrev pub IsValue : Value → Type 0
+IsValue (values.Dec dec) = IfSome dec IsDec
+IsValue (values.Day day) = IfSome day IsDay
+IsValue (values.Stamp stamp) = IfSome stamp IsStamp
+IsValue (values.Number number) = IsNumber number
+IsValue (values.Month maturity) = IfSome maturity IsReadableMaturity
+IsValue (values.Date maturity) = IfSome maturity IsReadableMaturity
+IsValue value = Unit {0}
+
+abbrev pub part_fields : Part → List Field
+part_fields (parts.Row tag value) = cell_fields (Tag tag, value_text value)
+part_fields (parts.Parties lines) = group_fields 453 (map party_cells lines.now)
+part_fields (parts.Allocs lines) = group_fields 78 (map alloc_cells lines.now)
+part_fields (parts.Sessions lines) = group_fields 386 (map session_cells lines.now)
+
+abbrev pub IsPart : Part → Type 0
+IsPart (parts.Row tag value) = (tag ≤ 1_000_000_000) × IsValue value
+IsPart (parts.Parties lines) = AreReadableParties lines.now
+IsPart (parts.Allocs lines) = AreReadableAllocs lines.now
+IsPart (parts.Sessions lines) = Unit {0}
+
+-- the count of a group, where it has lines
+abbrev pub count_fields : ℕ → ℕ → List Field
+count_fields tag zero = []
+count_fields tag (suc count) = (tag, decimal (suc count)) ∷ []

@@ -1,0 +1,25 @@
+//! What rows of tables say: the kinds of their values, what a value is beside its message, the
+//! first fault of a message, and how values are read from fields and written to a content.
+#![tactic(auto)]
+
+mod faults;
+mod kinds;
+mod lines;
+#[cfg(test)]
+mod tests;
+pub mod value_kind;
+mod values;
+mod writing;
+
+pub use faults::good_fields;
+pub use kinds::Kind;
+pub use lines::{
+    ALLOCS, AllocLine, Allocs, GroupLine, Maturity, PARTIES, SESSIONS, SessionLine, Sessions,
+    read_lines,
+};
+pub use value_kind::ValueKind;
+pub use values::{
+    AT_CLOSE, code, day, flag, may_close, month, number_or_zero, or_empty, owned, price, qty,
+    qty_or_zero, resend, stamp, stamp_or_epoch, text,
+};
+pub use writing::{Part, Value, put_parts};

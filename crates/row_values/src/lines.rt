@@ -1,0 +1,257 @@
+//! The lines of an order's groups, and maturities.
+
+ghost use Rattle.std.specs.Prelude.{◌≡◌, ◌≤◌, ◌++◌, List, IfOk, IfSome, OnOk, length};
+ghost use Rattle.std.specs.List.{AllZip};
+ghost use Rattle.typed_fields.specs.Dec.{IsDec};
+ghost use Rattle.field_groups.specs.Field.{Field as ReadField, body_of};
+ghost use Rattle.message_tables.specs.CodeTables.{own_tags, seen};
+ghost use Rattle.message_tables.specs.Tables.{Cell, GroupTags, lines_in, tags_in};
+ghost use Rattle.message_tables.specs.Content.{line_fields};
+ghost use Rattle.row_values.specs.Lines.{IsAlloc, IsParty, IsSession, alloc_cells, party_cells};
+ghost use Rattle.row_values.specs.Lines.{session_cells};
+ghost use Rattle.row_values.specs.Groups.{allocs, parties, sessions};
+
+use crate::kinds::Kind;
+use crate::value_kind::ValueKind;
+use crate::value_kind::ValueKind::{Id, OneByte, Qty};
+use crate::values::{number_or_zero, or_empty, owned, qty, text};
+use crate::writing::{Value, put_row};
+use field_groups::Field;
+use message_tables::Need::{Fixed, Optional, Required};
+use message_tables::{RepeatingGroup, Row, line, line_end};
+use order_meaning::{Bytes, GroupLines, PartyLine};
+use std::alloc::{AllocError, Global};
+use typed_fields::{Dec, MonthYear, Number};
+
+/// A month, and maybe a day of it.
+#[derive(Clone, Copy, Debug, PartialEq, Eq)]
+pub struct Maturity {
+    /// The month.
+    pub month: MonthYear,
+    /// The day of the month, from 1 to 31.
+    pub day: Option<u8>,
+}
+
+/// One line of the accounts of an order: NoAllocs(78) of FIX 4.2, PreAllocGrp(78) of FIX 5.0 SP2.
+#[derive(Debug, Drop)]
+pub struct AllocLine {
+    /// AllocAccount(79), 1 to 128 bytes.
+    pub account: Bytes,
+    /// AllocShares(80) of FIX 4.2, AllocQty(80) of FIX 5.0 SP2, not negative.
+    pub qty: Option<Dec>,
+}
+
+/// One line of the sessions in which an order may trade: NoTradingSessions(386) of FIX 4.2,
+/// TrdgSesGrp(386) of FIX 5.0 SP2.
+#[derive(Debug, Drop)]
+pub struct SessionLine {
+    /// TradingSessionID(336), 1 to 128 bytes.
+    pub id: Bytes,
+}
+
+/// The accounts of an order.
+pub type Allocs = GroupLines<AllocLine>;
+
+/// The sessions in which an order may trade.
+pub type Sessions = GroupLines<SessionLine>;
+
+/// A row that is judged by itself.
+macro_rules! row {
+    ($tag:literal, $kind:expr, $need:expr) => {
+        Row {
+            tag: $tag,
+            kind: Kind::Value($kind),
+            need: $need,
+        }
+    };
+}
+
+/// The rows of Parties(453).
+#[rattlefmt::skip]
+const PARTY_ROWS: [Row<Kind>; 3] = [
+    row!(448, Id, Required), // PartyID
+    row!(447, OneByte, Fixed(b"D")), // PartyIDSource
+    row!(452, ValueKind::Number, Required), // PartyRole
+];
+
+/// The rows of a line of accounts.
+#[rattlefmt::skip]
+const ALLOC_ROWS: [Row<Kind>; 2] = [
+    row!(79, Id, Required), // AllocAccount
+    row!(80, Qty, Optional), // AllocShares, AllocQty
+];
+
+/// The rows of a line of sessions.
+#[rattlefmt::skip]
+const SESSION_ROWS: [Row<Kind>; 1] = [
+    row!(336, Id, Required), // TradingSessionID
+];
+
+/// Parties(453); NoPartySubIDs(802), PartySubID(523) and PartySubIDType(803) are passed over.
+pub const PARTIES: RepeatingGroup<Kind> = RepeatingGroup {
+    count: 453,
+    rows: &PARTY_ROWS,
+    skipped: &[802, 523, 803],
+};
+
+/// NoAllocs(78), PreAllocGrp(78).
+pub const ALLOCS: RepeatingGroup<Kind> = RepeatingGroup {
+    count: 78,
+    rows: &ALLOC_ROWS,
+    skipped: &[],
+};
+
+/// NoTradingSessions(386), TrdgSesGrp(386).
+pub const SESSIONS: RepeatingGroup<Kind> = RepeatingGroup {
+    count: 386,
+    rows: &SESSION_ROWS,
+    skipped: &[],
+};
+
+static PARTIES_GROUP: RepeatingGroup<Kind> = PARTIES;
+
+static ALLOCS_GROUP: RepeatingGroup<Kind> = ALLOCS;
+
+static SESSIONS_GROUP: RepeatingGroup<Kind> = SESSIONS;
+
+/// A line of a group.
+pub trait GroupLine: Sized + Drop {
+    /// The tags of the group.
+    ghost tags: { GroupTags };
+
+    /// The line says what its fields say.
+    ghost is_line: { List ReadField → Self → Type 0 };
+
+    /// The values of the line can be read.
+    ghost is_readable: { Self → Type 0 };
+
+    /// What the line says.
+    ghost cells: { Self → List Cell };
+
+    /// The group of these lines.
+    fn group() -> &'static RepeatingGroup<Kind>
+        ensures { own_tags result.now ≡ tags };
+
+    /// The line of these fields.
+    ///
+    /// # Errors
+    ///
+    /// `AllocError` for want of memory.
+    fn read(alloc: Global, fields: &[Field<'_>]) -> Result<Self, AllocError>
+        ensures { IfOk result (is_line (seen fields.now)) };
+
+    /// Appends the fields of the line.
+    ///
+    /// # Errors
+    ///
+    /// `AllocError` for want of memory; then nothing is said of `out`.
+    fn write(&self, out: &mut Vec<u8>) -> Result<(), AllocError>
+        requires { is_readable self.now }
+        ensures { OnOk result (out.new.items
+            ≡ out.old.items ++ body_of (line_fields (cells self.now))) };
+}
+
+impl GroupLine for PartyLine {
+    ghost tags = { tags_in parties };
+
+    ghost is_line = { IsParty };
+
+    ghost is_readable = { λ line. line.role ≤ 1_000_000_000 };
+
+    ghost cells = { party_cells };
+
+    fn group() -> &'static RepeatingGroup<Kind> {
+        &PARTIES_GROUP
+    }
+
+    fn read(alloc: Global, fields: &[Field<'_>]) -> Result<PartyLine, AllocError> {
+        let id = owned(alloc, text(fields, 448, &Id))?;
+        Ok(PartyLine {
+            id: or_empty(alloc, id),
+            role: number_or_zero(fields, 452).value,
+        })
+    }
+
+    fn write(&self, out: &mut Vec<u8>) -> Result<(), AllocError> {
+        put_row(out, 448, &Value::Own(&self.id))?;
+        put_row(out, 447, &Value::Text(b"D"))?;
+        put_row(out, 452, &Value::Number(Number { value: self.role }))
+    }
+}
+
+impl GroupLine for AllocLine {
+    ghost tags = { tags_in allocs };
+
+    ghost is_line = { IsAlloc };
+
+    ghost is_readable = { λ line. IfSome line.qty IsDec };
+
+    ghost cells = { alloc_cells };
+
+    fn group() -> &'static RepeatingGroup<Kind> {
+        &ALLOCS_GROUP
+    }
+
+    fn read(alloc: Global, fields: &[Field<'_>]) -> Result<AllocLine, AllocError> {
+        let account = owned(alloc, text(fields, 79, &Id))?;
+        Ok(AllocLine {
+            account: or_empty(alloc, account),
+            qty: qty(fields, 80),
+        })
+    }
+
+    fn write(&self, out: &mut Vec<u8>) -> Result<(), AllocError> {
+        put_row(out, 79, &Value::Own(&self.account))?;
+        put_row(out, 80, &Value::Dec(self.qty))
+    }
+}
+
+impl GroupLine for SessionLine {
+    ghost tags = { tags_in sessions };
+
+    ghost is_line = { IsSession };
+
+    ghost is_readable = { λ _. Unit {0} };
+
+    ghost cells = { session_cells };
+
+    fn group() -> &'static RepeatingGroup<Kind> {
+        &SESSIONS_GROUP
+    }
+
+    fn read(alloc: Global, fields: &[Field<'_>]) -> Result<SessionLine, AllocError> {
+        let id = owned(alloc, text(fields, 336, &Id))?;
+        Ok(SessionLine {
+            id: or_empty(alloc, id),
+        })
+    }
+
+    fn write(&self, out: &mut Vec<u8>) -> Result<(), AllocError> {
+        put_row(out, 336, &Value::Own(&self.id))
+    }
+}
+
+/// The lines of a group of at most 32.
+///
+/// # Errors
+///
+/// `AllocError` for want of memory.
+pub fn read_lines<L: GroupLine>(
+    alloc: Global,
+    fields: &[Field<'_>],
+) -> Result<GroupLines<L>, AllocError>
+    requires { length (lines_in L.tags (seen fields.now)) ≤ 32 }
+    ensures { IfOk result (AllZip L.is_line (lines_in L.tags (seen fields.now))) }
+{
+    let group = L::group();
+    let members = group.lines(fields);
+    let first = group.first();
+    let mut lines = GroupLines::new(alloc);
+    let mut from = 0;
+    while from < members.len() {
+        let end = line_end(members, from, first);
+        lines.push(L::read(alloc, line(members, from, end))?)?;
+        from = end;
+    }
+    Ok(lines)
+}

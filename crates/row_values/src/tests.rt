@@ -1,0 +1,391 @@
+//! Values of each kind, what the fields of a message say, the first faults beside a small table,
+//! the lines of each group, and the parts of a content. The expected values are those of the data
+//! types of FIX 4.2 and of SessionRejectReason(373). `|` is SOH.
+
+ghost use Rattle.std.specs.Prelude.{IfSome};
+ghost use Rattle.row_values.specs.Lines.{IsReadableMaturity};
+
+use crate::ValueKind::{
+    Code, Codes, Currency, Day, DayOfMonth, Filled, Flag, Id, Known, MonthYear, Number, OneByte,
+    Price, Qty, Reason, Stamp, Text, Word,
+};
+use crate::{
+    ALLOCS, Allocs, Kind, Maturity, Part, Sessions, Value, ValueKind, code, day, flag, good_fields,
+    may_close, month, number_or_zero, or_empty, owned, price, put_parts, qty, qty_or_zero,
+    read_lines, resend, stamp, stamp_or_epoch, text, value_kind,
+};
+use FieldFault::{Empty, Form, Range};
+use field_groups::{Field, split};
+use message_tables::Need::{Lenient, Optional, Required};
+use message_tables::{Item, Row, Table};
+use order_meaning::{Bytes, Fault, Lines};
+use std::alloc::{AllocError, Global};
+use std::test::Fail;
+use typed_fields::FieldFault;
+
+/// A kind, a value, and whether it is of the profile, or its fault.
+type Judged = (ValueKind, &'static [u8], Result<bool, FieldFault>);
+
+#[rattlefmt::skip]
+const JUDGED: &[Judged] = &[
+    (Filled, b"x=y", Ok(true)),
+    (Filled, b"", Err(Empty)),
+    (Id, b"A1", Ok(true)),
+    (Text, b"a note", Ok(true)),
+    (OneByte, b"J", Ok(true)),
+    (OneByte, b"JJ", Err(Form)),
+    (Code(b"12"), b"2", Ok(true)),
+    (Code(b"12"), b"3", Ok(false)),
+    (Code(b"12"), b"12", Ok(false)),
+    (Code(b"12"), b"", Err(Empty)),
+    (Known(b"12"), b"1", Ok(true)),
+    (Known(b"12"), b"3", Err(Range)),
+    (Known(b"12"), b"12", Err(Range)),
+    (Codes(b"1G"), b"1 G", Ok(true)),
+    (Codes(b"1G"), b"1 2", Ok(false)),
+    (Codes(b"1G"), b"1G", Ok(false)),
+    (Codes(b"1G"), b"1  G", Err(Form)),
+    (Codes(b"1G"), b"G ", Err(Form)),
+    (Codes(b"1G"), b" G", Err(Form)),
+    (Word(&[b"CS", b"FUT"]), b"FUT", Ok(true)),
+    (Word(&[b"CS", b"FUT"]), b"FU", Ok(false)),
+    (Currency, b"USD", Ok(true)),
+    (Currency, b"US", Err(Form)),
+    (Currency, b"usd", Err(Form)),
+    (Flag, b"N", Ok(true)),
+    (Flag, b"y", Err(Form)),
+    (Number, b"0023", Ok(true)),
+    (Number, b"1000000001", Err(Range)),
+    (Number, b"-1", Err(Form)),
+    (Reason, b"9999", Ok(true)),
+    (Reason, b"10000", Err(Range)),
+    (Reason, b"x", Err(Form)),
+    (Qty, b"10.5", Ok(true)),
+    (Qty, b"-1", Err(Range)),
+    (Qty, b"1e3", Err(Form)),
+    (Price, b"-1", Ok(true)),
+    (Price, b"1.123456789", Err(Range)),
+    (Price, b"1,5", Err(Form)),
+    (Stamp, b"20240102-10:00:60", Ok(true)),
+    (Stamp, b"20240102-25:00:00", Err(Range)),
+    (Stamp, b"20240102", Err(Form)),
+    (Day, b"20240229", Ok(true)),
+    (Day, b"20230229", Err(Range)),
+    (Day, b"2024-02-29", Err(Form)),
+    (MonthYear, b"202412", Ok(true)),
+    (MonthYear, b"202413", Err(Range)),
+    (MonthYear, b"20241201", Err(Form)),
+    (DayOfMonth, b"3", Ok(true)),
+    (DayOfMonth, b"31", Ok(true)),
+    (DayOfMonth, b"3x", Err(Form)),
+    (DayOfMonth, b"003", Err(Form)),
+];
+
+/// Texts of so many bytes.
+#[rattlefmt::skip]
+const LENGTHS: &[(ValueKind, usize, Result<bool, FieldFault>)] = &[
+    (Id, 128, Ok(true)),
+    (Id, 129, Err(Range)),
+    (Text, 2048, Ok(true)),
+    (Text, 2049, Err(Range)),
+];
+
+#[test]
+fn values_are_judged(rt: HostRuntime) -> Result<(), Fail> {
+    for (kind, value, want) in JUDGED {
+        assert_eq!(rt; kind.judge(value), *want, "{kind:?} {value:?}");
+    }
+    for (kind, length, want) in LENGTHS {
+        let value = vec![in rt.alloc(); b'A'; *length]?;
+        assert_eq!(rt; kind.judge(&value), *want, "{kind:?} {length}");
+    }
+    Ok(())
+}
+
+#[test]
+fn single_values_are_read(rt: HostRuntime) {
+    assert_eq!(rt;
+        value_kind::text(&Codes(b"1G"), b"1 G"),
+        Some(b"1 G".as_slice())
+    );
+    assert_eq!(rt; value_kind::text(&Codes(b"1G"), b"1 2"), None);
+    assert_eq!(rt; value_kind::code(&Known(b"12"), b"2"), Some(b'2'));
+    assert_eq!(rt; value_kind::code(&Known(b"12"), b"3"), None);
+    assert_eq!(rt;
+        value_kind::day(b"19700102"),
+        Some(typed_fields::Day { day: 1 })
+    );
+    assert_eq!(rt; value_kind::day(b"19700132"), None);
+    let february = typed_fields::MonthYear {
+        year: 2024,
+        month: 2,
+    };
+    assert_eq!(rt; value_kind::month_year(b"202402"), Some(february));
+    assert_eq!(rt; value_kind::month_year(b"202400"), None);
+    for (bytes, want) in [(b"3".as_slice(), Some(3)), (b"31", Some(31)), (b"3x", None)] {
+        assert_eq!(rt; value_kind::day_of_month(bytes), want);
+    }
+    for (day, want) in [(0, false), (29, true), (30, false)] {
+        assert_eq!(rt; value_kind::has_day(&february, day), want, "{day}");
+    }
+}
+
+/// Fields of an order, one of each type of value.
+#[rattlefmt::skip]
+const FIELDS: &[Field<'static>] = &[
+    (97, b"Y"), // PossResend
+    (11, b"A1"), // ClOrdID
+    (64, b"19700105"), // FutSettDate
+    (200, b"202406"), // MaturityMonthYear
+    (54, b"6"), // Side
+    (114, b"N"), // LocateReqd
+    (60, b"19700102-10:20:30.123"), // TransactTime
+    (38, b"0100.50"), // OrderQty
+    (40, b"1"), // OrdType
+    (44, b"-1.0"), // Price
+    (452, b"012"), // PartyRole
+];
+
+/// The moment of TransactTime(60).
+const MOMENT: typed_fields::Stamp = typed_fields::Stamp {
+    day: 1,
+    hour: 10,
+    minute: 20,
+    second: 30,
+    milli: Some(123),
+};
+
+#[test]
+fn fields_say_values(rt: HostRuntime) {
+    assert_eq!(rt; text(FIELDS, 11, &Id), Some(b"A1".as_slice()));
+    assert_eq!(rt; text(FIELDS, 58, &Text), None);
+    assert_eq!(rt; code(FIELDS, 54, &Code(b"123456")), Some(b'6'));
+    assert_eq!(rt; code(FIELDS, 54, &Code(b"12345")), None);
+    assert_eq!(rt; qty(FIELDS, 38).map(|qty| qty.units), Some(10_050_000_000));
+    assert_eq!(rt; qty(FIELDS, 44).map(|qty| qty.units), None);
+    assert_eq!(rt; qty_or_zero(FIELDS, 38).units, 10_050_000_000);
+    assert_eq!(rt; qty_or_zero(FIELDS, 14).units, 0);
+    assert_eq!(rt;
+        price(FIELDS, 44).map(|price| price.units),
+        Some(-100_000_000)
+    );
+    assert_eq!(rt; day(FIELDS, 64), Some(typed_fields::Day { day: 4 }));
+    assert_eq!(rt; stamp(FIELDS, 60), Some(MOMENT));
+    assert_eq!(rt; stamp_or_epoch(FIELDS, 60), MOMENT);
+    assert_eq!(rt; stamp_or_epoch(FIELDS, 52).millis(), 0);
+    assert_eq!(rt; flag(FIELDS, 114).map(|flag| flag.yes), Some(false));
+    let june = typed_fields::MonthYear {
+        year: 2024,
+        month: 6,
+    };
+    assert_eq!(rt; month(FIELDS, 200), Some(june));
+    assert_eq!(rt; number_or_zero(FIELDS, 452).value, 12);
+    assert_eq!(rt; number_or_zero(FIELDS, 453).value, 0);
+    assert!(rt; may_close(FIELDS, 40));
+    assert!(rt; !may_close(FIELDS, 54));
+    assert!(rt; resend(FIELDS));
+    assert!(rt; !resend(&FIELDS[1..]));
+}
+
+#[test]
+fn texts_are_owned(rt: HostRuntime) -> Result<(), Fail> {
+    for (text, want) in [(Some(b"IBM".as_slice()), b"IBM".as_slice()), (None, b"")] {
+        let owned = owned(rt.alloc(), text)?;
+        assert_eq!(rt; owned.is_some(), text.is_some());
+        assert_eq!(rt; or_empty(rt.alloc(), owned).as_slice(), want);
+    }
+    Ok(())
+}
+
+/// A row of the small table.
+macro_rules! row {
+    ($tag:literal, $kind:expr, $need:expr) => {
+        Row {
+            tag: $tag,
+            kind: $kind,
+            need: $need,
+        }
+    };
+}
+
+/// A row of each kind, and a group.
+#[rattlefmt::skip]
+const ITEMS: &[Item<Kind>] = &[
+    Item::One(row!(1128, Kind::Version, Optional)), // ApplVerID
+    Item::One(row!(11, Kind::Value(Id), Required)), // ClOrdID
+    Item::Lines(ALLOCS),
+    Item::One(row!(541, Kind::Value(Day), Optional)), // MaturityDate
+    Item::One(row!(200, Kind::MonthBeside(541), Optional)), // MaturityMonthYear
+    Item::One(row!(205, Kind::DayOf(200), Optional)), // MaturityDay
+    Item::One(row!(40, Kind::Value(Code(b"123")), Required)), // OrdType
+    Item::One(row!(59, Kind::TimeBeside(40), Optional)), // TimeInForce
+    Item::One(row!(22, Kind::Value(Code(b"1")), Lenient)), // SecurityIDSource
+    Item::One(row!(528, Kind::Byte(b"AIP"), Optional)), // OrderCapacity
+];
+
+static TABLE: Table<Kind> = Table {
+    letter: b'D',
+    header: &[row!(35, Kind::Value(Filled), Optional)],
+    items: ITEMS,
+    strict: true,
+};
+
+/// A fault of a tag, for a SessionRejectReason(373).
+macro_rules! reason {
+    ($tag:expr, $reason:literal) => {
+        Err(Fault::Session {
+            tag: $tag,
+            reason: $reason,
+        })
+    };
+}
+
+/// A tag outside the profile, or with a value outside it.
+macro_rules! outside {
+    ($tag:literal) => {
+        Err(Fault::NoCounterpart { tag: $tag })
+    };
+}
+
+/// A case: its name, the body, and how many fields it has or its fault.
+type Case = (&'static str, &'static str, Result<usize, Fault>);
+
+#[rattlefmt::skip]
+const CASES: &[Case] = &[
+    ("what is required", "35=D|11=A|40=1|", Ok(3)),
+    ("a line", "11=A|78=1|79=X|80=40|40=1|", Ok(5)),
+    ("a wrong count", "11=A|78=2|79=X|40=1|", reason!(Some(78), 16)),
+    ("no digit", "11=A|x=1|", reason!(None, 0)),
+    ("a leading zero", "11=A|040=1|", reason!(None, 0)),
+    ("no end", "11=A|40=1", reason!(None, 6)),
+    ("data of wrong length", "11=A|95=9|96=x|", reason!(Some(96), 6)),
+    ("a tag twice", "11=A|40=1|40=2|", reason!(Some(40), 13)),
+    ("a missing field", "40=1|", reason!(Some(11), 1)),
+    ("no value", "11=|40=1|", reason!(Some(11), 4)),
+    ("an unknown tag", "11=A|40=1|58=t|", outside!(58)),
+    ("an unlisted code", "11=A|40=4|", outside!(40)),
+    ("FIX 5.0 SP2", "1128=9|11=A|40=1|", Ok(3)),
+    ("FIX 5.0", "1128=7|11=A|40=1|", reason!(Some(1128), 18)),
+    ("a month", "11=A|40=1|200=202406|", Ok(3)),
+    ("no month", "11=A|40=1|200=202413|", outside!(200)),
+    ("an empty month", "11=A|40=1|200=|", reason!(Some(200), 4)),
+    ("any month beside a date", "11=A|40=1|200=x|541=20240601|", Ok(4)),
+    ("a day of June", "11=A|40=1|200=202406|205=30|", Ok(4)),
+    ("a day that June lacks", "11=A|40=1|200=202406|205=31|", reason!(Some(205), 5)),
+    ("a day of three digits", "11=A|40=1|200=202406|205=003|", reason!(Some(205), 6)),
+    ("market at the close", "11=A|40=1|59=7|", Ok(3)),
+    ("a stop at the close", "11=A|40=3|59=7|", outside!(59)),
+    ("a stop of the day", "11=A|40=3|59=0|", Ok(3)),
+    ("any source of ids", "11=A|40=1|22=Z|", Ok(3)),
+    ("a capacity", "11=A|40=1|528=I|", Ok(3)),
+    ("another capacity", "11=A|40=1|528=G|", outside!(528)),
+    ("a capacity of two bytes", "11=A|40=1|528=AI|", reason!(Some(528), 6)),
+];
+
+/// The text with SOH in place of each `|`.
+fn body(alloc: Global, text: &str) -> Result<Vec<u8>, AllocError> {
+    let mut bytes = Vec::new(alloc);
+    for byte in text.bytes() {
+        bytes.push(if byte == b'|' { 1 } else { byte })?;
+    }
+    Ok(bytes)
+}
+
+#[test]
+fn fields_are_judged(rt: HostRuntime) -> Result<(), Fail> {
+    for (name, text, want) in CASES {
+        let bytes = body(rt.alloc(), text)?;
+        let split = split(rt.alloc(), &bytes)?;
+        let length = match good_fields(&TABLE, &split) {
+            Ok(fields) => Ok(fields.len()),
+            Err(fault) => Err(fault),
+        };
+        assert_eq!(rt; length, *want, "at {name}");
+    }
+    Ok(())
+}
+
+/// A group of each sort: its fields come behind its count, up to a field of another tag.
+#[rattlefmt::skip]
+const GROUPS: &[Field<'static>] = &[
+    (453, b"2"), // NoPartyIDs
+    (448, b"FUND"), (447, b"D"), (452, b"3"),
+    (448, b"EX"), (802, b"1"), (523, b"sub"), (803, b"4"), (447, b"B"), (452, b"01"),
+    (78, b"2"), // NoAllocs
+    (79, b"X"), (80, b"40.0"),
+    (79, b"Y"),
+    (386, b"1"), // NoTradingSessions
+    (336, b"S"),
+    (54, b"1"),
+];
+
+/// What is written of these groups: each PartyIDSource(447) is `D`, and no sub-id is written.
+const WRITTEN: &str = "453=2|448=FUND|447=D|452=3|448=EX|447=D|452=1|78=2|79=X|80=40|79=Y|386=1|\
+    336=S|";
+
+/// The groups that are read, as they are written.
+#[tactic(auto, using(crate::proofs::SaidRows::of_lines))]
+fn written_groups(alloc: Global) -> Result<Vec<u8>, AllocError> {
+    let parties: Lines = read_lines(alloc, GROUPS)?;
+    let allocs: Allocs = read_lines(alloc, GROUPS)?;
+    let sessions: Sessions = read_lines(alloc, GROUPS)?;
+    let mut out = Vec::new(alloc);
+    put_parts(&mut out, &[Part::Parties(&parties)])?;
+    put_parts(&mut out, &[Part::Allocs(&allocs)])?;
+    put_parts(&mut out, &[Part::Sessions(&sessions)])?;
+    Ok(out)
+}
+
+/// What is written of a value of each variant; a value that is none is not written.
+const CONTENT: &str = "447=D|448=A1|58=note|54=6|38=100.5|64=19700105|60=19700102-10:20:30.123|\
+    114=N|452=12|200=202406|205=03|541=20240603|";
+
+/// The month of MaturityMonthYear(200), with its third day.
+fn third_day() -> Option<Maturity>
+    ensures { IfSome result IsReadableMaturity }
+{
+    match month(FIELDS, 200) {
+        Some(month) => Some(Maturity {
+            month,
+            day: Some(3),
+        }),
+        None => None,
+    }
+}
+
+/// A value of each variant, as it is written.
+fn written_values(alloc: Global) -> Result<Vec<u8>, AllocError> {
+    let id = Bytes::copy(alloc, b"A1")?;
+    let note = Some(Bytes::copy(alloc, b"note")?);
+    let maturity = third_day();
+    let mut out = Vec::new(alloc);
+    put_parts(&mut out, &[Part::Row(447, Value::Text(b"D"))])?;
+    put_parts(&mut out, &[Part::Row(448, Value::Own(&id))])?;
+    put_parts(&mut out, &[Part::Row(58, Value::TextIf(&note))])?;
+    put_parts(
+        &mut out,
+        &[
+            Part::Row(54, Value::Code(code(FIELDS, 54, &OneByte))),
+            Part::Row(59, Value::Code(None)),
+            Part::Row(38, Value::Dec(qty(FIELDS, 38))),
+            Part::Row(99, Value::Dec(None)),
+            Part::Row(64, Value::Day(day(FIELDS, 64))),
+            Part::Row(60, Value::Stamp(stamp(FIELDS, 60))),
+            Part::Row(114, Value::Flag(flag(FIELDS, 114))),
+            Part::Row(452, Value::Number(number_or_zero(FIELDS, 452))),
+            Part::Row(200, Value::Month(maturity)),
+            Part::Row(205, Value::MonthDay(maturity)),
+            Part::Row(541, Value::Date(maturity)),
+        ],
+    )?;
+    Ok(out)
+}
+
+#[test]
+fn parts_are_written(rt: HostRuntime) -> Result<(), Fail> {
+    let groups = written_groups(rt.alloc())?;
+    assert!(rt; groups.as_slice() == body(rt.alloc(), WRITTEN)?.as_slice());
+    let values = written_values(rt.alloc())?;
+    assert!(rt; values.as_slice() == body(rt.alloc(), CONTENT)?.as_slice());
+    Ok(())
+}

@@ -1,0 +1,289 @@
+//! Writing contents: each row of a table is a part.
+
+ghost use Rattle.std.specs.Prelude.{◌≡◌, ◌≤◌, ◌++◌, ◌∷◌, [], map, IfSome, OnOk, option_and_then};
+ghost use Rattle.std.specs.List.{AllByRecursion, flat_map};
+ghost use Rattle.std.specs.Option.{option_map};
+ghost use Rattle.std.specs.Fmt.{decimal};
+ghost use Rattle.typed_fields.specs.Digits.{zero_padded};
+ghost use Rattle.typed_fields.specs.MonthYear.{IsMonthYear, month_year_text};
+ghost use Rattle.field_groups.specs.Field.{body_of, field_bytes};
+ghost use Rattle.message_tables.specs.Tables.{Tag};
+ghost use Rattle.message_tables.specs.Content.{cell_fields, group_fields};
+ghost use Rattle.row_values.specs.CodeKinds.{code_text, two_digit_text};
+ghost use Rattle.row_values.specs.Lines.{IsReadableMaturity, month_text};
+ghost use Rattle.row_values.specs.Writing.{IsPart, IsValue, count_fields, date_text};
+ghost use Rattle.row_values.specs.Writing.{month_day_text, part_fields, value_text};
+
+use crate::lines::{Allocs, GroupLine, Maturity, Sessions};
+use field_groups::SOH;
+use order_meaning::{Bytes, GroupLines, Lines};
+use std::alloc::AllocError;
+use typed_fields::{Day, Dec, FieldValue, Flag, MonthYear, Number, Stamp};
+
+/// What a row says, if it says anything.
+#[derive(Clone, Copy)]
+pub enum Value<'a> {
+    /// These bytes.
+    Text(&'static [u8]),
+    /// The bytes of a text.
+    Own(&'a Bytes),
+    /// These bytes, if there are any.
+    TextIf(&'a Option<Bytes>),
+    /// A code.
+    Code(Option<u8>),
+    /// A decimal number.
+    Dec(Option<Dec>),
+    /// A day.
+    Day(Option<Day>),
+    /// A moment.
+    Stamp(Option<Stamp>),
+    /// Yes or no.
+    Flag(Option<Flag>),
+    /// A number.
+    Number(Number),
+    /// The month of a maturity.
+    Month(Option<Maturity>),
+    /// The day of a maturity, if it has one.
+    MonthDay(Option<Maturity>),
+    /// The date of a maturity, if it has a day.
+    Date(Option<Maturity>),
+}
+
+/// A part of a content, in the order of its table.
+#[derive(Clone, Copy)]
+pub enum Part<'a> {
+    /// The row of a tag.
+    Row(u32, Value<'a>),
+    /// Parties(453).
+    Parties(&'a Lines),
+    /// The accounts of an order, (78).
+    Allocs(&'a Allocs),
+    /// The sessions in which an order may trade, (386).
+    Sessions(&'a Sessions),
+}
+
+/// Begins a field.
+fn put_tag(out: &mut Vec<u8>, tag: u32) -> Result<(), AllocError>
+    requires { tag ≤ 1_000_000_000 }
+    ensures { OnOk result (out.new.items ≡ out.old.items ++ decimal tag ++ 61 ∷ []) }
+{
+    Number { value: tag }.write(out)?;
+    out.extend_from_slice(b"=")
+}
+
+/// Appends a field of these bytes.
+#[tactic(auto, unfolding(field_groups::specs::Field::field_bytes))]
+fn put_text(out: &mut Vec<u8>, tag: u32, text: &[u8]) -> Result<(), AllocError>
+    requires { tag ≤ 1_000_000_000 }
+    ensures { OnOk result (out.new.items ≡ out.old.items ++ field_bytes (tag, text.now)) }
+{
+    put_tag(out, tag)?;
+    out.extend_from_slice(text)?;
+    out.extend_from_slice(&[SOH])
+}
+
+/// Appends a field of a value, if there is one.
+#[tactic(auto, unfolding(field_groups::specs::Field::field_bytes))]
+fn put_if<T: FieldValue>(out: &mut Vec<u8>, tag: u32, value: &Option<T>) -> Result<(), AllocError>
+    requires tag { tag ≤ 1_000_000_000 }
+    requires value { IfSome value.now T.can_be }
+    ensures { OnOk result (out.new.items
+        ≡ out.old.items ++ body_of (cell_fields (Tag tag, option_map T.spelling value.now))) }
+{
+    match value {
+        None => Ok(()),
+        Some(value) => {
+            put_tag(out, tag)?;
+            value.write(out)?;
+            out.extend_from_slice(&[SOH])
+        }
+    }
+}
+
+/// Appends the field of a row's code, if there is one.
+fn put_code(out: &mut Vec<u8>, tag: u32, code: Option<u8>) -> Result<(), AllocError>
+    requires { tag ≤ 1_000_000_000 }
+    ensures { OnOk result (out.new.items
+        ≡ out.old.items ++ body_of (cell_fields (Tag tag, option_map code_text code))) }
+{
+    match code {
+        None => Ok(()),
+        Some(code) => put_text(out, tag, &[code]),
+    }
+}
+
+/// Appends the field of a text, if there is one.
+fn put_text_if(out: &mut Vec<u8>, tag: u32, text: &Option<Bytes>) -> Result<(), AllocError>
+    requires { tag ≤ 1_000_000_000 }
+    ensures { OnOk result (out.new.items
+        ≡ out.old.items ++ body_of (cell_fields (Tag tag, text.now))) }
+{
+    match text {
+        None => Ok(()),
+        Some(text) => put_text(out, tag, text.as_slice()),
+    }
+}
+
+/// Appends the field of a month, if there is one.
+fn put_month(out: &mut Vec<u8>, tag: u32, maturity: Option<Maturity>) -> Result<(), AllocError>
+    requires tag { tag ≤ 1_000_000_000 }
+    requires month { IfSome maturity IsReadableMaturity }
+    ensures { OnOk result (out.new.items
+        ≡ out.old.items ++ body_of (cell_fields (Tag tag, option_map month_text maturity))) }
+{
+    match maturity {
+        None => Ok(()),
+        Some(maturity) => put_if(out, tag, &Some(maturity.month)),
+    }
+}
+
+/// The last two digits of a number.
+#[tactic(auto, using(crate::proofs::Contents::last_two))]
+fn last_two_digits(number: u8) -> [u8; 2]
+    ensures { result ≡ zero_padded 2 number }
+{
+    two_digits(number % 100)
+}
+
+/// Appends the field of a date.
+#[tactic(auto, unfolding(field_groups::specs::Field::field_bytes))]
+fn put_day(out: &mut Vec<u8>, tag: u32, month: MonthYear, day: u8) -> Result<(), AllocError>
+    requires tag { tag ≤ 1_000_000_000 }
+    requires month { IsMonthYear month }
+    ensures { OnOk result (out.new.items ≡ out.old.items
+        ++ field_bytes (tag, month_year_text month ++ zero_padded 2 day)) }
+{
+    put_tag(out, tag)?;
+    month.write(out)?;
+    out.extend_from_slice(&last_two_digits(day))?;
+    out.extend_from_slice(&[SOH])
+}
+
+/// A number of two digits.
+fn two_digits(number: u8) -> [u8; 2]
+    ensures { result ≡ two_digit_text number }
+{
+    [b'0' + number / 10, b'0' + number % 10]
+}
+
+/// Appends the field of a day of a month, if there is one.
+fn put_month_day(out: &mut Vec<u8>, tag: u32, maturity: Option<Maturity>) -> Result<(), AllocError>
+    requires { tag ≤ 1_000_000_000 }
+    ensures { OnOk result (out.new.items ≡ out.old.items
+        ++ body_of (cell_fields (Tag tag, option_and_then month_day_text maturity))) }
+{
+    match maturity {
+        None => Ok(()),
+        Some(maturity) => match maturity.day {
+            None => Ok(()),
+            Some(day) => put_text(out, tag, &two_digits(day)),
+        },
+    }
+}
+
+/// Appends the field of a date, if there is one.
+fn put_date(out: &mut Vec<u8>, tag: u32, maturity: Option<Maturity>) -> Result<(), AllocError>
+    requires tag { tag ≤ 1_000_000_000 }
+    requires month { IfSome maturity IsReadableMaturity }
+    ensures { OnOk result (out.new.items
+        ≡ out.old.items ++ body_of (cell_fields (Tag tag, option_and_then date_text maturity))) }
+{
+    match maturity {
+        None => Ok(()),
+        Some(maturity) => match maturity.day {
+            None => Ok(()),
+            Some(day) => put_day(out, tag, maturity.month, day),
+        },
+    }
+}
+
+/// Appends what a row says.
+pub(crate) fn put_row(out: &mut Vec<u8>, tag: u32, value: &Value<'_>) -> Result<(), AllocError>
+    requires tag { tag ≤ 1_000_000_000 }
+    requires value { IsValue value.now }
+    ensures { OnOk result (out.new.items
+        ≡ out.old.items ++ body_of (cell_fields (Tag tag, value_text value.now))) }
+{
+    match value {
+        Value::Text(text) => put_text(out, tag, text),
+        Value::Own(text) => put_text(out, tag, text.as_slice()),
+        Value::TextIf(text) => put_text_if(out, tag, text),
+        Value::Code(code) => put_code(out, tag, *code),
+        Value::Dec(dec) => put_if(out, tag, dec),
+        Value::Day(day) => put_if(out, tag, day),
+        Value::Stamp(stamp) => put_if(out, tag, stamp),
+        Value::Flag(flag) => put_if(out, tag, flag),
+        Value::Number(number) => put_if(out, tag, &Some(*number)),
+        Value::Month(maturity) => put_month(out, tag, *maturity),
+        Value::MonthDay(maturity) => put_month_day(out, tag, *maturity),
+        Value::Date(maturity) => put_date(out, tag, *maturity),
+    }
+}
+
+/// Appends the count of a group that has lines.
+fn put_count(out: &mut Vec<u8>, tag: u32, count: usize) -> Result<(), AllocError>
+    requires tag { tag ≤ 1_000_000_000 }
+    requires count { count ≤ 32 }
+    ensures { OnOk result (out.new.items
+        ≡ out.old.items ++ body_of (count_fields tag count)) }
+{
+    if count == 0 {
+        Ok(())
+    } else {
+        put_row(
+            out,
+            tag,
+            &Value::Number(Number {
+                value: count as u32,
+            }),
+        )
+    }
+}
+
+/// Appends a group, if it has lines.
+fn put_lines<L: GroupLine>(
+    out: &mut Vec<u8>,
+    tag: u32,
+    lines: &GroupLines<L>,
+) -> Result<(), AllocError>
+    requires tag { tag ≤ 1_000_000_000 }
+    requires lines { AllByRecursion L.is_readable lines.now }
+    ensures { OnOk result (out.new.items
+        ≡ out.old.items ++ body_of (group_fields tag (map L.cells lines.now))) }
+{
+    let lines = lines.as_slice();
+    put_count(out, tag, lines.len())?;
+    for line in lines {
+        line.write(out)?;
+    }
+    Ok(())
+}
+
+/// Appends a part of a content.
+fn put_part(out: &mut Vec<u8>, part: &Part<'_>) -> Result<(), AllocError>
+    requires { IsPart part.now }
+    ensures { OnOk result (out.new.items ≡ out.old.items ++ body_of (part_fields part.now)) }
+{
+    match part {
+        Part::Row(tag, value) => put_row(out, *tag, value),
+        Part::Parties(lines) => put_lines(out, 453, lines),
+        Part::Allocs(lines) => put_lines(out, 78, lines),
+        Part::Sessions(lines) => put_lines(out, 386, lines),
+    }
+}
+
+/// Appends the parts of a content.
+///
+/// # Errors
+///
+/// `AllocError` for want of memory; then nothing is said of `out`.
+pub fn put_parts(out: &mut Vec<u8>, parts: &[Part<'_>]) -> Result<(), AllocError>
+    requires { AllByRecursion IsPart parts.now }
+    ensures { OnOk result (out.new.items
+        ≡ out.old.items ++ body_of (flat_map part_fields parts.now)) }
+{
+    for part in parts {
+        put_part(out, part)?;
+    }
+    Ok(())
+}
