@@ -1,10 +1,4 @@
-pub mod Bounds
-pub mod Contents
-pub mod FirstFaults
 pub mod Given
-pub mod LineByLine
-pub mod Lines
-pub mod Marks
 pub mod Means
-pub mod Texts
+pub mod Days
 mod Worked

@@ -1,84 +1,42 @@
 -- What is read of fields at no fault is their message, row by row.
 use Rattle.std.proofs.Common.{◌≡◌, ℕ, List, [], ◌∷◌, codes, Some, None, Bool, true, false}
-use Rattle.std.proofs.Common.{map, refl, sym, ap, unwrap_or}
-use Rattle.std.specs.Prelude.{IsSome, IfSome}
+use Rattle.std.proofs.Common.{map, refl, ap}
+use Rattle.std.specs.Prelude.{IsSome}
 use Rattle.std.specs.List.{AllZip, slice_get}
-use Rattle.typed_fields.specs.ValueKind.{Id, Code, Qty, Stamp, MonthYear}
 use Rattle.field_groups.specs.Field.{Field}
-use Rattle.field_groups.specs.Tables.{Place, Said, Cell, Required, When, One, Table, ◌>>=◌}
-use Rattle.field_groups.specs.Tables.{text_of, has_tag, cell_of, row_at, all_rows}
-use Rattle.field_groups.specs.Tables.{lines_in, tags_in}
-use Rattle.field_groups.specs.FirstFault.{first_fault, message_in}
-use Rattle.field_groups.proofs.Clean.{is_said, value_at-none}
-use Rattle.dict_fix42.specs.declared.lists.AllocLine.{AllocLine}
-use Rattle.dict_fix42.specs.declared.lists.SessionLine.{SessionLine}
+use Rattle.message_tables.specs.Tables.{Required, When, One, Lines, Table, ◌>>=◌, text_of, has_tag}
+use Rattle.message_tables.specs.Tables.{cell_of, row_at, all_rows, lines_in, tags_in}
+use Rattle.message_tables.specs.FirstFault.{first_fault, message_in}
+use Rattle.message_tables.proofs.Clean.{is_said, value_at-none}
+use Rattle.message_tables.proofs.Members.{lines_say, row_says}
+use Rattle.row_values.specs.declared.lines.AllocLine.{AllocLine}
+use Rattle.row_values.specs.declared.lines.SessionLine.{SessionLine}
+use Rattle.row_values.specs.ValueKind.{Id, Code, Qty, Stamp, MonthYear}
+use Rattle.row_values.specs.Kinds.{Kind, Value, DayOf, judge, row, said}
+use Rattle.row_values.specs.Lines.{IsAlloc, IsSession, alloc_cells, session_cells}
+use Rattle.row_values.specs.Groups.{allocs, sessions}
+use Rattle.row_values.proofs.SaidRows.{cell, full, full_text, not_none, allocs_say, sessions_say}
 use Rattle.dict_fix42.specs.declared.requests.New42.{New42}
 use Rattle.dict_fix42.specs.declared.requests.Cancel42.{Cancel42}
 use Rattle.dict_fix42.specs.declared.requests.Replace42.{Replace42}
 use Rattle.dict_fix42.specs.declared.requests.Status42.{Status42}
-use Rattle.dict_fix42.specs.Kinds.{Kind42, Value, DayOf, judge}
-use Rattle.dict_fix42.specs.Requests.{allocs, sessions, has_day}
+use Rattle.dict_fix42.specs.Requests.{has_day}
 use Rattle.dict_fix42.specs.Requests.{new_order, cancel_request, replace_request, status_request}
 use Rattle.dict_fix42.specs.Message.{table}
-use Rattle.dict_fix42.specs.Said.{alloc_cells, session_cells}
 use Rattle.dict_fix42.specs.Said.{new_says, cancel_says, replace_says, status_says}
-use Rattle.dict_fix42.specs.Reading.{said, IsAlloc, IsSession}
 use Rattle.dict_fix42.specs.Reading.{IsNew, IsCancel, IsReplace, IsStatus}
-use Rattle.dict_fix42.proofs.Lines.{AllSay, lines_say}
-
-cell : {place : Place} {a b : Said} {xs ys : List Cell} → a ≡ b → xs ≡ ys
-    → (place, a) ∷ xs ≡ (place, b) ∷ ys
-cell {place} e es = λ i. (place, e i) ∷ es i
-
-full : (said : Said) (text : List ℕ) → IsSome said → IfSome said (λ t. t ≡ text)
-    → Some text ≡ said
-full None text s h = absurd cc
-full (Some t) text s h = ap Some (sym h)
-
-full_text : (said : Said) (text : List ℕ) → IsSome said → text ≡ unwrap_or said []
-    → Some text ≡ said
-full_text None text s h = absurd cc
-full_text (Some t) text s h = ap Some h
-
-not_none : (said : Said) → IsSome said → said ≡ None → ⊥
-not_none None s h = absurd cc
-not_none (Some t) s h = absurd cc
-
--- ---- the lines of groups
-
-allocs_say : (lines : List (List Field)) (ls : List AllocLine) → AllZip IsAlloc lines ls
-    → AllSay 79 (Value Id) lines
-    → map alloc_cells ls ≡ map (λ line. map (cell_of judge line) allocs.rows) lines
-allocs_say [] [] w i = refl
-allocs_say [] (l ∷ ls) w i = absurd w
-allocs_say (line ∷ lines) [] w i = absurd w
-allocs_say (line ∷ lines) (l ∷ ls) w i =
-    let e : alloc_cells l ≡ map (cell_of judge line) allocs.rows =
-    cell (full_text _ _ i.0 w.0.account) (cell w.0.qty refl) in
-    let es = allocs_say lines ls w.1 i.1 in λ j. e j ∷ es j
-
-sessions_say : (lines : List (List Field)) (ls : List SessionLine) → AllZip IsSession lines ls
-    → AllSay 336 (Value Id) lines
-    → map session_cells ls ≡ map (λ line. map (cell_of judge line) sessions.rows) lines
-sessions_say [] [] w i = refl
-sessions_say [] (l ∷ ls) w i = absurd w
-sessions_say (line ∷ lines) [] w i = absurd w
-sessions_say (line ∷ lines) (l ∷ ls) w i =
-    let e : session_cells l ≡ map (cell_of judge line) sessions.rows =
-    cell (full_text _ _ i.0 w.0.id) refl in
-    let es = sessions_say lines ls w.1 i.1 in λ j. e j ∷ es j
 
 -- ---- rows of a message at no fault
 
-module _ (table : Table Kind42) (fields : List Field)
+module _ (table : Table Kind) (fields : List Field)
     (h : first_fault judge table fields ≡ None) where
-  row_says : (i tag : ℕ) (kind : Kind42)
+  says : (i tag : ℕ) (kind : Kind)
       → slice_get table.items i ≡ Some (One (record { tag = tag; kind = kind; need = Required }))
       → row_at tag (all_rows table) ≡ Some (record { tag = tag; kind = kind; need = Required })
       → IsSome (said fields tag kind)
-  row_says i tag kind at its =
-      is_said judge table fields i (record { tag = tag; kind = kind; need = Required }) h at its
-      refl refl
+  says i tag kind at its =
+      row_says judge table fields i (record { tag = tag; kind = kind; need = Required }) h at refl
+      its
 
   -- where no month is said, no day is
   dated : (i : ℕ)
@@ -98,50 +56,50 @@ module _ (table : Table Kind42) (fields : List Field)
           ap (λ value. value >>= (λ bytes. text_of (judge fields (DayOf 200) bytes)))
           (value_at-none 205 fields e)
 
-  says_allocs : row_at 79 (all_rows table)
-      ≡ Some (record { tag = 79; kind = Value Id; need = Required })
+  says_allocs : (i : ℕ) → slice_get table.items i ≡ Some (Lines allocs)
+      → row_at 79 (all_rows table) ≡ Some (row Required 79 Id)
       → (ls : List AllocLine) → AllZip IsAlloc (lines_in (tags_in allocs) fields) ls
       → map alloc_cells ls
       ≡ map (λ line. map (cell_of judge line) allocs.rows) (lines_in (tags_in allocs) fields)
   unfolding judge
-  says_allocs its ls w =
+  says_allocs i at its ls w =
       allocs_say (lines_in (tags_in allocs) fields) ls w
-      (lines_say table fields h (tags_in allocs) (Value Id) (λ fs line bytes. refl) its)
+      (lines_say judge table fields i 0 allocs (row Required 79 Id) h at refl refl its)
 
-  says_sessions : row_at 336 (all_rows table)
-      ≡ Some (record { tag = 336; kind = Value Id; need = Required })
+  says_sessions : (i : ℕ) → slice_get table.items i ≡ Some (Lines sessions)
+      → row_at 336 (all_rows table) ≡ Some (row Required 336 Id)
       → (ls : List SessionLine) → AllZip IsSession (lines_in (tags_in sessions) fields) ls
       → map session_cells ls
       ≡ map (λ line. map (cell_of judge line) sessions.rows)
       (lines_in (tags_in sessions) fields)
   unfolding judge
-  says_sessions its ls w =
+  says_sessions i at its ls w =
       sessions_say (lines_in (tags_in sessions) fields) ls w
-      (lines_say table fields h (tags_in sessions) (Value Id) (λ fs line bytes. refl) its)
+      (lines_say judge table fields i 0 sessions (row Required 336 Id) h at refl refl its)
 
 -- ---- New42
 
-abbrev pub new_table : Table Kind42
+abbrev pub new_table : Table Kind
 new_table = table 68 new_order
 
 module _ (fields : List Field) (h : first_fault judge new_table fields ≡ None) where
   new_cells : (m : New42) → IsNew fields m
       → (new_says m).cells ≡ (message_in judge new_table fields).cells
   new_cells m w =
-      cell (full_text _ _ (row_says new_table fields h 0 11 (Value Id) refl refl) w.cl_ord_id) (
+      cell (full_text _ _ (says new_table fields h 0 11 (Value Id) refl refl) w.cl_ord_id) (
       cell w.client_id (
       cell w.exec_broker (
       cell w.clearing_firm (
       cell w.account (
       cell w.settl_type (
       cell w.settl_date (
-      cell (full _ _ (row_says new_table fields h 8 21 (Value (Code (codes "123")))
+      cell (full _ _ (says new_table fields h 8 21 (Value (Code (codes "123")))
       refl refl) w.hand_inst) (
       cell w.exec_inst (
       cell w.min_qty (
       cell w.max_floor (
       cell w.ex_destination (
-      cell (full_text _ _ (row_says new_table fields h 14 55 (Value Id) refl refl) w.symbol) (
+      cell (full_text _ _ (says new_table fields h 14 55 (Value Id) refl refl) w.symbol) (
       cell w.symbol_sfx (
       cell w.security_id (
       cell w.id_source (
@@ -149,12 +107,12 @@ module _ (fields : List Field) (h : first_fault judge new_table fields ≡ None)
       cell w.maturity.month (
       cell (w.maturity.day (dated new_table fields h 19 refl refl)) (
       cell w.security_exchange (
-      cell (full _ _ (row_says new_table fields h 22 54 (Value (Code (codes "123456")))
+      cell (full _ _ (says new_table fields h 22 54 (Value (Code (codes "123456")))
       refl refl) w.side) (
       cell w.locate (
-      cell (full _ _ (row_says new_table fields h 24 60 (Value Stamp) refl refl) w.transact_time) (
-      cell (full _ _ (row_says new_table fields h 25 38 (Value Qty) refl refl) w.order_qty) (
-      cell (full _ _ (row_says new_table fields h 26 40 (Value (Code (codes "12345B")))
+      cell (full _ _ (says new_table fields h 24 60 (Value Stamp) refl refl) w.transact_time) (
+      cell (full _ _ (says new_table fields h 25 38 (Value Qty) refl refl) w.order_qty) (
+      cell (full _ _ (says new_table fields h 26 40 (Value (Code (codes "12345B")))
       refl refl) w.ord_type) (
       cell w.price (
       cell w.stop_px (
@@ -175,27 +133,27 @@ module _ (fields : List Field) (h : first_fault judge new_table fields ≡ None)
     resend = w.resend i;
     cells = new_cells m w i;
     groups =
-        (78, says_allocs new_table fields h refl m.allocs w.allocs i) ∷
-        (386, says_sessions new_table fields h refl m.sessions w.sessions i) ∷
+        (78, says_allocs new_table fields h 5 refl refl m.allocs w.allocs i) ∷
+        (386, says_sessions new_table fields h 13 refl refl m.sessions w.sessions i) ∷
         [];
   }
 
 -- ---- Cancel42
 
-abbrev pub cancel_table : Table Kind42
+abbrev pub cancel_table : Table Kind
 cancel_table = table 70 cancel_request
 
 module _ (fields : List Field) (h : first_fault judge cancel_table fields ≡ None) where
   cancel_cells : (m : Cancel42) → IsCancel fields m
       → (cancel_says m).cells ≡ (message_in judge cancel_table fields).cells
   cancel_cells m w =
-      cell (full_text _ _ (row_says cancel_table fields h 0 11 (Value Id) refl refl) w.cl_ord_id) (
-      cell (full_text _ _ (row_says cancel_table fields h 1 41 (Value Id) refl refl) w.orig_id) (
+      cell (full_text _ _ (says cancel_table fields h 0 11 (Value Id) refl refl) w.cl_ord_id) (
+      cell (full_text _ _ (says cancel_table fields h 1 41 (Value Id) refl refl) w.orig_id) (
       cell w.order_id (
       cell w.client_id (
       cell w.exec_broker (
       cell w.account (
-      cell (full_text _ _ (row_says cancel_table fields h 6 55 (Value Id) refl refl) w.symbol) (
+      cell (full_text _ _ (says cancel_table fields h 6 55 (Value Id) refl refl) w.symbol) (
       cell w.symbol_sfx (
       cell w.security_id (
       cell w.id_source (
@@ -203,9 +161,9 @@ module _ (fields : List Field) (h : first_fault judge cancel_table fields ≡ No
       cell w.maturity.month (
       cell (w.maturity.day (dated cancel_table fields h 11 refl refl)) (
       cell w.security_exchange (
-      cell (full _ _ (row_says cancel_table fields h 14 54 (Value (Code (codes "123456")))
+      cell (full _ _ (says cancel_table fields h 14 54 (Value (Code (codes "123456")))
       refl refl) w.side) (
-      cell (full _ _ (row_says cancel_table fields h 15 60 (Value Stamp)
+      cell (full _ _ (says cancel_table fields h 15 60 (Value Stamp)
       refl refl) w.transact_time) (
       cell w.order_qty (
       cell w.text (
@@ -223,15 +181,15 @@ module _ (fields : List Field) (h : first_fault judge cancel_table fields ≡ No
 
 -- ---- Replace42
 
-abbrev pub replace_table : Table Kind42
+abbrev pub replace_table : Table Kind
 replace_table = table 71 replace_request
 
 module _ (fields : List Field) (h : first_fault judge replace_table fields ≡ None) where
   replace_cells : (m : Replace42) → IsReplace fields m
       → (replace_says m).cells ≡ (message_in judge replace_table fields).cells
   replace_cells m w =
-      cell (full_text _ _ (row_says replace_table fields h 0 11 (Value Id) refl refl) w.cl_ord_id) (
-      cell (full_text _ _ (row_says replace_table fields h 1 41 (Value Id) refl refl) w.orig_id) (
+      cell (full_text _ _ (says replace_table fields h 0 11 (Value Id) refl refl) w.cl_ord_id) (
+      cell (full_text _ _ (says replace_table fields h 1 41 (Value Id) refl refl) w.orig_id) (
       cell w.order_id (
       cell w.client_id (
       cell w.exec_broker (
@@ -239,13 +197,13 @@ module _ (fields : List Field) (h : first_fault judge replace_table fields ≡ N
       cell w.account (
       cell w.settl_type (
       cell w.settl_date (
-      cell (full _ _ (row_says replace_table fields h 10 21 (Value (Code (codes "123")))
+      cell (full _ _ (says replace_table fields h 10 21 (Value (Code (codes "123")))
       refl refl) w.hand_inst) (
       cell w.exec_inst (
       cell w.min_qty (
       cell w.max_floor (
       cell w.ex_destination (
-      cell (full_text _ _ (row_says replace_table fields h 16 55 (Value Id) refl refl) w.symbol) (
+      cell (full_text _ _ (says replace_table fields h 16 55 (Value Id) refl refl) w.symbol) (
       cell w.symbol_sfx (
       cell w.security_id (
       cell w.id_source (
@@ -253,13 +211,13 @@ module _ (fields : List Field) (h : first_fault judge replace_table fields ≡ N
       cell w.maturity.month (
       cell (w.maturity.day (dated replace_table fields h 21 refl refl)) (
       cell w.security_exchange (
-      cell (full _ _ (row_says replace_table fields h 24 54 (Value (Code (codes "123456")))
+      cell (full _ _ (says replace_table fields h 24 54 (Value (Code (codes "123456")))
       refl refl) w.side) (
       cell w.locate (
-      cell (full _ _ (row_says replace_table fields h 26 60 (Value Stamp)
+      cell (full _ _ (says replace_table fields h 26 60 (Value Stamp)
       refl refl) w.transact_time) (
-      cell (full _ _ (row_says replace_table fields h 27 38 (Value Qty) refl refl) w.order_qty) (
-      cell (full _ _ (row_says replace_table fields h 28 40 (Value (Code (codes "12345B")))
+      cell (full _ _ (says replace_table fields h 27 38 (Value Qty) refl refl) w.order_qty) (
+      cell (full _ _ (says replace_table fields h 28 40 (Value (Code (codes "12345B")))
       refl refl) w.ord_type) (
       cell w.price (
       cell w.stop_px (
@@ -281,26 +239,26 @@ module _ (fields : List Field) (h : first_fault judge replace_table fields ≡ N
     resend = w.resend i;
     cells = replace_cells m w i;
     groups =
-        (78, says_allocs replace_table fields h refl m.allocs w.allocs i) ∷
-        (386, says_sessions replace_table fields h refl m.sessions w.sessions i) ∷
+        (78, says_allocs replace_table fields h 7 refl refl m.allocs w.allocs i) ∷
+        (386, says_sessions replace_table fields h 15 refl refl m.sessions w.sessions i) ∷
         [];
   }
 
 -- ---- Status42
 
-abbrev pub status_table : Table Kind42
+abbrev pub status_table : Table Kind
 status_table = table 72 status_request
 
 module _ (fields : List Field) (h : first_fault judge status_table fields ≡ None) where
   status_cells : (m : Status42) → IsStatus fields m
       → (status_says m).cells ≡ (message_in judge status_table fields).cells
   status_cells m w =
-      cell (full_text _ _ (row_says status_table fields h 0 11 (Value Id) refl refl) w.cl_ord_id) (
+      cell (full_text _ _ (says status_table fields h 0 11 (Value Id) refl refl) w.cl_ord_id) (
       cell w.order_id (
       cell w.client_id (
       cell w.exec_broker (
       cell w.account (
-      cell (full_text _ _ (row_says status_table fields h 5 55 (Value Id) refl refl) w.symbol) (
+      cell (full_text _ _ (says status_table fields h 5 55 (Value Id) refl refl) w.symbol) (
       cell w.symbol_sfx (
       cell w.security_id (
       cell w.id_source (
@@ -308,7 +266,7 @@ module _ (fields : List Field) (h : first_fault judge status_table fields ≡ No
       cell w.maturity.month (
       cell (w.maturity.day (dated status_table fields h 10 refl refl)) (
       cell w.security_exchange (
-      cell (full _ _ (row_says status_table fields h 13 54 (Value (Code (codes "123456")))
+      cell (full _ _ (says status_table fields h 13 54 (Value (Code (codes "123456")))
       refl refl) w.side) (
       refl))))))))))))))
 

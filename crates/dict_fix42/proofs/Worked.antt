@@ -4,7 +4,7 @@ use Rattle.std.specs.Prelude.{Some, None, Result, Ok, Err}
 use Rattle.std.specs.declared.option.Option.{Option}
 use Rattle.std.specs.Option.{option_map}
 use Rattle.std.specs.Fmt.{digits}
-use Rattle.typed_fields.specs.ValueKind.{spelling, units_of_text}
+use Rattle.row_values.specs.ValueKind.{spelling, units_of_text}
 use Rattle.typed_fields.specs.Digits.{are_digits, number_of, has_pattern, zero_padded}
 use Rattle.typed_fields.specs.Digits.{without_leading_zeros, without_trailing_zeros}
 use Rattle.order_meaning.specs.declared.fault.Fault.{Fault}
@@ -13,10 +13,10 @@ use Rattle.order_meaning.specs.declared.fault.Fault.TheVariants.{NotSupported}
 use Rattle.order_meaning.specs.Request.{Request, Limit}
 use Rattle.field_groups.specs.Field.{Field}
 use Rattle.field_groups.specs.HeadValues.{number_in}
-use Rattle.field_groups.specs.Tables.{Message, first_of}
-use Rattle.field_groups.specs.FirstFault.{first_fault, message_of}
-use Rattle.field_groups.specs.Content.{content}
-use Rattle.dict_fix42.specs.Kinds.{judge}
+use Rattle.message_tables.specs.Tables.{Message, first_of}
+use Rattle.message_tables.specs.FirstFault.{first_fault, message_of}
+use Rattle.message_tables.specs.Content.{content}
+use Rattle.row_values.specs.Kinds.{judge}
 use Rattle.dict_fix42.specs.Message.{message42, table}
 use Rattle.dict_fix42.specs.Requests.{new_order}
 use Rattle.dict_fix42.specs.Sense.{sense42}

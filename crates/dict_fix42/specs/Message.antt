@@ -1,27 +1,20 @@
 -- Standard: FIX 4.2, Standard Message Header, and the types of messages of "Order Messages".
--- Own: what the header's fields count for in an order message, and which fault of a body is told.
-use Rattle.std.specs.Prelude.{ℕ, true, List, [], ◌∷◌, codes, Some, None, Result, Ok, Err}
-use Rattle.std.specs.Prelude.{if◌then◌else◌}
+-- Own: what the header's fields count for in an order message.
+use Rattle.std.specs.Prelude.{ℕ, true, List, [], ◌∷◌, codes, Some, None, Result, if◌then◌else◌}
 use Rattle.std.specs.declared.option.Option.{Option}
 use Rattle.std.specs.Str.{bytes_eq}
-use Rattle.typed_fields.specs.ValueKind.{Filled, Flag}
 use Rattle.field_groups.specs.declared.fault.SplitFault.{SplitFault}
-use Rattle.field_groups.specs.declared.fault.SplitFault.TheVariants.{NoTag, BadTag, NoEnd}
-use Rattle.field_groups.specs.declared.fault.SplitFault.TheVariants.{DataLength, TooMany}
-use Rattle.field_groups.specs.declared.table_fault.TableFault.{TableFault}
-use Rattle.field_groups.specs.declared.table_fault.TableFault.TheVariants.{Reason, Outside}
 use Rattle.field_groups.specs.Field.{Field}
-use Rattle.field_groups.specs.Tables.{Optional, Row, Item, Table, Message}
-use Rattle.field_groups.specs.FirstFault.{message_of}
+use Rattle.message_tables.specs.Tables.{Optional, Row, Item, Table, Message}
 use Rattle.order_meaning.specs.declared.fault.Fault.{Fault}
-use Rattle.order_meaning.specs.declared.fault.Fault.TheVariants.{Session, NoCounterpart}
-use Rattle.order_meaning.specs.declared.fault.Fault.TheVariants.{NotSupported}
-use Rattle.dict_fix42.specs.Kinds.{Kind42, row, judge}
+use Rattle.row_values.specs.ValueKind.{Filled, Flag}
+use Rattle.row_values.specs.Kinds.{Kind, row}
+use Rattle.row_values.specs.Faults.{message_by}
 use Rattle.dict_fix42.specs.Requests.{new_order, cancel_request, replace_request, status_request}
 
 -- The standard header. Of its fields PossResend (97) alone is a part of what a message means; of
 -- the others it is only asked that they have a value.
-abbrev pub header : List (Row Kind42)
+abbrev pub header : List (Row Kind)
 header =
     row Optional 35 Filled ∷  -- MsgType
     row Optional 49 Filled ∷  -- SenderCompID
@@ -40,38 +33,16 @@ header =
     []
 
 -- a field that has no row is outside the profile
-abbrev pub table : ℕ → List (Item Kind42) → Table Kind42
+abbrev pub table : ℕ → List (Item Kind) → Table Kind
 table letter items = record { letter = letter; header = header; items = items; strict = true }
 
 -- the table of a MsgType
-abbrev pub table_of : List ℕ → Option (Table Kind42)
+abbrev pub table_of : List ℕ → Option (Table Kind)
 table_of msg_type =
     if bytes_eq msg_type (codes "D") then Some (table 68 new_order) else
     (if bytes_eq msg_type (codes "F") then Some (table 70 cancel_request) else
     (if bytes_eq msg_type (codes "G") then Some (table 71 replace_request) else
     (if bytes_eq msg_type (codes "H") then Some (table 72 status_request) else None)))
-
--- the reasons: 0 Invalid tag number, 6 Incorrect data format for value, 5 Value is incorrect
-abbrev pub of_split : SplitFault → Fault
-of_split (NoTag at) = Session None 0
-of_split (BadTag at) = Session None 0
-of_split (NoEnd at) = Session None 6
-of_split (DataLength tag) = Session (Some tag) 6
-of_split TooMany = Session None 5
-
-abbrev pub of_table : TableFault → Fault
-of_table (Reason tag reason) = Session (Some tag) reason
-of_table (Outside tag) = NoCounterpart tag
-
-abbrev pub told : Result Message TableFault → Result Message Fault
-told (Ok message) = Ok message
-told (Err fault) = Err (of_table fault)
-
-abbrev pub message_by : Option (Table Kind42) → List Field → Option SplitFault
-    → Result Message Fault
-message_by None fields fault = Err NotSupported
-message_by (Some table) fields (Some fault) = Err (of_split fault)
-message_by (Some table) fields None = told (message_of judge table fields)
 
 -- THE MESSAGE that a MsgType and the fields of a body are, with the fault that stopped them, if
 -- any; or the first fault.

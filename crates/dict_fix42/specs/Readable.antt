@@ -1,25 +1,16 @@
 -- Own: the messages that can be written: each number, day, month and moment is one that can be
 -- read.
-use Rattle.std.specs.Prelude.{List, IfSome}
-use Rattle.std.specs.List.{AllByRecursion}
+use Rattle.std.specs.Prelude.{IfSome}
 use Rattle.typed_fields.specs.Dec.{IsDec}
 use Rattle.typed_fields.specs.Day.{IsDay}
 use Rattle.typed_fields.specs.Stamp.{IsStamp}
-use Rattle.typed_fields.specs.MonthYear.{IsMonthYear}
-use Rattle.dict_fix42.specs.declared.lists.AllocLine.{AllocLine}
-use Rattle.dict_fix42.specs.declared.requests.Maturity.{Maturity}
+use Rattle.row_values.specs.Lines.{IsReadableMaturity, AreReadableAllocs}
 use Rattle.dict_fix42.specs.declared.requests.New42.{New42}
 use Rattle.dict_fix42.specs.declared.requests.Cancel42.{Cancel42}
 use Rattle.dict_fix42.specs.declared.requests.Replace42.{Replace42}
 use Rattle.dict_fix42.specs.declared.requests.Status42.{Status42}
 use Rattle.dict_fix42.specs.declared.requests.Msg42.{Msg42}
 use Rattle.dict_fix42.specs.declared.requests.Msg42.TheVariants as messages
-
-abbrev pub IsReadableMaturity : Maturity → Type 0
-IsReadableMaturity maturity = IsMonthYear maturity.month
-
-abbrev pub AreReadableAllocs : List AllocLine → Type 0
-AreReadableAllocs lines = AllByRecursion (λ line. IfSome line.qty IsDec) lines
 
 pub record IsReadableNew (m : New42) : Type 0 where
   pub allocs : AreReadableAllocs m.allocs

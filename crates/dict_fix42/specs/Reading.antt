@@ -1,58 +1,32 @@
--- Inside: what fields say at single tags and in the lines of groups, and requests that say the same
--- at each row.
-use Rattle.std.specs.Prelude.{◌≡◌, ℕ, Bool, false, List, [], ◌∷◌, codes, Option, None}
+-- Inside: requests that say at each row what the fields say.
+use Rattle.std.specs.Prelude.{◌≡◌, List, [], ◌∷◌, codes, Option, None}
 use Rattle.std.specs.Prelude.{unwrap_or, option_and_then, IfSome}
 use Rattle.std.specs.Option.{option_map}
-use Rattle.std.specs.List.{AllZip}
-use Rattle.typed_fields.specs.ValueKind.{Id, Text, OneByte, Code, Codes, Word, Currency, Flag}
-use Rattle.typed_fields.specs.ValueKind.{Qty, Price, Stamp, Day, MonthYear}
-use Rattle.typed_fields.specs.Dec.{dec_text, IsDec}
+use Rattle.row_values.specs.ValueKind.{Id, Text, OneByte, Code, Codes, Word, Currency, Flag}
+use Rattle.row_values.specs.ValueKind.{Qty, Price, Stamp, Day, MonthYear}
+use Rattle.typed_fields.specs.Dec.{dec_text}
 use Rattle.typed_fields.specs.Day.{day_text}
 use Rattle.typed_fields.specs.Stamp.{stamp_text}
 use Rattle.typed_fields.specs.Flag.{flag_text}
-use Rattle.typed_fields.specs.CodeKinds.{code_text}
+use Rattle.row_values.specs.CodeKinds.{code_text}
 use Rattle.field_groups.specs.Field.{Field}
-use Rattle.field_groups.specs.Tables.{Said, ◌>>=◌, flag_of, text_of, value_at, tags_in, lines_in}
-use Rattle.dict_fix42.specs.declared.lists.AllocLine.{AllocLine}
-use Rattle.dict_fix42.specs.declared.lists.SessionLine.{SessionLine}
+use Rattle.message_tables.specs.Tables.{Said}
 use Rattle.dict_fix42.specs.declared.groups.Groups.{Groups}
-use Rattle.dict_fix42.specs.declared.requests.Maturity.{Maturity}
+use Rattle.row_values.specs.declared.lines.Maturity.{Maturity}
 use Rattle.dict_fix42.specs.declared.requests.New42.{New42}
 use Rattle.dict_fix42.specs.declared.requests.Cancel42.{Cancel42}
 use Rattle.dict_fix42.specs.declared.requests.Replace42.{Replace42}
 use Rattle.dict_fix42.specs.declared.requests.Status42.{Status42}
-use Rattle.dict_fix42.specs.Kinds.{Kind42, Value, DayOf, judge}
-use Rattle.dict_fix42.specs.Requests.{allocs, sessions}
-use Rattle.dict_fix42.specs.Said.{month_text, month_day_text}
-
--- what the field of a tag says, as a value of a kind
-abbrev pub said : List Field → ℕ → Kind42 → Said
-said fields tag kind = value_at tag fields >>= (λ bytes. text_of (judge fields kind bytes))
-
--- whether the fields repeat what was sent before, PossResend (97)
-abbrev pub resend_of : List Field → Bool
-resend_of fields = unwrap_or (option_map flag_of (value_at 97 fields)) false
+use Rattle.row_values.specs.Kinds.{Value, DayOf, said, resend_of}
+use Rattle.row_values.specs.Groups.{AreAllocs, AreSessions}
+use Rattle.row_values.specs.Lines.{month_text}
+use Rattle.row_values.specs.Writing.{month_day_text}
 
 -- a maturity says what the fields say, where a day has its month
 pub record IsMaturity (fields : List Field) (maturity : Option Maturity) : Type 0 where
   pub month : option_map month_text maturity ≡ said fields 200 (Value MonthYear)
   pub day : (said fields 200 (Value MonthYear) ≡ None → said fields 205 (DayOf 200) ≡ None)
       → option_and_then month_day_text maturity ≡ said fields 205 (DayOf 200)
-
--- lines say what the fields of their group say
-pub record IsAlloc (fields : List Field) (line : AllocLine) : Type 0 where
-  pub account : line.account ≡ unwrap_or (said fields 79 (Value Id)) []
-  pub qty : option_map dec_text line.qty ≡ said fields 80 (Value Qty)
-  pub bound : IfSome line.qty IsDec
-
-pub record IsSession (fields : List Field) (line : SessionLine) : Type 0 where
-  pub id : line.id ≡ unwrap_or (said fields 336 (Value Id)) []
-
-abbrev pub AreAllocs : List Field → List AllocLine → Type 0
-AreAllocs fields lines = AllZip IsAlloc (lines_in (tags_in allocs) fields) lines
-
-abbrev pub AreSessions : List Field → List SessionLine → Type 0
-AreSessions fields lines = AllZip IsSession (lines_in (tags_in sessions) fields) lines
 
 pub record AreGroups (fields : List Field) (groups : Groups) : Type 0 where
   pub allocs : AreAllocs fields groups.allocs

@@ -2,81 +2,30 @@
 -- (G) and Order Status Request (H). Own: which of their fields and values count, and the order of
 -- writing.
 use Rattle.std.specs.Prelude.{ℕ, List, [], ◌∷◌, codes}
-use Rattle.std.specs.List.{flat_map}
-use Rattle.typed_fields.specs.ValueKind.{ValueKind, Flag, OneByte, Id, Code, Codes, Word, Text}
-use Rattle.typed_fields.specs.ValueKind.{Currency, Qty, Price, Stamp, Day, MonthYear}
-use Rattle.field_groups.specs.Tables.{Condition, Stands, Need, Required, Optional, When}
-use Rattle.field_groups.specs.Tables.{RepeatingGroup, Item, One, Lines}
-use Rattle.dict_fix42.specs.Kinds.{Kind42, Value, DayOf, row}
-
--- the accounts of an order
-abbrev pub allocs : RepeatingGroup Kind42
-allocs = record {
-  count = 78;  -- NoAllocs
-  rows =
-      row Required 79 Id ∷  -- AllocAccount
-      row Optional 80 Qty ∷  -- AllocShares
-      [];
-  skipped = [];
-}
-
--- the sessions in which an order may trade
-abbrev pub sessions : RepeatingGroup Kind42
-sessions = record {
-  count = 386;  -- NoTradingSessions
-  rows =
-      row Required 336 Id ∷  -- TradingSessionID
-      [];
-  skipped = [];
-}
+use Rattle.message_tables.specs.Tables.{Condition, Stands, Optional, When, Item}
+use Rattle.row_values.specs.ValueKind.{ValueKind, Flag, OneByte, Id, Code, Codes, Word, Text}
+use Rattle.row_values.specs.ValueKind.{Currency, Qty, Price, Stamp, Day, MonthYear}
+use Rattle.row_values.specs.Kinds.{Kind, Value, DayOf}
+use Rattle.row_values.specs.Groups.{allocs, sessions}
+use Rattle.row_values.specs.Columns.{Column, R, O, N, Line, line, field, value, lines}
+use Rattle.row_values.specs.Columns.{of_d, of_f, of_g, of_h}
 
 -- MaturityDay (205) is the day of a MaturityMonthYear (200)
 abbrev pub has_day : Condition
 has_day = (Stands 205 ∷ []) ∷ []
 
--- whether a message has a row: R, each does; O, it may; N, it has none
-pub data Column : Type 0 where
-  R : Column
-  O : Column
-  N : Column
-
--- what the four messages have of one line of the table
-pub record Line : Type 0 where
-  pub d : List (Item Kind42)
-  pub f : List (Item Kind42)
-  pub g : List (Item Kind42)
-  pub h : List (Item Kind42)
-
-abbrev line : (Column → List (Item Kind42)) → Column → Column → Column → Column → Line
-line items d f g h = record { d = items d; f = items f; g = items g; h = items h }
-
--- a value, which is a fault where it is outside the profile; where it may be missing, by this need
-abbrev strict : ℕ → Kind42 → Need → Column → List (Item Kind42)
-strict tag kind need R = One (record { tag = tag; kind = kind; need = Required }) ∷ []
-strict tag kind need O = One (record { tag = tag; kind = kind; need = need }) ∷ []
-strict tag kind need N = []
-
-abbrev unless_none : Item Kind42 → Column → List (Item Kind42)
-unless_none item N = []
-unless_none item column = item ∷ []
-
-abbrev value : ℕ → ValueKind → Column → Column → Column → Column → Line
-value tag kind = line (strict tag (Value kind) Optional)
-
+-- a code or word, which is a fault where it is outside the profile
 abbrev code : ℕ → List ℕ → Column → Column → Column → Column → Line
-code tag listed = line (strict tag (Value (Code listed)) Optional)
+code tag listed = line (field Optional tag (Value (Code listed)))
 
 abbrev words : ℕ → List (List ℕ) → Column → Column → Column → Column → Line
-words tag listed = line (strict tag (Value (Word listed)) Optional)
+words tag listed = line (field Optional tag (Value (Word listed)))
 
-abbrev special : ℕ → Kind42 → Column → Column → Column → Column → Line
-special tag kind = line (strict tag kind Optional)
+abbrev special : ℕ → Kind → Column → Column → Column → Column → Line
+special tag kind = line (field Optional tag kind)
 
 abbrev needed : Condition → ℕ → ValueKind → Column → Column → Column → Column → Line
-needed condition tag kind = line (strict tag (Value kind) (When condition))
-
-abbrev lines : RepeatingGroup Kind42 → Column → Column → Column → Column → Line
-lines group = line (unless_none (Lines group))
+needed condition tag kind = line (field (When condition) tag (Value kind))
 
 -- THE TABLE OF REQUESTS, in the order of writing; the columns are D, F, G and H
 abbrev pub requests : List Line
@@ -123,14 +72,14 @@ requests =
     []
 
 -- the items of each message, in the order of writing
-abbrev pub new_order : List (Item Kind42)
-new_order = flat_map (λ line. line.d) requests
+abbrev pub new_order : List (Item Kind)
+new_order = of_d requests
 
-abbrev pub cancel_request : List (Item Kind42)
-cancel_request = flat_map (λ line. line.f) requests
+abbrev pub cancel_request : List (Item Kind)
+cancel_request = of_f requests
 
-abbrev pub replace_request : List (Item Kind42)
-replace_request = flat_map (λ line. line.g) requests
+abbrev pub replace_request : List (Item Kind)
+replace_request = of_g requests
 
-abbrev pub status_request : List (Item Kind42)
-status_request = flat_map (λ line. line.h) requests
+abbrev pub status_request : List (Item Kind)
+status_request = of_h requests

@@ -1,35 +1,20 @@
 -- Own: what the structs of the requests of FIX 4.2 say, row by row of the request table.
-use Rattle.std.specs.Prelude.{ℕ, List, [], ◌∷◌, map, Option, Some, option_and_then}
+use Rattle.std.specs.Prelude.{[], ◌∷◌, map, Some, option_and_then}
 use Rattle.std.specs.Option.{option_map}
 use Rattle.typed_fields.specs.Dec.{dec_text}
 use Rattle.typed_fields.specs.Day.{day_text}
 use Rattle.typed_fields.specs.Stamp.{stamp_text}
 use Rattle.typed_fields.specs.Flag.{flag_text}
-use Rattle.typed_fields.specs.MonthYear.{month_year_text}
-use Rattle.typed_fields.specs.CodeKinds.{code_text, two_digit_text}
-use Rattle.field_groups.specs.Tables.{Tag, Cell, Message}
-use Rattle.dict_fix42.specs.declared.lists.AllocLine.{AllocLine}
-use Rattle.dict_fix42.specs.declared.lists.SessionLine.{SessionLine}
-use Rattle.dict_fix42.specs.declared.requests.Maturity.{Maturity}
+use Rattle.row_values.specs.CodeKinds.{code_text}
+use Rattle.message_tables.specs.Tables.{Tag, Message}
+use Rattle.row_values.specs.Lines.{month_text, alloc_cells, session_cells}
+use Rattle.row_values.specs.Writing.{month_day_text}
 use Rattle.dict_fix42.specs.declared.requests.New42.{New42}
 use Rattle.dict_fix42.specs.declared.requests.Cancel42.{Cancel42}
 use Rattle.dict_fix42.specs.declared.requests.Replace42.{Replace42}
 use Rattle.dict_fix42.specs.declared.requests.Status42.{Status42}
 use Rattle.dict_fix42.specs.declared.requests.Msg42.{Msg42}
 use Rattle.dict_fix42.specs.declared.requests.Msg42.TheVariants as messages
-
-abbrev pub month_text : Maturity → List ℕ
-month_text maturity = month_year_text maturity.month
-
--- the day of the month, where there is one
-abbrev pub month_day_text : Maturity → Option (List ℕ)
-month_day_text maturity = option_map two_digit_text maturity.day
-
-abbrev pub alloc_cells : AllocLine → List Cell
-alloc_cells line = (Tag 79, Some line.account) ∷ (Tag 80, option_map dec_text line.qty) ∷ []
-
-abbrev pub session_cells : SessionLine → List Cell
-session_cells line = (Tag 336, Some line.id) ∷ []
 
 -- what a new order says
 abbrev pub new_says : New42 → Message

@@ -6,10 +6,10 @@ use Rattle.std.specs.Prelude.{if◌then◌else◌}
 use Rattle.std.specs.declared.option.Option.{Option}
 use Rattle.std.specs.Option.{option_map}
 use Rattle.std.specs.Result.{result_ok}
-use Rattle.typed_fields.specs.ValueKind.{units_of_text, number_of_two}
+use Rattle.row_values.specs.ValueKind.{units_of_text, number_of_two}
 use Rattle.field_groups.specs.Field.{Field}
-use Rattle.field_groups.specs.Tables.{Tag, Cell, Said, Message, ◌>>=◌, said_at, lines_of, text_in}
-use Rattle.field_groups.specs.Tables.{code_if, code_in, flag_of}
+use Rattle.message_tables.specs.Tables.{Tag, Cell, Said, Message, ◌>>=◌, said_at, lines_of, text_in}
+use Rattle.message_tables.specs.Tables.{code_if, code_in, flag_of}
 use Rattle.order_meaning.specs.declared.Amount.{Amount}
 use Rattle.order_meaning.specs.Request.{Request, RequestKind, New, Cancel, Replace, Status}
 use Rattle.order_meaning.specs.Request.{OrderType, Market, Limit, Stop, StopLimit, MarketOnClose}

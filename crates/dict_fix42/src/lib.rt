@@ -2,17 +2,14 @@
 #![tactic(auto)]
 
 mod groups;
-mod kinds;
-mod lists;
+mod maturity;
 mod message;
 mod reading;
 mod requests;
 mod tables;
 #[cfg(test)]
 mod tests;
-mod values;
 mod writing;
 
-pub use lists::{AllocLine, Allocs, SessionLine, Sessions};
 pub use message::{read42, type42, write42};
-pub use requests::{Cancel42, Maturity, Msg42, New42, Replace42, Status42};
+pub use requests::{Cancel42, Msg42, New42, Replace42, Status42};

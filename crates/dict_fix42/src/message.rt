@@ -1,14 +1,10 @@
 //! Reading and writing order messages of FIX 4.2.
 
-ghost use Rattle.std.specs.Prelude.{◌≡◌, ◌++◌, ◌∷◌, [], IfOk, OnErr, OnOk, Some, map};
+ghost use Rattle.std.specs.Prelude.{◌≡◌, ◌++◌, ◌∷◌, [], IfOk, OnErr, OnOk, Some};
 ghost use Rattle.field_groups.specs.Field.{body_of};
-ghost use Rattle.field_groups.specs.CodeTables.{seen, table_of as code_table};
-ghost use Rattle.field_groups.specs.FirstFault.{first_fault, marked};
-ghost use Rattle.field_groups.specs.Stages.{IsFound};
-ghost use Rattle.dict_fix42.specs.CodeKinds.{kind_of};
-ghost use Rattle.dict_fix42.specs.Kinds.{judge};
-ghost use Rattle.dict_fix42.specs.Message.{message42, message_by, of_split, of_table, table};
-ghost use Rattle.dict_fix42.specs.Gives.{Gives, IsClean};
+ghost use Rattle.row_values.specs.Faults.{message_by};
+ghost use Rattle.row_values.specs.Gives.{Gives};
+ghost use Rattle.dict_fix42.specs.Message.{message42, table};
 ghost use Rattle.dict_fix42.specs.Readable.{IsReadable42};
 ghost use Rattle.dict_fix42.specs.Requests.{cancel_request, new_order, replace_request};
 ghost use Rattle.dict_fix42.specs.Requests.{status_request};
@@ -16,23 +12,14 @@ ghost use Rattle.dict_fix42.specs.Said.{says};
 ghost use Rattle.dict_fix42.specs.Content.{content42};
 
 use crate::groups::read_groups;
-use crate::kinds::Kind;
 use crate::reading::{cancel_request, new_order, replace_request, status_request};
 use crate::requests::Msg42;
 use crate::tables;
-use crate::writing::{cancel_parts, new_parts, put_parts, replace_parts, status_parts};
-use field_groups::{Field, Found, Mark, Split, SplitFault, Table, TableFault};
+use crate::writing::{cancel_parts, new_parts, replace_parts, status_parts};
+use field_groups::Split;
 use order_meaning::Fault;
+use row_values::{good_fields, put_parts};
 use std::alloc::{AllocError, Global};
-
-/// SessionRejectReason(373): invalid tag number.
-const BAD_TAG: u8 = 0;
-
-/// SessionRejectReason(373): value is incorrect (out of range) for this tag.
-const RANGE: u8 = 5;
-
-/// SessionRejectReason(373): incorrect data format for value.
-const FORM: u8 = 6;
 
 /// The letter of a message's type, as MsgType(35) has it; it takes no memory.
 pub fn type42(msg: &Msg42) -> &'static [u8]
@@ -46,82 +33,9 @@ pub fn type42(msg: &Msg42) -> &'static [u8]
     }
 }
 
-/// What stopped the fields of a body, as a fault of the message.
-fn of_split(fault: SplitFault) -> Fault
-    ensures { result ≡ of_split fault }
-{
-    let (tag, reason) = match fault {
-        SplitFault::NoTag { at: _ } | SplitFault::BadTag { at: _ } => (None, BAD_TAG),
-        SplitFault::NoEnd { at: _ } => (None, FORM),
-        SplitFault::DataLength { tag } => (Some(tag), FORM),
-        SplitFault::TooMany => (None, RANGE),
-    };
-    Fault::Session { tag, reason }
-}
-
-/// A fault of the fields, as a fault of the message.
-fn of_table(fault: TableFault) -> Fault
-    ensures { result ≡ of_table fault }
-{
-    match fault {
-        TableFault::Reason { tag, reason } => Fault::Session {
-            tag: Some(tag),
-            reason,
-        },
-        TableFault::Outside { tag } => Fault::NoCounterpart { tag },
-    }
-}
-
-/// What a field is beside its row.
-fn mark(table: &Table<Kind>, fields: &[Field<'_>], tag: u32, value: &[u8]) -> Mark
-    ensures { (tag, result)
-        ≡ marked judge (code_table kind_of table.now) (seen fields.now) (tag, value.now) }
-{
-    match table.row(tag) {
-        Some(row) => row.need.allows(row.kind.judge(fields, value)),
-        None => table.without_row(tag, value),
-    }
-}
-
-/// The first faults of the values of these fields.
-fn found(table: &Table<Kind>, fields: &[Field<'_>]) -> Found
-    ensures { IsFound
-        (map (marked judge (code_table kind_of table.now) (seen fields.now)) (seen fields.now))
-        result }
-{
-    let mut found = Found::new();
-    for (tag, value) in fields {
-        found = found.with(*tag, mark(table, fields, *tag, value));
-    }
-    found
-}
-
-/// The first fault of these fields.
-fn first_fault(table: &Table<Kind>, fields: &[Field<'_>]) -> Option<TableFault>
-    ensures { result ≡ first_fault judge (code_table kind_of table.now) (seen fields.now) }
-{
-    table.first_fault(fields, &found(table, fields))
-}
-
-/// The fields of a body, where they are whole and at no fault.
-fn good_fields<'s, 'a>(table: &Table<Kind>, split: &'s Split<'a>) -> Result<&'s [Field<'a>], Fault>
-    ensures { IsClean (code_table kind_of table.now) split.now.fields split.now.fault result }
-{
-    match split.fault {
-        Some(fault) => Err(of_split(fault)),
-        None => {
-            let fields = split.fields.as_slice();
-            match first_fault(table, fields) {
-                Some(fault) => Err(of_table(fault)),
-                None => Ok(fields),
-            }
-        }
-    }
-}
-
 /// Reads New Order - Single (D).
 fn read_new(alloc: Global, split: &Split<'_>) -> Result<Msg42, Fault>
-    ensures says { Gives result
+    ensures says { Gives says result
         (message_by (Some (table 68 new_order)) split.now.fields split.now.fault) }
     ensures readable { IfOk result IsReadable42 }
 {
@@ -132,7 +46,7 @@ fn read_new(alloc: Global, split: &Split<'_>) -> Result<Msg42, Fault>
 
 /// Reads Order Cancel Request (F).
 fn read_cancel(alloc: Global, split: &Split<'_>) -> Result<Msg42, Fault>
-    ensures says { Gives result
+    ensures says { Gives says result
         (message_by (Some (table 70 cancel_request)) split.now.fields split.now.fault) }
     ensures readable { IfOk result IsReadable42 }
 {
@@ -142,7 +56,7 @@ fn read_cancel(alloc: Global, split: &Split<'_>) -> Result<Msg42, Fault>
 
 /// Reads Order Cancel/Replace Request (G).
 fn read_replace(alloc: Global, split: &Split<'_>) -> Result<Msg42, Fault>
-    ensures says { Gives result
+    ensures says { Gives says result
         (message_by (Some (table 71 replace_request)) split.now.fields split.now.fault) }
     ensures readable { IfOk result IsReadable42 }
 {
@@ -153,7 +67,7 @@ fn read_replace(alloc: Global, split: &Split<'_>) -> Result<Msg42, Fault>
 
 /// Reads Order Status Request (H).
 fn read_status(alloc: Global, split: &Split<'_>) -> Result<Msg42, Fault>
-    ensures says { Gives result
+    ensures says { Gives says result
         (message_by (Some (table 72 status_request)) split.now.fields split.now.fault) }
     ensures readable { IfOk result IsReadable42 }
 {
@@ -171,7 +85,7 @@ fn read_status(alloc: Global, split: &Split<'_>) -> Result<Msg42, Fault>
 /// is missing; a tag or a value outside the profile. `NoMemory` for want of memory.
 #[tactic(auto, unfolding(crate::specs::Message::message42))]
 pub fn read42(alloc: Global, msg_type: &[u8], split: &Split<'_>) -> Result<Msg42, Fault>
-    ensures says { Gives result (message42 msg_type.now split.now.fields split.now.fault) }
+    ensures says { Gives says result (message42 msg_type.now split.now.fields split.now.fault) }
     ensures readable { IfOk result IsReadable42 }
 {
     if msg_type == b"D".as_slice() {

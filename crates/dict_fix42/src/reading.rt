@@ -4,7 +4,7 @@
 //! is a line of the literal.
 
 ghost use Rattle.std.specs.Prelude.{◌≡◌, IfOk};
-ghost use Rattle.field_groups.specs.CodeTables.{seen};
+ghost use Rattle.message_tables.specs.CodeTables.{seen};
 ghost use Rattle.dict_fix42.specs.Readable.{IsReadableCancel, IsReadableNew};
 ghost use Rattle.dict_fix42.specs.Readable.{IsReadableReplace, IsReadableStatus};
 ghost use Rattle.dict_fix42.specs.Reading.{AreGroups, IsCancel, IsNew, IsReplace, IsStatus};
@@ -12,16 +12,16 @@ ghost use Rattle.dict_fix42.specs.Reading.{cancel_names, cancel_texts, new_names
 ghost use Rattle.dict_fix42.specs.Reading.{replace_names, status_texts};
 
 use crate::groups::Groups;
+use crate::maturity::maturity;
 use crate::requests::{Cancel42, New42, Replace42, Status42};
-use crate::values::{
-    code, day, flag, maturity, or_empty, owned, price, qty, qty_or_zero, resend, stamp,
-    stamp_or_epoch, text,
-};
 use field_groups::Field;
 use order_meaning::Bytes;
+use row_values::ValueKind::{Code, Codes, Currency, Id, OneByte, Text, Word};
+use row_values::{
+    ValueKind, code, day, flag, or_empty, owned, price, qty, qty_or_zero, resend, stamp,
+    stamp_or_epoch, text,
+};
 use std::alloc::{AllocError, Global};
-use typed_fields::ValueKind;
-use typed_fields::ValueKind::{Code, Codes, Currency, Id, OneByte, Text, Word};
 
 /// What SettlmntTyp(63) may be.
 const SETTL_TYPE: ValueKind = Code(b"0123456789");
@@ -140,7 +140,7 @@ macro_rules! order {
 }
 
 /// The new order of these fields, names and texts.
-#[tactic(auto, using(crate::proofs::Bounds::allocs_readable))]
+#[tactic(auto, using(row_values::proofs::SaidRows::allocs_readable))]
 fn new_of(
     alloc: Global,
     fields: &[Field<'_>],
@@ -295,7 +295,7 @@ fn replace_names(alloc: Global, fields: &[Field<'_>]) -> Result<[Option<Bytes>; 
 }
 
 /// The replace request of these fields, names and texts.
-#[tactic(auto, using(crate::proofs::Bounds::allocs_readable))]
+#[tactic(auto, using(row_values::proofs::SaidRows::allocs_readable))]
 fn replace_of(
     alloc: Global,
     fields: &[Field<'_>],

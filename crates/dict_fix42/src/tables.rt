@@ -1,21 +1,19 @@
 //! The tables of requests, as the code has them.
 
 ghost use Rattle.std.specs.Prelude.{◌≡◌};
-ghost use Rattle.field_groups.specs.CodeTables.{own_tags, table_of as code_table};
-ghost use Rattle.field_groups.specs.Tables.{tags_in};
+ghost use Rattle.message_tables.specs.CodeTables.{table_of as code_table};
 ghost use Rattle.dict_fix42.specs.Message.{table};
-ghost use Rattle.dict_fix42.specs.Requests.{allocs, sessions};
 ghost use Rattle.dict_fix42.specs.Requests.{cancel_request, new_order, replace_request};
 ghost use Rattle.dict_fix42.specs.Requests.{status_request};
-ghost use Rattle.dict_fix42.specs.CodeKinds.{kind_of};
+ghost use Rattle.row_values.specs.CodeKinds.{kind_of};
 
-use crate::kinds::Kind;
-use crate::kinds::Kind::{DayOf, Value};
-use field_groups::Need::{Optional, Required, When};
-use field_groups::{Item, RepeatingGroup, Row, Table, Test};
-use typed_fields::ValueKind::{
+use message_tables::Need::{Optional, Required, When};
+use message_tables::{Item, Row, Table, Test};
+use row_values::Kind::{DayOf, Value};
+use row_values::ValueKind::{
     Code, Codes, Currency, Day, Filled, Flag, Id, MonthYear, OneByte, Price, Qty, Stamp, Text, Word,
 };
+use row_values::{ALLOCS, Kind, SESSIONS};
 
 /// A row: the tag of its field, the kind of its values, and whether each message says it.
 macro_rules! row {
@@ -56,33 +54,6 @@ const HEADER: [Row<Kind>; 14] = [
     row!(347, Value(Filled), Optional), // MessageEncoding
     row!(369, Value(Filled), Optional), // LastMsgSeqNumProcessed
 ];
-
-/// The rows of NoAllocs(78).
-#[rattlefmt::skip]
-const ALLOC_ROWS: [Row<Kind>; 2] = [
-    row!(79, Value(Id), Required), // AllocAccount
-    row!(80, Value(Qty), Optional), // AllocShares
-];
-
-/// The rows of NoTradingSessions(386).
-#[rattlefmt::skip]
-const SESSION_ROWS: [Row<Kind>; 1] = [
-    row!(336, Value(Id), Required), // TradingSessionID
-];
-
-/// NoAllocs(78).
-const ALLOCS: RepeatingGroup<Kind> = RepeatingGroup {
-    count: 78,
-    rows: &ALLOC_ROWS,
-    skipped: &[],
-};
-
-/// NoTradingSessions(386).
-const SESSIONS: RepeatingGroup<Kind> = RepeatingGroup {
-    count: 386,
-    rows: &SESSION_ROWS,
-    skipped: &[],
-};
 
 /// The items of New Order - Single (D) and of Order Cancel/Replace Request (G), in the order of
 /// writing; the request has the items that are given behind ClOrdID(11).
@@ -215,26 +186,6 @@ static STATUS_REQUEST_TABLE: Table<Kind> = Table {
     items: &STATUS_REQUEST,
     strict: true,
 };
-
-/// NoAllocs(78).
-static ALLOCS_GROUP: RepeatingGroup<Kind> = ALLOCS;
-
-/// NoTradingSessions(386).
-static SESSIONS_GROUP: RepeatingGroup<Kind> = SESSIONS;
-
-/// NoAllocs(78).
-pub(crate) fn allocs() -> &'static RepeatingGroup<Kind>
-    ensures { own_tags result.now ≡ tags_in allocs }
-{
-    &ALLOCS_GROUP
-}
-
-/// NoTradingSessions(386).
-pub(crate) fn sessions() -> &'static RepeatingGroup<Kind>
-    ensures { own_tags result.now ≡ tags_in sessions }
-{
-    &SESSIONS_GROUP
-}
 
 /// The table of New Order - Single.
 pub(crate) fn new_order() -> &'static Table<Kind>

@@ -14,14 +14,15 @@ use Rattle.typed_fields.specs.Reading.{judged}
 use Rattle.typed_fields.specs.Digits.{has_pattern, have_marks, number_of, zero_padded}
 use Rattle.typed_fields.specs.Day.{read_day, spells_date}
 use Rattle.typed_fields.specs.MonthYear.{month_year_text}
-use Rattle.typed_fields.specs.CodeKinds.{two_digit_text}
-use Rattle.typed_fields.specs.ValueKind.{Day, MonthYear, DayOfMonth, Spelling, spelling, spelled}
-use Rattle.typed_fields.specs.ValueKind.{spelt, text_of as spelled_text}
+use Rattle.row_values.specs.CodeKinds.{two_digit_text}
+use Rattle.row_values.specs.ValueKind.{Day, MonthYear, DayOfMonth, Spelling, spelling, spelled}
+use Rattle.row_values.specs.ValueKind.{spelt, text_of as spelled_text}
 use Rattle.field_groups.specs.Field.{Field}
-use Rattle.field_groups.specs.Tables.{Said, ◌>>=◌, text_of, value_at}
-use Rattle.dict_fix50.specs.Kinds.{Value, MonthBeside, filled, if_spelled, judge, month_beside}
-use Rattle.dict_fix50.specs.Kinds.{verdict_of}
-use Rattle.dict_fix50.specs.Reading.{said, IsDate}
+use Rattle.message_tables.specs.Tables.{Said, ◌>>=◌, text_of, value_at}
+use Rattle.row_values.specs.Kinds.{Value, MonthBeside, filled, if_spelled, judge, month_beside}
+use Rattle.row_values.specs.Kinds.{verdict_of}
+use Rattle.row_values.specs.Kinds.{said}
+use Rattle.dict_fix50.specs.Reading.{IsDate}
 
 both : (a b : Bool) → (a && b) ≡ true → (a ≡ true) × (b ≡ true)
 both true true h = (refl, refl)

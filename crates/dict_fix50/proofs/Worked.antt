@@ -2,18 +2,18 @@
 use Rattle.std.specs.Prelude.{◌≡◌, ℕ, List, [], ◌∷◌, ◌++◌, codes, refl, Option}
 use Rattle.std.specs.Prelude.{Some, None, Result, Ok, Err}
 use Rattle.std.specs.Fmt.{digits}
-use Rattle.typed_fields.specs.ValueKind.{spelling}
+use Rattle.row_values.specs.ValueKind.{spelling}
 use Rattle.typed_fields.specs.Digits.{are_digits, number_of, has_pattern, zero_padded}
 use Rattle.typed_fields.specs.Digits.{without_leading_zeros, without_trailing_zeros}
 use Rattle.field_groups.specs.declared.fault.SplitFault.TheVariants.{NoEnd, TooMany}
 use Rattle.field_groups.specs.Field.{Field}
-use Rattle.field_groups.specs.Tables.{Tag, Role, Said, Message, first_of, said_at}
-use Rattle.field_groups.specs.FirstFault.{first_fault, message_of}
+use Rattle.message_tables.specs.Tables.{Tag, Role, Said, Message, first_of, said_at}
+use Rattle.message_tables.specs.FirstFault.{first_fault, message_of}
 use Rattle.field_groups.specs.HeadValues.{number_in}
 use Rattle.order_meaning.specs.declared.fault.Fault.{Fault}
 use Rattle.order_meaning.specs.declared.fault.Fault.TheVariants.{Session, NoCounterpart}
 use Rattle.order_meaning.specs.declared.fault.Fault.TheVariants.{NotSupported}
-use Rattle.dict_fix50.specs.Kinds.{judge}
+use Rattle.row_values.specs.Kinds.{judge}
 use Rattle.dict_fix50.specs.Message.{message50}
 
 abbrev fault_in : Result Message Fault → Option Fault

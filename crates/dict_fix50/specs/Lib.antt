@@ -1,11 +1,7 @@
-pub mod CodeKinds
 pub mod Content
-pub mod Gives
-pub mod Kinds
 pub mod Message
 pub mod Readable
 pub mod Reading
 pub mod Requests
 pub mod Said
 pub mod Sense
-pub mod Writing

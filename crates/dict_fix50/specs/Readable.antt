@@ -1,30 +1,16 @@
 -- Own: the messages that can be written: each number, day and moment is one that can be read, and
--- each
--- PartyRole is a number.
-use Rattle.std.specs.Prelude.{◌≤◌, List, IfSome}
-use Rattle.std.specs.List.{AllByRecursion}
+-- each PartyRole is a number.
+use Rattle.std.specs.Prelude.{IfSome}
 use Rattle.typed_fields.specs.Dec.{IsDec}
 use Rattle.typed_fields.specs.Day.{IsDay}
 use Rattle.typed_fields.specs.Stamp.{IsStamp}
-use Rattle.typed_fields.specs.MonthYear.{IsMonthYear}
-use Rattle.order_meaning.specs.declared.party.PartyLine.{PartyLine}
-use Rattle.dict_fix50.specs.declared.lists.AllocLine.{AllocLine}
-use Rattle.dict_fix50.specs.declared.requests.Maturity.{Maturity}
+use Rattle.row_values.specs.Lines.{IsReadableMaturity, AreReadableParties, AreReadableAllocs}
 use Rattle.dict_fix50.specs.declared.requests.New50.{New50}
 use Rattle.dict_fix50.specs.declared.requests.Cancel50.{Cancel50}
 use Rattle.dict_fix50.specs.declared.requests.Replace50.{Replace50}
 use Rattle.dict_fix50.specs.declared.requests.Status50.{Status50}
 use Rattle.dict_fix50.specs.declared.requests.Msg50.{Msg50}
 use Rattle.dict_fix50.specs.declared.requests.Msg50.TheVariants as messages
-
-abbrev pub IsReadableMaturity : Maturity → Type 0
-IsReadableMaturity maturity = IsMonthYear maturity.month
-
-abbrev pub AreReadableParties : List PartyLine → Type 0
-AreReadableParties lines = AllByRecursion (λ line. line.role ≤ 1_000_000_000) lines
-
-abbrev pub AreReadableAllocs : List AllocLine → Type 0
-AreReadableAllocs lines = AllByRecursion (λ line. IfSome line.qty IsDec) lines
 
 pub record IsReadableNew (m : New50) : Type 0 where
   pub parties : AreReadableParties m.parties

@@ -1,42 +1,29 @@
--- Inside: what fields say at single tags and in the lines of groups, and requests that say the same
--- at each row.
-use Rattle.std.specs.Prelude.{◌≡◌, ℕ, ◌≤◌, Bool, false, List, [], ◌∷◌, ◌++◌, length, take}
+-- Inside: requests that say at each row what the fields say.
+use Rattle.std.specs.Prelude.{◌≡◌, ℕ, List, [], ◌∷◌, ◌++◌, length, take}
 use Rattle.std.specs.Prelude.{drop}
 use Rattle.std.specs.Prelude.{codes, Option, Some, unwrap_or, option_and_then, IfSome}
 use Rattle.std.specs.Option.{option_map}
-use Rattle.std.specs.List.{AllZip}
-use Rattle.typed_fields.specs.ValueKind.{Id, Text, Word, Currency, Codes, Flag, Day, MonthYear, Qty}
-use Rattle.typed_fields.specs.ValueKind.{Price}
-use Rattle.typed_fields.specs.ValueKind.{Stamp, Code, Number, DayOfMonth, spelled}
-use Rattle.typed_fields.specs.Dec.{dec_text, IsDec}
+use Rattle.row_values.specs.ValueKind.{Id, Text, Word, Currency, Codes, Flag, Day, MonthYear, Qty}
+use Rattle.row_values.specs.ValueKind.{Price}
+use Rattle.row_values.specs.ValueKind.{Stamp, Code, DayOfMonth, spelled}
+use Rattle.typed_fields.specs.Dec.{dec_text}
 use Rattle.typed_fields.specs.Day.{day_text}
 use Rattle.typed_fields.specs.Stamp.{stamp_text}
 use Rattle.typed_fields.specs.Flag.{flag_text}
-use Rattle.std.specs.Fmt.{decimal}
 use Rattle.field_groups.specs.Field.{Field}
-use Rattle.field_groups.specs.Tables.{Said, ◌>>=◌, flag_of, text_of, value_at, tags_in, lines_in}
-use Rattle.order_meaning.specs.declared.party.PartyLine.{PartyLine}
-use Rattle.dict_fix50.specs.declared.lists.AllocLine.{AllocLine}
-use Rattle.dict_fix50.specs.declared.lists.SessionLine.{SessionLine}
+use Rattle.message_tables.specs.Tables.{Said}
 use Rattle.dict_fix50.specs.declared.groups.Groups.{Groups}
-use Rattle.dict_fix50.specs.declared.requests.Maturity.{Maturity}
+use Rattle.row_values.specs.declared.lines.Maturity.{Maturity}
 use Rattle.dict_fix50.specs.declared.requests.New50.{New50}
 use Rattle.dict_fix50.specs.declared.requests.Cancel50.{Cancel50}
 use Rattle.dict_fix50.specs.declared.requests.Replace50.{Replace50}
 use Rattle.dict_fix50.specs.declared.requests.Status50.{Status50}
-use Rattle.dict_fix50.specs.Kinds.{Kind50, Value, Byte, MonthBeside, TimeBeside, judge}
+use Rattle.row_values.specs.Kinds.{Value, Byte, MonthBeside, TimeBeside, said, resend_of}
 use Rattle.dict_fix50.specs.Message.{month_by}
-use Rattle.dict_fix50.specs.Requests.{parties, allocs, sessions}
-use Rattle.typed_fields.specs.CodeKinds.{code_text}
-use Rattle.dict_fix50.specs.Said.{month_text, date_text}
-
--- what the field of a tag says, as a value of a kind
-abbrev pub said : List Field → ℕ → Kind50 → Said
-said fields tag kind = value_at tag fields >>= (λ bytes. text_of (judge fields kind bytes))
-
--- whether the fields repeat what was sent before, PossResend (97)
-abbrev pub resend_of : List Field → Bool
-resend_of fields = unwrap_or (option_map flag_of (value_at 97 fields)) false
+use Rattle.row_values.specs.Groups.{AreParties, AreAllocs, AreSessions}
+use Rattle.row_values.specs.CodeKinds.{code_text}
+use Rattle.row_values.specs.Lines.{month_text}
+use Rattle.row_values.specs.Writing.{date_text}
 
 -- the parts of a date
 pub record IsDate (date : List ℕ) : Type 0 where
@@ -51,29 +38,6 @@ pub record IsMaturity (fields : List Field) (maturity : Option Maturity) : Type 
   pub month : option_map month_text maturity
       ≡ month_by (said fields 541 (Value Day)) (said fields 200 (MonthBeside 541))
   pub date : option_and_then date_text maturity ≡ said fields 541 (Value Day)
-
--- lines say what the fields of their group say
-pub record IsParty (fields : List Field) (line : PartyLine) : Type 0 where
-  pub id : line.id ≡ unwrap_or (said fields 448 (Value Id)) []
-  pub role : IfSome (said fields 452 (Value Number)) (λ text. text ≡ decimal line.role)
-  pub bound : line.role ≤ 1_000_000_000
-
-pub record IsAlloc (fields : List Field) (line : AllocLine) : Type 0 where
-  pub account : line.account ≡ unwrap_or (said fields 79 (Value Id)) []
-  pub qty : option_map dec_text line.qty ≡ said fields 80 (Value Qty)
-  pub bound : IfSome line.qty IsDec
-
-pub record IsSession (fields : List Field) (line : SessionLine) : Type 0 where
-  pub id : line.id ≡ unwrap_or (said fields 336 (Value Id)) []
-
-abbrev pub AreParties : List Field → List PartyLine → Type 0
-AreParties fields lines = AllZip IsParty (lines_in (tags_in parties) fields) lines
-
-abbrev pub AreAllocs : List Field → List AllocLine → Type 0
-AreAllocs fields lines = AllZip IsAlloc (lines_in (tags_in allocs) fields) lines
-
-abbrev pub AreSessions : List Field → List SessionLine → Type 0
-AreSessions fields lines = AllZip IsSession (lines_in (tags_in sessions) fields) lines
 
 pub record AreGroups (fields : List Field) (groups : Groups) : Type 0 where
   pub parties : AreParties fields groups.parties

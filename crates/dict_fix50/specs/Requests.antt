@@ -2,92 +2,20 @@
 -- Cancel/Replace Request (G) and Order Status Request (H). Own: which of their fields and values
 -- count.
 use Rattle.std.specs.Prelude.{ℕ, List, [], ◌∷◌, codes}
-use Rattle.std.specs.List.{flat_map}
-use Rattle.typed_fields.specs.ValueKind.{ValueKind, Flag, Number, OneByte, Id, Code, Codes, Word}
-use Rattle.typed_fields.specs.ValueKind.{Text, Currency, Qty, Price, Stamp, Day}
-use Rattle.field_groups.specs.Tables.{Required, Optional, Lenient, Fixed, RepeatingGroup, Item, One}
-use Rattle.field_groups.specs.Tables.{Party, Lines}
-use Rattle.dict_fix50.specs.Kinds.{Kind50, Value, Byte, MonthBeside, TimeBeside, row}
-
--- Parties; PartyIDSource is D, whatever stands there, and sub-ids are passed over
-abbrev pub parties : RepeatingGroup Kind50
-parties = record {
-  count = 453;  -- NoPartyIDs
-  rows =
-      row Required 448 Id ∷  -- PartyID
-      row (Fixed (codes "D")) 447 OneByte ∷  -- PartyIDSource
-      row Required 452 Number ∷  -- PartyRole
-      [];
-  skipped = 802 ∷ 523 ∷ 803 ∷ [];  -- NoPartySubIDs, PartySubID, PartySubIDType
-}
-
--- PreAllocGrp
-abbrev pub allocs : RepeatingGroup Kind50
-allocs = record {
-  count = 78;  -- NoAllocs
-  rows =
-      row Required 79 Id ∷  -- AllocAccount
-      row Optional 80 Qty ∷  -- AllocQty
-      [];
-  skipped = [];
-}
-
--- TrdgSesGrp
-abbrev pub sessions : RepeatingGroup Kind50
-sessions = record {
-  count = 386;  -- NoTradingSessions
-  rows =
-      row Required 336 Id ∷  -- TradingSessionID
-      [];
-  skipped = [];
-}
-
--- whether a message has a row: R, each does; O, it may; N, it has none
-pub data Column : Type 0 where
-  R : Column
-  O : Column
-  N : Column
-
--- what the four messages have of one line of the table
-pub record Line : Type 0 where
-  pub d : List (Item Kind50)
-  pub f : List (Item Kind50)
-  pub g : List (Item Kind50)
-  pub h : List (Item Kind50)
-
-abbrev line : (Column → List (Item Kind50)) → Column → Column → Column → Column → Line
-line items d f g h = record { d = items d; f = items f; g = items g; h = items h }
-
--- a value, which is a fault where it is outside the profile
-abbrev strict : ℕ → Kind50 → Column → List (Item Kind50)
-strict tag kind R = One (record { tag = tag; kind = kind; need = Required }) ∷ []
-strict tag kind O = One (record { tag = tag; kind = kind; need = Optional }) ∷ []
-strict tag kind N = []
+use Rattle.message_tables.specs.Tables.{Lenient, Item}
+use Rattle.row_values.specs.ValueKind.{Flag, Id, Code, Codes, Word, Text, Currency, Qty, Price}
+use Rattle.row_values.specs.ValueKind.{Stamp, Day}
+use Rattle.row_values.specs.Kinds.{Kind, Value, Byte, MonthBeside, TimeBeside}
+use Rattle.row_values.specs.Groups.{parties, allocs, sessions}
+use Rattle.row_values.specs.Columns.{Column, R, O, N, Line, line, field, value, party, lines}
+use Rattle.row_values.specs.Columns.{of_d, of_f, of_g, of_h}
 
 -- a value that is dropped where it is outside the profile and not required
-abbrev lenient : ℕ → Kind50 → Column → List (Item Kind50)
-lenient tag kind R = One (record { tag = tag; kind = kind; need = Required }) ∷ []
-lenient tag kind O = One (record { tag = tag; kind = kind; need = Lenient }) ∷ []
-lenient tag kind N = []
-
-abbrev unless_none : Item Kind50 → Column → List (Item Kind50)
-unless_none item N = []
-unless_none item column = item ∷ []
-
-abbrev value : ℕ → ValueKind → Column → Column → Column → Column → Line
-value tag kind = line (strict tag (Value kind))
-
 abbrev code : ℕ → List ℕ → Column → Column → Column → Column → Line
-code tag listed = line (lenient tag (Value (Code listed)))
+code tag listed = line (field Lenient tag (Value (Code listed)))
 
-abbrev special : ℕ → Kind50 → Column → Column → Column → Column → Line
-special tag kind = line (lenient tag kind)
-
-abbrev party : ℕ → Column → Column → Column → Column → Line
-party role = line (unless_none (Party role))
-
-abbrev lines : RepeatingGroup Kind50 → Column → Column → Column → Column → Line
-lines group = line (unless_none (Lines group))
+abbrev special : ℕ → Kind → Column → Column → Column → Column → Line
+special tag kind = line (field Lenient tag kind)
 
 -- THE TABLE OF REQUESTS, in the order of writing; the columns are D, F, G and H
 abbrev pub requests : List Line
@@ -136,14 +64,14 @@ requests =
     []
 
 -- the items of each message, in the order of writing
-abbrev pub new_order : List (Item Kind50)
-new_order = flat_map (λ line. line.d) requests
+abbrev pub new_order : List (Item Kind)
+new_order = of_d requests
 
-abbrev pub cancel_request : List (Item Kind50)
-cancel_request = flat_map (λ line. line.f) requests
+abbrev pub cancel_request : List (Item Kind)
+cancel_request = of_f requests
 
-abbrev pub replace_request : List (Item Kind50)
-replace_request = flat_map (λ line. line.g) requests
+abbrev pub replace_request : List (Item Kind)
+replace_request = of_g requests
 
-abbrev pub status_request : List (Item Kind50)
-status_request = flat_map (λ line. line.h) requests
+abbrev pub status_request : List (Item Kind)
+status_request = of_h requests

@@ -1,21 +1,17 @@
 -- Own: what the structs of the requests of FIX 5.0 SP2 say, row by row of the request table.
-use Rattle.std.specs.Prelude.{ℕ, List, [], ◌∷◌, ◌++◌, ◌==◌, map, codes, Option, Some}
+use Rattle.std.specs.Prelude.{ℕ, List, [], ◌∷◌, ◌==◌, map, Some}
 use Rattle.std.specs.Prelude.{option_and_then}
 use Rattle.std.specs.Option.{option_map}
 use Rattle.std.specs.List.{find}
-use Rattle.std.specs.Fmt.{decimal}
 use Rattle.typed_fields.specs.Dec.{dec_text}
 use Rattle.typed_fields.specs.Day.{day_text}
 use Rattle.typed_fields.specs.Stamp.{stamp_text}
 use Rattle.typed_fields.specs.Flag.{flag_text}
-use Rattle.typed_fields.specs.MonthYear.{month_year_text}
-use Rattle.typed_fields.specs.Digits.{zero_padded}
-use Rattle.typed_fields.specs.CodeKinds.{code_text}
-use Rattle.field_groups.specs.Tables.{Tag, Role, Said, Cell, Message}
+use Rattle.row_values.specs.CodeKinds.{code_text}
+use Rattle.message_tables.specs.Tables.{Tag, Role, Said, Message}
 use Rattle.order_meaning.specs.declared.party.PartyLine.{PartyLine}
-use Rattle.dict_fix50.specs.declared.lists.AllocLine.{AllocLine}
-use Rattle.dict_fix50.specs.declared.lists.SessionLine.{SessionLine}
-use Rattle.dict_fix50.specs.declared.requests.Maturity.{Maturity}
+use Rattle.row_values.specs.Lines.{month_text, party_cells, alloc_cells, session_cells}
+use Rattle.row_values.specs.Writing.{date_text}
 use Rattle.dict_fix50.specs.declared.requests.New50.{New50}
 use Rattle.dict_fix50.specs.declared.requests.Cancel50.{Cancel50}
 use Rattle.dict_fix50.specs.declared.requests.Replace50.{Replace50}
@@ -23,26 +19,9 @@ use Rattle.dict_fix50.specs.declared.requests.Status50.{Status50}
 use Rattle.dict_fix50.specs.declared.requests.Msg50.{Msg50}
 use Rattle.dict_fix50.specs.declared.requests.Msg50.TheVariants as messages
 
-abbrev pub month_text : Maturity → List ℕ
-month_text maturity = month_year_text maturity.month
-
--- the date, where there is a day
-abbrev pub date_text : Maturity → Option (List ℕ)
-date_text maturity = option_map (λ day. month_text maturity ++ zero_padded 2 day) maturity.day
-
 -- the id of the first party of a role
 abbrev pub id_of : ℕ → List PartyLine → Said
 id_of role lines = option_map (λ line. line.id) (find (λ line. line.role == role) lines)
-
-abbrev pub party_cells : PartyLine → List Cell
-party_cells line =
-    (Tag 448, Some line.id) ∷ (Tag 447, Some (codes "D")) ∷ (Tag 452, Some (decimal line.role)) ∷ []
-
-abbrev pub alloc_cells : AllocLine → List Cell
-alloc_cells line = (Tag 79, Some line.account) ∷ (Tag 80, option_map dec_text line.qty) ∷ []
-
-abbrev pub session_cells : SessionLine → List Cell
-session_cells line = (Tag 336, Some line.id) ∷ []
 
 -- what a new order says
 abbrev pub new_says : New50 → Message

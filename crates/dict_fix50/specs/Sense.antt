@@ -5,10 +5,10 @@ use Rattle.std.specs.Prelude.{if◌then◌else◌}
 use Rattle.std.specs.Option.{option_map}
 use Rattle.std.specs.Result.{result_ok}
 use Rattle.std.specs.Str.Parse.{digits_value}
-use Rattle.typed_fields.specs.ValueKind.{units_of_text}
+use Rattle.row_values.specs.ValueKind.{units_of_text}
 use Rattle.field_groups.specs.Field.{Field}
-use Rattle.field_groups.specs.Tables.{Tag, Role, Said, Cell, Message, ◌>>=◌, said_at, lines_of}
-use Rattle.field_groups.specs.Tables.{text_in, code_in, code_if, flag_of}
+use Rattle.message_tables.specs.Tables.{Tag, Role, Said, Cell, Message, ◌>>=◌, said_at, lines_of}
+use Rattle.message_tables.specs.Tables.{text_in, code_in, code_if, flag_of}
 use Rattle.order_meaning.specs.declared.Amount.{Amount}
 use Rattle.order_meaning.specs.Request.{RequestKind, New, Cancel, Replace, Status, OrderType}
 use Rattle.order_meaning.specs.Request.{Market, Limit, Stop, StopLimit, MarketOnClose, LimitOnClose}

@@ -3,8 +3,6 @@
 #![tactic(auto)]
 
 mod groups;
-mod kinds;
-mod lists;
 mod message;
 mod reading;
 mod requests;
@@ -14,6 +12,5 @@ mod tests;
 mod values;
 mod writing;
 
-pub use lists::{AllocLine, Allocs, SessionLine, Sessions};
 pub use message::{read50, type50, write50};
-pub use requests::{Cancel50, Maturity, Msg50, New50, Replace50, Status50};
+pub use requests::{Cancel50, Msg50, New50, Replace50, Status50};

@@ -1,38 +1,24 @@
 //! Reading and writing order messages of FIX 5.0 SP2.
 
-ghost use Rattle.std.specs.Prelude.{◌≡◌, ◌++◌, ◌∷◌, [], IfOk, OnErr, OnOk, Some, map};
+ghost use Rattle.std.specs.Prelude.{◌≡◌, ◌++◌, ◌∷◌, [], IfOk, OnErr, OnOk, Some};
 ghost use Rattle.field_groups.specs.Field.{body_of};
-ghost use Rattle.field_groups.specs.CodeTables.{seen, table_of as code_table};
-ghost use Rattle.field_groups.specs.FirstFault.{first_fault, marked};
-ghost use Rattle.field_groups.specs.Stages.{IsFound};
-ghost use Rattle.dict_fix50.specs.CodeKinds.{kind_of};
-ghost use Rattle.dict_fix50.specs.Kinds.{judge};
-ghost use Rattle.dict_fix50.specs.Message.{message50, message_by, of_split, of_table, table};
-ghost use Rattle.dict_fix50.specs.Gives.{Gives, IsClean};
-ghost use Rattle.dict_fix50.specs.Requests.{cancel_request, new_order};
-ghost use Rattle.dict_fix50.specs.Requests.{replace_request, status_request};
+ghost use Rattle.row_values.specs.Gives.{Gives};
+ghost use Rattle.dict_fix50.specs.Message.{message50, message50_by, table};
 ghost use Rattle.dict_fix50.specs.Readable.{IsReadable50};
+ghost use Rattle.dict_fix50.specs.Requests.{cancel_request, new_order, replace_request};
+ghost use Rattle.dict_fix50.specs.Requests.{status_request};
 ghost use Rattle.dict_fix50.specs.Said.{says};
 ghost use Rattle.dict_fix50.specs.Content.{content50};
 
-use crate::groups::{parties, read_groups};
-use crate::kinds::Kind;
+use crate::groups::read_groups;
 use crate::reading::{cancel_request, new_order, replace_request, status_request};
 use crate::requests::Msg50;
 use crate::tables;
-use crate::writing::{cancel_parts, new_parts, put_parts, replace_parts, status_parts};
-use field_groups::{Field, Found, Mark, Split, SplitFault, Table, TableFault};
+use crate::writing::{cancel_parts, new_parts, replace_parts, status_parts};
+use field_groups::Split;
 use order_meaning::Fault;
+use row_values::{good_fields, put_parts, read_lines};
 use std::alloc::{AllocError, Global};
-
-/// SessionRejectReason(373): invalid tag number.
-const BAD_TAG: u8 = 0;
-
-/// SessionRejectReason(373): value is incorrect (out of range) for this tag.
-const RANGE: u8 = 5;
-
-/// SessionRejectReason(373): incorrect data format for value.
-const FORM: u8 = 6;
 
 /// The letter of a message's type, as MsgType(35) has it; it takes no memory.
 pub fn type50(msg: &Msg50) -> &'static [u8]
@@ -46,82 +32,10 @@ pub fn type50(msg: &Msg50) -> &'static [u8]
     }
 }
 
-/// What stopped the fields of a body, as a fault of the message.
-fn of_split(fault: SplitFault) -> Fault
-    ensures { result ≡ of_split fault }
-{
-    let (tag, reason) = match fault {
-        SplitFault::NoTag { at: _ } | SplitFault::BadTag { at: _ } => (None, BAD_TAG),
-        SplitFault::NoEnd { at: _ } => (None, FORM),
-        SplitFault::DataLength { tag } => (Some(tag), FORM),
-        SplitFault::TooMany => (None, RANGE),
-    };
-    Fault::Session { tag, reason }
-}
-
-/// A fault of the fields, as a fault of the message.
-fn of_table(fault: TableFault) -> Fault
-    ensures { result ≡ of_table fault }
-{
-    match fault {
-        TableFault::Reason { tag, reason } => Fault::Session {
-            tag: Some(tag),
-            reason,
-        },
-        TableFault::Outside { tag } => Fault::NoCounterpart { tag },
-    }
-}
-
-/// What a field is beside its row.
-fn mark(table: &Table<Kind>, fields: &[Field<'_>], tag: u32, value: &[u8]) -> Mark
-    ensures { (tag, result)
-        ≡ marked judge (code_table kind_of table.now) (seen fields.now) (tag, value.now) }
-{
-    match table.row(tag) {
-        Some(row) => row.need.allows(row.kind.judge(fields, value)),
-        None => table.without_row(tag, value),
-    }
-}
-
-/// The first faults of the values of these fields.
-fn found(table: &Table<Kind>, fields: &[Field<'_>]) -> Found
-    ensures { IsFound (map (marked judge (code_table kind_of table.now) (seen fields.now))
-        (seen fields.now)) result }
-{
-    let mut found = Found::new();
-    for (tag, value) in fields {
-        found = found.with(*tag, mark(table, fields, *tag, value));
-    }
-    found
-}
-
-/// The first fault of these fields.
-fn first_fault(table: &Table<Kind>, fields: &[Field<'_>]) -> Option<TableFault>
-    ensures { result ≡ first_fault judge (code_table kind_of table.now) (seen fields.now) }
-{
-    table.first_fault(fields, &found(table, fields))
-}
-
-/// The fields of a body, where they are whole and at no fault.
-fn good_fields<'s, 'a>(table: &Table<Kind>, split: &'s Split<'a>) -> Result<&'s [Field<'a>], Fault>
-    ensures { IsClean (code_table kind_of table.now) split.now.fields split.now.fault result }
-{
-    match split.fault {
-        Some(fault) => Err(of_split(fault)),
-        None => {
-            let fields = split.fields.as_slice();
-            match first_fault(table, fields) {
-                Some(fault) => Err(of_table(fault)),
-                None => Ok(fields),
-            }
-        }
-    }
-}
-
 /// Reads New Order - Single (D).
 fn read_new(alloc: Global, split: &Split<'_>) -> Result<Msg50, Fault>
-    ensures says { Gives result
-        (message_by (Some (table 68 new_order)) split.now.fields split.now.fault) }
+    ensures says { Gives says result
+        (message50_by (Some (table 68 new_order)) split.now.fields split.now.fault) }
     ensures readable { IfOk result IsReadable50 }
 {
     let fields = good_fields(tables::new_order(), split)?;
@@ -131,19 +45,19 @@ fn read_new(alloc: Global, split: &Split<'_>) -> Result<Msg50, Fault>
 
 /// Reads Order Cancel Request (F).
 fn read_cancel(alloc: Global, split: &Split<'_>) -> Result<Msg50, Fault>
-    ensures says { Gives result
-        (message_by (Some (table 70 cancel_request)) split.now.fields split.now.fault) }
+    ensures says { Gives says result
+        (message50_by (Some (table 70 cancel_request)) split.now.fields split.now.fault) }
     ensures readable { IfOk result IsReadable50 }
 {
     let fields = good_fields(tables::cancel_request(), split)?;
-    let parties = parties(alloc, fields)?;
+    let parties = read_lines(alloc, fields)?;
     Ok(Msg50::Cancel(cancel_request(alloc, fields, parties)?))
 }
 
 /// Reads Order Cancel/Replace Request (G).
 fn read_replace(alloc: Global, split: &Split<'_>) -> Result<Msg50, Fault>
-    ensures says { Gives result
-        (message_by (Some (table 71 replace_request)) split.now.fields split.now.fault) }
+    ensures says { Gives says result
+        (message50_by (Some (table 71 replace_request)) split.now.fields split.now.fault) }
     ensures readable { IfOk result IsReadable50 }
 {
     let fields = good_fields(tables::replace_request(), split)?;
@@ -153,12 +67,12 @@ fn read_replace(alloc: Global, split: &Split<'_>) -> Result<Msg50, Fault>
 
 /// Reads Order Status Request (H).
 fn read_status(alloc: Global, split: &Split<'_>) -> Result<Msg50, Fault>
-    ensures says { Gives result
-        (message_by (Some (table 72 status_request)) split.now.fields split.now.fault) }
+    ensures says { Gives says result
+        (message50_by (Some (table 72 status_request)) split.now.fields split.now.fault) }
     ensures readable { IfOk result IsReadable50 }
 {
     let fields = good_fields(tables::status_request(), split)?;
-    let parties = parties(alloc, fields)?;
+    let parties = read_lines(alloc, fields)?;
     Ok(Msg50::Status(status_request(alloc, fields, parties)?))
 }
 
@@ -173,7 +87,7 @@ fn read_status(alloc: Global, split: &Split<'_>) -> Result<Msg50, Fault>
 /// for want of memory.
 #[tactic(auto, unfolding(crate::specs::Message::message50))]
 pub fn read50(alloc: Global, msg_type: &[u8], split: &Split<'_>) -> Result<Msg50, Fault>
-    ensures says { Gives result (message50 msg_type.now split.now.fields split.now.fault) }
+    ensures says { Gives says result (message50 msg_type.now split.now.fields split.now.fault) }
     ensures readable { IfOk result IsReadable50 }
 {
     if msg_type == b"D".as_slice() {

@@ -4,24 +4,25 @@
 //! table is a line of the literal.
 
 ghost use Rattle.std.specs.Prelude.{◌≡◌, IfOk};
-ghost use Rattle.field_groups.specs.CodeTables.{seen};
+ghost use Rattle.message_tables.specs.CodeTables.{seen};
 ghost use Rattle.dict_fix50.specs.Readable.{IsReadableCancel, IsReadableNew};
 ghost use Rattle.dict_fix50.specs.Readable.{IsReadableReplace, IsReadableStatus};
-ghost use Rattle.dict_fix50.specs.Reading.{AreGroups, AreParties, IsCancel, IsNew, IsReplace};
+ghost use Rattle.row_values.specs.Groups.{AreParties};
+ghost use Rattle.dict_fix50.specs.Reading.{AreGroups, IsCancel, IsNew, IsReplace};
 ghost use Rattle.dict_fix50.specs.Reading.{IsStatus, cancel_texts, new_texts, replace_ids};
 ghost use Rattle.dict_fix50.specs.Reading.{status_texts};
 
 use crate::groups::Groups;
 use crate::requests::{Cancel50, New50, Replace50, Status50};
-use crate::values::{
-    capacity, code, day, flag, maturity, or_empty, owned, price, qty, qty_or_zero, resend, stamp,
-    stamp_or_epoch, text, time_in_force,
-};
+use crate::values::{capacity, maturity, time_in_force};
 use field_groups::Field;
 use order_meaning::{Bytes, Lines};
+use row_values::ValueKind::{Code, Codes, Currency, Id, Text, Word};
+use row_values::{
+    ValueKind, code, day, flag, or_empty, owned, price, qty, qty_or_zero, resend, stamp,
+    stamp_or_epoch, text,
+};
 use std::alloc::{AllocError, Global};
-use typed_fields::ValueKind;
-use typed_fields::ValueKind::{Code, Codes, Currency, Id, Text, Word};
 
 /// What SettlType(63) may be.
 const SETTL_TYPE: ValueKind = Code(b"0123456789");
@@ -137,7 +138,7 @@ macro_rules! order {
 }
 
 /// The new order of these fields and texts.
-#[tactic(auto, using(crate::proofs::Bounds::of_lines))]
+#[tactic(auto, using(row_values::proofs::SaidRows::of_lines))]
 fn new_of(alloc: Global, fields: &[Field<'_>], groups: Groups, texts: [Option<Bytes>; 11]) -> New50
     requires groups { AreGroups (seen fields.now) groups }
     requires texts { texts ≡ new_texts (seen fields.now) }
@@ -162,7 +163,7 @@ pub(crate) fn new_order(
 }
 
 /// The cancel request of these fields and texts.
-#[tactic(auto, using(crate::proofs::Bounds::of_lines))]
+#[tactic(auto, using(row_values::proofs::SaidRows::of_lines))]
 fn cancel_of(
     alloc: Global,
     fields: &[Field<'_>],
@@ -234,7 +235,7 @@ pub(crate) fn cancel_request(
 }
 
 /// The replace request of these fields and texts.
-#[tactic(auto, using(crate::proofs::Bounds::of_lines))]
+#[tactic(auto, using(row_values::proofs::SaidRows::of_lines))]
 fn replace_of(
     alloc: Global,
     fields: &[Field<'_>],
@@ -269,7 +270,7 @@ pub(crate) fn replace_request(
 }
 
 /// The status request of these fields and texts.
-#[tactic(auto, using(crate::proofs::Bounds::of_lines))]
+#[tactic(auto, using(row_values::proofs::SaidRows::of_lines))]
 fn status_of(
     alloc: Global,
     fields: &[Field<'_>],

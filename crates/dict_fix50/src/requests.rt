@@ -1,17 +1,8 @@
 //! The requests of FIX 5.0 SP2, each field by its row of the request table.
 
-use crate::lists::{Allocs, Sessions};
 use order_meaning::{Bytes, Lines};
-use typed_fields::{Day, Dec, Flag, MonthYear, Stamp};
-
-/// A month, and maybe a day of it.
-#[derive(Clone, Copy, Debug, PartialEq, Eq)]
-pub struct Maturity {
-    /// The month.
-    pub month: MonthYear,
-    /// The day of the month.
-    pub day: Option<u8>,
-}
+use row_values::{Allocs, Maturity, Sessions};
+use typed_fields::{Day, Dec, Flag, Stamp};
 
 /// A new order, New Order - Single(D).
 #[derive(Debug, Drop)]

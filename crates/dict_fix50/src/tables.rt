@@ -1,20 +1,19 @@
 //! The tables of requests, as the code has them.
 
 ghost use Rattle.std.specs.Prelude.{◌≡◌};
-ghost use Rattle.field_groups.specs.CodeTables.{own_tags, table_of as code_table};
-ghost use Rattle.field_groups.specs.Tables.{tags_in};
+ghost use Rattle.message_tables.specs.CodeTables.{table_of as code_table};
 ghost use Rattle.dict_fix50.specs.Message.{table};
-ghost use Rattle.dict_fix50.specs.Requests.{allocs, cancel_request, new_order, parties};
-ghost use Rattle.dict_fix50.specs.Requests.{replace_request, sessions, status_request};
-ghost use Rattle.dict_fix50.specs.CodeKinds.{kind_of};
+ghost use Rattle.row_values.specs.CodeKinds.{kind_of};
+ghost use Rattle.dict_fix50.specs.Requests.{cancel_request, new_order, replace_request};
+ghost use Rattle.dict_fix50.specs.Requests.{status_request};
 
-use crate::kinds::Kind;
-use crate::kinds::Kind::{Byte, MonthBeside, TimeBeside, Value, Version};
-use field_groups::Need::{Fixed, Lenient, Optional, Required};
-use field_groups::{Item, RepeatingGroup, Row, Table};
-use typed_fields::ValueKind::{
-    Code, Codes, Currency, Day, Filled, Flag, Id, Number, OneByte, Price, Qty, Stamp, Text, Word,
+use message_tables::Need::{Lenient, Optional, Required};
+use message_tables::{Item, Row, Table};
+use row_values::Kind::{Byte, MonthBeside, TimeBeside, Value, Version};
+use row_values::ValueKind::{
+    Code, Codes, Currency, Day, Filled, Flag, Id, Price, Qty, Stamp, Text, Word,
 };
+use row_values::{ALLOCS, Kind, PARTIES, SESSIONS};
 
 /// A row: the tag of its field, the kind of its values, and whether each message says it.
 macro_rules! row {
@@ -53,48 +52,6 @@ const HEADER: [Row<Kind>; 15] = [
     row!(347, Value(Filled), Optional), // MessageEncoding
     row!(369, Value(Filled), Optional), // LastMsgSeqNumProcessed
 ];
-
-/// The rows of Parties(453).
-#[rattlefmt::skip]
-const PARTY_ROWS: [Row<Kind>; 3] = [
-    row!(448, Value(Id), Required), // PartyID
-    row!(447, Value(OneByte), Fixed(b"D")), // PartyIDSource
-    row!(452, Value(Number), Required), // PartyRole
-];
-
-/// The rows of PreAllocGrp(78).
-#[rattlefmt::skip]
-const ALLOC_ROWS: [Row<Kind>; 2] = [
-    row!(79, Value(Id), Required), // AllocAccount
-    row!(80, Value(Qty), Optional), // AllocQty
-];
-
-/// The rows of TrdgSesGrp(386).
-#[rattlefmt::skip]
-const SESSION_ROWS: [Row<Kind>; 1] = [
-    row!(336, Value(Id), Required), // TradingSessionID
-];
-
-/// Parties(453); NoPartySubIDs(802), PartySubID(523) and PartySubIDType(803) are passed over.
-const PARTIES: RepeatingGroup<Kind> = RepeatingGroup {
-    count: 453,
-    rows: &PARTY_ROWS,
-    skipped: &[802, 523, 803],
-};
-
-/// PreAllocGrp(78).
-const ALLOCS: RepeatingGroup<Kind> = RepeatingGroup {
-    count: 78,
-    rows: &ALLOC_ROWS,
-    skipped: &[],
-};
-
-/// TrdgSesGrp(386).
-const SESSIONS: RepeatingGroup<Kind> = RepeatingGroup {
-    count: 386,
-    rows: &SESSION_ROWS,
-    skipped: &[],
-};
 
 /// The items of New Order - Single (D) and of Order Cancel/Replace Request (G), in the order of
 /// writing; the request has the items that are given behind ClOrdID(11).
@@ -230,36 +187,6 @@ static STATUS_REQUEST_TABLE: Table<Kind> = Table {
     items: &STATUS_REQUEST,
     strict: false,
 };
-
-/// Parties(453).
-static PARTIES_GROUP: RepeatingGroup<Kind> = PARTIES;
-
-/// PreAllocGrp(78).
-static ALLOCS_GROUP: RepeatingGroup<Kind> = ALLOCS;
-
-/// TrdgSesGrp(386).
-static SESSIONS_GROUP: RepeatingGroup<Kind> = SESSIONS;
-
-/// Parties(453).
-pub(crate) fn parties() -> &'static RepeatingGroup<Kind>
-    ensures { own_tags result.now ≡ tags_in parties }
-{
-    &PARTIES_GROUP
-}
-
-/// PreAllocGrp(78).
-pub(crate) fn allocs() -> &'static RepeatingGroup<Kind>
-    ensures { own_tags result.now ≡ tags_in allocs }
-{
-    &ALLOCS_GROUP
-}
-
-/// TrdgSesGrp(386).
-pub(crate) fn sessions() -> &'static RepeatingGroup<Kind>
-    ensures { own_tags result.now ≡ tags_in sessions }
-{
-    &SESSIONS_GROUP
-}
 
 /// The table of New Order - Single.
 pub(crate) fn new_order() -> &'static Table<Kind>

@@ -112,7 +112,7 @@ const STATUSES: &[Case] = &[
 const REPORTS: &[Case] = &[("a report", "37=O|", Else(Fault::NotSupported))];
 
 /// The cases of each type, and what stands before and after each.
-const TABLES: &[(&str, &str, &[Case], &str)] = &[
+const TYPES: &[(&str, &str, &[Case], &str)] = &[
     ("D", HEAD, NEW_ORDERS, TAIL),
     ("F", "", CANCELS, ""),
     ("G", "", REPLACES, ""),
@@ -166,7 +166,7 @@ fn answer(
 
 #[test]
 fn requests_are_judged(rt: HostRuntime) -> Result<(), Fail> {
-    for (msg_type, head, cases, tail) in TABLES {
+    for (msg_type, head, cases, tail) in TYPES {
         for (name, text, want) in *cases {
             let mut whole = String::from_str(rt.alloc(), head)?;
             whole.push_str(text)?;

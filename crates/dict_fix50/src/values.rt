@@ -1,213 +1,31 @@
-//! What the fields of a message say at single tags.
+//! What the fields of a message of FIX 5.0 SP2 say beside other fields.
 
-ghost use Rattle.std.specs.Prelude.{◌≡◌, [], Some, codes, is_some, unwrap_or, option_and_then};
-ghost use Rattle.std.specs.Prelude.{IfOk, IfSome, IsTrue, None, not, if◌then◌else◌};
-ghost use Rattle.std.specs.Int.{is_negative};
+ghost use Rattle.std.specs.Prelude.{◌≡◌, Some, codes, option_and_then, IfSome};
 ghost use Rattle.std.specs.Option.{option_map};
-ghost use Rattle.std.specs.Result.{result_ok};
-ghost use Rattle.typed_fields.specs.ValueKind as kinds;
-ghost use Rattle.typed_fields.specs.ValueKind.{spelled};
-ghost use Rattle.typed_fields.specs.CodeKinds.{code_text, is_byte_kind, is_verbatim};
-ghost use Rattle.typed_fields.specs.CodeKinds.{kind_of as value_kind_of};
-ghost use Rattle.typed_fields.specs.Dec.{dec_text, IsDec};
-ghost use Rattle.typed_fields.specs.Day.{day_text, IsDay};
-ghost use Rattle.typed_fields.specs.Flag.{flag_text};
-ghost use Rattle.typed_fields.specs.MonthYear.{month_year_text, IsMonthYear};
-ghost use Rattle.typed_fields.specs.Number.{number_text, IsNumber};
-ghost use Rattle.typed_fields.specs.Stamp.{stamp_text, IsStamp};
-ghost use Rattle.field_groups.specs.CodeTables.{seen};
-ghost use Rattle.field_groups.specs.Tables.{is_listed, value_at};
-ghost use Rattle.dict_fix50.specs.Kinds.{Byte, TimeBeside, Value, month_in_date};
-ghost use Rattle.dict_fix50.specs.Said.{date_text, month_text};
-ghost use Rattle.dict_fix50.specs.Readable.{IsReadableMaturity};
-ghost use Rattle.dict_fix50.specs.Reading.{IsDate, IsMaturity, resend_of, said};
+ghost use Rattle.message_tables.specs.CodeTables.{seen};
+ghost use Rattle.row_values.specs.ValueKind as kinds;
+ghost use Rattle.row_values.specs.ValueKind.{spelled};
+ghost use Rattle.row_values.specs.CodeKinds.{code_text};
+ghost use Rattle.row_values.specs.Kinds.{Byte, TimeBeside, Value, month_in_date, said};
+ghost use Rattle.row_values.specs.Lines.{IsReadableMaturity, month_text};
+ghost use Rattle.row_values.specs.Writing.{date_text};
+ghost use Rattle.dict_fix50.specs.Reading.{IsDate, IsMaturity};
 
-use crate::requests::Maturity;
-use field_groups::{Field, value};
-use order_meaning::Bytes;
-use std::alloc::{AllocError, Global};
-use typed_fields::ValueKind::Code;
-use typed_fields::{Day, Dec, FieldValue, Flag, MonthYear, Number, Stamp, ValueKind, value_kind};
-
-/// TimeInForce(59): at the close.
-pub(crate) const AT_CLOSE: u8 = b'7';
-
-/// The text that the field of a tag says.
-#[tactic(auto, using(crate::proofs::Texts::at_tag))]
-pub(crate) fn text<'a>(fields: &[Field<'a>], tag: u32, kind: &ValueKind) -> Option<&'a [u8]>
-    requires { IsTrue (is_verbatim (value_kind_of kind.now)) }
-    ensures { option_map (λ text. text.now) result
-        ≡ said (seen fields.now) tag (Value (value_kind_of kind.now)) }
-{
-    match value(fields, tag) {
-        Some(bytes) => value_kind::text(kind, bytes),
-        None => None,
-    }
-}
-
-/// A text of its own.
-pub(crate) fn owned(alloc: Global, text: Option<&[u8]>) -> Result<Option<Bytes>, AllocError>
-    ensures { IfOk result (λ copy. copy ≡ option_map (λ text. text.now) text.entry) }
-{
-    match text {
-        None => Ok(None),
-        Some(bytes) => Ok(Some(Bytes::copy(alloc, bytes)?)),
-    }
-}
-
-/// A text that is there, or none.
-pub(crate) fn or_empty(alloc: Global, text: Option<Bytes>) -> Bytes
-    ensures { result ≡ unwrap_or text [] }
-{
-    match text {
-        Some(text) => text,
-        None => Bytes::new(alloc),
-    }
-}
-
-/// The code that the field of a tag says.
-#[tactic(auto, using(crate::proofs::Texts::at_tag))]
-pub(crate) fn code(fields: &[Field<'_>], tag: u32, kind: &ValueKind) -> Option<u8>
-    requires { IsTrue (is_byte_kind (value_kind_of kind.now)) }
-    ensures { option_map code_text result
-        ≡ said (seen fields.now) tag (Value (value_kind_of kind.now)) }
-{
-    match value(fields, tag) {
-        Some(bytes) => value_kind::code(kind, bytes),
-        None => None,
-    }
-}
-
-/// The value of a type that the field of a tag is read as.
-fn read<T: FieldValue + Drop>(fields: &[Field<'_>], tag: u32) -> Option<T>
-    ensures value { result
-        ≡ option_and_then (λ bytes. result_ok (T.reading bytes))
-        (value_at tag (seen fields.now)) }
-    ensures bound { IfSome result T.can_be }
-{
-    match value(fields, tag) {
-        None => None,
-        Some(bytes) => match T::read(bytes) {
-            Ok(value) => Some(value),
-            Err(_) => None,
-        },
-    }
-}
-
-/// A decimal number that is not negative.
-fn not_negative(dec: Dec) -> Option<Dec>
-    ensures text { option_map dec_text result
-        ≡ (if not (is_negative dec.units) then Some (dec_text dec) else None) }
-    ensures bound { IsDec dec → IfSome result IsDec }
-{
-    if dec.units < 0 { None } else { Some(dec) }
-}
-
-/// The quantity that the field of a tag says, which is not negative.
-pub(crate) fn qty(fields: &[Field<'_>], tag: u32) -> Option<Dec>
-    ensures text { option_map dec_text result ≡ said (seen fields.now) tag (Value kinds.Qty) }
-    ensures bound { IfSome result IsDec }
-{
-    match read::<Dec>(fields, tag) {
-        Some(dec) => not_negative(dec),
-        None => None,
-    }
-}
-
-/// The price that the field of a tag says.
-pub(crate) fn price(fields: &[Field<'_>], tag: u32) -> Option<Dec>
-    ensures text { option_map dec_text result ≡ said (seen fields.now) tag (Value kinds.Price) }
-    ensures bound { IfSome result IsDec }
-{
-    read(fields, tag)
-}
-
-/// The day that the field of a tag says.
-pub(crate) fn day(fields: &[Field<'_>], tag: u32) -> Option<Day>
-    ensures text { option_map day_text result ≡ said (seen fields.now) tag (Value kinds.Day) }
-    ensures bound { IfSome result IsDay }
-{
-    read(fields, tag)
-}
-
-/// The moment that the field of a tag says.
-pub(crate) fn stamp(fields: &[Field<'_>], tag: u32) -> Option<Stamp>
-    ensures text { option_map stamp_text result ≡ said (seen fields.now) tag (Value kinds.Stamp) }
-    ensures bound { IfSome result IsStamp }
-{
-    read(fields, tag)
-}
-
-/// The yes or no that the field of a tag says.
-pub(crate) fn flag(fields: &[Field<'_>], tag: u32) -> Option<Flag>
-    ensures { option_map flag_text result ≡ said (seen fields.now) tag (Value kinds.Flag) }
-{
-    read(fields, tag)
-}
-
-/// The number that the field of a tag says.
-fn number(fields: &[Field<'_>], tag: u32) -> Option<Number>
-    ensures text { option_map number_text result ≡ said (seen fields.now) tag (Value kinds.Number) }
-    ensures bound { IfSome result IsNumber }
-{
-    read(fields, tag)
-}
-
-/// The quantity that the field of a tag says, and zero where it says none.
-#[tactic(auto, using(crate::proofs::Texts::zero_is))]
-pub(crate) fn qty_or_zero(fields: &[Field<'_>], tag: u32) -> Dec
-    ensures text { IfSome (said (seen fields.now) tag (Value kinds.Qty))
-        (λ text. text ≡ dec_text result) }
-    ensures bound { IsDec result }
-{
-    match qty(fields, tag) {
-        Some(quantity) => quantity,
-        None => Dec { units: 0 },
-    }
-}
-
-/// The moment that the field of a tag says, and the first of 1970 where it says none.
-pub(crate) fn stamp_or_epoch(fields: &[Field<'_>], tag: u32) -> Stamp
-    ensures text { IfSome (said (seen fields.now) tag (Value kinds.Stamp))
-        (λ text. text ≡ stamp_text result) }
-    ensures bound { IsStamp result }
-{
-    match stamp(fields, tag) {
-        Some(stamp) => stamp,
-        None => Stamp::of_millis(0),
-    }
-}
-
-/// The number that the field of a tag says, and zero where it says none.
-pub(crate) fn number_or_zero(fields: &[Field<'_>], tag: u32) -> Number
-    ensures text { IfSome (said (seen fields.now) tag (Value kinds.Number))
-        (λ text. text ≡ number_text result) }
-    ensures bound { IsNumber result }
-{
-    match number(fields, tag) {
-        Some(number) => number,
-        None => Number { value: 0 },
-    }
-}
+use field_groups::Field;
+use message_tables::value;
+use row_values::ValueKind::Code;
+use row_values::{AT_CLOSE, Maturity, code, may_close, month, value_kind};
 
 /// OrderCapacity(528): one byte, which counts where it is listed.
-#[tactic(auto, using(crate::proofs::Texts::byte_said))]
+#[tactic(auto, using(crate::proofs::Times::byte_said))]
 pub(crate) fn capacity(fields: &[Field<'_>]) -> Option<u8>
     ensures { option_map code_text result ≡ said (seen fields.now) 528 (Byte (codes "AIP")) }
 {
     code(fields, 528, &Code(b"AIP"))
 }
 
-/// Whether the OrdType in the field of this tag is market or limit, which may be at the close.
-#[tactic(auto, using(crate::proofs::Texts::listed_is_said))]
-pub(crate) fn may_close(fields: &[Field<'_>], ord_type: u32) -> bool
-    ensures { result ≡ is_listed (codes "12") (value_at ord_type (seen fields.now)) }
-{
-    code(fields, ord_type, &Code(b"12")).is_some()
-}
-
 /// TimeInForce(59), of which 7, at the close, counts only beside a market or limit order.
-#[tactic(auto, using(crate::proofs::Texts::time_said))]
+#[tactic(auto, using(crate::proofs::Times::time_said))]
 pub(crate) fn time_in_force(fields: &[Field<'_>]) -> Option<u8>
     ensures { option_map code_text result ≡ said (seen fields.now) 59 (TimeBeside 40) }
 {
@@ -221,24 +39,6 @@ pub(crate) fn time_in_force(fields: &[Field<'_>]) -> Option<u8>
         }
         None => None,
     }
-}
-
-/// PossResend(97): whether the message repeats one that was sent before.
-pub(crate) fn resend(fields: &[Field<'_>]) -> bool
-    ensures { result ≡ resend_of (seen fields.now) }
-{
-    match value(fields, 97) {
-        None => false,
-        Some(bytes) => bytes == b"Y".as_slice(),
-    }
-}
-
-/// The month that the field of a tag says.
-fn month(fields: &[Field<'_>], tag: u32) -> Option<MonthYear>
-    ensures text { option_map month_year_text result ≡ said (seen fields.now) tag (Value kinds.MonthYear) }
-    ensures bound { IfSome result IsMonthYear }
-{
-    read(fields, tag)
 }
 
 /// The month and the day of a date.
@@ -272,7 +72,7 @@ fn date_of(date: &[u8]) -> Option<Maturity>
 }
 
 /// MaturityDate(541).
-#[tactic(auto, using(crate::proofs::Texts::at_tag))]
+#[tactic(auto, using(row_values::proofs::Texts::at_tag))]
 fn maturity_date(fields: &[Field<'_>]) -> Option<Maturity>
     ensures month { option_map month_text result
         ≡ option_map month_in_date (said (seen fields.now) 541 (Value kinds.Day)) }

@@ -1,5 +1,5 @@
 use Rattle.std.proofs.Common.{lit≤, refl}
-use Rattle.dict_fix42.proofs.Contents.{also}
+use Rattle.row_values.proofs.Contents.{also}
 use Rattle.dict_fix42.proofs.writing.cancel_parts.Goals as goal
 
 pub returns : goal.returns

@@ -1,40 +1,24 @@
-use Rattle.std.proofs.Common.{Ok, Some, sym, ap, ◌∙◌}
-use Rattle.field_groups.specs.CodeTables.{seen, table_of}
-use Rattle.dict_fix50.specs.CodeKinds.{kind_of}
-use Rattle.dict_fix50.specs.Message.{message_by}
-use Rattle.dict_fix50.proofs.Means.{new_table, new_means}
-use Rattle.dict_fix50.proofs.Given.{at_no_fault, given, new_parties, new_allocs, new_sessions}
+use Rattle.std.proofs.Common.{Ok, refl, sym, ap, ◌∙◌}
+use Rattle.dict_fix50.specs.Message.{completed_by}
+use Rattle.row_values.proofs.Given.{no_fault, reads}
+use Rattle.dict_fix50.proofs.Means.{new_means}
+use Rattle.dict_fix50.proofs.Given.{new_parties, new_allocs, new_sessions}
 use Rattle.dict_fix50.proofs.message.read_new.Goals as goal
 
 pub read_groups-requires-clause-parties : goal.read_groups-requires-clause-parties
 read_groups-requires-clause-parties c =
-    new_parties (seen c.in_ok-fields.fields.now)
-    (at_no_fault (table_of kind_of c.new_order.result.now) new_table
-    (seen c.in_ok-fields.fields.now) c.args.split.now.fields c.new_order.ensures
-    c.in_ok-fields.ensures.0 c.in_ok-fields.ensures.2)
+    new_parties _ (no_fault c.new_order.ensures c.in_ok-fields.ensures)
 
 pub read_groups-requires-clause-allocs : goal.read_groups-requires-clause-allocs
 read_groups-requires-clause-allocs c =
-    new_allocs (seen c.in_ok-fields.fields.now)
-    (at_no_fault (table_of kind_of c.new_order.result.now) new_table
-    (seen c.in_ok-fields.fields.now) c.args.split.now.fields c.new_order.ensures
-    c.in_ok-fields.ensures.0 c.in_ok-fields.ensures.2)
+    new_allocs _ (no_fault c.new_order.ensures c.in_ok-fields.ensures)
 
 pub read_groups-requires-clause-sessions : goal.read_groups-requires-clause-sessions
 read_groups-requires-clause-sessions c =
-    new_sessions (seen c.in_ok-fields.fields.now)
-    (at_no_fault (table_of kind_of c.new_order.result.now) new_table
-    (seen c.in_ok-fields.fields.now) c.args.split.now.fields c.new_order.ensures
-    c.in_ok-fields.ensures.0 c.in_ok-fields.ensures.2)
+    new_sessions _ (no_fault c.new_order.ensures c.in_ok-fields.ensures)
 
 pub returns-clause-says : goal.returns-clause-says
 returns-clause-says c =
-    let none = at_no_fault (table_of kind_of c.new_order.result.now) new_table
-    (seen c.in_ok-fields.fields.now) c.args.split.now.fields c.new_order.ensures
-    c.in_ok-fields.ensures.0 c.in_ok-fields.ensures.2 in
-    ap (λ fields. message_by (Some new_table) fields c.args.split.now.fault)
-    (sym c.in_ok-fields.ensures.0)
-    ∙ given new_table (seen c.in_ok-fields.fields.now) c.args.split.now.fault
-    c.in_ok-fields.ensures.1 none
-    ∙ ap Ok (sym (new_means (seen c.in_ok-fields.fields.now) none c.in_ok-new_order.field-0
-    c.in_ok-new_order.ensures.says))
+    let none = no_fault c.new_order.ensures c.in_ok-fields.ensures in
+    ap completed_by (reads c.new_order.ensures c.in_ok-fields.ensures _ refl)
+    ∙ ap Ok (sym (new_means _ none c.in_ok-new_order.field-0 c.in_ok-new_order.ensures.says))
