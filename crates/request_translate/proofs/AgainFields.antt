@@ -13,19 +13,20 @@ use Rattle.typed_fields.proofs.DigitsLemmas.{numerals}
 use Rattle.field_groups.specs.Data.{is_data_tag}
 use Rattle.field_groups.specs.Field.{Field, IsPlainField, AreFields, body_of}
 use Rattle.field_groups.specs.Fields.{SplitsInto}
-use Rattle.field_groups.specs.Tables.{Judge, Row, Item, One, Party, Lines, Message, Cell}
-use Rattle.field_groups.specs.Tables.{Said, Place, Tag, Role, value_at, said_at, lines_of}
-use Rattle.field_groups.specs.Content.{content, cell_fields, line_fields, group_fields, item_fields}
+use Rattle.message_tables.specs.Tables.{Judge, Row, Item, One, Party, Lines, Message, Cell}
+use Rattle.message_tables.specs.Tables.{Said, Place, Tag, Role, value_at, said_at, lines_of}
+use Rattle.message_tables.specs.Content.{content, cell_fields, line_fields, group_fields}
+use Rattle.message_tables.specs.Content.{item_fields}
 use Rattle.field_groups.proofs.Plain.{plain_again}
-use Rattle.dict_fix42.specs.Kinds as of42
-use Rattle.dict_fix50.specs.Kinds as of50
+use Rattle.row_values.specs.Kinds as row_kinds
 use Rattle.dict_fix50.specs.Message.{table}
-use Rattle.dict_fix50.specs.Requests.{new_order, cancel_request, replace_request, status_request}
 use Rattle.request_translate.specs.Sound.{IsClear, AreSaid, IsLine, IsItem}
 use Rattle.request_translate.specs.Translation.{type_of, carried, carried_field, up_fields}
-use Rattle.request_translate.specs.Translation.{IsRequest, News, Cancels, Replaces, Statuses}
+use Rattle.request_translate.specs.Translation.{IsRequest}
 use Rattle.request_translate.proofs.Each.{both, not_true, each_joined}
+use Rattle.order_meaning.specs.Request.{RequestKind, New, Cancel, Replace, Status}
 use Rattle.request_translate.proofs.Good.{held}
+use Rattle.request_translate.proofs.Outcomes.{kind_in, letter_asked, items_asked, of_kind}
 use Rattle.request_translate.proofs.ReadSound.{IsClearField}
 use Rattle.request_translate.proofs.Sound42.{clear_fields}
 use Rattle.request_translate.proofs.SpelledAgain.{digits_clear}
@@ -44,7 +45,7 @@ has_good_tags (Lines group) =
 ArePlain : List Field → Type 0
 ArePlain fields = AllByRecursion IsPlainField fields
 
-plain_field : (tag : ℕ) (text : List ℕ)
+pub plain_field : (tag : ℕ) (text : List ℕ)
     → is_good_tag tag ≡ true → IsClear text → IsPlainField (tag, text)
 plain_field tag text good clear =
     let a = both (nat_le 1 tag) (nat_le tag 999_999_999 && not (is_data_tag tag)) good in
@@ -207,7 +208,7 @@ module _ {Kind : Type 0} (judge : Judge Kind) where
 -- ---- the header
 
 carried_plain : (tag : ℕ) (fields : List Field) → is_good_tag tag ≡ true
-    → AllByRecursion (IsClearField of42.judge) fields → Plains (carried_field fields tag)
+    → AllByRecursion (IsClearField row_kinds.judge) fields → Plains (carried_field fields tag)
 carried_plain tag fields good clear = by (value_at tag fields) refl
   where
     by : (value : Option (List ℕ))
@@ -216,13 +217,13 @@ carried_plain tag fields good clear = by (value_at tag fields) refl
     by (Some text) e =
         let a = both (nat_le 1 tag) (nat_le tag 999_999_999 && not (is_data_tag tag)) good in
         let b = both (nat_le tag 999_999_999) (not (is_data_tag tag)) a.1 in (
-          plain_field tag text good (held
-              (IsClearField of42.judge) tag fields text e clear (not_true (is_data_tag tag) b.1)),
+          plain_field tag text good (held (IsClearField row_kinds.judge)
+              tag fields text e clear (not_true (is_data_tag tag) b.1)),
           tt,
         )
 
 carried_all : (tags : List ℕ) (fields : List Field)
-    → list_all is_good_tag tags ≡ true → AllByRecursion (IsClearField of42.judge) fields →
+    → list_all is_good_tag tags ≡ true → AllByRecursion (IsClearField row_kinds.judge) fields →
     Plains (flat_map (carried_field fields) tags)
 carried_all [] fields good clear = tt
 carried_all (tag ∷ tags) fields good clear =
@@ -249,7 +250,7 @@ type_plain msg_type (OneByte byte other is) =
     let P : List ℕ → Type 0 = λ t. IsPlainField (35, t) in
     subst P (sym is) (plain_field 35 (byte ∷ []) refl (grind (arith, nat_tests)))
 
-all_of : (fields : List Field) → Plains fields → All IsPlainField fields
+pub all_of : (fields : List Field) → Plains fields → All IsPlainField fields
 all_of [] h = search rules
 all_of (f ∷ fs) h = All-cons IsPlainField f fs h.0 (all_of fs h.1)
 
@@ -259,43 +260,32 @@ record Fits (written : List Field) : Type 0 where
   plain : Plains written
   few : length written ≤ 240
 
+good_tags : (kind : RequestKind) → list_all has_good_tags (items_asked kind) ≡ true
+unfolding is_data_tag
+good_tags New = refl
+good_tags Cancel = refl
+good_tags Replace = refl
+good_tags Status = refl
+
+few_asked : (kind : RequestKind) → most_of (items_asked kind) ≤ 240
+unfolding times
+few_asked New = omega arith
+few_asked Cancel = omega arith
+few_asked Replace = omega arith
+few_asked Status = omega arith
+
 request_fits : (m : Message) (written : List Field) → IsRequest m written → Fits written
-unfolding is_data_tag times
-request_fits m written (News c w) =
+request_fits m written request =
     let P : List Field → Type 0 = λ fs. Fits fs in
-    let body = content (table 68 new_order) m in
-    let few = items_length of50.judge body m new_order c.sound.items in
-    subst P (sym w) (record {
-      plain =
-          items_plain of50.judge body m new_order refl c.sound.items;
-      few = omega (arith, few);
-    })
-request_fits m written (Cancels c w) =
-    let P : List Field → Type 0 = λ fs. Fits fs in
-    let body = content (table 70 cancel_request) m in
-    let few = items_length of50.judge body m cancel_request c.sound.items in
-    subst P (sym w) (record {
-      plain =
-          items_plain of50.judge body m cancel_request refl c.sound.items;
-      few = omega (arith, few);
-    })
-request_fits m written (Replaces c w) =
-    let P : List Field → Type 0 = λ fs. Fits fs in
-    let body = content (table 71 replace_request) m in
-    let few = items_length of50.judge body m replace_request c.sound.items in
-    subst P (sym w) (record {
+    let kind = kind_in request in
+    let of = of_kind m written request in
+    let body = content (table (letter_asked kind) (items_asked kind)) m in
+    let few = items_length row_kinds.judge body m (items_asked kind) of.canonical.sound.items in
+    let most = few_asked kind in
+    subst P (sym of.is) (record {
       plain = items_plain
-          of50.judge body m replace_request refl c.sound.items;
-      few = omega (arith, few);
-    })
-request_fits m written (Statuses c w) =
-    let P : List Field → Type 0 = λ fs. Fits fs in
-    let body = content (table 72 status_request) m in
-    let few = items_length of50.judge body m status_request c.sound.items in
-    subst P (sym w) (record {
-      plain =
-          items_plain of50.judge body m status_request refl c.sound.items;
-      few = omega (arith, few);
+          row_kinds.judge body m (items_asked kind) (good_tags kind) of.canonical.sound.items;
+      few = omega (arith, few, most);
     })
 
 -- WHAT IS WRITTEN IS SPLIT AGAIN.

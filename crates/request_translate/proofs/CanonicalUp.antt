@@ -17,7 +17,7 @@ use Rattle.dict_fix42.specs.declared.requests.Replace42.{Replace42}
 use Rattle.dict_fix50.specs.declared.requests.Replace50.{Replace50}
 use Rattle.dict_fix42.specs.declared.requests.Status42.{Status42}
 use Rattle.dict_fix50.specs.declared.requests.Status50.{Status50}
-use Rattle.dict_fix50.specs.declared.requests.Maturity.{Maturity as Maturity50}
+use Rattle.row_values.specs.declared.lines.Maturity.{Maturity}
 use Rattle.dict_fix42.specs.declared.requests.Msg42.{Msg42}
 use Rattle.dict_fix42.specs.declared.requests.Msg42.TheVariants as messages
 use Rattle.request_translate.specs.Canonical.{party_lines, IsCanonical}
@@ -33,18 +33,20 @@ use Rattle.request_translate.proofs.SoundUp.{new_kept_sound, cancel_kept_sound, 
 use Rattle.request_translate.proofs.SoundUp.{status_kept_sound, new_whole, cancel_whole}
 use Rattle.request_translate.proofs.SoundUp.{replace_whole, status_whole, new_day, cancel_day}
 use Rattle.request_translate.proofs.SoundUp.{replace_day, status_day}
+use Rattle.row_values.specs.Writing as row_parts
+use Rattle.row_values.specs.Lines as row_lines
 
 -- the month is that of the date
-month_is : (maturity : Option Maturity50) →
-    option_map said50.month_text maturity ≡ month_by
-    (option_and_then said50.date_text maturity) (option_map said50.month_text maturity)
+month_is : (maturity : Option Maturity) →
+    option_map row_lines.month_text maturity ≡ month_by
+    (option_and_then row_parts.date_text maturity) (option_map row_lines.month_text maturity)
 unfolding zero_padded
 month_is None = refl
 month_is (Some m) = by m.month m.day
   where
     by : (month : MonthYear) (day : Option ℕ) →
         Some (month_year_text month) ≡ month_by (option_map
-        (λ d. said50.month_text (record { month = month; day = None }) ++ zero_padded 2 d) day)
+        (λ d. row_lines.month_text (record { month = month; day = None }) ++ zero_padded 2 d) day)
         (Some (month_year_text month))
     by month None = refl
     by month (Some day) = refl
@@ -52,23 +54,23 @@ month_is (Some m) = by m.month m.day
 -- the lines are those of the ids that they say
 parties_are : (client broker firm : Option (List ℕ)) (lines : List PartyLine)
     → lines ≡ parties_up client broker firm →
-    map said50.party_cells lines
+    map row_lines.party_cells lines
     ≡ party_lines (said50.id_of 3 lines) (said50.id_of 1 lines) (said50.id_of 4 lines)
 parties_are client broker firm lines e =
     let back = there_and_back client broker firm in
     let first = ap (said50.id_of 3) e ∙ ap (λ (three : Three). three.client) back in
     let second = ap (said50.id_of 1) e ∙ ap (λ (three : Three). three.broker) back in
     let third = ap (said50.id_of 4) e ∙ ap (λ (three : Three). three.firm) back in
-    ap (map said50.party_cells) e ∙ (λ i. party_lines (sym first i) (sym second i) (sym third i))
+    ap (map row_lines.party_cells) e ∙ (λ i. party_lines (sym first i) (sym second i) (sym third i))
 
 two_parties_are : (client broker : Option (List ℕ)) (lines : List PartyLine)
     → lines ≡ parties_up client broker None →
-    map said50.party_cells lines ≡ party_lines (said50.id_of 3 lines) (said50.id_of 1 lines) None
+    map row_lines.party_cells lines ≡ party_lines (said50.id_of 3 lines) (said50.id_of 1 lines) None
 two_parties_are client broker lines e =
     let back = there_and_back client broker None in
     let first = ap (said50.id_of 3) e ∙ ap (λ (three : Three). three.client) back in
     let second = ap (said50.id_of 1) e ∙ ap (λ (three : Three). three.broker) back in
-    ap (map said50.party_cells) e ∙ (λ i. party_lines (sym first i) (sym second i) None)
+    ap (map row_lines.party_cells) e ∙ (λ i. party_lines (sym first i) (sym second i) None)
 
 pub new_kept : (msg : Msg42) (m : New42) (w : New50)
     → msg ≡ messages.New m → IsSound42 msg → IsNew m w →

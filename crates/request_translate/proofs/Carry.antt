@@ -5,12 +5,12 @@ use Rattle.std.proofs.Common.{option_map, option_and_then, lit≤}
 use Rattle.std.specs.Prelude.{IsSome, IfSome, not, ◌||◌, ◌&&◌, ◌==◌, Result, Ok, Err, if◌then◌else◌}
 use Rattle.std.specs.List.{AllByRecursion, slice_get, list_any}
 use Rattle.typed_fields.specs.declared.fault.FieldFault.{FieldFault}
-use Rattle.typed_fields.specs.ValueKind as kinds
-use Rattle.typed_fields.specs.ValueKind.{ValueKind, Spelling, spelling, spelt, is_code, listed_word}
-use Rattle.typed_fields.specs.ValueKind.{formed, number_of_two}
+use Rattle.row_values.specs.ValueKind as kinds
+use Rattle.row_values.specs.ValueKind.{ValueKind, Spelling, spelling, spelt, is_code, listed_word}
+use Rattle.row_values.specs.ValueKind.{formed, number_of_two}
 use Rattle.typed_fields.specs.declared.day.Day.{Day as DayValue}
 use Rattle.typed_fields.specs.declared.month_year.MonthYear.{MonthYear}
-use Rattle.typed_fields.specs.CodeKinds.{two_digit_text, code_text}
+use Rattle.row_values.specs.CodeKinds.{two_digit_text, code_text}
 use Rattle.std.specs.Char.{is_ascii_digit}
 use Rattle.typed_fields.specs.MonthYear.{month_year_text, read_month_year}
 use Rattle.typed_fields.specs.MonthYear as months
@@ -22,24 +22,26 @@ use Rattle.typed_fields.proofs.SpellingLemmas.{judged_ok, judged_good, is_digit-
 use Rattle.typed_fields.proofs.SpellingLemmas.{are_digits-zero_padded}
 use Rattle.std.proofs.lemmas.Bool.{eqb-true}
 use Rattle.field_groups.specs.Field.{Field, is_soh}
-use Rattle.field_groups.specs.Tables.{Verdict, Spells, Outside, Wrong, Need, Required, Optional}
-use Rattle.field_groups.specs.Tables.{Lenient, Said, Cell, ◌>>=◌, text_of, is_one_of, is_listed}
-use Rattle.field_groups.specs.Tables.{value_at, first_of, party_in}
-use Rattle.field_groups.specs.Content.{line_fields}
-use Rattle.dict_fix42.specs.Kinds as of42
-use Rattle.dict_fix50.specs.Kinds as of50
-use Rattle.dict_fix42.specs.Requests as requests42
-use Rattle.dict_fix50.specs.Requests as requests50
-use Rattle.dict_fix42.specs.Said as said42
+use Rattle.message_tables.specs.Tables.{Verdict, Spells, Outside, Wrong, Required, Optional}
+use Rattle.message_tables.specs.Tables.{Lenient, Said, ◌>>=◌, text_of, is_one_of, is_listed}
+use Rattle.message_tables.specs.Tables.{value_at, first_of, party_in}
+use Rattle.message_tables.specs.Content.{line_fields}
+use Rattle.row_values.specs.Kinds as row_kinds
+use Rattle.row_values.specs.Kinds.{Kind, Value, Byte, DayOf, MonthBeside, TimeBeside, judge}
+use Rattle.row_values.specs.Kinds.{verdict_of, month_at, in_month, counted, is_at_close}
+use Rattle.row_values.specs.Kinds.{month_beside, month_in_date, filled, date_at, if_spelled}
 use Rattle.dict_fix50.specs.Said as said50
-use Rattle.dict_fix42.specs.declared.requests.Maturity.{Maturity as Maturity42}
+use Rattle.row_values.specs.declared.lines.Maturity.{Maturity}
 use Rattle.order_meaning.specs.declared.party.PartyLine.{PartyLine}
 use Rattle.party_translate.specs.Parties.{parties_of}
 use Rattle.request_translate.specs.Sound.{IsClear, IsSaid, IsLine, IsGroup}
-use Rattle.request_translate.specs.Written.{coded, is_type50, IsTimeCode, IsTime50, maturity_up}
+use Rattle.request_translate.specs.Written.{coded, is_type50, IsTimeCode, IsTime50}
 use Rattle.request_translate.specs.Lack.{lacks_capacity}
 use Rattle.request_translate.proofs.SpelledAgain.{clear_joined, digits_clear}
 use Rattle.request_translate.proofs.ShortDays.{IsShort, short_by, two_number, padded_number}
+use Rattle.row_values.specs.Writing as row_parts
+use Rattle.row_values.specs.Groups as row_groups
+use Rattle.row_values.specs.Lines as row_lines
 
 -- an item of a list of which all hold
 pub item_at : {A : Type 0} (P : A → Type 0) (i : ℕ) (xs : List A) (x : A)
@@ -54,126 +56,46 @@ again_of j None h = refl
 again_of j (Some text) h = ap text_of h
 
 module _ (fields : List Field) where
-  pub optional_said : (tag : ℕ) (kind : of50.Kind50) (said : Said)
-      → IfSome said (λ text. of50.judge fields kind text ≡ Spells text) → IfSome said IsClear →
-      IsSaid of50.judge fields (record { tag = tag; kind = kind; need = Optional }) said
+  pub optional_said : (tag : ℕ) (kind : Kind) (said : Said)
+      → IfSome said (λ text. judge fields kind text ≡ Spells text) → IfSome said IsClear →
+      IsSaid judge fields (record { tag = tag; kind = kind; need = Optional }) said
   optional_said tag kind said h c = record {
     needed =
         λ e. absurd cc;
     spelled = h;
-    again = again_of (of50.judge fields kind) said h;
+    again = again_of (judge fields kind) said h;
     clear = c;
   }
 
-  pub lenient_said : (tag : ℕ) (kind : of50.Kind50) (said : Said)
-      → IfSome said (λ text. of50.judge fields kind text ≡ Spells text) → IfSome said IsClear →
-      IsSaid of50.judge fields (record { tag = tag; kind = kind; need = Lenient }) said
+  pub lenient_said : (tag : ℕ) (kind : Kind) (said : Said)
+      → IfSome said (λ text. judge fields kind text ≡ Spells text) → IfSome said IsClear →
+      IsSaid judge fields (record { tag = tag; kind = kind; need = Lenient }) said
   lenient_said tag kind said h c = record {
     needed =
         λ e. absurd cc;
     spelled = h;
-    again = again_of (of50.judge fields kind) said h;
+    again = again_of (judge fields kind) said h;
     clear = c;
   }
 
-  pub required_said : (tag : ℕ) (kind : of50.Kind50) (said : Said) → IsSome said
-      → IfSome said (λ text. of50.judge fields kind text ≡ Spells text) → IfSome said IsClear →
-      IsSaid of50.judge fields (record { tag = tag; kind = kind; need = Required }) said
+  pub required_said : (tag : ℕ) (kind : Kind) (said : Said) → IsSome said
+      → IfSome said (λ text. judge fields kind text ≡ Spells text) → IfSome said IsClear →
+      IsSaid judge fields (record { tag = tag; kind = kind; need = Required }) said
   required_said tag kind said there h c = record {
     needed =
         λ e. there;
     spelled = h;
-    again = again_of (of50.judge fields kind) said h;
+    again = again_of (judge fields kind) said h;
     clear = c;
   }
 
 -- the values of a kind are the same in both versions
 pub same_value : (fields42 fields50 : List Field) (kind : ValueKind) (said : Said) →
-    IfSome said (λ text. of42.judge fields42 (of42.Value kind) text ≡ Spells text)
-    → IfSome said (λ text. of50.judge fields50 (of50.Value kind) text ≡ Spells text)
-unfolding of42.judge of50.judge
+    IfSome said (λ text. judge fields42 (Value kind) text ≡ Spells text)
+    → IfSome said (λ text. judge fields50 (Value kind) text ≡ Spells text)
+unfolding judge
 same_value fields42 fields50 kind None h = tt
 same_value fields42 fields50 kind (Some text) h = h
-
-module _ (fields42 fields50 : List Field) where
-  Is42 : Need → ℕ → ValueKind → Said → Type 0
-  Is42 need tag kind said = IsSaid of42.judge fields42 (of42.row need tag kind) said
-
-  Is50 : Need → ℕ → ValueKind → Said → Type 0
-  Is50 need tag kind said = IsSaid of50.judge fields50 (of50.row need tag kind) said
-
-  pub optional : (kind : ValueKind) (tag tag50 : ℕ) (said said50 : Said)
-      → said50 ≡ said → IsSaid of42.judge fields42 (of42.row Optional tag kind) said →
-      IsSaid of50.judge fields50 (of50.row Optional tag50 kind) said50
-  optional kind tag tag50 said said50 e h =
-      let P : Said → Type 0 = λ s. IsSaid of50.judge fields50 (of50.row Optional tag50 kind) s in
-      subst P (sym e) (optional_said fields50
-      tag50 (of50.Value kind) said (same_value fields42 fields50 kind said h.spelled) h.clear)
-
-  pub lenient : (kind : ValueKind) (tag tag50 : ℕ) (said said50 : Said)
-      → said50 ≡ said → IsSaid of42.judge fields42 (of42.row Optional tag kind) said →
-      IsSaid of50.judge fields50 (of50.row Lenient tag50 kind) said50
-  lenient kind tag tag50 said said50 e h =
-      let P : Said → Type 0 = λ s. IsSaid of50.judge fields50 (of50.row Lenient tag50 kind) s in
-      subst P (sym e) (lenient_said fields50
-      tag50 (of50.Value kind) said (same_value fields42 fields50 kind said h.spelled) h.clear)
-
-  pub required : (kind : ValueKind) (tag tag50 : ℕ) (said said50 : Said)
-      → said50 ≡ said → IsSaid of42.judge fields42 (of42.row Required tag kind) said →
-      IsSaid of50.judge fields50 (of50.row Required tag50 kind) said50
-  required kind tag tag50 said said50 e h =
-      let P : Said → Type 0 = λ s. IsSaid of50.judge fields50 (of50.row Required tag50 kind) s in
-      subst P (sym e) (required_said fields50 tag50 (of50.Value kind)
-      said (h.needed refl) (same_value fields42 fields50 kind said h.spelled) h.clear)
-
--- ---- groups
-
-alloc_line : (line : List Cell)
-    → IsLine of42.judge requests42.allocs.rows line → IsLine of50.judge requests50.allocs.rows line
-alloc_line [] h = absurd h
-alloc_line (a ∷ []) h = absurd h.2
-alloc_line (a ∷ b ∷ []) h =
-    let fields = line_fields (a ∷ b ∷ []) in (
-      h.0,
-      required fields fields kinds.Id 79 79 a.1 a.1 refl h.1,
-      (h.2.0, optional fields fields kinds.Qty 80 80 b.1 b.1 refl h.2.1, tt),
-    )
-alloc_line (a ∷ b ∷ c ∷ line) h = absurd h.2.2
-
-session_line : (line : List Cell) → IsLine of42.judge requests42.sessions.rows line
-    → IsLine of50.judge requests50.sessions.rows line
-session_line [] h = absurd h
-session_line (a ∷ []) h =
-    let fields = line_fields (a ∷ []) in
-    (h.0, required fields fields kinds.Id 336 336 a.1 a.1 refl h.1, tt)
-session_line (a ∷ b ∷ line) h = absurd h.2
-
-all_lines : (P Q : List Cell → Type 0) → ((line : List Cell) → P line → Q line)
-    → (lines : List (List Cell)) → AllByRecursion P lines → AllByRecursion Q lines
-all_lines P Q each [] h = tt
-all_lines P Q each (line ∷ lines) h = (each line h.0, all_lines P Q each lines h.1)
-
-pub allocs_said : (lines lines50 : List (List Cell)) → lines50 ≡ lines
-    → IsGroup of42.judge requests42.allocs lines → IsGroup of50.judge requests50.allocs lines50
-allocs_said lines lines50 e h =
-    let P : List (List Cell) → Type 0 = λ l. IsGroup of50.judge requests50.allocs l in
-    subst
-    P (sym e) (record {
-      few = h.few;
-      said = all_lines (IsLine of42.judge requests42.allocs.rows)
-          (IsLine of50.judge requests50.allocs.rows) alloc_line lines h.said;
-    })
-
-pub sessions_said : (lines lines50 : List (List Cell)) → lines50 ≡ lines
-    → IsGroup of42.judge requests42.sessions lines → IsGroup of50.judge requests50.sessions lines50
-sessions_said lines lines50 e h =
-    let P : List (List Cell) → Type 0 = λ l. IsGroup of50.judge requests50.sessions l in
-    subst P
-    (sym e) (record {
-      few = h.few;
-      said = all_lines (IsLine of42.judge requests42.sessions.rows)
-          (IsLine of50.judge requests50.sessions.rows) session_line lines h.said;
-    })
 
 -- ---- OrdType, TimeInForce, OrderCapacity
 
@@ -190,34 +112,34 @@ listed_clear listed code none h = by (code == 1) refl
         let there : is_one_of listed 1 ≡ true = subst P is h in cc)
 
 pub type_said : (fields : List Field) (ord_type : ℕ) → is_type50 ord_type ≡ true →
-    IsSaid of50.judge
-    fields (of50.row Required 40 (kinds.Code (codes "1234"))) (Some (code_text ord_type))
-unfolding of50.judge spelling
+    IsSaid judge
+    fields (row_kinds.row Required 40 (kinds.Code (codes "1234"))) (Some (code_text ord_type))
+unfolding judge spelling
 type_said fields ord_type h =
     required_said
-    fields 40 (of50.Value (kinds.Code (codes "1234"))) (Some (code_text ord_type)) refl
-    (ap (λ (listed : Bool). of50.verdict_of (Ok (listed_word listed (ord_type ∷ [])))) h)
+    fields 40 (Value (kinds.Code (codes "1234"))) (Some (code_text ord_type)) refl
+    (ap (λ (listed : Bool). verdict_of (Ok (listed_word listed (ord_type ∷ [])))) h)
     (listed_clear (codes "1234") ord_type refl h)
 
 time_of : (fields : List Field) (ord_type code : ℕ)
     → value_at 40 fields ≡ Some (code_text ord_type) → IsTimeCode ord_type code →
-    of50.judge fields (of50.TimeBeside 40) (code_text code) ≡ Spells (code_text code)
-unfolding of50.judge spelling
+    judge fields (TimeBeside 40) (code_text code) ≡ Spells (code_text code)
+unfolding judge spelling
 time_of fields ord_type code at h =
     ap (λ (value : Option (List ℕ)).
-    of50.counted (not (of50.is_at_close (code ∷ [])) || is_listed (codes "12") value)
-    (of50.verdict_of (Ok (listed_word (is_code (codes "01234567") (code ∷ [])) (code ∷ []))))) at
-    ∙ ap (λ (counts : Bool). of50.counted counts (of50.verdict_of
+    counted (not (is_at_close (code ∷ [])) || is_listed (codes "12") value)
+    (verdict_of (Ok (listed_word (is_code (codes "01234567") (code ∷ [])) (code ∷ []))))) at
+    ∙ ap (λ (counts : Bool). counted counts (verdict_of
     (Ok (listed_word (is_code (codes "01234567") (code ∷ [])) (code ∷ []))))) h.beside
-    ∙ ap (λ (listed : Bool). of50.verdict_of (Ok (listed_word listed (code ∷ [])))) h.listed
+    ∙ ap (λ (listed : Bool). verdict_of (Ok (listed_word listed (code ∷ [])))) h.listed
 
 pub time_said : (fields : List Field) (ord_type : ℕ) (time : Option ℕ)
     → value_at 40 fields ≡ Some (code_text ord_type) → IsTime50 ord_type time →
-    IsSaid of50.judge fields
-    (record { tag = 59; kind = of50.TimeBeside 40; need = Lenient }) (option_map code_text time)
-time_said fields ord_type None at h = lenient_said fields 59 (of50.TimeBeside 40) None tt tt
+    IsSaid judge fields
+    (record { tag = 59; kind = TimeBeside 40; need = Lenient }) (option_map code_text time)
+time_said fields ord_type None at h = lenient_said fields 59 (TimeBeside 40) None tt tt
 time_said fields ord_type (Some code) at h =
-    lenient_said fields 59 (of50.TimeBeside 40) (Some (code_text code))
+    lenient_said fields 59 (TimeBeside 40) (Some (code_text code))
     (time_of fields ord_type code at h) (listed_clear (codes "01234567") code refl h.listed)
 
 listed_by : (listed : Bool) → not listed ≡ false → listed ≡ true
@@ -226,20 +148,20 @@ listed_by false h = absurd cc
 
 pub capacity_said : (fields : List Field) (capacity : Option ℕ)
     → lacks_capacity (coded capacity) ≡ false →
-    IsSaid of50.judge fields (record { tag = 528; kind = of50.Byte (codes "AIP"); need = Lenient })
+    IsSaid judge fields (record { tag = 528; kind = Byte (codes "AIP"); need = Lenient })
     (option_map code_text capacity)
-unfolding of50.judge spelling
-capacity_said fields None h = lenient_said fields 528 (of50.Byte (codes "AIP")) None tt tt
+unfolding judge spelling
+capacity_said fields None h = lenient_said fields 528 (Byte (codes "AIP")) None tt tt
 capacity_said fields (Some code) h =
-    lenient_said fields 528 (of50.Byte (codes "AIP")) (Some (code_text code))
-    (ap (λ (listed : Bool). of50.counted listed (Spells (code ∷ [])))
+    lenient_said fields 528 (Byte (codes "AIP")) (Some (code_text code))
+    (ap (λ (listed : Bool). counted listed (Spells (code ∷ [])))
     (listed_by (is_one_of (codes "AIP") code) h))
     (listed_clear (codes "AIP") code refl (listed_by (is_one_of (codes "AIP") code) h))
 
 -- ---- Maturity
 
 spells_ok : (spelled : Spelling) (text : List ℕ)
-    → of42.verdict_of spelled ≡ Spells text → spelled ≡ Ok (Some text)
+    → verdict_of spelled ≡ Spells text → spelled ≡ Ok (Some text)
 spells_ok (Ok (Some other)) text h = cc
 spells_ok (Ok None) text h = absurd cc
 spells_ok (Err fault) text h = absurd cc
@@ -249,7 +171,7 @@ date_of month day = month_year_text month ++ zero_padded 2 day
 
 -- a date that its month has
 in_month_date : (month : MonthYear) (day : List ℕ) (v : Verdict)
-    → of42.in_month (Some month) v ≡ Spells day →
+    → in_month (Some month) v ≡ Spells day →
     is_date month.year month.month (number_of_two day) ≡ true
 in_month_date month day (Spells other) h =
     by (is_date month.year month.month (number_of_two other)) refl h
@@ -267,11 +189,11 @@ abbrev month_in : List ℕ → MonthYear
 month_in text = record { year = months.year_in text; month = months.month_in text }
 
 month_read : (text : List ℕ) (r : Result MonthYear FieldFault)
-    → of42.verdict_of (spelt (λ _. text) r) ≡ Spells text → (x : MonthYear) × (r ≡ Ok x)
+    → verdict_of (spelt (λ _. text) r) ≡ Spells text → (x : MonthYear) × (r ≡ Ok x)
 month_read text (Ok x) h = (x, refl)
 month_read text (Err fault) h = absurd cc
 
-month_spelled : (text : List ℕ) → of42.verdict_of (spelling kinds.MonthYear text) ≡ Spells text
+month_spelled : (text : List ℕ) → verdict_of (spelling kinds.MonthYear text) ≡ Spells text
     → read_month_year text ≡ Ok (month_in text)
 unfolding spelling
 month_spelled [] h = absurd cc
@@ -282,8 +204,8 @@ month_spelled (b ∷ bs) h =
 
 is_date_text : (month : MonthYear) (day : ℕ)
     → spells_date (date_of month day) ≡ true → (fields : List Field) →
-    of50.judge fields (of50.Value kinds.Day) (date_of month day) ≡ Spells (date_of month day)
-unfolding of50.judge spelling zero_padded has_pattern
+    judge fields (Value kinds.Day) (date_of month day) ≡ Spells (date_of month day)
+unfolding judge spelling zero_padded has_pattern
 is_date_text month day good fields =
     let form : has_pattern (codes "YYYYMMDD") (date_of month day) ≡ true =
     rw (
@@ -296,33 +218,33 @@ is_date_text month day good fields =
       is_digit-last (day / 10),
       is_digit-last (day / 1),
     ) refl in
-    ap (λ (r : Result DayValue FieldFault). of50.verdict_of (spelt (λ _. date_of month day) r))
+    ap (λ (r : Result DayValue FieldFault). verdict_of (spelt (λ _. date_of month day) r))
     (judged_good
     (date_of month day) _ _ (record { day = day_number (date_of month day) }) refl form good)
 
 two_by : (one two : Bool) (month : Option MonthYear) (text : List ℕ)
-    → of42.in_month month (of42.verdict_of (formed (one && two) text)) ≡ Spells text → one ≡ true
+    → in_month month (verdict_of (formed (one && two) text)) ≡ Spells text → one ≡ true
 two_by true two month text h = refl
 two_by false two None text h = absurd cc
 two_by false two (Some month) text h = absurd cc
 
 pub short_day : (fields : List Field) (day : ℕ)
-    → of42.judge fields (of42.DayOf 200) (two_digit_text day) ≡ Spells (two_digit_text day) →
+    → judge fields (DayOf 200) (two_digit_text day) ≡ Spells (two_digit_text day) →
     is_ascii_digit (48 + day / 10) ≡ true
-unfolding of42.judge spelling
+unfolding judge spelling
 short_day fields day h =
     two_by (is_ascii_digit (48 + day / 10))
-    (is_ascii_digit (48 + day % 10)) (of42.month_at 200 fields) (two_digit_text day) h
+    (is_ascii_digit (48 + day % 10)) (month_at 200 fields) (two_digit_text day) h
 
-pub short_said : (fields : List Field) (maturity : Option Maturity42) →
-    IfSome (option_and_then said42.month_day_text maturity)
-    (λ text. of42.judge fields (of42.DayOf 200) text ≡ Spells text) →
+pub short_said : (fields : List Field) (maturity : Option Maturity) →
+    IfSome (option_and_then row_parts.month_day_text maturity)
+    (λ text. judge fields (DayOf 200) text ≡ Spells text) →
     IfSome (option_and_then (λ m. m.day) maturity) IsShort
 short_said fields None h = tt
 short_said fields (Some m) h = by m.day h
   where
     by : (day : Option ℕ) → IfSome (option_map two_digit_text day)
-        (λ text. of42.judge fields (of42.DayOf 200) text ≡ Spells text) → IfSome day IsShort
+        (λ text. judge fields (DayOf 200) text ≡ Spells text) → IfSome day IsShort
     by None h = tt
     by (Some day) h = short_by day (short_day fields day h)
 
@@ -353,76 +275,76 @@ module _ (fields42 fields50 : List Field) where
   month_by : (month : MonthYear) (day : Option ℕ)
       → value_at 541 fields50 ≡ option_map (date_of month) day →
       IfSome (option_map (date_of month) day)
-      (λ text. of50.judge fields50 (of50.Value kinds.Day) text ≡ Spells text) →
-      of42.judge fields42 (of42.Value kinds.MonthYear) (month_year_text month)
+      (λ text. judge fields50 (Value kinds.Day) text ≡ Spells text) →
+      judge fields42 (Value kinds.MonthYear) (month_year_text month)
       ≡ Spells (month_year_text month) →
-      of50.judge fields50 (of50.MonthBeside 541) (month_year_text month)
+      judge fields50 (MonthBeside 541) (month_year_text month)
       ≡ Spells (month_year_text month)
-  unfolding of42.judge of50.judge zero_padded
+  unfolding judge zero_padded
   month_by month None at d h =
-      ap (λ (date : Said). of50.month_beside (date >>=
-      (λ text. text_of (of50.verdict_of (spelling kinds.Day text)))) (month_year_text month)) at
-      ∙ ap of50.if_spelled
+      ap (λ (date : Said). month_beside (date >>=
+      (λ text. text_of (verdict_of (spelling kinds.Day text)))) (month_year_text month)) at
+      ∙ ap if_spelled
       (spells_ok (spelling kinds.MonthYear (month_year_text month)) (month_year_text month) h)
   month_by month (Some day) at d h =
-      ap (λ (date : Said). of50.month_beside (date >>=
-      (λ text. text_of (of50.verdict_of (spelling kinds.Day text)))) (month_year_text month)) at
-      ∙ ap (λ (v : Verdict). of50.month_beside (text_of v) (month_year_text month)) d
+      ap (λ (date : Said). month_beside (date >>=
+      (λ text. text_of (verdict_of (spelling kinds.Day text)))) (month_year_text month)) at
+      ∙ ap (λ (v : Verdict). month_beside (text_of v) (month_year_text month)) d
 
   -- the month, beside the date where there is a day
-  pub month_said : (maturity : Option Maturity42)
-      → value_at 541 fields50 ≡ option_and_then said50.date_text (maturity_up maturity) →
-      IfSome (option_and_then said50.date_text (maturity_up maturity))
-      (λ text. of50.judge fields50 (of50.Value kinds.Day) text ≡ Spells text) →
-      IfSome (option_map said42.month_text maturity)
-      (λ text. of42.judge fields42 (of42.Value kinds.MonthYear) text ≡ Spells text) →
-      IsSaid of50.judge fields50 (record { tag = 200; kind = of50.MonthBeside 541; need = Lenient })
-      (option_map said50.month_text (maturity_up maturity))
-  month_said None at d h = lenient_said fields50 200 (of50.MonthBeside 541) None tt tt
-  month_said (Some m) at d h = lenient_said fields50 200 (of50.MonthBeside 541)
+  pub month_said : (maturity : Option Maturity)
+      → value_at 541 fields50 ≡ option_and_then row_parts.date_text maturity →
+      IfSome (option_and_then row_parts.date_text maturity)
+      (λ text. judge fields50 (Value kinds.Day) text ≡ Spells text) →
+      IfSome (option_map row_lines.month_text maturity)
+      (λ text. judge fields42 (Value kinds.MonthYear) text ≡ Spells text) →
+      IsSaid judge fields50 (record { tag = 200; kind = MonthBeside 541; need = Lenient })
+      (option_map row_lines.month_text maturity)
+  month_said None at d h = lenient_said fields50 200 (MonthBeside 541) None tt tt
+  month_said (Some m) at d h = lenient_said fields50 200 (MonthBeside 541)
       (Some (month_year_text m.month)) (month_by m.month m.day at d h) (month_clear m.month)
 
   date_by : (month : MonthYear) (day : ℕ)
       → IsShort day → value_at 200 fields42 ≡ Some (month_year_text month) →
-      of42.judge fields42 (of42.Value kinds.MonthYear) (month_year_text month)
+      judge fields42 (Value kinds.MonthYear) (month_year_text month)
       ≡ Spells (month_year_text month) →
-      of42.judge fields42 (of42.DayOf 200) (two_digit_text day) ≡ Spells (two_digit_text day) →
-      of50.judge fields50 (of50.Value kinds.Day) (date_of month day) ≡ Spells (date_of month day)
-  unfolding of42.judge
+      judge fields42 (DayOf 200) (two_digit_text day) ≡ Spells (two_digit_text day) →
+      judge fields50 (Value kinds.Day) (date_of month day) ≡ Spells (date_of month day)
+  unfolding judge
   date_by month day short at month_ok day_ok =
-      let v = of42.verdict_of (spelling kinds.DayOfMonth (two_digit_text day)) in
+      let v = verdict_of (spelling kinds.DayOfMonth (two_digit_text day)) in
       let text = month_year_text month in
-      let said : of42.month_at 200 fields42 ≡ Some (month_in text) =
+      let said : month_at 200 fields42 ≡ Some (month_in text) =
       ap (λ (value : Said). value >>= (λ t. result_ok (read_month_year t))) at
       ∙ ap result_ok (month_spelled text month_ok) in
       let good = in_month_date (month_in text) (two_digit_text day)
-      v (sym (ap (λ (m : Option MonthYear). of42.in_month m v) said) ∙ day_ok) in
+      v (sym (ap (λ (m : Option MonthYear). in_month m v) said) ∙ day_ok) in
       is_date_text month day (spells_by month day short good) fields50
 
   -- the date, where there is a day
-  pub date_said : (maturity : Option Maturity42)
-      → value_at 200 fields42 ≡ option_map said42.month_text maturity →
-      IfSome (option_map said42.month_text maturity)
-      (λ text. of42.judge fields42 (of42.Value kinds.MonthYear) text ≡ Spells text) →
-      IfSome (option_and_then said42.month_day_text maturity)
-      (λ text. of42.judge fields42 (of42.DayOf 200) text ≡ Spells text) →
-      IsSaid of50.judge fields50 (of50.row Optional 541 kinds.Day)
-      (option_and_then said50.date_text (maturity_up maturity))
-  date_said None at month day = optional_said fields50 541 (of50.Value kinds.Day) None tt tt
+  pub date_said : (maturity : Option Maturity)
+      → value_at 200 fields42 ≡ option_map row_lines.month_text maturity →
+      IfSome (option_map row_lines.month_text maturity)
+      (λ text. judge fields42 (Value kinds.MonthYear) text ≡ Spells text) →
+      IfSome (option_and_then row_parts.month_day_text maturity)
+      (λ text. judge fields42 (DayOf 200) text ≡ Spells text) →
+      IsSaid judge fields50 (row_kinds.row Optional 541 kinds.Day)
+      (option_and_then row_parts.date_text maturity)
+  date_said None at month day = optional_said fields50 541 (Value kinds.Day) None tt tt
   date_said (Some m) at month day = by m.month m.day at month day
     where
       by : (month : MonthYear) (day : Option ℕ)
           → value_at 200 fields42 ≡ Some (month_year_text month) →
-          of42.judge fields42 (of42.Value kinds.MonthYear) (month_year_text month)
+          judge fields42 (Value kinds.MonthYear) (month_year_text month)
           ≡ Spells (month_year_text month) →
           IfSome (option_map two_digit_text day)
-          (λ text. of42.judge fields42 (of42.DayOf 200) text ≡ Spells text) →
+          (λ text. judge fields42 (DayOf 200) text ≡ Spells text) →
           IsSaid
-          of50.judge fields50 (of50.row Optional 541 kinds.Day) (option_map (date_of month) day)
+          judge fields50 (row_kinds.row Optional 541 kinds.Day) (option_map (date_of month) day)
       by month None at month_ok day_ok =
-          optional_said fields50 541 (of50.Value kinds.Day) None tt tt
+          optional_said fields50 541 (Value kinds.Day) None tt tt
       by month (Some day) at month_ok day_ok =
-          optional_said fields50 541 (of50.Value kinds.Day) (Some (date_of month day))
+          optional_said fields50 541 (Value kinds.Day) (Some (date_of month day))
           (date_by month day (short_by day (short_day fields42 day day_ok)) at month_ok day_ok)
           (date_clear month day)
 
@@ -431,55 +353,55 @@ module _ (fields42 fields50 : List Field) where
 -- the id of a party, where there is one
 abbrev pub IsPartyId : Option (List ℕ) → Type 0
 IsPartyId id =
-    IfSome id (λ text. (of50.judge [] (of50.Value kinds.Id) text ≡ Spells text) × IsClear text)
+    IfSome id (λ text. (judge [] (Value kinds.Id) text ≡ Spells text) × IsClear text)
 
 -- a text of FIX 4.2 is the id of a party
 pub party_id : (fields : List Field) (tag : ℕ) (said : Said)
-    → IsSaid of42.judge fields (of42.row Optional tag kinds.Id) said → IsPartyId said
+    → IsSaid judge fields (row_kinds.row Optional tag kinds.Id) said → IsPartyId said
 party_id fields tag None h = tt
 party_id fields tag (Some text) h = (same_value fields [] kinds.Id (Some text) h.spelled, h.clear)
 
 party_line : (id : List ℕ) (role : ℕ)
-    → (of50.judge [] (of50.Value kinds.Id) id ≡ Spells id) × IsClear id →
-    (of50.judge [] (of50.Value kinds.Number) (decimal role) ≡ Spells (decimal role))
+    → (judge [] (Value kinds.Id) id ≡ Spells id) × IsClear id →
+    (judge [] (Value kinds.Number) (decimal role) ≡ Spells (decimal role))
     × IsClear (decimal role) →
-    IsLine of50.judge requests50.parties.rows (said50.party_cells (record { id = id; role = role }))
-unfolding of50.judge spelling
+    IsLine judge row_groups.parties.rows (row_lines.party_cells (record { id = id; role = role }))
+unfolding judge spelling
 party_line id role id_ok role_ok =
-    let fields = line_fields (said50.party_cells (record { id = id; role = role })) in (
+    let fields = line_fields (row_lines.party_cells (record { id = id; role = role })) in (
       refl,
-      required_said fields 448 (of50.Value kinds.Id) (Some id) refl id_ok.0 id_ok.1,
+      required_said fields 448 (Value kinds.Id) (Some id) refl id_ok.0 id_ok.1,
       (
         refl,
         record { needed = λ e. refl; spelled = refl; again = refl; clear = refl },
         (
           refl,
           required_said fields
-              452 (of50.Value kinds.Number) (Some (decimal role)) refl role_ok.0 role_ok.1,
+              452 (Value kinds.Number) (Some (decimal role)) refl role_ok.0 role_ok.1,
           tt,
         ),
       ),
     )
 
-role_ok3 : (of50.judge [] (of50.Value kinds.Number) (decimal 3) ≡ Spells (decimal 3))
+role_ok3 : (judge [] (Value kinds.Number) (decimal 3) ≡ Spells (decimal 3))
     × IsClear (decimal 3)
-unfolding of50.judge spelling digits are_digits number_of
+unfolding judge spelling digits are_digits number_of
 role_ok3 = (refl, refl)
 
-role_ok1 : (of50.judge [] (of50.Value kinds.Number) (decimal 1) ≡ Spells (decimal 1))
+role_ok1 : (judge [] (Value kinds.Number) (decimal 1) ≡ Spells (decimal 1))
     × IsClear (decimal 1)
-unfolding of50.judge spelling digits are_digits number_of
+unfolding judge spelling digits are_digits number_of
 role_ok1 = (refl, refl)
 
-role_ok4 : (of50.judge [] (of50.Value kinds.Number) (decimal 4) ≡ Spells (decimal 4))
+role_ok4 : (judge [] (Value kinds.Number) (decimal 4) ≡ Spells (decimal 4))
     × IsClear (decimal 4)
-unfolding of50.judge spelling digits are_digits number_of
+unfolding judge spelling digits are_digits number_of
 role_ok4 = (refl, refl)
 
 abbrev PartiesSaid : Option (List ℕ) → Option (List ℕ) → Option (List ℕ) → Type 0
 PartiesSaid client broker firm =
-    IsGroup of50.judge requests50.parties (map
-    said50.party_cells (parties_of (record { client = client; broker = broker; firm = firm })))
+    IsGroup judge row_groups.parties (map
+    row_lines.party_cells (parties_of (record { client = client; broker = broker; firm = firm })))
 
 pub parties_said : (client broker firm : Option (List ℕ))
     → IsPartyId client → IsPartyId broker → IsPartyId firm → PartiesSaid client broker firm
@@ -516,9 +438,9 @@ parties_said (Some client) (Some broker) (Some firm) c b f =
 
 -- what the lines say of the parties of the roles is their ids
 pub record RolesSaid (lines : List PartyLine) : Type 0 where
-  pub client : said50.id_of 3 lines ≡ party_in 3 (map said50.party_cells lines)
-  pub broker : said50.id_of 1 lines ≡ party_in 1 (map said50.party_cells lines)
-  pub firm : said50.id_of 4 lines ≡ party_in 4 (map said50.party_cells lines)
+  pub client : said50.id_of 3 lines ≡ party_in 3 (map row_lines.party_cells lines)
+  pub broker : said50.id_of 1 lines ≡ party_in 1 (map row_lines.party_cells lines)
+  pub firm : said50.id_of 4 lines ≡ party_in 4 (map row_lines.party_cells lines)
 
 pub roles_said : (client broker firm : Option (List ℕ))
     → RolesSaid (parties_of (record { client = client; broker = broker; firm = firm }))
@@ -536,30 +458,30 @@ roles_said (Some client) (Some broker) (Some firm) =
 -- ---- the codes of FIX 4.2
 
 code_by : (listed : Bool) (code : ℕ)
-    → of42.verdict_of (Ok (listed_word listed (code ∷ []))) ≡ Spells (code ∷ []) → listed ≡ true
+    → verdict_of (Ok (listed_word listed (code ∷ []))) ≡ Spells (code ∷ []) → listed ≡ true
 code_by true code h = refl
 code_by false code h = absurd cc
 
-pub listed_code : (listed : List ℕ) (code : ℕ) → of42.judge []
-    (of42.Value (kinds.Code listed)) (code ∷ []) ≡ Spells (code ∷ []) → is_one_of listed code ≡ true
-unfolding of42.judge spelling
+pub listed_code : (listed : List ℕ) (code : ℕ) → judge []
+    (Value (kinds.Code listed)) (code ∷ []) ≡ Spells (code ∷ []) → is_one_of listed code ≡ true
+unfolding judge spelling
 listed_code listed code h = code_by (is_one_of listed code) code h
 
 pub listed_codes : (listed : List ℕ) (code : Option ℕ) → IfSome (option_map code_text code)
-    (λ text. of42.judge [] (of42.Value (kinds.Code listed)) text ≡ Spells text) →
+    (λ text. judge [] (Value (kinds.Code listed)) text ≡ Spells text) →
     IfSome code (λ c. is_one_of listed c ≡ true)
 listed_codes listed None h = tt
 listed_codes listed (Some code) h = listed_code listed code h
 
 pub capacity_carried : (fields : List Field) (capacity same : Option ℕ)
     → same ≡ capacity → lacks_capacity (coded capacity) ≡ false →
-    IsSaid of50.judge fields (record { tag = 528; kind = of50.Byte (codes "AIP"); need = Lenient })
+    IsSaid judge fields (record { tag = 528; kind = Byte (codes "AIP"); need = Lenient })
     (option_map code_text same)
 capacity_carried fields capacity same e h =
-    let P : Option ℕ → Type 0 = λ c. IsSaid of50.judge fields (record {
+    let P : Option ℕ → Type 0 = λ c. IsSaid judge fields (record {
       tag =
           528;
-      kind = of50.Byte (codes "AIP");
+      kind = Byte (codes "AIP");
       need = Lenient;
     }) (option_map code_text c) in
     subst P (sym e) (capacity_said fields capacity h)

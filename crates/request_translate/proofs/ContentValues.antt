@@ -6,10 +6,10 @@ use Rattle.std.specs.List.{AllByRecursion, flat_map, list_any}
 use Rattle.std.specs.Fmt.{decimal}
 use Rattle.std.proofs.lemmas.Bool.{eqb-true}
 use Rattle.field_groups.specs.Field.{Field}
-use Rattle.field_groups.specs.Tables.{Judge, Row, RepeatingGroup, Item, One, Party, Lines, Tag}
-use Rattle.field_groups.specs.Tables.{Said, Cell, Message, or_else, value_at, is_one_of, tags_of}
-use Rattle.field_groups.specs.Tables.{said_at, lines_of, groups_of}
-use Rattle.field_groups.specs.Content.{cell_fields, line_fields, group_fields, item_fields}
+use Rattle.message_tables.specs.Tables.{Judge, Row, RepeatingGroup, Item, One, Party, Lines, Tag}
+use Rattle.message_tables.specs.Tables.{Said, Cell, Message, or_else, value_at, is_one_of, tags_of}
+use Rattle.message_tables.specs.Tables.{said_at, lines_of, groups_of}
+use Rattle.message_tables.specs.Content.{cell_fields, line_fields, group_fields, item_fields}
 use Rattle.request_translate.specs.Sound.{AreSaid, IsLine, IsGroup, IsItem}
 
 -- whether fields of a tag may stand in what an item writes

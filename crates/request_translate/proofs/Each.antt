@@ -4,13 +4,23 @@ use Rattle.std.proofs.Common.{false, refl, arith}
 use Rattle.std.specs.Prelude.{not, ◌&&◌, ◌||◌, ◌==◌}
 use Rattle.std.specs.List.{AllByRecursion, slice_get, flat_map}
 use Rattle.std.proofs.lemmas.Bool.Decides.{nat_tests}
-use Rattle.field_groups.specs.Tables.{or_else, first_of, is_one_of}
+use Rattle.message_tables.specs.Tables.{or_else, first_of, is_one_of}
+
+-- a proof of a first part, and one of what is behind it
+infixr 5 ◌&◌
+abbrev pub ◌&◌ : {A B : Type 0} → A → B → A × B
+a & b = (a, b)
 
 module _ {A : Type 0} (P : A → Type 0) where
   pub each_at : (xs : List A)
       → ((i : ℕ) (x : A) → slice_get xs i ≡ Some x → P x) → AllByRecursion P xs
   each_at [] h = tt
   each_at (x ∷ xs) h = (h 0 x refl, each_at xs (λ i y at. h (suc i) y at))
+
+  pub each_by : (Q : A → Type 0)
+      → ((x : A) → P x → Q x) → (xs : List A) → AllByRecursion P xs → AllByRecursion Q xs
+  each_by Q kept [] h = tt
+  each_by Q kept (x ∷ xs) h = (kept x h.0, each_by Q kept xs h.1)
 
   pub each_front : (xs ys : List A) → AllByRecursion P (xs ++ ys) → AllByRecursion P xs
   each_front [] ys h = tt

@@ -7,12 +7,13 @@ use Rattle.std.specs.List.{AllByRecursion, flat_map}
 use Rattle.std.proofs.lemmas.Bool.Decides.{nat_tests}
 use Rattle.std.proofs.lemmas.List.Sums.{take_while-cons}
 use Rattle.field_groups.specs.Field.{Field}
-use Rattle.field_groups.specs.Tables.{Need, Required, Row, RepeatingGroup, Item, One, Party, Lines}
-use Rattle.field_groups.specs.Tables.{Judge, Message, Cell, Said, Tag, GroupTags}
-use Rattle.field_groups.specs.Tables.{or_else, value_at, is_one_of, is_needed, tags_of, tags_in}
-use Rattle.field_groups.specs.Tables.{first_tag, said_at, lines_of, is_inside, run, after_tag}
-use Rattle.field_groups.specs.Tables.{from_tag, with_member, in_lines, lines_in}
-use Rattle.field_groups.specs.Content.{cell_fields, line_fields, group_fields, item_fields}
+use Rattle.message_tables.specs.Tables.{Need, Required, Row, RepeatingGroup, Item, One, Party}
+use Rattle.message_tables.specs.Tables.{Lines}
+use Rattle.message_tables.specs.Tables.{Judge, Message, Cell, Said, Tag, GroupTags}
+use Rattle.message_tables.specs.Tables.{or_else, value_at, is_one_of, is_needed, tags_of, tags_in}
+use Rattle.message_tables.specs.Tables.{first_tag, said_at, lines_of, is_inside, run, after_tag}
+use Rattle.message_tables.specs.Tables.{from_tag, with_member, in_lines, lines_in}
+use Rattle.message_tables.specs.Content.{cell_fields, line_fields, group_fields, item_fields}
 use Rattle.request_translate.specs.Sound.{IsLine, IsItem}
 use Rattle.request_translate.proofs.Each.{are_apart, both, either, not_true, same_number}
 use Rattle.request_translate.proofs.ContentValues.{value_at-append}

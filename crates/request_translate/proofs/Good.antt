@@ -5,17 +5,17 @@ use Rattle.std.specs.Prelude.{IsSome, take_while, not, ◌&&◌}
 use Rattle.std.specs.List.{AllByRecursion}
 use Rattle.std.proofs.lemmas.Bool.Decides.{nat_tests}
 use Rattle.std.proofs.lemmas.List.Sums.{take_while-cons}
-use Rattle.field_groups.specs.declared.table_fault.TableFault.{TableFault}
-use Rattle.field_groups.specs.declared.table_fault.TableFault.TheVariants as faults
+use Rattle.message_tables.specs.declared.table_fault.TableFault.{TableFault}
+use Rattle.message_tables.specs.declared.table_fault.TableFault.TheVariants as faults
 use Rattle.field_groups.specs.Field.{Field}
-use Rattle.field_groups.specs.Tables.{Row, Need, Required, Optional, Lenient, Fixed, When, Table}
-use Rattle.field_groups.specs.Tables.{Judge, Verdict, Spells, Outside, Wrong, first_of, value_at}
-use Rattle.field_groups.specs.Tables.{has_tag, is_needed, row_at, all_rows, GroupTags, after_tag}
-use Rattle.field_groups.specs.Tables.{from_tag, is_inside, run, with_member, in_lines}
-use Rattle.field_groups.specs.Tables.{line_fields_in, lines_in, text_of, says}
-use Rattle.field_groups.specs.FirstFault.{wrong, beyond, missing, fault_if, marked, allowed}
-use Rattle.field_groups.specs.FirstFault.{mark_of, first_fault}
-use Rattle.field_groups.proofs.Clean.{clean, first_of-map}
+use Rattle.message_tables.specs.Tables.{Row, Need, Required, Optional, Lenient, Fixed, When, Table}
+use Rattle.message_tables.specs.Tables.{Judge, Verdict, Spells, Outside, Wrong, first_of, value_at}
+use Rattle.message_tables.specs.Tables.{has_tag, is_needed, row_at, all_rows, GroupTags, after_tag}
+use Rattle.message_tables.specs.Tables.{from_tag, is_inside, run, with_member, in_lines}
+use Rattle.message_tables.specs.Tables.{line_fields_in, lines_in, text_of, says}
+use Rattle.message_tables.specs.FirstFault.{wrong, beyond, missing, fault_if, marked, allowed}
+use Rattle.message_tables.specs.FirstFault.{mark_of, first_fault}
+use Rattle.message_tables.proofs.Clean.{clean, first_of-map}
 use Rattle.request_translate.proofs.Each.{none_each}
 
 module _ (P : Field → Type 0) where

@@ -15,18 +15,19 @@ use Rattle.std.proofs.lemmas.Fmt.{length-decimal-le}
 use Rattle.std.specs.List.{AllByRecursion, flat_map, list_all}
 use Rattle.std.proofs.lemmas.Bool.Decides.{nat_tests}
 use Rattle.std.proofs.lemmas.List.Sums.{take_while-cons, sum_by-cons}
-use Rattle.field_groups.specs.declared.table_fault.TableFault.TheVariants as faults
+use Rattle.message_tables.specs.declared.table_fault.TableFault.TheVariants as faults
 use Rattle.field_groups.specs.HeadValues.{number_in}
 use Rattle.field_groups.specs.Field.{Field}
-use Rattle.field_groups.specs.Tables.{Need, Required, Row, RepeatingGroup, Item, One, Party, Lines}
-use Rattle.field_groups.specs.Tables.{Judge, Message, Cell, Said, Place, Tag, GroupTags, first_of}
-use Rattle.field_groups.specs.Tables.{has_tag, is_one_of, tags_of, tags_in}
-use Rattle.field_groups.specs.Tables.{lines_of, is_inside, is_needed, groups_of, run}
-use Rattle.field_groups.specs.FirstFault.{Placed, placed_from, fault_if, lines_begun}
-use Rattle.field_groups.specs.FirstFault.{line_before, is_opened, misplaced}
-use Rattle.field_groups.specs.FirstFault.{in_groups, is_of_group}
-use Rattle.field_groups.specs.Content.{cell_fields, line_fields, group_fields, item_fields}
-use Rattle.field_groups.proofs.Few.{IsPlain}
+use Rattle.message_tables.specs.Tables.{Need, Required, Row, RepeatingGroup, Item, One, Party}
+use Rattle.message_tables.specs.Tables.{Lines}
+use Rattle.message_tables.specs.Tables.{Judge, Message, Cell, Said, Place, Tag, GroupTags, first_of}
+use Rattle.message_tables.specs.Tables.{has_tag, is_one_of, tags_of, tags_in}
+use Rattle.message_tables.specs.Tables.{lines_of, is_inside, is_needed, groups_of, run}
+use Rattle.message_tables.specs.FirstFault.{Placed, placed_from, fault_if, lines_begun}
+use Rattle.message_tables.specs.FirstFault.{line_before, is_opened, misplaced}
+use Rattle.message_tables.specs.FirstFault.{in_groups, is_of_group}
+use Rattle.message_tables.specs.Content.{cell_fields, line_fields, group_fields, item_fields}
+use Rattle.message_tables.proofs.Few.{IsPlain}
 use Rattle.field_groups.proofs.Digits.{numerals}
 use Rattle.request_translate.specs.Sound.{AreSaid, IsLine, IsItem}
 use Rattle.request_translate.proofs.Each.{are_apart, both, either, not_true, same_number}

@@ -9,7 +9,7 @@ use Rattle.frame_grammar.specs.declared.frame.Kind.TheVariants.{Fix42, Fixt11}
 use Rattle.frame_grammar.specs.Frame.{IsFrame}
 use Rattle.frame_grammar.proofs.Begins.{no_other}
 use Rattle.field_groups.specs.Field.{Field}
-use Rattle.field_groups.specs.Tables.{◌>>=◌}
+use Rattle.message_tables.specs.Tables.{◌>>=◌}
 use Rattle.field_groups.proofs.Determined.{determined}
 use Rattle.order_meaning.specs.Request.{Request, RequestKind}
 use Rattle.dict_fix42.specs.Sense.{sense42, request42}

@@ -1,6 +1,6 @@
 -- A request that lacks a spelling is what no message of FIX 5.0 SP2 means.
 use Rattle.std.proofs.Common.{◌≡◌, ℕ, Option, Some, None, subst}
-use Rattle.field_groups.specs.Tables.{◌>>=◌}
+use Rattle.message_tables.specs.Tables.{◌>>=◌}
 use Rattle.order_meaning.specs.declared.fault.Lack.{Lack}
 use Rattle.order_meaning.specs.declared.fault.Lack.TheVariants as lacks
 use Rattle.order_meaning.specs.Request.{Request}

@@ -1,7 +1,9 @@
 mod AgainFields
 mod Bodies
 mod CanonicalUp
+mod CarriedRows
 mod Carry
+mod Completed
 mod ContentValues
 mod Copies
 mod Each
@@ -14,6 +16,7 @@ mod Lookups
 mod Means
 mod OneContent
 mod Outcomes
+mod PlainOrders
 mod ReadAgain
 mod ReadSound
 mod Readable
@@ -26,6 +29,9 @@ mod Sound42
 mod SoundUp
 mod SpelledAgain
 mod Stages
+mod TableFits
 mod Translated
 mod Values
+mod Worked
 mod Writable
+mod WrittenAgain

@@ -5,9 +5,9 @@ use Rattle.std.specs.Prelude.{not, ◌&&◌, ◌==◌}
 use Rattle.std.specs.List.{AllByRecursion, flat_map, list_any}
 use Rattle.std.proofs.lemmas.Bool.{eqb-true}
 use Rattle.field_groups.specs.Field.{Field}
-use Rattle.field_groups.specs.Tables.{Place, Tag, Role, Cell, Row, Judge, Item, One, Party, Lines}
-use Rattle.field_groups.specs.Tables.{is_place, said_at, lines_of, is_one_of, tags_of, row_at}
-use Rattle.field_groups.specs.Tables.{cells_of, groups_of, group_says}
+use Rattle.message_tables.specs.Tables.{Place, Tag, Role, Cell, Row, Judge, Item, One, Party, Lines}
+use Rattle.message_tables.specs.Tables.{is_place, said_at, lines_of, is_one_of, tags_of, row_at}
+use Rattle.message_tables.specs.Tables.{cells_of, groups_of, group_says}
 use Rattle.request_translate.specs.Sound.{places_of}
 use Rattle.request_translate.proofs.Each.{are_apart, both, either, not_true, same_number}
 

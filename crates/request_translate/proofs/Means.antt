@@ -9,14 +9,13 @@ use Rattle.typed_fields.specs.Day.{day_text}
 use Rattle.typed_fields.specs.Stamp.{stamp_text}
 use Rattle.typed_fields.specs.Flag.{flag_text}
 use Rattle.typed_fields.specs.Digits.{zero_padded}
-use Rattle.typed_fields.specs.CodeKinds.{two_digit_text}
+use Rattle.row_values.specs.CodeKinds.{two_digit_text}
 use Rattle.typed_fields.specs.MonthYear.{month_year_text}
 use Rattle.typed_fields.specs.declared.month_year.MonthYear.{MonthYear}
 use Rattle.std.specs.Prelude.{IfSome}
 use Rattle.std.specs.Str.Parse.{digits_value}
-use Rattle.dict_fix42.specs.declared.requests.Maturity.{Maturity as Maturity42}
-use Rattle.dict_fix50.specs.declared.requests.Maturity.{Maturity as Maturity50}
-use Rattle.field_groups.specs.Tables.{◌>>=◌, flag_of}
+use Rattle.row_values.specs.declared.lines.Maturity.{Maturity}
+use Rattle.message_tables.specs.Tables.{◌>>=◌, flag_of}
 use Rattle.order_meaning.specs.declared.Amount.{Amount}
 use Rattle.order_meaning.specs.declared.party.PartyLine.{PartyLine}
 use Rattle.order_meaning.specs.declared.party.Three.{Three}
@@ -35,16 +34,18 @@ use Rattle.dict_fix50.specs.declared.requests.Replace50.{Replace50}
 use Rattle.dict_fix42.specs.declared.requests.Status42.{Status42}
 use Rattle.dict_fix50.specs.declared.requests.Status50.{Status50}
 use Rattle.request_translate.proofs.ShortDays.{IsShort, two_number, padded_number}
-use Rattle.request_translate.specs.Written.{coded, maturity_up, IsNew, IsCancel, IsReplace}
+use Rattle.request_translate.specs.Written.{coded, IsNew, IsCancel, IsReplace}
 use Rattle.request_translate.specs.Written.{IsStatus}
+use Rattle.row_values.specs.Writing as row_parts
+use Rattle.row_values.specs.Lines as row_lines
 
 abbrev amount_as : Option DecValue → Option Amount
 amount_as d = option_map dec_text d >>= sense42.amount_of
 
 -- a maturity of FIX 5.0 SP2, by its two spellings
-abbrev maturity_as : Option Maturity50 → Option NeutralMaturity
+abbrev maturity_as : Option Maturity → Option NeutralMaturity
 maturity_as maturity = sense50.maturity_of
-    (option_map said50.month_text maturity) (option_and_then said50.date_text maturity)
+    (option_map row_lines.month_text maturity) (option_and_then row_parts.date_text maturity)
 
 dated : (month : MonthYear) (day : ℕ) →
     maturity_as (Some (record { month = month; day = Some day })) ≡ Some
@@ -53,12 +54,12 @@ unfolding zero_padded
 dated month day = refl
 
 -- its day has two digits
-abbrev pub HasShortDay : Option Maturity42 → Type 0
+abbrev pub HasShortDay : Option Maturity → Type 0
 HasShortDay maturity = IfSome (option_and_then (λ m. m.day) maturity) IsShort
 
-same_maturity : (maturity : Option Maturity42) → HasShortDay maturity →
-    maturity_as (maturity_up maturity) ≡ sense42.maturity_of
-    (option_map said42.month_text maturity) (option_and_then said42.month_day_text maturity)
+same_maturity : (maturity : Option Maturity) → HasShortDay maturity →
+    maturity_as maturity ≡ sense42.maturity_of
+    (option_map row_lines.month_text maturity) (option_and_then row_parts.month_day_text maturity)
 same_maturity None short = refl
 same_maturity (Some m) short = by m.month m.day short
   where

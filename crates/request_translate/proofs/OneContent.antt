@@ -1,1471 +1,343 @@
--- Canonical requests that mean the same have the same content.
+-- Canonical requests that mean the same have the same content: each row is written alike of both.
 use Rattle.std.proofs.Common.{◌≡◌, ℕ, List, [], ◌∷◌, ◌++◌, codes, Option, Some, refl, sym, ap, ◌∙◌}
-use Rattle.std.proofs.Common.{unwrap_or}
+use Rattle.std.proofs.Common.{unwrap_or, option_map, true}
 use Rattle.std.specs.List.{AllByRecursion, slice_get, flat_map}
-use Rattle.typed_fields.specs.ValueKind as kinds
+use Rattle.row_values.specs.ValueKind as kinds
+use Rattle.row_values.specs.Kinds as of50
+use Rattle.row_values.specs.Groups as row_groups
 use Rattle.field_groups.specs.Field.{Field}
-use Rattle.field_groups.specs.Tables.{Item, One, Lines, Required, Optional, Lenient, Tag, Role}
-use Rattle.field_groups.specs.Tables.{Said, Cell, Message, said_at, lines_of}
-use Rattle.field_groups.specs.Content.{content, item_fields, cell_fields, group_fields}
-use Rattle.order_meaning.specs.Request.{Request, New, Cancel, Replace, Status}
-use Rattle.dict_fix50.specs.Kinds as of50
+use Rattle.message_tables.specs.Tables.{Item, One, Party, Lines, Need, Required, Optional, Lenient}
+use Rattle.message_tables.specs.Tables.{Tag, Said, Message, ◌>>=◌, said_at, lines_of}
+use Rattle.message_tables.specs.Tables.{code_of, flag_of}
+use Rattle.message_tables.specs.Content.{content, item_fields, cell_fields, group_fields}
+use Rattle.order_meaning.specs.Request.{Request, RequestKind, New, Cancel, Replace, Status}
 use Rattle.dict_fix50.specs.Message.{table}
-use Rattle.dict_fix50.specs.Requests as requests50
-use Rattle.dict_fix50.specs.Sense.{request50, request_of}
+use Rattle.dict_fix50.specs.Requests.{new_order, cancel_request, replace_request, status_request}
+use Rattle.dict_fix50.specs.Sense.{request50, request_of, amount_of}
 use Rattle.request_translate.specs.Sound.{IsItem}
 use Rattle.request_translate.specs.Canonical.{party_lines, IsCanonical, HaveOneContent}
-use Rattle.request_translate.proofs.ContentValues.{groups_said, value_said}
+use Rattle.request_translate.proofs.ContentValues.{is_alone, groups_said, value_said}
 use Rattle.request_translate.proofs.Carry.{item_at}
+use Rattle.request_translate.proofs.Each.{◌&◌}
 use Rattle.request_translate.proofs.SameRows as same
 
-same_items : (m n : Message) (items : List (Item of50.Kind50))
-    → AllByRecursion (λ item. item_fields m item ≡ item_fields n item) items →
-    flat_map (item_fields m) items ≡ flat_map (item_fields n) items
-same_items m n [] h = refl
-same_items m n (item ∷ items) h =
-    let first = h.0 in let rest = same_items m n items h.1 in λ i. first i ++ rest i
+abbrev at : Message → ℕ → Said
+at m tag = said_at m.cells (Tag tag)
 
--- what a row writes, and what a group writes
-row_fields : (tag : ℕ) (a b : Said) → a ≡ b → cell_fields (Tag tag, a) ≡ cell_fields (Tag tag, b)
-row_fields tag a b e = ap (λ (said : Said). cell_fields (Tag tag, said)) e
+-- rows of which another row or the parties have a part
+abbrev AreTerms : Message → Message → Type 0
+AreTerms m n = (at m 40 ≡ at n 40) × (at m 59 ≡ at n 59)
 
-lines_fields : (count : ℕ) (a b : List (List Cell))
-    → a ≡ b → group_fields count a ≡ group_fields count b
-lines_fields count a b e = ap (group_fields count) e
+abbrev IsMaturity : Message → Message → Type 0
+IsMaturity m n = (at m 200 ≡ at n 200) × (at m 541 ≡ at n 541)
 
--- the parties of the same ids
-same_parties : (m n : Message) → lines_of 453 m.groups
-    ≡ party_lines (said_at m.cells (Role 3)) (said_at m.cells (Role 1)) (said_at m.cells (Role 4)) →
-    lines_of 453 n.groups ≡ party_lines
-    (said_at n.cells (Role 3)) (said_at n.cells (Role 1)) (said_at n.cells (Role 4)) →
-    said_at m.cells (Role 3) ≡ said_at n.cells (Role 3) → said_at m.cells (Role 1)
-    ≡ said_at n.cells (Role 1) → said_at m.cells (Role 4) ≡ said_at n.cells (Role 4) →
-    lines_of 453 m.groups ≡ lines_of 453 n.groups
-same_parties m n p q client broker firm =
-    p ∙ (λ i. party_lines (client i) (broker i) (firm i)) ∙ sym q
+abbrev AreParties : Message → Message → Type 0
+AreParties m n = lines_of 453 m.groups ≡ lines_of 453 n.groups
 
-some_same : (a b : Request) → Some a ≡ Some b → a ≡ b
-some_same a b e = ap (λ (r : Option Request). unwrap_or r a) e
+-- two messages that mean the same, beside the fields of each
+module _ (f g : List Field) (m n : Message) where
+  -- an item that both say is written alike
+  abbrev Alike : Item of50.Kind → Type 0
+  Alike item = IsItem of50.judge f m item
+      → IsItem of50.judge g n item → item_fields m item ≡ item_fields n item
 
-abbrev new_fields : Message → List Field
-new_fields m = content (table 68 requests50.new_order) m
+  abbrev Row : ℕ → of50.Kind → Need → Type 0
+  Row tag kind need = Alike (One (record { tag = tag; kind = kind; need = need }))
 
-new_at : (m : Message) → IsCanonical 68 requests50.new_order m
-    → (i : ℕ) (item : Item of50.Kind50) → slice_get requests50.new_order i ≡ Some item →
-    IsItem of50.judge (new_fields m) m item
-new_at m c i item e =
-    item_at (IsItem of50.judge (new_fields m) m) i requests50.new_order item e c.sound.items
+  items_alike : (items : List (Item of50.Kind)) → AllByRecursion Alike items
+      → AllByRecursion (IsItem of50.judge f m) items
+      → AllByRecursion (IsItem of50.judge g n) items →
+      flat_map (item_fields m) items ≡ flat_map (item_fields n) items
+  items_alike [] alike a b = refl
+  items_alike (item ∷ items) alike a b =
+      let first = alike.0 a.0 b.0 in let rest = items_alike items alike.1 a.1 b.1 in
+      λ i. first i ++ rest i
 
--- what it means
-new_request : (m : Message) → m.letter ≡ 68 → request50 m ≡ Some (request_of New m)
-new_request m letter = rw letter refl
+  -- ---- rows, by what their values are
 
-new_terms : (m : Message) → IsCanonical 68 requests50.new_order m
-    → same.TermsSaid (said_at m.cells (Tag 40)) (said_at m.cells (Tag 59))
-new_terms m c =
-    let kind_of = (new_at m c 27 (One
-    (record { tag = 40; kind = of50.Value (kinds.Code (codes "1234")); need = Required })) refl)
-    in
-    let time =
-    (new_at m c 31 (One (record { tag = 59; kind = of50.TimeBeside 40; need = Lenient })) refl)
-    in
-    same.terms_said (new_fields m) (said_at m.cells (Tag 40)) (said_at m.cells (Tag 59))
-    (value_said of50.judge m 40 requests50.new_order
-    refl (groups_said of50.judge (new_fields m) m requests50.new_order c.sound.items))
-    (kind_of.needed refl) kind_of.spelled time.spelled
+  said : (tag : ℕ) {kind : of50.Kind} {need : Need} → at m tag ≡ at n tag → Row tag kind need
+  said tag e a b = ap (λ (s : Said). cell_fields (Tag tag, s)) e
 
-new_same : (m n : Message) → IsCanonical 68 requests50.new_order m
-    → IsCanonical 68 requests50.new_order n → request_of New m ≡ request_of New n →
-    AllByRecursion (λ item. item_fields m item ≡ item_fields n item) requests50.new_order
-new_same m n c d e =
-    let maturity = (same.same_maturity (said_at m.cells (Tag 200))
-    (said_at m.cells (Tag 541)) (said_at n.cells (Tag 200)) (said_at n.cells (Tag 541))
-    c.month d.month (same.dates_said (new_fields m) (said_at m.cells (Tag 541)) (new_at m c
-    21 (One (record { tag = 541; kind = of50.Value kinds.Day; need = Optional })) refl).spelled)
-    (same.dates_said (new_fields n) (said_at n.cells (Tag 541)) (new_at n d
-    21 (One (record { tag = 541; kind = of50.Value kinds.Day; need = Optional })) refl).spelled)
-    (ap (λ (r : Request). r.maturity) e)) in
-    let terms = same.same_terms (said_at m.cells (Tag 40)) (said_at m.cells (Tag 59))
-    (said_at n.cells (Tag 40)) (said_at n.cells (Tag 59)) (new_terms m c) (new_terms n d)
-    (ap (λ (r : Request). r.ord_type) e) (ap (λ (r : Request). r.time_in_force) e) in (
-      row_fields 11 (said_at m.cells (Tag 11)) (said_at n.cells (Tag 11))
-          (same.same_text (said_at m.cells (Tag 11)) (said_at n.cells (Tag 11)) ((new_at m c 0 (One
-          (record { tag = 11; kind = of50.Value kinds.Id; need = Required })) refl).needed refl)
-          ((new_at n d 0 (One (record { tag = 11; kind = of50.Value kinds.Id; need = Required }))
-          refl).needed refl) (ap (λ (r : Request). r.cl_ord_id) e)),
-      (
-        lines_fields 453 (lines_of 453 m.groups) (lines_of 453 n.groups)
-            (same_parties m n c.parties d.parties (ap (λ (r : Request). r.client_id) e)
-            (ap (λ (r : Request). r.exec_broker) e) (ap (λ (r : Request). r.clearing_firm) e)),
-        (
-          refl,
-          (
-            refl,
-            (
-              refl,
-              (
-                row_fields 1 (said_at m.cells (Tag 1))
-                    (said_at n.cells (Tag 1)) (ap (λ (r : Request). r.account) e),
-                (
-                  lines_fields 78 (lines_of 78 m.groups) (lines_of 78 n.groups)
-                      (same.same_allocs (lines_of 78 m.groups) (lines_of 78 n.groups)
-                      (new_at m c 6 (Lines requests50.allocs) refl).said (new_at n
-                      d 6 (Lines requests50.allocs) refl).said (ap (λ (r : Request). r.allocs) e)),
-                  (
-                    row_fields 63 (said_at m.cells (Tag 63)) (said_at n.cells (Tag 63))
-                        (same.same_code (said_at m.cells (Tag 63)) (said_at n.cells (Tag 63))
-                        (same.codes_said (new_fields m) (codes "0123456789") (said_at
-                        m.cells (Tag 63)) (new_at m c 7 (One (record {
-                          tag = 63;
-                          kind = of50.Value
-                              (kinds.Code (codes "0123456789"));
-                          need = Lenient;
-                        })) refl).spelled)
-                        (same.codes_said (new_fields n) (codes "0123456789") (said_at
-                        n.cells (Tag 63)) (new_at n d 7 (One (record {
-                          tag = 63;
-                          kind = of50.Value
-                              (kinds.Code (codes "0123456789"));
-                          need = Lenient;
-                        })) refl).spelled)
-                        (ap (λ (r : Request). r.settl_type) e)),
-                    (
-                      row_fields 64 (said_at m.cells (Tag 64))
-                          (said_at n.cells (Tag 64)) (ap (λ (r : Request). r.settl_date) e),
-                      (
-                        row_fields 21 (said_at m.cells (Tag 21)) (said_at n.cells (Tag 21))
-                            (same.same_code (said_at m.cells (Tag 21)) (said_at n.cells (Tag 21))
-                            (same.codes_said (new_fields m) (codes "123") (said_at m.cells (Tag 21))
-                            (new_at m c 9 (One (record {
-                              tag = 21;
-                              kind = of50.Value
-                                  (kinds.Code (codes "123"));
-                              need = Required;
-                            })) refl).spelled)
-                            (same.codes_said (new_fields n) (codes "123") (said_at n.cells (Tag 21))
-                            (new_at n d 9 (One (record {
-                              tag = 21;
-                              kind = of50.Value
-                                  (kinds.Code (codes "123"));
-                              need = Required;
-                            })) refl).spelled)
-                            (ap (λ (r : Request). r.hand_inst) e)),
-                        (
-                          row_fields 18 (said_at m.cells (Tag 18))
-                              (said_at n.cells (Tag 18)) (ap (λ (r : Request). r.exec_inst) e),
-                          (
-                            row_fields 110 (said_at m.cells (Tag 110)) (said_at n.cells (Tag 110))
-                                (same.same_amount (said_at m.cells (Tag 110))
-                                (said_at n.cells (Tag 110)) (same.qtys_said (new_fields m)
-                                (said_at m.cells (Tag 110)) (new_at m c 11 (One (record {
-                                  tag =
-                                      110;
-                                  kind = of50.Value kinds.Qty;
-                                  need = Optional;
-                                })) refl).spelled)
-                                (same.qtys_said (new_fields n) (said_at n.cells (Tag 110)) (new_at
-                                n d 11 (One (record {
-                                  tag = 110;
-                                  kind = of50.Value kinds.Qty;
-                                  need =
-                                      Optional;
-                                })) refl).spelled) (ap (λ (r : Request). r.min_qty) e)),
-                            (
-                              row_fields 1138 (said_at m.cells (Tag 1138))
-                                  (said_at n.cells (Tag 1138)) (same.same_amount
-                                  (said_at m.cells (Tag 1138)) (said_at n.cells (Tag 1138))
-                                  (same.qtys_said (new_fields m) (said_at m.cells (Tag 1138))
-                                  (new_at m c 12 (One (record {
-                                    tag = 1138;
-                                    kind =
-                                        of50.Value kinds.Qty;
-                                    need = Optional;
-                                  })) refl).spelled)
-                                  (same.qtys_said (new_fields n) (said_at n.cells (Tag 1138))
-                                  (new_at n d 12 (One (record {
-                                    tag = 1138;
-                                    kind =
-                                        of50.Value kinds.Qty;
-                                    need = Optional;
-                                  })) refl).spelled)
-                                  (ap (λ (r : Request). r.max_floor) e)),
-                              (
-                                row_fields 100 (said_at m.cells (Tag 100)) (said_at
-                                    n.cells (Tag 100)) (ap (λ (r : Request). r.ex_destination) e),
-                                (
-                                  lines_fields 386 (lines_of 386 m.groups)
-                                      (lines_of 386 n.groups) (same.same_sessions
-                                      (lines_of 386 m.groups) (lines_of 386 n.groups)
-                                      (new_at m c 14 (Lines requests50.sessions) refl).said
-                                      (new_at n d 14 (Lines requests50.sessions) refl).said
-                                      (ap (λ (r : Request). r.sessions) e)),
-                                  (
-                                    row_fields
-                                        55 (said_at m.cells (Tag 55)) (said_at n.cells (Tag 55))
-                                        (same.same_text (said_at m.cells (Tag 55)) (said_at n.cells
-                                        (Tag 55)) ((new_at m c 15 (One (record {
-                                          tag = 55;
-                                          kind =
-                                              of50.Value kinds.Id;
-                                          need = Required;
-                                        })) refl).needed refl)
-                                        ((new_at n d 15 (One (record {
-                                          tag = 55;
-                                          kind =
-                                              of50.Value kinds.Id;
-                                          need = Required;
-                                        })) refl).needed refl)
-                                        (ap (λ (r : Request). r.symbol) e)),
-                                    (
-                                      row_fields 65 (said_at m.cells (Tag 65)) (said_at
-                                          n.cells (Tag 65)) (ap (λ (r : Request). r.symbol_sfx) e),
-                                      (
-                                        row_fields 48 (said_at m.cells (Tag 48)) (said_at n.cells
-                                            (Tag 48)) (ap (λ (r : Request). r.security_id) e),
-                                        (
-                                          row_fields 22
-                                              (said_at m.cells (Tag 22)) (said_at n.cells (Tag 22))
-                                              (same.same_code (said_at m.cells (Tag 22)) (said_at
-                                              n.cells (Tag 22)) (same.codes_said (new_fields m)
-                                              (codes "123456789") (said_at m.cells (Tag 22)) (new_at
-                                              m c 18 (One (record {
-                                                tag = 22;
-                                                kind = of50.Value
-                                                    (kinds.Code (codes "123456789"));
-                                                need = Lenient;
-                                              }))
-                                              refl).spelled) (same.codes_said (new_fields n)
-                                              (codes "123456789") (said_at n.cells (Tag 22)) (new_at
-                                              n d 18 (One (record {
-                                                tag = 22;
-                                                kind = of50.Value
-                                                    (kinds.Code (codes "123456789"));
-                                                need = Lenient;
-                                              }))
-                                              refl).spelled) (ap (λ (r : Request). r.id_source) e)),
-                                          (
-                                            row_fields 167 (said_at m.cells (Tag 167))
-                                                (said_at n.cells (Tag 167))
-                                                (ap (λ (r : Request). r.security_type) e),
-                                            (
-                                              row_fields 200 (said_at m.cells (Tag 200))
-                                                  (said_at n.cells (Tag 200)) maturity.0,
-                                              (
-                                                row_fields 541 (said_at m.cells (Tag 541))
-                                                    (said_at n.cells (Tag 541)) maturity.1,
-                                                (
-                                                  row_fields 207 (said_at m.cells (Tag 207))
-                                                      (said_at n.cells (Tag 207))
-                                                      (ap (λ (r : Request). r.security_exchange) e),
-                                                  (
-                                                    row_fields 54 (said_at m.cells (Tag 54))
-                                                        (said_at n.cells (Tag 54))
-                                                        (same.same_code_in
-                                                        (said_at m.cells (Tag 54))
-                                                        (said_at n.cells (Tag 54)) ((new_at m c 23
-                                                        (One (record {
-                                                          tag = 54;
-                                                          kind = of50.Value
-                                                              (kinds.Code (codes "123456"));
-                                                          need =
-                                                              Required;
-                                                        })) refl).needed refl) ((new_at
-                                                        n d 23 (One (record {
-                                                          tag = 54;
-                                                          kind =
-                                                              of50.Value
-                                                              (kinds.Code (codes "123456"));
-                                                          need = Required;
-                                                        })) refl).needed refl)
-                                                        (same.codes_said (new_fields m) (codes
-                                                        "123456") (said_at m.cells (Tag 54)) (new_at
-                                                        m c 23 (One (record {
-                                                          tag = 54;
-                                                          kind =
-                                                              of50.Value
-                                                              (kinds.Code (codes "123456"));
-                                                          need = Required;
-                                                        })) refl).spelled)
-                                                        (same.codes_said (new_fields n) (codes
-                                                        "123456") (said_at n.cells (Tag 54)) (new_at
-                                                        n d 23 (One (record {
-                                                          tag = 54;
-                                                          kind =
-                                                              of50.Value
-                                                              (kinds.Code (codes "123456"));
-                                                          need = Required;
-                                                        })) refl).spelled)
-                                                        (ap (λ (r : Request). r.side) e)),
-                                                    (
-                                                      row_fields 114 (said_at m.cells (Tag 114))
-                                                          (said_at n.cells (Tag 114))
-                                                          (same.same_flag (said_at m.cells
-                                                          (Tag 114)) (said_at n.cells (Tag 114))
-                                                          (same.flags_said (new_fields m)
-                                                          (said_at m.cells (Tag 114)) (new_at
-                                                          m c 24 (One (record {
-                                                            tag = 114;
-                                                            kind =
-                                                                of50.Value kinds.Flag;
-                                                            need = Optional;
-                                                          }))
-                                                          refl).spelled) (same.flags_said
-                                                          (new_fields n) (said_at n.cells (Tag 114))
-                                                          (new_at n d 24 (One (record {
-                                                            tag =
-                                                                114;
-                                                            kind = of50.Value kinds.Flag;
-                                                            need =
-                                                                Optional;
-                                                          })) refl).spelled)
-                                                          (ap (λ (r : Request). r.locate) e)),
-                                                      (
-                                                        row_fields 60 (said_at m.cells (Tag 60))
-                                                            (said_at n.cells (Tag 60)) (ap
-                                                            (λ (r : Request). r.transact_time) e),
-                                                        (
-                                                          row_fields 38 (said_at m.cells (Tag 38))
-                                                              (said_at n.cells (Tag 38))
-                                                              (same.same_amount (said_at m.cells
-                                                              (Tag 38)) (said_at n.cells (Tag 38))
-                                                              (same.qtys_said (new_fields m)
-                                                              (said_at m.cells (Tag 38))
-                                                              (new_at m c 26 (One (record {
-                                                                tag =
-                                                                    38;
-                                                                kind = of50.Value kinds.Qty;
-                                                                need = Required;
-                                                              })) refl).spelled)
-                                                              (same.qtys_said (new_fields n)
-                                                              (said_at n.cells (Tag 38))
-                                                              (new_at n d 26 (One (record {
-                                                                tag =
-                                                                    38;
-                                                                kind = of50.Value kinds.Qty;
-                                                                need = Required;
-                                                              })) refl).spelled) (ap
-                                                              (λ (r : Request). r.order_qty) e)),
-                                                          (
-                                                            row_fields 40 (said_at m.cells (Tag 40))
-                                                                (said_at n.cells (Tag 40)) terms.0,
-                                                            (
-                                                              row_fields
-                                                                  44 (said_at m.cells (Tag 44))
-                                                                  (said_at n.cells (Tag 44))
-                                                                  (same.same_amount
-                                                                  (said_at m.cells (Tag 44))
-                                                                  (said_at n.cells (Tag 44))
-                                                                  (same.prices_said (new_fields m)
-                                                                  (said_at m.cells (Tag 44)) (new_at
-                                                                  m c 28 (One (record {
-                                                                    tag =
-                                                                        44;
-                                                                    kind = of50.Value kinds.Price;
-                                                                    need = Optional;
-                                                                  })) refl).spelled)
-                                                                  (same.prices_said (new_fields n)
-                                                                  (said_at n.cells (Tag 44)) (new_at
-                                                                  n d 28 (One (record {
-                                                                    tag =
-                                                                        44;
-                                                                    kind = of50.Value kinds.Price;
-                                                                    need = Optional;
-                                                                  })) refl).spelled)
-                                                                  (ap
-                                                                  (λ (r : Request). r.price) e)),
-                                                              (
-                                                                row_fields
-                                                                    99 (said_at m.cells (Tag 99))
-                                                                    (said_at n.cells (Tag 99))
-                                                                    (same.same_amount
-                                                                    (said_at m.cells (Tag 99))
-                                                                    (said_at n.cells (Tag 99))
-                                                                    (same.prices_said (new_fields m)
-                                                                    (said_at m.cells (Tag 99))
-                                                                    (new_at m c 29
-                                                                    (One (record {
-                                                                      tag = 99;
-                                                                      kind =
-                                                                          of50.Value kinds.Price;
-                                                                      need =
-                                                                          Optional;
-                                                                    })) refl).spelled)
-                                                                    (same.prices_said (new_fields n)
-                                                                    (said_at n.cells (Tag 99))
-                                                                    (new_at n d 29 (One (record {
-                                                                      tag = 99;
-                                                                      kind = of50.Value
-                                                                          kinds.Price;
-                                                                      need = Optional;
-                                                                    }))
-                                                                    refl).spelled) (ap (λ
-                                                                    (r : Request). r.stop_px) e)),
-                                                                (
-                                                                  row_fields
-                                                                      15 (said_at m.cells (Tag 15))
-                                                                      (said_at n.cells (Tag 15))
-                                                                      (ap (λ (r : Request).
-                                                                      r.currency) e),
-                                                                  (
-                                                                    row_fields 59
-                                                                        (said_at m.cells (Tag 59))
-                                                                        (said_at n.cells (Tag 59))
-                                                                        terms.1,
-                                                                    (
-                                                                      row_fields
-                                                                          168 (said_at m.cells
-                                                                          (Tag 168)) (said_at
-                                                                          n.cells (Tag 168))
-                                                                          (ap (λ (r : Request).
-                                                                          r.effective_time) e),
-                                                                      (
-                                                                        row_fields
-                                                                            432 (said_at m.cells
-                                                                            (Tag 432)) (said_at
-                                                                            n.cells (Tag 432))
-                                                                            (ap (λ (r : Request).
-                                                                            r.expire_date) e),
-                                                                        (
-                                                                          row_fields
-                                                                              126 (said_at m.cells
-                                                                              (Tag 126)) (said_at
-                                                                              n.cells (Tag 126))
-                                                                              (ap (λ (r : Request).
-                                                                              r.expire_time) e),
-                                                                          (
-                                                                            row_fields
-                                                                                528 (said_at m.cells
-                                                                                (Tag 528)) (said_at
-                                                                                n.cells (Tag 528))
-                                                                                (same.same_code
-                                                                                (said_at m.cells
-                                                                                (Tag 528)) (said_at
-                                                                                n.cells (Tag 528))
-                                                                                (same.bytes_said
-                                                                                (new_fields m)
-                                                                                (codes "AIP")
-                                                                                (said_at
-                                                                                m.cells (Tag 528))
-                                                                                (new_at m c 35 (One
-                                                                                (record {
-                                                                                  tag = 528;
-                                                                                  kind = of50.Byte
-                                                                                      (codes "AIP");
-                                                                                  need = Lenient;
-                                                                                }))
-                                                                                refl).spelled)
-                                                                                (same.bytes_said
-                                                                                (new_fields n)
-                                                                                (codes "AIP")
-                                                                                (said_at
-                                                                                n.cells (Tag 528))
-                                                                                (new_at n d 35 (One
-                                                                                (record {
-                                                                                  tag = 528;
-                                                                                  kind = of50.Byte
-                                                                                      (codes "AIP");
-                                                                                  need = Lenient;
-                                                                                }))
-                                                                                refl).spelled) (ap
-                                                                                (λ (r : Request).
-                                                                                r.capacity) e)),
-                                                                            (
-                                                                              row_fields 77
-                                                                                  (said_at m.cells
-                                                                                  (Tag 77)) (said_at
-                                                                                  n.cells (Tag 77))
-                                                                                  (same.same_code
-                                                                                  (said_at m.cells
-                                                                                  (Tag 77)) (said_at
-                                                                                  n.cells (Tag 77))
-                                                                                  (same.codes_said
-                                                                                  (new_fields m)
-                                                                                  (codes "OC")
-                                                                                  (said_at
-                                                                                  m.cells (Tag 77))
-                                                                                  (new_at m c
-                                                                                  36 (One (record {
-                                                                                    tag = 77;
-                                                                                    kind =
-                                                                                        of50.Value
-                                                                                        (kinds.Code
-                                                                                        (codes
-                                                                                        "OC"));
-                                                                                    need = Lenient;
-                                                                                  }))
-                                                                                  refl).spelled)
-                                                                                  (same.codes_said
-                                                                                  (new_fields n)
-                                                                                  (codes "OC")
-                                                                                  (said_at
-                                                                                  n.cells (Tag 77))
-                                                                                  (new_at n d
-                                                                                  36 (One (record {
-                                                                                    tag = 77;
-                                                                                    kind =
-                                                                                        of50.Value
-                                                                                        (kinds.Code
-                                                                                        (codes
-                                                                                        "OC"));
-                                                                                    need = Lenient;
-                                                                                  }))
-                                                                                  refl).spelled) (ap
-                                                                                  (λ (r : Request).
-                                                                                  r.open_close) e)),
-                                                                              (
-                                                                                row_fields 58
-                                                                                    (said_at m.cells
-                                                                                    (Tag 58))
-                                                                                    (said_at n.cells
-                                                                                    (Tag 58)) (ap (λ
-                                                                                    (r : Request).
-                                                                                    r.text) e),
-                                                                                tt,
-                                                                              ),
-                                                                            ),
-                                                                          ),
-                                                                        ),
-                                                                      ),
-                                                                    ),
-                                                                  ),
-                                                                ),
-                                                              ),
-                                                            ),
-                                                          ),
-                                                        ),
-                                                      ),
-                                                    ),
-                                                  ),
-                                                ),
-                                              ),
-                                            ),
-                                          ),
-                                        ),
-                                      ),
-                                    ),
-                                  ),
-                                ),
-                              ),
-                            ),
-                          ),
-                        ),
-                      ),
-                    ),
-                  ),
-                ),
-              ),
-            ),
-          ),
-        ),
-      ),
-    )
+  text : (tag : ℕ) {kind : of50.Kind}
+      → unwrap_or (at m tag) [] ≡ unwrap_or (at n tag) [] → Row tag kind Required
+  text tag e a b = ap (λ (s : Said). cell_fields (Tag tag, s))
+      (same.same_text (at m tag) (at n tag) (a.needed refl) (b.needed refl) e)
 
-pub news : HaveOneContent 68 requests50.new_order
-news m n c d e =
-    same_items m n requests50.new_order (new_same m n c d
-    (some_same (request_of New m)
-    (request_of New n) (sym (new_request m c.sound.letter) ∙ e ∙ new_request n d.sound.letter)))
+  code : (tag : ℕ) (listed : List ℕ) {need : Need} → at m tag >>= code_of ≡ at n tag >>= code_of
+      → Row tag (of50.Value (kinds.Code listed)) need
+  code tag listed e a b = ap (λ (s : Said). cell_fields (Tag tag, s))
+      (same.same_code (at m tag) (at n tag) (same.codes_said f listed (at m tag) a.spelled)
+      (same.codes_said g listed (at n tag) b.spelled) e)
 
-abbrev cancel_fields : Message → List Field
-cancel_fields m = content (table 70 requests50.cancel_request) m
+  code_in : (tag : ℕ) (listed : List ℕ)
+      → unwrap_or (at m tag >>= code_of) 0 ≡ unwrap_or (at n tag >>= code_of) 0
+      → Row tag (of50.Value (kinds.Code listed)) Required
+  code_in tag listed e a b = ap (λ (s : Said). cell_fields (Tag tag, s))
+      (same.same_code_in (at m tag) (at n tag) (a.needed refl) (b.needed refl)
+      (same.codes_said f listed (at m tag) a.spelled)
+      (same.codes_said g listed (at n tag) b.spelled) e)
 
-cancel_at : (m : Message) → IsCanonical 70 requests50.cancel_request m
-    → (i : ℕ) (item : Item of50.Kind50) → slice_get requests50.cancel_request i ≡ Some item →
-    IsItem of50.judge (cancel_fields m) m item
-cancel_at m c i item e =
-    item_at (IsItem of50.judge (cancel_fields m) m) i requests50.cancel_request item e c.sound.items
+  byte : (tag : ℕ) (listed : List ℕ) {need : Need} → at m tag >>= code_of ≡ at n tag >>= code_of
+      → Row tag (of50.Byte listed) need
+  byte tag listed e a b = ap (λ (s : Said). cell_fields (Tag tag, s))
+      (same.same_code (at m tag) (at n tag) (same.bytes_said f listed (at m tag) a.spelled)
+      (same.bytes_said g listed (at n tag) b.spelled) e)
 
--- what it means
-cancel_request : (m : Message) → m.letter ≡ 70 → request50 m ≡ Some (request_of Cancel m)
-cancel_request m letter = rw letter refl
+  qty : (tag : ℕ) {need : Need} → at m tag >>= amount_of ≡ at n tag >>= amount_of
+      → Row tag (of50.Value kinds.Qty) need
+  qty tag e a b = ap (λ (s : Said). cell_fields (Tag tag, s))
+      (same.same_amount (at m tag) (at n tag) (same.qtys_said f (at m tag) a.spelled)
+      (same.qtys_said g (at n tag) b.spelled) e)
 
-cancel_same : (m n : Message) → IsCanonical 70 requests50.cancel_request m
-    → IsCanonical 70 requests50.cancel_request n → request_of Cancel m ≡ request_of Cancel n →
-    AllByRecursion (λ item. item_fields m item ≡ item_fields n item) requests50.cancel_request
-cancel_same m n c d e =
-    let maturity = (same.same_maturity (said_at m.cells (Tag 200))
-    (said_at m.cells (Tag 541)) (said_at n.cells (Tag 200)) (said_at n.cells (Tag 541)) c.month
-    d.month (same.dates_said (cancel_fields m) (said_at m.cells (Tag 541)) (cancel_at m c
-    13 (One (record { tag = 541; kind = of50.Value kinds.Day; need = Optional })) refl).spelled)
-    (same.dates_said (cancel_fields n) (said_at n.cells (Tag 541)) (cancel_at n d
-    13 (One (record { tag = 541; kind = of50.Value kinds.Day; need = Optional })) refl).spelled)
-    (ap (λ (r : Request). r.maturity) e)) in (
-      row_fields 11 (said_at m.cells (Tag 11)) (said_at n.cells (Tag 11)) (same.same_text
-          (said_at m.cells (Tag 11)) (said_at n.cells (Tag 11)) ((cancel_at m c 0 (One
-          (record { tag = 11; kind = of50.Value kinds.Id; need = Required })) refl).needed refl)
-          ((cancel_at n d 0 (One (record { tag = 11; kind = of50.Value kinds.Id; need = Required }))
-          refl).needed refl) (ap (λ (r : Request). r.cl_ord_id) e)),
-      (
-        row_fields 41 (said_at m.cells (Tag 41))
-            (said_at n.cells (Tag 41)) (ap (λ (r : Request). r.orig_id) e),
-        (
-          row_fields 37 (said_at m.cells (Tag 37))
-              (said_at n.cells (Tag 37)) (ap (λ (r : Request). r.order_id) e),
-          (
-            lines_fields 453 (lines_of 453 m.groups) (lines_of 453 n.groups)
-                (same_parties m n c.parties d.parties (ap (λ (r : Request). r.client_id) e)
-                (ap (λ (r : Request). r.exec_broker) e) (ap (λ (r : Request). r.clearing_firm) e)),
-            (
-              refl,
-              (
-                refl,
-                (
-                  row_fields 1 (said_at m.cells (Tag 1))
-                      (said_at n.cells (Tag 1)) (ap (λ (r : Request). r.account) e),
-                  (
-                    row_fields 55 (said_at m.cells (Tag 55))
-                        (said_at n.cells (Tag 55)) (same.same_text (said_at m.cells (Tag 55))
-                        (said_at n.cells (Tag 55)) ((cancel_at m c 7 (One (record {
-                          tag = 55;
-                          kind =
-                              of50.Value kinds.Id;
-                          need = Required;
-                        })) refl).needed refl) ((cancel_at n
-                        d 7 (One (record { tag = 55; kind = of50.Value kinds.Id; need = Required }))
-                        refl).needed refl) (ap (λ (r : Request). r.symbol) e)),
-                    (
-                      row_fields 65 (said_at m.cells (Tag 65))
-                          (said_at n.cells (Tag 65)) (ap (λ (r : Request). r.symbol_sfx) e),
-                      (
-                        row_fields 48 (said_at m.cells (Tag 48))
-                            (said_at n.cells (Tag 48)) (ap (λ (r : Request). r.security_id) e),
-                        (
-                          row_fields 22 (said_at m.cells (Tag 22)) (said_at n.cells (Tag 22))
-                              (same.same_code (said_at m.cells (Tag 22)) (said_at n.cells (Tag 22))
-                              (same.codes_said (cancel_fields m) (codes "123456789")
-                              (said_at m.cells (Tag 22)) (cancel_at m c 10 (One (record {
-                                tag = 22;
-                                kind = of50.Value (kinds.Code (codes "123456789"));
-                                need = Lenient;
-                              }))
-                              refl).spelled) (same.codes_said (cancel_fields n) (codes "123456789")
-                              (said_at n.cells (Tag 22)) (cancel_at n d 10 (One (record {
-                                tag = 22;
-                                kind = of50.Value (kinds.Code (codes "123456789"));
-                                need = Lenient;
-                              }))
-                              refl).spelled) (ap (λ (r : Request). r.id_source) e)),
-                          (
-                            row_fields 167 (said_at m.cells (Tag 167)) (said_at n.cells (Tag 167))
-                                (ap (λ (r : Request). r.security_type) e),
-                            (
-                              row_fields 200 (said_at m.cells (Tag 200))
-                                  (said_at n.cells (Tag 200)) maturity.0,
-                              (
-                                row_fields 541 (said_at m.cells (Tag 541))
-                                    (said_at n.cells (Tag 541)) maturity.1,
-                                (
-                                  row_fields 207 (said_at m.cells (Tag 207)) (said_at n.cells
-                                      (Tag 207)) (ap (λ (r : Request). r.security_exchange) e),
-                                  (
-                                    row_fields 54 (said_at m.cells (Tag 54))
-                                        (said_at n.cells (Tag 54)) (same.same_code_in (said_at
-                                        m.cells (Tag 54)) (said_at n.cells (Tag 54)) ((cancel_at m
-                                        c 15 (One (record {
-                                          tag = 54;
-                                          kind = of50.Value (kinds.Code
-                                              (codes "123456"));
-                                          need = Required;
-                                        })) refl).needed refl)
-                                        ((cancel_at n d 15 (One (record {
-                                          tag = 54;
-                                          kind =
-                                              of50.Value (kinds.Code (codes "123456"));
-                                          need = Required;
-                                        })) refl).needed refl) (same.codes_said (cancel_fields m)
-                                        (codes "123456") (said_at m.cells (Tag 54))
-                                        (cancel_at m c 15 (One (record {
-                                          tag = 54;
-                                          kind = of50.Value
-                                              (kinds.Code (codes "123456"));
-                                          need = Required;
-                                        }))
-                                        refl).spelled) (same.codes_said (cancel_fields n)
-                                        (codes "123456") (said_at n.cells (Tag 54))
-                                        (cancel_at n d 15 (One (record {
-                                          tag = 54;
-                                          kind = of50.Value
-                                              (kinds.Code (codes "123456"));
-                                          need = Required;
-                                        }))
-                                        refl).spelled) (ap (λ (r : Request). r.side) e)),
-                                    (
-                                      row_fields 60 (said_at m.cells (Tag 60)) (said_at n.cells
-                                          (Tag 60)) (ap (λ (r : Request). r.transact_time) e),
-                                      (
-                                        row_fields 38 (said_at m.cells (Tag 38))
-                                            (said_at n.cells (Tag 38)) (same.same_amount
-                                            (said_at m.cells (Tag 38)) (said_at n.cells (Tag 38))
-                                            (same.qtys_said (cancel_fields m) (said_at m.cells (Tag
-                                            38)) (cancel_at m c 17 (One (record {
-                                              tag = 38;
-                                              kind =
-                                                  of50.Value kinds.Qty;
-                                              need = Optional;
-                                            })) refl).spelled)
-                                            (same.qtys_said (cancel_fields n) (said_at n.cells (Tag
-                                            38)) (cancel_at n d 17 (One (record {
-                                              tag = 38;
-                                              kind =
-                                                  of50.Value kinds.Qty;
-                                              need = Optional;
-                                            })) refl).spelled)
-                                            (ap (λ (r : Request). r.order_qty) e)),
-                                        (
-                                          row_fields 58 (said_at m.cells (Tag 58)) (said_at
-                                              n.cells (Tag 58)) (ap (λ (r : Request). r.text) e),
-                                          tt,
-                                        ),
-                                      ),
-                                    ),
-                                  ),
-                                ),
-                              ),
-                            ),
-                          ),
-                        ),
-                      ),
-                    ),
-                  ),
-                ),
-              ),
-            ),
-          ),
-        ),
-      ),
-    )
+  price : (tag : ℕ) {need : Need} → at m tag >>= amount_of ≡ at n tag >>= amount_of
+      → Row tag (of50.Value kinds.Price) need
+  price tag e a b = ap (λ (s : Said). cell_fields (Tag tag, s))
+      (same.same_amount (at m tag) (at n tag) (same.prices_said f (at m tag) a.spelled)
+      (same.prices_said g (at n tag) b.spelled) e)
 
-pub cancels : HaveOneContent 70 requests50.cancel_request
-cancels m n c d e =
-    same_items m n requests50.cancel_request (cancel_same m n c d
-    (some_same (request_of Cancel m) (request_of Cancel n)
-    (sym (cancel_request m c.sound.letter) ∙ e ∙ cancel_request n d.sound.letter)))
+  flag : (tag : ℕ) {need : Need} → option_map flag_of (at m tag) ≡ option_map flag_of (at n tag)
+      → Row tag (of50.Value kinds.Flag) need
+  flag tag e a b = ap (λ (s : Said). cell_fields (Tag tag, s))
+      (same.same_flag (at m tag) (at n tag) (same.flags_said f (at m tag) a.spelled)
+      (same.flags_said g (at n tag) b.spelled) e)
 
-abbrev replace_fields : Message → List Field
-replace_fields m = content (table 71 requests50.replace_request) m
+  party : (role : ℕ) → Alike (Party role)
+  party role a b = refl
 
-replace_at : (m : Message) → IsCanonical 71 requests50.replace_request m
-    → (i : ℕ) (item : Item of50.Kind50) → slice_get requests50.replace_request i ≡ Some item →
-    IsItem of50.judge (replace_fields m) m item
-replace_at m c i item e = item_at
-    (IsItem of50.judge (replace_fields m) m) i requests50.replace_request item e c.sound.items
+  parties : AreParties m n → Alike (Lines row_groups.parties)
+  parties same a b = ap (group_fields 453) same
 
--- what it means
-replace_request : (m : Message) → m.letter ≡ 71 → request50 m ≡ Some (request_of Replace m)
-replace_request m letter = rw letter refl
+  -- ---- THE ROWS, a place of the table each, by what both mean there
 
-replace_terms : (m : Message) → IsCanonical 71 requests50.replace_request m
-    → same.TermsSaid (said_at m.cells (Tag 40)) (said_at m.cells (Tag 59))
-replace_terms m c =
-    let kind_of = (replace_at m c 29 (One
-    (record { tag = 40; kind = of50.Value (kinds.Code (codes "1234")); need = Required })) refl)
-    in
-    let time = (replace_at
-    m c 33 (One (record { tag = 59; kind = of50.TimeBeside 40; need = Lenient })) refl) in
-    same.terms_said (replace_fields m) (said_at m.cells (Tag 40)) (said_at m.cells (Tag 59))
-    (value_said of50.judge m 40 requests50.replace_request
-    refl (groups_said of50.judge (replace_fields m) m requests50.replace_request c.sound.items))
-    (kind_of.needed refl) kind_of.spelled time.spelled
+  module _ (kind : RequestKind) (e : request_of kind m ≡ request_of kind n) where
+    cl_ord_id : {kind : of50.Kind} → Row 11 kind Required
+    cl_ord_id = text 11 (ap (λ (r : Request). r.cl_ord_id) e)
 
-replace_same : (m n : Message) → IsCanonical 71 requests50.replace_request m
-    → IsCanonical 71 requests50.replace_request n → request_of Replace m ≡ request_of Replace n →
-    AllByRecursion (λ item. item_fields m item ≡ item_fields n item) requests50.replace_request
-replace_same m n c d e =
-    let maturity = (same.same_maturity (said_at m.cells (Tag 200))
-    (said_at m.cells (Tag 541)) (said_at n.cells (Tag 200)) (said_at n.cells (Tag 541)) c.month
-    d.month (same.dates_said (replace_fields m) (said_at m.cells (Tag 541)) (replace_at m c
-    23 (One (record { tag = 541; kind = of50.Value kinds.Day; need = Optional })) refl).spelled)
-    (same.dates_said (replace_fields n) (said_at n.cells (Tag 541)) (replace_at n d
-    23 (One (record { tag = 541; kind = of50.Value kinds.Day; need = Optional })) refl).spelled)
-    (ap (λ (r : Request). r.maturity) e)) in
-    let terms = same.same_terms (said_at m.cells (Tag 40)) (said_at m.cells (Tag 59))
-    (said_at n.cells (Tag 40)) (said_at n.cells (Tag 59)) (replace_terms m c) (replace_terms
-    n d) (ap (λ (r : Request). r.ord_type) e) (ap (λ (r : Request). r.time_in_force) e) in (
-      row_fields 11 (said_at m.cells (Tag 11)) (said_at n.cells (Tag 11))
-          (same.same_text (said_at m.cells (Tag 11)) (said_at n.cells (Tag 11)) ((replace_at m
-          c 0 (One (record { tag = 11; kind = of50.Value kinds.Id; need = Required })) refl).needed
-          refl) ((replace_at n d 0 (One (record {
-            tag = 11;
-            kind = of50.Value kinds.Id;
-            need =
-                Required;
-          })) refl).needed refl) (ap (λ (r : Request). r.cl_ord_id) e)),
-      (
-        row_fields 41 (said_at m.cells (Tag 41))
-            (said_at n.cells (Tag 41)) (ap (λ (r : Request). r.orig_id) e),
-        (
-          row_fields 37 (said_at m.cells (Tag 37))
-              (said_at n.cells (Tag 37)) (ap (λ (r : Request). r.order_id) e),
-          (
-            lines_fields 453 (lines_of 453 m.groups) (lines_of 453 n.groups)
-                (same_parties m n c.parties d.parties (ap (λ (r : Request). r.client_id) e)
-                (ap (λ (r : Request). r.exec_broker) e) (ap (λ (r : Request). r.clearing_firm) e)),
-            (
-              refl,
-              (
-                refl,
-                (
-                  refl,
-                  (
-                    row_fields 1 (said_at m.cells (Tag 1))
-                        (said_at n.cells (Tag 1)) (ap (λ (r : Request). r.account) e),
-                    (
-                      lines_fields 78 (lines_of 78 m.groups) (lines_of 78 n.groups)
-                          (same.same_allocs (lines_of 78 m.groups) (lines_of 78 n.groups)
-                          (replace_at m c 8 (Lines requests50.allocs) refl).said (replace_at n d 8
-                          (Lines requests50.allocs) refl).said (ap (λ (r : Request). r.allocs) e)),
-                      (
-                        row_fields 63 (said_at m.cells (Tag 63)) (said_at n.cells (Tag 63))
-                            (same.same_code (said_at m.cells (Tag 63)) (said_at n.cells (Tag 63))
-                            (same.codes_said (replace_fields m) (codes "0123456789")
-                            (said_at m.cells (Tag 63)) (replace_at m c 9 (One (record {
-                              tag = 63;
-                              kind = of50.Value (kinds.Code (codes "0123456789"));
-                              need = Lenient;
-                            }))
-                            refl).spelled) (same.codes_said (replace_fields n) (codes "0123456789")
-                            (said_at n.cells (Tag 63)) (replace_at n d 9 (One (record {
-                              tag = 63;
-                              kind = of50.Value (kinds.Code (codes "0123456789"));
-                              need = Lenient;
-                            }))
-                            refl).spelled) (ap (λ (r : Request). r.settl_type) e)),
-                        (
-                          row_fields 64 (said_at m.cells (Tag 64))
-                              (said_at n.cells (Tag 64)) (ap (λ (r : Request). r.settl_date) e),
-                          (
-                            row_fields 21 (said_at m.cells (Tag 21)) (said_at n.cells (Tag 21))
-                                (same.same_code (said_at m.cells (Tag 21))
-                                (said_at n.cells (Tag 21)) (same.codes_said
-                                (replace_fields m) (codes "123") (said_at m.cells (Tag 21))
-                                (replace_at m c 11 (One (record {
-                                  tag = 21;
-                                  kind = of50.Value
-                                      (kinds.Code (codes "123"));
-                                  need = Required;
-                                })) refl).spelled)
-                                (same.codes_said (replace_fields n) (codes "123") (said_at
-                                n.cells (Tag 21)) (replace_at n d 11 (One (record {
-                                  tag = 21;
-                                  kind =
-                                      of50.Value (kinds.Code (codes "123"));
-                                  need = Required;
-                                }))
-                                refl).spelled) (ap (λ (r : Request). r.hand_inst) e)),
-                            (
-                              row_fields 18 (said_at m.cells (Tag 18))
-                                  (said_at n.cells (Tag 18)) (ap (λ (r : Request). r.exec_inst) e),
-                              (
-                                row_fields 110 (said_at m.cells (Tag 110))
-                                    (said_at n.cells (Tag 110)) (same.same_amount
-                                    (said_at m.cells (Tag 110)) (said_at n.cells (Tag 110))
-                                    (same.qtys_said (replace_fields m) (said_at m.cells (Tag 110))
-                                    (replace_at m c 13 (One (record {
-                                      tag = 110;
-                                      kind =
-                                          of50.Value kinds.Qty;
-                                      need = Optional;
-                                    })) refl).spelled)
-                                    (same.qtys_said (replace_fields n) (said_at n.cells (Tag 110))
-                                    (replace_at n d 13 (One (record {
-                                      tag = 110;
-                                      kind =
-                                          of50.Value kinds.Qty;
-                                      need = Optional;
-                                    })) refl).spelled)
-                                    (ap (λ (r : Request). r.min_qty) e)),
-                                (
-                                  row_fields 1138 (said_at m.cells (Tag 1138))
-                                      (said_at n.cells (Tag 1138)) (same.same_amount
-                                      (said_at m.cells (Tag 1138)) (said_at n.cells (Tag 1138))
-                                      (same.qtys_said (replace_fields m) (said_at m.cells (Tag
-                                      1138)) (replace_at m c 14 (One (record {
-                                        tag = 1138;
-                                        kind =
-                                            of50.Value kinds.Qty;
-                                        need = Optional;
-                                      })) refl).spelled)
-                                      (same.qtys_said (replace_fields n) (said_at n.cells (Tag
-                                      1138)) (replace_at n d 14 (One (record {
-                                        tag = 1138;
-                                        kind =
-                                            of50.Value kinds.Qty;
-                                        need = Optional;
-                                      })) refl).spelled)
-                                      (ap (λ (r : Request). r.max_floor) e)),
-                                  (
-                                    row_fields 100 (said_at m.cells (Tag 100)) (said_at n.cells
-                                        (Tag 100)) (ap (λ (r : Request). r.ex_destination) e),
-                                    (
-                                      lines_fields 386 (lines_of 386 m.groups)
-                                          (lines_of 386 n.groups) (same.same_sessions
-                                          (lines_of 386 m.groups) (lines_of 386 n.groups)
-                                          (replace_at m c 16 (Lines requests50.sessions) refl).said
-                                          (replace_at n d 16 (Lines requests50.sessions) refl).said
-                                          (ap (λ (r : Request). r.sessions) e)),
-                                      (
-                                        row_fields 55 (said_at m.cells (Tag 55))
-                                            (said_at n.cells (Tag 55)) (same.same_text
-                                            (said_at m.cells (Tag 55)) (said_at n.cells (Tag 55))
-                                            ((replace_at m c 17 (One (record {
-                                              tag = 55;
-                                              kind =
-                                                  of50.Value kinds.Id;
-                                              need = Required;
-                                            })) refl).needed
-                                            refl) ((replace_at n d 17 (One (record {
-                                              tag =
-                                                  55;
-                                              kind = of50.Value kinds.Id;
-                                              need = Required;
-                                            }))
-                                            refl).needed refl) (ap (λ (r : Request). r.symbol) e)),
-                                        (
-                                          row_fields 65 (said_at m.cells (Tag 65)) (said_at n.cells
-                                              (Tag 65)) (ap (λ (r : Request). r.symbol_sfx) e),
-                                          (
-                                            row_fields 48 (said_at m.cells (Tag 48))
-                                                (said_at n.cells (Tag 48))
-                                                (ap (λ (r : Request). r.security_id) e),
-                                            (
-                                              row_fields 22 (said_at m.cells (Tag 22))
-                                                  (said_at n.cells (Tag 22)) (same.same_code
-                                                  (said_at m.cells (Tag 22)) (said_at n.cells
-                                                  (Tag 22)) (same.codes_said (replace_fields m)
-                                                  (codes "123456789") (said_at m.cells (Tag 22))
-                                                  (replace_at m c 20 (One (record {
-                                                    tag = 22;
-                                                    kind =
-                                                        of50.Value (kinds.Code (codes "123456789"));
-                                                    need = Lenient;
-                                                  })) refl).spelled)
-                                                  (same.codes_said (replace_fields n)
-                                                  (codes "123456789") (said_at n.cells (Tag 22))
-                                                  (replace_at n d 20 (One (record {
-                                                    tag = 22;
-                                                    kind =
-                                                        of50.Value (kinds.Code (codes "123456789"));
-                                                    need = Lenient;
-                                                  })) refl).spelled)
-                                                  (ap (λ (r : Request). r.id_source) e)),
-                                              (
-                                                row_fields 167 (said_at m.cells (Tag 167))
-                                                    (said_at n.cells (Tag 167))
-                                                    (ap (λ (r : Request). r.security_type) e),
-                                                (
-                                                  row_fields 200 (said_at m.cells (Tag 200))
-                                                      (said_at n.cells (Tag 200)) maturity.0,
-                                                  (
-                                                    row_fields 541 (said_at m.cells (Tag 541))
-                                                        (said_at n.cells (Tag 541)) maturity.1,
-                                                    (
-                                                      row_fields 207 (said_at m.cells (Tag 207))
-                                                          (said_at n.cells (Tag 207)) (ap
-                                                          (λ (r : Request). r.security_exchange) e),
-                                                      (
-                                                        row_fields 54 (said_at m.cells (Tag 54))
-                                                            (said_at n.cells (Tag 54))
-                                                            (same.same_code_in (said_at m.cells
-                                                            (Tag 54)) (said_at n.cells (Tag 54))
-                                                            ((replace_at m c 25 (One
-                                                            (record {
-                                                              tag = 54;
-                                                              kind = of50.Value
-                                                                  (kinds.Code (codes "123456"));
-                                                              need =
-                                                                  Required;
-                                                            })) refl).needed refl)
-                                                            ((replace_at n d 25 (One
-                                                            (record {
-                                                              tag = 54;
-                                                              kind = of50.Value
-                                                                  (kinds.Code (codes "123456"));
-                                                              need =
-                                                                  Required;
-                                                            })) refl).needed refl)
-                                                            (same.codes_said (replace_fields m)
-                                                            (codes "123456") (said_at m.cells
-                                                            (Tag 54)) (replace_at m c 25 (One
-                                                            (record {
-                                                              tag = 54;
-                                                              kind = of50.Value
-                                                                  (kinds.Code (codes "123456"));
-                                                              need =
-                                                                  Required;
-                                                            })) refl).spelled)
-                                                            (same.codes_said (replace_fields n)
-                                                            (codes "123456") (said_at n.cells
-                                                            (Tag 54)) (replace_at n d 25 (One
-                                                            (record {
-                                                              tag = 54;
-                                                              kind = of50.Value
-                                                                  (kinds.Code (codes "123456"));
-                                                              need =
-                                                                  Required;
-                                                            })) refl).spelled)
-                                                            (ap (λ (r : Request). r.side) e)),
-                                                        (
-                                                          row_fields 114 (said_at m.cells (Tag 114))
-                                                              (said_at n.cells (Tag 114))
-                                                              (same.same_flag (said_at m.cells
-                                                              (Tag 114)) (said_at n.cells (Tag 114))
-                                                              (same.flags_said (replace_fields m)
-                                                              (said_at m.cells (Tag 114))
-                                                              (replace_at m c 26 (One (record {
-                                                                tag
-                                                                    = 114;
-                                                                kind = of50.Value kinds.Flag;
-                                                                need = Optional;
-                                                              })) refl).spelled)
-                                                              (same.flags_said (replace_fields n)
-                                                              (said_at n.cells (Tag 114))
-                                                              (replace_at n d 26 (One (record {
-                                                                tag
-                                                                    = 114;
-                                                                kind = of50.Value kinds.Flag;
-                                                                need = Optional;
-                                                              })) refl).spelled)
-                                                              (ap (λ (r : Request). r.locate) e)),
-                                                          (
-                                                            row_fields 60 (said_at m.cells (Tag 60))
-                                                                (said_at n.cells (Tag 60)) (ap (λ
-                                                                (r : Request). r.transact_time) e),
-                                                            (
-                                                              row_fields
-                                                                  38 (said_at m.cells (Tag 38))
-                                                                  (said_at n.cells (Tag 38))
-                                                                  (same.same_amount
-                                                                  (said_at m.cells (Tag 38))
-                                                                  (said_at n.cells (Tag 38))
-                                                                  (same.qtys_said (replace_fields m)
-                                                                  (said_at m.cells (Tag 38))
-                                                                  (replace_at m c 28 (One (record {
-                                                                    tag = 38;
-                                                                    kind = of50.Value
-                                                                        kinds.Qty;
-                                                                    need = Required;
-                                                                  }))
-                                                                  refl).spelled) (same.qtys_said
-                                                                  (replace_fields n) (said_at
-                                                                  n.cells (Tag 38)) (replace_at n d
-                                                                  28 (One (record {
-                                                                    tag = 38;
-                                                                    kind =
-                                                                        of50.Value kinds.Qty;
-                                                                    need =
-                                                                        Required;
-                                                                  })) refl).spelled) (ap (λ
-                                                                  (r : Request). r.order_qty) e)),
-                                                              (
-                                                                row_fields
-                                                                    40 (said_at m.cells (Tag 40))
-                                                                    (said_at n.cells (Tag 40))
-                                                                    terms.0,
-                                                                (
-                                                                  row_fields
-                                                                      44 (said_at m.cells (Tag 44))
-                                                                      (said_at n.cells (Tag 44))
-                                                                      (same.same_amount
-                                                                      (said_at m.cells (Tag 44))
-                                                                      (said_at n.cells (Tag 44))
-                                                                      (same.prices_said
-                                                                      (replace_fields m)
-                                                                      (said_at m.cells (Tag 44))
-                                                                      (replace_at m c 30 (One
-                                                                      (record {
-                                                                        tag = 44;
-                                                                        kind =
-                                                                            of50.Value kinds.Price;
-                                                                        need =
-                                                                            Optional;
-                                                                      })) refl).spelled)
-                                                                      (same.prices_said
-                                                                      (replace_fields n)
-                                                                      (said_at n.cells (Tag 44))
-                                                                      (replace_at n d 30 (One
-                                                                      (record {
-                                                                        tag = 44;
-                                                                        kind =
-                                                                            of50.Value kinds.Price;
-                                                                        need =
-                                                                            Optional;
-                                                                      })) refl).spelled)
-                                                                      (ap (λ (r : Request). r.price)
-                                                                      e)),
-                                                                  (
-                                                                    row_fields 99
-                                                                        (said_at m.cells (Tag 99))
-                                                                        (said_at n.cells (Tag 99))
-                                                                        (same.same_amount
-                                                                        (said_at m.cells (Tag 99))
-                                                                        (said_at n.cells (Tag 99))
-                                                                        (same.prices_said
-                                                                        (replace_fields m)
-                                                                        (said_at m.cells (Tag 99))
-                                                                        (replace_at m c 31 (One
-                                                                        (record {
-                                                                          tag = 99;
-                                                                          kind =
-                                                                              of50.Value
-                                                                              kinds.Price;
-                                                                          need = Optional;
-                                                                        }))
-                                                                        refl).spelled)
-                                                                        (same.prices_said
-                                                                        (replace_fields n)
-                                                                        (said_at n.cells (Tag 99))
-                                                                        (replace_at n d 31 (One
-                                                                        (record {
-                                                                          tag = 99;
-                                                                          kind =
-                                                                              of50.Value
-                                                                              kinds.Price;
-                                                                          need = Optional;
-                                                                        }))
-                                                                        refl).spelled)
-                                                                        (ap (λ (r : Request).
-                                                                        r.stop_px) e)),
-                                                                    (
-                                                                      row_fields 15
-                                                                          (said_at m.cells (Tag 15))
-                                                                          (said_at n.cells (Tag 15))
-                                                                          (ap (λ (r : Request).
-                                                                          r.currency) e),
-                                                                      (
-                                                                        row_fields 59 (said_at
-                                                                            m.cells (Tag 59))
-                                                                            (said_at n.cells
-                                                                            (Tag 59)) terms.1,
-                                                                        (
-                                                                          row_fields
-                                                                              168 (said_at m.cells
-                                                                              (Tag 168)) (said_at
-                                                                              n.cells (Tag 168))
-                                                                              (ap (λ (r : Request).
-                                                                              r.effective_time) e),
-                                                                          (
-                                                                            row_fields 432 (said_at
-                                                                                m.cells (Tag 432))
-                                                                                (said_at n.cells
-                                                                                (Tag 432)) (ap
-                                                                                (λ (r : Request).
-                                                                                r.expire_date) e),
-                                                                            (
-                                                                              row_fields
-                                                                                  126 (said_at
-                                                                                  m.cells (Tag 126))
-                                                                                  (said_at n.cells
-                                                                                  (Tag 126)) (ap
-                                                                                  (λ (r : Request).
-                                                                                  r.expire_time) e),
-                                                                              (
-                                                                                row_fields 528
-                                                                                    (said_at m.cells
-                                                                                    (Tag 528))
-                                                                                    (said_at n.cells
-                                                                                    (Tag 528))
-                                                                                    (same.same_code
-                                                                                    (said_at m.cells
-                                                                                    (Tag 528))
-                                                                                    (said_at n.cells
-                                                                                    (Tag 528))
-                                                                                    (same.bytes_said
-                                                                                    (replace_fields
-                                                                                    m) (codes "AIP")
-                                                                                    (said_at m.cells
-                                                                                    (Tag 528))
-                                                                                    (replace_at
-                                                                                    m c 37 (One
-                                                                                    (record {
-                                                                                      tag =
-                                                                                          528;
-                                                                                      kind =
-                                                                                          of50.Byte
-                                                                                          (codes
-                                                                                          "AIP");
-                                                                                      need =
-                                                                                          Lenient;
-                                                                                    }))
-                                                                                    refl).spelled)
-                                                                                    (same.bytes_said
-                                                                                    (replace_fields
-                                                                                    n) (codes "AIP")
-                                                                                    (said_at n.cells
-                                                                                    (Tag 528))
-                                                                                    (replace_at
-                                                                                    n d 37 (One
-                                                                                    (record {
-                                                                                      tag =
-                                                                                          528;
-                                                                                      kind =
-                                                                                          of50.Byte
-                                                                                          (codes
-                                                                                          "AIP");
-                                                                                      need =
-                                                                                          Lenient;
-                                                                                    }))
-                                                                                    refl).spelled)
-                                                                                    (ap (λ
-                                                                                    (r : Request).
-                                                                                    r.capacity) e)),
-                                                                                (
-                                                                                  row_fields
-                                                                                      77 (said_at
-                                                                                      m.cells (Tag
-                                                                                      77)) (said_at
-                                                                                      n.cells
-                                                                                      (Tag 77))
-                                                                                      (same.same_code
-                                                                                      (said_at
-                                                                                      m.cells (Tag
-                                                                                      77)) (said_at
-                                                                                      n.cells
-                                                                                      (Tag 77))
-                                                                                      (same.codes_said
-                                                                                      (replace_fields
-                                                                                      m) (codes
-                                                                                      "OC") (said_at
-                                                                                      m.cells
-                                                                                      (Tag 77))
-                                                                                      (replace_at
-                                                                                      m c 38
-                                                                                      (One (record {
-                                                                                        tag = 77;
-                                                                                        kind
-                                                                                            =
-                                                                                            of50.Value
-                                                                                            (kinds.Code
-                                                                                            (codes
-                                                                                            "OC"));
-                                                                                        need =
-                                                                                            Lenient;
-                                                                                      }))
-                                                                                      refl).spelled)
-                                                                                      (same.codes_said
-                                                                                      (replace_fields
-                                                                                      n) (codes
-                                                                                      "OC") (said_at
-                                                                                      n.cells
-                                                                                      (Tag 77))
-                                                                                      (replace_at
-                                                                                      n d 38
-                                                                                      (One (record {
-                                                                                        tag = 77;
-                                                                                        kind
-                                                                                            =
-                                                                                            of50.Value
-                                                                                            (kinds.Code
-                                                                                            (codes
-                                                                                            "OC"));
-                                                                                        need =
-                                                                                            Lenient;
-                                                                                      }))
-                                                                                      refl).spelled)
-                                                                                      (ap (λ
-                                                                                      (r : Request).
-                                                                                      r.open_close)
-                                                                                      e)),
-                                                                                  (
-                                                                                    row_fields
-                                                                                        58 (said_at
-                                                                                        m.cells
-                                                                                        (Tag 58))
-                                                                                        (said_at
-                                                                                        n.cells
-                                                                                        (Tag 58))
-                                                                                        (ap (λ (r :
-                                                                                        Request).
-                                                                                        r.text) e),
-                                                                                    tt,
-                                                                                  ),
-                                                                                ),
-                                                                              ),
-                                                                            ),
-                                                                          ),
-                                                                        ),
-                                                                      ),
-                                                                    ),
-                                                                  ),
-                                                                ),
-                                                              ),
-                                                            ),
-                                                          ),
-                                                        ),
-                                                      ),
-                                                    ),
-                                                  ),
-                                                ),
-                                              ),
-                                            ),
-                                          ),
-                                        ),
-                                      ),
-                                    ),
-                                  ),
-                                ),
-                              ),
-                            ),
-                          ),
-                        ),
-                      ),
-                    ),
-                  ),
-                ),
-              ),
-            ),
-          ),
-        ),
-      ),
-    )
+    orig_id : {kind : of50.Kind} {need : Need} → Row 41 kind need
+    orig_id = said 41 (ap (λ (r : Request). r.orig_id) e)
 
-pub replaces : HaveOneContent 71 requests50.replace_request
-replaces m n c d e =
-    same_items m n requests50.replace_request (replace_same m n c d
-    (some_same (request_of Replace m) (request_of Replace n)
-    (sym (replace_request m c.sound.letter) ∙ e ∙ replace_request n d.sound.letter)))
+    order_id : {kind : of50.Kind} {need : Need} → Row 37 kind need
+    order_id = said 37 (ap (λ (r : Request). r.order_id) e)
 
-abbrev status_fields : Message → List Field
-status_fields m = content (table 72 requests50.status_request) m
+    account : {kind : of50.Kind} {need : Need} → Row 1 kind need
+    account = said 1 (ap (λ (r : Request). r.account) e)
 
-status_at : (m : Message) → IsCanonical 72 requests50.status_request m
-    → (i : ℕ) (item : Item of50.Kind50) → slice_get requests50.status_request i ≡ Some item →
-    IsItem of50.judge (status_fields m) m item
-status_at m c i item e =
-    item_at (IsItem of50.judge (status_fields m) m) i requests50.status_request item e c.sound.items
+    allocs : Alike (Lines row_groups.allocs)
+    allocs a b = ap (group_fields 78) (same.same_allocs (lines_of 78 m.groups)
+        (lines_of 78 n.groups) a.said b.said (ap (λ (r : Request). r.allocs) e))
 
--- what it means
-status_request : (m : Message) → m.letter ≡ 72 → request50 m ≡ Some (request_of Status m)
-status_request m letter = rw letter refl
+    settl_type : {need : Need} → Row 63 (of50.Value (kinds.Code (codes "0123456789"))) need
+    settl_type = code 63 (codes "0123456789") (ap (λ (r : Request). r.settl_type) e)
 
-status_same : (m n : Message) → IsCanonical 72 requests50.status_request m
-    → IsCanonical 72 requests50.status_request n → request_of Status m ≡ request_of Status n →
-    AllByRecursion (λ item. item_fields m item ≡ item_fields n item) requests50.status_request
-status_same m n c d e =
-    let maturity = (same.same_maturity (said_at m.cells (Tag 200))
-    (said_at m.cells (Tag 541)) (said_at n.cells (Tag 200)) (said_at n.cells (Tag 541)) c.month
-    d.month (same.dates_said (status_fields m) (said_at m.cells (Tag 541)) (status_at m c
-    12 (One (record { tag = 541; kind = of50.Value kinds.Day; need = Optional })) refl).spelled)
-    (same.dates_said (status_fields n) (said_at n.cells (Tag 541)) (status_at n d
-    12 (One (record { tag = 541; kind = of50.Value kinds.Day; need = Optional })) refl).spelled)
-    (ap (λ (r : Request). r.maturity) e)) in (
-      row_fields 11 (said_at m.cells (Tag 11)) (said_at n.cells (Tag 11)) (same.same_text
-          (said_at m.cells (Tag 11)) (said_at n.cells (Tag 11)) ((status_at m c 0 (One
-          (record { tag = 11; kind = of50.Value kinds.Id; need = Required })) refl).needed refl)
-          ((status_at n d 0 (One (record { tag = 11; kind = of50.Value kinds.Id; need = Required }))
-          refl).needed refl) (ap (λ (r : Request). r.cl_ord_id) e)),
-      (
-        row_fields 37 (said_at m.cells (Tag 37))
-            (said_at n.cells (Tag 37)) (ap (λ (r : Request). r.order_id) e),
-        (
-          lines_fields 453 (lines_of 453 m.groups) (lines_of 453 n.groups)
-              (same_parties m n c.parties d.parties (ap (λ (r : Request). r.client_id) e)
-              (ap (λ (r : Request). r.exec_broker) e) (ap (λ (r : Request). r.clearing_firm) e)),
-          (
-            refl,
-            (
-              refl,
-              (
-                row_fields 1 (said_at m.cells (Tag 1))
-                    (said_at n.cells (Tag 1)) (ap (λ (r : Request). r.account) e),
-                (
-                  row_fields 55 (said_at m.cells (Tag 55))
-                      (said_at n.cells (Tag 55)) (same.same_text (said_at m.cells (Tag 55))
-                      (said_at n.cells (Tag 55)) ((status_at m c 6 (One (record {
-                        tag = 55;
-                        kind =
-                            of50.Value kinds.Id;
-                        need = Required;
-                      })) refl).needed refl) ((status_at
-                      n d 6 (One (record { tag = 55; kind = of50.Value kinds.Id; need = Required }))
-                      refl).needed refl) (ap (λ (r : Request). r.symbol) e)),
-                  (
-                    row_fields 65 (said_at m.cells (Tag 65))
-                        (said_at n.cells (Tag 65)) (ap (λ (r : Request). r.symbol_sfx) e),
-                    (
-                      row_fields 48 (said_at m.cells (Tag 48))
-                          (said_at n.cells (Tag 48)) (ap (λ (r : Request). r.security_id) e),
-                      (
-                        row_fields 22 (said_at m.cells (Tag 22)) (said_at n.cells (Tag 22))
-                            (same.same_code (said_at m.cells (Tag 22)) (said_at n.cells (Tag 22))
-                            (same.codes_said (status_fields m) (codes "123456789") (said_at m.cells
-                            (Tag 22)) (status_at m c 9 (One (record {
-                              tag = 22;
-                              kind = of50.Value
-                                  (kinds.Code (codes "123456789"));
-                              need = Lenient;
-                            })) refl).spelled)
-                            (same.codes_said (status_fields n) (codes "123456789") (said_at n.cells
-                            (Tag 22)) (status_at n d 9 (One (record {
-                              tag = 22;
-                              kind = of50.Value
-                                  (kinds.Code (codes "123456789"));
-                              need = Lenient;
-                            })) refl).spelled)
-                            (ap (λ (r : Request). r.id_source) e)),
-                        (
-                          row_fields 167 (said_at m.cells (Tag 167))
-                              (said_at n.cells (Tag 167)) (ap (λ (r : Request). r.security_type) e),
-                          (
-                            row_fields 200
-                                (said_at m.cells (Tag 200)) (said_at n.cells (Tag 200)) maturity.0,
-                            (
-                              row_fields 541 (said_at m.cells (Tag 541))
-                                  (said_at n.cells (Tag 541)) maturity.1,
-                              (
-                                row_fields 207 (said_at m.cells (Tag 207)) (said_at n.cells
-                                    (Tag 207)) (ap (λ (r : Request). r.security_exchange) e),
-                                (
-                                  row_fields
-                                      54 (said_at m.cells (Tag 54)) (said_at n.cells (Tag 54))
-                                      (same.same_code_in (said_at m.cells (Tag 54)) (said_at n.cells
-                                      (Tag 54)) ((status_at m c 14 (One (record {
-                                        tag = 54;
-                                        kind =
-                                            of50.Value (kinds.Code (codes "123456"));
-                                        need = Required;
-                                      }))
-                                      refl).needed refl) ((status_at n d 14 (One (record {
-                                        tag =
-                                            54;
-                                        kind = of50.Value (kinds.Code (codes "123456"));
-                                        need =
-                                            Required;
-                                      })) refl).needed refl) (same.codes_said
-                                      (status_fields m) (codes "123456") (said_at m.cells (Tag 54))
-                                      (status_at m c 14 (One (record {
-                                        tag = 54;
-                                        kind =
-                                            of50.Value (kinds.Code (codes "123456"));
-                                        need = Required;
-                                      }))
-                                      refl).spelled) (same.codes_said
-                                      (status_fields n) (codes "123456") (said_at n.cells (Tag 54))
-                                      (status_at n d 14 (One (record {
-                                        tag = 54;
-                                        kind =
-                                            of50.Value (kinds.Code (codes "123456"));
-                                        need = Required;
-                                      }))
-                                      refl).spelled) (ap (λ (r : Request). r.side) e)),
-                                  tt,
-                                ),
-                              ),
-                            ),
-                          ),
-                        ),
-                      ),
-                    ),
-                  ),
-                ),
-              ),
-            ),
-          ),
-        ),
-      ),
-    )
+    settl_date : {kind : of50.Kind} {need : Need} → Row 64 kind need
+    settl_date = said 64 (ap (λ (r : Request). r.settl_date) e)
 
-pub statuses : HaveOneContent 72 requests50.status_request
-statuses m n c d e =
-    same_items m n requests50.status_request (status_same m n c d
-    (some_same (request_of Status m) (request_of Status n)
-    (sym (status_request m c.sound.letter) ∙ e ∙ status_request n d.sound.letter)))
+    hand_inst : {need : Need} → Row 21 (of50.Value (kinds.Code (codes "123"))) need
+    hand_inst = code 21 (codes "123") (ap (λ (r : Request). r.hand_inst) e)
+
+    exec_inst : {kind : of50.Kind} {need : Need} → Row 18 kind need
+    exec_inst = said 18 (ap (λ (r : Request). r.exec_inst) e)
+
+    min_qty : {need : Need} → Row 110 (of50.Value kinds.Qty) need
+    min_qty = qty 110 (ap (λ (r : Request). r.min_qty) e)
+
+    max_floor : {need : Need} → Row 1138 (of50.Value kinds.Qty) need
+    max_floor = qty 1138 (ap (λ (r : Request). r.max_floor) e)
+
+    ex_destination : {kind : of50.Kind} {need : Need} → Row 100 kind need
+    ex_destination = said 100 (ap (λ (r : Request). r.ex_destination) e)
+
+    sessions : Alike (Lines row_groups.sessions)
+    sessions a b = ap (group_fields 386) (same.same_sessions (lines_of 386 m.groups)
+        (lines_of 386 n.groups) a.said b.said (ap (λ (r : Request). r.sessions) e))
+
+    symbol : {kind : of50.Kind} → Row 55 kind Required
+    symbol = text 55 (ap (λ (r : Request). r.symbol) e)
+
+    symbol_sfx : {kind : of50.Kind} {need : Need} → Row 65 kind need
+    symbol_sfx = said 65 (ap (λ (r : Request). r.symbol_sfx) e)
+
+    security_id : {kind : of50.Kind} {need : Need} → Row 48 kind need
+    security_id = said 48 (ap (λ (r : Request). r.security_id) e)
+
+    id_source : {need : Need} → Row 22 (of50.Value (kinds.Code (codes "123456789"))) need
+    id_source = code 22 (codes "123456789") (ap (λ (r : Request). r.id_source) e)
+
+    security_type : {kind : of50.Kind} {need : Need} → Row 167 kind need
+    security_type = said 167 (ap (λ (r : Request). r.security_type) e)
+
+    security_exchange : {kind : of50.Kind} {need : Need} → Row 207 kind need
+    security_exchange = said 207 (ap (λ (r : Request). r.security_exchange) e)
+
+    side : Row 54 (of50.Value (kinds.Code (codes "123456"))) Required
+    side = code_in 54 (codes "123456") (ap (λ (r : Request). r.side) e)
+
+    locate : {need : Need} → Row 114 (of50.Value kinds.Flag) need
+    locate = flag 114 (ap (λ (r : Request). r.locate) e)
+
+    transact_time : {kind : of50.Kind} {need : Need} → Row 60 kind need
+    transact_time = said 60 (ap (λ (r : Request). r.transact_time) e)
+
+    order_qty : {need : Need} → Row 38 (of50.Value kinds.Qty) need
+    order_qty = qty 38 (ap (λ (r : Request). r.order_qty) e)
+
+    price_of_one : {need : Need} → Row 44 (of50.Value kinds.Price) need
+    price_of_one = price 44 (ap (λ (r : Request). r.price) e)
+
+    stop_px : {need : Need} → Row 99 (of50.Value kinds.Price) need
+    stop_px = price 99 (ap (λ (r : Request). r.stop_px) e)
+
+    currency : {kind : of50.Kind} {need : Need} → Row 15 kind need
+    currency = said 15 (ap (λ (r : Request). r.currency) e)
+
+    effective_time : {kind : of50.Kind} {need : Need} → Row 168 kind need
+    effective_time = said 168 (ap (λ (r : Request). r.effective_time) e)
+
+    expire_date : {kind : of50.Kind} {need : Need} → Row 432 kind need
+    expire_date = said 432 (ap (λ (r : Request). r.expire_date) e)
+
+    expire_time : {kind : of50.Kind} {need : Need} → Row 126 kind need
+    expire_time = said 126 (ap (λ (r : Request). r.expire_time) e)
+
+    capacity : {need : Need} → Row 528 (of50.Byte (codes "AIP")) need
+    capacity = byte 528 (codes "AIP") (ap (λ (r : Request). r.capacity) e)
+
+    open_close : {need : Need} → Row 77 (of50.Value (kinds.Code (codes "OC"))) need
+    open_close = code 77 (codes "OC") (ap (λ (r : Request). r.open_close) e)
+
+    free_text : {kind : of50.Kind} {need : Need} → Row 58 kind need
+    free_text = said 58 (ap (λ (r : Request). r.text) e)
+
+    module _ (p : AreParties m n) (d : IsMaturity m n) where
+      new_rows : AreTerms m n → AllByRecursion Alike new_order
+      new_rows t =
+          cl_ord_id & parties p & party 3 & party 1 & party 4 & account & allocs & settl_type
+          & settl_date & hand_inst & exec_inst & min_qty & max_floor & ex_destination & sessions
+          & symbol & symbol_sfx & security_id & id_source & security_type & said 200 d.0
+          & said 541 d.1 & security_exchange & side & locate & transact_time & order_qty
+          & said 40 t.0 & price_of_one & stop_px & currency & said 59 t.1 & effective_time
+          & expire_date & expire_time & capacity & open_close & free_text & tt
+
+      cancel_rows : AllByRecursion Alike cancel_request
+      cancel_rows =
+          cl_ord_id & orig_id & order_id & parties p & party 3 & party 1 & account
+          & symbol & symbol_sfx & security_id & id_source & security_type & said 200 d.0
+          & said 541 d.1 & security_exchange & side & transact_time & order_qty & free_text & tt
+
+      replace_rows : AreTerms m n → AllByRecursion Alike replace_request
+      replace_rows t = cl_ord_id & orig_id & order_id & (new_rows t).1
+
+      status_rows : AllByRecursion Alike status_request
+      status_rows =
+          cl_ord_id & order_id & parties p & party 3 & party 1 & account
+          & symbol & symbol_sfx & security_id & id_source & security_type & said 200 d.0
+          & said 541 d.1 & security_exchange & side & tt
+
+-- ---- what is known of canonical requests of a type
+
+module _ (letter : ℕ) (items : List (Item of50.Kind)) where
+  abbrev fields_of : Message → List Field
+  fields_of m = content (table letter items) m
+
+  item_said : (m : Message) → IsCanonical letter items m → (i : ℕ) (item : Item of50.Kind)
+      → slice_get items i ≡ Some item → IsItem of50.judge (fields_of m) m item
+  item_said m c i item is =
+      item_at (IsItem of50.judge (fields_of m) m) i items item is c.sound.items
+
+  terms : (m : Message) → IsCanonical letter items m → (i j : ℕ)
+      → slice_get items i ≡ Some (One
+      (record { tag = 40; kind = of50.Value (kinds.Code (codes "1234")); need = Required }))
+      → slice_get items j
+      ≡ Some (One (record { tag = 59; kind = of50.TimeBeside 40; need = Lenient }))
+      → is_alone 40 items ≡ true → same.TermsSaid (at m 40) (at m 59)
+  terms m c i j type_is time_is alone =
+      let ord_type = item_said m c i (One
+      (record { tag = 40; kind = of50.Value (kinds.Code (codes "1234")); need = Required })) type_is
+      in
+      let time = item_said m c j
+      (One (record { tag = 59; kind = of50.TimeBeside 40; need = Lenient })) time_is in
+      same.terms_said (fields_of m) (at m 40) (at m 59)
+      (value_said of50.judge m 40 items alone
+      (groups_said of50.judge (fields_of m) m items c.sound.items))
+      (ord_type.needed refl) ord_type.spelled time.spelled
+
+  module _ (m n : Message) (c : IsCanonical letter items m) (d : IsCanonical letter items n)
+      (kind : RequestKind) (e : request_of kind m ≡ request_of kind n) where
+    -- the parties of the same ids
+    same_parties : AreParties m n
+    same_parties =
+        let client = ap (λ (r : Request). r.client_id) e in
+        let broker = ap (λ (r : Request). r.exec_broker) e in
+        let firm = ap (λ (r : Request). r.clearing_firm) e in
+        c.parties ∙ (λ i. party_lines (client i) (broker i) (firm i)) ∙ sym d.parties
+
+    maturity : (i : ℕ) → slice_get items i
+        ≡ Some (One (record { tag = 541; kind = of50.Value kinds.Day; need = Optional }))
+        → IsMaturity m n
+    maturity i is =
+        let day = One (record { tag = 541; kind = of50.Value kinds.Day; need = Optional }) in
+        let a = item_said m c i day is in let b = item_said n d i day is in
+        same.same_maturity (at m 200) (at m 541) (at n 200) (at n 541) c.month d.month
+        (same.dates_said (fields_of m) (at m 541) a.spelled)
+        (same.dates_said (fields_of n) (at n 541) b.spelled) (ap (λ (r : Request). r.maturity) e)
+
+    same_terms : same.TermsSaid (at m 40) (at m 59) → same.TermsSaid (at n 40) (at n 59)
+        → AreTerms m n
+    same_terms s t =
+        same.same_terms (at m 40) (at m 59) (at n 40) (at n 59) s t
+        (ap (λ (r : Request). r.ord_type) e) (ap (λ (r : Request). r.time_in_force) e)
+
+    one_content : AllByRecursion (Alike (fields_of m) (fields_of n) m n) items
+        → fields_of m ≡ fields_of n
+    one_content alike = items_alike
+        (fields_of m) (fields_of n) m n items alike c.sound.items d.sound.items
+
+  -- what they mean
+  meant : (m n : Message) (kind : RequestKind) → request50 m ≡ Some (request_of kind m)
+      → request50 n ≡ Some (request_of kind n)
+      → request50 m ≡ request50 n → request_of kind m ≡ request_of kind n
+  meant m n kind a b e = ap
+      (λ (r : Option Request). unwrap_or r (request_of kind m)) (sym a ∙ e ∙ b)
+
+  -- rows that are written alike of any two that mean the same
+  abbrev RowsAlike : RequestKind → Type 0
+  RowsAlike kind = (m n : Message) → IsCanonical letter items m → IsCanonical letter items n
+      → request_of kind m ≡ request_of kind n → AreParties m n → IsMaturity m n →
+      AllByRecursion (Alike (fields_of m) (fields_of n) m n) items
+
+  -- a type of message with one content, by the place of its MaturityDate
+  have_one_content : (kind : RequestKind) (date : ℕ) → slice_get items date
+      ≡ Some (One (record { tag = 541; kind = of50.Value kinds.Day; need = Optional }))
+      → ((m : Message) → m.letter ≡ letter → request50 m ≡ Some (request_of kind m))
+      → RowsAlike kind → HaveOneContent letter items
+  have_one_content kind date is asked rows m n c d same =
+      let e = meant m n kind (asked m c.sound.letter) (asked n d.sound.letter) same in
+      one_content m n c d kind e (rows m n c d e
+      (same_parties m n c d kind e) (maturity m n c d kind e date is))
+
+-- ---- the four types
+
+pub news : HaveOneContent 68 new_order
+news = have_one_content 68 new_order New 21 refl (λ m letter. rw letter refl)
+    (λ m n c d e parties date. new_rows
+    (fields_of 68 new_order m) (fields_of 68 new_order n) m n New e parties date
+    (same_terms 68 new_order m n c d New e
+    (terms 68 new_order m c 27 31 refl refl refl) (terms 68 new_order n d 27 31 refl refl refl)))
+
+pub cancels : HaveOneContent 70 cancel_request
+cancels = have_one_content 70 cancel_request Cancel 13 refl (λ m letter. rw letter refl)
+    (λ m n c d e. cancel_rows
+    (fields_of 70 cancel_request m) (fields_of 70 cancel_request n) m n Cancel e)
+
+pub replaces : HaveOneContent 71 replace_request
+replaces = have_one_content 71 replace_request Replace 23 refl (λ m letter. rw letter refl)
+    (λ m n c d e parties date. replace_rows
+    (fields_of 71 replace_request m) (fields_of 71 replace_request n) m n Replace e parties date
+    (same_terms 71 replace_request m n c d Replace e
+    (terms 71 replace_request m c 29 33 refl refl refl)
+    (terms 71 replace_request n d 29 33 refl refl refl)))
+
+pub statuses : HaveOneContent 72 status_request
+statuses = have_one_content 72 status_request Status 12 refl (λ m letter. rw letter refl)
+    (λ m n c d e. status_rows
+    (fields_of 72 status_request m) (fields_of 72 status_request n) m n Status e)

@@ -7,7 +7,7 @@ use Rattle.frame_grammar.specs.Frame.{frame_of}
 use Rattle.field_groups.specs.declared.fault.SplitFault.{SplitFault}
 use Rattle.field_groups.specs.Field.{Field, body_of}
 use Rattle.field_groups.specs.Fields.{SplitsInto}
-use Rattle.field_groups.specs.Tables.{Message}
+use Rattle.message_tables.specs.Tables.{Message}
 use Rattle.field_groups.proofs.Determined.{determined}
 use Rattle.order_meaning.specs.declared.fault.Fault.{Fault}
 use Rattle.order_meaning.specs.Request.{Request, RequestKind, New, Cancel, Replace, Status}
@@ -16,6 +16,12 @@ use Rattle.dict_fix42.specs.Sense.{request42}
 use Rattle.dict_fix50.specs.Sense.{request50}
 use Rattle.request_translate.specs.declared.translate.TranslateError.{TranslateError}
 use Rattle.request_translate.specs.declared.translate.TranslateError.TheVariants as errors
+use Rattle.dict_fix50.specs.Message.{table}
+use Rattle.dict_fix50.specs.Requests.{new_order, cancel_request, replace_request, status_request}
+use Rattle.message_tables.specs.Tables.{Item}
+use Rattle.message_tables.specs.Content.{content}
+use Rattle.row_values.specs.Kinds.{Kind}
+use Rattle.request_translate.specs.Canonical.{IsCanonical, HaveOneContent}
 use Rattle.request_translate.specs.Lack.{lack_if}
 use Rattle.request_translate.specs.Translation.{type_of, up_fields, IsRequest, News, Cancels}
 use Rattle.request_translate.specs.Translation.{Replaces, Statuses, IsGood, StandsFor}
@@ -40,25 +46,46 @@ kind_is m written (Cancels c w) = rw c.sound.letter refl
 kind_is m written (Replaces c w) = rw c.sound.letter refl
 kind_is m written (Statuses c w) = rw c.sound.letter refl
 
+-- the letter and the items of what a request asks for, in FIX 5.0 SP2
+abbrev pub letter_asked : RequestKind → ℕ
+letter_asked New = 68
+letter_asked Cancel = 70
+letter_asked Replace = 71
+letter_asked Status = 72
+
+abbrev pub items_asked : RequestKind → List (Item Kind)
+items_asked New = new_order
+items_asked Cancel = cancel_request
+items_asked Replace = replace_request
+items_asked Status = status_request
+
+-- a canonical request of what it asks for, and its content
+pub record IsOfKind (r : Message) (written : List Field) (kind : RequestKind) : Type 0 where
+  pub canonical : IsCanonical (letter_asked kind) (items_asked kind) r
+  pub is : written ≡ content (table (letter_asked kind) (items_asked kind)) r
+
+pub of_kind : (r : Message) (written : List Field)
+    → (request : IsRequest r written) → IsOfKind r written (kind_in request)
+of_kind r written (News c w) = record { canonical = c; is = w }
+of_kind r written (Cancels c w) = record { canonical = c; is = w }
+of_kind r written (Replaces c w) = record { canonical = c; is = w }
+of_kind r written (Statuses c w) = record { canonical = c; is = w }
+
+one_content : (kind : RequestKind) → HaveOneContent (letter_asked kind) (items_asked kind)
+one_content New = news
+one_content Cancel = cancels
+one_content Replace = replaces
+one_content Status = statuses
+
 -- requests that mean the same are written alike
 by_kinds : (m n : Message) (a b : List Field) (r : IsRequest m a) (s : IsRequest n b)
     → Some (kind_in r) ≡ Some (kind_in s) → request50 m ≡ request50 n → a ≡ b
-by_kinds m n a b (News c w) (News d v) k e = w ∙ news m n c d e ∙ sym v
-by_kinds m n a b (Cancels c w) (Cancels d v) k e = w ∙ cancels m n c d e ∙ sym v
-by_kinds m n a b (Replaces c w) (Replaces d v) k e = w ∙ replaces m n c d e ∙ sym v
-by_kinds m n a b (Statuses c w) (Statuses d v) k e = w ∙ statuses m n c d e ∙ sym v
-by_kinds m n a b (News c w) (Cancels d v) k e = absurd cc
-by_kinds m n a b (News c w) (Replaces d v) k e = absurd cc
-by_kinds m n a b (News c w) (Statuses d v) k e = absurd cc
-by_kinds m n a b (Cancels c w) (News d v) k e = absurd cc
-by_kinds m n a b (Cancels c w) (Replaces d v) k e = absurd cc
-by_kinds m n a b (Cancels c w) (Statuses d v) k e = absurd cc
-by_kinds m n a b (Replaces c w) (News d v) k e = absurd cc
-by_kinds m n a b (Replaces c w) (Cancels d v) k e = absurd cc
-by_kinds m n a b (Replaces c w) (Statuses d v) k e = absurd cc
-by_kinds m n a b (Statuses c w) (News d v) k e = absurd cc
-by_kinds m n a b (Statuses c w) (Cancels d v) k e = absurd cc
-by_kinds m n a b (Statuses c w) (Replaces d v) k e = absurd cc
+by_kinds m n a b r s k e =
+    let same : kind_in r ≡ kind_in s = cc in
+    let P : RequestKind → Type 0 = λ kind. IsOfKind m a kind in
+    let mine : IsOfKind m a (kind_in s) = subst P same (of_kind m a r) in
+    let theirs = of_kind n b s in
+    mine.is ∙ one_content (kind_in s) m n mine.canonical theirs.canonical e ∙ sym theirs.is
 
 one_written : (m n : Message) (a b : List Field)
     → IsRequest m a → IsRequest n b → request50 m ≡ request50 n → a ≡ b
@@ -89,12 +116,13 @@ module _ (body : List ℕ) where
   same_message : (m n : Message) → Read None (Ok m) → Read None (Ok n) → m ≡ n
   same_message m n r q = let e = one_read None None (Ok m) (Ok n) r q in cc
 
-  good_not_faulty : (fields : List Field) (fault : Fault)
+  pub good_not_faulty : (fields : List Field) (fault : Fault)
       → IsGood body fields → IsFaulty body fault → ⊥
   good_not_faulty fields fault g f = absurd (let e = one_read
       None f.stopped (Ok g.message) (Err fault) (good_read fields g) (faulty_read fault f) in cc)
 
-  good_not_lacking : (fields : List Field) (tag : ℕ) → IsGood body fields → IsLacking body tag → ⊥
+  pub good_not_lacking : (fields : List Field) (tag : ℕ)
+      → IsGood body fields → IsLacking body tag → ⊥
   good_not_lacking fields tag g l =
       let same = same_message g.message l.message (good_read fields g) (lacking_read tag l) in
       let no : Some tag ≡ None =
@@ -120,14 +148,14 @@ module _ (body : List ℕ) where
   same_fields : (a b : List Field) → IsGood body a → IsGood body b → a ≡ b
   same_fields a b g h = (determined body a b None None g.split h.split).0
 
-  same_content : (a b v w : List Field) → StandsFor body a v → StandsFor body b w → v ≡ w
+  pub same_content : (a b v w : List Field) → StandsFor body a v → StandsFor body b w → v ≡ w
   same_content a b v w s t =
       let same =
       same_message s.good.message t.good.message (good_read a s.good) (good_read b t.good) in
       one_written s.request
       t.request v w s.canonical t.canonical (s.means ∙ ap request42 same ∙ sym t.means)
 
-  same_up : (a b v w : List Field)
+  pub same_up : (a b v w : List Field)
       → StandsFor body a v → StandsFor body b w → body_of (up_fields a v) ≡ body_of (up_fields b w)
   same_up a b v w s t =
       let f = same_fields a b s.good t.good in let c = same_content a b v w s t in

@@ -4,15 +4,15 @@ use Rattle.std.proofs.Common.{◌≡◌, ℕ, List, [], ◌∷◌, ◌++◌, map
 use Rattle.std.proofs.Common.{true, refl, sym, ap, ◌∙◌}
 use Rattle.std.specs.List.{AllByRecursion, flat_map}
 use Rattle.field_groups.specs.Field.{Field}
-use Rattle.field_groups.specs.Tables.{RepeatingGroup, Item, One, Party}
-use Rattle.field_groups.specs.Tables.{Lines, Table, Judge, Message, Cell, Place}
-use Rattle.field_groups.specs.Tables.{groups_of, groups_in}
-use Rattle.field_groups.specs.Tables.{said_at, lines_of, cells_of}
-use Rattle.field_groups.specs.Tables.{group_says}
-use Rattle.field_groups.specs.FirstFault.{once_in, wrong_version}
-use Rattle.field_groups.specs.FirstFault.{wrong, beyond, group_tags_in}
-use Rattle.field_groups.specs.FirstFault.{missing_of, first_fault, message_in}
-use Rattle.field_groups.specs.Content.{item_fields}
+use Rattle.message_tables.specs.Tables.{RepeatingGroup, Item, One, Party}
+use Rattle.message_tables.specs.Tables.{Lines, Table, Judge, Message, Cell, Place}
+use Rattle.message_tables.specs.Tables.{groups_of, groups_in}
+use Rattle.message_tables.specs.Tables.{said_at, lines_of, cells_of}
+use Rattle.message_tables.specs.Tables.{group_says}
+use Rattle.message_tables.specs.FirstFault.{once_in, wrong_version}
+use Rattle.message_tables.specs.FirstFault.{wrong, beyond, group_tags_in}
+use Rattle.message_tables.specs.FirstFault.{missing_of, first_fault, message_in}
+use Rattle.message_tables.specs.Content.{item_fields}
 use Rattle.request_translate.specs.Sound.{IsItem}
 use Rattle.request_translate.proofs.Each.{are_apart, each_back, each_none}
 use Rattle.request_translate.proofs.Lookups.{places_apart, cells_said, lines_said}

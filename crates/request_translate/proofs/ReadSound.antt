@@ -6,18 +6,19 @@ use Rattle.std.specs.List.{AllByRecursion, flat_map, slice_get}
 use Rattle.std.proofs.lemmas.List.{length-map}
 use Rattle.field_groups.specs.Field.{Field}
 use Rattle.field_groups.specs.Data.{is_data_tag}
-use Rattle.field_groups.specs.Tables.{Row, Need, Required, Optional, Lenient, Fixed, When}
-use Rattle.field_groups.specs.Tables.{RepeatingGroup, Item, One, Party, Lines, Table, Judge}
-use Rattle.field_groups.specs.Tables.{Verdict, Spells, Outside, Wrong, Message, Cell, Said, ◌>>=◌}
-use Rattle.field_groups.specs.Tables.{value_at, is_needed, row_at, rows_of, rows_in, all_rows}
-use Rattle.field_groups.specs.Tables.{groups_of, groups_in, GroupTags, tags_in, tags_of, lines_in}
-use Rattle.field_groups.specs.Tables.{text_of, says, first_of, said_at, lines_of, cell_of, cells_of}
-use Rattle.field_groups.specs.Tables.{group_says}
-use Rattle.field_groups.specs.FirstFault.{missing, missing_of, first_fault, message_in}
-use Rattle.field_groups.specs.FirstFault.{group_tags_of, group_tags_in}
-use Rattle.field_groups.specs.Content.{content, line_fields}
-use Rattle.field_groups.proofs.Clean.{clean}
-use Rattle.field_groups.proofs.Few.{IsPlain, few}
+use Rattle.message_tables.specs.Tables.{Row, Need, Required, Optional, Lenient, Fixed, When}
+use Rattle.message_tables.specs.Tables.{RepeatingGroup, Item, One, Party, Lines, Table, Judge}
+use Rattle.message_tables.specs.Tables.{Verdict, Spells, Outside, Wrong, Message, Cell, Said, ◌>>=◌}
+use Rattle.message_tables.specs.Tables.{value_at, is_needed, row_at, rows_of, rows_in, all_rows}
+use Rattle.message_tables.specs.Tables.{groups_of, groups_in, GroupTags, tags_in, tags_of, lines_in}
+use Rattle.message_tables.specs.Tables.{text_of, says, first_of, said_at, lines_of, cell_of}
+use Rattle.message_tables.specs.Tables.{cells_of}
+use Rattle.message_tables.specs.Tables.{group_says}
+use Rattle.message_tables.specs.FirstFault.{missing, missing_of, first_fault, message_in}
+use Rattle.message_tables.specs.FirstFault.{group_tags_of, group_tags_in}
+use Rattle.message_tables.specs.Content.{content, line_fields}
+use Rattle.message_tables.proofs.Clean.{clean}
+use Rattle.message_tables.proofs.Few.{IsPlain, few}
 use Rattle.request_translate.specs.Sound.{IsClear, IsSaid, AreSaid, IsLine, IsGroup, IsItem}
 use Rattle.request_translate.specs.Sound.{IsSound, places_of}
 use Rattle.request_translate.proofs.Each.{are_apart, each_at, each_back, each_part, each_map}

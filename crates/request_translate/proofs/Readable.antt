@@ -10,10 +10,9 @@ use Rattle.typed_fields.specs.Stamp.{IsStamp}
 use Rattle.order_meaning.specs.declared.party.PartyLine.{PartyLine}
 use Rattle.dict_fix42.specs.Readable as of42
 use Rattle.dict_fix50.specs.Readable as of50
-use Rattle.dict_fix42.specs.declared.lists.AllocLine.{AllocLine as Alloc42}
-use Rattle.dict_fix50.specs.declared.lists.AllocLine.{AllocLine as Alloc50}
-use Rattle.dict_fix42.specs.declared.requests.Maturity.{Maturity as Maturity42}
-use Rattle.dict_fix50.specs.declared.requests.Maturity.{Maturity as Maturity50}
+use Rattle.row_values.specs.declared.lines.AllocLine.{AllocLine as Alloc42}
+use Rattle.row_values.specs.declared.lines.AllocLine.{AllocLine as Alloc50}
+use Rattle.row_values.specs.declared.lines.Maturity.{Maturity}
 use Rattle.dict_fix42.specs.declared.requests.New42.{New42}
 use Rattle.dict_fix50.specs.declared.requests.New50.{New50}
 use Rattle.dict_fix42.specs.declared.requests.Cancel42.{Cancel42}
@@ -24,11 +23,12 @@ use Rattle.dict_fix42.specs.declared.requests.Status42.{Status42}
 use Rattle.dict_fix50.specs.declared.requests.Status50.{Status50}
 use Rattle.dict_fix42.specs.declared.requests.Msg42.{Msg42}
 use Rattle.dict_fix42.specs.declared.requests.Msg42.TheVariants as messages
-use Rattle.request_translate.specs.Written.{IsNew, IsCancel, IsReplace, IsStatus, maturity_up}
+use Rattle.request_translate.specs.Written.{IsNew, IsCancel, IsReplace, IsStatus}
 use Rattle.request_translate.specs.Written.{parties_up}
+use Rattle.row_values.specs.Lines as row_lines
 
 roles : (client broker firm : Option (List ℕ))
-    → of50.AreReadableParties (parties_up client broker firm)
+    → row_lines.AreReadableParties (parties_up client broker firm)
 roles None None None = tt
 roles None None (Some firm) = (lit≤ tt, tt)
 roles None (Some broker) None = (lit≤ tt, tt)
@@ -39,12 +39,13 @@ roles (Some client) (Some broker) None = (lit≤ tt, (lit≤ tt, tt))
 roles (Some client) (Some broker) (Some firm) = (lit≤ tt, (lit≤ tt, (lit≤ tt, tt)))
 
 parties : (client broker firm : Option (List ℕ)) (lines : List PartyLine)
-    → lines ≡ parties_up client broker firm → of50.AreReadableParties lines
+    → lines ≡ parties_up client broker firm → row_lines.AreReadableParties lines
 parties client broker firm lines e = let P : List PartyLine → Type 0 =
-    λ l. of50.AreReadableParties l in subst P (sym e) (roles client broker firm)
+    λ l. row_lines.AreReadableParties l in subst P (sym e) (roles client broker firm)
 
-allocs : (lines : List Alloc42) (copies : List Alloc50) → map (λ line. line.qty) copies
-    ≡ map (λ line. line.qty) lines → of42.AreReadableAllocs lines → of50.AreReadableAllocs copies
+allocs : (lines : List Alloc42) (copies : List Alloc50)
+    → map (λ line. line.qty) copies ≡ map (λ line. line.qty) lines
+    → row_lines.AreReadableAllocs lines → row_lines.AreReadableAllocs copies
 allocs [] [] e h = tt
 allocs [] (copy ∷ copies) e h = absurd cc
 allocs (line ∷ lines) [] e h = absurd cc
@@ -54,15 +55,15 @@ allocs (line ∷ lines) (copy ∷ copies) e h =
     let P : Option Dec → Type 0 = λ qty. IfSome qty IsDec in
     (subst P (sym same) h.0, allocs lines copies rest h.1)
 
-maturity_of : (maturity : Option Maturity42) → IfSome maturity of42.IsReadableMaturity
-    → IfSome (maturity_up maturity) of50.IsReadableMaturity
+maturity_of : (maturity : Option Maturity) → IfSome maturity row_lines.IsReadableMaturity
+    → IfSome maturity row_lines.IsReadableMaturity
 maturity_of None h = tt
 maturity_of (Some m) h = h
 
-maturity : (m : Option Maturity42) (w : Option Maturity50)
-    → w ≡ maturity_up m → IfSome m of42.IsReadableMaturity → IfSome w of50.IsReadableMaturity
-maturity m w e h = let P : Option Maturity50 → Type 0 =
-    λ x. IfSome x of50.IsReadableMaturity in subst P (sym e) (maturity_of m h)
+maturity : (m : Option Maturity) (w : Option Maturity)
+    → w ≡ m → IfSome m row_lines.IsReadableMaturity → IfSome w row_lines.IsReadableMaturity
+maturity m w e h = let P : Option Maturity → Type 0 =
+    λ x. IfSome x row_lines.IsReadableMaturity in subst P (sym e) (maturity_of m h)
 
 amount : (m w : Option Dec) → w ≡ m → IfSome m IsDec → IfSome w IsDec
 amount m w e h = let P : Option Dec → Type 0 = λ x. IfSome x IsDec in subst P (sym e) h

@@ -3,9 +3,10 @@ use Rattle.std.proofs.Common.{◌≡◌, ℕ, List, Option, Some, None, Result, 
 use Rattle.std.specs.Prelude.{IfOk, IfErr, OnOk}
 use Rattle.field_groups.specs.declared.fault.SplitFault.{SplitFault}
 use Rattle.field_groups.specs.Field.{Field, AreFields}
-use Rattle.field_groups.specs.Tables.{Table, Message}
-use Rattle.dict_fix42.specs.Kinds.{Kind42}
-use Rattle.dict_fix42.specs.Message.{message42, message_by, table_of}
+use Rattle.message_tables.specs.Tables.{Table, Message}
+use Rattle.row_values.specs.Kinds.{Kind}
+use Rattle.dict_fix42.specs.Message.{message42, table_of}
+use Rattle.row_values.specs.Faults.{message_by}
 use Rattle.dict_fix42.specs.Said.{says}
 use Rattle.dict_fix42.specs.declared.requests.Msg42.{Msg42}
 use Rattle.dict_fix50.specs.declared.requests.Msg50.{Msg50}
@@ -17,7 +18,7 @@ use Rattle.request_translate.specs.Translation.{type_of}
 use Rattle.request_translate.specs.Up.{IsSound42}
 use Rattle.request_translate.proofs.Sound42.{clear_fields, read_is_sound}
 
-whole_by : (table : Option (Table Kind42))
+whole_by : (table : Option (Table Kind))
     (fields : List Field) (stopped : Option SplitFault) (x : Message) →
     message_by table fields stopped ≡ Ok x → stopped ≡ None
 whole_by None fields stopped x e = absurd cc

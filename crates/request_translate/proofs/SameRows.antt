@@ -26,18 +26,18 @@ use Rattle.std.proofs.Common.{length-drop}
 use Rattle.typed_fields.specs.declared.flag.Flag.{Flag as FlagValue}
 use Rattle.typed_fields.specs.Flag.{is_flag_form}
 use Rattle.typed_fields.specs.Dec.{dec_text, read_dec}
-use Rattle.typed_fields.specs.ValueKind as kinds
-use Rattle.typed_fields.specs.ValueKind.{spelling, spelt, if_in_range, is_code}
-use Rattle.typed_fields.specs.ValueKind.{listed_word, units_of_text}
+use Rattle.row_values.specs.ValueKind as kinds
+use Rattle.row_values.specs.ValueKind.{spelling, spelt, if_in_range, is_code}
+use Rattle.row_values.specs.ValueKind.{listed_word, units_of_text}
 use Rattle.field_groups.specs.Field.{Field}
-use Rattle.field_groups.specs.Tables.{Verdict, Spells, Outside, Wrong, Tag, Said, Cell, ◌>>=◌}
-use Rattle.field_groups.specs.Tables.{code_of, is_one_of, is_listed, flag_of, value_at}
-use Rattle.field_groups.specs.Content.{line_fields}
+use Rattle.message_tables.specs.Tables.{Verdict, Spells, Outside, Wrong, Tag, Said, Cell, ◌>>=◌}
+use Rattle.message_tables.specs.Tables.{code_of, is_one_of, is_listed, flag_of, value_at}
+use Rattle.message_tables.specs.Content.{line_fields}
 use Rattle.order_meaning.specs.declared.Amount.{Amount}
 use Rattle.order_meaning.specs.Request.{OrderType, Market, Limit, Stop, StopLimit, MarketOnClose}
 use Rattle.order_meaning.specs.Request.{LimitOnClose, NeutralAlloc, NeutralSession, NeutralMaturity}
-use Rattle.dict_fix50.specs.Kinds.{Value, Byte, TimeBeside, judge, verdict_of, counted, is_at_close}
-use Rattle.dict_fix50.specs.Requests.{allocs, sessions}
+use Rattle.row_values.specs.Kinds.{Value, Byte, TimeBeside, judge, verdict_of, counted, is_at_close}
+use Rattle.row_values.specs.Groups.{allocs, sessions}
 use Rattle.dict_fix50.specs.Sense.{amount_of, alloc_of, session_of, terms_of, day_of, maturity_of}
 use Rattle.request_translate.specs.Sound.{IsLine}
 

@@ -1,24 +1,30 @@
 -- What a message of FIX 5.0 SP2 means lacks no spelling there.
 use Rattle.std.proofs.Common.{◌≡◌, ℕ, List, [], ◌∷◌, Bool, true, false, Option, Some, None, IfSome}
 use Rattle.std.proofs.Common.{refl, ap, codes, if◌then◌else◌, ◌==◌}
-use Rattle.std.specs.Prelude.{not}
+use Rattle.std.specs.Prelude.{Result, not}
 use Rattle.std.specs.Result.{result_ok}
-use Rattle.typed_fields.specs.ValueKind.{spelling, OneByte}
-use Rattle.field_groups.specs.declared.table_fault.TableFault.{TableFault}
+use Rattle.row_values.specs.ValueKind.{spelling, OneByte}
+use Rattle.message_tables.specs.declared.table_fault.TableFault.{TableFault}
 use Rattle.field_groups.specs.Field.{Field}
-use Rattle.field_groups.specs.Tables.{Verdict, Spells, Outside, Wrong, Table, Message, Lenient}
-use Rattle.field_groups.specs.Tables.{◌>>=◌, says, value_at, text_of, code_of, code_if, is_one_of}
-use Rattle.field_groups.specs.FirstFault.{unless, first_fault, message_in, message_of}
+use Rattle.message_tables.specs.Tables.{Verdict, Spells, Outside, Wrong, Table, Message, Lenient}
+use Rattle.message_tables.specs.Tables.{◌>>=◌, says, value_at, text_of, code_of, code_if, is_one_of}
+use Rattle.message_tables.specs.FirstFault.{unless, first_fault, message_in, message_of}
+use Rattle.order_meaning.specs.declared.fault.Fault.{Fault}
 use Rattle.order_meaning.specs.Request.{Request, RequestKind, New, Cancel, Replace, Status}
 use Rattle.order_meaning.specs.Request.{OrderType, Market, Limit, Stop, StopLimit, MarketOnClose}
 use Rattle.order_meaning.specs.Request.{LimitOnClose}
-use Rattle.dict_fix50.specs.Kinds.{Kind50, judge, Byte, counted, verdict_of}
-use Rattle.dict_fix50.specs.Message.{message50, message_by, table, told, completed}
+use Rattle.row_values.specs.Kinds.{Kind, judge, Byte, counted, verdict_of}
+use Rattle.dict_fix50.specs.Message.{message50, table, completed, message50_by, completed_by}
+use Rattle.row_values.specs.Faults.{told}
 use Rattle.dict_fix50.specs.Requests.{new_order, cancel_request, replace_request, status_request}
 use Rattle.dict_fix50.specs.Sense.{sense50, request50, request_of, terms_of}
 use Rattle.std.specs.Str.{bytes_eq}
 use Rattle.request_translate.specs.Lack.{lacks_time, lacks_capacity, lack_in, lack_of}
 use Rattle.request_translate.specs.Laws.{LacksNothing}
+
+-- what is told of a message of FIX 5.0 SP2, or of its first fault
+abbrev pub told50 : Result Message TableFault → Result Message Fault
+told50 read = completed_by (told read)
 
 -- a request, if there is one, lacks nothing
 abbrev pub IsSayable : Option Request → Type 0
@@ -126,18 +132,18 @@ status_is_sayable fields =
     of_message Status (completed (message_in judge (table 72 status_request) fields)) refl
 
 by_fault : (fault : Option TableFault) (m : Message) → IsSayable (request50 (completed m))
-    → IsSayable (result_ok (told (unless fault m)) >>= request50)
+    → IsSayable (result_ok (told50 (unless fault m)) >>= request50)
 by_fault None m h = h
 by_fault (Some fault) m h = tt
 
-by_message : (table : Table Kind50) (fields : List Field)
+by_message : (table : Table Kind) (fields : List Field)
     → IsSayable (request50 (completed (message_in judge table fields))) →
-    IsSayable (result_ok (told (message_of judge table fields)) >>= request50)
+    IsSayable (result_ok (told50 (message_of judge table fields)) >>= request50)
 unfolding message_of
 by_message table fields h =
     by_fault (first_fault judge table fields) (message_in judge table fields) h
 
-by_type : (d f g h : Bool) (fields : List Field) → IsSayable (result_ok (message_by
+by_type : (d f g h : Bool) (fields : List Field) → IsSayable (result_ok (message50_by
     (if d then Some (table 68 new_order) else (if f then Some (table 70 cancel_request) else
     (if g then Some (table 71 replace_request)
     else (if h then Some (table 72 status_request) else None))))

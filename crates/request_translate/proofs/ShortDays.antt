@@ -4,8 +4,8 @@ use Rattle.std.specs.Char.{is_ascii_digit}
 use Rattle.std.specs.Str.Parse.{digits_value}
 use Rattle.std.proofs.lemmas.Bool.Decides.{nat_tests}
 use Rattle.typed_fields.specs.Digits.{zero_padded, number_of}
-use Rattle.typed_fields.specs.CodeKinds.{two_digit_text}
-use Rattle.typed_fields.specs.ValueKind.{number_of_two}
+use Rattle.row_values.specs.CodeKinds.{two_digit_text}
+use Rattle.row_values.specs.ValueKind.{number_of_two}
 use Rattle.typed_fields.proofs.DigitsLemmas.{zero_padded_two}
 use Rattle.typed_fields.proofs.SpellingLemmas.{two_back}
 

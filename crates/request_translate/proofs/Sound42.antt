@@ -10,24 +10,26 @@ use Rattle.typed_fields.specs.declared.fault.FieldFault.{FieldFault}
 use Rattle.typed_fields.specs.declared.month_year.MonthYear.{MonthYear as MonthValue}
 use Rattle.typed_fields.specs.MonthYear.{read_month_year}
 use Rattle.typed_fields.specs.Day.{is_date}
-use Rattle.typed_fields.specs.ValueKind.{ValueKind, MonthYear, DayOfMonth, Spelling, spelling}
-use Rattle.typed_fields.specs.ValueKind.{spelt, number_of_two}
-use Rattle.field_groups.specs.declared.table_fault.TableFault.{TableFault}
+use Rattle.row_values.specs.ValueKind.{ValueKind, MonthYear, DayOfMonth, Spelling, spelling}
+use Rattle.row_values.specs.ValueKind.{spelt, number_of_two}
+use Rattle.message_tables.specs.declared.table_fault.TableFault.{TableFault}
 use Rattle.field_groups.specs.Field.{Field, AreFields}
 use Rattle.field_groups.specs.Data.{is_data_tag}
-use Rattle.field_groups.specs.Tables.{Verdict, Spells, Outside, Wrong, Need, Required, Optional}
-use Rattle.field_groups.specs.Tables.{Lenient, Fixed, When, Stands, Is, Row, Item, One, Party}
-use Rattle.field_groups.specs.Tables.{Lines, Table, Message, Said, ◌>>=◌, has_tag, value_at}
-use Rattle.field_groups.specs.Tables.{is_needed, text_of, tags_in}
-use Rattle.field_groups.specs.FirstFault.{first_fault, message_in, message_of, unless}
-use Rattle.field_groups.specs.Content.{content}
-use Rattle.field_groups.proofs.Clean.{stands, value_at-none}
-use Rattle.field_groups.proofs.Few.{IsPlain}
+use Rattle.message_tables.specs.Tables.{Verdict, Spells, Outside, Wrong, Need, Required, Optional}
+use Rattle.message_tables.specs.Tables.{Lenient, Fixed, When, Stands, Is, Row, Item, One, Party}
+use Rattle.message_tables.specs.Tables.{Lines, Table, Message, Said, ◌>>=◌, has_tag, value_at}
+use Rattle.message_tables.specs.Tables.{is_needed, text_of, tags_in, said_at, Tag}
+use Rattle.message_tables.specs.FirstFault.{first_fault, message_in, message_of, unless}
+use Rattle.message_tables.specs.Content.{content}
+use Rattle.message_tables.proofs.Clean.{stands, value_at-none}
+use Rattle.message_tables.proofs.Few.{IsPlain}
 use Rattle.field_groups.proofs.Plain.{is_plain}
-use Rattle.dict_fix42.specs.Kinds.{Kind42, Value, DayOf, judge, verdict_of, month_at, in_month}
-use Rattle.dict_fix42.specs.Message.{message42, message_by, table, told}
+use Rattle.row_values.specs.Kinds.{Kind, Value, Byte, DayOf, MonthBeside, TimeBeside, Version}
+use Rattle.row_values.specs.Kinds.{judge, verdict_of, month_at, in_month}
+use Rattle.dict_fix42.specs.Message.{message42, table}
+use Rattle.row_values.specs.Faults.{message_by, told}
 use Rattle.dict_fix42.specs.Requests.{new_order, cancel_request, replace_request, status_request}
-use Rattle.dict_fix42.specs.Requests.{allocs, sessions}
+use Rattle.row_values.specs.Groups.{allocs, sessions}
 use Rattle.dict_fix42.specs.Said.{says as says42}
 use Rattle.dict_fix42.specs.declared.requests.Msg42.{Msg42}
 use Rattle.dict_fix42.specs.declared.requests.Msg42.TheVariants as messages
@@ -35,9 +37,9 @@ use Rattle.request_translate.specs.Sound.{IsClear, IsSound}
 use Rattle.request_translate.specs.Up.{IsSound42}
 use Rattle.request_translate.proofs.Each.{both}
 use Rattle.request_translate.proofs.SpelledAgain.{spelled_again, spelled_clear}
-use Rattle.request_translate.proofs.ContentValues.{value_said}
+use Rattle.request_translate.proofs.ContentValues.{is_alone, value_said}
 use Rattle.request_translate.proofs.ReadSound.{IsPlainRow, IsClearField, IsStableRow, IsStableItem}
-use Rattle.request_translate.proofs.ReadSound.{IsPlainItem, read_sound}
+use Rattle.request_translate.proofs.ReadSound.{IsPlainItem, IsTable, read_sound}
 
 -- ---- the values of FIX 4.2
 
@@ -77,26 +79,27 @@ ours_need Optional = true
 ours_need (When ((Stands tag ∷ []) ∷ [])) = tag == 205
 ours_need need = false
 
-abbrev ours_kind : Kind42 → Bool
+abbrev ours_kind : Kind → Bool
 ours_kind (Value kind) = true
 ours_kind (DayOf month) = month == 200
+ours_kind kind = false
 
 abbrev plain_need : Need → Bool
 plain_need Required = true
 plain_need Optional = true
 plain_need need = false
 
-abbrev plain_kind : Kind42 → Bool
+abbrev plain_kind : Kind → Bool
 plain_kind (Value kind) = true
-plain_kind (DayOf month) = false
+plain_kind kind = false
 
-abbrev is_ours_row : Row Kind42 → Bool
+abbrev is_ours_row : Row Kind → Bool
 is_ours_row row = not (is_data_tag row.tag) && (ours_need row.need && ours_kind row.kind)
 
-abbrev is_plain_row : Row Kind42 → Bool
+abbrev is_plain_row : Row Kind → Bool
 is_plain_row row = not (is_data_tag row.tag) && (plain_need row.need && plain_kind row.kind)
 
-abbrev is_ours : Item Kind42 → Bool
+abbrev is_ours : Item Kind → Bool
 is_ours (One row) = is_ours_row row
 is_ours (Party role) = true
 is_ours (Lines group) = list_all is_plain_row group.rows
@@ -122,25 +125,37 @@ unfixed Lenient h text e = absurd cc
 unfixed (Fixed other) h text e = absurd cc
 unfixed (When condition) h text e = absurd cc
 
-plain_same : (kind : Kind42) → plain_kind kind ≡ true
+plain_same : (kind : Kind) → plain_kind kind ≡ true
     → (l k : List Field) (bytes : List ℕ) → judge l kind bytes ≡ judge k kind bytes
 unfolding judge
 plain_same (Value kind) h l k bytes = refl
 plain_same (DayOf month) h l k bytes = absurd cc
+plain_same (Byte listed) h l k bytes = absurd cc
+plain_same (MonthBeside date) h l k bytes = absurd cc
+plain_same (TimeBeside ord_type) h l k bytes = absurd cc
+plain_same Version h l k bytes = absurd cc
 
-plain_again : (kind : Kind42) → plain_kind kind ≡ true
+plain_again : (kind : Kind) → plain_kind kind ≡ true
     → (bytes text : List ℕ) → judge [] kind bytes ≡ Spells text → judge [] kind text ≡ Spells text
 unfolding judge
 plain_again (Value kind) h bytes text e = value_again kind bytes text e
 plain_again (DayOf month) h bytes text e = absurd cc
+plain_again (Byte listed) h bytes text e = absurd cc
+plain_again (MonthBeside date) h bytes text e = absurd cc
+plain_again (TimeBeside ord_type) h bytes text e = absurd cc
+plain_again Version h bytes text e = absurd cc
 
-plain_clear : (kind : Kind42) → plain_kind kind ≡ true
+plain_clear : (kind : Kind) → plain_kind kind ≡ true
     → (bytes text : List ℕ) → IsClear bytes → judge [] kind bytes ≡ Spells text → IsClear text
 unfolding judge
 plain_clear (Value kind) h bytes text c e = value_clear kind bytes text c e
 plain_clear (DayOf month) h bytes text c e = absurd cc
+plain_clear (Byte listed) h bytes text c e = absurd cc
+plain_clear (MonthBeside date) h bytes text c e = absurd cc
+plain_clear (TimeBeside ord_type) h bytes text c e = absurd cc
+plain_clear Version h bytes text c e = absurd cc
 
-plain_row : (row : Row Kind42) → is_plain_row row ≡ true → IsPlainRow judge row
+plain_row : (row : Row Kind) → is_plain_row row ≡ true → IsPlainRow judge row
 plain_row row h =
     let a = both (not (is_data_tag row.tag)) (plain_need row.need && plain_kind row.kind) h in
     let b = both (plain_need row.need) (plain_kind row.kind) a.1 in
@@ -153,7 +168,7 @@ plain_row row h =
       bare = not_true (is_data_tag row.tag) a.0;
     }
 
-plain_rows : (rows : List (Row Kind42))
+plain_rows : (rows : List (Row Kind))
     → list_all is_plain_row rows ≡ true → AllByRecursion (IsPlainRow judge) rows
 plain_rows [] h = tt
 plain_rows (row ∷ rows) h = let p = both (is_plain_row row) (list_all is_plain_row rows) h
@@ -168,14 +183,14 @@ clear_fields before (f ∷ fs) h =
 
 -- ---- a table
 
-module _ (table : Table Kind42) (fields : List Field) where
+module _ (table : Table Kind) (fields : List Field) where
   abbrev m : Message
   m = message_in judge table fields
 
   abbrev after : List Field
   after = content table m
 
-  plain_items : (items : List (Item Kind42))
+  plain_items : (items : List (Item Kind))
       → list_all is_ours items ≡ true → AllByRecursion (IsPlainItem judge table fields) items
   plain_items [] h = tt
   plain_items (One row ∷ items) h =
@@ -220,7 +235,7 @@ module _ (table : Table Kind42) (fields : List Field) where
     ours_unfixed Lenient h text e = absurd cc
     ours_unfixed (When condition) h text e = absurd cc
 
-    ours_again : (kind : Kind42) → ours_kind kind ≡ true → (bytes text : List ℕ)
+    ours_again : (kind : Kind) → ours_kind kind ≡ true → (bytes text : List ℕ)
         → judge fields kind bytes ≡ Spells text → judge after kind text ≡ Spells text
     unfolding judge
     ours_again (Value kind) h bytes text e = value_again kind bytes text e
@@ -233,27 +248,35 @@ module _ (table : Table Kind42) (fields : List Field) where
         let again = value_again DayOfMonth bytes text first in
         ap (λ mo. in_month mo (verdict_of (spelling DayOfMonth text))) month_is
         ∙ ap (in_month (month_at month fields)) (again ∙ sym first) ∙ e
+    ours_again (Byte listed) h bytes text e = absurd cc
+    ours_again (MonthBeside date) h bytes text e = absurd cc
+    ours_again (TimeBeside ord_type) h bytes text e = absurd cc
+    ours_again Version h bytes text e = absurd cc
 
-    ours_clear : (kind : Kind42) (bytes text : List ℕ)
+    ours_clear : (kind : Kind) → ours_kind kind ≡ true → (bytes text : List ℕ)
         → IsClear bytes → judge fields kind bytes ≡ Spells text → IsClear text
     unfolding judge
-    ours_clear (Value kind) bytes text c e = value_clear kind bytes text c e
-    ours_clear (DayOf month) bytes text c e = value_clear DayOfMonth bytes
+    ours_clear (Value kind) h bytes text c e = value_clear kind bytes text c e
+    ours_clear (DayOf month) h bytes text c e = value_clear DayOfMonth bytes
         text c (day_in (month_at month fields) (verdict_of (spelling DayOfMonth bytes)) text e)
+    ours_clear (Byte listed) h bytes text c e = absurd cc
+    ours_clear (MonthBeside date) h bytes text c e = absurd cc
+    ours_clear (TimeBeside ord_type) h bytes text c e = absurd cc
+    ours_clear Version h bytes text c e = absurd cc
 
-    stable_row : (row : Row Kind42) → is_ours_row row ≡ true → IsStableRow judge table fields row
+    stable_row : (row : Row Kind) → is_ours_row row ≡ true → IsStableRow judge table fields row
     stable_row row h =
         let a = both (not (is_data_tag row.tag)) (ours_need row.need && ours_kind row.kind) h in
         let b = both (ours_need row.need) (ours_kind row.kind) a.1 in
         record {
           kept = kept_need row.need b.0;
           spelled = λ bytes text at e. ours_again row.kind b.1 bytes text e;
-          clear = ours_clear row.kind;
+          clear = ours_clear row.kind b.1;
           fixed = λ text e. absurd (ours_unfixed row.need b.0 text e);
           bare = not_true (is_data_tag row.tag) a.0;
         }
 
-    stable_items : (items : List (Item Kind42))
+    stable_items : (items : List (Item Kind))
         → list_all is_ours items ≡ true → AllByRecursion (IsStableItem judge table fields) items
     stable_items [] h = tt
     stable_items (One row ∷ items) h = let p = both (is_ours_row row) (list_all is_ours items) h
@@ -294,13 +317,15 @@ unfolding judge
 month_same fields None e = refl
 month_same fields (Some bytes) e = month_read bytes
 
+abbrev day_said : List Field → Said
+day_said fields = value_at 205 fields >>= (λ bytes. text_of (judge fields (DayOf 200) bytes))
+
 module _ (fields after : List Field) where
   same_month_by : value_at 200 after ≡ month_said fields → month_at 200 after ≡ month_at 200 fields
   same_month_by at = ap (λ (v : Said). v >>= (λ t. result_ok (read_month_year t))) at
       ∙ month_same fields (value_at 200 fields) refl
 
-  same_day_by : value_at 205 after
-      ≡ value_at 205 fields >>= (λ bytes. text_of (judge fields (DayOf 200) bytes))
+  same_day_by : value_at 205 after ≡ day_said fields
       → has_tag 205 after ≡ true → has_tag 205 fields ≡ true
   same_day_by at there = by (has_tag 205 fields) refl
     where
@@ -333,76 +358,55 @@ plain_sessions = record {
 
 module _ (fields : List Field) (clear : AllByRecursion (IsClearField judge) fields) where
   -- the table of a letter
-  abbrev Reads : ℕ → List (Item Kind42) → Type 0
+  abbrev Reads : ℕ → List (Item Kind) → Type 0
   Reads letter items = first_fault judge (table letter items) fields ≡ None
       → IsSound judge (table letter items) (message_in judge (table letter items) fields)
 
+  table_read : (letter : ℕ) (items : List (Item Kind)) → IsTable judge (table letter items) fields
+      → list_all is_ours items ≡ true → is_alone 200 items ≡ true → is_alone 205 items ≡ true
+      → said_at (message_in judge (table letter items) fields).cells (Tag 200) ≡ month_said fields
+      → said_at (message_in judge (table letter items) fields).cells (Tag 205) ≡ day_said fields
+      → Reads letter items
+  table_read letter items is ours month day month_is day_is h =
+      let t = table letter items in
+      let m = message_in judge t fields in
+      read_sound judge t fields is (plain_items t fields items ours)
+      (λ groups. stable_items t fields
+      (same_month_by fields (content t m) (value_said judge m 200 items month groups ∙ month_is))
+      (same_day_by fields (content t m) (value_said judge m 205 items day groups ∙ day_is))
+      items ours)
+      clear h
+
   new_read : Reads 68 new_order
   unfolding is_data_tag
-  new_read h =
-      let t = table 68 new_order in
-      let m = message_in judge t fields in
-      read_sound judge t fields (record {
-        rows =
-            refl;
-        places = refl;
-        counts = refl;
-        plain = (plain_allocs, (plain_sessions, tt));
-      })
-      (plain_items t fields new_order refl)
-      (λ groups. stable_items t fields
-      (same_month_by fields (content t m) (value_said judge m 200 new_order refl groups))
-      (same_day_by fields (content t m) (value_said judge m 205 new_order refl groups))
-      new_order refl)
-      clear h
+  new_read = table_read 68 new_order (record {
+    rows = refl;
+    places = refl;
+    counts = refl;
+    plain = (plain_allocs, (plain_sessions, tt));
+  }) refl refl refl refl refl
 
   cancel_read : Reads 70 cancel_request
   unfolding is_data_tag
-  cancel_read h =
-      let t = table 70 cancel_request in
-      let m = message_in judge t fields in
-      read_sound judge t fields (record { rows = refl; places = refl; counts = refl; plain = tt })
-      (plain_items t fields cancel_request refl)
-      (λ groups. stable_items t fields
-      (same_month_by fields (content t m) (value_said judge m 200 cancel_request refl groups))
-      (same_day_by fields (content t m) (value_said judge m 205 cancel_request refl groups))
-      cancel_request refl)
-      clear h
+  cancel_read = table_read 70 cancel_request
+      (record { rows = refl; places = refl; counts = refl; plain = tt }) refl refl refl refl refl
 
   replace_read : Reads 71 replace_request
   unfolding is_data_tag
-  replace_read h =
-      let t = table 71 replace_request in
-      let m = message_in judge t fields in
-      read_sound judge t fields (record {
-        rows =
-            refl;
-        places = refl;
-        counts = refl;
-        plain = (plain_allocs, (plain_sessions, tt));
-      })
-      (plain_items t fields replace_request refl)
-      (λ groups. stable_items t fields
-      (same_month_by fields (content t m) (value_said judge m 200 replace_request refl groups))
-      (same_day_by fields (content t m) (value_said judge m 205 replace_request refl groups))
-      replace_request refl)
-      clear h
+  replace_read = table_read 71 replace_request (record {
+    rows = refl;
+    places = refl;
+    counts = refl;
+    plain = (plain_allocs, (plain_sessions, tt));
+  }) refl refl refl refl refl
 
   status_read : Reads 72 status_request
   unfolding is_data_tag
-  status_read h =
-      let t = table 72 status_request in
-      let m = message_in judge t fields in
-      read_sound judge t fields (record { rows = refl; places = refl; counts = refl; plain = tt })
-      (plain_items t fields status_request refl)
-      (λ groups. stable_items t fields
-      (same_month_by fields (content t m) (value_said judge m 200 status_request refl groups))
-      (same_day_by fields (content t m) (value_said judge m 205 status_request refl groups))
-      status_request refl)
-      clear h
+  status_read = table_read 72 status_request
+      (record { rows = refl; places = refl; counts = refl; plain = tt }) refl refl refl refl refl
 
   -- a message of a table that was read
-  by_fault : (table : Table Kind42) (fault : Option TableFault) (m x : Message)
+  by_fault : (table : Table Kind) (fault : Option TableFault) (m x : Message)
       → (fault ≡ None → IsSound judge table m) →
       told (unless fault m) ≡ Ok x → IsSound judge table x
   by_fault table None m x h e =
@@ -410,7 +414,7 @@ module _ (fields : List Field) (clear : AllByRecursion (IsClearField judge) fiel
       let P : Message → Type 0 = λ y. IsSound judge table y in subst P same (h refl)
   by_fault table (Some fault) m x h e = absurd cc
 
-  by_table : (letter : ℕ) (items : List (Item Kind42)) (x : Message)
+  by_table : (letter : ℕ) (items : List (Item Kind)) (x : Message)
       → Reads letter items → told (message_of judge (table letter items) fields) ≡ Ok x →
       IsSound judge (table letter items) x
   unfolding message_of

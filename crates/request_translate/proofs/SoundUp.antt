@@ -1,26 +1,24 @@
 -- The request that is written of a sound request is sound.
 use Rattle.std.proofs.Common.{◌≡◌, ℕ, List, [], ◌∷◌, map, codes, true, Option, Some, None, refl}
-use Rattle.std.proofs.Common.{sym, ap, subst, ◌∙◌, option_map, option_and_then}
+use Rattle.std.proofs.Common.{sym, subst, ap, ◌∙◌, option_map, option_and_then}
 use Rattle.std.specs.Prelude.{IfSome}
-use Rattle.std.specs.List.{AllByRecursion, slice_get, flat_map}
-use Rattle.typed_fields.specs.declared.dec.Dec.{Dec as DecValue}
-use Rattle.typed_fields.specs.declared.day.Day.{Day as DayValue}
-use Rattle.typed_fields.specs.declared.stamp.Stamp.{Stamp as StampValue}
-use Rattle.typed_fields.specs.declared.flag.Flag.{Flag as FlagValue}
 use Rattle.typed_fields.specs.Dec.{dec_text}
 use Rattle.typed_fields.specs.Day.{day_text}
 use Rattle.typed_fields.specs.Stamp.{stamp_text}
 use Rattle.typed_fields.specs.Flag.{flag_text}
-use Rattle.typed_fields.specs.ValueKind as kinds
-use Rattle.typed_fields.specs.CodeKinds.{code_text}
+use Rattle.row_values.specs.ValueKind as kinds
+use Rattle.row_values.specs.CodeKinds.{code_text}
+use Rattle.row_values.specs.Kinds.{row, Kind, Value, Byte, DayOf, MonthBeside, TimeBeside, judge}
+use Rattle.row_values.specs.Writing as row_parts
+use Rattle.row_values.specs.Groups as row_groups
+use Rattle.row_values.specs.Lines as row_lines
+use Rattle.row_values.specs.declared.lines.Maturity.{Maturity}
 use Rattle.field_groups.specs.Field.{Field}
-use Rattle.field_groups.specs.Tables.{Item, One, Lines, Stands, Required, Optional, Lenient, When}
-use Rattle.field_groups.specs.Tables.{Spells, value_at, groups_of}
-use Rattle.field_groups.specs.Content.{content}
+use Rattle.message_tables.specs.Tables.{Stands, Need, Required, Optional, Lenient, When, Cell, Item}
+use Rattle.message_tables.specs.Tables.{Message, Tag, said_at, Said, Spells, value_at, party_in}
+use Rattle.message_tables.specs.Tables.{groups_of}
+use Rattle.message_tables.specs.Content.{content}
 use Rattle.order_meaning.specs.declared.party.PartyLine.{PartyLine}
-use Rattle.party_translate.specs.Parties.{parties_of}
-use Rattle.dict_fix42.specs.Kinds as of42
-use Rattle.dict_fix50.specs.Kinds as of50
 use Rattle.dict_fix42.specs.Message.{table as table42}
 use Rattle.dict_fix50.specs.Message.{table as table50}
 use Rattle.dict_fix42.specs.Requests as requests42
@@ -35,1225 +33,544 @@ use Rattle.dict_fix42.specs.declared.requests.Replace42.{Replace42}
 use Rattle.dict_fix50.specs.declared.requests.Replace50.{Replace50}
 use Rattle.dict_fix42.specs.declared.requests.Status42.{Status42}
 use Rattle.dict_fix50.specs.declared.requests.Status50.{Status50}
-use Rattle.dict_fix42.specs.declared.requests.Maturity.{Maturity as Maturity42}
-use Rattle.dict_fix50.specs.declared.requests.Maturity.{Maturity as Maturity50}
 use Rattle.dict_fix42.specs.declared.requests.Msg42.{Msg42}
 use Rattle.dict_fix42.specs.declared.requests.Msg42.TheVariants as messages
-use Rattle.request_translate.specs.Sound.{IsSaid, IsGroup, IsItem, IsSound}
+use Rattle.request_translate.specs.declared.parts.Terms.{Terms}
+use Rattle.request_translate.specs.Sound.{IsSaid, IsGroup, IsSound, IsItem}
 use Rattle.request_translate.specs.Up.{IsSound42}
-use Rattle.request_translate.specs.Written.{IsNew, IsCancel, IsReplace, IsStatus, maturity_up}
-use Rattle.request_translate.specs.Written.{is_type42, IsTime42}
-use Rattle.request_translate.proofs.ContentValues.{GroupSaid, groups_said, value_said}
+use Rattle.request_translate.specs.Written.{IsNew, IsCancel, IsReplace, IsStatus, AreTerms}
+use Rattle.request_translate.specs.Written.{parties_up, is_type42, IsTime42}
+use Rattle.request_translate.proofs.ContentValues.{groups_said, value_said, is_alone, GroupSaid}
 use Rattle.request_translate.proofs.Carry as carry
+use Rattle.request_translate.proofs.Carry.{party_id, RolesSaid, roles_said}
+use Rattle.request_translate.proofs.CarriedRows as rows
+use Rattle.request_translate.proofs.CarriedRows.{GoUp, apart50, others, apart42, others_of}
+use Rattle.request_translate.proofs.CarriedRows.{items_up}
 use Rattle.request_translate.proofs.Means.{HasShortDay}
-use Rattle.request_translate.proofs.Carry.{item_at, optional, lenient, required, party_id}
-use Rattle.request_translate.proofs.Carry.{RolesSaid, roles_said}
+use Rattle.std.specs.List.{AllByRecursion, flat_map}
 
 -- parts of a request that are what parts of the other version are
 parties_carried : (client broker firm : Option (List ℕ)) (lines : List PartyLine)
-    → lines ≡ parties_of (record { client = client; broker = broker; firm = firm }) →
+    → lines ≡ parties_up client broker firm →
     carry.IsPartyId client → carry.IsPartyId broker → carry.IsPartyId firm
-    → IsGroup of50.judge requests50.parties (map said50.party_cells lines)
+    → IsGroup judge row_groups.parties (map row_lines.party_cells lines)
 parties_carried client broker firm lines e c b f =
     let P : List PartyLine → Type 0 =
-    λ l. IsGroup of50.judge requests50.parties (map said50.party_cells l) in
+    λ l. IsGroup judge row_groups.parties (map row_lines.party_cells l) in
     subst P (sym e) (carry.parties_said client broker firm c b f)
 
 roles_carried : (client broker firm : Option (List ℕ)) (lines : List PartyLine) → lines
-    ≡ parties_of (record { client = client; broker = broker; firm = firm }) → RolesSaid lines
+    ≡ parties_up client broker firm → RolesSaid lines
 roles_carried client broker firm lines e = let P : List PartyLine → Type 0 =
     λ l. RolesSaid l in subst P (sym e) (roles_said client broker firm)
 
 module _ (fields42 fields50 : List Field) where
-  month_carried : (maturity : Option Maturity42) (same : Option Maturity50)
-      → same ≡ maturity_up maturity →
-      value_at 541 fields50 ≡ option_and_then said50.date_text same →
-      IfSome (option_and_then said50.date_text same)
-      (λ text. of50.judge fields50 (of50.Value kinds.Day) text ≡ Spells text) →
-      IfSome (option_map said42.month_text maturity)
-      (λ text. of42.judge fields42 (of42.Value kinds.MonthYear) text ≡ Spells text) →
-      IsSaid of50.judge fields50 (record { tag = 200; kind = of50.MonthBeside 541; need = Lenient })
-      (option_map said50.month_text same)
+  month_carried : (maturity : Option Maturity) (same : Option Maturity)
+      → same ≡ maturity →
+      value_at 541 fields50 ≡ option_and_then row_parts.date_text same →
+      IfSome (option_and_then row_parts.date_text same)
+      (λ text. judge fields50 (Value kinds.Day) text ≡ Spells text) →
+      IfSome (option_map row_lines.month_text maturity)
+      (λ text. judge fields42 (Value kinds.MonthYear) text ≡ Spells text) →
+      IsSaid judge fields50 (record { tag = 200; kind = MonthBeside 541; need = Lenient })
+      (option_map row_lines.month_text same)
   month_carried maturity same e at d h =
-      let P : Option Maturity50 → Type 0 = λ m. IsSaid of50.judge fields50 (record {
+      let P : Option Maturity → Type 0 = λ m. IsSaid judge fields50 (record {
         tag =
             200;
-        kind = of50.MonthBeside 541;
+        kind = MonthBeside 541;
         need = Lenient;
-      }) (option_map said50.month_text m) in
+      }) (option_map row_lines.month_text m) in
       subst P (sym e) (carry.month_said fields42 fields50
-      maturity (at ∙ ap (λ (m : Option Maturity50). option_and_then said50.date_text m) e)
-      (let Q : Option Maturity50 → Type 0 = λ m. IfSome (option_and_then said50.date_text m)
-      (λ text. of50.judge fields50 (of50.Value kinds.Day) text ≡ Spells text) in subst Q e d) h)
+      maturity (at ∙ ap (λ (m : Option Maturity). option_and_then row_parts.date_text m) e)
+      (let Q : Option Maturity → Type 0 = λ m. IfSome (option_and_then row_parts.date_text m)
+      (λ text. judge fields50 (Value kinds.Day) text ≡ Spells text) in subst Q e d) h)
 
-  date_carried : (maturity : Option Maturity42) (same : Option Maturity50)
-      → same ≡ maturity_up maturity →
-      value_at 200 fields42 ≡ option_map said42.month_text maturity →
-      IfSome (option_map said42.month_text maturity)
-      (λ text. of42.judge fields42 (of42.Value kinds.MonthYear) text ≡ Spells text) →
-      IfSome (option_and_then said42.month_day_text maturity)
-      (λ text. of42.judge fields42 (of42.DayOf 200) text ≡ Spells text) →
-      IsSaid of50.judge
-      fields50 (of50.row Optional 541 kinds.Day) (option_and_then said50.date_text same)
+  date_carried : (maturity : Option Maturity) (same : Option Maturity)
+      → same ≡ maturity →
+      value_at 200 fields42 ≡ option_map row_lines.month_text maturity →
+      IfSome (option_map row_lines.month_text maturity)
+      (λ text. judge fields42 (Value kinds.MonthYear) text ≡ Spells text) →
+      IfSome (option_and_then row_parts.month_day_text maturity)
+      (λ text. judge fields42 (DayOf 200) text ≡ Spells text) →
+      IsSaid judge
+      fields50 (row Optional 541 kinds.Day) (option_and_then row_parts.date_text same)
   date_carried maturity same e at h d =
-      let P : Option Maturity50 → Type 0 = λ m. IsSaid of50.judge
-      fields50 (of50.row Optional 541 kinds.Day) (option_and_then said50.date_text m) in
+      let P : Option Maturity → Type 0 = λ m. IsSaid judge
+      fields50 (row Optional 541 kinds.Day) (option_and_then row_parts.date_text m) in
       subst P (sym e) (carry.date_said fields42 fields50 maturity at h d)
 
-abbrev new_fields42 : New42 → List Field
-new_fields42 m = content (table42 68 requests42.new_order) (said42.new_says m)
+-- ---- what FIX 5.0 SP2 says otherwise
 
-abbrev new_fields50 : New50 → List Field
-new_fields50 w = content (table50 68 requests50.new_order) (said50.new_says w)
+abbrev IsAt : List Field → Need → ℕ → Kind → Said → Type 0
+IsAt fields need tag kind said =
+    IsSaid judge fields (record { tag = tag; kind = kind; need = need }) said
+
+abbrev month_need : Need
+month_need = When ((Stands 205 ∷ []) ∷ [])
+
+abbrev month_if : Option Maturity → Said
+month_if maturity = option_map row_lines.month_text maturity
+
+abbrev date_if : Option Maturity → Said
+date_if maturity = option_and_then row_parts.date_text maturity
+
+abbrev PartiesSaid : List PartyLine → Type 0
+PartiesSaid lines = IsGroup judge row_groups.parties (map row_lines.party_cells lines)
+
+abbrev RoleSaid : ℕ → List PartyLine → Type 0
+RoleSaid role lines =
+    said50.id_of role lines ≡ party_in role (map row_lines.party_cells lines)
+
+module _ (fields : List Field) (maturity : Option Maturity) where
+  -- the rows of the maturity, in both versions
+  abbrev IsMonth42 : Type 0
+  IsMonth42 = IsAt fields month_need 200 (Value kinds.MonthYear) (month_if maturity)
+
+  abbrev IsDay42 : Type 0
+  IsDay42 =
+      IsAt fields Optional 205 (DayOf 200) (option_and_then row_parts.month_day_text maturity)
+
+  abbrev IsMonth50 : Type 0
+  IsMonth50 = IsAt fields Lenient 200 (MonthBeside 541) (month_if maturity)
+
+  abbrev IsDate50 : Type 0
+  IsDate50 = IsAt fields Optional 541 (Value kinds.Day) (date_if maturity)
+
+module _ (fields42 fields50 : List Field) (maturity same : Option Maturity) where
+  maturity_up : same ≡ maturity → value_at 200 fields42 ≡ month_if maturity
+      → value_at 541 fields50 ≡ date_if same → IsMonth42 fields42 maturity
+      → IsDay42 fields42 maturity → IsMonth50 fields50 same × IsDate50 fields50 same
+  maturity_up e at200 at541 month day =
+      let date = date_carried fields42 fields50 maturity same e at200 month.spelled day.spelled in (
+        month_carried fields42 fields50 maturity same e at541 date.spelled month.spelled,
+        date,
+      )
+
+-- a request that refers to an order: what it says in FIX 4.2, and in FIX 5.0 SP2
+module _ (fields : List Field) (client broker : Said) (maturity : Option Maturity) where
+  abbrev pub ReferRows : Type 0
+  ReferRows =
+      IsAt fields Optional 109 (Value kinds.Id) client
+      × (IsAt fields Optional 76 (Value kinds.Id) broker
+      × (IsMonth42 fields maturity × (IsDay42 fields maturity × Unit {0})))
+
+abbrev pub ReferItems : List Field → List PartyLine → Option Maturity → Type 0
+ReferItems fields lines maturity =
+    PartiesSaid lines × (RoleSaid 3 lines × (RoleSaid 1 lines
+    × (IsMonth50 fields maturity × (IsDate50 fields maturity × Unit {0}))))
+
+refer_items : {fields42 fields50 : List Field} {client broker : Said} {lines : List PartyLine}
+    {maturity same : Option Maturity} → ReferRows fields42 client broker maturity
+    → lines ≡ parties_up client broker None → same ≡ maturity
+    → value_at 200 fields42 ≡ month_if maturity
+    → (PartiesSaid lines × Unit {0} → value_at 541 fields50 ≡ date_if same)
+    → ReferItems fields50 lines same
+refer_items {fields42 = fields42} {fields50 = fields50} {client = client} {broker = broker}
+    {lines = lines} {maturity = maturity} {same = same} said is e at200 at541 =
+    let group = parties_carried client broker None lines is
+    (party_id fields42 109 client said.0) (party_id fields42 76 broker said.1.0) tt in
+    let roles = roles_carried client broker None lines is in
+    let month = maturity_up fields42 fields50 maturity same e at200 (at541 (group, tt))
+    said.1.1.0 said.1.1.1.0 in
+    (group, (roles.client, (roles.broker, (month.0, (month.1, tt)))))
+
+refer_day : {fields : List Field} {client broker : Said} (maturity : Option Maturity)
+    → ReferRows fields client broker maturity → HasShortDay maturity
+refer_day {fields = fields} maturity said =
+    carry.short_said fields maturity said.1.1.1.0.spelled
+
+-- an order: what it says in FIX 4.2, and in FIX 5.0 SP2
+module _ (fields : List Field) (client broker firm : Said) (allocs sessions : List (List Cell))
+    (maturity : Option Maturity) (ord_type : ℕ) (time capacity : Option ℕ) where
+  abbrev pub OrderRows : Type 0
+  OrderRows =
+      IsAt fields Optional 109 (Value kinds.Id) client
+      × (IsAt fields Optional 76 (Value kinds.Id) broker
+      × (IsAt fields Optional 439 (Value kinds.Id) firm
+      × (IsGroup judge row_groups.allocs allocs
+      × (IsGroup judge row_groups.sessions sessions
+      × (IsMonth42 fields maturity
+      × (IsDay42 fields maturity
+      × (IsAt fields Required 40 (Value (kinds.Code (codes "12345B"))) (Some (code_text ord_type))
+      × (IsAt fields Optional 59 (Value (kinds.Code (codes "0123456"))) (option_map code_text time)
+      × (IsAt fields Optional 47 (Value kinds.OneByte) (option_map code_text capacity)
+      × Unit {0})))))))))
+
+module _ {fields : List Field} {client broker firm : Said} {allocs sessions : List (List Cell)}
+    (maturity : Option Maturity) {ord_type : ℕ} (time capacity : Option ℕ)
+    (said : OrderRows fields
+    client broker firm allocs sessions maturity ord_type time capacity) where
+  order_type : is_type42 ord_type ≡ true
+  unfolding judge kinds.spelling
+  order_type = carry.listed_code (codes "12345B") ord_type said.1.1.1.1.1.1.1.0.spelled
+
+  order_time : IsTime42 time
+  unfolding judge kinds.spelling
+  order_time = carry.listed_codes (codes "0123456") time said.1.1.1.1.1.1.1.1.0.spelled
+
+  order_day : HasShortDay maturity
+  order_day = carry.short_said fields maturity said.1.1.1.1.1.1.0.spelled
+
+abbrev OrderGroups : List PartyLine → List (List Cell) → List (List Cell) → Type 0
+OrderGroups lines allocs sessions =
+    PartiesSaid lines × (IsGroup judge row_groups.allocs allocs
+    × (IsGroup judge row_groups.sessions sessions × Unit {0}))
+
+module _ (fields : List Field) (lines : List PartyLine) (allocs sessions : List (List Cell))
+    (maturity : Option Maturity) (terms : Terms) where
+  -- OrdType, TimeInForce and OrderCapacity
+  abbrev TermItems : Type 0
+  TermItems =
+      IsAt fields Required 40 (Value (kinds.Code (codes "1234"))) (Some (code_text terms.ord_type))
+      × (IsAt fields Lenient 59 (TimeBeside 40) (option_map code_text terms.time_in_force)
+      × (IsAt fields Lenient 528 (Byte (codes "AIP")) (option_map code_text terms.capacity)
+      × Unit {0}))
+
+  -- what stands behind the parties
+  abbrev LaterItems : Type 0
+  LaterItems =
+      IsGroup judge row_groups.allocs allocs × (IsGroup judge row_groups.sessions sessions
+      × (IsMonth50 fields maturity × (IsDate50 fields maturity × TermItems)))
+
+  abbrev pub OrderItems : Type 0
+  OrderItems =
+      PartiesSaid lines × (RoleSaid 3 lines × (RoleSaid 1 lines × (RoleSaid 4 lines × LaterItems)))
+
+module _ {fields42 fields50 : List Field} {client broker firm : Said} {lines : List PartyLine}
+    {allocs allocs50 sessions sessions50 : List (List Cell)} {maturity same : Option Maturity}
+    {ord_type : ℕ} {time capacity : Option ℕ} {terms : Terms} where
+  order_items : OrderRows
+      fields42 client broker firm allocs sessions maturity ord_type time capacity
+      → lines ≡ parties_up client broker firm → allocs50 ≡ allocs → sessions50 ≡ sessions
+      → same ≡ maturity → AreTerms ord_type time capacity terms
+      → value_at 200 fields42 ≡ month_if maturity
+      → (OrderGroups lines allocs50 sessions50 → value_at 541 fields50 ≡ date_if same)
+      → (OrderGroups lines allocs50 sessions50
+      → value_at 40 fields50 ≡ Some (code_text terms.ord_type))
+      → OrderItems fields50 lines allocs50 sessions50 same terms
+  order_items said is same_allocs same_sessions e are at200 at541 at40 =
+      let group = parties_carried client broker firm lines is
+      (party_id fields42 109 client said.0) (party_id fields42 76 broker said.1.0)
+      (party_id fields42 439 firm said.1.1.0) in
+      let behind = said.1.1.1 in
+      let A : List (List Cell) → Type 0 = λ l. IsGroup judge row_groups.allocs l in
+      let S : List (List Cell) → Type 0 = λ l. IsGroup judge row_groups.sessions l in
+      let mine = subst A (sym same_allocs) behind.0 in
+      let times = subst S (sym same_sessions) behind.1.0 in
+      let groups : OrderGroups lines allocs50 sessions50 = (group, (mine, (times, tt))) in
+      let roles = roles_carried client broker firm lines is in
+      let month = maturity_up fields42 fields50 maturity same e at200 (at541 groups)
+      behind.1.1.0 behind.1.1.1.0 in
+      let type = carry.type_said fields50 terms.ord_type are.on_close.listed in
+      let time_in = carry.time_said fields50 terms.ord_type terms.time_in_force (at40 groups)
+      are.on_close.timely in
+      let code = carry.capacity_carried fields50 capacity terms.capacity are.capacity are.said in
+      let spelled : TermItems fields50 lines allocs50 sessions50 same terms =
+      (type, (time_in, (code, tt))) in
+      let later : LaterItems fields50 lines allocs50 sessions50 same terms =
+      (mine, (times, (month.0, (month.1, spelled)))) in
+      (group, (roles.client, (roles.broker, (roles.firm, later))))
+
+-- ---- any request
+
+-- the tables of a request in both versions
+record Tables : Type 0 where
+  letter : ℕ
+  items42 : List (Item Kind)
+  items50 : List (Item Kind)
+
+module _ (t : Tables) where
+  abbrev fields_of42 : Message → List Field
+  fields_of42 m = content (table42 t.letter t.items42) m
+
+  abbrev fields_of50 : Message → List Field
+  fields_of50 w = content (table50 t.letter t.items50) w
+
+  abbrev IsSoundIn42 : Message → Type 0
+  IsSoundIn42 m = IsSound judge (table42 t.letter t.items42) m
+
+  abbrev Groups50 : Message → Type 0
+  Groups50 w = AllByRecursion (GroupSaid judge w) (flat_map groups_of t.items50)
+
+  -- what w says where both versions say alike is what m says there
+  abbrev SaysAlike : Message → Message → Type 0
+  SaysAlike m w = rows.said50 t.items42 w ≡ rows.said42 t.items42 m
+
+  apart_of : (m : Message) → IsSoundIn42 m
+      → AllByRecursion (IsItem judge (fields_of42 m) m) (others apart42 t.items42)
+  apart_of m s = others_of apart42 (fields_of42 m) m t.items42 s.items
+
+  at42 : (m : Message) → IsSoundIn42 m → (tag : ℕ) → is_alone tag t.items42 ≡ true
+      → value_at tag (fields_of42 m) ≡ said_at m.cells (Tag tag)
+  at42 m s tag alone = value_said judge m tag t.items42 alone
+      (groups_said judge (fields_of42 m) m t.items42 s.items)
+
+  at50 : (w : Message) (tag : ℕ) → is_alone tag t.items50 ≡ true → Groups50 w
+      → value_at tag (fields_of50 w) ≡ said_at w.cells (Tag tag)
+  at50 w tag alone groups = value_said judge w tag t.items50 alone groups
+
+  -- THE REQUEST IS SOUND, where what it says otherwise is.
+  items_sound : (m w : Message) → GoUp t.items42 t.items50 → SaysAlike m w → IsSoundIn42 m
+      → AllByRecursion (IsItem judge (fields_of50 w) w) (others apart50 t.items50)
+      → AllByRecursion (IsItem judge (fields_of50 w) w) t.items50
+  items_sound m w tables alike s apart =
+      items_up (fields_of42 m) (fields_of50 w) m w t.items42 t.items50 tables alike s.items apart
+
+-- ---- a new order
+
+abbrev new_tables : Tables
+new_tables = record {
+  letter = 68;
+  items42 = requests42.new_order;
+  items50 = requests50.new_order;
+}
 
 abbrev SoundNew42 : New42 → Type 0
-SoundNew42 m = IsSound of42.judge (table42 68 requests42.new_order) (said42.new_says m)
+SoundNew42 m = IsSoundIn42 new_tables (said42.new_says m)
 
-new_at : (m : New42) → SoundNew42 m
-    → (i : ℕ) (item : Item of42.Kind42) → slice_get requests42.new_order i ≡ Some item →
-    IsItem of42.judge (new_fields42 m) (said42.new_says m) item
-new_at m s i item e = item_at
-    (IsItem of42.judge (new_fields42 m) (said42.new_says m)) i requests42.new_order item e s.items
+new_rows : (m : New42) → SoundNew42 m → OrderRows
+    (fields_of42 new_tables (said42.new_says m)) m.client_id m.exec_broker m.clearing_firm
+    (map row_lines.alloc_cells m.allocs) (map row_lines.session_cells m.sessions)
+    m.maturity m.ord_type m.time_in_force m.capacity
+new_rows m s = apart_of new_tables (said42.new_says m) s
 
 pub new_type : (m : New42) → SoundNew42 m → is_type42 m.ord_type ≡ true
-unfolding of42.judge kinds.spelling
-new_type m s = carry.listed_code (codes "12345B") m.ord_type
-    ((new_at m s 26 (One (of42.row Required 40 (kinds.Code (codes "12345B")))) refl).spelled)
+new_type m s = order_type m.maturity m.time_in_force m.capacity (new_rows m s)
 
 pub new_time : (m : New42) → SoundNew42 m → IsTime42 m.time_in_force
-unfolding of42.judge kinds.spelling
-new_time m s = carry.listed_codes (codes "0123456") m.time_in_force
-    ((new_at m s 30 (One (of42.row Optional 59 (kinds.Code (codes "0123456")))) refl).spelled)
-
-new_groups : (m : New42) (w : New50) → IsNew m w → SoundNew42 m → AllByRecursion
-    (GroupSaid of50.judge (said50.new_says w)) (flat_map groups_of requests50.new_order)
-new_groups m w written s = (
-  parties_carried m.client_id m.exec_broker m.clearing_firm w.parties written.parties
-      (party_id (new_fields42 m)
-      109 m.client_id (new_at m s 1 (One (of42.row Optional 109 kinds.Id)) refl))
-      (party_id (new_fields42 m)
-      76 m.exec_broker (new_at m s 2 (One (of42.row Optional 76 kinds.Id)) refl))
-      (party_id (new_fields42 m)
-      439 m.clearing_firm (new_at m s 3 (One (of42.row Optional 439 kinds.Id)) refl)),
-  (
-    carry.allocs_said (map said42.alloc_cells m.allocs) (map said50.alloc_cells w.allocs)
-        written.allocs (new_at m s 5 (Lines requests42.allocs) refl),
-    (
-      carry.sessions_said
-          (map said42.session_cells m.sessions) (map said50.session_cells w.sessions)
-          written.sessions (new_at m s 13 (Lines requests42.sessions) refl),
-      tt,
-    ),
-  ),
-)
-
-new_month : (m : New42)
-    → SoundNew42 m → value_at 200 (new_fields42 m) ≡ option_map said42.month_text m.maturity
-new_month m s = value_said of42.judge (said42.new_says m) 200 requests42.new_order
-    refl (groups_said of42.judge (new_fields42 m) (said42.new_says m) requests42.new_order s.items)
-
-new_date : (m : New42) (w : New50) → IsNew m w
-    → SoundNew42 m → value_at 541 (new_fields50 w) ≡ option_and_then said50.date_text w.maturity
-new_date m w written s = value_said
-    of50.judge (said50.new_says w) 541 requests50.new_order refl (new_groups m w written s)
-
-new_dated : (m : New42) (w : New50) → IsNew m w → SoundNew42 m → IsSaid of50.judge
-    (new_fields50 w) (of50.row Optional 541 kinds.Day) (option_and_then said50.date_text w.maturity)
-new_dated m w written s = date_carried (new_fields42 m)
-    (new_fields50 w) m.maturity w.maturity written.maturity (new_month m s) (new_at m
-    s 19 (One (of42.row (When ((Stands 205 ∷ []) ∷ [])) 200 kinds.MonthYear)) refl).spelled (new_at
-    m s 20 (One (record { tag = 205; kind = of42.DayOf 200; need = Optional })) refl).spelled
+new_time m s = order_time m.maturity m.time_in_force m.capacity (new_rows m s)
 
 pub new_day : (m : New42) → SoundNew42 m → HasShortDay m.maturity
-new_day m s = carry.short_said (new_fields42 m) m.maturity (new_at
-    m s 20 (One (record { tag = 205; kind = of42.DayOf 200; need = Optional })) refl).spelled
+new_day m s = order_day m.maturity m.time_in_force m.capacity (new_rows m s)
 
-new_at40 : (m : New42) (w : New50)
-    → IsNew m w → SoundNew42 m → value_at 40 (new_fields50 w) ≡ Some (code_text w.ord_type)
-new_at40 m w written s = value_said
-    of50.judge (said50.new_says w) 40 requests50.new_order refl (new_groups m w written s)
+new_says : (m : New42) (w : New50) → IsNew m w
+    → SaysAlike new_tables (said42.new_says m) (said50.new_says w)
+new_says m w written = λ i.
+    Some (written.cl_ord_id i) ∷
+    written.account i ∷
+    option_map code_text (written.settl_type i) ∷
+    option_map day_text (written.settl_date i) ∷
+    Some (code_text (written.hand_inst i)) ∷
+    written.exec_inst i ∷
+    option_map dec_text (written.min_qty i) ∷
+    option_map dec_text (written.max_floor i) ∷
+    written.ex_destination i ∷
+    Some (written.symbol i) ∷
+    written.symbol_sfx i ∷
+    written.security_id i ∷
+    option_map code_text (written.id_source i) ∷
+    written.security_type i ∷
+    written.security_exchange i ∷
+    Some (code_text (written.side i)) ∷
+    option_map flag_text (written.locate i) ∷
+    Some (stamp_text (written.transact_time i)) ∷
+    Some (dec_text (written.order_qty i)) ∷
+    option_map dec_text (written.price i) ∷
+    option_map dec_text (written.stop_px i) ∷
+    written.currency i ∷
+    option_map stamp_text (written.effective_time i) ∷
+    option_map day_text (written.expire_date i) ∷
+    option_map stamp_text (written.expire_time i) ∷
+    option_map code_text (written.open_close i) ∷
+    written.text i ∷
+    []
 
-pub new_sound : (m : New42) (w : New50) → IsNew m w
-    → SoundNew42 m → IsSound of50.judge (table50 68 requests50.new_order) (said50.new_says w)
+pub new_sound : (m : New42) (w : New50) → IsNew m w → SoundNew42 m
+    → IsSound judge (table50 68 requests50.new_order) (said50.new_says w)
 new_sound m w written s =
-    let groups = new_groups m w written s in
-    let roles = roles_carried m.client_id m.exec_broker m.clearing_firm w.parties written.parties in
-    record {
-      letter = refl;
-      places = refl;
-      counts = refl;
-      items = (
-        required (new_fields42 m) (new_fields50 w) kinds.Id 11
-            11 (Some m.cl_ord_id) (Some w.cl_ord_id) (ap (λ (x : List ℕ). Some x) written.cl_ord_id)
-            (new_at m s 0 (One (of42.row Required 11 kinds.Id)) refl),
-        (
-          groups.0,
-          (
-            roles.client,
-            (
-              roles.broker,
-              (
-                roles.firm,
-                (
-                  optional (new_fields42 m) (new_fields50 w) kinds.Id 1 1 m.account w.account
-                      written.account (new_at m s 4 (One (of42.row Optional 1 kinds.Id)) refl),
-                  (
-                    groups.1.0,
-                    (
-                      lenient (new_fields42 m) (new_fields50 w) (kinds.Code (codes "0123456789")) 63
-                          63 (option_map code_text m.settl_type) (option_map code_text w.settl_type)
-                          (ap (λ (x : Option ℕ). option_map code_text x) written.settl_type)
-                          (new_at m
-                          s 6 (One (of42.row Optional 63 (kinds.Code (codes "0123456789")))) refl),
-                      (
-                        optional (new_fields42 m) (new_fields50 w) kinds.Day 64
-                            64 (option_map day_text m.settl_date) (option_map day_text w.settl_date)
-                            (ap (λ (x : Option DayValue). option_map day_text x) written.settl_date)
-                            (new_at m s 7 (One (of42.row Optional 64 kinds.Day)) refl),
-                        (
-                          required (new_fields42 m) (new_fields50 w) (kinds.Code (codes "123"))
-                              21 21 (Some (code_text m.hand_inst)) (Some (code_text w.hand_inst))
-                              (ap (λ (x : ℕ). Some (code_text x)) written.hand_inst) (new_at
-                              m s 8 (One (of42.row Required 21 (kinds.Code (codes "123")))) refl),
-                          (
-                            lenient
-                                (new_fields42 m) (new_fields50 w) (kinds.Codes (codes "123456G"))
-                                18 18 m.exec_inst w.exec_inst written.exec_inst (new_at m s 9
-                                (One (of42.row Optional 18 (kinds.Codes (codes "123456G")))) refl),
-                            (
-                              optional (new_fields42 m)
-                                  (new_fields50 w) kinds.Qty 110 110 (option_map dec_text m.min_qty)
-                                  (option_map dec_text w.min_qty) (ap
-                                  (λ (x : Option DecValue). option_map dec_text x) written.min_qty)
-                                  (new_at m s 10 (One (of42.row Optional 110 kinds.Qty)) refl),
-                              (
-                                optional (new_fields42 m) (new_fields50 w)
-                                    kinds.Qty 111 1138 (option_map dec_text m.max_floor)
-                                    (option_map dec_text w.max_floor) (ap (λ (x : Option DecValue).
-                                    option_map dec_text x) written.max_floor)
-                                    (new_at m s 11 (One (of42.row Optional 111 kinds.Qty)) refl),
-                                (
-                                  optional (new_fields42 m) (new_fields50 w) kinds.Id 100
-                                      100 m.ex_destination w.ex_destination written.ex_destination
-                                      (new_at m s 12 (One (of42.row Optional 100 kinds.Id)) refl),
-                                  (
-                                    groups.1.1.0,
-                                    (
-                                      required (new_fields42 m) (new_fields50 w)
-                                          kinds.Id 55 55 (Some m.symbol) (Some w.symbol)
-                                          (ap (λ (x : List ℕ). Some x) written.symbol) (new_at
-                                          m s 14 (One (of42.row Required 55 kinds.Id)) refl),
-                                      (
-                                        optional (new_fields42 m) (new_fields50 w) kinds.Id 65
-                                            65 m.symbol_sfx w.symbol_sfx written.symbol_sfx (new_at
-                                            m s 15 (One (of42.row Optional 65 kinds.Id)) refl),
-                                        (
-                                          optional (new_fields42 m)
-                                              (new_fields50 w) kinds.Id 48 48 m.security_id
-                                              w.security_id written.security_id (new_at
-                                              m s 16 (One (of42.row Optional 48 kinds.Id)) refl),
-                                          (
-                                            lenient (new_fields42 m)
-                                                (new_fields50 w) (kinds.Code (codes "123456789"))
-                                                22 22 (option_map code_text m.id_source)
-                                                (option_map code_text w.id_source)
-                                                (ap (λ (x : Option ℕ). option_map code_text x)
-                                                written.id_source)
-                                                (new_at m s 17 (One (of42.row Optional
-                                                22 (kinds.Code (codes "123456789")))) refl),
-                                            (
-                                              lenient (new_fields42 m) (new_fields50 w) (kinds.Word
-                                                  (codes "CS" ∷ codes "PS" ∷ codes "FUT" ∷ []))
-                                                  167 167 m.security_type
-                                                  w.security_type written.security_type (new_at m s
-                                                  18 (One (of42.row Optional 167 (kinds.Word (codes
-                                                  "CS" ∷ codes "PS" ∷ codes "FUT" ∷ [])))) refl),
-                                              (
-                                                month_carried (new_fields42 m)
-                                                    (new_fields50 w) m.maturity w.maturity
-                                                    written.maturity (new_date m w written s)
-                                                    (new_dated m w written s).spelled (new_at m s 19
-                                                    (One (of42.row (When ((Stands 205 ∷ []) ∷ []))
-                                                    200 kinds.MonthYear)) refl).spelled,
-                                                (
-                                                  new_dated m w written s,
-                                                  (
-                                                    optional (new_fields42 m)
-                                                        (new_fields50 w) kinds.Id 207
-                                                        207 m.security_exchange w.security_exchange
-                                                        written.security_exchange
-                                                        (new_at m s 21 (One
-                                                        (of42.row Optional 207 kinds.Id)) refl),
-                                                    (
-                                                      required (new_fields42 m) (new_fields50 w)
-                                                          (kinds.Code (codes "123456"))
-                                                          54 54 (Some (code_text m.side))
-                                                          (Some (code_text w.side)) (ap (λ (x : ℕ).
-                                                          Some (code_text x)) written.side)
-                                                          (new_at m s 22 (One (of42.row Required
-                                                          54 (kinds.Code (codes "123456")))) refl),
-                                                      (
-                                                        optional (new_fields42 m)
-                                                            (new_fields50 w) kinds.Flag
-                                                            114 114 (option_map flag_text m.locate)
-                                                            (option_map flag_text w.locate)
-                                                            (ap (λ (x : Option FlagValue).
-                                                            option_map flag_text x) written.locate)
-                                                            (new_at m s 23 (One (of42.row
-                                                            Optional 114 kinds.Flag)) refl),
-                                                        (
-                                                          required (new_fields42 m)
-                                                              (new_fields50 w) kinds.Stamp 60
-                                                              60 (Some (stamp_text m.transact_time))
-                                                              (Some (stamp_text w.transact_time))
-                                                              (ap (λ (x : StampValue). Some
-                                                              (stamp_text x)) written.transact_time)
-                                                              (new_at m s 24 (One (of42.row
-                                                              Required 60 kinds.Stamp)) refl),
-                                                          (
-                                                            required (new_fields42 m)
-                                                                (new_fields50 w) kinds.Qty
-                                                                38 38 (Some (dec_text m.order_qty))
-                                                                (Some (dec_text w.order_qty))
-                                                                (ap (λ (x : DecValue). Some
-                                                                (dec_text x)) written.order_qty)
-                                                                (new_at m s 25 (One (of42.row
-                                                                Required 38 kinds.Qty)) refl),
-                                                            (
-                                                              carry.type_said
-                                                                  (new_fields50 w) w.ord_type
-                                                                  written.terms.on_close.listed,
-                                                              (
-                                                                optional (new_fields42 m)
-                                                                    (new_fields50 w) kinds.Price 44
-                                                                    44 (option_map dec_text m.price)
-                                                                    (option_map dec_text w.price)
-                                                                    (ap (λ (x : Option DecValue).
-                                                                    option_map dec_text x)
-                                                                    written.price)
-                                                                    (new_at m s 27 (One (of42.row
-                                                                    Optional 44 kinds.Price)) refl),
-                                                                (
-                                                                  optional (new_fields42 m)
-                                                                      (new_fields50 w) kinds.Price
-                                                                      99 99 (option_map dec_text
-                                                                      m.stop_px) (option_map
-                                                                      dec_text w.stop_px)
-                                                                      (ap (λ (x : Option DecValue).
-                                                                      option_map dec_text x)
-                                                                      written.stop_px) (new_at
-                                                                      m s 28 (One (of42.row Optional
-                                                                      99 kinds.Price)) refl),
-                                                                  (
-                                                                    optional (new_fields42 m)
-                                                                        (new_fields50 w)
-                                                                        kinds.Currency
-                                                                        15 15 m.currency w.currency
-                                                                        written.currency (new_at m
-                                                                        s 29 (One (of42.row Optional
-                                                                        15 kinds.Currency)) refl),
-                                                                    (
-                                                                      carry.time_said
-                                                                          (new_fields50 w)
-                                                                          w.ord_type w.time_in_force
-                                                                          (new_at40 m w written s)
-                                                                          written.terms.on_close.timely,
-                                                                      (
-                                                                        optional (new_fields42 m)
-                                                                            (new_fields50 w)
-                                                                            kinds.Stamp 168 168
-                                                                            (option_map stamp_text
-                                                                            m.effective_time)
-                                                                            (option_map stamp_text
-                                                                            w.effective_time) (ap (λ
-                                                                            (x : Option StampValue).
-                                                                            option_map stamp_text x)
-                                                                            written.effective_time)
-                                                                            (new_at m s 31
-                                                                            (One (of42.row Optional
-                                                                            168 kinds.Stamp)) refl),
-                                                                        (
-                                                                          optional (new_fields42 m)
-                                                                              (new_fields50 w)
-                                                                              kinds.Day 432 432
-                                                                              (option_map day_text
-                                                                              m.expire_date)
-                                                                              (option_map day_text
-                                                                              w.expire_date) (ap (λ
-                                                                              (x : Option DayValue).
-                                                                              option_map day_text x)
-                                                                              written.expire_date)
-                                                                              (new_at m s 32 (One
-                                                                              (of42.row Optional
-                                                                              432 kinds.Day)) refl),
-                                                                          (
-                                                                            optional (new_fields42
-                                                                                m) (new_fields50 w)
-                                                                                kinds.Stamp
-                                                                                126 126 (option_map
-                                                                                stamp_text
-                                                                                m.expire_time)
-                                                                                (option_map
-                                                                                stamp_text
-                                                                                w.expire_time)
-                                                                                (ap (λ (x : Option
-                                                                                StampValue).
-                                                                                option_map
-                                                                                stamp_text x)
-                                                                                written.expire_time)
-                                                                                (new_at m s 33 (One
-                                                                                (of42.row Optional
-                                                                                126 kinds.Stamp))
-                                                                                refl),
-                                                                            (
-                                                                              carry.capacity_carried
-                                                                                  (new_fields50 w)
-                                                                                  m.capacity
-                                                                                  w.capacity
-                                                                                  written.terms.capacity
-                                                                                  written.terms.said,
-                                                                              (
-                                                                                lenient
-                                                                                    (new_fields42 m)
-                                                                                    (new_fields50 w)
-                                                                                    (kinds.Code
-                                                                                    (codes "OC")) 77
-                                                                                    77 (option_map
-                                                                                    code_text
-                                                                                    m.open_close)
-                                                                                    (option_map
-                                                                                    code_text
-                                                                                    w.open_close)
-                                                                                    (ap (λ
-                                                                                    (x : Option ℕ).
-                                                                                    option_map
-                                                                                    code_text x)
-                                                                                    written.open_close)
-                                                                                    (new_at m s 35
-                                                                                    (One (of42.row
-                                                                                    Optional
-                                                                                    77 (kinds.Code
-                                                                                    (codes "OC"))))
-                                                                                    refl),
-                                                                                (
-                                                                                  optional
-                                                                                      (new_fields42
-                                                                                      m)
-                                                                                      (new_fields50
-                                                                                      w) kinds.Text
-                                                                                      58 58
-                                                                                      m.text w.text
-                                                                                      written.text
-                                                                                      (new_at m s 36
-                                                                                      (One (of42.row
-                                                                                      Optional 58
-                                                                                      kinds.Text))
-                                                                                      refl),
-                                                                                  tt,
-                                                                                ),
-                                                                              ),
-                                                                            ),
-                                                                          ),
-                                                                        ),
-                                                                      ),
-                                                                    ),
-                                                                  ),
-                                                                ),
-                                                              ),
-                                                            ),
-                                                          ),
-                                                        ),
-                                                      ),
-                                                    ),
-                                                  ),
-                                                ),
-                                              ),
-                                            ),
-                                          ),
-                                        ),
-                                      ),
-                                    ),
-                                  ),
-                                ),
-                              ),
-                            ),
-                          ),
-                        ),
-                      ),
-                    ),
-                  ),
-                ),
-              ),
-            ),
-          ),
-        ),
-      );
-    }
+    let t = new_tables in
+    let here = said42.new_says m in
+    let there = said50.new_says w in
+    let at200 = at42 t here s 200 refl in
+    let apart = order_items (new_rows m s) written.parties written.allocs written.sessions
+    written.maturity written.terms at200 (at50 t there 541 refl) (at50 t there 40 refl) in
+    let tables : GoUp t.items42 t.items50 = record { plain = refl; same = refl } in
+    let items = items_sound t here there tables (new_says m w written) s apart in
+    record { letter = refl; places = refl; counts = refl; items = items }
 
-abbrev cancel_fields42 : Cancel42 → List Field
-cancel_fields42 m = content (table42 70 requests42.cancel_request) (said42.cancel_says m)
+-- ---- a request to cancel
 
-abbrev cancel_fields50 : Cancel50 → List Field
-cancel_fields50 w = content (table50 70 requests50.cancel_request) (said50.cancel_says w)
+abbrev cancel_tables : Tables
+cancel_tables = record {
+  letter = 70;
+  items42 = requests42.cancel_request;
+  items50 = requests50.cancel_request;
+}
 
 abbrev SoundCancel42 : Cancel42 → Type 0
-SoundCancel42 m = IsSound of42.judge (table42 70 requests42.cancel_request) (said42.cancel_says m)
+SoundCancel42 m = IsSoundIn42 cancel_tables (said42.cancel_says m)
 
-cancel_at : (m : Cancel42) → SoundCancel42 m
-    → (i : ℕ) (item : Item of42.Kind42) → slice_get requests42.cancel_request i ≡ Some item →
-    IsItem of42.judge (cancel_fields42 m) (said42.cancel_says m) item
-cancel_at m s i item e = item_at (IsItem of42.judge (cancel_fields42 m) (said42.cancel_says m))
-    i requests42.cancel_request item e s.items
-
-cancel_groups : (m : Cancel42) (w : Cancel50) → IsCancel m w → SoundCancel42 m → AllByRecursion
-    (GroupSaid of50.judge (said50.cancel_says w)) (flat_map groups_of requests50.cancel_request)
-cancel_groups m w written s = (
-  parties_carried m.client_id m.exec_broker None w.parties written.parties
-      (party_id (cancel_fields42 m)
-      109 m.client_id (cancel_at m s 3 (One (of42.row Optional 109 kinds.Id)) refl))
-      (party_id (cancel_fields42 m)
-      76 m.exec_broker (cancel_at m s 4 (One (of42.row Optional 76 kinds.Id)) refl))
-      tt,
-  tt,
-)
-
-cancel_month : (m : Cancel42)
-    → SoundCancel42 m → value_at 200 (cancel_fields42 m) ≡ option_map said42.month_text m.maturity
-cancel_month m s =
-    value_said of42.judge (said42.cancel_says m) 200 requests42.cancel_request refl (groups_said
-    of42.judge (cancel_fields42 m) (said42.cancel_says m) requests42.cancel_request s.items)
-
-cancel_date : (m : Cancel42) (w : Cancel50) → IsCancel m w → SoundCancel42 m
-    → value_at 541 (cancel_fields50 w) ≡ option_and_then said50.date_text w.maturity
-cancel_date m w written s = value_said of50.judge
-    (said50.cancel_says w) 541 requests50.cancel_request refl (cancel_groups m w written s)
-
-cancel_dated : (m : Cancel42) (w : Cancel50)
-    → IsCancel m w → SoundCancel42 m → IsSaid of50.judge (cancel_fields50 w)
-    (of50.row Optional 541 kinds.Day) (option_and_then said50.date_text w.maturity)
-cancel_dated m w written s = date_carried (cancel_fields42 m)
-    (cancel_fields50 w) m.maturity w.maturity written.maturity (cancel_month m s) (cancel_at m s
-    11 (One (of42.row (When ((Stands 205 ∷ []) ∷ [])) 200 kinds.MonthYear)) refl).spelled (cancel_at
-    m s 12 (One (record { tag = 205; kind = of42.DayOf 200; need = Optional })) refl).spelled
+cancel_rows : (m : Cancel42) → SoundCancel42 m
+    → ReferRows (fields_of42 cancel_tables (said42.cancel_says m))
+    m.client_id m.exec_broker m.maturity
+cancel_rows m s = apart_of cancel_tables (said42.cancel_says m) s
 
 pub cancel_day : (m : Cancel42) → SoundCancel42 m → HasShortDay m.maturity
-cancel_day m s = carry.short_said (cancel_fields42 m) m.maturity (cancel_at
-    m s 12 (One (record { tag = 205; kind = of42.DayOf 200; need = Optional })) refl).spelled
+cancel_day m s = refer_day m.maturity (cancel_rows m s)
+
+cancel_says : (m : Cancel42) (w : Cancel50) → IsCancel m w
+    → SaysAlike cancel_tables (said42.cancel_says m) (said50.cancel_says w)
+cancel_says m w written = λ i.
+    Some (written.cl_ord_id i) ∷
+    Some (written.orig_id i) ∷
+    written.order_id i ∷
+    written.account i ∷
+    Some (written.symbol i) ∷
+    written.symbol_sfx i ∷
+    written.security_id i ∷
+    option_map code_text (written.id_source i) ∷
+    written.security_type i ∷
+    written.security_exchange i ∷
+    Some (code_text (written.side i)) ∷
+    Some (stamp_text (written.transact_time i)) ∷
+    option_map dec_text (written.order_qty i) ∷
+    written.text i ∷
+    []
 
 pub cancel_sound : (m : Cancel42) (w : Cancel50) → IsCancel m w → SoundCancel42 m
-    → IsSound of50.judge (table50 70 requests50.cancel_request) (said50.cancel_says w)
+    → IsSound judge (table50 70 requests50.cancel_request) (said50.cancel_says w)
 cancel_sound m w written s =
-    let groups = cancel_groups m w written s in
-    let roles = roles_carried m.client_id m.exec_broker None w.parties written.parties in
-    record {
-      letter = refl;
-      places = refl;
-      counts = refl;
-      items = (
-        required (cancel_fields42 m) (cancel_fields50 w) kinds.Id 11
-            11 (Some m.cl_ord_id) (Some w.cl_ord_id) (ap (λ (x : List ℕ). Some x) written.cl_ord_id)
-            (cancel_at m s 0 (One (of42.row Required 11 kinds.Id)) refl),
-        (
-          required (cancel_fields42 m) (cancel_fields50 w) kinds.Id
-              41 41 (Some m.orig_id) (Some w.orig_id) (ap (λ (x : List ℕ). Some x) written.orig_id)
-              (cancel_at m s 1 (One (of42.row Required 41 kinds.Id)) refl),
-          (
-            optional (cancel_fields42 m) (cancel_fields50 w) kinds.Id 37 37 m.order_id w.order_id
-                written.order_id (cancel_at m s 2 (One (of42.row Optional 37 kinds.Id)) refl),
-            (
-              groups.0,
-              (
-                roles.client,
-                (
-                  roles.broker,
-                  (
-                    optional
-                        (cancel_fields42 m) (cancel_fields50 w) kinds.Id 1 1 m.account w.account
-                        written.account (cancel_at m s 5 (One (of42.row Optional 1 kinds.Id)) refl),
-                    (
-                      required (cancel_fields42 m) (cancel_fields50 w) kinds.Id 55 55 (Some
-                          m.symbol) (Some w.symbol) (ap (λ (x : List ℕ). Some x) written.symbol)
-                          (cancel_at m s 6 (One (of42.row Required 55 kinds.Id)) refl),
-                      (
-                        optional (cancel_fields42 m) (cancel_fields50 w)
-                            kinds.Id 65 65 m.symbol_sfx w.symbol_sfx written.symbol_sfx
-                            (cancel_at m s 7 (One (of42.row Optional 65 kinds.Id)) refl),
-                        (
-                          optional (cancel_fields42 m) (cancel_fields50 w)
-                              kinds.Id 48 48 m.security_id w.security_id written.security_id
-                              (cancel_at m s 8 (One (of42.row Optional 48 kinds.Id)) refl),
-                          (
-                            lenient (cancel_fields42 m) (cancel_fields50 w)
-                                (kinds.Code (codes "123456789")) 22 22 (option_map
-                                code_text m.id_source) (option_map code_text w.id_source)
-                                (ap (λ (x : Option ℕ). option_map code_text x) written.id_source)
-                                (cancel_at m s 9
-                                (One (of42.row Optional 22 (kinds.Code (codes "123456789")))) refl),
-                            (
-                              lenient (cancel_fields42 m) (cancel_fields50 w)
-                                  (kinds.Word (codes "CS" ∷ codes "PS" ∷ codes "FUT" ∷ []))
-                                  167 167 m.security_type w.security_type written.security_type
-                                  (cancel_at m s 10 (One (of42.row Optional 167
-                                  (kinds.Word (codes "CS" ∷ codes "PS" ∷ codes "FUT" ∷ [])))) refl),
-                              (
-                                month_carried (cancel_fields42 m)
-                                    (cancel_fields50 w) m.maturity w.maturity written.maturity
-                                    (cancel_date m w written s) (cancel_dated m w written s).spelled
-                                    (cancel_at m s 11 (One (of42.row (When ((Stands 205 ∷ []) ∷ []))
-                                    200 kinds.MonthYear)) refl).spelled,
-                                (
-                                  cancel_dated m w written s,
-                                  (
-                                    optional (cancel_fields42 m)
-                                        (cancel_fields50 w) kinds.Id 207 207 m.security_exchange
-                                        w.security_exchange written.security_exchange (cancel_at
-                                        m s 13 (One (of42.row Optional 207 kinds.Id)) refl),
-                                    (
-                                      required (cancel_fields42 m)
-                                          (cancel_fields50 w) (kinds.Code (codes "123456"))
-                                          54 54 (Some (code_text m.side)) (Some (code_text w.side))
-                                          (ap (λ (x : ℕ). Some (code_text x)) written.side)
-                                          (cancel_at m s 14 (One (of42.row
-                                          Required 54 (kinds.Code (codes "123456")))) refl),
-                                      (
-                                        required (cancel_fields42 m) (cancel_fields50 w)
-                                            kinds.Stamp 60 60 (Some (stamp_text m.transact_time))
-                                            (Some (stamp_text w.transact_time))
-                                            (ap (λ (x : StampValue). Some (stamp_text x))
-                                            written.transact_time) (cancel_at
-                                            m s 15 (One (of42.row Required 60 kinds.Stamp)) refl),
-                                        (
-                                          optional (cancel_fields42 m) (cancel_fields50 w)
-                                              kinds.Qty 38 38 (option_map dec_text m.order_qty)
-                                              (option_map dec_text w.order_qty)
-                                              (ap (λ (x : Option DecValue). option_map dec_text x)
-                                              written.order_qty) (cancel_at
-                                              m s 16 (One (of42.row Optional 38 kinds.Qty)) refl),
-                                          (
-                                            optional
-                                                (cancel_fields42 m) (cancel_fields50 w) kinds.Text
-                                                58 58 m.text w.text written.text (cancel_at m
-                                                s 17 (One (of42.row Optional 58 kinds.Text)) refl),
-                                            tt,
-                                          ),
-                                        ),
-                                      ),
-                                    ),
-                                  ),
-                                ),
-                              ),
-                            ),
-                          ),
-                        ),
-                      ),
-                    ),
-                  ),
-                ),
-              ),
-            ),
-          ),
-        ),
-      );
-    }
+    let t = cancel_tables in
+    let here = said42.cancel_says m in
+    let there = said50.cancel_says w in
+    let at200 = at42 t here s 200 refl in
+    let apart = refer_items (cancel_rows m s) written.parties written.maturity
+    at200 (at50 t there 541 refl) in
+    let tables : GoUp t.items42 t.items50 = record { plain = refl; same = refl } in
+    let items = items_sound t here there tables (cancel_says m w written) s apart in
+    record { letter = refl; places = refl; counts = refl; items = items }
 
-abbrev replace_fields42 : Replace42 → List Field
-replace_fields42 m = content (table42 71 requests42.replace_request) (said42.replace_says m)
+-- ---- a request to replace
 
-abbrev replace_fields50 : Replace50 → List Field
-replace_fields50 w = content (table50 71 requests50.replace_request) (said50.replace_says w)
+abbrev replace_tables : Tables
+replace_tables = record {
+  letter = 71;
+  items42 = requests42.replace_request;
+  items50 = requests50.replace_request;
+}
 
 abbrev SoundReplace42 : Replace42 → Type 0
-SoundReplace42 m =
-    IsSound of42.judge (table42 71 requests42.replace_request) (said42.replace_says m)
+SoundReplace42 m = IsSoundIn42 replace_tables (said42.replace_says m)
 
-replace_at : (m : Replace42) → SoundReplace42 m
-    → (i : ℕ) (item : Item of42.Kind42) → slice_get requests42.replace_request i ≡ Some item →
-    IsItem of42.judge (replace_fields42 m) (said42.replace_says m) item
-replace_at m s i item e = item_at (IsItem of42.judge (replace_fields42 m) (said42.replace_says m))
-    i requests42.replace_request item e s.items
+replace_rows : (m : Replace42) → SoundReplace42 m → OrderRows
+    (fields_of42 replace_tables (said42.replace_says m)) m.client_id m.exec_broker m.clearing_firm
+    (map row_lines.alloc_cells m.allocs) (map row_lines.session_cells m.sessions)
+    m.maturity m.ord_type m.time_in_force m.capacity
+replace_rows m s = apart_of replace_tables (said42.replace_says m) s
 
 pub replace_type : (m : Replace42) → SoundReplace42 m → is_type42 m.ord_type ≡ true
-unfolding of42.judge kinds.spelling
-replace_type m s = carry.listed_code (codes "12345B") m.ord_type
-    ((replace_at m s 28 (One (of42.row Required 40 (kinds.Code (codes "12345B")))) refl).spelled)
+replace_type m s = order_type m.maturity m.time_in_force m.capacity (replace_rows m s)
 
 pub replace_time : (m : Replace42) → SoundReplace42 m → IsTime42 m.time_in_force
-unfolding of42.judge kinds.spelling
-replace_time m s = carry.listed_codes (codes "0123456") m.time_in_force
-    ((replace_at m s 32 (One (of42.row Optional 59 (kinds.Code (codes "0123456")))) refl).spelled)
-
-replace_groups : (m : Replace42) (w : Replace50) → IsReplace m w → SoundReplace42 m → AllByRecursion
-    (GroupSaid of50.judge (said50.replace_says w)) (flat_map groups_of requests50.replace_request)
-replace_groups m w written s = (
-  parties_carried m.client_id m.exec_broker m.clearing_firm w.parties written.parties
-      (party_id (replace_fields42 m)
-      109 m.client_id (replace_at m s 3 (One (of42.row Optional 109 kinds.Id)) refl))
-      (party_id (replace_fields42 m)
-      76 m.exec_broker (replace_at m s 4 (One (of42.row Optional 76 kinds.Id)) refl))
-      (party_id (replace_fields42 m)
-      439 m.clearing_firm (replace_at m s 5 (One (of42.row Optional 439 kinds.Id)) refl)),
-  (
-    carry.allocs_said (map said42.alloc_cells m.allocs) (map said50.alloc_cells w.allocs)
-        written.allocs (replace_at m s 7 (Lines requests42.allocs) refl),
-    (
-      carry.sessions_said
-          (map said42.session_cells m.sessions) (map said50.session_cells w.sessions)
-          written.sessions (replace_at m s 15 (Lines requests42.sessions) refl),
-      tt,
-    ),
-  ),
-)
-
-replace_month : (m : Replace42)
-    → SoundReplace42 m → value_at 200 (replace_fields42 m) ≡ option_map said42.month_text m.maturity
-replace_month m s =
-    value_said of42.judge (said42.replace_says m) 200 requests42.replace_request refl (groups_said
-    of42.judge (replace_fields42 m) (said42.replace_says m) requests42.replace_request s.items)
-
-replace_date : (m : Replace42) (w : Replace50) → IsReplace m w → SoundReplace42 m
-    → value_at 541 (replace_fields50 w) ≡ option_and_then said50.date_text w.maturity
-replace_date m w written s = value_said of50.judge
-    (said50.replace_says w) 541 requests50.replace_request refl (replace_groups m w written s)
-
-replace_dated : (m : Replace42) (w : Replace50)
-    → IsReplace m w → SoundReplace42 m → IsSaid of50.judge (replace_fields50 w)
-    (of50.row Optional 541 kinds.Day) (option_and_then said50.date_text w.maturity)
-replace_dated m w written s = date_carried (replace_fields42 m) (replace_fields50 w)
-    m.maturity w.maturity written.maturity (replace_month m s) (replace_at m s 21
-    (One (of42.row (When ((Stands 205 ∷ []) ∷ [])) 200 kinds.MonthYear)) refl).spelled (replace_at
-    m s 22 (One (record { tag = 205; kind = of42.DayOf 200; need = Optional })) refl).spelled
+replace_time m s = order_time m.maturity m.time_in_force m.capacity (replace_rows m s)
 
 pub replace_day : (m : Replace42) → SoundReplace42 m → HasShortDay m.maturity
-replace_day m s = carry.short_said (replace_fields42 m) m.maturity (replace_at
-    m s 22 (One (record { tag = 205; kind = of42.DayOf 200; need = Optional })) refl).spelled
+replace_day m s = order_day m.maturity m.time_in_force m.capacity (replace_rows m s)
 
-replace_at40 : (m : Replace42) (w : Replace50) → IsReplace m w
-    → SoundReplace42 m → value_at 40 (replace_fields50 w) ≡ Some (code_text w.ord_type)
-replace_at40 m w written s = value_said of50.judge
-    (said50.replace_says w) 40 requests50.replace_request refl (replace_groups m w written s)
+replace_says : (m : Replace42) (w : Replace50) → IsReplace m w
+    → SaysAlike replace_tables (said42.replace_says m) (said50.replace_says w)
+replace_says m w written = λ i.
+    Some (written.cl_ord_id i) ∷
+    Some (written.orig_id i) ∷
+    written.order_id i ∷
+    written.account i ∷
+    option_map code_text (written.settl_type i) ∷
+    option_map day_text (written.settl_date i) ∷
+    Some (code_text (written.hand_inst i)) ∷
+    written.exec_inst i ∷
+    option_map dec_text (written.min_qty i) ∷
+    option_map dec_text (written.max_floor i) ∷
+    written.ex_destination i ∷
+    Some (written.symbol i) ∷
+    written.symbol_sfx i ∷
+    written.security_id i ∷
+    option_map code_text (written.id_source i) ∷
+    written.security_type i ∷
+    written.security_exchange i ∷
+    Some (code_text (written.side i)) ∷
+    option_map flag_text (written.locate i) ∷
+    Some (stamp_text (written.transact_time i)) ∷
+    Some (dec_text (written.order_qty i)) ∷
+    option_map dec_text (written.price i) ∷
+    option_map dec_text (written.stop_px i) ∷
+    written.currency i ∷
+    option_map stamp_text (written.effective_time i) ∷
+    option_map day_text (written.expire_date i) ∷
+    option_map stamp_text (written.expire_time i) ∷
+    option_map code_text (written.open_close i) ∷
+    written.text i ∷
+    []
 
 pub replace_sound : (m : Replace42) (w : Replace50) → IsReplace m w → SoundReplace42 m
-    → IsSound of50.judge (table50 71 requests50.replace_request) (said50.replace_says w)
+    → IsSound judge (table50 71 requests50.replace_request) (said50.replace_says w)
 replace_sound m w written s =
-    let groups = replace_groups m w written s in
-    let roles = roles_carried m.client_id m.exec_broker m.clearing_firm w.parties written.parties in
-    record {
-      letter = refl;
-      places = refl;
-      counts = refl;
-      items = (
-        required (replace_fields42 m) (replace_fields50 w) kinds.Id 11
-            11 (Some m.cl_ord_id) (Some w.cl_ord_id) (ap (λ (x : List ℕ). Some x) written.cl_ord_id)
-            (replace_at m s 0 (One (of42.row Required 11 kinds.Id)) refl),
-        (
-          required (replace_fields42 m) (replace_fields50 w) kinds.Id
-              41 41 (Some m.orig_id) (Some w.orig_id) (ap (λ (x : List ℕ). Some x) written.orig_id)
-              (replace_at m s 1 (One (of42.row Required 41 kinds.Id)) refl),
-          (
-            optional (replace_fields42 m) (replace_fields50 w) kinds.Id 37 37 m.order_id w.order_id
-                written.order_id (replace_at m s 2 (One (of42.row Optional 37 kinds.Id)) refl),
-            (
-              groups.0,
-              (
-                roles.client,
-                (
-                  roles.broker,
-                  (
-                    roles.firm,
-                    (
-                      optional (replace_fields42 m)
-                          (replace_fields50 w) kinds.Id 1 1 m.account w.account written.account
-                          (replace_at m s 6 (One (of42.row Optional 1 kinds.Id)) refl),
-                      (
-                        groups.1.0,
-                        (
-                          lenient (replace_fields42 m) (replace_fields50 w)
-                              (kinds.Code (codes "0123456789")) 63 63 (option_map
-                              code_text m.settl_type) (option_map code_text w.settl_type)
-                              (ap (λ (x : Option ℕ). option_map code_text x) written.settl_type)
-                              (replace_at m s 8
-                              (One (of42.row Optional 63 (kinds.Code (codes "0123456789")))) refl),
-                          (
-                            optional (replace_fields42 m) (replace_fields50 w)
-                                kinds.Day 64 64 (option_map day_text m.settl_date)
-                                (option_map day_text w.settl_date) (ap
-                                (λ (x : Option DayValue). option_map day_text x) written.settl_date)
-                                (replace_at m s 9 (One (of42.row Optional 64 kinds.Day)) refl),
-                            (
-                              required (replace_fields42 m)
-                                  (replace_fields50 w) (kinds.Code (codes "123")) 21 21
-                                  (Some (code_text m.hand_inst)) (Some (code_text w.hand_inst)) (ap
-                                  (λ (x : ℕ). Some (code_text x)) written.hand_inst) (replace_at m s
-                                  10 (One (of42.row Required 21 (kinds.Code (codes "123")))) refl),
-                              (
-                                lenient (replace_fields42 m) (replace_fields50 w)
-                                    (kinds.Codes (codes "123456G")) 18 18 m.exec_inst
-                                    w.exec_inst written.exec_inst (replace_at m s 11 (One
-                                    (of42.row Optional 18 (kinds.Codes (codes "123456G")))) refl),
-                                (
-                                  optional (replace_fields42 m) (replace_fields50 w)
-                                      kinds.Qty 110 110 (option_map dec_text m.min_qty)
-                                      (option_map dec_text w.min_qty) (ap (λ (x : Option DecValue).
-                                      option_map dec_text x) written.min_qty) (replace_at
-                                      m s 12 (One (of42.row Optional 110 kinds.Qty)) refl),
-                                  (
-                                    optional (replace_fields42 m) (replace_fields50 w)
-                                        kinds.Qty 111 1138 (option_map dec_text m.max_floor)
-                                        (option_map dec_text w.max_floor)
-                                        (ap (λ (x : Option DecValue). option_map dec_text x)
-                                        written.max_floor) (replace_at
-                                        m s 13 (One (of42.row Optional 111 kinds.Qty)) refl),
-                                    (
-                                      optional (replace_fields42 m)
-                                          (replace_fields50 w) kinds.Id 100 100 m.ex_destination
-                                          w.ex_destination written.ex_destination (replace_at
-                                          m s 14 (One (of42.row Optional 100 kinds.Id)) refl),
-                                      (
-                                        groups.1.1.0,
-                                        (
-                                          required (replace_fields42 m) (replace_fields50 w)
-                                              kinds.Id 55 55 (Some m.symbol) (Some w.symbol) (ap
-                                              (λ (x : List ℕ). Some x) written.symbol) (replace_at
-                                              m s 16 (One (of42.row Required 55 kinds.Id)) refl),
-                                          (
-                                            optional (replace_fields42 m)
-                                                (replace_fields50 w) kinds.Id 65 65 m.symbol_sfx
-                                                w.symbol_sfx written.symbol_sfx (replace_at
-                                                m s 17 (One (of42.row Optional 65 kinds.Id)) refl),
-                                            (
-                                              optional (replace_fields42 m)
-                                                  (replace_fields50 w) kinds.Id 48 48 m.security_id
-                                                  w.security_id written.security_id (replace_at m
-                                                  s 18 (One (of42.row Optional 48 kinds.Id)) refl),
-                                              (
-                                                lenient (replace_fields42 m) (replace_fields50 w)
-                                                    (kinds.Code (codes "123456789"))
-                                                    22 22 (option_map code_text m.id_source)
-                                                    (option_map code_text w.id_source)
-                                                    (ap (λ (x : Option ℕ). option_map code_text x)
-                                                    written.id_source)
-                                                    (replace_at m s 19 (One (of42.row Optional
-                                                    22 (kinds.Code (codes "123456789")))) refl),
-                                                (
-                                                  lenient (replace_fields42 m)
-                                                      (replace_fields50 w) (kinds.Word
-                                                      (codes "CS" ∷ codes "PS" ∷ codes "FUT" ∷ []))
-                                                      167 167 m.security_type w.security_type
-                                                      written.security_type (replace_at m s 20 (One
-                                                      (of42.row Optional 167 (kinds.Word (codes "CS"
-                                                      ∷ codes "PS" ∷ codes "FUT" ∷ [])))) refl),
-                                                  (
-                                                    month_carried (replace_fields42 m)
-                                                        (replace_fields50 w) m.maturity w.maturity
-                                                        written.maturity (replace_date m w written
-                                                        s) (replace_dated m w written s).spelled
-                                                        (replace_at m s 21 (One
-                                                        (of42.row (When ((Stands 205 ∷ []) ∷ []))
-                                                        200 kinds.MonthYear)) refl).spelled,
-                                                    (
-                                                      replace_dated m w written s,
-                                                      (
-                                                        optional (replace_fields42 m)
-                                                            (replace_fields50 w) kinds.Id 207 207
-                                                            m.security_exchange w.security_exchange
-                                                            written.security_exchange
-                                                            (replace_at m s 23 (One
-                                                            (of42.row Optional 207 kinds.Id)) refl),
-                                                        (
-                                                          required (replace_fields42 m)
-                                                              (replace_fields50 w)
-                                                              (kinds.Code (codes "123456"))
-                                                              54 54 (Some (code_text m.side))
-                                                              (Some (code_text w.side))
-                                                              (ap (λ (x : ℕ). Some (code_text x))
-                                                              written.side) (replace_at
-                                                              m s 24 (One (of42.row Required 54
-                                                              (kinds.Code (codes "123456")))) refl),
-                                                          (
-                                                            optional (replace_fields42 m)
-                                                                (replace_fields50 w) kinds.Flag 114
-                                                                114 (option_map flag_text m.locate)
-                                                                (option_map flag_text w.locate)
-                                                                (ap (λ (x : Option FlagValue).
-                                                                option_map flag_text x)
-                                                                written.locate)
-                                                                (replace_at m s 25 (One (of42.row
-                                                                Optional 114 kinds.Flag)) refl),
-                                                            (
-                                                              required (replace_fields42 m)
-                                                                  (replace_fields50 w) kinds.Stamp
-                                                                  60 60 (Some (stamp_text
-                                                                  m.transact_time)) (Some
-                                                                  (stamp_text w.transact_time))
-                                                                  (ap (λ (x : StampValue).
-                                                                  Some (stamp_text x))
-                                                                  written.transact_time)
-                                                                  (replace_at m s 26 (One (of42.row
-                                                                  Required 60 kinds.Stamp)) refl),
-                                                              (
-                                                                required (replace_fields42 m)
-                                                                    (replace_fields50 w)
-                                                                    kinds.Qty 38
-                                                                    38 (Some (dec_text m.order_qty))
-                                                                    (Some (dec_text w.order_qty))
-                                                                    (ap (λ (x : DecValue). Some
-                                                                    (dec_text x)) written.order_qty)
-                                                                    (replace_at
-                                                                    m s 27 (One (of42.row
-                                                                    Required 38 kinds.Qty)) refl),
-                                                                (
-                                                                  carry.type_said (replace_fields50
-                                                                      w) w.ord_type
-                                                                      written.terms.on_close.listed,
-                                                                  (
-                                                                    optional (replace_fields42 m)
-                                                                        (replace_fields50 w)
-                                                                        kinds.Price
-                                                                        44 44 (option_map dec_text
-                                                                        m.price) (option_map
-                                                                        dec_text w.price) (ap
-                                                                        (λ (x : Option DecValue).
-                                                                        option_map dec_text x)
-                                                                        written.price) (replace_at m
-                                                                        s 29 (One (of42.row Optional
-                                                                        44 kinds.Price)) refl),
-                                                                    (
-                                                                      optional (replace_fields42 m)
-                                                                          (replace_fields50 w)
-                                                                          kinds.Price
-                                                                          99 99 (option_map dec_text
-                                                                          m.stop_px) (option_map
-                                                                          dec_text w.stop_px) (ap
-                                                                          (λ (x : Option DecValue).
-                                                                          option_map dec_text x)
-                                                                          written.stop_px)
-                                                                          (replace_at m s
-                                                                          30 (One (of42.row Optional
-                                                                          99 kinds.Price)) refl),
-                                                                      (
-                                                                        optional (replace_fields42
-                                                                            m) (replace_fields50 w)
-                                                                            kinds.Currency 15
-                                                                            15 m.currency w.currency
-                                                                            written.currency
-                                                                            (replace_at m s 31 (One
-                                                                            (of42.row Optional 15
-                                                                            kinds.Currency)) refl),
-                                                                        (
-                                                                          carry.time_said
-                                                                              (replace_fields50 w)
-                                                                              w.ord_type
-                                                                              w.time_in_force
-                                                                              (replace_at40
-                                                                              m w written s)
-                                                                              written.terms.on_close.timely,
-                                                                          (
-                                                                            optional
-                                                                                (replace_fields42 m)
-                                                                                (replace_fields50 w)
-                                                                                kinds.Stamp
-                                                                                168 168 (option_map
-                                                                                stamp_text
-                                                                                m.effective_time)
-                                                                                (option_map
-                                                                                stamp_text
-                                                                                w.effective_time)
-                                                                                (ap (λ (x : Option
-                                                                                StampValue).
-                                                                                option_map
-                                                                                stamp_text x)
-                                                                                written.effective_time)
-                                                                                (replace_at m
-                                                                                s 33 (One (of42.row
-                                                                                Optional 168
-                                                                                kinds.Stamp)) refl),
-                                                                            (
-                                                                              optional
-                                                                                  (replace_fields42
-                                                                                  m)
-                                                                                  (replace_fields50
-                                                                                  w) kinds.Day 432
-                                                                                  432 (option_map
-                                                                                  day_text
-                                                                                  m.expire_date)
-                                                                                  (option_map
-                                                                                  day_text
-                                                                                  w.expire_date)
-                                                                                  (ap (λ (x : Option
-                                                                                  DayValue).
-                                                                                  option_map
-                                                                                  day_text x)
-                                                                                  written.expire_date)
-                                                                                  (replace_at m s
-                                                                                  34 (One (of42.row
-                                                                                  Optional 432
-                                                                                  kinds.Day)) refl),
-                                                                              (
-                                                                                optional
-                                                                                    (replace_fields42
-                                                                                    m)
-                                                                                    (replace_fields50
-                                                                                    w)
-                                                                                    kinds.Stamp 126
-                                                                                    126 (option_map
-                                                                                    stamp_text
-                                                                                    m.expire_time)
-                                                                                    (option_map
-                                                                                    stamp_text
-                                                                                    w.expire_time)
-                                                                                    (ap
-                                                                                    (λ (x : Option
-                                                                                    StampValue).
-                                                                                    option_map
-                                                                                    stamp_text x)
-                                                                                    written.expire_time)
-                                                                                    (replace_at
-                                                                                    m s 35
-                                                                                    (One (of42.row
-                                                                                    Optional 126
-                                                                                    kinds.Stamp))
-                                                                                    refl),
-                                                                                (
-                                                                                  carry.capacity_carried
-                                                                                      (replace_fields50
-                                                                                      w) m.capacity
-                                                                                      w.capacity
-                                                                                      written.terms.capacity
-                                                                                      written.terms.said,
-                                                                                  (
-                                                                                    lenient
-                                                                                        (replace_fields42
-                                                                                        m)
-                                                                                        (replace_fields50
-                                                                                        w)
-                                                                                        (kinds.Code
-                                                                                        (codes
-                                                                                        "OC")) 77 77
-                                                                                        (option_map
-                                                                                        code_text
-                                                                                        m.open_close)
-                                                                                        (option_map
-                                                                                        code_text
-                                                                                        w.open_close)
-                                                                                        (ap (λ (x :
-                                                                                        Option ℕ).
-                                                                                        option_map
-                                                                                        code_text x)
-                                                                                        written.open_close)
-                                                                                        (replace_at
-                                                                                        m s 37 (One
-                                                                                        (of42.row
-                                                                                        Optional 77
-                                                                                        (kinds.Code
-                                                                                        (codes
-                                                                                        "OC"))))
-                                                                                        refl),
-                                                                                    (
-                                                                                      optional
-                                                                                          (replace_fields42
-                                                                                          m)
-                                                                                          (replace_fields50
-                                                                                          w)
-                                                                                          kinds.Text
-                                                                                          58
-                                                                                          58 m.text
-                                                                                          w.text
-                                                                                          written.text
-                                                                                          (replace_at
-                                                                                          m
-                                                                                          s 38 (One
-                                                                                          (of42.row
-                                                                                          Optional
-                                                                                          58
-                                                                                          kinds.Text))
-                                                                                          refl),
-                                                                                      tt,
-                                                                                    ),
-                                                                                  ),
-                                                                                ),
-                                                                              ),
-                                                                            ),
-                                                                          ),
-                                                                        ),
-                                                                      ),
-                                                                    ),
-                                                                  ),
-                                                                ),
-                                                              ),
-                                                            ),
-                                                          ),
-                                                        ),
-                                                      ),
-                                                    ),
-                                                  ),
-                                                ),
-                                              ),
-                                            ),
-                                          ),
-                                        ),
-                                      ),
-                                    ),
-                                  ),
-                                ),
-                              ),
-                            ),
-                          ),
-                        ),
-                      ),
-                    ),
-                  ),
-                ),
-              ),
-            ),
-          ),
-        ),
-      );
-    }
+    let t = replace_tables in
+    let here = said42.replace_says m in
+    let there = said50.replace_says w in
+    let at200 = at42 t here s 200 refl in
+    let apart = order_items (replace_rows m s) written.parties written.allocs written.sessions
+    written.maturity written.terms at200 (at50 t there 541 refl) (at50 t there 40 refl) in
+    let tables : GoUp t.items42 t.items50 = record { plain = refl; same = refl } in
+    let items = items_sound t here there tables (replace_says m w written) s apart in
+    record { letter = refl; places = refl; counts = refl; items = items }
 
-abbrev status_fields42 : Status42 → List Field
-status_fields42 m = content (table42 72 requests42.status_request) (said42.status_says m)
+-- ---- a request for the state of an order
 
-abbrev status_fields50 : Status50 → List Field
-status_fields50 w = content (table50 72 requests50.status_request) (said50.status_says w)
+abbrev status_tables : Tables
+status_tables = record {
+  letter = 72;
+  items42 = requests42.status_request;
+  items50 = requests50.status_request;
+}
 
 abbrev SoundStatus42 : Status42 → Type 0
-SoundStatus42 m = IsSound of42.judge (table42 72 requests42.status_request) (said42.status_says m)
+SoundStatus42 m = IsSoundIn42 status_tables (said42.status_says m)
 
-status_at : (m : Status42) → SoundStatus42 m
-    → (i : ℕ) (item : Item of42.Kind42) → slice_get requests42.status_request i ≡ Some item →
-    IsItem of42.judge (status_fields42 m) (said42.status_says m) item
-status_at m s i item e = item_at (IsItem of42.judge (status_fields42 m) (said42.status_says m))
-    i requests42.status_request item e s.items
-
-status_groups : (m : Status42) (w : Status50) → IsStatus m w → SoundStatus42 m → AllByRecursion
-    (GroupSaid of50.judge (said50.status_says w)) (flat_map groups_of requests50.status_request)
-status_groups m w written s = (
-  parties_carried m.client_id m.exec_broker None w.parties written.parties
-      (party_id (status_fields42 m)
-      109 m.client_id (status_at m s 2 (One (of42.row Optional 109 kinds.Id)) refl))
-      (party_id (status_fields42 m)
-      76 m.exec_broker (status_at m s 3 (One (of42.row Optional 76 kinds.Id)) refl))
-      tt,
-  tt,
-)
-
-status_month : (m : Status42)
-    → SoundStatus42 m → value_at 200 (status_fields42 m) ≡ option_map said42.month_text m.maturity
-status_month m s =
-    value_said of42.judge (said42.status_says m) 200 requests42.status_request refl (groups_said
-    of42.judge (status_fields42 m) (said42.status_says m) requests42.status_request s.items)
-
-status_date : (m : Status42) (w : Status50) → IsStatus m w → SoundStatus42 m
-    → value_at 541 (status_fields50 w) ≡ option_and_then said50.date_text w.maturity
-status_date m w written s = value_said of50.judge
-    (said50.status_says w) 541 requests50.status_request refl (status_groups m w written s)
-
-status_dated : (m : Status42) (w : Status50)
-    → IsStatus m w → SoundStatus42 m → IsSaid of50.judge (status_fields50 w)
-    (of50.row Optional 541 kinds.Day) (option_and_then said50.date_text w.maturity)
-status_dated m w written s = date_carried (status_fields42 m)
-    (status_fields50 w) m.maturity w.maturity written.maturity (status_month m s) (status_at m s
-    10 (One (of42.row (When ((Stands 205 ∷ []) ∷ [])) 200 kinds.MonthYear)) refl).spelled (status_at
-    m s 11 (One (record { tag = 205; kind = of42.DayOf 200; need = Optional })) refl).spelled
+status_rows : (m : Status42) → SoundStatus42 m
+    → ReferRows (fields_of42 status_tables (said42.status_says m))
+    m.client_id m.exec_broker m.maturity
+status_rows m s = apart_of status_tables (said42.status_says m) s
 
 pub status_day : (m : Status42) → SoundStatus42 m → HasShortDay m.maturity
-status_day m s = carry.short_said (status_fields42 m) m.maturity (status_at
-    m s 11 (One (record { tag = 205; kind = of42.DayOf 200; need = Optional })) refl).spelled
+status_day m s = refer_day m.maturity (status_rows m s)
+
+status_says : (m : Status42) (w : Status50) → IsStatus m w
+    → SaysAlike status_tables (said42.status_says m) (said50.status_says w)
+status_says m w written = λ i.
+    Some (written.cl_ord_id i) ∷
+    written.order_id i ∷
+    written.account i ∷
+    Some (written.symbol i) ∷
+    written.symbol_sfx i ∷
+    written.security_id i ∷
+    option_map code_text (written.id_source i) ∷
+    written.security_type i ∷
+    written.security_exchange i ∷
+    Some (code_text (written.side i)) ∷
+    []
 
 pub status_sound : (m : Status42) (w : Status50) → IsStatus m w → SoundStatus42 m
-    → IsSound of50.judge (table50 72 requests50.status_request) (said50.status_says w)
+    → IsSound judge (table50 72 requests50.status_request) (said50.status_says w)
 status_sound m w written s =
-    let groups = status_groups m w written s in
-    let roles = roles_carried m.client_id m.exec_broker None w.parties written.parties in
-    record {
-      letter = refl;
-      places = refl;
-      counts = refl;
-      items = (
-        required (status_fields42 m) (status_fields50 w) kinds.Id 11
-            11 (Some m.cl_ord_id) (Some w.cl_ord_id) (ap (λ (x : List ℕ). Some x) written.cl_ord_id)
-            (status_at m s 0 (One (of42.row Required 11 kinds.Id)) refl),
-        (
-          optional (status_fields42 m) (status_fields50 w) kinds.Id 37 37 m.order_id w.order_id
-              written.order_id (status_at m s 1 (One (of42.row Optional 37 kinds.Id)) refl),
-          (
-            groups.0,
-            (
-              roles.client,
-              (
-                roles.broker,
-                (
-                  optional (status_fields42 m) (status_fields50 w) kinds.Id 1 1 m.account w.account
-                      written.account (status_at m s 4 (One (of42.row Optional 1 kinds.Id)) refl),
-                  (
-                    required (status_fields42 m) (status_fields50 w) kinds.Id 55 55
-                        (Some m.symbol) (Some w.symbol) (ap (λ (x : List ℕ). Some x) written.symbol)
-                        (status_at m s 5 (One (of42.row Required 55 kinds.Id)) refl),
-                    (
-                      optional (status_fields42 m) (status_fields50 w)
-                          kinds.Id 65 65 m.symbol_sfx w.symbol_sfx written.symbol_sfx
-                          (status_at m s 6 (One (of42.row Optional 65 kinds.Id)) refl),
-                      (
-                        optional (status_fields42 m) (status_fields50 w)
-                            kinds.Id 48 48 m.security_id w.security_id written.security_id
-                            (status_at m s 7 (One (of42.row Optional 48 kinds.Id)) refl),
-                        (
-                          lenient (status_fields42 m)
-                              (status_fields50 w) (kinds.Code (codes "123456789")) 22 22
-                              (option_map code_text m.id_source) (option_map code_text w.id_source)
-                              (ap (λ (x : Option ℕ). option_map code_text x) written.id_source)
-                              (status_at m s
-                              8 (One (of42.row Optional 22 (kinds.Code (codes "123456789")))) refl),
-                          (
-                            lenient (status_fields42 m) (status_fields50 w)
-                                (kinds.Word (codes "CS" ∷ codes "PS" ∷ codes "FUT" ∷ []))
-                                167 167 m.security_type w.security_type
-                                written.security_type (status_at m s 9 (One (of42.row Optional 167
-                                (kinds.Word (codes "CS" ∷ codes "PS" ∷ codes "FUT" ∷ [])))) refl),
-                            (
-                              month_carried (status_fields42 m)
-                                  (status_fields50 w) m.maturity w.maturity written.maturity
-                                  (status_date m w written s) (status_dated m w written s).spelled
-                                  (status_at m s 10 (One (of42.row (When ((Stands 205 ∷ []) ∷ []))
-                                  200 kinds.MonthYear)) refl).spelled,
-                              (
-                                status_dated m w written s,
-                                (
-                                  optional (status_fields42 m)
-                                      (status_fields50 w) kinds.Id 207 207 m.security_exchange
-                                      w.security_exchange written.security_exchange (status_at
-                                      m s 12 (One (of42.row Optional 207 kinds.Id)) refl),
-                                  (
-                                    required (status_fields42 m)
-                                        (status_fields50 w) (kinds.Code (codes "123456"))
-                                        54 54 (Some (code_text m.side)) (Some (code_text w.side))
-                                        (ap (λ (x : ℕ). Some (code_text x)) written.side)
-                                        (status_at m s 13 (One
-                                        (of42.row Required 54 (kinds.Code (codes "123456")))) refl),
-                                    tt,
-                                  ),
-                                ),
-                              ),
-                            ),
-                          ),
-                        ),
-                      ),
-                    ),
-                  ),
-                ),
-              ),
-            ),
-          ),
-        ),
-      );
-    }
+    let t = status_tables in
+    let here = said42.status_says m in
+    let there = said50.status_says w in
+    let at200 = at42 t here s 200 refl in
+    let apart = refer_items (status_rows m s) written.parties written.maturity
+    at200 (at50 t there 541 refl) in
+    let tables : GoUp t.items42 t.items50 = record { plain = refl; same = refl } in
+    let items = items_sound t here there tables (status_says m w written) s apart in
+    record { letter = refl; places = refl; counts = refl; items = items }
+
+-- ---- behind the message that is matched
 
 pub new_whole : (msg : Msg42) (m : New42) → msg ≡ messages.New m → IsSound42 msg → SoundNew42 m
 new_whole msg m is s = let P : Msg42 → Type 0 = λ x. IsSound42 x in subst P is s
 
 pub new_kept_sound : (msg : Msg42) (m : New42) (w : New50)
     → msg ≡ messages.New m → IsSound42 msg → IsNew m w →
-    IsSound of50.judge (table50 68 requests50.new_order) (said50.new_says w)
+    IsSound judge (table50 68 requests50.new_order) (said50.new_says w)
 new_kept_sound msg m w is s written = new_sound m w written (new_whole msg m is s)
 
 pub new_type_of : (msg : Msg42) (m : New42)
@@ -1270,7 +587,7 @@ cancel_whole msg m is s = let P : Msg42 → Type 0 = λ x. IsSound42 x in subst 
 
 pub cancel_kept_sound : (msg : Msg42) (m : Cancel42) (w : Cancel50)
     → msg ≡ messages.Cancel m → IsSound42 msg → IsCancel m w →
-    IsSound of50.judge (table50 70 requests50.cancel_request) (said50.cancel_says w)
+    IsSound judge (table50 70 requests50.cancel_request) (said50.cancel_says w)
 cancel_kept_sound msg m w is s written = cancel_sound m w written (cancel_whole msg m is s)
 
 pub replace_whole : (msg : Msg42) (m : Replace42)
@@ -1279,7 +596,7 @@ replace_whole msg m is s = let P : Msg42 → Type 0 = λ x. IsSound42 x in subst
 
 pub replace_kept_sound : (msg : Msg42) (m : Replace42) (w : Replace50)
     → msg ≡ messages.Replace m → IsSound42 msg → IsReplace m w →
-    IsSound of50.judge (table50 71 requests50.replace_request) (said50.replace_says w)
+    IsSound judge (table50 71 requests50.replace_request) (said50.replace_says w)
 replace_kept_sound msg m w is s written = replace_sound m w written (replace_whole msg m is s)
 
 pub replace_type_of : (msg : Msg42) (m : Replace42)
@@ -1296,5 +613,5 @@ status_whole msg m is s = let P : Msg42 → Type 0 = λ x. IsSound42 x in subst 
 
 pub status_kept_sound : (msg : Msg42) (m : Status42) (w : Status50)
     → msg ≡ messages.Status m → IsSound42 msg → IsStatus m w →
-    IsSound of50.judge (table50 72 requests50.status_request) (said50.status_says w)
+    IsSound judge (table50 72 requests50.status_request) (said50.status_says w)
 status_kept_sound msg m w is s written = status_sound m w written (status_whole msg m is s)

@@ -12,11 +12,11 @@ use Rattle.typed_fields.specs.declared.fault.FieldFault.{FieldFault}
 use Rattle.typed_fields.specs.declared.fault.FieldFault.TheVariants.{Form, Range}
 use Rattle.typed_fields.specs.declared.number.Number.{Number as NumberValue}
 use Rattle.typed_fields.specs.declared.dec.Dec.{Dec}
-use Rattle.typed_fields.specs.ValueKind.{ValueKind, Filled, Id, Text, OneByte, Code, Known, Codes}
-use Rattle.typed_fields.specs.ValueKind.{Word, Currency, Flag, Number, Reason, Qty, Price, Stamp}
-use Rattle.typed_fields.specs.ValueKind.{Day, MonthYear, DayOfMonth, Spelling, spelling, spelt}
-use Rattle.typed_fields.specs.ValueKind.{if_in_range, formed, listed_word, is_code, are_parted}
-use Rattle.typed_fields.specs.ValueKind.{are_codes}
+use Rattle.row_values.specs.ValueKind.{ValueKind, Filled, Id, Text, OneByte, Code, Known, Codes}
+use Rattle.row_values.specs.ValueKind.{Word, Currency, Flag, Number, Reason, Qty, Price, Stamp}
+use Rattle.row_values.specs.ValueKind.{Day, MonthYear, DayOfMonth, Spelling, spelling, spelt}
+use Rattle.row_values.specs.ValueKind.{if_in_range, formed, listed_word, is_code, are_parted}
+use Rattle.row_values.specs.ValueKind.{are_codes}
 use Rattle.typed_fields.specs.Number.{read_number, number_text}
 use Rattle.typed_fields.specs.Dec.{read_dec, dec_text, has_minus, whole_digits, fraction_digits}
 use Rattle.typed_fields.specs.Dec.{whole_part, fraction_part, with_point, sign_text}

@@ -6,16 +6,14 @@ use Rattle.std.specs.Fmt.{decimal}
 use Rattle.std.specs.List.{AllByRecursion, flat_map}
 use Rattle.std.proofs.lemmas.Bool.{eqb-true}
 use Rattle.std.proofs.lemmas.Bool.Decides.{nat_tests}
-use Rattle.field_groups.specs.declared.table_fault.TableFault.TheVariants as faults
-use Rattle.field_groups.specs.declared.table_fault.Mark.TheVariants as marks
 use Rattle.field_groups.specs.Field.{Field}
-use Rattle.field_groups.specs.Tables.{Row, Item, One, Party, Lines}
-use Rattle.field_groups.specs.Tables.{Judge, Message, Cell, Said, Place, Tag}
-use Rattle.field_groups.specs.Tables.{first_of, has_tag, is_one_of}
-use Rattle.field_groups.specs.Tables.{tags_of, said_at}
-use Rattle.field_groups.specs.Tables.{lines_of}
-use Rattle.field_groups.specs.FirstFault.{placed_from, twice}
-use Rattle.field_groups.specs.Content.{cell_fields, line_fields, group_fields, item_fields}
+use Rattle.message_tables.specs.Tables.{Row, Item, One, Party, Lines}
+use Rattle.message_tables.specs.Tables.{Judge, Message, Cell, Said, Place, Tag}
+use Rattle.message_tables.specs.Tables.{first_of, has_tag, is_one_of}
+use Rattle.message_tables.specs.Tables.{tags_of, said_at}
+use Rattle.message_tables.specs.Tables.{lines_of}
+use Rattle.message_tables.specs.FirstFault.{placed_from, twice}
+use Rattle.message_tables.specs.Content.{cell_fields, line_fields, group_fields, item_fields}
 use Rattle.request_translate.specs.Sound.{AreSaid, IsLine, IsItem}
 use Rattle.request_translate.proofs.Each.{are_apart, both, either, not_true, each_joined}
 use Rattle.request_translate.proofs.Each.{same_number}

@@ -5,21 +5,21 @@ use Rattle.std.specs.Prelude.{IsSome, IfSome, not, ◌&&◌, ◌||◌}
 use Rattle.std.specs.Fmt.{decimal}
 use Rattle.std.specs.List.{AllByRecursion, flat_map}
 use Rattle.std.proofs.lemmas.Fmt.{decimal_nonempty}
-use Rattle.field_groups.specs.declared.table_fault.TableFault.{TableFault}
-use Rattle.field_groups.specs.declared.table_fault.TableFault.TheVariants as faults
-use Rattle.field_groups.specs.declared.table_fault.Mark.{Mark}
-use Rattle.field_groups.specs.declared.table_fault.Mark.TheVariants as marks
+use Rattle.message_tables.specs.declared.table_fault.TableFault.{TableFault}
+use Rattle.message_tables.specs.declared.table_fault.TableFault.TheVariants as faults
+use Rattle.message_tables.specs.declared.table_fault.Mark.{Mark}
+use Rattle.message_tables.specs.declared.table_fault.Mark.TheVariants as marks
 use Rattle.field_groups.specs.Field.{Field}
-use Rattle.field_groups.specs.Tables.{Verdict, Spells, Need, Required, Optional, Lenient, Fixed}
-use Rattle.field_groups.specs.Tables.{When, Row, RepeatingGroup, Item, One, Party, Lines, Table}
-use Rattle.field_groups.specs.Tables.{Judge, Message, Cell, Said, Place, Tag, Role, or_else}
-use Rattle.field_groups.specs.Tables.{first_of, value_at, has_tag, is_one_of, is_needed, row_at}
-use Rattle.field_groups.specs.Tables.{all_rows, tags_of, said_at, lines_of}
-use Rattle.field_groups.specs.Tables.{says, cell_of, group_says, party_in, cells_of}
-use Rattle.field_groups.specs.FirstFault.{Marked, fault_if, marked, allowed, mark_of, by_row}
-use Rattle.field_groups.specs.FirstFault.{without_row, is_passed, missing, missing_of}
-use Rattle.field_groups.specs.Content.{cell_fields, line_fields, group_fields, item_fields}
-use Rattle.field_groups.proofs.Clean.{value_at-none}
+use Rattle.message_tables.specs.Tables.{Verdict, Spells, Need, Required, Optional, Lenient, Fixed}
+use Rattle.message_tables.specs.Tables.{When, Row, RepeatingGroup, Item, One, Party, Lines, Table}
+use Rattle.message_tables.specs.Tables.{Judge, Message, Cell, Said, Place, Tag, Role, or_else}
+use Rattle.message_tables.specs.Tables.{first_of, value_at, has_tag, is_one_of, is_needed, row_at}
+use Rattle.message_tables.specs.Tables.{all_rows, tags_of, said_at, lines_of}
+use Rattle.message_tables.specs.Tables.{says, cell_of, group_says, party_in, cells_of}
+use Rattle.message_tables.specs.FirstFault.{Marked, fault_if, marked, allowed, mark_of, by_row}
+use Rattle.message_tables.specs.FirstFault.{without_row, is_passed, missing, missing_of}
+use Rattle.message_tables.specs.Content.{cell_fields, line_fields, group_fields, item_fields}
+use Rattle.message_tables.proofs.Clean.{value_at-none}
 use Rattle.request_translate.specs.Sound.{AreSaid, IsLine, IsGroup, IsItem}
 use Rattle.request_translate.proofs.Each.{are_apart, both, not_true, each_joined, each_none}
 use Rattle.request_translate.proofs.Each.{same_number}

@@ -9,8 +9,9 @@ use Rattle.std.proofs.lemmas.List.{length-append}
 use Rattle.std.proofs.lemmas.Slice.Eq.{bytes_eq-Decides}
 use Rattle.frame_grammar.specs.Frame.{IsWritable}
 use Rattle.field_groups.specs.Field.{Field, body_of, field_bytes}
-use Rattle.field_groups.specs.Tables.{Message}
-use Rattle.dict_fix42.specs.Message.{message42, message_by, table}
+use Rattle.message_tables.specs.Tables.{Message}
+use Rattle.dict_fix42.specs.Message.{message42, table}
+use Rattle.row_values.specs.Faults.{message_by}
 use Rattle.dict_fix42.specs.Requests.{new_order, cancel_request, replace_request, status_request}
 
 last_append : (xs ys : List ℕ)

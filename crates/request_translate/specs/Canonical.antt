@@ -1,8 +1,8 @@
 -- Own: the one content in which a request is written in FIX 5.0 SP2.
 use Rattle.std.specs.Prelude.{◌≡◌, ℕ, List, map}
-use Rattle.field_groups.specs.Tables.{Tag, Role, Item, Cell, Said, Message, said_at, lines_of}
-use Rattle.field_groups.specs.Content.{content}
-use Rattle.dict_fix50.specs.Kinds.{Kind50, judge}
+use Rattle.message_tables.specs.Tables.{Tag, Role, Item, Cell, Said, Message, said_at, lines_of}
+use Rattle.message_tables.specs.Content.{content}
+use Rattle.row_values.specs.Kinds.{Kind, judge}
 use Rattle.dict_fix50.specs.Message.{table, month_by}
 use Rattle.dict_fix50.specs.Requests as requests
 use Rattle.dict_fix50.specs.Said as said50
@@ -11,14 +11,15 @@ use Rattle.dict_fix50.specs.declared.requests.Msg50.{Msg50}
 use Rattle.dict_fix50.specs.declared.requests.Msg50.TheVariants as messages
 use Rattle.request_translate.specs.Sound.{IsSound}
 use Rattle.request_translate.specs.Written.{parties_up}
+use Rattle.row_values.specs.Lines as row_lines
 
 -- the lines of the parties of the roles 3, 1 and 4
 abbrev pub party_lines : Said → Said → Said → List (List Cell)
-party_lines client broker firm = map said50.party_cells (parties_up client broker firm)
+party_lines client broker firm = map row_lines.party_cells (parties_up client broker firm)
 
 -- A CANONICAL request: it is sound, its month is that of its date where it has one, and its parties
 -- are those of the roles 3, 1 and 4, once each and in this order.
-pub record IsCanonical (letter : ℕ) (items : List (Item Kind50)) (m : Message) : Type 0 where
+pub record IsCanonical (letter : ℕ) (items : List (Item Kind)) (m : Message) : Type 0 where
   pub sound : IsSound judge (table letter items) m
   pub month : said_at m.cells (Tag 200)
       ≡ month_by (said_at m.cells (Tag 541)) (said_at m.cells (Tag 200))
@@ -32,7 +33,7 @@ IsCanonical50 (messages.Replace m) = IsCanonical 71 requests.replace_request (sa
 IsCanonical50 (messages.Status m) = IsCanonical 72 requests.status_request (said50.status_says m)
 
 -- canonical requests of a type that mean the same have the same content
-abbrev pub HaveOneContent : ℕ → List (Item Kind50) → Type 0
+abbrev pub HaveOneContent : ℕ → List (Item Kind) → Type 0
 HaveOneContent letter items =
     (m n : Message) → IsCanonical letter items m → IsCanonical letter items n →
     request50 m ≡ request50 n → content (table letter items) m ≡ content (table letter items) n

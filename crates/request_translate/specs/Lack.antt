@@ -3,7 +3,7 @@
 use Rattle.std.specs.Prelude.{◌≡◌, ◌≢◌, ℕ, Bool, true, false, not, List, codes, Option, Some, None}
 use Rattle.std.specs.Prelude.{if◌then◌else◌}
 use Rattle.field_groups.specs.Field.{Field}
-use Rattle.field_groups.specs.Tables.{◌>>=◌, is_one_of}
+use Rattle.message_tables.specs.Tables.{◌>>=◌, is_one_of}
 use Rattle.order_meaning.specs.declared.fault.Lack.{Lack}
 use Rattle.order_meaning.specs.declared.fault.Lack.TheVariants as lacks
 use Rattle.order_meaning.specs.Request.{Request, OrderType, MarketOnClose, LimitOnClose}

@@ -1,14 +1,24 @@
 -- Own: what holds of the translations of requests.
-use Rattle.std.specs.Prelude.{◌≡◌, ℕ, List, None, Result, IfSome}
+use Rattle.std.specs.Prelude.{◌≡◌, ℕ, false, List, [], ◌∷◌, None, Result, Ok, IfSome}
 use Rattle.frame_grammar.specs.declared.frame.Kind.TheVariants.{Fix42, Fixt11}
 use Rattle.frame_grammar.specs.Frame.{IsFrame}
-use Rattle.field_groups.specs.Field.{Field}
+use Rattle.field_groups.specs.Field.{Field, AreFields}
+use Rattle.message_tables.specs.Tables.{Message}
+use Rattle.dict_fix42.specs.Content.{content42}
+use Rattle.dict_fix42.specs.Message.{message42}
+use Rattle.dict_fix42.specs.Said.{says as says42}
+use Rattle.dict_fix42.specs.declared.requests.Msg42.{Msg42}
+use Rattle.dict_fix50.specs.Content.{content50}
+use Rattle.dict_fix50.specs.Message.{message50}
+use Rattle.dict_fix50.specs.Said.{says as says50}
+use Rattle.dict_fix50.specs.declared.requests.Msg50.{Msg50}
 use Rattle.dict_fix50.specs.Sense.{sense50}
 use Rattle.dict_fix50.specs.Requests.{new_order, cancel_request, replace_request, status_request}
-use Rattle.request_translate.specs.Canonical.{HaveOneContent}
+use Rattle.request_translate.specs.Canonical.{HaveOneContent, IsCanonical50}
 use Rattle.request_translate.specs.declared.translate.TranslateError.{TranslateError}
 use Rattle.request_translate.specs.Lack.{lack_of}
 use Rattle.request_translate.specs.Translation.{IsOutcome, IsTranslation, KeepSense}
+use Rattle.request_translate.specs.Up.{IsSound42}
 
 -- what a message of FIX 5.0 SP2 means lacks nothing there
 abbrev pub LacksNothing : Type 0
@@ -32,3 +42,26 @@ OneOutcome = (body : List ℕ) (a b : Result (List ℕ) TranslateError)
 abbrev pub FramesKeepSense : Type 0
 FramesKeepSense = (body input text : List ℕ) → IsFrame Fix42 body input → IsTranslation body text
     → (other up : List ℕ) → IsFrame Fix42 other input → IsFrame Fixt11 up text → KeepSense other up
+
+-- what a content says of a message: all but PossResend, which stands in the header
+abbrev pub without_resend : Message → Message
+without_resend m = record m { resend = false }
+
+-- what is written of a sound message is read again: its content, under its type, is at no fault and
+-- says what the message says
+abbrev pub IsReadAgain42 : Msg42 → Type 0
+IsReadAgain42 m = IsSound42 m
+    → message42 ((says42 m).letter ∷ []) (content42 m) None ≡ Ok (without_resend (says42 m))
+
+abbrev pub IsReadAgain50 : Msg50 → Type 0
+IsReadAgain50 m = IsCanonical50 m
+    → message50 ((says50 m).letter ∷ []) (content50 m) None ≡ Ok (without_resend (says50 m))
+
+pub record WrittenIsReadAgain : Type 0 where
+  pub fix42 : (m : Msg42) → IsReadAgain42 m
+  pub fix50 : (m : Msg50) → IsReadAgain50 m
+
+-- what is read of the fields of a body of FIX 4.2 is sound
+abbrev pub ReadIsSound : Type 0
+ReadIsSound = (msg_type : List ℕ) (fields : List Field) (m : Msg42) → AreFields None fields
+    → message42 msg_type fields None ≡ Ok (says42 m) → IsSound42 m

@@ -1,6 +1,7 @@
 pub mod Canonical
 pub mod Lack
 pub mod Laws
+pub mod Plain
 pub mod Sound
 pub mod Translation
 pub mod Up

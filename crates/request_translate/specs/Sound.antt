@@ -2,11 +2,12 @@
 use Rattle.std.specs.Prelude.{◌≡◌, ◌≤◌, ℕ, true, false, List, [], ◌∷◌, map, length, IsSome, IfSome}
 use Rattle.std.specs.List.{AllByRecursion, flat_map, list_any}
 use Rattle.field_groups.specs.Field.{Field, is_soh}
-use Rattle.field_groups.specs.Tables.{Spells, Judge, Row, RepeatingGroup, Item, One, Party, Lines}
-use Rattle.field_groups.specs.Tables.{Table, Place, Tag, Role, Said, Cell, Message, says, is_needed}
-use Rattle.field_groups.specs.Tables.{said_at, lines_of, party_in, groups_in}
-use Rattle.field_groups.specs.FirstFault.{most_lines}
-use Rattle.field_groups.specs.Content.{line_fields, content}
+use Rattle.message_tables.specs.Tables.{Spells, Judge, Row, RepeatingGroup, Item, One, Party, Lines}
+use Rattle.message_tables.specs.Tables.{Table, Place, Tag, Role, Said, Cell, Message, says}
+use Rattle.message_tables.specs.Tables.{is_needed}
+use Rattle.message_tables.specs.Tables.{said_at, lines_of, party_in, groups_in}
+use Rattle.message_tables.specs.FirstFault.{most_lines}
+use Rattle.message_tables.specs.Content.{line_fields, content}
 
 -- bytes without SOH
 abbrev pub IsClear : List ℕ → Type 0

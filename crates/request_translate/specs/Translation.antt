@@ -8,8 +8,8 @@ use Rattle.frame_grammar.specs.Frame.{IsFrame, frame_of}
 use Rattle.field_groups.specs.declared.fault.SplitFault.{SplitFault}
 use Rattle.field_groups.specs.Field.{Field, body_of}
 use Rattle.field_groups.specs.Fields.{SplitsInto}
-use Rattle.field_groups.specs.Tables.{Message, Tag, value_at}
-use Rattle.field_groups.specs.Content.{content, cell_fields}
+use Rattle.message_tables.specs.Tables.{Message, Tag, value_at}
+use Rattle.message_tables.specs.Content.{content, cell_fields}
 use Rattle.order_meaning.specs.declared.fault.Fault.{Fault}
 use Rattle.dict_fix42.specs.Message.{message42}
 use Rattle.dict_fix42.specs.Sense.{sense42, request42}

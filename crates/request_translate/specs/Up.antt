@@ -1,5 +1,5 @@
 -- Own: a sound request of FIX 4.2, one whose content says the same when it is read again.
-use Rattle.dict_fix42.specs.Kinds.{judge as judge42}
+use Rattle.row_values.specs.Kinds.{judge as judge42}
 use Rattle.dict_fix42.specs.Message.{table as table42}
 use Rattle.dict_fix42.specs.Requests as requests42
 use Rattle.dict_fix42.specs.Said as said42

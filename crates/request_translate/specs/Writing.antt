@@ -4,7 +4,7 @@ use Rattle.std.specs.Prelude.{Err}
 use Rattle.frame_grammar.specs.declared.frame.TheConstants.{MAX_BODY}
 use Rattle.field_groups.specs.declared.fault.SplitFault.{SplitFault}
 use Rattle.field_groups.specs.Field.{Field, body_of}
-use Rattle.field_groups.specs.Tables.{Message}
+use Rattle.message_tables.specs.Tables.{Message}
 use Rattle.order_meaning.specs.declared.fault.Fault.{Fault}
 use Rattle.order_meaning.specs.declared.fault.Fault.TheVariants as faults
 use Rattle.order_meaning.specs.declared.fault.Lack.{Lack}

@@ -2,16 +2,12 @@
 use Rattle.std.specs.Prelude.{◌≡◌, ℕ, List, [], ◌∷◌, map, codes, Bool, true, false, not, ◌||◌}
 use Rattle.std.specs.Prelude.{Option, Some, None, IfSome}
 use Rattle.std.specs.Option.{option_map}
-use Rattle.typed_fields.specs.CodeKinds.{code_text}
-use Rattle.field_groups.specs.Tables.{Said, ◌>>=◌, code_of, is_one_of}
+use Rattle.row_values.specs.CodeKinds.{code_text}
+use Rattle.message_tables.specs.Tables.{Said, ◌>>=◌, code_of, is_one_of}
 use Rattle.order_meaning.specs.Request.{OrderType}
-use Rattle.dict_fix50.specs.Kinds.{is_at_close}
+use Rattle.row_values.specs.Kinds.{is_at_close}
 use Rattle.dict_fix42.specs.Sense as sense42
 use Rattle.dict_fix50.specs.Sense as sense50
-use Rattle.dict_fix42.specs.Said as said42
-use Rattle.dict_fix50.specs.Said as said50
-use Rattle.dict_fix42.specs.declared.requests.Maturity.{Maturity as Maturity42}
-use Rattle.dict_fix50.specs.declared.requests.Maturity.{Maturity as Maturity50}
 use Rattle.dict_fix42.specs.declared.requests.New42.{New42}
 use Rattle.dict_fix42.specs.declared.requests.Cancel42.{Cancel42}
 use Rattle.dict_fix42.specs.declared.requests.Replace42.{Replace42}
@@ -24,6 +20,7 @@ use Rattle.order_meaning.specs.declared.party.PartyLine.{PartyLine}
 use Rattle.party_translate.specs.Parties.{parties_of}
 use Rattle.request_translate.specs.declared.parts.Terms.{Terms}
 use Rattle.request_translate.specs.Lack.{lacks_time, lacks_capacity}
+use Rattle.row_values.specs.Lines as row_lines
 
 -- a code, by its spelling
 abbrev pub coded : Option ℕ → Option ℕ
@@ -74,17 +71,13 @@ abbrev pub parties_up : Option (List ℕ) → Option (List ℕ) → Option (List
 parties_up client broker firm =
     parties_of (record { client = client; broker = broker; firm = firm })
 
--- the same month and day
-abbrev pub maturity_up : Option Maturity42 → Option Maturity50
-maturity_up maturity = option_map (λ m. record { month = m.month; day = m.day }) maturity
-
 -- a new order, New Order - Single(D)
 pub record IsNew (m : New42) (written : New50) : Type 0 where
   pub resend : written.resend ≡ m.resend
   pub cl_ord_id : written.cl_ord_id ≡ m.cl_ord_id
   pub parties : written.parties ≡ parties_up m.client_id m.exec_broker m.clearing_firm
   pub account : written.account ≡ m.account
-  pub allocs : map said50.alloc_cells written.allocs ≡ map said42.alloc_cells m.allocs
+  pub allocs : map row_lines.alloc_cells written.allocs ≡ map row_lines.alloc_cells m.allocs
   pub alloc_qtys : map (λ line. line.qty) written.allocs ≡ map (λ line. line.qty) m.allocs
   pub settl_type : written.settl_type ≡ m.settl_type
   pub settl_date : written.settl_date ≡ m.settl_date
@@ -93,13 +86,14 @@ pub record IsNew (m : New42) (written : New50) : Type 0 where
   pub min_qty : written.min_qty ≡ m.min_qty
   pub max_floor : written.max_floor ≡ m.max_floor
   pub ex_destination : written.ex_destination ≡ m.ex_destination
-  pub sessions : map said50.session_cells written.sessions ≡ map said42.session_cells m.sessions
+  pub sessions : map row_lines.session_cells written.sessions
+      ≡ map row_lines.session_cells m.sessions
   pub symbol : written.symbol ≡ m.symbol
   pub symbol_sfx : written.symbol_sfx ≡ m.symbol_sfx
   pub security_id : written.security_id ≡ m.security_id
   pub id_source : written.id_source ≡ m.id_source
   pub security_type : written.security_type ≡ m.security_type
-  pub maturity : written.maturity ≡ maturity_up m.maturity
+  pub maturity : written.maturity ≡ m.maturity
   pub security_exchange : written.security_exchange ≡ m.security_exchange
   pub side : written.side ≡ m.side
   pub locate : written.locate ≡ m.locate
@@ -140,7 +134,7 @@ pub record IsCancel (m : Cancel42) (written : Cancel50) : Type 0 where
   pub security_id : written.security_id ≡ m.security_id
   pub id_source : written.id_source ≡ m.id_source
   pub security_type : written.security_type ≡ m.security_type
-  pub maturity : written.maturity ≡ maturity_up m.maturity
+  pub maturity : written.maturity ≡ m.maturity
   pub security_exchange : written.security_exchange ≡ m.security_exchange
   pub side : written.side ≡ m.side
   pub transact_time : written.transact_time ≡ m.transact_time
@@ -161,7 +155,7 @@ pub record IsReplace (m : Replace42) (written : Replace50) : Type 0 where
   pub order_id : written.order_id ≡ m.order_id
   pub parties : written.parties ≡ parties_up m.client_id m.exec_broker m.clearing_firm
   pub account : written.account ≡ m.account
-  pub allocs : map said50.alloc_cells written.allocs ≡ map said42.alloc_cells m.allocs
+  pub allocs : map row_lines.alloc_cells written.allocs ≡ map row_lines.alloc_cells m.allocs
   pub alloc_qtys : map (λ line. line.qty) written.allocs ≡ map (λ line. line.qty) m.allocs
   pub settl_type : written.settl_type ≡ m.settl_type
   pub settl_date : written.settl_date ≡ m.settl_date
@@ -170,13 +164,14 @@ pub record IsReplace (m : Replace42) (written : Replace50) : Type 0 where
   pub min_qty : written.min_qty ≡ m.min_qty
   pub max_floor : written.max_floor ≡ m.max_floor
   pub ex_destination : written.ex_destination ≡ m.ex_destination
-  pub sessions : map said50.session_cells written.sessions ≡ map said42.session_cells m.sessions
+  pub sessions : map row_lines.session_cells written.sessions
+      ≡ map row_lines.session_cells m.sessions
   pub symbol : written.symbol ≡ m.symbol
   pub symbol_sfx : written.symbol_sfx ≡ m.symbol_sfx
   pub security_id : written.security_id ≡ m.security_id
   pub id_source : written.id_source ≡ m.id_source
   pub security_type : written.security_type ≡ m.security_type
-  pub maturity : written.maturity ≡ maturity_up m.maturity
+  pub maturity : written.maturity ≡ m.maturity
   pub security_exchange : written.security_exchange ≡ m.security_exchange
   pub side : written.side ≡ m.side
   pub locate : written.locate ≡ m.locate
@@ -216,7 +211,7 @@ pub record IsStatus (m : Status42) (written : Status50) : Type 0 where
   pub security_id : written.security_id ≡ m.security_id
   pub id_source : written.id_source ≡ m.id_source
   pub security_type : written.security_type ≡ m.security_type
-  pub maturity : written.maturity ≡ maturity_up m.maturity
+  pub maturity : written.maturity ≡ m.maturity
   pub security_exchange : written.security_exchange ≡ m.security_exchange
   pub side : written.side ≡ m.side
 

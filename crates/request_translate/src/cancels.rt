@@ -3,10 +3,11 @@
 ghost use Rattle.std.specs.Prelude.{◌≡◌, None, IfOk};
 ghost use Rattle.request_translate.specs.Written.{IsCancel, cancel_texts, parties_up};
 
-use crate::parts::{TEXTS, all_copied, bytes_of, maturity, or_empty, parties};
+use crate::parts::{TEXTS, all_copied, bytes_of, parties};
 use dict_fix42::Cancel42;
 use dict_fix50::Cancel50;
 use order_meaning::{Bytes, Lines};
+use row_values::or_empty;
 use std::alloc::{AllocError, Global};
 
 /// The request to cancel, Order Cancel Request(F), with these texts.
@@ -50,7 +51,7 @@ fn cancel_of(
         security_id,
         id_source: msg.id_source,
         security_type,
-        maturity: maturity(msg.maturity),
+        maturity: msg.maturity,
         security_exchange,
         side: msg.side,
         transact_time: msg.transact_time,

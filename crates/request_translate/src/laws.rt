@@ -2,7 +2,9 @@
 //! nothing.
 
 ghost use Rattle.request_translate.specs.Laws.{FramesKeepSense, LacksNothing, OneOutcome};
-ghost use Rattle.request_translate.specs.Laws.{RequestsHaveOneContent};
+ghost use Rattle.request_translate.specs.Laws.{ReadIsSound, RequestsHaveOneContent};
+ghost use Rattle.request_translate.specs.Laws.{WrittenIsReadAgain};
+ghost use Rattle.request_translate.specs.Plain.{PlainOrdersAreTranslated};
 
 /// No message of FIX 5.0 SP2 means a request that has no spelling there. So where [`crate::up`]
 /// answers a lack, no message of FIX 5.0 SP2 means the same.
@@ -27,4 +29,23 @@ pub fn bodies_have_one_outcome()
 /// are read.
 pub fn translations_keep_their_sense()
     ensures { FramesKeepSense }
+{}
+
+/// A plain order is translated as version 0.1.0 did: field by field, and the client's id to a party
+/// of its role.
+pub fn a_plain_order_is_translated_as_before()
+    ensures { PlainOrdersAreTranslated }
+{}
+
+/// What is written of a sound message of FIX 4.2, or of a canonical one of FIX 5.0 SP2, is read
+/// again: its content is at no fault and says the same, but for PossResend(97), which stands in the
+/// header.
+pub fn written_is_read_again()
+    ensures { WrittenIsReadAgain }
+{}
+
+/// What is read of the fields of a body of FIX 4.2 is sound, so that what is written of it is read
+/// again.
+pub fn read_is_sound()
+    ensures { ReadIsSound }
 {}

@@ -4,13 +4,13 @@ ghost use Rattle.std.specs.Prelude.{◌≡◌, map, IfOk};
 ghost use Rattle.dict_fix42.specs.Said as said42;
 ghost use Rattle.dict_fix50.specs.Said as said50;
 ghost use Rattle.request_translate.specs.Written.{AreTerms, IsNew, new_texts, parties_up};
+ghost use Rattle.row_values.specs.Lines as row_lines;
 
-use crate::parts::{
-    Groups, TEXTS, Terms, all_copied, allocs, bytes_of, maturity, or_empty, parties, sessions,
-};
+use crate::parts::{Groups, TEXTS, Terms, all_copied, allocs, bytes_of, parties, sessions};
 use dict_fix42::New42;
 use dict_fix50::New50;
 use order_meaning::Bytes;
+use row_values::or_empty;
 use std::alloc::{AllocError, Global};
 
 /// The new order, New Order - Single(D), with these texts.
@@ -24,12 +24,12 @@ fn new_of(
     requires texts { texts ≡ new_texts msg.now }
     requires parties { groups.parties
         ≡ parties_up msg.now.client_id msg.now.exec_broker msg.now.clearing_firm }
-    requires allocs { map said50.alloc_cells groups.allocs
-        ≡ map said42.alloc_cells msg.now.allocs }
+    requires allocs { map row_lines.alloc_cells groups.allocs
+        ≡ map row_lines.alloc_cells msg.now.allocs }
     requires qtys { map (λ line. line.qty) groups.allocs
         ≡ map (λ line. line.qty) msg.now.allocs }
-    requires sessions { map said50.session_cells groups.sessions
-        ≡ map said42.session_cells msg.now.sessions }
+    requires sessions { map row_lines.session_cells groups.sessions
+        ≡ map row_lines.session_cells msg.now.sessions }
     requires terms { AreTerms msg.now.ord_type msg.now.time_in_force msg.now.capacity terms }
     ensures { IsNew msg.now result }
 {
@@ -69,7 +69,7 @@ fn new_of(
         security_id,
         id_source: msg.id_source,
         security_type,
-        maturity: maturity(msg.maturity),
+        maturity: msg.maturity,
         security_exchange,
         side: msg.side,
         locate: msg.locate,

@@ -3,16 +3,14 @@
 
 ghost use Rattle.std.specs.Prelude.{◌≡◌, [], map, IfOk, IfErr, MatchOption, not, true, unwrap_or};
 ghost use Rattle.std.specs.Option.{option_map};
-ghost use Rattle.dict_fix42.specs.Said as said42;
-ghost use Rattle.dict_fix50.specs.Said as said50;
 ghost use Rattle.request_translate.specs.Lack.{lacks_time, lacks_capacity, IsLackIn};
 ghost use Rattle.request_translate.specs.Written.{AreOnClose, AreTerms, IsTime42, coded, is_type42};
-ghost use Rattle.request_translate.specs.Written.{maturity_up, parties_up, type42, time42};
+ghost use Rattle.request_translate.specs.Written.{parties_up, type42, time42};
+ghost use Rattle.row_values.specs.Lines as row_lines;
 
-use dict_fix42::{Allocs as Allocs42, Maturity as Maturity42, Sessions as Sessions42};
-use dict_fix50::{AllocLine, Allocs, Maturity, SessionLine, Sessions};
 use order_meaning::{Bytes, Lack, Lines, Three};
 use party_translate::to_parties;
+use row_values::{AllocLine, Allocs, SessionLine, Sessions, owned};
 use std::alloc::{AllocError, Global};
 
 /// What FIX 5.0 SP2 spells otherwise than FIX 4.2.
@@ -47,16 +45,6 @@ pub(crate) fn bytes_of(text: &Option<Bytes>) -> Option<&[u8]>
     }
 }
 
-/// A copy of an optional text.
-fn copied(alloc: Global, text: Option<&[u8]>) -> Result<Option<Bytes>, AllocError>
-    ensures { IfOk result (λ copy. copy ≡ option_map (λ text. text.now) text.entry) }
-{
-    match text {
-        None => Ok(None),
-        Some(text) => Ok(Some(Bytes::copy(alloc, text)?)),
-    }
-}
-
 /// The most texts that a request has.
 pub(crate) const TEXTS: usize = 13;
 
@@ -67,17 +55,7 @@ pub(crate) fn all_copied(
 ) -> Result<[Option<Bytes>; TEXTS], AllocError>
     ensures { IfOk result (λ copies. copies ≡ map (option_map (λ text. text.now)) texts.entry) }
 {
-    texts.try_map(|text| copied(alloc, text))
-}
-
-/// A text that a request always has.
-pub(crate) fn or_empty(alloc: Global, text: Option<Bytes>) -> Bytes
-    ensures { result ≡ unwrap_or text [] }
-{
-    match text {
-        Some(text) => text,
-        None => Bytes::new(alloc),
-    }
+    texts.try_map(|text| owned(alloc, text))
 }
 
 /// ClientID(109), ExecBroker(76) and ClearingFirm(439) as lines of the Parties group.
@@ -90,17 +68,17 @@ pub(crate) fn parties(
     ensures { IfOk result (λ lines. lines ≡ parties_up client.now broker.now firm.now) }
 {
     let three = Three {
-        client: copied(alloc, bytes_of(client))?,
-        broker: copied(alloc, bytes_of(broker))?,
-        firm: copied(alloc, bytes_of(firm))?,
+        client: owned(alloc, bytes_of(client))?,
+        broker: owned(alloc, bytes_of(broker))?,
+        firm: owned(alloc, bytes_of(firm))?,
     };
     to_parties(alloc, &three)
 }
 
 /// The same accounts.
-pub(crate) fn allocs(alloc: Global, lines: &Allocs42) -> Result<Allocs, AllocError>
-    ensures cells { IfOk result (λ copies. map said50.alloc_cells copies
-        ≡ map said42.alloc_cells lines.now) }
+pub(crate) fn allocs(alloc: Global, lines: &Allocs) -> Result<Allocs, AllocError>
+    ensures cells { IfOk result (λ copies. map row_lines.alloc_cells copies
+        ≡ map row_lines.alloc_cells lines.now) }
     ensures qtys { IfOk result (λ copies. map (λ line. line.qty) copies
         ≡ map (λ line. line.qty) lines.now) }
 {
@@ -115,9 +93,9 @@ pub(crate) fn allocs(alloc: Global, lines: &Allocs42) -> Result<Allocs, AllocErr
 }
 
 /// The same sessions.
-pub(crate) fn sessions(alloc: Global, lines: &Sessions42) -> Result<Sessions, AllocError>
-    ensures { IfOk result (λ copies. map said50.session_cells copies
-        ≡ map said42.session_cells lines.now) }
+pub(crate) fn sessions(alloc: Global, lines: &Sessions) -> Result<Sessions, AllocError>
+    ensures { IfOk result (λ copies. map row_lines.session_cells copies
+        ≡ map row_lines.session_cells lines.now) }
 {
     let mut copies = Sessions::new(alloc);
     for line in lines.as_slice() {
@@ -126,19 +104,6 @@ pub(crate) fn sessions(alloc: Global, lines: &Sessions42) -> Result<Sessions, Al
         })?;
     }
     Ok(copies)
-}
-
-/// The same month and day.
-pub(crate) fn maturity(maturity: Option<Maturity42>) -> Option<Maturity>
-    ensures { result ≡ maturity_up maturity }
-{
-    match maturity {
-        None => None,
-        Some(maturity) => Some(Maturity {
-            month: maturity.month,
-            day: maturity.day,
-        }),
-    }
 }
 
 /// OrdType(40) and TimeInForce(59): an order on close is a market or a limit order at the close.

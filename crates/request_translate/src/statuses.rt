@@ -3,10 +3,11 @@
 ghost use Rattle.std.specs.Prelude.{◌≡◌, None, IfOk};
 ghost use Rattle.request_translate.specs.Written.{IsStatus, status_texts, parties_up};
 
-use crate::parts::{TEXTS, all_copied, bytes_of, maturity, or_empty, parties};
+use crate::parts::{TEXTS, all_copied, bytes_of, parties};
 use dict_fix42::Status42;
 use dict_fix50::Status50;
 use order_meaning::{Bytes, Lines};
+use row_values::or_empty;
 use std::alloc::{AllocError, Global};
 
 /// The request for the state of an order, Order Status Request(H), with these texts.
@@ -51,7 +52,7 @@ fn status_of(
         security_id,
         id_source: msg.id_source,
         security_type,
-        maturity: maturity(msg.maturity),
+        maturity: msg.maturity,
         security_exchange,
         side: msg.side,
     }

@@ -18,8 +18,9 @@ ghost use Rattle.request_translate.specs.Writing.{put, IsWritten, IsUnwritten, I
 use crate::upward::up;
 use dict_fix42::{Msg42, read42};
 use dict_fix50::{Msg50, write50};
-use field_groups::{Fields, SOH, Split, split, value};
+use field_groups::{Fields, SOH, Split, split};
 use frame_grammar::{FrameError, Kind, MAX_BODY, write_frame};
+use message_tables::value;
 use order_meaning::{Fault, Lack};
 use std::alloc::{AllocError, Global};
 use thiserror::Error;

@@ -1,0 +1,215 @@
+-- Rows that both versions say alike: what a sound request of FIX 4.2 says there, a request of FIX
+-- 5.0 SP2 may say too, over any two tables.
+use Rattle.std.proofs.Common.{◌≡◌, ℕ, List, [], ◌∷◌, ◌++◌, map, Bool, true, false, refl}
+use Rattle.std.proofs.Common.{sym, subst}
+use Rattle.std.specs.Prelude.{◌&&◌, ◌==◌, if◌then◌else◌}
+use Rattle.std.specs.List.{AllByRecursion, list_all}
+use Rattle.field_groups.specs.Field.{Field}
+use Rattle.message_tables.specs.Tables.{Need, Required, Optional, Lenient, Fixed, When, Row, Item}
+use Rattle.message_tables.specs.Tables.{One, Party, Lines, Message, Said, Tag, is_one_of, said_at}
+use Rattle.row_values.specs.ValueKind.{ValueKind, Code, Codes, Word}
+use Rattle.row_values.specs.Kinds.{Kind, Value, Byte, DayOf, MonthBeside, TimeBeside, Version}
+use Rattle.row_values.specs.Kinds.{judge}
+use Rattle.request_translate.specs.Sound.{IsSaid, IsItem}
+use Rattle.request_translate.proofs.Each.{both, each_front, each_back, each_joined}
+use Rattle.request_translate.proofs.Carry.{required_said, optional_said, lenient_said, same_value}
+
+-- ---- a row of FIX 4.2 as the row of FIX 5.0 SP2 that says the same
+
+-- MaxFloor (111) is DisplayQty (1138)
+abbrev up_tag : ℕ → ℕ
+up_tag tag = if tag == 111 then 1138 else tag
+
+-- a code or word that may be missing is dropped where it is outside the profile
+abbrev up_need : Need → Bool → Need
+up_need Optional true = Lenient
+up_need need coded = need
+
+abbrev is_coded : Kind → Bool
+is_coded (Value (Code listed)) = true
+is_coded (Value (Codes listed)) = true
+is_coded (Value (Word listed)) = true
+is_coded kind = false
+
+abbrev up_row : Row Kind → Row Kind
+up_row row = record {
+  tag = up_tag row.tag;
+  kind = row.kind;
+  need = up_need row.need (is_coded row.kind);
+}
+
+abbrev is_value : Kind → Bool
+is_value (Value kind) = true
+is_value kind = false
+
+abbrev is_plain : Need → Bool
+is_plain Required = true
+is_plain Optional = true
+is_plain need = false
+
+abbrev can_go_up : Row Kind → Bool
+can_go_up row = is_value row.kind && is_plain row.need
+
+module _ (fields42 fields50 : List Field) where
+  value_up : (tag tag50 : ℕ) (kind : ValueKind) (coded : Bool) (need : Need) (said : Said)
+      → is_plain need ≡ true
+      → IsSaid judge fields42 (record { tag = tag; kind = Value kind; need = need }) said
+      → IsSaid judge fields50
+      (record { tag = tag50; kind = Value kind; need = up_need need coded }) said
+  value_up tag tag50 kind coded Required said plain h =
+      required_said fields50 tag50 (Value kind) said (h.needed refl)
+      (same_value fields42 fields50 kind said h.spelled) h.clear
+  value_up tag tag50 kind true Optional said plain h = lenient_said fields50 tag50
+      (Value kind) said (same_value fields42 fields50 kind said h.spelled) h.clear
+  value_up tag tag50 kind false Optional said plain h = optional_said fields50 tag50
+      (Value kind) said (same_value fields42 fields50 kind said h.spelled) h.clear
+  value_up tag tag50 kind coded Lenient said plain h = absurd cc
+  value_up tag tag50 kind coded (Fixed text) said plain h = absurd cc
+  value_up tag tag50 kind coded (When condition) said plain h = absurd cc
+
+  row_up : (row : Row Kind) (said : Said) → can_go_up row ≡ true
+      → IsSaid judge fields42 row said → IsSaid judge fields50 (up_row row) said
+  row_up row said ok h =
+      let p = both (is_value row.kind) (is_plain row.need) ok in by row.kind p.0 p.1 h
+    where
+      by : (kind : Kind) → is_value kind ≡ true → is_plain row.need ≡ true
+          → IsSaid judge fields42 (record { tag = row.tag; kind = kind; need = row.need }) said
+          → IsSaid judge fields50 (record {
+            tag = up_tag row.tag;
+            kind = kind;
+            need = up_need row.need (is_coded kind);
+          }) said
+      by (Value kind) value plain h = value_up
+          row.tag (up_tag row.tag) kind (is_coded (Value kind)) row.need said plain h
+      by (Byte listed) value plain h = absurd cc
+      by (DayOf month) value plain h = absurd cc
+      by (MonthBeside date) value plain h = absurd cc
+      by (TimeBeside ord_type) value plain h = absurd cc
+      by Version value plain h = absurd cc
+
+-- ---- rows that are carried, and the other items
+
+abbrev row_unless : Bool → Row Kind → List (Row Kind)
+row_unless true row = []
+row_unless false row = row ∷ []
+
+abbrev item_if : Bool → Row Kind → List (Item Kind)
+item_if true row = One row ∷ []
+item_if false row = []
+
+-- the rows of all tags but these
+abbrev carried : List ℕ → List (Item Kind) → List (Row Kind)
+carried apart [] = []
+carried apart (One row ∷ items) = row_unless (is_one_of apart row.tag) row ++ carried apart items
+carried apart (Party role ∷ items) = carried apart items
+carried apart (Lines group ∷ items) = carried apart items
+
+-- the other items
+abbrev pub others : List ℕ → List (Item Kind) → List (Item Kind)
+others apart [] = []
+others apart (One row ∷ items) = item_if (is_one_of apart row.tag) row ++ others apart items
+others apart (Party role ∷ items) = Party role ∷ others apart items
+others apart (Lines group ∷ items) = Lines group ∷ others apart items
+
+module _ (apart : List ℕ) (fields : List Field) (m : Message) where
+  abbrev RowSaid : Row Kind → Type 0
+  RowSaid row = IsSaid judge fields row (said_at m.cells (Tag row.tag))
+
+  abbrev ItemSaid : Item Kind → Type 0
+  ItemSaid item = IsItem judge fields m item
+
+  carried_of : (items : List (Item Kind))
+      → AllByRecursion ItemSaid items → AllByRecursion RowSaid (carried apart items)
+  carried_of [] h = tt
+  carried_of (One row ∷ items) h =
+      each_joined RowSaid (row_unless (is_one_of apart row.tag) row) (carried apart items)
+      (by (is_one_of apart row.tag)) (carried_of items h.1)
+    where
+      by : (b : Bool) → AllByRecursion RowSaid (row_unless b row)
+      by true = tt
+      by false = (h.0, tt)
+  carried_of (Party role ∷ items) h = carried_of items h.1
+  carried_of (Lines group ∷ items) h = carried_of items h.1
+
+  pub others_of : (items : List (Item Kind))
+      → AllByRecursion ItemSaid items → AllByRecursion ItemSaid (others apart items)
+  others_of [] h = tt
+  others_of (One row ∷ items) h =
+      each_joined ItemSaid (item_if (is_one_of apart row.tag) row) (others apart items)
+      (by (is_one_of apart row.tag)) (others_of items h.1)
+    where
+      by : (b : Bool) → AllByRecursion ItemSaid (item_if b row)
+      by true = (h.0, tt)
+      by false = tt
+  others_of (Party role ∷ items) h = (h.0, others_of items h.1)
+  others_of (Lines group ∷ items) h = (h.0, others_of items h.1)
+
+  -- both together are all items
+  put_back : (items : List (Item Kind)) → AllByRecursion RowSaid (carried apart items)
+      → AllByRecursion ItemSaid (others apart items) → AllByRecursion ItemSaid items
+  put_back [] rows h = tt
+  put_back (One row ∷ items) rows h =
+      let b = is_one_of apart row.tag in (
+        by b (each_front RowSaid (row_unless b row) (carried apart items) rows)
+            (each_front ItemSaid (item_if b row) (others apart items) h),
+        put_back items (each_back RowSaid (row_unless b row) (carried apart items) rows)
+            (each_back ItemSaid (item_if b row) (others apart items) h),
+      )
+    where
+      by : (b : Bool) → AllByRecursion RowSaid (row_unless b row)
+          → AllByRecursion ItemSaid (item_if b row) → RowSaid row
+      by true rows h = h.0
+      by false rows h = rows.0
+  put_back (Party role ∷ items) rows h = (h.0, put_back items rows h.1)
+  put_back (Lines group ∷ items) rows h = (h.0, put_back items rows h.1)
+
+-- ---- what goes up
+
+-- the tags that FIX 5.0 SP2 says otherwise: parties, the maturity, and the terms of an order
+abbrev pub apart42 : List ℕ
+apart42 = 109 ∷ 76 ∷ 439 ∷ 200 ∷ 205 ∷ 40 ∷ 59 ∷ 47 ∷ []
+
+abbrev pub apart50 : List ℕ
+apart50 = 200 ∷ 541 ∷ 40 ∷ 59 ∷ 528 ∷ []
+
+-- what is said at the rows of FIX 4.2, and at those of FIX 5.0 SP2 that stand for them
+abbrev pub said42 : List (Item Kind) → Message → List Said
+said42 items m = map (λ row. said_at m.cells (Tag row.tag)) (carried apart42 items)
+
+abbrev pub said50 : List (Item Kind) → Message → List Said
+said50 items w = map (λ row. said_at w.cells (Tag (up_tag row.tag))) (carried apart42 items)
+
+-- tables that have the same rows
+pub record GoUp (items42 items50 : List (Item Kind)) : Type 0 where
+  pub plain : list_all can_go_up (carried apart42 items42) ≡ true
+  pub same : carried apart50 items50 ≡ map up_row (carried apart42 items42)
+
+module _ (fields42 fields50 : List Field) (m w : Message) where
+  rows_up : (rows : List (Row Kind)) → list_all can_go_up rows ≡ true
+      → map (λ row. said_at w.cells (Tag (up_tag row.tag))) rows
+      ≡ map (λ row. said_at m.cells (Tag row.tag)) rows
+      → AllByRecursion (λ row. IsSaid judge fields42 row (said_at m.cells (Tag row.tag))) rows
+      → AllByRecursion (λ row. IsSaid judge fields50 row (said_at w.cells (Tag row.tag)))
+      (map up_row rows)
+  rows_up [] ok same h = tt
+  rows_up (row ∷ rows) ok same h =
+      let p = both (can_go_up row) (list_all can_go_up rows) ok in
+      let here : said_at w.cells (Tag (up_tag row.tag)) ≡ said_at m.cells (Tag row.tag) = cc in
+      let rest : map (λ r. said_at w.cells (Tag (up_tag r.tag))) rows
+      ≡ map (λ r. said_at m.cells (Tag r.tag)) rows = cc in
+      let P : Said → Type 0 = λ said. IsSaid judge fields50 (up_row row) said in (
+        subst P (sym here) (row_up fields42 fields50 row (said_at m.cells (Tag row.tag)) p.0 h.0),
+        rows_up rows p.1 rest h.1,
+      )
+
+  -- THE ITEMS of FIX 5.0 SP2, where the rows that both have say the same
+  pub items_up : (items42 items50 : List (Item Kind))
+      → GoUp items42 items50 → said50 items42 w ≡ said42 items42 m
+      → AllByRecursion (IsItem judge fields42 m) items42
+      → AllByRecursion (IsItem judge fields50 w) (others apart50 items50)
+      → AllByRecursion (IsItem judge fields50 w) items50
+  items_up items42 items50 tables said sound apart =
+      let P : List (Row Kind) → Type 0 = λ rows. AllByRecursion (RowSaid apart50 fields50 w) rows in
+      put_back apart50 fields50 w items50 (subst P (sym tables.same)
+      (rows_up (carried apart42 items42) tables.plain said
+      (carried_of apart42 fields42 m items42 sound))) apart
