@@ -110,31 +110,32 @@ told_at : (before after : List (List ℕ)) (payload : List ℕ)
 told_at [] after payload told = told.0
 told_at (p ∷ before) after payload told = told_at before after payload told.1
 
-pub stands_behind : (bytes lens : List ℕ) (ps : List (List ℕ)) (at : ℕ) (payload : List ℕ)
-    → IsKept bytes lens ps → IsAt ps at payload → StandsBehind bytes at payload
-stands_behind bytes lens ps at payload kept there =
+pub stands_behind : (bytes lens : List ℕ) (ps seen : List (List ℕ)) (at : ℕ) (payload : List ℕ)
+    → IsKept bytes lens ps → ps ≡ seen → IsAt seen at payload → StandsBehind bytes at payload
+stands_behind bytes lens ps seen at payload kept same there =
     let grouped : (blocks there.before ++ blocks (payload ∷ there.after))
     ++ 0 ∷ [] ≡ blocks there.before
     ++ 1 ∷ (to_be_bytes w32 (length payload) ++ (payload ++ (blocks there.after ++ 0 ∷ []))) =
     simp append_assoc in
+    let split = same ∙ there.split in
     record {
       front = blocks there.before;
       after = blocks there.after ++ 0 ∷ [];
       small = told_at
-          there.before there.after payload (subst AllTold there.split (fit_told ps kept.fit));
+          there.before there.after payload (subst AllTold split (fit_told ps kept.fit));
       place = there.place;
-      split = kept.layout ∙ ap (λ l. blocks l ++ 0 ∷ []) there.split
+      split = kept.layout ∙ ap (λ l. blocks l ++ 0 ∷ []) split
           ∙ ap (λ l. l ++ 0 ∷ []) (blocks-append there.before (payload ∷ there.after)) ∙ grouped;
     }
 
-pub at_within : (bytes lens : List ℕ) (ps : List (List ℕ)) (at : ℕ) (payload : List ℕ)
-    → IsKept bytes lens ps → IsAt ps at payload → at < MAX_DISK
-at_within bytes lens ps at payload kept there =
+pub at_within : (bytes lens : List ℕ) (ps seen : List (List ℕ)) (at : ℕ) (payload : List ℕ)
+    → IsKept bytes lens ps → ps ≡ seen → IsAt seen at payload → at < MAX_DISK
+at_within bytes lens ps seen at payload kept same there =
     omega (
       arith,
       kept.within,
       there.place,
-      ap (λ l. length (blocks l)) there.split,
+      ap (λ l. length (blocks l)) (same ∙ there.split),
       ap length (blocks-append there.before (payload ∷ there.after)),
       length-append (blocks there.before) (blocks (payload ∷ there.after)),
     )
@@ -163,3 +164,6 @@ reads_some bytes at payload s short = omega (
   ap length (behind_of bytes at payload s),
   length-append (to_be_bytes w32 (length payload)) (payload ++ s.after),
 )
+
+-- what an append leaves of the images
+pub ruleset keeps = (keeps_same, keeps_list)

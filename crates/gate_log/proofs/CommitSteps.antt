@@ -182,3 +182,9 @@ adds_behind told told1 told2 payload result keeps = on_ok result (λ commits. re
       (λ after. Stands after (qs ++ payload ∷ []))) next.0 next.1 commits.added ps
       (next.2 ps stands));
 })
+
+-- what the bytes of a staged record stand for
+pub ruleset record_told = (record_staged, record_same)
+
+-- a commit, by its two steps
+pub ruleset both_steps = (stops_before, commits_behind, adds_behind)

@@ -18,6 +18,11 @@ pub record OnlyRead (told_old told_new : Option (List ℕ)) (before after : List
     pub images : AreAmong after before
     pub kept : AreAmong before after
 
+-- the same of a disk before and after a call, given what it tells and its images
+abbrev pub OnlyReads : {S : Type 0}
+    → (S → Option (List ℕ)) → (S → List ℕ → Type 0) → S → S → Type 0
+OnlyReads bytes image old new = OnlyRead (bytes old) (bytes new) (image old) (image new)
+
 -- a disk fault comes only where the count of faults rose, and else the count stands still
 abbrev pub HasFaultCause : {T : Type 0} → ℕ → ℕ → Result T LogError → Type 0
 HasFaultCause before now (Err errors.DiskFault) = (before ≤ now) × Rose before now

@@ -34,6 +34,7 @@ pub(crate) fn write_stable<D: Disk>(disk: &mut D, at: u64, piece: &[u8]) -> Resu
 ///
 /// # Errors
 /// `Failed` only where the disk's count of faults rose. A crash leaves the list as it was.
+#[tactic(auto, using(crate::proofs::CommitSteps::record_told))]
 fn write_record<D: Disk>(
     disk: &mut D,
     end: u64,
@@ -59,6 +60,7 @@ fn write_record<D: Disk>(
 /// # Errors
 /// `Failed` only where the disk's count of faults rose. A crash leaves the list with the record or
 /// without.
+#[tactic(auto, using(crate::proofs::CommitSteps::gate_adds))]
 fn open_gate<D: Disk>(disk: &mut D, end: u64) -> Result<(), Failed>
     requires staged { (payload : List ℕ) × Staged (D.bytes disk.old) end payload }
     ensures appended { (payload : List ℕ) → Staged (D.bytes disk.old) end payload
@@ -80,6 +82,7 @@ fn open_gate<D: Disk>(disk: &mut D, end: u64) -> Result<(), Failed>
 /// # Errors
 /// `Failed` only where the disk's count of faults rose. Then a crash leaves the list as it was, or
 /// with the record.
+#[tactic(auto, using(crate::proofs::CommitSteps::both_steps))]
 pub(crate) fn commit<D: Disk>(
     disk: &mut D,
     end: u64,

@@ -1,9 +1,8 @@
 //! A log: its payloads, in order, and the calls that read and lengthen it.
 
-ghost use Rattle.std.specs.Prelude.{◌≡◌, ◌↔◌, IsTrue, ◌+◌, ◌-◌, ◌≤◌, ◌<◌, ◌∷◌, ◌++◌, ℕ, [], List};
-ghost use Rattle.std.specs.Prelude.{length};
-ghost use Rattle.std.specs.Prelude.{take, drop, is_some, false, IfOk};
-ghost use Rattle.std.specs.Prelude.{IfSome, OnOk, OnErr, IsOkUnless, vec_len, vec_capacity};
+ghost use Rattle.std.specs.Prelude.{◌≡◌, ◌≢◌, ◌⊎◌, ◌↔◌, ◌+◌, ◌-◌, ◌≤◌, ◌<◌, ◌∷◌, ◌++◌, ℕ, [], List};
+ghost use Rattle.std.specs.Prelude.{IsTrue, length, take, drop, is_some, false, IfOk, IfSome, OnOk};
+ghost use Rattle.std.specs.Prelude.{OnErr, IsOkUnless, vec_len, vec_capacity};
 ghost use Rattle.std.specs.Option.{ForSome};
 ghost use Rattle.std.specs.Int.{to_be_bytes};
 ghost use Rattle.outside.specs.Causes.{HasCause};
@@ -12,10 +11,8 @@ ghost use Rattle.gate_log.specs.Records.{blocks, Stands, IsSized, IsUnborn, IsSh
 ghost use Rattle.gate_log.specs.Commit.{CommitsOrNot, Commits};
 ghost use Rattle.gate_log.specs.Steps.{Ends};
 ghost use Rattle.gate_log.specs.Kept.{StandsBehind};
-ghost use Rattle.gate_log.specs.Log.{OnlyRead, HasFaultCause, Looks, Loads, BornOrNot, Appends};
-ghost use Rattle.gate_log.specs.Log.{HasRoom};
-ghost use Rattle.gate_log.specs.Log.{KeepsList};
-ghost use Rattle.gate_log.specs.Log.{IsAt, StaysUnborn, KeepsOneImage};
+ghost use Rattle.gate_log.specs.Log.{OnlyReads, HasFaultCause, Looks, Loads, BornOrNot, Appends};
+ghost use Rattle.gate_log.specs.Log.{HasRoom, KeepsList, IsAt, StaysUnborn, KeepsOneImage};
 ghost use Rattle.gate_log.specs.Scan.{HasRecords};
 
 use crate::commit::{commit, write_stable};
@@ -56,8 +53,7 @@ impl Model for Log {
 /// All bytes of a disk.
 fn read_image<D: Disk>(alloc: Global, disk: &mut D) -> Result<Vec<u8>, LogError>
     ensures bytes { IfOk result (λ v. IfSome (D.bytes disk.old) (λ b. v.items ≡ b)) }
-    ensures only_read { OnlyRead (D.bytes disk.old) (D.bytes disk.new)
-        (D.image disk.old) (D.image disk.new) }
+    ensures only_read { OnlyReads D.bytes D.image disk.old disk.new }
     ensures cause { HasFaultCause (D.faults disk.old) (D.faults disk.new) result }
     ensures only { (result ≡ Err LogError.Full) → ⊥ }
     ensures not_foreign { (at : ℕ) → (result ≡ Err (LogError.Foreign at)) → ⊥ }
@@ -244,8 +240,7 @@ impl Log {
     /// disk's count of faults rose; `NoMemory`.
     pub fn look<D: Disk>(alloc: Global, disk: &mut D) -> Result<Option<Log>, LogError>
         ensures looks { IfSome (D.bytes disk.old) (λ b. Looks b result) }
-        ensures only_read { OnlyRead (D.bytes disk.old) (D.bytes disk.new)
-            (D.image disk.old) (D.image disk.new) }
+        ensures only_read { OnlyReads D.bytes D.image disk.old disk.new }
         ensures cause { HasFaultCause (D.faults disk.old) (D.faults disk.new) result }
     {
         let image = read_image(alloc, disk)?;
@@ -301,8 +296,9 @@ impl Log {
     /// The log on a disk. An unborn disk gets the birth record first.
     ///
     /// # Errors
-    /// `Foreign` exactly where the bytes are refused at that place, and then nothing was written;
-    /// `DiskFault` only where the disk's count of faults rose; `NoMemory`.
+    /// `Foreign` exactly where the bytes are refused at that place; `DiskFault` only where the
+    /// disk's count of faults rose; `NoMemory`. A disk that is not unborn was only read, whatever
+    /// the answer; and any disk was at `Foreign`, and at a log that is not just this birth record.
     pub fn load<D: Disk>(alloc: Global, disk: &mut D, birth: &[u8]) -> Result<Log, LogError>
         requires { length birth.now ≡ BIRTH_LEN }
         ensures loads { IfSome (D.bytes disk.old) (λ b. Loads birth.now b result
@@ -314,6 +310,12 @@ impl Log {
         ensures durable { OnOk result (HasOneImage (D.bytes disk.old) (D.image disk.old) →
             HasOneImage (D.bytes disk.new) (D.image disk.new)) }
         ensures whole { IfOk result (λ log. log.broken ≡ false) }
+        ensures only_unborn_is_written { IfSome (D.bytes disk.old) (λ b.
+            IsUnborn b ⊎ OnlyReads D.bytes D.image disk.old disk.new) }
+        ensures foreign_only_reads { (at : ℕ) → result ≡ Err (LogError.Foreign at) →
+            OnlyReads D.bytes D.image disk.old disk.new }
+        ensures older_only_reads { IfOk result (λ log. log.payloads ≢ birth.now ∷ [] →
+            OnlyReads D.bytes D.image disk.old disk.new) }
         ensures cause { HasFaultCause (D.faults disk.old) (D.faults disk.new) result }
     {
         let image = read_image(alloc, disk)?;
@@ -332,6 +334,7 @@ impl Log {
     /// # Errors
     /// `Full` exactly where the record would end past the last byte of a disk, and then nothing was
     /// written; `DiskFault` only where the disk's count of faults rose, and then the log is broken.
+    #[tactic(auto, using(crate::proofs::Appending::keeps))]
     pub fn append<D: Disk>(&mut self, disk: &mut D, payload: &[u8]) -> Result<u64, LogError>
         requires spare { 1 ≤ self.old.spare }
         requires sized { IsSized payload.now }
@@ -374,15 +377,25 @@ impl Log {
         ensures payload { OnOk result ((payload : List ℕ) → IsAt self.now.payloads place payload →
             out.new.items ≡ payload) }
         ensures refused { OnErr result (out.new.items ≡ []) }
-        ensures only_read { OnlyRead (D.bytes disk.old) (D.bytes disk.new)
-            (D.image disk.old) (D.image disk.new) }
+        ensures bound { place < MAX_DISK }
+        ensures only_read { OnlyReads D.bytes D.image disk.old disk.new }
         ensures cause { HasFaultCause (D.faults disk.old) (D.faults disk.new) result }
         ensures only { (result ≡ Err LogError.Full) → ⊥ }
         ensures not_foreign { (at : ℕ) → (result ≡ Err (LogError.Foreign at)) → ⊥ }
     {
         let _ = disk; // The payloads are in memory, and no caller sees that.
         out.clear();
-        out.extend_from_slice(payload_at(&self.bytes, place as usize))?;
+        out.extend_from_slice(self.payload_kept(place))?;
         Ok(())
+    }
+
+    /// The payload that stands at this place.
+    fn payload_kept(&self, place: u64) -> &[u8]
+        requires { (payload : List ℕ) × IsAt self.now.payloads place payload }
+        ensures payload { (payload : List ℕ) → IsAt self.now.payloads place payload →
+            result.now ≡ payload }
+        ensures bound { place < MAX_DISK }
+    {
+        payload_at(&self.bytes, place as usize)
     }
 }

@@ -5,4 +5,5 @@ pub mod Giving
 pub mod Carrying
 pub mod Same
 pub mod Walking
+pub mod OneReading
 pub mod Loaded

@@ -1,6 +1,6 @@
 -- What a load answers, from what its log has.
-use Rattle.std.proofs.Common.{◌≡◌, inl, inr, ◌⊎◌, ℕ, List, [], ◌∷◌, ◌++◌, map, drop, refl, sym, ◌∙◌}
-use Rattle.std.proofs.Common.{ap, subst, Some, IfSome, IfOk, Ok, Err}
+use Rattle.std.proofs.Common.{◌≡◌, ◌≢◌, inl, inr, ◌⊎◌, ℕ, List, [], ◌∷◌, map, refl, sym, ◌∙◌}
+use Rattle.std.proofs.Common.{subst, Some, IfSome, IfOk, Ok, Err}
 use Rattle.std.specs.Prelude.{Result}
 use Rattle.std.specs.Option.{ForSome}
 use Rattle.std.specs.declared.option.Option.{Option}
@@ -15,39 +15,35 @@ use Rattle.pair_journal.specs.declared.error.JournalError.{JournalError}
 use Rattle.pair_journal.specs.declared.error.JournalError.TheVariants as errors
 use Rattle.pair_journal.specs.Payload.{entry_bytes}
 use Rattle.pair_journal.specs.Birth.{birth_bytes, AreNames}
-use Rattle.pair_journal.specs.Journal.{Spells, Misspells, IsMisspelt, JournalOf, Born}
-use Rattle.pair_journal.specs.Journal.{Refused}
+use Rattle.pair_journal.specs.Journal.{Spells, JournalOf, Unborn, Born, Refused}
 use Rattle.pair_journal.specs.State.{JournalState}
 use Rattle.pair_journal.specs.Calls.{Loads, BornOrNot}
 use Rattle.pair_journal.specs.Loading.{Misreads, Opens, HasNames}
-use Rattle.pair_journal.proofs.Names.{same_birth}
+use Rattle.pair_journal.proofs.OneReading.{not_misspelt, spelt_once}
+use Rattle.pair_journal.proofs.Walking.{only_read_on}
 
 -- ---- a birth record alone
 
-nothing_behind : (before : List (List ℕ)) (payload : List ℕ) (after : List (List ℕ))
-    → [] ≡ before ++ payload ∷ after → ⊥
-nothing_behind [] payload after is = absurd (cc is)
-nothing_behind (x ∷ before) payload after is = absurd (cc is)
+alone_spelt : (names : Names) (payloads : List (List ℕ)) → AreNames names
+    → payloads ≡ birth_bytes names ∷ [] → Spells payloads names []
+alone_spelt names payloads named is = record { written = is; named = named; sound = tt }
 
-birth_spelt : (names : Names) (before : List (List ℕ)) (payload : List ℕ) (after : List (List ℕ))
-    → AreNames names
-    → birth_bytes names ∷ [] ≡ before ++ payload ∷ after → IsMisspelt before payload → ⊥
-birth_spelt names [] payload after are is none =
-    let same : payload ≡ birth_bytes names = cc (sym is) in none names are same
-birth_spelt names (x ∷ before) payload after are is none =
-    nothing_behind before payload after (ap (drop 1) is)
+pub misread_older : (names : Names) (payloads : List (List ℕ)) (e : JournalError) (at : ℕ)
+    → AreNames names → Misreads payloads e → e ≡ errors.Refused at
+    → payloads ≢ birth_bytes names ∷ []
+misread_older names payloads e at named m is alone =
+    not_misspelt payloads names [] (alone_spelt names payloads named alone) at
+    (subst (Misreads payloads) is m)
 
-not_misspelt : (names : Names) (payloads : List (List ℕ)) (at : ℕ)
-    → AreNames names → payloads ≡ birth_bytes names ∷ [] → Misspells payloads at → ⊥
-not_misspelt names payloads at are is m =
-    birth_spelt names m.before m.payload m.after are (sym is ∙ m.split) m.none
-
-first_of : (x y : List ℕ) (xs ys : List (List ℕ)) → x ∷ xs ≡ y ∷ ys → x ≡ y
-first_of x y xs ys e = cc
-
-no_entries : (entries : List Entry) → [] ≡ map entry_bytes entries → entries ≡ []
-no_entries [] is = refl
-no_entries (e ∷ es) is = absurd (cc is)
+pub differ_older : (names kept given : Names) (payloads : List (List ℕ)) (journal : JournalState)
+    (answer : Result JournalState JournalError) → AreNames names
+    → Spells payloads journal.names journal.entries → HasNames names journal answer
+    → answer ≡ Err (errors.NamesDiffer kept given) → payloads ≢ birth_bytes names ∷ []
+differ_older names kept given payloads journal answer named spelt has is alone =
+    let differ = subst (HasNames names journal) is has in
+    let same = spelt_once payloads journal.names journal.entries spelt
+    names [] (alone_spelt names payloads named alone) in
+    differ.2 (differ.0 ∙ same.0)
 
 -- ---- what the disk told, and tells
 
@@ -77,7 +73,8 @@ module _ (names : Names) (told0 told1 told2 : Option (List ℕ)) (payloads : Lis
       if_some told0 (λ b. Loads names b (Err (errors.Refused at)) told2) (λ b e. (
         elim (at_first b e).0 [
           | inl stands ↦ inr (payloads, stands, m)
-          | inr born ↦ absurd (not_misspelt names payloads at named born.1 m)
+          | inr born ↦ absurd
+              (not_misspelt payloads names [] (alone_spelt names payloads named born.1) at m)
         ],
         then (λ after. JournalOf after (Refused at))
             b e (λ after stands. inr (payloads, stands, m)),
@@ -92,12 +89,9 @@ module _ (names : Names) (told0 told1 told2 : Option (List ℕ)) (payloads : Lis
   spelt_by : (kept : Names) (entries : List Entry) → Spells payloads kept entries
       → payloads ≡ birth_bytes names ∷ [] → (names ≡ kept) × (entries ≡ [])
   spelt_by kept entries spelt alone =
-      let whole : birth_bytes names ∷ [] ≡ birth_bytes kept ∷ map entry_bytes entries =
-      sym alone ∙ spelt.written in (
-        same_birth names kept (first_of (birth_bytes names) (birth_bytes kept)
-            [] (map entry_bytes entries) whole),
-        no_entries entries (ap (drop 1) whole),
-      )
+      let same = spelt_once
+      payloads kept entries spelt names [] (alone_spelt names payloads named alone) in
+      (sym same.0, same.1)
 
   pub judged : (journal : JournalState) (answer : Result JournalState JournalError)
       → Spells payloads journal.names journal.entries
@@ -143,6 +137,17 @@ stands_loaded names told payloads journal (Ok answer) spelt stands has =
     subst (λ (j : JournalState). ForSome told (λ b. JournalOf b (Born j.names j.entries)))
     (sym has.0) (λ x e. (payloads, stands x e, spelt))
 stands_loaded names told payloads journal (Err error) spelt stands has = tt
+
+-- ---- what was only read
+
+pub unborn_or_read : (a b c : Option (List ℕ)) (i j k : List ℕ → Type 0)
+    → IfSome a (λ x. JournalOf x Unborn ⊎ log.OnlyRead a b i j) → log.OnlyRead b c j k
+    → IfSome a (λ x. JournalOf x Unborn ⊎ log.OnlyRead a c i k)
+unborn_or_read a b c i j k first later = if_some a _ (λ x e.
+    elim (at_some a (λ y. JournalOf y Unborn ⊎ log.OnlyRead a b i j) x e first) [
+      | inl unborn ↦ inl unborn
+      | inr read ↦ inr (only_read_on a b c i j k read later)
+    ])
 
 -- ---- images
 

@@ -1,17 +1,18 @@
 //! A journal: its names and its entries, and the calls that read and lengthen it.
 
-ghost use Rattle.std.specs.Prelude.{◌≡◌, ◌≤◌, ◌<◌, length, false, Some, IfOk, IfErr};
+ghost use Rattle.std.specs.Prelude.{◌≡◌, ◌⊎◌, ◌≤◌, ◌<◌, ℕ, length, false, Some, Err, IfOk, IfErr};
 ghost use Rattle.std.specs.Prelude.{IfSome, OnOk, OnErr, IsOkUnless};
 ghost use Rattle.std.specs.Option.{ForSome};
 ghost use Rattle.std.specs.List.{slice_get};
 ghost use Rattle.outside.specs.Disk.{HasOneImage};
+ghost use Rattle.order_meaning.specs.declared.names.Names.{Names};
 ghost use Rattle.gate_log.specs.Records.{Stands};
-ghost use Rattle.gate_log.specs.Log.{OnlyRead};
+ghost use Rattle.gate_log.specs.Log.{OnlyReads};
 ghost use Rattle.pair_journal.specs.declared.error.JournalError.TheVariants as errors;
 ghost use Rattle.pair_journal.specs.Payload.{AreNext, IsEntry};
 ghost use Rattle.pair_journal.specs.Birth.{AreNames};
 ghost use Rattle.pair_journal.specs.Numbers.{GoesOn, first_numbers, numbers_after, next_out};
-ghost use Rattle.pair_journal.specs.Journal.{JournalOf, Born, Spells};
+ghost use Rattle.pair_journal.specs.Journal.{JournalOf, Unborn, Born, Spells};
 ghost use Rattle.pair_journal.specs.Given.{given, source_of};
 ghost use Rattle.pair_journal.specs.OutBuf.{Tells, IsTold};
 ghost use Rattle.pair_journal.specs.Calls.{HasDiskCause, ReadsOnly, Looks, Loads, BornOrNot};
@@ -56,7 +57,7 @@ impl Journal {
         ensures ok { IfOk result (λ journal. Spells log.payloads journal.names journal.entries) }
         ensures whole { IfOk result (λ journal. journal.broken ≡ log.broken) }
         ensures err { IfErr result (Misreads log.payloads) }
-        ensures only_read { OnlyRead (D.bytes disk.old) (D.bytes disk.new) (D.image disk.old) (D.image disk.new) }
+        ensures only_read { OnlyReads D.bytes D.image disk.old disk.new }
         ensures cause { HasDiskCause (D.faults disk.old) (D.faults disk.new) result }
     {
         let names = read_names(alloc, &log, disk)?;
@@ -75,7 +76,7 @@ impl Journal {
     /// disk's count of faults rose; `NoMemory`.
     pub fn look<D: Disk>(alloc: Global, disk: &mut D) -> Result<Option<Journal>, JournalError>
         ensures looks { IfSome (D.bytes disk.old) (λ b. Looks b result) }
-        ensures only_read { OnlyRead (D.bytes disk.old) (D.bytes disk.new) (D.image disk.old) (D.image disk.new) }
+        ensures only_read { OnlyReads D.bytes D.image disk.old disk.new }
         ensures cause { HasDiskCause (D.faults disk.old) (D.faults disk.new) result }
     {
         match Log::look(alloc, disk)? {
@@ -89,19 +90,29 @@ impl Journal {
     /// # Errors
     /// `Refused` exactly where the bytes are refused at that place; `NamesDiffer` exactly where
     /// they are a journal of other names; `DiskFault` only where the disk's count of faults rose;
-    /// `NoMemory`.
+    /// `NoMemory`. At `Refused` and `NamesDiffer` the disk was only read, and one that is not
+    /// unborn whatever the answer.
     pub fn load<D: Disk>(
         alloc: Global,
         disk: &mut D,
         names: &Names,
     ) -> Result<Journal, JournalError>
-        ensures loads { IfSome (D.bytes disk.old) (λ b. Loads names.now b result (D.bytes disk.new)) }
+        ensures loads { IfSome (D.bytes disk.old) (λ b.
+            Loads names.now b result (D.bytes disk.new)) }
         ensures stands { IfOk result (λ journal. ForSome (D.bytes disk.new) (λ b.
             JournalOf b (Born journal.names journal.entries))) }
-        ensures images { BornOrNot (D.bytes disk.old) (D.image disk.old) (D.image disk.new) names.now }
+        ensures images { BornOrNot (D.bytes disk.old)
+            (D.image disk.old) (D.image disk.new) names.now }
         ensures durable { OnOk result (HasOneImage (D.bytes disk.old) (D.image disk.old) →
             HasOneImage (D.bytes disk.new) (D.image disk.new)) }
         ensures whole { IfOk result (λ journal. journal.broken ≡ false) }
+        ensures only_unborn_is_written { IfSome (D.bytes disk.old) (λ b.
+            JournalOf b Unborn ⊎ OnlyReads D.bytes D.image disk.old disk.new) }
+        ensures refused_only_reads { (at : ℕ) → result ≡ Err (errors.Refused at) →
+            OnlyReads D.bytes D.image disk.old disk.new }
+        ensures differ_only_reads { (kept given : Names) →
+            result ≡ Err (errors.NamesDiffer kept given) →
+            OnlyReads D.bytes D.image disk.old disk.new }
         ensures cause { HasDiskCause (D.faults disk.old) (D.faults disk.new) result }
     {
         let log = open_log(alloc, disk, names)?;
@@ -159,7 +170,7 @@ impl Journal {
             JournalOf b (Born self.now.names self.now.entries)) }
         ensures entry { IfOk result (λ entry. slice_get self.now.entries index ≡ Some entry) }
         ensures bounds { IfOk result IsEntry }
-        ensures only_read { OnlyRead (D.bytes disk.old) (D.bytes disk.new) (D.image disk.old) (D.image disk.new) }
+        ensures only_read { OnlyReads D.bytes D.image disk.old disk.new }
         ensures cause { HasDiskCause (D.faults disk.old) (D.faults disk.new) result }
         ensures only { ReadsOnly result }
     {
@@ -233,7 +244,7 @@ impl Journal {
             JournalOf b (Born self.now.names self.now.entries)) }
         ensures out { OnOk result (Tells (given side number self.now.entries) into.new) }
         ensures bounds { OnOk result (IsTold into.new) }
-        ensures only_read { OnlyRead (D.bytes disk.old) (D.bytes disk.new) (D.image disk.old) (D.image disk.new) }
+        ensures only_read { OnlyReads D.bytes D.image disk.old disk.new }
         ensures cause { HasDiskCause (D.faults disk.old) (D.faults disk.new) result }
         ensures only { IsOkUnless result errors.DiskFault }
     {
@@ -250,8 +261,7 @@ impl Journal {
     /// memory.
     ///
     /// An out was translated where its entry took a message of the other side whose body begins
-    /// with
-    /// MsgType(35) and the out's type, which is D, F, G or H to the venue, and 8 or 9 to the
+    /// with MsgType(35) and the out's type, which is D, F, G or H to the venue, and 8 or 9 to the
     /// client.
     pub fn source_of(&self, side: Side, number: u32) -> Option<(u32, u8)>
         ensures { result ≡ source_of side number self.now.entries }

@@ -9,6 +9,7 @@ mod entry;
 mod error;
 mod given;
 mod journal;
+pub mod laws;
 mod loading;
 mod numbers;
 mod out_buf;

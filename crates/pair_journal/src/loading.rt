@@ -1,17 +1,18 @@
 //! The payloads of a log as the names and the entries of a journal.
 
-ghost use Rattle.std.specs.Prelude.{◌≡◌, ◌<◌, ℕ, List, map, drop, MatchOption, IfOk};
-ghost use Rattle.std.specs.Prelude.{IfErr, IfSome, OnOk, Err, false};
+ghost use Rattle.std.specs.Prelude.{◌≡◌, ◌≢◌, ◌⊎◌, ◌<◌, ℕ, List, [], ◌∷◌, map, drop, MatchOption};
+ghost use Rattle.std.specs.Prelude.{IfOk, IfErr, IfSome, OnOk, Err, false};
 ghost use Rattle.std.specs.Option.{ForSome};
 ghost use Rattle.order_meaning.specs.declared.names.Names.{Names};
 ghost use Rattle.gate_log.specs.Records.{Stands};
-ghost use Rattle.gate_log.specs.Log.{OnlyRead, IsAt, BornOrNot};
+ghost use Rattle.gate_log.specs.Log.{OnlyReads, IsAt, BornOrNot};
 ghost use Rattle.outside.specs.Disk.{HasOneImage};
 ghost use Rattle.pair_journal.specs.Birth.{AreNames, birth_bytes};
 ghost use Rattle.pair_journal.specs.declared.entry.Entry.{Entry};
+ghost use Rattle.pair_journal.specs.declared.error.JournalError.TheVariants as errors;
 ghost use Rattle.pair_journal.specs.Payload.{entry_bytes};
 ghost use Rattle.pair_journal.specs.Numbers.{first_numbers};
-ghost use Rattle.pair_journal.specs.Journal.{AreEntries};
+ghost use Rattle.pair_journal.specs.Journal.{AreEntries, JournalOf, Unborn};
 ghost use Rattle.pair_journal.specs.Calls.{HasDiskCause, ReadsOnly, Loads};
 ghost use Rattle.pair_journal.specs.Loading.{IsBorn, Misreads, Follows, Opens};
 
@@ -35,7 +36,8 @@ fn read_record<D: Disk>(
     requires stands { ForSome (D.bytes disk.old) (λ b. Stands b log.now.payloads) }
     ensures payload { OnOk result ((payload : List ℕ) → IsAt log.now.payloads place payload →
         out.new.items ≡ payload) }
-    ensures only_read { OnlyRead (D.bytes disk.old) (D.bytes disk.new) (D.image disk.old) (D.image disk.new) }
+    ensures bound { place < MAX_DISK }
+    ensures only_read { OnlyReads D.bytes D.image disk.old disk.new }
     ensures cause { HasDiskCause (D.faults disk.old) (D.faults disk.new) result }
     ensures only { ReadsOnly result }
 {
@@ -50,7 +52,8 @@ pub(crate) fn open_log<D: Disk>(
     names: &Names,
 ) -> Result<Log, JournalError>
     ensures named { AreNames names.now }
-    ensures ok { IfOk result (λ log. Opens names.now (D.bytes disk.old) log.payloads (D.bytes disk.new)) }
+    ensures ok { IfOk result (λ log.
+        Opens names.now (D.bytes disk.old) log.payloads (D.bytes disk.new)) }
     ensures err { IfErr result (λ e. IfSome (D.bytes disk.old) (λ b.
         Loads names.now b (Err e) (D.bytes disk.new))) }
     ensures stands { IfOk result (λ log. ForSome (D.bytes disk.new) (λ b. Stands b log.payloads)) }
@@ -59,6 +62,13 @@ pub(crate) fn open_log<D: Disk>(
     ensures durable { OnOk result (HasOneImage (D.bytes disk.old) (D.image disk.old) →
         HasOneImage (D.bytes disk.new) (D.image disk.new)) }
     ensures whole { IfOk result (λ log. log.broken ≡ false) }
+    ensures only_unborn_is_written { IfSome (D.bytes disk.old) (λ b.
+        JournalOf b Unborn ⊎ OnlyReads D.bytes D.image disk.old disk.new) }
+    ensures refused_only_reads { (at : ℕ) → result ≡ Err (errors.Refused at) →
+        OnlyReads D.bytes D.image disk.old disk.new }
+    ensures older_only_reads { IfOk result (λ log. log.payloads ≢ birth_bytes names.now ∷ [] →
+        OnlyReads D.bytes D.image disk.old disk.new) }
+    ensures names_alike { (kept given : Names) → result ≡ Err (errors.NamesDiffer kept given) → ⊥ }
     ensures cause { HasDiskCause (D.faults disk.old) (D.faults disk.new) result }
 {
     are_names(names);
@@ -76,7 +86,7 @@ pub(crate) fn read_names<D: Disk>(
     requires stands { ForSome (D.bytes disk.old) (λ b. Stands b log.now.payloads) }
     ensures ok { IfOk result (IsBorn log.now.payloads) }
     ensures err { IfErr result (Misreads log.now.payloads) }
-    ensures only_read { OnlyRead (D.bytes disk.old) (D.bytes disk.new) (D.image disk.old) (D.image disk.new) }
+    ensures only_read { OnlyReads D.bytes D.image disk.old disk.new }
     ensures cause { HasDiskCause (D.faults disk.old) (D.faults disk.new) result }
 {
     let _ = log.count(); // says that it has a record
@@ -118,7 +128,7 @@ pub(crate) fn read_entries<D: Disk>(
     ensures ok { IfOk result (λ v. (drop 1 log.now.payloads ≡ map entry_bytes v.items)
         × AreEntries first_numbers v.items) }
     ensures err { IfErr result (Misreads log.now.payloads) }
-    ensures only_read { OnlyRead (D.bytes disk.old) (D.bytes disk.new) (D.image disk.old) (D.image disk.new) }
+    ensures only_read { OnlyReads D.bytes D.image disk.old disk.new }
     ensures cause { HasDiskCause (D.faults disk.old) (D.faults disk.new) result }
 {
     let mut entries = Vec::new(alloc);
@@ -126,9 +136,6 @@ pub(crate) fn read_entries<D: Disk>(
     let mut numbers = FIRST;
     let mut place = 5 + BIRTH_LEN as u64;
     for index in 1..log.count() {
-        if place >= MAX_DISK {
-            return Err(JournalError::NoMemory); // A log ends before this place.
-        }
         read_record(log, disk, place, &mut payload)?;
         let Some(entry) = entry_after(alloc, numbers, &payload)? else {
             return Err(JournalError::Refused { at: place });

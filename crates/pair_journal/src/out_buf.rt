@@ -1,6 +1,6 @@
 //! Room for one out that is read from a journal.
 
-ghost use Rattle.std.specs.Prelude.{◌≡◌, ◌+◌, ◌≤◌, ◌++◌, length, vec_len, vec_capacity};
+ghost use Rattle.std.specs.Prelude.{◌≡◌, ◌+◌, ◌≤◌, [], ◌++◌, length, vec_len, vec_capacity, IfOk};
 ghost use Rattle.pair_journal.specs.OutBuf.{told};
 
 use crate::Out;
@@ -42,11 +42,13 @@ fn extend_reserved(bytes: &mut Vec<u8>, more: &[u8])
 }
 
 impl OutBuf {
-    /// Room that tells no out yet.
+    /// Room that tells no out yet: an empty type, and no content.
     ///
     /// # Errors
     /// `AllocError` for want of memory.
-    pub fn new(alloc: Global) -> Result<OutBuf, AllocError> {
+    pub fn new(alloc: Global) -> Result<OutBuf, AllocError>
+        ensures { IfOk result (λ buf. (buf.msg_type ≡ []) × (buf.content ≡ [])) }
+    {
         Ok(OutBuf {
             bytes: Vec::with_capacity(alloc, OUT_ROOM)?,
             type_len: 0,

@@ -302,7 +302,8 @@ fn outs_front(alloc: Global, count: u8, bytes: &[u8]) -> Result<Option<(Outs, &[
     ensures { IfOk result (λ r. MatchOption r
         ((outs : List Out) (rest : List ℕ) → AreOuts outs → length outs ≡ count →
         bytes.now ≡ flat_map out_bytes outs ++ rest → ⊥)
-        (λ x. (bytes.now ≡ flat_map out_bytes x.0 ++ x.1.now) × AreOuts x.0 × (length x.0 ≡ count))) }
+        (λ x. (bytes.now ≡ flat_map out_bytes x.0 ++ x.1.now) × AreOuts x.0 ×
+        (length x.0 ≡ count))) }
 {
     let mut outs = Outs::new(alloc);
     let mut rest = bytes;

@@ -1,9 +1,6 @@
 use Rattle.std.proofs.Common.{rules}
-use Rattle.gate_log.proofs.CommitSteps.{gate_commits, gate_adds}
+use Rattle.gate_log.proofs.CommitSteps.{gate_commits}
 use Rattle.gate_log.proofs.commit.open_gate.Goals as goal
-
-pub returns-clause-appended : goal.returns-clause-appended
-returns-clause-appended g c = search (rules, gate_adds)
 
 pub returns-clause-images : goal.returns-clause-images
 returns-clause-images g c = search (rules, gate_commits)

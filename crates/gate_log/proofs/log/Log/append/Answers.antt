@@ -4,14 +4,8 @@ use Rattle.std.specs.Prelude.{if◌then◌else◌}
 use Rattle.gate_log.specs.Records.{Stands}
 use Rattle.gate_log.specs.State.{LogState}
 use Rattle.gate_log.specs.Log.{HasRoom}
-use Rattle.gate_log.proofs.Appending.{grown, keeps_list, keeps_same, stands_more}
+use Rattle.gate_log.proofs.Appending.{grown, stands_more}
 use Rattle.gate_log.proofs.log.Log.append.Goals as goal
-
-pub returns-in-Err-clause-images : goal.returns-in-Err-clause-images
-returns-in-Err-clause-images g c = keeps_list _ _ _ _ _ c.requires.stands c.add.ensures.images
-
-pub returns-in-Ok-clause-images : goal.returns-in-Ok-clause-images
-returns-in-Ok-clause-images g c = keeps_list _ _ _ _ _ c.requires.stands c.add.ensures.images
 
 -- one record of room was taken
 spare_taken : (b : Bool) (n : ℕ) → (if b then 1 else 0) ≡ n → 0 ≡ n - 1
@@ -55,6 +49,3 @@ returns-in-Ok-clause-stands g c = λ x e.
     c.push_reserved.ensures.items in
     subst (Stands x) (sym more.seen) (stands_more
     _ _ _ _ c.requires.stands c.add.ensures.told c.in-Ok.ensures.appended x e)
-
-pub returns-then-not-has_room-clause-images : goal.returns-then-not-has_room-clause-images
-returns-then-not-has_room-clause-images g c = keeps_same _ _ _ _ c.requires.stands
