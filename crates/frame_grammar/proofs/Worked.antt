@@ -29,10 +29,14 @@ one_frame : found Fix42 beat ≡ Whole beat_body []
 one_frame = refl
 
 -- a Logon of the other kind
-other_kind : found Fixt11 (wire (codes
-    "8=FIXT.1.1|9=70|35=A|49=GATE|56=VENU|34=1|52=20240102-10:00:00.000|98=0|108=30|1137=9|10=201|"))
-    ≡ Whole
-    (wire (codes "35=A|49=GATE|56=VENU|34=1|52=20240102-10:00:00.000|98=0|108=30|1137=9|")) []
+abbrev logon : List ℕ
+logon = wire (codes
+    "8=FIXT.1.1|9=70|35=A|49=GATE|56=VENU|34=1|52=20240102-10:00:00.000|98=0|108=30|1137=9|10=201|")
+
+abbrev logon_body : List ℕ
+logon_body = wire (codes "35=A|49=GATE|56=VENU|34=1|52=20240102-10:00:00.000|98=0|108=30|1137=9|")
+
+other_kind : found Fixt11 logon ≡ Whole logon_body []
 other_kind = refl
 
 wrong_kind : found Fixt11 beat ≡ Broken

@@ -35,7 +35,10 @@ impl Model for Buffer {
 
     ghost Value = { Window };
 
-    ghost view = { λ b. record { read = take b.start b.bytes.items; unread = drop b.start b.bytes.items } };
+    ghost view = { λ b. record {
+      read = take b.start b.bytes.items;
+      unread = drop b.start b.bytes.items;
+    } };
 
     ghost invariant = { λ b. (b.start ≤ length b.bytes.items) × (length b.bytes.items ≤ 16384)
         × (16384 ≤ vec_capacity b.bytes) × AreSums b.bytes.items b.sums };

@@ -4,15 +4,18 @@ use std::process::Abort;
 use std::test::Fail;
 
 const HEARTBEAT: &[u8] =
-    b"8=FIX.4.2\x019=47\x0135=0\x0149=CLNT\x0156=GATE\x0134=2\x0152=20240102-10:00:00\x0110=070\x01";
+    b"8=FIX.4.2\x019=47\x0135=0\x0149=CLNT\x0156=GATE\x0134=2\x0152=20240102-10:00:00\x01\
+      10=070\x01";
 
 const HEARTBEAT_BODY: &[u8] = b"35=0\x0149=CLNT\x0156=GATE\x0134=2\x0152=20240102-10:00:00\x01";
 
 const WRONG_SUM: &[u8] =
-    b"8=FIX.4.2\x019=47\x0135=0\x0149=CLNT\x0156=GATE\x0134=2\x0152=20240102-10:00:00\x0110=071\x01";
+    b"8=FIX.4.2\x019=47\x0135=0\x0149=CLNT\x0156=GATE\x0134=2\x0152=20240102-10:00:00\x01\
+      10=071\x01";
 
 const TEST_REQUEST: &[u8] =
-    b"8=FIX.4.2\x019=57\x0135=1\x0149=CLNT\x0156=GATE\x0134=3\x0152=20240102-10:00:00\x01112=8=FIX\x0110=119\x01";
+    b"8=FIX.4.2\x019=57\x0135=1\x0149=CLNT\x0156=GATE\x0134=3\x0152=20240102-10:00:00\x01\
+      112=8=FIX\x0110=119\x01";
 
 // A piece by its place and length, and its cause where it is garbled.
 type Seen = (u64, u64, Option<Garble>);
@@ -117,7 +120,8 @@ fn lengths_are_judged(rt: HostRuntime) -> Result<(), Fail> {
     comes(
         &rt,
         rt.alloc(),
-        b"8=FIX.4.2\x019=0000047\x0135=0\x0149=CLNT\x0156=GATE\x0134=2\x0152=20240102-10:00:00\x0110=054\x01",
+        b"8=FIX.4.2\x019=0000047\x0135=0\x0149=CLNT\x0156=GATE\x0134=2\x0152=20240102-10:00:00\x01\
+          10=054\x01",
         &[(0, 74, None)],
         Rest::Clean,
     )?;
@@ -242,7 +246,8 @@ fn a_framer_starts_again(rt: HostRuntime) -> Result<(), Fail> {
     framer.restart();
     assert_eq!(rt; framer.finish(), Rest::Clean);
     framer.feed(
-        b"8=FIXT.1.1\x019=70\x0135=A\x0149=GATE\x0156=VENU\x0134=1\x0152=20240102-10:00:00.000\x0198=0\x01108=30\x011137=9\x0110=201\x01",
+        b"8=FIXT.1.1\x019=70\x0135=A\x0149=GATE\x0156=VENU\x0134=1\x0152=20240102-10:00:00.000\x01\
+          98=0\x01108=30\x011137=9\x0110=201\x01",
     );
     assert_eq!(rt; seen(framer.next()), Some((0, 93, None)));
     Ok(())

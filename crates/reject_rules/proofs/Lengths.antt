@@ -20,6 +20,7 @@ use Rattle.reject_rules.specs.Reasons.{business_reason, business_text}
 use Rattle.reject_rules.specs.Refusals.{no_counterpart}
 use Rattle.reject_rules.specs.Renumbered.{refuser_of, words_if, quoted, quote_if, rejected_text}
 use Rattle.reject_rules.specs.Laws.{IsWord}
+use Rattle.reject_rules.proofs.Words.{by_three, session_text_by, suffix_by}
 
 -- a number of 32 bits has at most ten digits
 word_len : (n : ℕ) → n < 2 ^ 32 → length (decimal n) ≤ 10
@@ -94,29 +95,15 @@ take_len most text = omega (arith, length-take most text)
 take_shorter : (most : ℕ) (text : List ℕ) → length (take most text) ≤ length text
 take_shorter most text = omega (arith, length-take most text)
 
-by_words : (a b c : Bool) → IfSome (if a then Some (codes "tag appears more than once") else
-    (if b then Some (codes "group fields out of order") else (if c then Some
-    (codes "wrong group count") else None)))
-    (λ t. length t ≤ 512)
-by_words true b c = lit≤ tt
-by_words false true c = lit≤ tt
-by_words false false true = lit≤ tt
-by_words false false false = tt
-
 words_len : (reason : ℕ) → IfSome (later_reason_words reason) (λ t. length t ≤ 512)
 unfolding later_reason_words
-words_len reason = by_words (reason == 13) (reason == 15) (reason == 16)
-
-text_by : (low : Bool) (words : Option (List ℕ)) → IfSome words (λ t. length t ≤ 512) →
-    IfSome (if low then None else words) (λ t. length t ≤ 512)
-text_by true words short = tt
-text_by false words short = short
+words_len reason =
+    by_three (λ t. length t ≤ 512) (reason == 13) (reason == 15) (reason == 16) _ _ _
+    (lit≤ tt) (lit≤ tt) (lit≤ tt)
 
 pub session_text_len : (side : Side) (reason : ℕ) →
     IfSome (session_text side reason) (λ t. length t ≤ 512)
-session_text_len Client reason =
-    text_by (nat_le reason MAX_REASON42) (later_reason_words reason) (words_len reason)
-session_text_len Venue reason = tt
+session_text_len side reason = session_text_by (λ t. length t ≤ 512) words_len side reason
 
 reason_by : (low : Bool) (reason : ℕ) → reason < 2 ^ 32 → IsWord (if low then Some reason else None)
 reason_by true reason word = word
@@ -175,18 +162,14 @@ pub quoted_len : (text : Option (List ℕ)) → IfSome (quoted text) (λ t. leng
 quoted_len None = tt
 quoted_len (Some text) = take_len 512 text
 
-suffix_by : (low : Bool) (suffix : List ℕ) → length suffix ≤ 17 →
-    length (if low then [] else suffix) ≤ 17
-suffix_by true suffix short = omega arith
-suffix_by false suffix short = short
-
 suffix_len : (reason : ℕ) → reason < 2 ^ 32 → length (reason_suffix 380 5 reason) ≤ 17
 suffix_len reason word =
     let tag : length (decimal 380) ≤ 3 = tag_len 380 (lit< tt) in
     let digits : length (decimal reason) ≤ 10 = word_len reason word in
     let whole = five_texts (codes " [") (decimal 380) (codes "=") (decimal reason) (codes "]") in
-    suffix_by (nat_le reason 5)
-    (codes " [" ++ decimal 380 ++ codes "=" ++ decimal reason ++ codes "]") (omega (arith, whole))
+    suffix_by (λ t. length t ≤ 17) (nat_le reason 5)
+    (codes " [" ++ decimal 380 ++ codes "=" ++ decimal reason ++ codes "]") (lit≤ tt)
+    (omega (arith, whole))
 
 longer : (text : Option (List ℕ)) (most more : ℕ) → IfSome text (λ t. length t ≤ most) →
     IfSome text (λ t. length t ≤ most + more)

@@ -1,4 +1,5 @@
 pub mod Lengths
 pub mod Plain
 pub mod Short
+mod Words
 mod Worked

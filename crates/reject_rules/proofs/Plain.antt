@@ -1,7 +1,7 @@
 -- What a refusal says is fields that end at their SOH.
 use Rattle.std.proofs.Common.{◌≡◌, ℕ, ◌<◌, ◌^◌, Bool, true, false, List, [], ◌∷◌, ◌++◌, take, drop}
 use Rattle.std.proofs.Common.{codes, Option, Some, None, IfSome, refl, sym, ap, subst, ◌∙◌}
-use Rattle.std.proofs.Common.{if◌then◌else◌, arith, lit<}
+use Rattle.std.proofs.Common.{arith, lit<}
 use Rattle.std.specs.Prelude.{nat_le, ◌==◌, All}
 use Rattle.std.specs.Option.{option_map}
 use Rattle.std.specs.Fmt.{decimal}
@@ -23,7 +23,6 @@ use Rattle.order_meaning.specs.declared.fault.Fault.TheVariants.{NotSupported, N
 use Rattle.order_meaning.specs.declared.refusal.Refusal.{Refusal}
 use Rattle.reject_rules.specs.declared.said.Said.{Said}
 use Rattle.reject_rules.specs.Content.{field_if, number_if, reject, business_reject}
-use Rattle.order_meaning.specs.declared.reasons.TheConstants.{MAX_REASON42}
 use Rattle.order_meaning.specs.Reasons.{later_reason_words}
 use Rattle.reject_rules.specs.Reasons.{session_reason, session_text, reason_suffix, with_suffix}
 use Rattle.reject_rules.specs.Reasons.{business_reason, business_text}
@@ -34,6 +33,7 @@ use Rattle.reject_rules.specs.Renumbered.{rejected_text}
 use Rattle.reject_rules.specs.Laws.{IsWord, HasWords, IsBounded, HasNoSoh, HasTexts, refusal_tags}
 use Rattle.reject_rules.specs.Laws.{IsRefusalField, IsOf}
 use Rattle.reject_rules.proofs.Lengths.{session_reason_word, business_reason_word}
+use Rattle.reject_rules.proofs.Words.{by_three, session_text_by, suffix_by}
 
 -- digits are no SOH
 AreDigits : List ℕ → Type 0
@@ -160,27 +160,13 @@ of_business number msg_type id reason text word plain what why saying = record {
 
 -- ---- texts
 
-by_words : (a b c : Bool) → IfSome (if a then Some (codes "tag appears more than once") else
-    (if b then Some (codes "group fields out of order") else (if c then Some
-    (codes "wrong group count") else None))) HasNoSoh
-by_words true b c = refl
-by_words false true c = refl
-by_words false false true = refl
-by_words false false false = tt
-
 words_plain : (reason : ℕ) → IfSome (later_reason_words reason) HasNoSoh
 unfolding later_reason_words
-words_plain reason = by_words (reason == 13) (reason == 15) (reason == 16)
-
-text_by : (low : Bool) (words : Option (List ℕ)) → IfSome words HasNoSoh →
-    IfSome (if low then None else words) HasNoSoh
-text_by true words plain = tt
-text_by false words plain = plain
+words_plain reason =
+    by_three HasNoSoh (reason == 13) (reason == 15) (reason == 16) _ _ _ refl refl refl
 
 session_text_plain : (side : Side) (reason : ℕ) → IfSome (session_text side reason) HasNoSoh
-session_text_plain Client reason =
-    text_by (nat_le reason MAX_REASON42) (later_reason_words reason) (words_plain reason)
-session_text_plain Venue reason = tt
+session_text_plain side reason = session_text_by HasNoSoh words_plain side reason
 
 no_counterpart_plain : (tag : ℕ) → tag < 2 ^ 32 → HasNoSoh (no_counterpart tag)
 unfolding no_counterpart
@@ -216,14 +202,10 @@ quoted_plain : (text : Option (List ℕ)) → IfSome text HasNoSoh → IfSome (q
 quoted_plain None plain = tt
 quoted_plain (Some text) plain = take_plain 512 text plain
 
-suffix_by : (low : Bool) (suffix : List ℕ) → HasNoSoh suffix → HasNoSoh (if low then [] else suffix)
-suffix_by true suffix plain = refl
-suffix_by false suffix plain = plain
-
 suffix_plain : (reason : ℕ) → reason < 2 ^ 32 → HasNoSoh (reason_suffix 380 5 reason)
 suffix_plain reason word =
-    suffix_by (nat_le reason 5)
-    (codes " [" ++ decimal 380 ++ codes "=" ++ decimal reason ++ codes "]")
+    suffix_by HasNoSoh (nat_le reason 5)
+    (codes " [" ++ decimal 380 ++ codes "=" ++ decimal reason ++ codes "]") refl
     (five_plain (codes " [") (decimal 380) (codes "=") (decimal reason) (codes "]") refl
     (number_plain 380 (lit< tt)) refl
     (number_plain reason word) refl)

@@ -80,8 +80,8 @@ pub fn used(alloc: Global, number: u32, msg_type: &[u8]) -> Result<Said, AllocEr
     business_refusal(alloc, number, msg_type, OTHER, b"tag 11 is already used")
 }
 
-/// What is said to the client of a request of this number and type while the venue's session is
-/// not active: a BusinessMessageReject(j) with 380=4 and the text `venue is not connected`.
+/// What is said to the client of a request of this number and type while the venue's session is not
+/// active: a BusinessMessageReject(j) with 380=4 and the text `venue is not connected`.
 ///
 /// # Errors
 ///

@@ -118,8 +118,8 @@ abbrev pub IsRequestFrom : Input → ℕ → Type 0
 IsRequestFrom (Message head) from = AsksFrom head.what from
 IsRequestFrom other from = ⊥
 
--- why a message is rejected: a wrong name or time, the NewSeqNo(36) of a SequenceReset, or
--- the fault of another session message
+-- why a message is rejected: a wrong name or time, the NewSeqNo(36) of a SequenceReset, or the
+-- fault of another session message
 abbrev pub FaultOf : What → ℕ → ℕ → Type 0
 FaultOf (what.Faulty tag reason) t r = (tag ≡ t) × (reason ≡ r)
 FaultOf other t r = ⊥

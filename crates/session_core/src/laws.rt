@@ -1,5 +1,6 @@
 //! What the session table keeps, whatever happens to a session. Each law is a contract: its
 //! function does nothing.
+
 ghost use Rattle.std.specs.Prelude.{◌≡◌, ℕ, ◌+◌, ◌≤◌, ◌⊎◌, ◌==◌, ◌<◌, if◌then◌else◌, IsOk, IsOkAnd};
 ghost use Rattle.std.specs.Prelude.{IsSomeAnd, Contains, IfOk, IfSome, IsSome, length, Some, None};
 ghost use Rattle.std.specs.Prelude.{[], ◌∷◌, false};
@@ -165,8 +166,8 @@ pub fn said_is_set_by_a_number_given()
     ensures { (s : Session) (now : ℕ) → IfOk (given s now) (λ g. g.1.said ≡ now) }
 {}
 
-/// A session that is Active after an early message has a request open, up to that message at
-/// least. A SequenceReset that is no gap fill goes by no number.
+/// A session that is Active after an early message has a request open, up to that message at least.
+/// A SequenceReset that is no gap fill goes by no number.
 pub fn early_message_leaves_a_request_open()
     ensures { (s : Session) (head : Head) (now n : ℕ) → GoesByNumber head.what
         → head.number ≡ Some n → s.numbers.next_in < n

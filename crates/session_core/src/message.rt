@@ -1,3 +1,5 @@
+//! What a session does at a whole frame from the peer: before the Logon, and logged on.
+
 ghost use Rattle.std.specs.Prelude.{◌≡◌, true, false, [], ◌∷◌, if◌then◌else◌};
 ghost use Rattle.std.specs.Ordering.{nat_cmp};
 ghost use Rattle.std.specs.declared.cmp.Ordering.TheVariants.{Equal, Greater};

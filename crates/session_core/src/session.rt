@@ -32,8 +32,8 @@ pub struct Ask {
     pub since: u64,
 }
 
-/// One FIX session, as the gateway sees it. All moments are in milliseconds since
-/// 1970-01-01 00:00 UTC.
+/// One FIX session, as the gateway sees it. All moments are in milliseconds since 1970-01-01 00:00
+/// UTC.
 #[derive(Clone, Copy, Debug, PartialEq, Eq)]
 pub struct Session {
     /// Who is at the other end.
@@ -63,8 +63,7 @@ pub struct Step {
     pub next: Session,
 }
 
-/// No number is left: a message would take one past
-/// [`MAX_MSG_SEQ_NUM`](crate::MAX_MSG_SEQ_NUM).
+/// No number is left: a message would take one past [`MAX_MSG_SEQ_NUM`](crate::MAX_MSG_SEQ_NUM).
 #[derive(Clone, Copy, Debug, PartialEq, Eq)]
 pub struct Spent;
 

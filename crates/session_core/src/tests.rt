@@ -175,7 +175,8 @@ fn ticked(rt: &impl Abort, row: &str, before: &Session, now: u64, acts: &[Act], 
 // The lines of a table: the row, the session before, the message or the moment, the acts, the
 // session after.
 macro_rules! table {
-    ($rt:expr, $call:ident: $($row:literal | $before:expr, $input:expr => $acts:expr, $after:expr;)*) => {
+    ($rt:expr, $call:ident:
+        $($row:literal | $before:expr, $input:expr => $acts:expr, $after:expr;)*) => {
         $($call($rt, $row, &$before, $input, &$acts, &$after);)*
     };
 }
@@ -229,7 +230,8 @@ fn a_good_logon(rt: HostRuntime) {
         "S9 141" | session(Client, Wait, 1, 1), message(1, RESET_LOGON)
             => [Take, logon(true)], heart(45, &spoken(Client, Active, 2, 2));
         "S10" | wait, message(6, LOGON)
-            => [Skip, logon(false), ASK], asking(&heart(45, &spoken(Client, Active, 5, 10)), 6, NOW);
+            => [Skip, logon(false), ASK],
+            asking(&heart(45, &spoken(Client, Active, 5, 10)), 6, NOW);
         "S11" | asked, message(5, LOGON) => [Take], quiet(Venue, Active, 6, 8);
         "S11 141" | session(Venue, Asked, 1, 2), message(1, RESET_LOGON)
             => [Take], quiet(Venue, Active, 2, 2);
@@ -335,7 +337,8 @@ fn the_expected_message(rt: HostRuntime) {
             => [Take, Resend { from: 2, to: 7 }], taken;
         "S26 past it" | up, message(5, What::ResendRequest { from: 2, to: 8 })
             => [Take, Resend { from: 2, to: 7 }], taken;
-        "S26 none given" | session(Client, Active, 5, 1), message(5, What::ResendRequest { from: 1, to: 1 })
+        "S26 none given" | session(Client, Active, 5, 1),
+            message(5, What::ResendRequest { from: 1, to: 1 })
             => [Take, Resend { from: 1, to: 0 }], quiet(Client, Active, 6, 1);
         "S29" | up, message(5, faulty) => [Take, reject(112, 1)], answered;
         "S30" | up, message(5, What::Logout)

@@ -1,3 +1,5 @@
+//! What a session does at a moment at which nothing came.
+
 ghost use Rattle.std.specs.Prelude.{◌≡◌};
 ghost use Rattle.session_core.specs.Table.{effect_of, is_test_due, is_heartbeat_due, is_unanswered};
 ghost use Rattle.session_core.specs.Table.{elapsed, silence_limit, is_ask_due, tick_row, S34};

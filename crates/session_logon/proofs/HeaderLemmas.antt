@@ -1,12 +1,11 @@
 -- The header of the fields up to a place, and one more.
 use Rattle.std.proofs.Common.{◌≡◌, ℕ, ◌+◌, ◌==◌, ◌∙◌, true, false, List, [], ◌∷◌, ◌++◌, Some, None}
-use Rattle.std.proofs.Common.{refl, ap, take, find, slice_get, get_or, length, ◌≤◌, ◌<◌}
+use Rattle.std.proofs.Common.{refl, ap, take, map, find, get_or, length, ◌<◌}
 use Rattle.std.proofs.Common.{if◌then◌else◌}
 use Rattle.std.specs.declared.option.Option.{Option}
 use Rattle.std.specs.Option.{option_map, option_or}
 use Rattle.std.proofs.lemmas.List.Folds.{find-append}
-use Rattle.std.proofs.lemmas.List.{take_more, take_all}
-use Rattle.std.proofs.lemmas.Option.{slice_get_within, get_or_from_slice_get, slice_get-get_or}
+use Rattle.std.proofs.lemmas.List.{map-append, take_more}
 use Rattle.field_groups.specs.Field.{Field}
 use Rattle.session_core.specs.declared.tag.TheConstants.{MSG_SEQ_NUM, POSS_DUP_FLAG, SENDER_COMP_ID}
 use Rattle.session_core.specs.declared.tag.TheConstants.{SENDING_TIME, TARGET_COMP_ID}
@@ -58,24 +57,12 @@ header_of_push fields field =
     first_value-push SENDING_TIME fields field in
     rw (sender, target, number, dup, time) refl
 
--- one place more
-more_fields : (fields : List Field) (i : ℕ) (field : Field)
-    → slice_get fields i ≡ Some field → take (i + 1) fields ≡ take i fields ++ field ∷ []
-more_fields fields i field e =
-    let is : get_or fields i field ≡ field = get_or_from_slice_get fields i field field e in
-    take_more fields i field (slice_get_within fields i field e)
-    ∙ ap (λ f. take i fields ++ f ∷ []) is
-
-pub header_of_more : (fields : List Field) (i : ℕ) (field : Field) → slice_get fields i ≡ Some field
-    → header_of (take (i + 1) fields) ≡ noted field (header_of (take i fields))
-header_of_more fields i field e =
-    ap header_of (more_fields fields i field e) ∙ header_of_push (take i fields) field
-
-pub header_of_all : (fields : List Field) (i : ℕ)
-    → length fields ≤ i → header_of (take i fields) ≡ header_of fields
-header_of_all fields i h = ap header_of (take_all i fields h)
-
--- a place before the last has a field
-pub none_within : (fields : List Field) (i : ℕ) → i < length fields → None ≡ slice_get fields i → ⊥
-none_within fields i within e = let at : slice_get fields i ≡ Some (get_or fields i (0, [])) =
-    slice_get-get_or fields i (0, []) within in absurd (cc (e, at))
+-- fields that are seen through a view: one more
+module _ {A : Type 0} (view : A → Field) where
+  pub header_of_more : (items : List A) (i : ℕ) (other : A) → i < length items
+      → header_of (map view (take (i + 1) items))
+      ≡ noted (view (get_or items i other)) (header_of (map view (take i items)))
+  header_of_more items i other within =
+      ap (λ xs. header_of (map view xs)) (take_more items i other within)
+      ∙ ap header_of (map-append view (take i items) (get_or items i other ∷ []))
+      ∙ header_of_push (map view (take i items)) (view (get_or items i other))

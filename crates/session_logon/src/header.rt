@@ -39,7 +39,6 @@ impl<'a> Model for Header<'a> {
 
 impl<'a> Header<'a> {
     /// The header of these fields.
-    #[tactic(auto, using(crate::proofs::HeaderLemmas::header_of_more))]
     pub(crate) fn of(fields: &Fields<'a>) -> Header<'a>
         ensures { result ≡ header_of fields.now }
     {
@@ -50,10 +49,8 @@ impl<'a> Header<'a> {
             dup: None,
             time: None,
         };
-        for place in 0..fields.len() {
-            if let Some((tag, value)) = fields.at(place) {
-                header.note(tag, value);
-            }
+        for (tag, value) in fields.as_slice() {
+            header.note(*tag, value);
         }
         header
     }

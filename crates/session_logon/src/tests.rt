@@ -50,7 +50,7 @@ fn body(alloc: Global, front: &[u8], back: &[u8]) -> Result<Vec<u8>, AllocError>
     Ok(body)
 }
 
-// The head of a message with these fields.
+// The head of a message with these fields, now.
 fn head(
     alloc: Global,
     names: &Names,
@@ -68,14 +68,16 @@ fn head(
 fn numbers(rt: HostRuntime) -> Result<(), Fail> {
     let names = names(&rt);
     #[rattlefmt::skip]
-    let rows: [(&[u8], Option<u32>); 15] = [
+    let rows: [(&[u8], Option<u32>); 18] = [
         (b"", None),
         (b"34=|", None),
         (b"34=0|", None),
         (b"34=1|", Some(1)),
+        (b"34=2|", Some(2)),
         (b"34=007|", Some(7)),
         (b"34=2|34=9|", Some(2)),
         (b"34=x|34=9|", None),
+        (b"34=999999998|", Some(999_999_998)),
         (b"34=999999999|", Some(999_999_999)),
         (b"34=1000000000|", None),
         (b"34=1000000001|", None),
@@ -83,6 +85,7 @@ fn numbers(rt: HostRuntime) -> Result<(), Fail> {
         (b"34=00000000001|", None),
         (b"34=99999999999|", None),
         (b"34=+1|", None),
+        (b"34=-1|", None),
         (b"134=5|", None),
     ];
     let others: &[u8] = b"49=CLNT|56=GATE|52=20240102-10:00:00|";
@@ -100,7 +103,7 @@ fn names_and_times(rt: HostRuntime) -> Result<(), Fail> {
     let names = names(&rt);
     // the fields; the wrong name, the reason against the time, whether it is a duplicate
     #[rattlefmt::skip]
-    let rows: [(&[u8], Option<u32>, Option<u8>, bool); 34] = [
+    let rows: [(&[u8], Option<u32>, Option<u8>, bool); 40] = [
         (b"49=CLNT|56=GATE|52=20240102-10:00:00|", None, None, false),
         (b"52=20240102-10:00:00|56=GATE|49=CLNT|", None, None, false),
         (b"49=CLNT|49=X|56=GATE|56=X|52=20240102-10:00:00|52=X|", None, None, false),
@@ -115,14 +118,19 @@ fn names_and_times(rt: HostRuntime) -> Result<(), Fail> {
         (b"49=CLNT|52=20240102-10:00:00|", Some(56), None, false),
         (b"49=CLNT|56=|52=20240102-10:00:00|", Some(56), None, false),
         (b"49=CLNT|56=gate|52=20240102-10:00:00|", Some(56), None, false),
+        (b"49=CLNT|56=X|56=GATE|52=20240102-10:00:00|", Some(56), None, false),
+        (b"49=GATE|56=CLNT|52=20240102-10:00:00|", Some(49), None, false),
         (b"49=CLNT|56=GATE|", None, Some(1), false),
         (b"49=CLNT|56=GATE|52=|", None, Some(4), false),
         (b"49=CLNT|56=GATE|52=20240102 10:00:00|", None, Some(6), false),
         (b"49=CLNT|56=GATE|52=20240102-10:00:00.5|", None, Some(6), false),
         (b"49=CLNT|56=GATE|52=20240230-10:00:00|", None, Some(5), false),
         (b"49=CLNT|56=GATE|52=20240102-24:00:00|", None, Some(5), false),
+        (b"49=CLNT|56=GATE|52=X|52=20240102-10:00:00|", None, Some(6), false),
+        (b"49=CLNT|56=GATE|52=20240102-09:58:00.001|", None, None, false),
         (b"49=CLNT|56=GATE|52=20240102-09:58:00|", None, None, false),
         (b"49=CLNT|56=GATE|52=20240102-09:57:59.999|", None, Some(10), false),
+        (b"49=CLNT|56=GATE|52=20240102-10:01:59.999|", None, None, false),
         (b"49=CLNT|56=GATE|52=20240102-10:02:00|", None, None, false),
         (b"49=CLNT|56=GATE|52=20240102-10:02:00.000|", None, None, false),
         (b"49=CLNT|56=GATE|52=20240102-10:02:00.001|", None, Some(10), false),
@@ -133,6 +141,7 @@ fn names_and_times(rt: HostRuntime) -> Result<(), Fail> {
         (b"43=Y|43=N|49=CLNT|56=GATE|52=20240102-10:00:00|", None, None, true),
         (b"43=N|43=Y|49=CLNT|56=GATE|52=20240102-10:00:00|", None, None, false),
         (b"43=y|49=CLNT|56=GATE|52=20240102-10:00:00|", None, None, false),
+        (b"43=1|49=CLNT|56=GATE|52=20240102-10:00:00|", None, None, false),
         (b"43=|49=CLNT|56=GATE|52=20240102-10:00:00|", None, None, false),
         (b"43=YY|49=CLNT|56=GATE|52=20240102-10:00:00|", None, None, false),
     ];
@@ -144,6 +153,66 @@ fn names_and_times(rt: HostRuntime) -> Result<(), Fail> {
             "{fields:?}"
         );
         assert_eq!(rt; (head.number, head.what), (Some(7), What::App));
+    }
+    Ok(())
+}
+
+#[test]
+fn names_of_the_venue(rt: HostRuntime) -> Result<(), Fail> {
+    let names = names(&rt);
+    // the fields; the wrong name
+    #[rattlefmt::skip]
+    let rows: [(&[u8], Option<u32>); 6] = [
+        (b"49=VENU|56=GATE|", None),
+        (b"49=CLNT|56=GATE|", Some(49)),
+        (b"49=VENU|56=CLNT|", Some(56)),
+        (b"49=GATE|56=VENU|", Some(49)),
+        (b"56=GATE|", Some(49)),
+        (b"49=VENU|", Some(56)),
+    ];
+    for (fields, comp) in rows {
+        let front = b"34=7|52=20240102-10:00:00|";
+        let head = head(rt.alloc(), &names, Venue, b"8", front, fields)?;
+        assert_eq!(rt; (head.comp, head.time), (comp, None), "{fields:?}");
+        assert_eq!(rt; (head.number, head.what), (Some(7), What::App));
+    }
+    Ok(())
+}
+
+#[test]
+fn windows(rt: HostRuntime) -> Result<(), Fail> {
+    let names = names(&rt);
+    // 2024-01-01 00:00:00
+    let new_year = 1_704_067_200_000;
+    // the window in seconds, the moment of reading, SendingTime; the reason against it
+    #[rattlefmt::skip]
+    let rows: [(u32, u64, &[u8], Option<u8>); 16] = [
+        (0, NOW, b"52=20240102-10:00:00|", None),
+        (0, NOW, b"52=20240102-09:59:59.999|", Some(10)),
+        (0, NOW, b"52=20240102-10:00:00.001|", Some(10)),
+        (1, NOW, b"52=20240102-09:59:59|", None),
+        (1, NOW, b"52=20240102-09:59:58.999|", Some(10)),
+        (1, NOW, b"52=20240102-10:00:01|", None),
+        (1, NOW, b"52=20240102-10:00:01.001|", Some(10)),
+        // a moment before 1970
+        (120, 0, b"52=19691231-23:58:00|", None),
+        (120, 0, b"52=19691231-23:57:59.999|", Some(10)),
+        // a leap second
+        (0, new_year, b"52=20231231-23:59:60|", None),
+        // the longest window, of 4,294,967,295 seconds
+        (u32::MAX, NOW, b"52=18871126-03:31:45|", None),
+        (u32::MAX, NOW, b"52=18871126-03:31:44.999|", Some(10)),
+        (u32::MAX, NOW, b"52=21600208-16:28:15|", None),
+        (u32::MAX, NOW, b"52=21600208-16:28:15.001|", Some(10)),
+        // a clock that no stamp reaches
+        (u32::MAX, u64::MAX, b"52=99991231-23:59:59|", Some(10)),
+        (120, u64::MAX, b"", Some(1)),
+    ];
+    for (window, now, time, reason) in rows {
+        let body = body(rt.alloc(), b"34=7|49=CLNT|56=GATE|", time)?;
+        let split = split(rt.alloc(), &body)?;
+        let head = read_head(Client, &names, window, b"0", &split, now);
+        assert_eq!(rt; (head.time, head.comp), (reason, None), "{time:?}");
     }
     Ok(())
 }
@@ -161,7 +230,7 @@ fn kinds(rt: HostRuntime) -> Result<(), Fail> {
     let names = names(&rt);
     // the type and the fields behind a good header; the kind
     #[rattlefmt::skip]
-    let rows: [(&[u8], &[u8], What); 54] = [
+    let rows: [(&[u8], &[u8], What); 69] = [
         (b"0", b"", What::Heartbeat),
         (b"0", b"112=|", What::Heartbeat),
         (b"3", b"", What::Reject),
@@ -170,16 +239,24 @@ fn kinds(rt: HostRuntime) -> Result<(), Fail> {
         (b"AA", b"98=0|108=30|", What::App),
         (b"a", b"", What::App),
         (b"00", b"", What::App),
+        (b"", b"", What::App),
         (b"1", b"112=T7|", What::TestRequest),
         (b"1", b"112= |", What::TestRequest),
         (b"1", b"", faulty(112, 1)),
         (b"1", b"112=|", faulty(112, 4)),
         (b"1", b"112=|112=T|", faulty(112, 4)),
+        (b"1", b"112=T|112=|", What::TestRequest),
         (b"2", b"7=1|16=0|", What::ResendRequest { from: 1, to: 0 }),
         (b"2", b"16=3|7=2|", What::ResendRequest { from: 2, to: 3 }),
         (b"2", b"7=2|7=9|16=3|16=1|", What::ResendRequest { from: 2, to: 3 }),
         (b"2", b"7=5|16=5|", What::ResendRequest { from: 5, to: 5 }),
         (b"2", b"7=5|16=4|", faulty(16, 5)),
+        (b"2", b"7=5|16=6|", What::ResendRequest { from: 5, to: 6 }),
+        (b"2", b"7=2|16=1|16=3|", faulty(16, 5)),
+        (b"2", b"7=x|7=2|16=3|", faulty(7, 6)),
+        (b"2", b"7=999999998|16=999999999|",
+            What::ResendRequest { from: 999_999_998, to: 999_999_999 }),
+        (b"2", b"7=999999999|16=999999998|", faulty(16, 5)),
         (b"2", b"7=999999999|16=1000000000|",
             What::ResendRequest { from: 999_999_999, to: 1_000_000_000 }),
         (b"2", b"7=1|16=1000000001|", faulty(16, 5)),
@@ -196,7 +273,10 @@ fn kinds(rt: HostRuntime) -> Result<(), Fail> {
         (b"4", b"123=Y|36=5|", What::GapFill { to: 5 }),
         (b"4", b"36=5|123=Y|", What::GapFill { to: 5 }),
         (b"4", b"123=Y|123=N|36=5|36=7|", What::GapFill { to: 5 }),
+        (b"4", b"123=Y|36=x|36=5|", faulty(36, 6)),
         (b"4", b"123=Y|36=1|", What::GapFill { to: 1 }),
+        (b"4", b"123=Y|36=2|", What::GapFill { to: 2 }),
+        (b"4", b"123=Y|36=999999999|", What::GapFill { to: 999_999_999 }),
         (b"4", b"123=Y|36=1000000000|", What::GapFill { to: 1_000_000_000 }),
         (b"4", b"123=Y|36=1000000001|", faulty(36, 5)),
         (b"4", b"123=Y|36=0|", faulty(36, 5)),
@@ -205,9 +285,13 @@ fn kinds(rt: HostRuntime) -> Result<(), Fail> {
         (b"4", b"123=Y|36=five|", faulty(36, 6)),
         (b"4", b"36=5|", What::Reset { to: 5 }),
         (b"4", b"123=N|36=5|", What::Reset { to: 5 }),
+        (b"4", b"123=N|123=Y|36=5|36=7|", What::Reset { to: 5 }),
         (b"4", b"123=X|36=5|", What::Reset { to: 5 }),
+        (b"4", b"123=y|36=5|", What::Reset { to: 5 }),
         (b"4", b"123=|36=5|", What::Reset { to: 5 }),
         (b"4", b"36=1|", What::Reset { to: 1 }),
+        (b"4", b"36=2|", What::Reset { to: 2 }),
+        (b"4", b"36=999999999|", What::Reset { to: 999_999_999 }),
         (b"4", b"36=1000000000|", What::Reset { to: 1_000_000_000 }),
         (b"4", b"36=1000000001|", faulty_reset(5)),
         (b"4", b"36=0|", faulty_reset(5)),
@@ -217,6 +301,7 @@ fn kinds(rt: HostRuntime) -> Result<(), Fail> {
         (b"4", b"36=5.0|", faulty_reset(6)),
         (b"4", b"36=99999999999|", faulty_reset(6)),
         (b"4", b"36=x|123=X|", faulty_reset(6)),
+        (b"4", b"36=0|36=5|", faulty_reset(5)),
     ];
     for (msg_type, fields, what) in rows {
         let head = head(rt.alloc(), &names, Client, msg_type, HEADER, fields)?;
@@ -229,7 +314,11 @@ fn kinds(rt: HostRuntime) -> Result<(), Fail> {
 #[test]
 fn long_texts(rt: HostRuntime) -> Result<(), Fail> {
     let names = names(&rt);
-    for (len, what) in [(2048, What::TestRequest), (2049, faulty(112, 5))] {
+    for (len, what) in [
+        (2047, What::TestRequest),
+        (2048, What::TestRequest),
+        (2049, faulty(112, 5)),
+    ] {
         let mut fields = Vec::from_slice(rt.alloc(), b"112=")?;
         for _ in 0..len {
             fields.push(b'x')?;
@@ -258,11 +347,13 @@ fn logons(rt: HostRuntime) -> Result<(), Fail> {
     let names = names(&rt);
     // the side and the fields behind a good header; what the Logon says
     #[rattlefmt::skip]
-    let rows: [(Side, &[u8], What); 36] = [
+    let rows: [(Side, &[u8], What); 48] = [
         (Client, b"98=0|108=30|", logs_on(30, false)),
         (Client, b"108=30|98=0|", logs_on(30, false)),
         (Client, b"98=0|98=1|108=30|108=x|", logs_on(30, false)),
         (Client, b"98=0|108=0|", logs_on(0, false)),
+        (Client, b"98=0|108=1|", logs_on(1, false)),
+        (Client, b"98=0|108=86399|", logs_on(86_399, false)),
         (Client, b"98=0|108=86400|", logs_on(86_400, false)),
         (Client, b"98=0|108=030|", logs_on(30, false)),
         (Client, b"98=0|108=30|141=Y|", logs_on(30, true)),
@@ -280,19 +371,29 @@ fn logons(rt: HostRuntime) -> Result<(), Fail> {
         (Client, b"98=0|108=86401|", TAG_108),
         (Client, b"98=0|108=-1|", TAG_108),
         (Client, b"98=0|108=30.0|", TAG_108),
+        (Client, b"98=0|108=x|108=30|", TAG_108),
         (Client, b"98=0|108=x|141=X|", TAG_108),
         (Client, b"98=0|108=30|141=|", TAG_141),
         (Client, b"98=0|108=30|141=X|", TAG_141),
         (Client, b"98=0|108=30|141=y|", TAG_141),
+        (Client, b"98=0|108=30|141=X|141=Y|", TAG_141),
         (Venue, b"98=0|108=30|1137=9|", logs_on(30, false)),
         (Venue, b"1137=9|141=Y|108=30|98=0|", logs_on(30, true)),
         (Venue, b"98=0|108=30|1137=9|1137=8|", logs_on(30, false)),
         (Venue, b"98=0|108=30|", TAG_1137),
         (Venue, b"98=0|108=30|1137=|", TAG_1137),
         (Venue, b"98=0|108=30|1137=8|", TAG_1137),
+        (Venue, b"98=0|108=30|1137=10|", TAG_1137),
+        (Venue, b"98=0|108=30|1137=x|", TAG_1137),
+        (Venue, b"98=0|108=30|1137=8|1137=9|", TAG_1137),
         (Venue, b"98=0|108=30|1137=09|", TAG_1137),
         (Venue, b"98=0|108=30|1137=8|141=X|", TAG_1137),
+        (Venue, b"98=0|108=86401|1137=9|", TAG_108),
+        (Venue, b"98=0|108=30|1137=9|141=N|", logs_on(30, false)),
         (Venue, b"98=0|108=30|1137=9|141=X|", TAG_141),
+        (Venue, b"98=0|108=30|1137=9|141=|", TAG_141),
+        (Venue, b"98=1|108=30|1137=9|", TAG_98),
+        (Venue, b"", TAG_98),
         (Venue, b"98=0|1137=8|", TAG_108),
         (Venue, b"1137=8|", TAG_98),
     ];
@@ -321,7 +422,7 @@ fn logons_of_other_engines(rt: HostRuntime) -> Result<(), Fail> {
     // whole bodies, as these engines lay them out: the standard header in the order of tags, or in
     // the order of the standard; fields that no profile names do no harm
     #[rattlefmt::skip]
-    let rows: [(Side, &[u8], What); 7] = [
+    let rows: [(Side, &[u8], What); 10] = [
         // QuickFIX, FIX 4.2
         (Client, b"35=A|34=1|49=CLNT|52=20240102-10:00:00|56=GATE|98=0|108=30|",
             logs_on(30, false)),
@@ -340,6 +441,15 @@ fn logons_of_other_engines(rt: HostRuntime) -> Result<(), Fail> {
         // raw data before the heartbeat
         (Client, b"35=A|49=CLNT|50=DESK|56=GATE|34=1|52=20240102-10:00:00|98=0|95=4|96=abcd|\
 108=30|", logs_on(30, false)),
+        // FIX 4.2 with NextExpectedMsgSeqNum, which came after it
+        (Client, b"35=A|34=1|49=CLNT|52=20240102-10:00:00|56=GATE|98=0|108=30|789=1|",
+            logs_on(30, false)),
+        // the order of the dictionary, the flag written out
+        (Client, b"35=A|49=CLNT|56=GATE|34=1|52=20240102-10:00:00.000|98=0|108=10|141=N|553=bob|\
+554=secret|", logs_on(10, false)),
+        // FIXT 1.1 with all of these
+        (Venue, b"35=A|34=1|49=VENU|52=20240102-10:00:00.000|56=GATE|98=0|108=30|141=Y|383=8192|\
+384=2|372=D|385=R|372=8|385=S|464=N|553=user|554=pass|789=1|1137=9|", logs_on(30, true)),
         // FIXT 1.1 with the version of each type
         (Venue, b"35=A|34=1|49=VENU|52=20240102-10:00:00.000|56=GATE|1128=9|98=0|108=30|\
 384=1|372=8|385=S|1130=9|464=N|1137=9|1408=x|", logs_on(30, false)),
@@ -412,6 +522,43 @@ fn what_is_said(rt: HostRuntime) -> Result<(), Fail> {
             line,
             "{admin:?} to {side:?}"
         );
+    }
+    Ok(())
+}
+
+#[test]
+fn numbers_that_are_said(rt: HostRuntime) -> Result<(), Fail> {
+    let low = Why::TooLow {
+        expected: 1_000_000_000,
+        got: 999_999_999,
+    };
+    // the message, HeartBtInt, its own number, the number and the type that it answers; what is
+    // written
+    #[rattlefmt::skip]
+    let rows: [(Admin, u32, u32, u32, &[u8], &[u8]); 9] = [
+        (Logon { reset: false }, 0, 1, 1, b"A", b"+A 98=0|108=0|"),
+        (Logon { reset: true }, 86_400, 1, 1, b"A", b"+A 98=0|108=86400|141=Y|"),
+        (TestRequest, 30, 1, 7, b"0", b"+1 112=T1|"),
+        (TestRequest, 30, 999_999_999, 7, b"0", b"+1 112=T999999999|"),
+        (ResendRequest { from: 999_999_999 }, 30, 17, 7, b"D", b"+2 7=999999999|16=0|"),
+        (Logout(low), 30, 17, 7, b"D",
+            b"+5 58=MsgSeqNum too low, expecting 1000000000 but received 999999999|"),
+        (reject(7, 5), 30, 17, 999_999_999, b"2", b"3 45=999999999|371=7|372=2|373=5|"),
+        (reject(36, 6), 30, 17, 1, b"1234567", b"3 45=1|371=36|372=1234567|373=6|"),
+        (reject(1137, 6), 30, 17, 1, b"12345678", b"3 45=1|371=1137|372=12345678|373=6|"),
+    ];
+    for (admin, heart, next_out, number, msg_type, line) in rows {
+        let said = say(
+            rt.alloc(),
+            Client,
+            &admin,
+            heart,
+            next_out,
+            number,
+            msg_type,
+            b"ping",
+        )?;
+        assert_eq!(rt; shown(rt.alloc(), &said)?.as_slice(), line, "{admin:?}");
     }
     Ok(())
 }

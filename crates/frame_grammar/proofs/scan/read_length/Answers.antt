@@ -7,8 +7,10 @@ use Rattle.frame_grammar.specs.Found.{found_length}
 use Rattle.frame_grammar.proofs.Digits.{digit_low, digit_high, value_push}
 use Rattle.frame_grammar.proofs.Scanned.{length_step, length_wrong}
 use Rattle.frame_grammar.proofs.scan.read_length.Goals as goal
-use Rattle.frame_grammar.proofs.scan.read_length.Goals.{then-not-is_ascii_digit-via-then-not-is_ascii_digit}
-use Rattle.frame_grammar.proofs.scan.read_length.Goals.{then-not-is_ascii_digit-via-else-not-is_ascii_digit+then-digits-ge-MAX_LENGTH_DIGITS}
+use Rattle.frame_grammar.proofs.scan.read_length.Goals.{
+  then-not-is_ascii_digit-via-then-not-is_ascii_digit,
+  then-not-is_ascii_digit-via-else-not-is_ascii_digit+then-digits-ge-MAX_LENGTH_DIGITS,
+}
 
 ten_small : (n : ℕ) → n ≤ 6 → 10 ^ n ≤ 1000000
 ten_small zero h = omega arith
