@@ -183,6 +183,15 @@ fn streams_are_checked(rt: HostRuntime) -> Result<(), Fail> {
     Ok(())
 }
 
+/// The bytes of a text in which `|` stands for SOH.
+fn wire(alloc: Global, text: &[u8]) -> Result<Vec<u8>, AllocError> {
+    let mut bytes = Vec::new(alloc);
+    for byte in text {
+        bytes.push(if *byte == b'|' { 1 } else { *byte })?;
+    }
+    Ok(bytes)
+}
+
 /// A frame of a type, numbered 2, with a content; `|` stands for SOH.
 fn framed(
     alloc: Global,
@@ -193,12 +202,10 @@ fn framed(
     let header = b"|49=CLNT|56=GATE|34=2|52=20240102-10:00:00|";
     let body = [b"35=", msg_type, header, content].concat(alloc)?;
     let length = format!(in alloc; "|9={}|", body.len())?;
-    let mut frame = Vec::new(alloc);
+    let mut frame = wire(alloc, &[begin, length.as_bytes(), &body].concat(alloc)?)?;
     let mut sum = 0u8;
-    for byte in [begin, length.as_bytes(), &body].concat(alloc)? {
-        let wire = if byte == b'|' { 1 } else { byte };
-        sum = sum.wrapping_add(wire);
-        frame.push(wire)?;
+    for byte in &frame {
+        sum = sum.wrapping_add(*byte);
     }
     let trailer = format!(in alloc; "10={sum:03}\x01")?;
     frame.extend_from_slice(trailer.as_bytes())?;
@@ -245,6 +252,72 @@ fn requests_go_up(rt: HostRuntime) -> Result<(), Fail> {
         let input = framed(alloc, b"8=FIX.4.2", msg_type, content)?;
         let up = framed(alloc, b"8=FIXT.1.1", msg_type, written)?;
         ends(&rt, alloc, "translate up", &input, Status::Done, &up)?;
+    }
+    Ok(())
+}
+
+/// Requests as other engines write them, and as the venue takes them; `|` stands for SOH. QuickFIX
+/// (C++) and QuickFIX/J write header and body in the order of the tags, the second with groups at
+/// the end. Fix8 writes them in the order of the standard, amounts with two decimals. What the venue
+/// takes was made from docs/REQUESTS.md, and not by the program.
+#[rattlefmt::skip]
+const FOREIGN: [(&str, &[u8], &[u8]); 7] = [
+    ("QuickFIX, D",
+        b"8=FIX.4.2|9=143|35=D|34=215|49=CLNT|52=20240102-10:00:00.123|56=GATE|1=ACC1|11=A1|21=1|\
+38=100|40=2|44=10.5|54=1|55=IBM|58=a note|59=0|60=20240102-10:00:00.098|10=074|",
+        b"8=FIXT.1.1|9=143|35=D|49=CLNT|56=GATE|34=215|52=20240102-10:00:00.123|11=A1|1=ACC1|\
+21=1|55=IBM|54=1|60=20240102-10:00:00.098|38=100|40=2|44=10.5|59=0|58=a note|10=154|"),
+    ("QuickFIX, F, sent again",
+        b"8=FIX.4.2|9=140|35=F|34=216|43=Y|49=CLNT|52=20240102-10:00:05.040|56=GATE|\
+122=20240102-10:00:01.004|11=A2|38=100|41=A1|54=1|55=IBM|60=20240102-10:00:01.002|10=001|",
+        b"8=FIXT.1.1|9=140|35=F|49=CLNT|56=GATE|34=216|43=Y|52=20240102-10:00:05.040|\
+122=20240102-10:00:01.004|11=A2|41=A1|55=IBM|54=1|60=20240102-10:00:01.002|38=100|10=081|"),
+    ("QuickFIX/J, G",
+        b"8=FIX.4.2|9=169|35=G|34=217|49=CLNT|52=20240102-10:00:02.350|56=GATE|11=A3|18=6|21=1|\
+38=150|40=2|41=A2|44=10.75|54=1|55=IBM|60=20240102-10:00:02.349|109=FUND|78=2|79=X|80=90|79=Y|\
+80=60|10=116|",
+        b"8=FIXT.1.1|9=187|35=G|49=CLNT|56=GATE|34=217|52=20240102-10:00:02.350|11=A3|41=A2|\
+453=1|448=FUND|447=D|452=3|78=2|79=X|80=90|79=Y|80=60|21=1|18=6|55=IBM|54=1|\
+60=20240102-10:00:02.349|38=150|40=2|44=10.75|10=002|"),
+    ("Fix8, D",
+        b"8=FIX.4.2|9=146|35=D|49=CLNT|56=GATE|34=2|50=DESK|52=20240102-10:00:00.123|11=A1|21=1|\
+55=IBM|54=1|60=20240102-10:00:00.098|38=100.00|40=2|44=10.50|59=0|58=a note|10=008|",
+        b"8=FIXT.1.1|9=134|35=D|49=CLNT|56=GATE|34=2|52=20240102-10:00:00.123|11=A1|21=1|55=IBM|\
+54=1|60=20240102-10:00:00.098|38=100|40=2|44=10.5|59=0|58=a note|10=205|"),
+    ("Fix8, F",
+        b"8=FIX.4.2|9=110|35=F|49=CLNT|56=GATE|34=3|52=20240102-10:00:01.004|41=A1|11=A2|55=IBM|\
+54=1|60=20240102-10:00:01.002|38=100.00|10=065|",
+        b"8=FIXT.1.1|9=107|35=F|49=CLNT|56=GATE|34=3|52=20240102-10:00:01.004|11=A2|41=A1|55=IBM|\
+54=1|60=20240102-10:00:01.002|38=100|10=009|"),
+    ("Fix8, G, sent again",
+        b"8=FIX.4.2|9=189|35=G|49=CLNT|56=GATE|34=4|43=Y|52=20240102-10:00:09.000|\
+122=20240102-10:00:02.350|109=FUND|41=A2|11=A3|78=1|79=X|80=150.00|21=1|55=IBM|54=1|\
+60=20240102-10:00:02.349|38=150.00|40=2|44=10.75|10=077|",
+        b"8=FIXT.1.1|9=201|35=G|49=CLNT|56=GATE|34=4|43=Y|52=20240102-10:00:09.000|\
+122=20240102-10:00:02.350|11=A3|41=A2|453=1|448=FUND|447=D|452=3|78=1|79=X|80=150|21=1|55=IBM|\
+54=1|60=20240102-10:00:02.349|38=150|40=2|44=10.75|10=176|"),
+    ("every field of D",
+        b"8=FIX.4.2|9=498|35=D|49=CLNT|56=GATE|34=3|50=DESK|142=LDN|57=DESK|143=NYC|43=N|97=Y|\
+52=20240102-10:00:00|122=20240102-09:59:59|347=ISO-8859-1|369=7|11=A1|109=FUND|76=BRKR|1=ACC1|\
+78=2|79=X|80=60.0|79=Y|80=40|63=6|64=20240131|21=2|18=1 6 G|110=010|111=20.50|100=XNYS|386=2|\
+336=DAY|336=EVE|55=IBM|65=WI|48=459200101|22=1|167=FUT|200=202406|205=7|207=XNYS|54=5|114=Y|\
+60=20240102-09:59:58.500|38=0100|40=4|44=10.50|99=.5|15=USD|59=6|168=20240102-10:30:00|\
+432=20240202|126=20240202-16:00:00|47=P|58=a note|77=O|439=CLRF|10=006|",
+        b"8=FIXT.1.1|9=492|35=D|49=CLNT|56=GATE|34=3|43=N|97=Y|52=20240102-10:00:00|\
+122=20240102-09:59:59|11=A1|453=3|448=FUND|447=D|452=3|448=BRKR|447=D|452=1|448=CLRF|447=D|452=4|\
+1=ACC1|78=2|79=X|80=60|79=Y|80=40|63=6|64=20240131|21=2|18=1 6 G|110=10|1138=20.5|100=XNYS|386=2|\
+336=DAY|336=EVE|55=IBM|65=WI|48=459200101|22=1|167=FUT|200=202406|541=20240607|207=XNYS|54=5|\
+114=Y|60=20240102-09:59:58.500|38=100|40=4|44=10.5|99=0.5|15=USD|59=6|168=20240102-10:30:00|\
+432=20240202|126=20240202-16:00:00|528=P|77=O|58=a note|10=168|"),
+];
+
+#[test]
+fn requests_of_other_engines_go_up(rt: HostRuntime) -> Result<(), Fail> {
+    let alloc = rt.alloc();
+    for (name, request, written) in FOREIGN {
+        let (ended, sink) = ran(alloc, "translate up", &wire(alloc, request)?, &[], &[])?;
+        assert_eq!(rt; ended, Status::Done, "{name}");
+        assert_eq!(rt; sink.bytes(), wire(alloc, written)?.as_slice(), "{name}");
     }
     Ok(())
 }
