@@ -10,7 +10,8 @@ use Rattle.std.proofs.lemmas.Bool.Decides.{nat_tests}
 use Rattle.std.proofs.lemmas.List.Sums.{sum_by-cons}
 use Rattle.field_groups.specs.declared.group.GroupFault.{GroupFault}
 use Rattle.field_groups.specs.declared.group.GroupFault.TheVariants.{Count, Order, TooMany}
-use Rattle.field_groups.specs.Group.{Tags, Member, max_lines, begins, before_lines, lines_of}
+use Rattle.field_groups.specs.declared.group.TheConstants.{MAX_LINES}
+use Rattle.field_groups.specs.Group.{Tags, Member, begins, before_lines, lines_of}
 use Rattle.field_groups.specs.Group.{has_member, is_astray, misplaced, first_misplaced, members_of}
 use Rattle.field_groups.specs.Group.{run, is_counted}
 use Rattle.field_groups.specs.Laws.{IsOnce, IsLine, GroupsAreLines}
@@ -101,7 +102,7 @@ count_more first (a ∷ ms) m =
 
 record Good (tags : Tags) (ms : List Member) : Type 0 where
   each : AllByRecursion (IsLine tags.first) (lines_of tags.first ms)
-  at_most : length (lines_of tags.first ms) ≤ max_lines
+  at_most : length (lines_of tags.first ms) ≤ MAX_LINES
   counted : count_by (λ m. m.0 == tags.first) ms ≡ length (lines_of tags.first ms)
 
 none_good : (tags : Tags) → Good tags []
@@ -109,15 +110,15 @@ unfolding lines_of
 none_good tags = record { each = tt; at_most = omega arith; counted = refl }
 
 below : (n : ℕ) (fault : GroupFault)
-    → cond (nat_le max_lines n) (Some fault) None ≡ None → n < max_lines
-below n fault none = by_test (nat_le max_lines n) refl none
+    → cond (nat_le MAX_LINES n) (Some fault) None ≡ None → n < MAX_LINES
+below n fault none = by_test (nat_le MAX_LINES n) refl none
   where
-    by_test : (b : Bool) → nat_le max_lines n ≡ b → cond b (Some fault) None ≡ None → n < max_lines
+    by_test : (b : Bool) → nat_le MAX_LINES n ≡ b → cond b (Some fault) None ≡ None → n < MAX_LINES
     by_test true is given = absurd cc
     by_test false is given = grind (arith, nat_tests)
 
 new_good : (tags : Tags) (ms : List Member) (m : Member) → Good tags ms → (m.0 == tags.first) ≡ true
-    → length (lines_of tags.first ms) < max_lines → Good tags (ms ++ m ∷ [])
+    → length (lines_of tags.first ms) < MAX_LINES → Good tags (ms ++ m ∷ [])
 new_good tags ms m good is few =
     let same : m.0 ≡ tags.first = eqb-true m.0 tags.first is in
     let lines = new_line tags.first ms m same in
@@ -157,7 +158,7 @@ one_good tags ms m good none = by_test (m.0 == tags.first) refl none
     in_line false is given = is
 
     by_test : (b : Bool) → (m.0 == tags.first) ≡ b →
-        cond b (cond (nat_le max_lines (length (lines_of tags.first ms))) (Some TooMany) None)
+        cond b (cond (nat_le MAX_LINES (length (lines_of tags.first ms))) (Some TooMany) None)
         (cond (is_astray m.0 (last_or None (lines_of tags.first ms))) (Some (Order m.0)) None)
         ≡ None →
         Good tags (ms ++ m ∷ [])

@@ -9,3 +9,4 @@ pub mod Lines
 pub mod Plain
 pub mod Grouped
 mod Worked
+pub mod Indexing

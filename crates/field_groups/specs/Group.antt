@@ -6,16 +6,13 @@ use Rattle.std.specs.Prelude.{◌++◌, length, drop, filter, count_by, take_whi
 use Rattle.std.specs.Prelude.{Option, Some, None, option_and_then, if◌then◌else◌}
 use Rattle.std.specs.Option.{option_or}
 use Rattle.std.specs.List.{list_any, last_or}
+use Rattle.field_groups.specs.declared.group.TheConstants.{MAX_LINES}
 use Rattle.field_groups.specs.declared.group.Shape.{Shape}
 use Rattle.field_groups.specs.declared.group.GroupFault.{GroupFault}
 use Rattle.field_groups.specs.declared.group.GroupFault.TheVariants.{Count, Order, TooMany}
 use Rattle.field_groups.specs.declared.group.GroupFault.TheVariants.{NoMemory}
 use Rattle.field_groups.specs.HeadValues.{number_in}
 use Rattle.field_groups.specs.Field.{Field, says}
-
--- the most lines of a group
-abbrev pub max_lines : ℕ
-max_lines = 32
 
 -- the tags of a group: of its count, of the member that begins each line, of its other members, and
 -- those that are passed over
@@ -100,7 +97,7 @@ is_astray tag (Some line) = has_member tag line
 abbrev pub misplaced : Tags → List Member → Member → Option GroupFault
 misplaced tags before m =
     if m.0 == tags.first
-    then fault_if (nat_le max_lines (length (lines_of tags.first before))) TooMany
+    then fault_if (nat_le MAX_LINES (length (lines_of tags.first before))) TooMany
     else fault_if (is_astray m.0 (last_or None (lines_of tags.first before))) (Order m.0)
 
 -- the fault of the first member that has one, behind these

@@ -5,7 +5,8 @@ use Rattle.std.specs.List.{flat_map, AllByRecursion}
 use Rattle.field_groups.specs.declared.fault.SplitFault.{SplitFault}
 use Rattle.field_groups.specs.Field.{Field, AreFields, IsPlainField, body_of}
 use Rattle.field_groups.specs.Fields.{SplitsInto, max_fields}
-use Rattle.field_groups.specs.Group.{Tags, Member, max_lines, run, members_of, begins, has_member}
+use Rattle.field_groups.specs.declared.group.TheConstants.{MAX_LINES}
+use Rattle.field_groups.specs.Group.{Tags, Member, run, members_of, begins, has_member}
 use Rattle.field_groups.specs.Group.{is_counted, group_fault, group_lines}
 
 -- each body has a list of fields, and a fault or none
@@ -46,7 +47,7 @@ pub record IsLine (first : ℕ) (line : List Member) : Type 0 where
 pub record AreLines (first : ℕ) (members : List Member) (lines : List (List Member)) : Type 0 where
   pub joined : flat_map (λ line. line) lines ≡ members
   pub each : AllByRecursion (IsLine first) lines
-  pub at_most : length lines ≤ max_lines
+  pub at_most : length lines ≤ MAX_LINES
   pub counted : count_by (λ m. m.0 == first) members ≡ length lines
 
 -- a group with no fault has such lines, and its count says how many

@@ -4,3 +4,4 @@ pub mod Data
 pub mod Fields
 pub mod Group
 pub mod Laws
+pub mod Index

@@ -1,7 +1,8 @@
 //! The fields of a body, in order.
 
-ghost use Rattle.std.specs.Prelude.{◌≡◌, ◌==◌, map, position};
+ghost use Rattle.std.specs.Prelude.{◌≡◌, ◌==◌, ◌<◌, length, map, position};
 ghost use Rattle.std.specs.Slice.Iter.{iter_rest};
+ghost use Rattle.field_groups.specs.Index.{counted_place, indexed, with_field};
 
 use crate::fault::SplitFault;
 use std::alloc::{AllocError, Global};
@@ -11,6 +12,9 @@ use std::slice::Iter;
 /// The byte that ends a field.
 pub const SOH: u8 = 1;
 
+/// The tags below this one have a place in the index of fields.
+pub(crate) const INDEXED: usize = 512;
+
 /// A field: its tag and its value, a part of the body.
 pub type Field<'a> = (u32, &'a [u8]);
 
@@ -18,19 +22,25 @@ pub type Field<'a> = (u32, &'a [u8]);
 #[derive(Debug, Drop)]
 pub struct Fields<'a> {
     parts: Vec<Field<'a>>,
+    // For each tag below 512 the place of its first field, counted from 1; 0 where none has it.
+    first: [u16; INDEXED],
 }
 
 impl<'a> Model for Fields<'a> {
     ghost use Rattle.std.specs.Prelude.{List, map};
     ghost use Rattle.field_groups.specs.Field.{Field};
+    ghost use Rattle.field_groups.specs.Index.{IsIndexed};
 
     ghost Value = { List Field };
 
     ghost view = { λ f. map (λ p. (p.0, p.1.now)) f.parts.items };
+
+    ghost invariant = { λ f. IsIndexed f.parts.items f.first };
 }
 
 impl<'a> Fields<'a> {
-    ghost use Rattle.std.specs.Prelude.{◌≡◌, ◌==◌, ◌++◌, ◌∷◌, [], None, length, map, slice_get};
+    ghost use Rattle.std.specs.Prelude.{◌≡◌, ◌==◌, ◌<◌, ◌≤◌, ◌++◌, ◌∷◌, [], None, length};
+    ghost use Rattle.std.specs.Prelude.{map, slice_get, IfSome};
     ghost use Rattle.std.specs.Prelude.{IfOk, OnOk, OnErr, position};
     ghost use Rattle.std.specs.Option.{option_map};
     ghost use Rattle.std.specs.List.{last_or};
@@ -42,21 +52,26 @@ impl<'a> Fields<'a> {
     {
         Ok(Fields {
             parts: Vec::with_capacity(alloc, capacity)?,
+            first: [0; INDEXED],
         })
     }
 
     /// One more field at the end.
     pub(crate) fn push(&mut self, tag: u32, value: &'a [u8]) -> Result<(), AllocError>
+        requires { length self.old < 256 }
         ensures ok { OnOk result (self.new ≡ self.old ++ (tag, value.now) ∷ []) }
         ensures err { OnErr result (self.new ≡ self.old) }
     {
+        let place = self.len();
         self.parts.push((tag, value))?;
+        index_field(&mut self.first, tag, place);
         Ok(())
     }
 
-    /// How many fields there are: at most 256 where `split` gave them.
+    /// How many fields there are: at most 256.
     pub fn len(&self) -> usize
-        ensures { result ≡ length self.now }
+        ensures value { result ≡ length self.now }
+        ensures few { result ≤ 256 }
     {
         self.parts.len()
     }
@@ -85,9 +100,15 @@ impl<'a> Fields<'a> {
 
     /// The place of the first field with this tag; `None` where no field has it.
     pub fn find(&self, tag: u32) -> Option<usize>
-        ensures { result ≡ position (λ field. field.0 == tag) self.now }
+        ensures place { result ≡ position (λ field. field.0 == tag) self.now }
+        ensures few { IfSome result (λ place. place < 256) }
     {
-        first_place(&self.parts, tag)
+        let index = tag as usize;
+        if index < INDEXED {
+            counted_place(self.first[index])
+        } else {
+            first_place(&self.parts, tag)
+        }
     }
 
     /// All fields, in order.
@@ -115,6 +136,29 @@ impl<'f, 'a> IntoIterator for &'f Fields<'a> {
 
     fn into_iter(self) -> Iter<'f, Field<'a>> {
         self.iter()
+    }
+}
+
+/// Indexes a field at a place, if it is the first with its tag.
+fn index_field(first: &mut [u16; INDEXED], tag: u32, place: usize)
+    requires whole { length first.old ≡ indexed }
+    requires place { place < 256 }
+    ensures { first.new ≡ with_field first.old tag place }
+{
+    let index = tag as usize;
+    if index < INDEXED && first[index] == 0 {
+        first[index] = place as u16 + 1;
+    }
+}
+
+/// A place that is counted from 1, or 0 for none.
+fn counted_place(counted: u16) -> Option<usize>
+    ensures { result ≡ counted_place counted }
+{
+    if counted == 0 {
+        None
+    } else {
+        Some(counted as usize - 1)
     }
 }
 

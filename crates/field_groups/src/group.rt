@@ -18,8 +18,8 @@ use std::alloc::{AllocError, Global};
 use std::marker::Model;
 use thiserror::Error;
 
-/// The most lines of a group.
-const MAX_LINES: usize = 32;
+/// The most lines of a group. The standard has no bound; this one is own.
+pub const MAX_LINES: usize = 32;
 
 /// The tags of a repeating group.
 #[derive(Clone, Copy, Debug)]
@@ -59,7 +59,7 @@ pub enum GroupFault {
     /// A member stands before the first line, or twice in a line. The place is the member's.
     #[error("tag {tag} is out of order in its group")]
     Order { tag: u32 },
-    /// A group has more than 32 lines. The place is where the 33rd begins.
+    /// A group has more than [`MAX_LINES`] lines. The place is where the first too many begins.
     #[error("more than 32 lines in a group")]
     TooMany,
     /// There is no memory for the lines.

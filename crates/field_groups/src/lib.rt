@@ -14,9 +14,11 @@ pub mod laws;
 mod splitting;
 #[cfg(test)]
 mod tests;
+mod writing;
 
 pub use fault::SplitFault;
 pub use fields::{Field, Fields, SOH, Split};
-pub use group::{Group, GroupFault, Shape, read_group};
+pub use group::{Group, GroupFault, MAX_LINES, Shape, read_group};
 pub use head_values::number_in;
 pub use splitting::split;
+pub use writing::{put_field, put_number};

@@ -5,7 +5,7 @@ use crate::laws::{
     every_body_splits, fields_are_determined, fields_read_again, groups_are_lines,
     plain_fields_read_again,
 };
-use crate::{GroupFault, Shape, SplitFault, read_group, split};
+use crate::{GroupFault, Shape, SplitFault, put_field, put_number, read_group, split};
 use std::alloc::{AllocError, Global};
 use std::test::Fail;
 
@@ -127,6 +127,18 @@ fn reads_an_order(rt: HostRuntime) -> Result<(), Fail> {
     fields_are_determined();
     plain_fields_read_again();
     groups_are_lines();
+    Ok(())
+}
+
+#[test]
+fn writes_fields(rt: HostRuntime) -> Result<(), Fail> {
+    let mut out = body(rt.alloc(), "35=D|")?;
+    put_field(&mut out, 58, b"a note")?;
+    put_field(&mut out, 999_999_999, b"")?;
+    put_number(&mut out, 34, 7)?;
+    put_number(&mut out, 1, u32::MAX)?;
+    let text = "35=D|58=a note|999999999=|34=7|1=4294967295|";
+    assert_eq!(rt; out, body(rt.alloc(), text)?);
     Ok(())
 }
 

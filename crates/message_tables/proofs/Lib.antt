@@ -7,3 +7,5 @@ pub mod Placed
 pub mod Mapped
 pub mod Few
 pub mod Members
+pub mod ByPlace
+pub mod OnePass

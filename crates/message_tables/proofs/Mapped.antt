@@ -1,21 +1,22 @@
 -- A table of the code says the same whatever its kinds are called.
 use Rattle.std.proofs.Common.{◌≡◌, ℕ, List, [], ◌∷◌, ◌++◌, map, cond, Option, Some, Bool}
 use Rattle.std.proofs.Common.{true, false, refl, sym, ap, ◌∙◌}
-use Rattle.std.specs.Prelude.{◌||◌, ◌==◌, not}
+use Rattle.std.specs.Prelude.{◌||◌, ◌&&◌, ◌==◌, not}
 use Rattle.std.specs.Option.{option_map}
-use Rattle.std.specs.List.{list_any, flat_map}
+use Rattle.std.specs.List.{list_any, list_all, flat_map}
 use Rattle.field_groups.specs.Field.{Field}
 use Rattle.message_tables.specs.declared.table.Row.{Row as CodeRow}
 use Rattle.message_tables.specs.declared.table.RepeatingGroup.{RepeatingGroup as CodeGroup}
 use Rattle.message_tables.specs.declared.table.Item.{Item as CodeItem}
 use Rattle.message_tables.specs.declared.table.Item.TheVariants as items
 use Rattle.message_tables.specs.declared.table.Table.{Table as CodeTable}
-use Rattle.message_tables.specs.Tables.{Row, Table, One, Party, Lines, or_else}
+use Rattle.message_tables.specs.Tables.{Row, Table, or_else}
 use Rattle.message_tables.specs.Tables.{first_of, tags_of, row_at, rows_of, rows_in}
 use Rattle.message_tables.specs.Tables.{all_rows, tags_in, lines_in}
 use Rattle.message_tables.specs.FirstFault.{once_of, once_in, group_tags_of, group_tags_in}
 use Rattle.message_tables.specs.FirstFault.{is_of_group, is_passed, missing, missing_of}
 use Rattle.message_tables.specs.CodeTables.{row_of, group_of, item_of, table_of}
+use Rattle.message_tables.specs.Plain.{lacks, lacks_group}
 use Rattle.message_tables.proofs.Clean.{first_of-map}
 
 pub first_of-same : {X A : Type 0} (f g : X → Option A) (xs : List X)
@@ -31,7 +32,7 @@ module _ {K Kind : Type 0} (kind : K → Kind) where
   abbrev own : CodeTable K → Table K
   own table = table_of (λ (k : K). k) table
 
-  tags_mapped : (rows : List (CodeRow K))
+  pub tags_mapped : (rows : List (CodeRow K))
       → tags_of (map (row_of kind) rows) ≡ tags_of (map (row_of (λ (k : K). k)) rows)
   tags_mapped [] = refl
   tags_mapped (row ∷ rows) = ap (λ tags. row.tag ∷ tags) (tags_mapped rows)
@@ -146,3 +147,11 @@ module _ {K Kind : Type 0} (kind : K → Kind) where
       ∙ first_of-same (λ item. missing_of fields (item_of kind item)) (λ item.
       missing_of fields (item_of (λ (k : K). k) item)) table.items.now (missing_item fields)
       ∙ first_of-map (missing_of fields) (item_of (λ (k : K). k)) table.items.now
+
+  pub lacks_mapped : (fields : List Field) (group : CodeGroup K)
+      → lacks_group fields (tags_in (group_of (λ (k : K). k) group))
+      ≡ lacks_group fields (tags_in (group_of kind group))
+  lacks_mapped fields group =
+      ap (λ (tags : List ℕ). lacks fields group.count
+      && (list_all (lacks fields) tags && list_all (lacks fields) group.skipped.now))
+      (sym (tags_mapped group.rows.now))

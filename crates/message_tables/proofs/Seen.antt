@@ -2,7 +2,8 @@
 use Rattle.std.proofs.Common.{◌≡◌, ◌<◌, ◌≤◌, ◌+◌, count_by, ℕ, zero, suc, length, get_or, take}
 use Rattle.std.proofs.Common.{drop, arith, List, [], ◌∷◌, map, Option, Some, None, Bool, true}
 use Rattle.std.proofs.Common.{false, cond, eqb, refl, sym, ap, ◌∙◌}
-use Rattle.std.specs.Prelude.{◌||◌, ◌==◌}
+use Rattle.std.specs.Prelude.{◌||◌, ◌&&◌, ◌==◌}
+use Rattle.message_tables.specs.Plain.{lacks}
 use Rattle.std.specs.Option.{option_map, option_or}
 use Rattle.std.specs.List.{find, list_any, list_all, flat_map, take-map, drop-map}
 use Rattle.std.proofs.lemmas.List.{length-map}
@@ -93,6 +94,12 @@ module _ {K : Type 0} where
       (tags_of (map (row_of (λ (k : K). k)) rows)) tag ≡ list_any (λ row. row.tag == tag) rows
   tags_seen tag [] = refl
   tags_seen tag (row ∷ rows) = ap (λ b. eqb row.tag tag || b) (tags_seen tag rows)
+
+  pub all_tags_seen : (fields : List Field) (rows : List (CodeRow K)) → list_all (lacks fields)
+      (tags_of (map (row_of (λ (k : K). k)) rows)) ≡ list_all (λ row. lacks fields row.tag) rows
+  all_tags_seen fields [] = refl
+  all_tags_seen fields (row ∷ rows) =
+      ap (λ b. lacks fields row.tag && b) (all_tags_seen fields rows)
 
   pub row_seen : (tag : ℕ) (rows : List (CodeRow K)) → row_at tag (map (row_of (λ (k : K). k)) rows)
       ≡ option_map (row_of (λ (k : K). k)) (find (λ row. row.tag == tag) rows)

@@ -4,3 +4,4 @@ pub mod TableLaws
 pub mod Content
 pub mod CodeTables
 pub mod Stages
+pub mod Plain

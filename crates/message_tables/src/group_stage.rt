@@ -15,7 +15,7 @@ use crate::table_fault::TableFault;
 use field_groups::{Field, number_in};
 
 /// The most lines of a group.
-const MAX_LINES: usize = 32;
+const MAX_LINES: usize = field_groups::MAX_LINES;
 
 /// SessionRejectReason(373): incorrect NumInGroup count for repeating group.
 const COUNT: u8 = 16;

@@ -13,7 +13,7 @@ mod table_fault;
 mod tests;
 
 pub use group_lines::{line, line_end};
-pub use lookup::{field_at, stands, value};
+pub use lookup::{Line, Lookup, field_at, stands, value};
 pub use stages::Found;
 pub use table::{Item, Need, RepeatingGroup, Row, Table, Test};
 pub use table_fault::{Mark, TableFault};

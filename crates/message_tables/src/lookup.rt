@@ -1,12 +1,14 @@
 //! What fields say.
 
-ghost use Rattle.std.specs.Prelude.{◌≡◌, ◌==◌, ◌<◌, ◌≤◌, length, take, drop};
+ghost use Rattle.std.specs.Prelude.{◌≡◌, ◌==◌, ◌<◌, ◌≤◌, List, length, take, drop};
 ghost use Rattle.std.specs.Option.{option_map};
 ghost use Rattle.std.specs.List.{find, list_any};
 ghost use Rattle.message_tables.specs.Tables.{value_at, has_tag, is_one_of};
 ghost use Rattle.message_tables.specs.CodeTables.{seen, seen_at};
+ghost use Rattle.message_tables.specs.Plain.{lacks};
+ghost use Rattle.field_groups.specs.Field.{Field as ReadField};
 
-use field_groups::Field;
+use field_groups::{Field, Fields};
 
 /// The first field with this tag.
 fn first_with<'f, 'a>(fields: &'f [Field<'a>], tag: u32) -> Option<&'f Field<'a>>
@@ -39,6 +41,56 @@ pub fn stands(fields: &[Field<'_>], tag: u32) -> bool
     ensures { result ≡ has_tag tag (seen fields.now) }
 {
     any_with(fields, tag)
+}
+
+/// Fields whose values are looked up by tag: those of a message, which are indexed, or those of a
+/// line.
+pub trait Lookup {
+    /// The fields.
+    ghost fields: { Self → List ReadField };
+
+    /// The value of the first field with this tag; `None` where no field has it.
+    fn value(&self, tag: u32) -> Option<&[u8]>
+        ensures { option_map (λ v. v.now) result ≡ value_at tag (fields self.now) };
+}
+
+impl<'a> Lookup for Fields<'a> {
+    ghost fields = { λ fields. fields };
+
+    fn value(&self, tag: u32) -> Option<&[u8]> {
+        match self.find(tag) {
+            None => None,
+            Some(place) => match self.at(place) {
+                None => None,
+                Some((_, value)) => Some(value),
+            },
+        }
+    }
+}
+
+/// The fields of a line of a group.
+#[derive(Clone, Copy, Debug)]
+pub struct Line<'a> {
+    /// The fields, in their order.
+    pub fields: &'a [Field<'a>],
+}
+
+impl<'a> Lookup for Line<'a> {
+    ghost fields = { λ line. seen line.fields.now };
+
+    fn value(&self, tag: u32) -> Option<&[u8]> {
+        value(self.fields, tag)
+    }
+}
+
+/// Whether no field has this tag.
+pub(crate) fn lacks(fields: &Fields<'_>, tag: u32) -> bool
+    ensures { result ≡ lacks fields.now tag }
+{
+    match fields.find(tag) {
+        None => true,
+        Some(_) => false,
+    }
 }
 
 /// Whether a tag is among these.

@@ -9,10 +9,11 @@ ghost use Rattle.message_tables.specs.FirstFault.{allowed, group_tags_of, once_o
 ghost use Rattle.message_tables.specs.FirstFault.{is_of_group, is_passed, without_row};
 ghost use Rattle.message_tables.specs.CodeTables.{seen, test_of, need_of, row_of, own_tags};
 ghost use Rattle.message_tables.specs.CodeTables.{item_of, table_of};
+ghost use Rattle.message_tables.specs.Plain.{lacks, lacks_group};
 
-use crate::lookup::{is_among, stands, value};
+use crate::lookup::{is_among, lacks, stands, value};
 use crate::table_fault::Mark;
-use field_groups::Field;
+use field_groups::{Field, Fields};
 
 /// SessionRejectReason(373): tag specified without a value.
 const EMPTY: u8 = 4;
@@ -135,10 +136,24 @@ fn has_row<K>(rows: &[Row<K>], tag: u32) -> bool
     rows.iter().any(|row| row.tag == tag)
 }
 
+/// Whether no field has the tag of one of these rows.
+fn rows_lack<K>(rows: &[Row<K>], fields: &Fields<'_>) -> bool
+    ensures { result ≡ list_all (λ row. lacks fields.now row.tag) rows.now }
+{
+    rows.iter().all(|row| lacks(fields, row.tag))
+}
+
+/// Whether no field has one of these tags.
+fn all_lack(tags: &[u32], fields: &Fields<'_>) -> bool
+    ensures { result ≡ list_all (lacks fields.now) tags.now }
+{
+    tags.iter().all(|tag| lacks(fields, *tag))
+}
+
 impl Need {
     /// Whether these fields have to say a row with this need.
     #[tactic(auto, using(crate::proofs::Seen::condition_seen))]
-    pub(crate) fn is_needed(&self, fields: &[Field<'_>]) -> bool
+    pub fn is_needed(&self, fields: &[Field<'_>]) -> bool
         ensures { result ≡ is_needed (need_of self.now) (seen fields.now) }
     {
         match self {
@@ -168,6 +183,15 @@ impl<K> RepeatingGroup<K> {
             [] => 0,
             [row, ..] => row.tag,
         }
+    }
+
+    /// Whether no field is of the group: neither its count, nor a member, nor one that says nothing.
+    #[tactic(auto, using(crate::proofs::Seen::all_tags_seen))]
+    pub fn is_absent(&self, fields: &Fields<'_>) -> bool
+        ensures { result ≡ lacks_group fields.now (own_tags self.now) }
+    {
+        lacks(fields, self.count)
+            && (rows_lack(self.rows, fields) && all_lack(self.skipped, fields))
     }
 
     /// Whether a tag is inside the group, as a member or as one that says nothing.

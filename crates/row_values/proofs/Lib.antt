@@ -6,3 +6,7 @@ pub mod LineByLine
 pub mod Contents
 pub mod Given
 pub mod SaidRows
+pub mod ByTable
+pub mod Days
+pub mod ContraRows
+pub mod OnePass

@@ -1,6 +1,6 @@
 -- What fields say, by the spellings of their values.
 use Rattle.std.specs.Prelude.{◌≡◌, ℕ, Bool, true, false, List, [], ◌∷◌, refl, not, is_some}
-use Rattle.std.specs.Prelude.{Option, Some, None, Result, Ok, Err, ◌==◌, if◌then◌else◌}
+use Rattle.std.specs.Prelude.{Option, Some, None, Result, Ok, Err, ◌==◌, nat_le, if◌then◌else◌}
 use Rattle.std.proofs.Common.{sym, ap, ◌∙◌, lit<, lit≤, pos}
 use Rattle.std.specs.Int.{is_negative}
 use Rattle.std.specs.Option.{option_map}
@@ -9,17 +9,19 @@ use Rattle.std.specs.Result.{result_ok}
 use Rattle.std.specs.List.{list_any}
 use Rattle.typed_fields.specs.declared.fault.FieldFault.{FieldFault}
 use Rattle.typed_fields.specs.declared.dec.Dec.{Dec}
+use Rattle.typed_fields.specs.declared.number.Number.{Number as NumberValue}
 use Rattle.typed_fields.specs.Dec.{read_dec, dec_text, IsDec}
 use Rattle.typed_fields.specs.Day.{read_day, day_text}
 use Rattle.typed_fields.specs.Stamp.{read_stamp, stamp_text}
 use Rattle.typed_fields.specs.Flag.{read_flag, flag_text}
 use Rattle.typed_fields.specs.Number.{read_number, number_text}
 use Rattle.typed_fields.specs.MonthYear.{read_month_year, month_year_text}
-use Rattle.row_values.proofs.Spelled.{as_price, as_number, as_qty, in_range}
+use Rattle.row_values.proofs.Spelled.{as_price, as_number, as_qty, as_reason, in_range}
 use Rattle.typed_fields.proofs.DayLaws.{day_is_plain}
 use Rattle.typed_fields.proofs.StampLaws.{stamp_is_plain}
 use Rattle.typed_fields.proofs.NumberLaws.{flag_is_plain, month_year_is_plain}
-use Rattle.row_values.specs.ValueKind.{Stamp, Flag, MonthYear, Price, Qty, Number, spelt}
+use Rattle.row_values.specs.ValueKind.{Stamp, Flag, MonthYear, Price, Qty, Number, Reason, spelt}
+use Rattle.row_values.specs.ValueKind.{most_reason}
 use Rattle.row_values.specs.ValueKind.{ValueKind, Code, Day, Spelling, listed_word}
 use Rattle.row_values.specs.ValueKind.{spelling, spelled, text_of as spelled_text}
 use Rattle.field_groups.specs.Field.{Field}
@@ -157,6 +159,28 @@ qty_said fields tag = here (value_at tag fields)
     here None = refl
     here (Some bytes) = by_read (read_dec bytes) ∙ sym (as_qty bytes)
         ∙ sym (text_is (spelling Qty bytes))
+
+-- a number that is not past the greatest reason
+abbrev pub if_reason : Option NumberValue → Said
+if_reason None = None
+if_reason (Some n) = if nat_le n.value most_reason then Some (number_text n) else None
+
+pub reason_said : (fields : List Field) (tag : ℕ)
+    → if_reason (option_and_then (λ b. result_ok (read_number b)) (value_at tag fields))
+    ≡ said fields tag (Value Reason)
+unfolding judge spelled
+reason_said fields tag = here (value_at tag fields)
+  where
+    by_read : (r : Result NumberValue FieldFault)
+        → if_reason (result_ok r) ≡ in_range (λ n. nat_le n.value most_reason) number_text r
+    by_read (Ok n) = refl
+    by_read (Err e) = refl
+
+    here : (o : Option (List ℕ)) → if_reason (option_and_then (λ b. result_ok (read_number b)) o)
+        ≡ (o >>= (λ v. text_of (verdict_of (spelling Reason v))))
+    here None = refl
+    here (Some bytes) = by_read (read_number bytes) ∙ sym (as_reason bytes)
+        ∙ sym (text_is (spelling Reason bytes))
 
 -- a listed code is said exactly where the value is one
 pub listed_is_said : (fields : List Field) (tag : ℕ) (listed : List ℕ)

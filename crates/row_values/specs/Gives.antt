@@ -4,7 +4,6 @@ use Rattle.std.specs.Prelude.{◌≡◌, ℕ, List, Option, Some, None, Result, 
 use Rattle.std.specs.Borrow.{Bor}
 use Rattle.field_groups.specs.declared.fault.SplitFault.{SplitFault}
 use Rattle.field_groups.specs.Field.{Field}
-use Rattle.message_tables.specs.CodeTables.{seen}
 use Rattle.message_tables.specs.FirstFault.{first_fault}
 use Rattle.message_tables.specs.Tables.{Message, Table}
 use Rattle.order_meaning.specs.declared.fault.Fault.{Fault}
@@ -23,7 +22,7 @@ Gives says (Err fault) message = Tells fault message
 
 -- fields that are whole and at no fault beside their table, or the first fault
 abbrev pub IsClean : Table Kind → List Field → Option SplitFault
-    → Result (Bor (List (ℕ × Bor (List ℕ)))) Fault → Type 0
+    → Result (Bor (List Field)) Fault → Type 0
 IsClean table fields fault (Ok good) =
-    (seen good.now ≡ fields) × (fault ≡ None) × (first_fault judge table fields ≡ None)
+    (good.now ≡ fields) × (fault ≡ None) × (first_fault judge table fields ≡ None)
 IsClean table fields fault (Err e) = message_by (Some table) fields fault ≡ Err e

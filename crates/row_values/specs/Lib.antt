@@ -7,3 +7,7 @@ pub mod Columns
 pub mod CodeKinds
 pub mod Gives
 pub mod Writing
+pub mod Maturity
+pub mod Contras
+pub mod Amounts
+pub mod OnePass

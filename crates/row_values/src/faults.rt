@@ -1,7 +1,11 @@
 //! The first fault of a message's fields beside their table.
 
-ghost use Rattle.std.specs.Prelude.{◌≡◌, map};
-ghost use Rattle.message_tables.specs.CodeTables.{seen, table_of as code_table};
+ghost use Rattle.std.specs.Prelude.{◌≡◌, ◌==◌, IsTrue, None, Some, map, position, take};
+ghost use Rattle.std.specs.List.{list_all};
+ghost use Rattle.message_tables.specs.Tables.{rows_of};
+ghost use Rattle.message_tables.specs.CodeTables.{item_of, row_of, table_of as code_table};
+ghost use Rattle.message_tables.specs.Plain.{fits, fits_at, item_fits, with_place, with_places};
+ghost use Rattle.row_values.specs.OnePass.{Fit, ItemsFit};
 ghost use Rattle.message_tables.specs.FirstFault.{first_fault, marked};
 ghost use Rattle.message_tables.specs.Stages.{IsFound};
 ghost use Rattle.row_values.specs.CodeKinds.{kind_of};
@@ -10,8 +14,8 @@ ghost use Rattle.row_values.specs.Faults.{of_split, of_table};
 ghost use Rattle.row_values.specs.Gives.{IsClean};
 
 use crate::kinds::Kind;
-use field_groups::{Field, Split, SplitFault};
-use message_tables::{Found, Mark, Table, TableFault};
+use field_groups::{Fields, Split, SplitFault};
+use message_tables::{Found, Item, Mark, Row, Table, TableFault};
 use order_meaning::Fault;
 
 /// SessionRejectReason(373): invalid tag number.
@@ -22,6 +26,12 @@ const RANGE: u8 = 5;
 
 /// SessionRejectReason(373): incorrect data format for value.
 const FORM: u8 = 6;
+
+/// The most fields of a body.
+const MAX_FIELDS: usize = 256;
+
+/// The places of fields that have a row.
+type Rowed = [bool; MAX_FIELDS];
 
 /// What stopped the fields of a body, as a fault of the message.
 fn of_split(fault: SplitFault) -> Fault
@@ -50,9 +60,9 @@ fn of_table(fault: TableFault) -> Fault
 }
 
 /// What a field is beside its row.
-fn mark(table: &Table<Kind>, fields: &[Field<'_>], tag: u32, value: &[u8]) -> Mark
+fn mark(table: &Table<Kind>, fields: &Fields<'_>, tag: u32, value: &[u8]) -> Mark
     ensures { (tag, result)
-        ≡ marked judge (code_table kind_of table.now) (seen fields.now) (tag, value.now) }
+        ≡ marked judge (code_table kind_of table.now) fields.now (tag, value.now) }
 {
     match table.row(tag) {
         Some(row) => row.need.allows(row.kind.judge(fields, value)),
@@ -61,23 +71,110 @@ fn mark(table: &Table<Kind>, fields: &[Field<'_>], tag: u32, value: &[u8]) -> Ma
 }
 
 /// The first faults of the values of these fields.
-fn found(table: &Table<Kind>, fields: &[Field<'_>]) -> Found
+fn found(table: &Table<Kind>, fields: &Fields<'_>) -> Found
     ensures { IsFound
-        (map (marked judge (code_table kind_of table.now) (seen fields.now)) (seen fields.now))
-        result }
+        (map (marked judge (code_table kind_of table.now) fields.now) fields.now) result }
 {
     let mut found = Found::new();
-    for (tag, value) in fields {
+    let parts = fields.as_slice();
+    for (tag, value) in parts {
         found = found.with(*tag, mark(table, fields, *tag, value));
     }
     found
 }
 
-/// The first fault of these fields.
-fn first_fault(table: &Table<Kind>, fields: &[Field<'_>]) -> Option<TableFault>
-    ensures { result ≡ first_fault judge (code_table kind_of table.now) (seen fields.now) }
+/// Whether a value is good beside its row.
+fn value_fits(row: &Row<Kind>, fields: &Fields<'_>, value: &[u8]) -> bool
+    ensures { result ≡ fits_at judge fields.now (row_of kind_of row.now) (Some value.now) }
 {
-    table.first_fault(fields, &found(table, fields))
+    match row.need.allows(row.kind.judge(fields, value)) {
+        Mark::Good => true,
+        _ => false,
+    }
+}
+
+/// Whether the field of a row has a good value, or none is needed. The place of the field is marked.
+fn row_fits(row: &Row<Kind>, fields: &Fields<'_>, rowed: &mut Rowed) -> bool
+    ensures fits { result ≡ fits judge fields.now (row_of kind_of row.now) }
+    ensures places { rowed.new
+        ≡ with_place rowed.old (position (λ f. f.0 == row.now.tag) fields.now) }
+{
+    match fields.find(row.tag) {
+        None => !row.need.is_needed(fields.as_slice()),
+        Some(place) => {
+            rowed[place] = true;
+            match fields.at(place) {
+                None => false,
+                Some((_, value)) => value_fits(row, fields, value),
+            }
+        }
+    }
+}
+
+/// Whether rows fit.
+fn rows_fit(rows: &[Row<Kind>], fields: &Fields<'_>, rowed: &mut Rowed) -> bool
+    ensures { IsTrue result → Fit fields.now (map (row_of kind_of) rows.now) rowed.old rowed.new }
+{
+    for row in rows {
+        if !row_fits(row, fields, rowed) {
+            return false;
+        }
+    }
+    true
+}
+
+/// Whether an item fits: its row, or a group of which no field stands.
+fn item_fits(item: &Item<Kind>, fields: &Fields<'_>, rowed: &mut Rowed) -> bool
+    ensures fits { result ≡ item_fits judge fields.now (item_of kind_of item.now) }
+    ensures places { IsTrue result → rowed.new
+        ≡ with_places fields.now (rows_of (item_of kind_of item.now)) rowed.old }
+{
+    match item {
+        Item::One(row) => row_fits(row, fields, rowed),
+        Item::Party(_) => true,
+        Item::Lines(group) => group.is_absent(fields),
+    }
+}
+
+/// Whether items fit.
+fn items_fit(items: &[Item<Kind>], fields: &Fields<'_>, rowed: &mut Rowed) -> bool
+    ensures { IsTrue result
+        → ItemsFit fields.now (map (item_of kind_of) items.now) rowed.old rowed.new }
+{
+    for item in items {
+        if !item_fits(item, fields, rowed) {
+            return false;
+        }
+    }
+    true
+}
+
+/// Whether the first places are all marked.
+fn are_marked(rowed: &Rowed, count: usize) -> bool
+    ensures { result ≡ list_all (λ one. one) (take count rowed.now) }
+{
+    rowed.iter().take(count).all(|one| *one)
+}
+
+/// Whether one pass over the rows shows that these fields are at no fault. A message with a group
+/// is left to the stages.
+fn is_plain(table: &Table<Kind>, fields: &Fields<'_>) -> bool
+    ensures { IsTrue result
+        → first_fault judge (code_table kind_of table.now) fields.now ≡ None }
+{
+    let mut rowed = [false; MAX_FIELDS];
+    rows_fit(table.header, fields, &mut rowed)
+        && (items_fit(table.items, fields, &mut rowed) && are_marked(&rowed, fields.len()))
+}
+
+/// The first fault of these fields.
+fn first_fault(table: &Table<Kind>, fields: &Fields<'_>) -> Option<TableFault>
+    ensures { result ≡ first_fault judge (code_table kind_of table.now) fields.now }
+{
+    if is_plain(table, fields) {
+        return None;
+    }
+    table.first_fault(fields.as_slice(), &found(table, fields))
 }
 
 /// The fields of a body, where they are whole and at no fault beside their table. It takes no
@@ -92,13 +189,13 @@ fn first_fault(table: &Table<Kind>, fields: &[Field<'_>]) -> Option<TableFault>
 pub fn good_fields<'s, 'a>(
     table: &Table<Kind>,
     split: &'s Split<'a>,
-) -> Result<&'s [Field<'a>], Fault>
+) -> Result<&'s Fields<'a>, Fault>
     ensures { IsClean (code_table kind_of table.now) split.now.fields split.now.fault result }
 {
     match split.fault {
         Some(fault) => Err(of_split(fault)),
         None => {
-            let fields = split.fields.as_slice();
+            let fields = &split.fields;
             match first_fault(table, fields) {
                 Some(fault) => Err(of_table(fault)),
                 None => Ok(fields),

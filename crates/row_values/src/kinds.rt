@@ -4,7 +4,6 @@ ghost use Rattle.std.specs.Prelude.{◌≡◌, ◌≤◌, ◌||◌, not, codes, 
 ghost use Rattle.std.specs.Prelude.{IfSome};
 ghost use Rattle.std.specs.Str.{bytes_eq};
 ghost use Rattle.message_tables.specs.FirstFault.{mark_of};
-ghost use Rattle.message_tables.specs.CodeTables.{seen};
 ghost use Rattle.message_tables.specs.Tables.{Said, Spells, Wrong};
 ghost use Rattle.row_values.specs.ValueKind as kinds;
 ghost use Rattle.row_values.specs.ValueKind.{is_code, spelling};
@@ -19,7 +18,7 @@ use crate::value_kind;
 use crate::value_kind::ValueKind::{Code, OneByte};
 use crate::value_kind::{ValueKind, day_of_month, has_day};
 use crate::values::{AT_CLOSE, day, may_close, month};
-use field_groups::Field;
+use field_groups::Fields;
 use message_tables::Mark;
 use typed_fields::{FieldFault, MonthYear};
 
@@ -190,8 +189,8 @@ fn judge_version(version: &[u8]) -> Mark
 impl Kind {
     /// What a value is beside the other fields of its message.
     #[tactic(auto, using(crate::proofs::Marks::of_kind), unfolding(crate::specs::Kinds::judge))]
-    pub(crate) fn judge(&self, fields: &[Field<'_>], bytes: &[u8]) -> Mark
-        ensures { result ≡ mark_of (judge (seen fields.now) (kind_of self.now) bytes.now) }
+    pub(crate) fn judge(&self, fields: &Fields<'_>, bytes: &[u8]) -> Mark
+        ensures { result ≡ mark_of (judge fields.now (kind_of self.now) bytes.now) }
     {
         match self {
             Kind::Value(kind) => judge_value(kind, bytes),

@@ -2,24 +2,28 @@
 //! first fault of a message, and how values are read from fields and written to a content.
 #![tactic(auto)]
 
+mod contras;
 mod faults;
 mod kinds;
 mod lines;
+mod maturity;
 #[cfg(test)]
 mod tests;
 pub mod value_kind;
 mod values;
 mod writing;
 
+pub use contras::{CONTRA_ROWS, CONTRAS, ContraLine, Contras};
 pub use faults::good_fields;
 pub use kinds::Kind;
 pub use lines::{
     ALLOCS, AllocLine, Allocs, GroupLine, Maturity, PARTIES, SESSIONS, SessionLine, Sessions,
     read_lines,
 };
+pub use maturity::month_and_day;
 pub use value_kind::ValueKind;
 pub use values::{
-    AT_CLOSE, code, day, flag, may_close, month, number_or_zero, or_empty, owned, price, qty,
-    qty_or_zero, resend, stamp, stamp_or_epoch, text,
+    AT_CLOSE, code, day, flag, may_close, month, number, number_or_zero, or_empty, owned, price,
+    price_or_zero, qty, qty_or_zero, reason, resend, stamp, stamp_or_epoch, text,
 };
 pub use writing::{Part, Value, put_parts};

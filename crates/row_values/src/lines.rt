@@ -5,7 +5,7 @@ ghost use Rattle.std.specs.List.{AllZip};
 ghost use Rattle.typed_fields.specs.Dec.{IsDec};
 ghost use Rattle.field_groups.specs.Field.{Field as ReadField, body_of};
 ghost use Rattle.message_tables.specs.CodeTables.{own_tags, seen};
-ghost use Rattle.message_tables.specs.Tables.{Cell, GroupTags, lines_in, tags_in};
+ghost use Rattle.message_tables.specs.Tables.{Cell, GroupTags, line_fields_in, lines_in, tags_in};
 ghost use Rattle.message_tables.specs.Content.{line_fields};
 ghost use Rattle.row_values.specs.Lines.{IsAlloc, IsParty, IsSession, alloc_cells, party_cells};
 ghost use Rattle.row_values.specs.Lines.{session_cells};
@@ -15,10 +15,10 @@ use crate::kinds::Kind;
 use crate::value_kind::ValueKind;
 use crate::value_kind::ValueKind::{Id, OneByte, Qty};
 use crate::values::{number_or_zero, or_empty, owned, qty, text};
-use crate::writing::{Value, put_row};
-use field_groups::Field;
+use crate::writing::{Value, put_row, put_text};
+use field_groups::{Field, Fields};
 use message_tables::Need::{Fixed, Optional, Required};
-use message_tables::{RepeatingGroup, Row, line, line_end};
+use message_tables::{Line, RepeatingGroup, Row, line, line_end};
 use order_meaning::{Bytes, GroupLines, PartyLine};
 use std::alloc::{AllocError, Global};
 use typed_fields::{Dec, MonthYear, Number};
@@ -165,16 +165,17 @@ impl GroupLine for PartyLine {
     }
 
     fn read(alloc: Global, fields: &[Field<'_>]) -> Result<PartyLine, AllocError> {
-        let id = owned(alloc, text(fields, 448, &Id))?;
+        let line = Line { fields };
+        let id = owned(alloc, text(&line, 448, &Id))?;
         Ok(PartyLine {
             id: or_empty(alloc, id),
-            role: number_or_zero(fields, 452).value,
+            role: number_or_zero(&line, 452).value,
         })
     }
 
     fn write(&self, out: &mut Vec<u8>) -> Result<(), AllocError> {
-        put_row(out, 448, &Value::Own(&self.id))?;
-        put_row(out, 447, &Value::Text(b"D"))?;
+        put_row(out, 448, &Value::Text(&self.id))?;
+        put_text(out, 447, b"D")?;
         put_row(out, 452, &Value::Number(Number { value: self.role }))
     }
 }
@@ -193,16 +194,17 @@ impl GroupLine for AllocLine {
     }
 
     fn read(alloc: Global, fields: &[Field<'_>]) -> Result<AllocLine, AllocError> {
-        let account = owned(alloc, text(fields, 79, &Id))?;
+        let line = Line { fields };
+        let account = owned(alloc, text(&line, 79, &Id))?;
         Ok(AllocLine {
             account: or_empty(alloc, account),
-            qty: qty(fields, 80),
+            qty: qty(&line, 80),
         })
     }
 
     fn write(&self, out: &mut Vec<u8>) -> Result<(), AllocError> {
-        put_row(out, 79, &Value::Own(&self.account))?;
-        put_row(out, 80, &Value::Dec(self.qty))
+        put_row(out, 79, &Value::Text(&self.account))?;
+        put_row(out, 80, &Value::DecIf(&self.qty))
     }
 }
 
@@ -220,14 +222,25 @@ impl GroupLine for SessionLine {
     }
 
     fn read(alloc: Global, fields: &[Field<'_>]) -> Result<SessionLine, AllocError> {
-        let id = owned(alloc, text(fields, 336, &Id))?;
+        let line = Line { fields };
+        let id = owned(alloc, text(&line, 336, &Id))?;
         Ok(SessionLine {
             id: or_empty(alloc, id),
         })
     }
 
     fn write(&self, out: &mut Vec<u8>) -> Result<(), AllocError> {
-        put_row(out, 336, &Value::Own(&self.id))
+        put_row(out, 336, &Value::Text(&self.id))
+    }
+}
+
+/// The fields of the lines of a group; none where its count does not stand.
+fn members<'f, 'a>(group: &RepeatingGroup<Kind>, fields: &'f Fields<'a>) -> &'f [Field<'a>]
+    ensures { seen result.now ≡ line_fields_in (own_tags group.now) fields.now }
+{
+    match fields.find(group.count) {
+        None => &[],
+        Some(_) => group.lines(fields.as_slice()),
     }
 }
 
@@ -238,13 +251,13 @@ impl GroupLine for SessionLine {
 /// `AllocError` for want of memory.
 pub fn read_lines<L: GroupLine>(
     alloc: Global,
-    fields: &[Field<'_>],
+    fields: &Fields<'_>,
 ) -> Result<GroupLines<L>, AllocError>
-    requires { length (lines_in L.tags (seen fields.now)) ≤ 32 }
-    ensures { IfOk result (AllZip L.is_line (lines_in L.tags (seen fields.now))) }
+    requires { length (lines_in L.tags fields.now) ≤ 32 }
+    ensures { IfOk result (AllZip L.is_line (lines_in L.tags fields.now)) }
 {
     let group = L::group();
-    let members = group.lines(fields);
+    let members = members(group, fields);
     let first = group.first();
     let mut lines = GroupLines::new(alloc);
     let mut from = 0;

@@ -10,15 +10,15 @@ use crate::ValueKind::{
     Price, Qty, Reason, Stamp, Text, Word,
 };
 use crate::{
-    ALLOCS, Allocs, Kind, Maturity, Part, Sessions, Value, ValueKind, code, day, flag, good_fields,
-    may_close, month, number_or_zero, or_empty, owned, price, put_parts, qty, qty_or_zero,
-    read_lines, resend, stamp, stamp_or_epoch, text, value_kind,
+    ALLOCS, AllocLine, Allocs, ContraLine, GroupLine, Kind, Maturity, Part, SessionLine, Sessions,
+    Value, ValueKind, code, day, flag, good_fields, may_close, month, number_or_zero, or_empty,
+    owned, price, put_parts, qty, qty_or_zero, resend, stamp, stamp_or_epoch, text, value_kind,
 };
 use FieldFault::{Empty, Form, Range};
 use field_groups::{Field, split};
 use message_tables::Need::{Lenient, Optional, Required};
-use message_tables::{Item, Row, Table};
-use order_meaning::{Bytes, Fault, Lines};
+use message_tables::{Item, Line, Row, Table};
+use order_meaning::{Bytes, Fault, Lines, PartyLine};
 use std::alloc::{AllocError, Global};
 use std::test::Fail;
 use typed_fields::FieldFault;
@@ -130,9 +130,12 @@ fn single_values_are_read(rt: HostRuntime) {
     }
 }
 
-/// Fields of an order, one of each type of value.
+/// The fields of an order.
+const FIELDS: Line<'static> = Line { fields: ORDER };
+
+/// A field of each type of value.
 #[rattlefmt::skip]
-const FIELDS: &[Field<'static>] = &[
+const ORDER: &[Field<'static>] = &[
     (97, b"Y"), // PossResend
     (11, b"A1"), // ClOrdID
     (64, b"19700105"), // FutSettDate
@@ -157,34 +160,38 @@ const MOMENT: typed_fields::Stamp = typed_fields::Stamp {
 
 #[test]
 fn fields_say_values(rt: HostRuntime) {
-    assert_eq!(rt; text(FIELDS, 11, &Id), Some(b"A1".as_slice()));
-    assert_eq!(rt; text(FIELDS, 58, &Text), None);
-    assert_eq!(rt; code(FIELDS, 54, &Code(b"123456")), Some(b'6'));
-    assert_eq!(rt; code(FIELDS, 54, &Code(b"12345")), None);
-    assert_eq!(rt; qty(FIELDS, 38).map(|qty| qty.units), Some(10_050_000_000));
-    assert_eq!(rt; qty(FIELDS, 44).map(|qty| qty.units), None);
-    assert_eq!(rt; qty_or_zero(FIELDS, 38).units, 10_050_000_000);
-    assert_eq!(rt; qty_or_zero(FIELDS, 14).units, 0);
+    assert_eq!(rt; text(&FIELDS, 11, &Id), Some(b"A1".as_slice()));
+    assert_eq!(rt; text(&FIELDS, 58, &Text), None);
+    assert_eq!(rt; code(&FIELDS, 54, &Code(b"123456")), Some(b'6'));
+    assert_eq!(rt; code(&FIELDS, 54, &Code(b"12345")), None);
+    assert_eq!(rt; qty(&FIELDS, 38).map(|qty| qty.units), Some(10_050_000_000));
+    assert_eq!(rt; qty(&FIELDS, 44).map(|qty| qty.units), None);
+    assert_eq!(rt; qty_or_zero(&FIELDS, 38).units, 10_050_000_000);
+    assert_eq!(rt; qty_or_zero(&FIELDS, 14).units, 0);
     assert_eq!(rt;
-        price(FIELDS, 44).map(|price| price.units),
+        price(&FIELDS, 44).map(|price| price.units),
         Some(-100_000_000)
     );
-    assert_eq!(rt; day(FIELDS, 64), Some(typed_fields::Day { day: 4 }));
-    assert_eq!(rt; stamp(FIELDS, 60), Some(MOMENT));
-    assert_eq!(rt; stamp_or_epoch(FIELDS, 60), MOMENT);
-    assert_eq!(rt; stamp_or_epoch(FIELDS, 52).millis(), 0);
-    assert_eq!(rt; flag(FIELDS, 114).map(|flag| flag.yes), Some(false));
+    assert_eq!(rt; day(&FIELDS, 64), Some(typed_fields::Day { day: 4 }));
+    assert_eq!(rt; stamp(&FIELDS, 60), Some(MOMENT));
+    assert_eq!(rt; stamp_or_epoch(&FIELDS, 60), MOMENT);
+    assert_eq!(rt; stamp_or_epoch(&FIELDS, 52).millis(), 0);
+    assert_eq!(rt; flag(&FIELDS, 114).map(|flag| flag.yes), Some(false));
     let june = typed_fields::MonthYear {
         year: 2024,
         month: 6,
     };
-    assert_eq!(rt; month(FIELDS, 200), Some(june));
-    assert_eq!(rt; number_or_zero(FIELDS, 452).value, 12);
-    assert_eq!(rt; number_or_zero(FIELDS, 453).value, 0);
-    assert!(rt; may_close(FIELDS, 40));
-    assert!(rt; !may_close(FIELDS, 54));
-    assert!(rt; resend(FIELDS));
-    assert!(rt; !resend(&FIELDS[1..]));
+    assert_eq!(rt; month(&FIELDS, 200), Some(june));
+    assert_eq!(rt; number_or_zero(&FIELDS, 452).value, 12);
+    assert_eq!(rt; number_or_zero(&FIELDS, 453).value, 0);
+    assert!(rt; may_close(&FIELDS, 40));
+    assert!(rt; !may_close(&FIELDS, 54));
+    assert!(rt; resend(&FIELDS));
+    assert!(rt;
+        !resend(&Line {
+            fields: &ORDER[1..]
+        })
+    );
 }
 
 #[test]
@@ -305,30 +312,54 @@ fn fields_are_judged(rt: HostRuntime) -> Result<(), Fail> {
     Ok(())
 }
 
-/// A group of each sort: its fields come behind its count, up to a field of another tag.
+/// The lines of a group of each sort.
 #[rattlefmt::skip]
-const GROUPS: &[Field<'static>] = &[
-    (453, b"2"), // NoPartyIDs
-    (448, b"FUND"), (447, b"D"), (452, b"3"),
-    (448, b"EX"), (802, b"1"), (523, b"sub"), (803, b"4"), (447, b"B"), (452, b"01"),
-    (78, b"2"), // NoAllocs
-    (79, b"X"), (80, b"40.0"),
-    (79, b"Y"),
-    (386, b"1"), // NoTradingSessions
-    (336, b"S"),
-    (54, b"1"),
-];
+const PARTY: &[Field<'static>] =
+    &[(448, b"EX"), (802, b"1"), (523, b"sub"), (803, b"4"), (447, b"B"), (452, b"01")];
 
-/// What is written of these groups: each PartyIDSource(447) is `D`, and no sub-id is written.
-const WRITTEN: &str = "453=2|448=FUND|447=D|452=3|448=EX|447=D|452=1|78=2|79=X|80=40|79=Y|386=1|\
-    336=S|";
+const ALLOC: &[Field<'static>] = &[(79, b"X"), (80, b"40.0")];
 
-/// The groups that are read, as they are written.
-#[tactic(auto, using(crate::proofs::SaidRows::of_lines))]
+const CONTRA: &[Field<'static>] = &[(375, b"BRK"), (437, b"7"), (655, b"leg"), (337, b"TR")];
+
+#[test]
+fn lines_are_read(rt: HostRuntime) -> Result<(), Fail> {
+    let party = PartyLine::read(rt.alloc(), PARTY)?;
+    assert!(rt; party.id.as_slice() == b"EX".as_slice() && party.role == 1);
+    let alloc = AllocLine::read(rt.alloc(), ALLOC)?;
+    assert!(rt; alloc.account.as_slice() == b"X".as_slice());
+    assert_eq!(rt; alloc.qty.map(|qty| qty.units), Some(4_000_000_000));
+    let session = SessionLine::read(rt.alloc(), &[(336, b"S")])?;
+    assert!(rt; session.id.as_slice() == b"S".as_slice());
+    let contra = ContraLine::read(rt.alloc(), CONTRA)?;
+    assert!(rt; contra.broker.as_slice() == b"BRK".as_slice() && contra.trader.is_some());
+    assert_eq!(rt; contra.qty.map(|qty| qty.units), Some(700_000_000));
+    assert!(rt; contra.time.is_none());
+    Ok(())
+}
+
+/// What is written of these groups: each PartyIDSource(447) is `D`.
+const WRITTEN: &str = "453=2|448=FUND|447=D|452=3|448=EX|447=D|452=1|78=1|79=X|386=1|336=S|";
+
+/// Groups, as they are written.
 fn written_groups(alloc: Global) -> Result<Vec<u8>, AllocError> {
-    let parties: Lines = read_lines(alloc, GROUPS)?;
-    let allocs: Allocs = read_lines(alloc, GROUPS)?;
-    let sessions: Sessions = read_lines(alloc, GROUPS)?;
+    let mut parties = Lines::new(alloc);
+    parties.push(PartyLine {
+        id: Bytes::copy(alloc, b"FUND")?,
+        role: 3,
+    })?;
+    parties.push(PartyLine {
+        id: Bytes::copy(alloc, b"EX")?,
+        role: 1,
+    })?;
+    let mut allocs = Allocs::new(alloc);
+    allocs.push(AllocLine {
+        account: Bytes::copy(alloc, b"X")?,
+        qty: None,
+    })?;
+    let mut sessions = Sessions::new(alloc);
+    sessions.push(SessionLine {
+        id: Bytes::copy(alloc, b"S")?,
+    })?;
     let mut out = Vec::new(alloc);
     put_parts(&mut out, &[Part::Parties(&parties)])?;
     put_parts(&mut out, &[Part::Allocs(&allocs)])?;
@@ -337,14 +368,15 @@ fn written_groups(alloc: Global) -> Result<Vec<u8>, AllocError> {
 }
 
 /// What is written of a value of each variant; a value that is none is not written.
-const CONTENT: &str = "447=D|448=A1|58=note|54=6|38=100.5|64=19700105|60=19700102-10:20:30.123|\
-    114=N|452=12|200=202406|205=03|541=20240603|";
+const CONTENT: &str = "448=A1|58=note|40=2|54=6|14=100.5|38=100.5|64=19700105|\
+    168=19700102-10:20:30.123|60=19700102-10:20:30.123|114=N|452=12|200=202406|205=03|\
+    541=20240603|";
 
 /// The month of MaturityMonthYear(200), with its third day.
 fn third_day() -> Option<Maturity>
     ensures { IfSome result IsReadableMaturity }
 {
-    match month(FIELDS, 200) {
+    match month(&FIELDS, 200) {
         Some(month) => Some(Maturity {
             month,
             day: Some(3),
@@ -357,25 +389,33 @@ fn third_day() -> Option<Maturity>
 fn written_values(alloc: Global) -> Result<Vec<u8>, AllocError> {
     let id = Bytes::copy(alloc, b"A1")?;
     let note = Some(Bytes::copy(alloc, b"note")?);
+    let cum = qty_or_zero(&FIELDS, 38);
+    let order_qty = qty(&FIELDS, 38);
+    let settl_date = day(&FIELDS, 64);
+    let effective = stamp_or_epoch(&FIELDS, 60);
+    let transacted = stamp(&FIELDS, 60);
+    let locate = flag(&FIELDS, 114);
     let maturity = third_day();
     let mut out = Vec::new(alloc);
-    put_parts(&mut out, &[Part::Row(447, Value::Text(b"D"))])?;
-    put_parts(&mut out, &[Part::Row(448, Value::Own(&id))])?;
+    put_parts(&mut out, &[Part::Row(448, Value::Text(&id))])?;
     put_parts(&mut out, &[Part::Row(58, Value::TextIf(&note))])?;
     put_parts(
         &mut out,
         &[
-            Part::Row(54, Value::Code(code(FIELDS, 54, &OneByte))),
-            Part::Row(59, Value::Code(None)),
-            Part::Row(38, Value::Dec(qty(FIELDS, 38))),
-            Part::Row(99, Value::Dec(None)),
-            Part::Row(64, Value::Day(day(FIELDS, 64))),
-            Part::Row(60, Value::Stamp(stamp(FIELDS, 60))),
-            Part::Row(114, Value::Flag(flag(FIELDS, 114))),
-            Part::Row(452, Value::Number(number_or_zero(FIELDS, 452))),
-            Part::Row(200, Value::Month(maturity)),
-            Part::Row(205, Value::MonthDay(maturity)),
-            Part::Row(541, Value::Date(maturity)),
+            Part::Row(40, Value::Code(b'2')),
+            Part::Row(54, Value::CodeIf(code(&FIELDS, 54, &OneByte))),
+            Part::Row(59, Value::CodeIf(None)),
+            Part::Row(14, Value::Dec(&cum)),
+            Part::Row(38, Value::DecIf(&order_qty)),
+            Part::Row(99, Value::DecIf(&None)),
+            Part::Row(64, Value::DayIf(&settl_date)),
+            Part::Row(168, Value::Stamp(&effective)),
+            Part::Row(60, Value::StampIf(&transacted)),
+            Part::Row(114, Value::FlagIf(&locate)),
+            Part::Row(452, Value::Number(number_or_zero(&FIELDS, 452))),
+            Part::Row(200, Value::Month(&maturity)),
+            Part::Row(205, Value::MonthDay(&maturity)),
+            Part::Row(541, Value::Date(&maturity)),
         ],
     )?;
     Ok(out)

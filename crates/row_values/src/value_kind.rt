@@ -33,7 +33,7 @@ const MAX_ID: usize = 128;
 const MAX_TEXT: usize = 2048;
 
 /// The greatest reason.
-const MAX_REASON: u32 = 9999;
+pub(crate) const MAX_REASON: u32 = 9999;
 
 /// A kind of values.
 #[derive(Clone, Copy, Debug)]

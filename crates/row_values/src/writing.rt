@@ -14,39 +14,47 @@ ghost use Rattle.row_values.specs.Lines.{IsReadableMaturity, month_text};
 ghost use Rattle.row_values.specs.Writing.{IsPart, IsValue, count_fields, date_text};
 ghost use Rattle.row_values.specs.Writing.{month_day_text, part_fields, value_text};
 
+use crate::contras::Contras;
 use crate::lines::{Allocs, GroupLine, Maturity, Sessions};
 use field_groups::SOH;
 use order_meaning::{Bytes, GroupLines, Lines};
 use std::alloc::AllocError;
 use typed_fields::{Day, Dec, FieldValue, Flag, MonthYear, Number, Stamp};
 
-/// What a row says, if it says anything.
+/// What a row says, if it says anything. A content is written from an array of these, so that they
+/// are small.
 #[derive(Clone, Copy)]
 pub enum Value<'a> {
-    /// These bytes.
-    Text(&'static [u8]),
     /// The bytes of a text.
-    Own(&'a Bytes),
+    Text(&'a Bytes),
     /// These bytes, if there are any.
     TextIf(&'a Option<Bytes>),
     /// A code.
-    Code(Option<u8>),
+    Code(u8),
+    /// A code, if there is one.
+    CodeIf(Option<u8>),
     /// A decimal number.
-    Dec(Option<Dec>),
-    /// A day.
-    Day(Option<Day>),
+    Dec(&'a Dec),
+    /// A decimal number, if there is one.
+    DecIf(&'a Option<Dec>),
+    /// A day, if there is one.
+    DayIf(&'a Option<Day>),
     /// A moment.
-    Stamp(Option<Stamp>),
-    /// Yes or no.
-    Flag(Option<Flag>),
+    Stamp(&'a Stamp),
+    /// A moment, if there is one.
+    StampIf(&'a Option<Stamp>),
+    /// Yes or no, if it is said.
+    FlagIf(&'a Option<Flag>),
     /// A number.
     Number(Number),
-    /// The month of a maturity.
-    Month(Option<Maturity>),
+    /// A number, if there is one.
+    NumberIf(Option<Number>),
+    /// The month of a maturity, if there is one.
+    Month(&'a Option<Maturity>),
     /// The day of a maturity, if it has one.
-    MonthDay(Option<Maturity>),
+    MonthDay(&'a Option<Maturity>),
     /// The date of a maturity, if it has a day.
-    Date(Option<Maturity>),
+    Date(&'a Option<Maturity>),
 }
 
 /// A part of a content, in the order of its table.
@@ -60,6 +68,8 @@ pub enum Part<'a> {
     Allocs(&'a Allocs),
     /// The sessions in which an order may trade, (386).
     Sessions(&'a Sessions),
+    /// The brokers on the other side of a trade, (382).
+    Contras(&'a Contras),
 }
 
 /// Begins a field.
@@ -68,22 +78,37 @@ fn put_tag(out: &mut Vec<u8>, tag: u32) -> Result<(), AllocError>
     ensures { OnOk result (out.new.items ≡ out.old.items ++ decimal tag ++ 61 ∷ []) }
 {
     Number { value: tag }.write(out)?;
-    out.extend_from_slice(b"=")
+    out.push(b'=')?;
+    Ok(())
 }
 
 /// Appends a field of these bytes.
 #[tactic(auto, unfolding(field_groups::specs::Field::field_bytes))]
-fn put_text(out: &mut Vec<u8>, tag: u32, text: &[u8]) -> Result<(), AllocError>
+pub(crate) fn put_text(out: &mut Vec<u8>, tag: u32, text: &[u8]) -> Result<(), AllocError>
     requires { tag ≤ 1_000_000_000 }
     ensures { OnOk result (out.new.items ≡ out.old.items ++ field_bytes (tag, text.now)) }
 {
     put_tag(out, tag)?;
     out.extend_from_slice(text)?;
-    out.extend_from_slice(&[SOH])
+    out.push(SOH)?;
+    Ok(())
+}
+
+/// Appends a field of a value.
+#[tactic(auto, unfolding(field_groups::specs::Field::field_bytes))]
+fn put_value<T: FieldValue>(out: &mut Vec<u8>, tag: u32, value: &T) -> Result<(), AllocError>
+    requires tag { tag ≤ 1_000_000_000 }
+    requires value { T.can_be value.now }
+    ensures { OnOk result (out.new.items
+        ≡ out.old.items ++ field_bytes (tag, T.spelling value.now)) }
+{
+    put_tag(out, tag)?;
+    value.write(out)?;
+    out.push(SOH)?;
+    Ok(())
 }
 
 /// Appends a field of a value, if there is one.
-#[tactic(auto, unfolding(field_groups::specs::Field::field_bytes))]
 fn put_if<T: FieldValue>(out: &mut Vec<u8>, tag: u32, value: &Option<T>) -> Result<(), AllocError>
     requires tag { tag ≤ 1_000_000_000 }
     requires value { IfSome value.now T.can_be }
@@ -92,23 +117,31 @@ fn put_if<T: FieldValue>(out: &mut Vec<u8>, tag: u32, value: &Option<T>) -> Resu
 {
     match value {
         None => Ok(()),
-        Some(value) => {
-            put_tag(out, tag)?;
-            value.write(out)?;
-            out.extend_from_slice(&[SOH])
-        }
+        Some(value) => put_value(out, tag, value),
     }
 }
 
+/// Appends the field of a row's code.
+#[tactic(auto, unfolding(field_groups::specs::Field::field_bytes))]
+fn put_code(out: &mut Vec<u8>, tag: u32, code: u8) -> Result<(), AllocError>
+    requires { tag ≤ 1_000_000_000 }
+    ensures { OnOk result (out.new.items ≡ out.old.items ++ field_bytes (tag, code_text code)) }
+{
+    put_tag(out, tag)?;
+    out.push(code)?;
+    out.push(SOH)?;
+    Ok(())
+}
+
 /// Appends the field of a row's code, if there is one.
-fn put_code(out: &mut Vec<u8>, tag: u32, code: Option<u8>) -> Result<(), AllocError>
+fn put_code_if(out: &mut Vec<u8>, tag: u32, code: Option<u8>) -> Result<(), AllocError>
     requires { tag ≤ 1_000_000_000 }
     ensures { OnOk result (out.new.items
         ≡ out.old.items ++ body_of (cell_fields (Tag tag, option_map code_text code))) }
 {
     match code {
         None => Ok(()),
-        Some(code) => put_text(out, tag, &[code]),
+        Some(code) => put_code(out, tag, code),
     }
 }
 
@@ -133,7 +166,7 @@ fn put_month(out: &mut Vec<u8>, tag: u32, maturity: Option<Maturity>) -> Result<
 {
     match maturity {
         None => Ok(()),
-        Some(maturity) => put_if(out, tag, &Some(maturity.month)),
+        Some(maturity) => put_value(out, tag, &maturity.month),
     }
 }
 
@@ -156,7 +189,8 @@ fn put_day(out: &mut Vec<u8>, tag: u32, month: MonthYear, day: u8) -> Result<(),
     put_tag(out, tag)?;
     month.write(out)?;
     out.extend_from_slice(&last_two_digits(day))?;
-    out.extend_from_slice(&[SOH])
+    out.push(SOH)?;
+    Ok(())
 }
 
 /// A number of two digits.
@@ -205,18 +239,21 @@ pub(crate) fn put_row(out: &mut Vec<u8>, tag: u32, value: &Value<'_>) -> Result<
         ≡ out.old.items ++ body_of (cell_fields (Tag tag, value_text value.now))) }
 {
     match value {
-        Value::Text(text) => put_text(out, tag, text),
-        Value::Own(text) => put_text(out, tag, text.as_slice()),
+        Value::Text(text) => put_text(out, tag, text.as_slice()),
         Value::TextIf(text) => put_text_if(out, tag, text),
         Value::Code(code) => put_code(out, tag, *code),
-        Value::Dec(dec) => put_if(out, tag, dec),
-        Value::Day(day) => put_if(out, tag, day),
-        Value::Stamp(stamp) => put_if(out, tag, stamp),
-        Value::Flag(flag) => put_if(out, tag, flag),
-        Value::Number(number) => put_if(out, tag, &Some(*number)),
-        Value::Month(maturity) => put_month(out, tag, *maturity),
-        Value::MonthDay(maturity) => put_month_day(out, tag, *maturity),
-        Value::Date(maturity) => put_date(out, tag, *maturity),
+        Value::CodeIf(code) => put_code_if(out, tag, *code),
+        Value::Dec(dec) => put_value(out, tag, *dec),
+        Value::DecIf(dec) => put_if(out, tag, *dec),
+        Value::DayIf(day) => put_if(out, tag, *day),
+        Value::Stamp(stamp) => put_value(out, tag, *stamp),
+        Value::StampIf(stamp) => put_if(out, tag, *stamp),
+        Value::FlagIf(flag) => put_if(out, tag, *flag),
+        Value::Number(number) => put_value(out, tag, number),
+        Value::NumberIf(number) => put_if(out, tag, number),
+        Value::Month(maturity) => put_month(out, tag, **maturity),
+        Value::MonthDay(maturity) => put_month_day(out, tag, **maturity),
+        Value::Date(maturity) => put_date(out, tag, **maturity),
     }
 }
 
@@ -269,6 +306,7 @@ fn put_part(out: &mut Vec<u8>, part: &Part<'_>) -> Result<(), AllocError>
         Part::Parties(lines) => put_lines(out, 453, lines),
         Part::Allocs(lines) => put_lines(out, 78, lines),
         Part::Sessions(lines) => put_lines(out, 386, lines),
+        Part::Contras(lines) => put_lines(out, 382, lines),
     }
 }
 

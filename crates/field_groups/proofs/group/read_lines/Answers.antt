@@ -1,5 +1,5 @@
-use Rattle.std.proofs.Common.{◌+◌, ◌<◌, List, length, map, subst, sym, ap, ◌∙◌, [], true}
-use Rattle.std.proofs.Common.{false, arith}
+use Rattle.std.proofs.Common.{◌<◌, List, length, map, subst, sym, ap, ◌∙◌, []}
+use Rattle.std.proofs.Common.{arith}
 use Rattle.std.proofs.lemmas.Result.{err_from_is_err_and}
 use Rattle.field_groups.specs.Group.{Lines, Member, tags_of, placed, members_of}
 use Rattle.field_groups.proofs.Lines.{Read, none_read, one_read, all_read, tells}

@@ -1,9 +1,8 @@
 use Rattle.std.proofs.Common.{◌∙◌}
-use Rattle.message_tables.specs.CodeTables.{seen}
 use Rattle.row_values.proofs.FirstFaults.{by_table}
 use Rattle.row_values.proofs.faults.first_fault.Goals as goal
 
 pub returns : goal.returns
 returns c =
-    c.first_fault.ensures
-    ∙ by_table c.args.table.now (seen c.args.fields.now) c.found.result c.found.ensures
+    rw c.as_slice.ensures at c.first_fault.ensures
+    ∙ by_table c.args.table.now c.args.fields.now c.found.result c.found.ensures

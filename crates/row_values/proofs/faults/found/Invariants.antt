@@ -8,5 +8,5 @@ use Rattle.row_values.proofs.faults.found.Given as goal
 
 abbrev pub invariant-loop-tag : goal.invariant-loop-tag
 invariant-loop-tag l =
-    let mark = marked judge (table_of kind_of l.table) (seen l.fields) in
-    IsFound (map mark (seen (take l.tag-index l.fields))) l.found
+    let mark = marked judge (table_of kind_of l.table) l.fields in
+    IsFound (map mark (seen (take l.tag-index l.parts))) l.found

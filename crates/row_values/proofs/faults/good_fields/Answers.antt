@@ -11,5 +11,5 @@ returns-in-Some-first_fault c =
     let table = table_of kind_of c.args.table.now in
     refused table c.args.split.now.fields c.args.split.now.fault c.in-Some-first_fault.fault
     c.in-None.is
-    (c.in-Some-first_fault.ensures ∙ ap (first_fault judge table) c.as_slice-fields.ensures)
+    c.in-Some-first_fault.ensures
     ∙ ap Err (sym c.of_table.ensures)

@@ -8,11 +8,11 @@ pub returns-in-Some : goal.returns-in-Some
 returns-in-Some c =
     let e = c.allows.ensures ∙ ap (allowed (need_of c.in-Some.row.now.need)) c.judge.ensures in
     (λ i. (c.args.tag, e i))
-    ∙ with_row c.args.table.now (seen c.args.fields.now) c.args.tag c.args.value.now
+    ∙ with_row c.args.table.now c.args.fields.now c.args.tag c.args.value.now
     (row_of (λ k. k) c.in-Some.row.now) c.in-Some.ensures
 
 pub returns-in-None : goal.returns-in-None
 returns-in-None c =
     (λ i. (c.args.tag, c.without_row.ensures i))
-    ∙ with_none c.args.table.now (seen c.args.fields.now) c.args.tag c.args.value.now
+    ∙ with_none c.args.table.now c.args.fields.now c.args.tag c.args.value.now
     c.in-None.ensures

@@ -1,0 +1,508 @@
+-- Fields that one pass over the rows of their table shows to be at no fault have none.
+use Rattle.std.proofs.Common.{◌≡◌, ◌≢◌, ℕ, zero, suc, ◌+◌, ◌<◌, ◌≤◌, Bool, true, false, cond}
+use Rattle.std.proofs.Common.{eqb}
+use Rattle.std.proofs.Common.{List, [], ◌∷◌, ◌++◌, length, get_or, take, map, Option, Some}
+use Rattle.std.proofs.Common.{None, refl, sym, ap, ◌∙◌, arith, one-add}
+use Rattle.std.specs.Prelude.{position, nat_lt, not, ◌==◌, ◌&&◌, ◌||◌, reverse}
+use Rattle.std.specs.Option.{option_map, option_or}
+use Rattle.std.specs.List.{list_any, list_all, flat_map, position_or_len, slice_get}
+use Rattle.std.proofs.Math.ListN.{set}
+use Rattle.std.proofs.lemmas.List.{get_or-set_other}
+use Rattle.std.proofs.lemmas.List.Folds.{find-append}
+use Rattle.std.proofs.lemmas.Option.{slice_get-get_or}
+use Rattle.std.proofs.lemmas.Bool.Decides.{nat_tests}
+use Rattle.message_tables.specs.declared.table_fault.TableFault.{TableFault}
+use Rattle.message_tables.specs.declared.table_fault.TableFault.TheVariants as faults
+use Rattle.message_tables.specs.declared.table_fault.Mark.{Mark}
+use Rattle.message_tables.specs.declared.table_fault.Mark.TheVariants as marks
+use Rattle.field_groups.specs.Field.{Field}
+use Rattle.message_tables.specs.Tables.{Row, GroupTags, Item, One, Party, Lines, Table, Judge}
+use Rattle.message_tables.specs.Tables.{first_of, value_at, has_tag, is_one_of, is_needed}
+use Rattle.message_tables.specs.Tables.{row_at, rows_of, rows_in, all_rows, tags_in}
+use Rattle.message_tables.specs.FirstFault.{twice, once_in, placed_from, group_tags_in}
+use Rattle.message_tables.specs.FirstFault.{group_tags_of, in_groups, misplaced, wrong_version}
+use Rattle.message_tables.specs.FirstFault.{wrong, beyond, Marked, marked, missing_of, missing}
+use Rattle.message_tables.specs.FirstFault.{fault_if, by_row, is_passed, first_fault}
+use Rattle.message_tables.specs.FirstFault.{Placed}
+use Rattle.message_tables.specs.Plain.{is_good, lacks, lacks_group, fits, fits_at, item_fits}
+use Rattle.message_tables.specs.Plain.{with_place, with_places}
+use Rattle.message_tables.proofs.ByPlace.{no_lines, value_by_place}
+use Rattle.message_tables.proofs.Placed.{none, at, rest_at, passed, ended, has_tag-reverse}
+use Rattle.message_tables.proofs.Clean.{value_at-none}
+
+-- ---- the first place of a tag
+
+abbrev pub has : ℕ → Field → Bool
+has tag f = f.0 == tag
+
+position-cons : (tag : ℕ) (f : Field) (fs : List Field)
+    → position (has tag) (f ∷ fs) ≡ cond {A = Option ℕ} (f.0 == tag) (Some 0) (option_map suc (position (has tag) fs))
+position-cons tag f fs = here (f.0 == tag)
+  where
+    later : (n : ℕ) (inner outer : Bool) → nat_lt n (length fs) ≡ inner
+        → nat_lt (suc n) (suc (length fs)) ≡ outer
+        → cond outer (Some (suc n)) None ≡ option_map suc (cond inner (Some n) None)
+    later n true true i o = refl
+    later n true false i o = absurd (grind (arith, nat_tests))
+    later n false true i o = absurd (grind (arith, nat_tests))
+    later n false false i o = refl
+
+    at_once : (outer : Bool) → nat_lt 0 (suc (length fs)) ≡ outer
+        → cond {A = Option ℕ} outer (Some 0) None ≡ Some 0
+    at_once true o = refl
+    at_once false o = absurd (grind (arith, nat_tests))
+
+    here : (b : Bool) → cond (nat_lt (cond (not b) (1 + position_or_len (has tag) fs) 0)
+        (length (f ∷ fs))) (Some (cond (not b) (1 + position_or_len (has tag) fs) 0)) None
+        ≡ cond {A = Option ℕ} b (Some 0) (option_map suc (position (has tag) fs))
+    here true = at_once _ refl
+    here false = rw one-add (later (position_or_len (has tag) fs) _ _ refl refl)
+
+-- the first field of a tag, at a place
+pub record IsFirst (tag : ℕ) (fs : List Field) (place : ℕ) : Type 0 where
+  pub within : place < length fs
+  pub same : (get_or fs place none).0 ≡ tag
+  pub before : has_tag tag (take place fs) ≡ false
+  pub value : value_at tag fs ≡ Some (get_or fs place none).1
+  pub there : has_tag tag fs ≡ true
+
+pub is_first : (tag : ℕ) (fs : List Field) (place : ℕ)
+    → position (has tag) fs ≡ Some place → IsFirst tag fs place
+is_first tag [] place e = absurd cc
+is_first tag (f ∷ fs) place e =
+    here (f.0 == tag) refl place (sym (position-cons tag f fs) ∙ e) (is_first tag fs)
+  where
+    Later : Type 0
+    Later = (n : ℕ) → position (has tag) fs ≡ Some n → IsFirst tag fs n
+
+    later : (n : ℕ) → eqb f.0 tag ≡ false → IsFirst tag fs n → IsFirst tag (f ∷ fs) (suc n)
+    later n other first = record {
+      within = omega (arith, first.within);
+      same = first.same;
+      before = rw (other, first.before) refl;
+      value = rw other first.value;
+      there = rw (other, first.there) refl;
+    }
+
+    next : (o : Option ℕ) → position (has tag) fs ≡ o → eqb f.0 tag ≡ false
+        → (n : ℕ) → option_map suc o ≡ Some n → Later → IsFirst tag (f ∷ fs) n
+    next None p other n s first = absurd cc
+    next (Some m) p other n s first =
+        let same : suc m ≡ n = cc in rw (← same) (later m other (first m p))
+
+    here : (b : Bool) → eqb f.0 tag ≡ b → (n : ℕ)
+        → cond {A = Option ℕ} b (Some 0) (option_map suc (position (has tag) fs)) ≡ Some n
+        → Later → IsFirst tag (f ∷ fs) n
+    here true same n s first =
+        let zero_is : 0 ≡ n = cc in let is : f.0 ≡ tag = grind (arith, nat_tests) in
+        rw (← zero_is) (record {
+          within = omega arith;
+          same = is;
+          before = refl;
+          value = rw same refl;
+          there = rw same refl;
+        })
+    here false other n s first = next (position (has tag) fs) refl other n s first
+
+-- a tag that has no place is not that of a field
+no_place_lacks : (tag : ℕ) (fs : List Field)
+    → position (has tag) fs ≡ None → has_tag tag fs ≡ false
+no_place_lacks tag [] e = refl
+no_place_lacks tag (f ∷ fs) e =
+    here (f.0 == tag) (sym (position-cons tag f fs) ∙ e) (no_place_lacks tag fs)
+  where
+    none_more : (o : Option ℕ) → option_map suc o ≡ None → o ≡ None
+    none_more None e = refl
+    none_more (Some n) e = absurd cc
+
+    here : (b : Bool)
+        → cond {A = Option ℕ} b (Some 0) (option_map suc (position (has tag) fs)) ≡ None
+        → (position (has tag) fs ≡ None → has_tag tag fs ≡ false)
+        → (b || has_tag tag fs) ≡ false
+    here true e later = absurd cc
+    here false e later = later (none_more (position (has tag) fs) e)
+
+pub lacks_none : (tag : ℕ) (fs : List Field)
+    → None ≡ position (has tag) fs → true ≡ lacks fs tag
+lacks_none tag fs e = rw (no_place_lacks tag fs (sym e)) refl
+
+pub lacks_some : (tag : ℕ) (fs : List Field) (place : ℕ)
+    → Some place ≡ position (has tag) fs → false ≡ lacks fs tag
+lacks_some tag fs place e = rw (is_first tag fs place (sym e)).there refl
+
+-- ---- marked places
+
+module _ {Kind : Type 0} (fields : List Field) where
+  -- a row whose first field stands at a place
+  pub record RowAt (rows : List (Row Kind)) (place : ℕ) : Type 0 where
+    pub tag : ℕ
+    pub there : list_any (λ (row : Row Kind). row.tag == tag) rows ≡ true
+    pub first : position (has tag) fields ≡ Some place
+
+  further : (row : Row Kind) (rows : List (Row Kind)) (place : ℕ)
+      → RowAt rows place → RowAt (row ∷ rows) place
+  further row rows place r = record {
+    tag = r.tag;
+    there = or_true (eqb row.tag r.tag) r.there;
+    first = r.first;
+  }
+    where
+      or_true : (b : Bool) {c : Bool} → c ≡ true → (b || c) ≡ true
+      or_true true e = refl
+      or_true false e = e
+
+  -- a place that is marked, and was not, is that of the first field of a row
+  pub row_of_place : (rows : List (Row Kind)) (places : List Bool) (place : ℕ)
+      → get_or places place false ≡ false
+      → get_or (with_places fields rows places) place false ≡ true → RowAt rows place
+  row_of_place [] places place was is = absurd cc
+  row_of_place (row ∷ rows) places place was is =
+      by (position (has row.tag) fields) refl is (λ more. row_of_place rows more place)
+    where
+      Later : Type 0
+      Later = (more : List Bool) → get_or more place false ≡ false
+          → get_or (with_places fields rows more) place false ≡ true → RowAt rows place
+
+      self : (tag : ℕ) (rest : Bool) → (eqb tag tag || rest) ≡ true
+      self tag rest = is_true (eqb tag tag) refl
+        where
+          is_true : (b : Bool) → eqb tag tag ≡ b → (b || rest) ≡ true
+          is_true true e = refl
+          is_true false e = absurd (grind (arith, nat_tests))
+
+      at_other : (other : ℕ) → position (has row.tag) fields ≡ Some other
+          → get_or (with_places fields rows (set places other true)) place false ≡ true
+          → Later → (b : Bool) → eqb other place ≡ b → RowAt (row ∷ rows) place
+      at_other other p is later true e =
+          let here : other ≡ place = grind (arith, nat_tests) in
+          record { tag = row.tag; there = self row.tag _; first = p ∙ ap Some here }
+      at_other other p is later false e =
+          let apart : place ≢ other = λ same. absurd (grind (arith, nat_tests)) in
+          further row rows place (later (set places other true)
+          (get_or-set_other places other place true false apart ∙ was) is)
+
+      by : (o : Option ℕ) → position (has row.tag) fields ≡ o
+          → get_or (with_places fields rows (with_place places o)) place false ≡ true
+          → Later → RowAt (row ∷ rows) place
+      by None p is later = further row rows place (later places was is)
+      by (Some other) p is later = at_other other p is later (eqb other place) refl
+
+-- ---- rows that fit
+
+and_left : (a b : Bool) → (a && b) ≡ true → a ≡ true
+and_left true b h = refl
+and_left false b h = h
+
+and_right : (a b : Bool) → (a && b) ≡ true → b ≡ true
+and_right true b h = h
+and_right false b h = absurd cc
+
+-- a tag that no field has is not that of a field
+lacks_listed : (fields : List Field) (tags : List ℕ) (tag : ℕ) → list_all (lacks fields) tags ≡ true
+    → has_tag tag fields ≡ true → is_one_of tags tag ≡ false
+lacks_listed fields [] tag h there = refl
+lacks_listed fields (one ∷ tags) tag h there =
+    by (eqb one tag) refl (lacks_listed fields tags tag (and_right _ _ h) there)
+  where
+    by : (b : Bool) → eqb one tag ≡ b → is_one_of tags tag ≡ false
+        → (b || is_one_of tags tag) ≡ false
+    by false e rest = rest
+    by true e rest =
+        let same : one ≡ tag = grind (arith, nat_tests) in
+        let absent : not (has_tag one fields) ≡ true = and_left _ _ h in
+        absurd (let no : not (has_tag tag fields) ≡ true = rw (← same) absent in
+        let yes : not true ≡ true = rw there at no in cc)
+
+module _ {Kind : Type 0} (judge : Judge Kind) (fields : List Field) where
+  row_fits : (tag : ℕ) (rows : List (Row Kind)) (row : Row Kind)
+      → list_all (fits judge fields) rows ≡ true → row_at tag rows ≡ Some row
+      → fits judge fields row ≡ true
+  row_fits tag [] row h e = absurd cc
+  row_fits tag (one ∷ rows) row h e =
+      by (one.tag == tag) (row_fits tag rows row (and_right _ _ h)) e
+    where
+      by : (b : Bool) → (row_at tag rows ≡ Some row → fits judge fields row ≡ true)
+          → cond b (Some one) (row_at tag rows) ≡ Some row → fits judge fields row ≡ true
+      by true later e = let same : one ≡ row = cc in rw (← same) (and_left _ _ h)
+      by false later e = later e
+
+  -- a row of an item, of a tag that stands
+  item_row_fits : (tag : ℕ) (item : Item Kind) (row : Row Kind)
+      → item_fits judge fields item ≡ true → has_tag tag fields ≡ true
+      → row_at tag (rows_of item) ≡ Some row → fits judge fields row ≡ true
+  item_row_fits tag (One one) row h there e =
+      row_fits tag (one ∷ []) row (rw h refl) e
+  item_row_fits tag (Party role) row h there e = absurd cc
+  item_row_fits tag (Lines group) row h there e =
+      absurd (not_there group.rows (lacks_listed fields (tags_in group).members tag
+      (and_left _ _ (and_right _ _ h)) there) e)
+    where
+      not_there : (rows : List (Row Kind)) → is_one_of (map (λ (r : Row Kind). r.tag) rows) tag ≡ false
+          → row_at tag rows ≡ Some row → ⊥
+      not_there [] n e = absurd cc
+      not_there (one ∷ rows) n e = by (one.tag == tag) (not_there rows) n e
+        where
+          by : (b : Bool)
+              → (is_one_of (map (λ (r : Row Kind). r.tag) rows) tag ≡ false → row_at tag rows ≡ Some row → ⊥)
+              → (b || is_one_of (map (λ (r : Row Kind). r.tag) rows) tag) ≡ false
+              → cond b (Some one) (row_at tag rows) ≡ Some row → ⊥
+          by true later n e = absurd cc
+          by false later n e = later n e
+
+  items_row_fits : (tag : ℕ) (items : List (Item Kind)) (row : Row Kind)
+      → list_all (item_fits judge fields) items ≡ true → has_tag tag fields ≡ true
+      → row_at tag (flat_map rows_of items) ≡ Some row → fits judge fields row ≡ true
+  items_row_fits tag [] row h there e = absurd cc
+  items_row_fits tag (item ∷ items) row h there e =
+      by (row_at tag (rows_of item)) refl (items_row_fits tag items row (and_right _ _ h) there)
+      (sym (find-append (λ (r : Row Kind). r.tag == tag) (rows_of item) (flat_map rows_of items)) ∙ e)
+    where
+      by : (o : Option (Row Kind)) → row_at tag (rows_of item) ≡ o
+          → (row_at tag (flat_map rows_of items) ≡ Some row → fits judge fields row ≡ true)
+          → option_or o (row_at tag (flat_map rows_of items)) ≡ Some row
+          → fits judge fields row ≡ true
+      by None n later e = later e
+      by (Some one) n later e =
+          let same : one ≡ row = cc in
+          item_row_fits tag item row (and_left _ _ h) there (n ∙ ap Some same)
+
+-- ---- the stages
+
+-- a tag that no field has has no place
+pub no_place : (tag : ℕ) (fields : List Field)
+    → lacks fields tag ≡ true → None ≡ position (has tag) fields
+no_place tag fields h = by (position (has tag) fields) refl
+  where
+    by : (o : Option ℕ) → position (has tag) fields ≡ o → None ≡ o
+    by None e = refl
+    by (Some place) e = absurd (let no : not true ≡ true =
+        rw (is_first tag fields place e).there at h in cc)
+
+placed_none : {A : Type 0} (judge : Placed → Option A) (fs : List Field)
+    → ((i : ℕ) → i < length fs → judge (at fs i) ≡ None)
+    → first_of judge (placed_from [] fs) ≡ None
+placed_none judge fs each = from (length fs) 0 (omega arith)
+  where
+    from : (n i : ℕ) → n + i ≡ length fs → first_of judge (rest_at fs i) ≡ None
+    from zero i e = sym (ended judge fs i _ (omega (arith, e)) refl)
+    from (suc n) i e =
+        let lt : i < length fs = omega (arith, e) in
+        sym (passed judge fs i _ lt (each i lt) refl) ∙ from n (i + 1) (omega (arith, e))
+
+marks_none : (f : Marked → Option TableFault) → ((tag : ℕ) → f (tag, marks.Good) ≡ None)
+    → (g : Field → Marked) (xs : List Field)
+    → ((i : ℕ) → i < length xs → (g (get_or xs i none)).1 ≡ marks.Good)
+    → first_of f (map g xs) ≡ None
+unfolding first_of
+marks_none f good g [] each = refl
+marks_none f good g (x ∷ xs) each =
+    let here : f (g x) ≡ None =
+    ap (λ (m : Mark). f ((g x).0, m)) (each 0 (omega arith)) ∙ good (g x).0 in
+    rw here (marks_none f good g xs (λ i lt. each (suc i) (omega (arith, lt))))
+
+good_mark : (mark : Mark) → is_good mark ≡ true → mark ≡ marks.Good
+good_mark marks.Good h = refl
+good_mark marks.Outside h = absurd cc
+good_mark (marks.Wrong reason) h = absurd cc
+
+pub record RowOf {Kind : Type 0} (tag : ℕ) (rows : List (Row Kind)) : Type 0 where
+  pub row : Row Kind
+  pub is : row_at tag rows ≡ Some row
+  pub same : row.tag ≡ tag
+
+row_there : {Kind : Type 0} (tag : ℕ) (rows : List (Row Kind))
+    → list_any (λ (row : Row Kind). row.tag == tag) rows ≡ true → RowOf tag rows
+row_there tag [] h = absurd cc
+row_there {Kind} tag (one ∷ rows) h = by (one.tag == tag) refl h (row_there tag rows)
+  where
+    by : (b : Bool) → eqb one.tag tag ≡ b
+        → (b || list_any (λ (row : Row Kind). row.tag == tag) rows) ≡ true
+        → (list_any (λ (row : Row Kind). row.tag == tag) rows ≡ true → RowOf tag rows)
+        → RowOf tag (one ∷ rows)
+    by true e h later =
+        record { row = one; is = rw e refl; same = grind (arith, nat_tests) }
+    by false e h later =
+        let found = later h in record { row = found.row; is = rw e found.is; same = found.same }
+
+and_false : (a : Bool) (fault : TableFault) → fault_if (a && false) fault ≡ None
+and_false true fault = refl
+and_false false fault = refl
+
+module _ {Kind : Type 0} (judge : Judge Kind) (table : Table Kind) (fields : List Field) where
+  -- what one pass over the rows shows
+  pub record IsPlain : Type 0 where
+    pub header : list_all (fits judge fields) table.header ≡ true
+    pub items : list_all (item_fits judge fields) table.items ≡ true
+    pub rowed : (place : ℕ) → place < length fields → RowAt fields (all_rows table) place
+
+  module _ (plain : IsPlain) where
+    first_at : (i : ℕ) (lt : i < length fields) → IsFirst (plain.rowed i lt).tag fields i
+    first_at i lt = is_first _ fields i (plain.rowed i lt).first
+
+    fits_there : (tag : ℕ) (row : Row Kind) → has_tag tag fields ≡ true
+        → row_at tag (all_rows table) ≡ Some row → fits judge fields row ≡ true
+    fits_there tag row there e =
+        by (row_at tag table.header) refl
+        (sym (find-append (λ (r : Row Kind). r.tag == tag) table.header (rows_in table)) ∙ e)
+      where
+        by : (o : Option (Row Kind)) → row_at tag table.header ≡ o
+            → option_or o (row_at tag (rows_in table)) ≡ Some row → fits judge fields row ≡ true
+        by None n e = items_row_fits judge fields tag table.items row plain.items there e
+        by (Some one) n e =
+            row_fits judge fields tag table.header row plain.header
+            (n ∙ (let same : one ≡ row = cc in ap Some same))
+
+    mark_at : (i : ℕ) → i < length fields
+        → (marked judge table fields (get_or fields i none)).1 ≡ marks.Good
+    mark_at i lt = good
+      where
+        first : IsFirst (plain.rowed i lt).tag fields i
+        first = first_at i lt
+
+        found : RowOf (plain.rowed i lt).tag (all_rows table)
+        found = row_there _ (all_rows table) (plain.rowed i lt).there
+
+        fit : fits_at judge fields found.row (Some (get_or fields i none).1) ≡ true
+        fit = ap (fits_at judge fields found.row)
+            (sym (ap (λ (tag : ℕ). value_at tag fields) found.same ∙ first.value))
+            ∙ fits_there _ found.row first.there found.is
+
+        is : row_at (get_or fields i none).0 (all_rows table) ≡ Some found.row
+        is = ap (λ (tag : ℕ). row_at tag (all_rows table)) first.same ∙ found.is
+
+        good : (marked judge table fields (get_or fields i none)).1 ≡ marks.Good
+        good = ap (by_row judge (is_passed table (get_or fields i none).0) fields
+            (get_or fields i none).1) is ∙ good_mark _ fit
+
+    twice_none : (i : ℕ) → i < length fields → twice (once_in table) (at fields i) ≡ None
+    twice_none i lt =
+        let first = first_at i lt in
+        let before : has_tag (get_or fields i none).0 (reverse (take i fields)) ≡ false =
+        has_tag-reverse (get_or fields i none).0 (take i fields)
+        ∙ ap (λ (tag : ℕ). has_tag tag (take i fields)) first.same ∙ first.before in
+        rw before (and_false _ _)
+
+    misplaced_none : (p : Placed) (group : GroupTags) → has_tag p.field.0 fields ≡ true
+        → lacks_group fields group ≡ true → misplaced p group ≡ None
+    misplaced_none p group there h =
+        let no_member =
+        lacks_listed fields group.members p.field.0 (and_left _ _ (and_right _ _ h)) there in
+        let no_skipped =
+        lacks_listed fields group.skipped p.field.0 (and_right _ _ (and_right _ _ h)) there in
+        rw (no_count (eqb p.field.0 group.count) refl, no_member, no_skipped) refl
+      where
+        no_count : (b : Bool) → eqb p.field.0 group.count ≡ b → eqb p.field.0 group.count ≡ false
+        no_count false e = e
+        no_count true e =
+            let same : p.field.0 ≡ group.count = grind (arith, nat_tests) in
+            let absent : not (has_tag group.count fields) ≡ true = and_left _ _ h in
+            absurd (let no : not (has_tag p.field.0 fields) ≡ true = rw same absent in
+            let yes : not true ≡ true = rw there at no in cc)
+
+    groups_none : (p : Placed) → has_tag p.field.0 fields ≡ true → (items : List (Item Kind))
+        → list_all (item_fits judge fields) items ≡ true
+        → first_of (misplaced p) (flat_map group_tags_of items) ≡ None
+    unfolding first_of
+    groups_none p there [] h = refl
+    groups_none p there (One row ∷ items) h = groups_none p there items (and_right _ _ h)
+    groups_none p there (Party role ∷ items) h = groups_none p there items h
+    groups_none p there (Lines group ∷ items) h =
+        rw (misplaced_none p (tags_in group) there (and_left _ _ h))
+        (groups_none p there items (and_right _ _ h))
+
+    missing_none : (row : Row Kind) → fits judge fields row ≡ true → missing fields row ≡ None
+    missing_none row h = by (has_tag row.tag fields) refl
+      where
+        no : (needed : Bool) (fault : TableFault)
+            → not needed ≡ true → fault_if (needed && true) fault ≡ None
+        no true fault n = absurd cc
+        no false fault n = refl
+
+        by : (b : Bool) → has_tag row.tag fields ≡ b → missing fields row ≡ None
+        by true e = rw e (and_false (is_needed row.need fields) (faults.Reason row.tag 1))
+        by false e =
+            let absent = value_at-none row.tag fields e in
+            rw e (no (is_needed row.need fields) (faults.Reason row.tag 1) (rw absent at h))
+
+    items_none : (items : List (Item Kind)) → list_all (item_fits judge fields) items ≡ true
+        → first_of (missing_of fields) items ≡ None
+    unfolding first_of
+    items_none [] h = refl
+    items_none (One row ∷ items) h =
+        rw (missing_none row (and_left _ _ h)) (items_none items (and_right _ _ h))
+    items_none (Party role ∷ items) h = items_none items h
+    items_none (Lines group ∷ items) h =
+        rw (← no_lines (tags_in group) fields
+        (no_place group.count fields (and_left _ _ (and_left _ _ h))))
+        (items_none items (and_right _ _ h))
+
+    there_at : (i : ℕ) → i < length fields → has_tag (get_or fields i none).0 fields ≡ true
+    there_at i lt =
+        let first = first_at i lt in ap (λ (tag : ℕ). has_tag tag fields) first.same ∙ first.there
+
+  -- fields that one pass shows to be at no fault have none
+  pub plain_is_clean : IsPlain → None ≡ first_fault judge table fields
+  unfolding first_fault
+  plain_is_clean plain =
+      rw (
+        placed_none (twice (once_in table)) fields (twice_none plain),
+        marks_none wrong_version (λ _. refl) (marked judge table fields) fields (mark_at plain),
+        placed_none (in_groups (group_tags_in table)) fields
+            (λ i lt. groups_none plain (at fields i) (there_at plain i lt) table.items plain.items),
+        marks_none wrong (λ _. refl) (marked judge table fields) fields (mark_at plain),
+        items_none plain table.items plain.items,
+        marks_none beyond (λ _. refl) (marked judge table fields) fields (mark_at plain),
+      ) refl
+
+-- ---- as the pass goes on
+
+pub with_places-append : {Kind : Type 0} (fields : List Field) (xs ys : List (Row Kind))
+    → (places : List Bool)
+    → with_places fields (xs ++ ys) places ≡ with_places fields ys (with_places fields xs places)
+with_places-append fields [] ys places = refl
+with_places-append fields (x ∷ xs) ys places =
+    with_places-append fields xs ys (with_place places (position (has x.tag) fields))
+
+-- rows of tags that no field has mark no place
+pub lacking_rows : {Kind : Type 0} (fields : List Field) (rows : List (Row Kind))
+    → (places : List Bool) → list_all (lacks fields) (map (λ (r : Row Kind). r.tag) rows) ≡ true
+    → with_places fields rows places ≡ places
+lacking_rows fields [] places h = refl
+lacking_rows fields (row ∷ rows) places h =
+    rw (← no_place row.tag fields (and_left _ _ h))
+    (lacking_rows fields rows places (and_right _ _ h))
+
+pub lacking_group : (fields : List Field) (group : GroupTags) → lacks_group fields group ≡ true
+    → list_all (lacks fields) group.members ≡ true
+lacking_group fields group h = and_left _ _ (and_right _ _ h)
+
+pub fits_of_none : {Kind : Type 0} (judge : Judge Kind) (fields : List Field) (row : Row Kind)
+    → None ≡ position (has row.tag) fields
+    → not (is_needed row.need fields) ≡ fits judge fields row
+fits_of_none judge fields row e =
+    ap (fits_at judge fields row) (value_by_place row.tag fields None None e refl)
+
+pub fits_of_some : {Kind : Type 0} (judge : Judge Kind) (fields : List Field) (row : Row Kind)
+    → (place : ℕ) (f : Field) → Some place ≡ position (has row.tag) fields
+    → Some f ≡ slice_get fields place
+    → fits_at judge fields row (Some f.1) ≡ fits judge fields row
+fits_of_some judge fields row place f e at =
+    ap (fits_at judge fields row) (value_by_place row.tag fields (Some place) (Some f) e at)
+
+-- the first field of a tag is there
+pub not_past : (fields : List Field) (tag place : ℕ) → Some place ≡ position (has tag) fields
+    → None ≡ slice_get fields place → ⊥
+not_past fields tag place e past =
+    let first = is_first tag fields place (sym e) in
+    let got : slice_get fields place ≡ Some (get_or fields place none) =
+    slice_get-get_or fields place none first.within in
+    absurd (let no : None ≡ Some (get_or fields place none) = past ∙ got in cc)
+
+-- each of the first places of a list is marked
+pub each_marked : (places : List Bool) (n : ℕ) → list_all (λ one. one) (take n places) ≡ true
+    → n ≤ length places → (i : ℕ) → i < n → get_or places i false ≡ true
+each_marked [] n h le i lt = absurd (omega (arith, le, lt))
+each_marked (one ∷ places) zero h le i lt = absurd (omega (arith, lt))
+each_marked (one ∷ places) (suc n) h le zero lt = and_left _ _ h
+each_marked (one ∷ places) (suc n) h le (suc i) lt =
+    each_marked places n (and_right _ _ h) (omega (arith, le)) i (omega (arith, lt))

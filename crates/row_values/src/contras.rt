@@ -1,0 +1,96 @@
+//! The brokers on the other side of a trade.
+
+ghost use Rattle.row_values.specs.Contras.{IsContra, IsReadableContra, contra_cells, contras};
+ghost use Rattle.message_tables.specs.Tables.{tags_in};
+
+use crate::kinds::Kind;
+use crate::lines::GroupLine;
+use crate::value_kind::ValueKind;
+use crate::value_kind::ValueKind::Id;
+use crate::values::{or_empty, owned, qty, stamp, text};
+use crate::writing::{Value, put_row};
+use field_groups::Field;
+use message_tables::Need::{Optional, Required};
+use message_tables::{Line, RepeatingGroup, Row};
+use order_meaning::{Bytes, GroupLines};
+use std::alloc::{AllocError, Global};
+use typed_fields::{Dec, Stamp};
+
+/// One line of the brokers on the other side of a trade: NoContraBrokers(382) of FIX 4.2,
+/// ContraGrp(382) of FIX 5.0 SP2.
+#[derive(Debug, Drop)]
+pub struct ContraLine {
+    /// ContraBroker(375), 1 to 128 bytes.
+    pub broker: Bytes,
+    /// ContraTrader(337), 1 to 128 bytes.
+    pub trader: Option<Bytes>,
+    /// ContraTradeQty(437), not negative.
+    pub qty: Option<Dec>,
+    /// ContraTradeTime(438).
+    pub time: Option<Stamp>,
+}
+
+/// The brokers on the other side of a trade.
+pub type Contras = GroupLines<ContraLine>;
+
+/// A row that is judged by itself.
+macro_rules! row {
+    ($tag:literal, $kind:expr, $need:expr) => {
+        Row {
+            tag: $tag,
+            kind: Kind::Value($kind),
+            need: $need,
+        }
+    };
+}
+
+/// The rows of a line of contra brokers.
+#[rattlefmt::skip]
+pub const CONTRA_ROWS: [Row<Kind>; 4] = [
+    row!(375, Id, Required), // ContraBroker
+    row!(337, Id, Optional), // ContraTrader
+    row!(437, ValueKind::Qty, Optional), // ContraTradeQty
+    row!(438, ValueKind::Stamp, Optional), // ContraTradeTime
+];
+
+/// NoContraBrokers(382); ContraLegRefID(655) is passed over.
+pub const CONTRAS: RepeatingGroup<Kind> = RepeatingGroup {
+    count: 382,
+    rows: &CONTRA_ROWS,
+    skipped: &[655],
+};
+
+static CONTRAS_GROUP: RepeatingGroup<Kind> = CONTRAS;
+
+impl GroupLine for ContraLine {
+    ghost tags = { tags_in contras };
+
+    ghost is_line = { IsContra };
+
+    ghost is_readable = { IsReadableContra };
+
+    ghost cells = { contra_cells };
+
+    fn group() -> &'static RepeatingGroup<Kind> {
+        &CONTRAS_GROUP
+    }
+
+    fn read(alloc: Global, fields: &[Field<'_>]) -> Result<ContraLine, AllocError> {
+        let line = Line { fields };
+        let broker = owned(alloc, text(&line, 375, &Id))?;
+        let trader = owned(alloc, text(&line, 337, &Id))?;
+        Ok(ContraLine {
+            broker: or_empty(alloc, broker),
+            trader,
+            qty: qty(&line, 437),
+            time: stamp(&line, 438),
+        })
+    }
+
+    fn write(&self, out: &mut Vec<u8>) -> Result<(), AllocError> {
+        put_row(out, 375, &Value::Text(&self.broker))?;
+        put_row(out, 337, &Value::TextIf(&self.trader))?;
+        put_row(out, 437, &Value::DecIf(&self.qty))?;
+        put_row(out, 438, &Value::StampIf(&self.time))
+    }
+}
