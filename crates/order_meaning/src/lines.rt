@@ -5,10 +5,10 @@ ghost use Rattle.std.specs.Prelude.{◌≡◌, ◌<◌, ◌≤◌, ◌++◌, [],
 use std::alloc::{AllocError, Global};
 use std::marker::Model;
 
-/// The most lines of a group.
+/// The most lines of a group, as `field_groups` has it; this crate stands on none.
 pub const MAX_LINES: usize = 32;
 
-/// The lines of a group, at most 32, seen as their list.
+/// The lines of a group, at most [`MAX_LINES`], seen as their list.
 #[derive(Debug, Drop)]
 pub struct GroupLines<L> {
     lines: Vec<L>,
@@ -16,12 +16,13 @@ pub struct GroupLines<L> {
 
 impl<L> Model for GroupLines<L> {
     ghost use Rattle.std.specs.Prelude.{List, ◌≤◌, length};
+    ghost use Rattle.order_meaning.specs.declared.lines.TheConstants.{MAX_LINES};
 
     ghost Value = { List L };
 
     ghost view = { λ l. l.lines.items };
 
-    ghost invariant = { λ l. length l.lines.items ≤ 32 };
+    ghost invariant = { λ l. length l.lines.items ≤ MAX_LINES };
 }
 
 impl<L: Drop> GroupLines<L> {
@@ -34,7 +35,7 @@ impl<L: Drop> GroupLines<L> {
         }
     }
 
-    /// Adds a line at the end of fewer than 32.
+    /// Adds a line at the end of fewer than [`MAX_LINES`].
     ///
     /// # Errors
     ///
