@@ -1,4 +1,3 @@
 pub mod Given
 pub mod Means
-pub mod Days
 mod Worked

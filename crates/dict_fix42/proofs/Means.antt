@@ -1,81 +1,21 @@
 -- What is read of fields at no fault is their message, row by row.
-use Rattle.std.proofs.Common.{◌≡◌, ℕ, List, [], ◌∷◌, codes, Some, None, Bool, true, false}
-use Rattle.std.proofs.Common.{map, refl, ap}
-use Rattle.std.specs.Prelude.{IsSome}
-use Rattle.std.specs.List.{AllZip, slice_get}
+use Rattle.std.proofs.Common.{◌≡◌, List, [], ◌∷◌, codes, None, refl}
 use Rattle.field_groups.specs.Field.{Field}
-use Rattle.message_tables.specs.Tables.{Required, When, One, Lines, Table, ◌>>=◌, text_of, has_tag}
-use Rattle.message_tables.specs.Tables.{cell_of, row_at, all_rows, lines_in, tags_in}
+use Rattle.message_tables.specs.Tables.{Table}
 use Rattle.message_tables.specs.FirstFault.{first_fault, message_in}
-use Rattle.message_tables.proofs.Clean.{is_said, value_at-none}
-use Rattle.message_tables.proofs.Members.{lines_say, row_says}
-use Rattle.row_values.specs.declared.lines.AllocLine.{AllocLine}
-use Rattle.row_values.specs.declared.lines.SessionLine.{SessionLine}
-use Rattle.row_values.specs.ValueKind.{Id, Code, Qty, Stamp, MonthYear}
-use Rattle.row_values.specs.Kinds.{Kind, Value, DayOf, judge, row, said}
-use Rattle.row_values.specs.Lines.{IsAlloc, IsSession, alloc_cells, session_cells}
-use Rattle.row_values.specs.Groups.{allocs, sessions}
-use Rattle.row_values.proofs.SaidRows.{cell, full, full_text, not_none, allocs_say, sessions_say}
+use Rattle.row_values.specs.ValueKind.{Id, Code, Qty, Stamp}
+use Rattle.row_values.specs.Kinds.{Kind, Value, judge}
+use Rattle.row_values.proofs.SaidRows.{cell, full, full_text}
+use Rattle.row_values.proofs.Days.{dated}
+use Rattle.row_values.proofs.ByTable.{says, says_allocs, says_sessions}
 use Rattle.dict_fix42.specs.declared.requests.New42.{New42}
 use Rattle.dict_fix42.specs.declared.requests.Cancel42.{Cancel42}
 use Rattle.dict_fix42.specs.declared.requests.Replace42.{Replace42}
 use Rattle.dict_fix42.specs.declared.requests.Status42.{Status42}
-use Rattle.dict_fix42.specs.Requests.{has_day}
 use Rattle.dict_fix42.specs.Requests.{new_order, cancel_request, replace_request, status_request}
-use Rattle.dict_fix42.specs.Message.{table}
+use Rattle.rows_fix42.specs.Header.{table}
 use Rattle.dict_fix42.specs.Said.{new_says, cancel_says, replace_says, status_says}
 use Rattle.dict_fix42.specs.Reading.{IsNew, IsCancel, IsReplace, IsStatus}
-
--- ---- rows of a message at no fault
-
-module _ (table : Table Kind) (fields : List Field)
-    (h : first_fault judge table fields ≡ None) where
-  says : (i tag : ℕ) (kind : Kind)
-      → slice_get table.items i ≡ Some (One (record { tag = tag; kind = kind; need = Required }))
-      → row_at tag (all_rows table) ≡ Some (record { tag = tag; kind = kind; need = Required })
-      → IsSome (said fields tag kind)
-  says i tag kind at its =
-      row_says judge table fields i (record { tag = tag; kind = kind; need = Required }) h at refl
-      its
-
-  -- where no month is said, no day is
-  dated : (i : ℕ)
-      → slice_get table.items i
-      ≡ Some (One (record { tag = 200; kind = Value MonthYear; need = When has_day }))
-      → row_at 200 (all_rows table)
-      ≡ Some (record { tag = 200; kind = Value MonthYear; need = When has_day })
-      → said fields 200 (Value MonthYear) ≡ None → said fields 205 (DayOf 200) ≡ None
-  dated i at its none = by_day (has_tag 205 fields) refl
-    where
-      by_day : (stands : Bool) → has_tag 205 fields ≡ stands → said fields 205 (DayOf 200) ≡ None
-      by_day true e =
-          absurd (not_none _ (is_said judge table fields i
-          (record { tag = 200; kind = Value MonthYear; need = When has_day }) h at its
-          (rw e refl) refl) none)
-      by_day false e =
-          ap (λ value. value >>= (λ bytes. text_of (judge fields (DayOf 200) bytes)))
-          (value_at-none 205 fields e)
-
-  says_allocs : (i : ℕ) → slice_get table.items i ≡ Some (Lines allocs)
-      → row_at 79 (all_rows table) ≡ Some (row Required 79 Id)
-      → (ls : List AllocLine) → AllZip IsAlloc (lines_in (tags_in allocs) fields) ls
-      → map alloc_cells ls
-      ≡ map (λ line. map (cell_of judge line) allocs.rows) (lines_in (tags_in allocs) fields)
-  unfolding judge
-  says_allocs i at its ls w =
-      allocs_say (lines_in (tags_in allocs) fields) ls w
-      (lines_say judge table fields i 0 allocs (row Required 79 Id) h at refl refl its)
-
-  says_sessions : (i : ℕ) → slice_get table.items i ≡ Some (Lines sessions)
-      → row_at 336 (all_rows table) ≡ Some (row Required 336 Id)
-      → (ls : List SessionLine) → AllZip IsSession (lines_in (tags_in sessions) fields) ls
-      → map session_cells ls
-      ≡ map (λ line. map (cell_of judge line) sessions.rows)
-      (lines_in (tags_in sessions) fields)
-  unfolding judge
-  says_sessions i at its ls w =
-      sessions_say (lines_in (tags_in sessions) fields) ls w
-      (lines_say judge table fields i 0 sessions (row Required 336 Id) h at refl refl its)
 
 -- ---- New42
 

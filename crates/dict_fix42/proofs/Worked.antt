@@ -17,7 +17,8 @@ use Rattle.message_tables.specs.Tables.{Message, first_of}
 use Rattle.message_tables.specs.FirstFault.{first_fault, message_of}
 use Rattle.message_tables.specs.Content.{content}
 use Rattle.row_values.specs.Kinds.{judge}
-use Rattle.dict_fix42.specs.Message.{message42, table}
+use Rattle.dict_fix42.specs.Message.{message42}
+use Rattle.rows_fix42.specs.Header.{table}
 use Rattle.dict_fix42.specs.Requests.{new_order}
 use Rattle.dict_fix42.specs.Sense.{sense42}
 

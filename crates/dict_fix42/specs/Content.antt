@@ -7,7 +7,7 @@ use Rattle.message_tables.specs.Content.{content}
 use Rattle.dict_fix42.specs.declared.requests.Msg42.{Msg42}
 use Rattle.dict_fix42.specs.declared.requests.Msg42.TheVariants as messages
 use Rattle.row_values.specs.Kinds.{Kind}
-use Rattle.dict_fix42.specs.Message.{table}
+use Rattle.rows_fix42.specs.Header.{table}
 use Rattle.dict_fix42.specs.Requests.{new_order, cancel_request, replace_request, status_request}
 use Rattle.dict_fix42.specs.Said.{says}
 

@@ -1,9 +1,9 @@
 -- Inside: requests that say at each row what the fields say.
-use Rattle.std.specs.Prelude.{◌≡◌, List, [], ◌∷◌, codes, Option, None}
-use Rattle.std.specs.Prelude.{unwrap_or, option_and_then, IfSome}
+use Rattle.std.specs.Prelude.{◌≡◌, List, [], ◌∷◌, codes}
+use Rattle.std.specs.Prelude.{unwrap_or, IfSome}
 use Rattle.std.specs.Option.{option_map}
 use Rattle.row_values.specs.ValueKind.{Id, Text, OneByte, Code, Codes, Word, Currency, Flag}
-use Rattle.row_values.specs.ValueKind.{Qty, Price, Stamp, Day, MonthYear}
+use Rattle.row_values.specs.ValueKind.{Qty, Price, Stamp, Day}
 use Rattle.typed_fields.specs.Dec.{dec_text}
 use Rattle.typed_fields.specs.Day.{day_text}
 use Rattle.typed_fields.specs.Stamp.{stamp_text}
@@ -12,21 +12,13 @@ use Rattle.row_values.specs.CodeKinds.{code_text}
 use Rattle.field_groups.specs.Field.{Field}
 use Rattle.message_tables.specs.Tables.{Said}
 use Rattle.dict_fix42.specs.declared.groups.Groups.{Groups}
-use Rattle.row_values.specs.declared.lines.Maturity.{Maturity}
 use Rattle.dict_fix42.specs.declared.requests.New42.{New42}
 use Rattle.dict_fix42.specs.declared.requests.Cancel42.{Cancel42}
 use Rattle.dict_fix42.specs.declared.requests.Replace42.{Replace42}
 use Rattle.dict_fix42.specs.declared.requests.Status42.{Status42}
-use Rattle.row_values.specs.Kinds.{Value, DayOf, said, resend_of}
+use Rattle.row_values.specs.Kinds.{Value, said, resend_of}
 use Rattle.row_values.specs.Groups.{AreAllocs, AreSessions}
-use Rattle.row_values.specs.Lines.{month_text}
-use Rattle.row_values.specs.Writing.{month_day_text}
-
--- a maturity says what the fields say, where a day has its month
-pub record IsMaturity (fields : List Field) (maturity : Option Maturity) : Type 0 where
-  pub month : option_map month_text maturity ≡ said fields 200 (Value MonthYear)
-  pub day : (said fields 200 (Value MonthYear) ≡ None → said fields 205 (DayOf 200) ≡ None)
-      → option_and_then month_day_text maturity ≡ said fields 205 (DayOf 200)
+use Rattle.row_values.specs.Maturity.{IsMaturity}
 
 pub record AreGroups (fields : List Field) (groups : Groups) : Type 0 where
   pub allocs : AreAllocs fields groups.allocs

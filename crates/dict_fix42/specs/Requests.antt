@@ -2,17 +2,14 @@
 -- (G) and Order Status Request (H). Own: which of their fields and values count, and the order of
 -- writing.
 use Rattle.std.specs.Prelude.{ℕ, List, [], ◌∷◌, codes}
-use Rattle.message_tables.specs.Tables.{Condition, Stands, Optional, When, Item}
+use Rattle.message_tables.specs.Tables.{Condition, Optional, When, Item}
 use Rattle.row_values.specs.ValueKind.{ValueKind, Flag, OneByte, Id, Code, Codes, Word, Text}
 use Rattle.row_values.specs.ValueKind.{Currency, Qty, Price, Stamp, Day, MonthYear}
 use Rattle.row_values.specs.Kinds.{Kind, Value, DayOf}
 use Rattle.row_values.specs.Groups.{allocs, sessions}
 use Rattle.row_values.specs.Columns.{Column, R, O, N, Line, line, field, value, lines}
 use Rattle.row_values.specs.Columns.{of_d, of_f, of_g, of_h}
-
--- MaturityDay (205) is the day of a MaturityMonthYear (200)
-abbrev pub has_day : Condition
-has_day = (Stands 205 ∷ []) ∷ []
+use Rattle.rows_fix42.specs.Header.{has_day}
 
 -- a code or word, which is a fault where it is outside the profile
 abbrev code : ℕ → List ℕ → Column → Column → Column → Column → Line

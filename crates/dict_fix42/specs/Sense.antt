@@ -1,26 +1,18 @@
 -- Standard: FIX 4.2, New Order - Single (D), Order Cancel Request (F), Order Cancel/Replace Request
 -- (G), Order Status Request (H), and Field Definitions: what their fields mean.
--- Own: 59=0 says the same as no TimeInForce, beside an order on close.
-use Rattle.std.specs.Prelude.{ℕ, List, map, Some, None, ◌==◌, ◌||◌, ◌&&◌, Bool, false}
+use Rattle.std.specs.Prelude.{ℕ, List, map, Some, None, ◌==◌}
 use Rattle.std.specs.Prelude.{if◌then◌else◌}
 use Rattle.std.specs.declared.option.Option.{Option}
 use Rattle.std.specs.Option.{option_map}
 use Rattle.std.specs.Result.{result_ok}
-use Rattle.row_values.specs.ValueKind.{units_of_text, number_of_two}
+use Rattle.row_values.specs.Amounts.{amount_if}
 use Rattle.field_groups.specs.Field.{Field}
-use Rattle.message_tables.specs.Tables.{Tag, Cell, Said, Message, ◌>>=◌, said_at, lines_of, text_in}
+use Rattle.message_tables.specs.Tables.{Tag, Cell, Message, ◌>>=◌, said_at, lines_of, text_in}
 use Rattle.message_tables.specs.Tables.{code_if, code_in, flag_of}
-use Rattle.order_meaning.specs.declared.Amount.{Amount}
 use Rattle.order_meaning.specs.Request.{Request, RequestKind, New, Cancel, Replace, Status}
-use Rattle.order_meaning.specs.Request.{OrderType, Market, Limit, Stop, StopLimit, MarketOnClose}
-use Rattle.order_meaning.specs.Request.{LimitOnClose, NeutralAlloc, NeutralSession, NeutralMaturity}
+use Rattle.order_meaning.specs.Request.{NeutralAlloc, NeutralSession}
+use Rattle.rows_fix42.specs.Meaning.{order_type_of, is_on_close, time_of, maturity_of}
 use Rattle.dict_fix42.specs.Message.{message42}
-
-abbrev pub amount_of : List ℕ → Option Amount
-amount_of text = option_map (λ units. record { units = units }) (units_of_text text)
-
-abbrev pub amount_if : List Cell → ℕ → Option Amount
-amount_if cells tag = said_at cells (Tag tag) >>= amount_of
 
 -- an account's part of an order, by its line of NoAllocs(78)
 abbrev pub alloc_of : List Cell → NeutralAlloc
@@ -29,29 +21,6 @@ alloc_of line = record { account = text_in line 79; qty = amount_if line 80 }
 -- a session, by its line of NoTradingSessions(386)
 abbrev pub session_of : List Cell → NeutralSession
 session_of line = record { id = text_in line 336 }
-
--- MaturityMonthYear(200) and MaturityDay(205)
-abbrev pub maturity_of : Said → Said → Option NeutralMaturity
-maturity_of month day =
-    option_map (λ month. record { month = month; day = option_map number_of_two day }) month
-
--- OrdType(40): 1 Market, 2 Limit, 3 Stop, 4 Stop limit, 5 Market on close, B Limit on close
-abbrev pub order_type_of : ℕ → Option OrderType
-order_type_of code =
-    if code == 49 then Some Market else
-    (if code == 50 then Some Limit else
-    (if code == 51 then Some Stop else
-    (if code == 52 then Some StopLimit else
-    (if code == 53 then Some MarketOnClose else
-    (if code == 66 then Some LimitOnClose else None)))))
-
-abbrev pub is_on_close : Option ℕ → Bool
-is_on_close None = false
-is_on_close (Some code) = code == 53 || code == 66
-
-abbrev pub time_of : Bool → Option ℕ → Option ℕ
-time_of on_close None = None
-time_of on_close (Some time) = if on_close && (time == 48) then None else Some time
 
 -- what a message asks for
 abbrev pub request_of : RequestKind → Message → Request

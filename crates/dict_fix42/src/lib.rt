@@ -2,7 +2,6 @@
 #![tactic(auto)]
 
 mod groups;
-mod maturity;
 mod message;
 mod reading;
 mod requests;

@@ -4,7 +4,8 @@ ghost use Rattle.std.specs.Prelude.{◌≡◌, ◌++◌, ◌∷◌, [], IfOk, On
 ghost use Rattle.field_groups.specs.Field.{body_of};
 ghost use Rattle.row_values.specs.Faults.{message_by};
 ghost use Rattle.row_values.specs.Gives.{Gives};
-ghost use Rattle.dict_fix42.specs.Message.{message42, table};
+ghost use Rattle.dict_fix42.specs.Message.{message42};
+ghost use Rattle.rows_fix42.specs.Header.{table};
 ghost use Rattle.dict_fix42.specs.Readable.{IsReadable42};
 ghost use Rattle.dict_fix42.specs.Requests.{cancel_request, new_order, replace_request};
 ghost use Rattle.dict_fix42.specs.Requests.{status_request};

@@ -4,7 +4,6 @@
 //! is a line of the literal.
 
 ghost use Rattle.std.specs.Prelude.{◌≡◌, IfOk};
-ghost use Rattle.message_tables.specs.CodeTables.{seen};
 ghost use Rattle.dict_fix42.specs.Readable.{IsReadableCancel, IsReadableNew};
 ghost use Rattle.dict_fix42.specs.Readable.{IsReadableReplace, IsReadableStatus};
 ghost use Rattle.dict_fix42.specs.Reading.{AreGroups, IsCancel, IsNew, IsReplace, IsStatus};
@@ -12,14 +11,13 @@ ghost use Rattle.dict_fix42.specs.Reading.{cancel_names, cancel_texts, new_names
 ghost use Rattle.dict_fix42.specs.Reading.{replace_names, status_texts};
 
 use crate::groups::Groups;
-use crate::maturity::maturity;
 use crate::requests::{Cancel42, New42, Replace42, Status42};
-use field_groups::Field;
+use field_groups::Fields;
 use order_meaning::Bytes;
 use row_values::ValueKind::{Code, Codes, Currency, Id, OneByte, Text, Word};
 use row_values::{
-    ValueKind, code, day, flag, or_empty, owned, price, qty, qty_or_zero, resend, stamp,
-    stamp_or_epoch, text,
+    ValueKind, code, day, flag, month_and_day, or_empty, owned, price, qty, qty_or_zero, resend,
+    stamp, stamp_or_epoch, text,
 };
 use std::alloc::{AllocError, Global};
 
@@ -51,8 +49,8 @@ const TIME_IN_FORCE: ValueKind = Code(b"0123456");
 const OPEN_CLOSE: ValueKind = Code(b"OC");
 
 /// The names in a new order.
-fn new_names(alloc: Global, fields: &[Field<'_>]) -> Result<[Option<Bytes>; 5], AllocError>
-    ensures { IfOk result (λ names. names ≡ new_names (seen fields.now)) }
+fn new_names(alloc: Global, fields: &Fields<'_>) -> Result<[Option<Bytes>; 5], AllocError>
+    ensures { IfOk result (λ names. names ≡ new_names fields.now) }
 {
     let names = [
         text(fields, 11, &Id),
@@ -66,8 +64,8 @@ fn new_names(alloc: Global, fields: &[Field<'_>]) -> Result<[Option<Bytes>; 5], 
 }
 
 /// The texts of an order beside its names.
-fn order_texts(alloc: Global, fields: &[Field<'_>]) -> Result<[Option<Bytes>; 9], AllocError>
-    ensures { IfOk result (λ texts. texts ≡ order_texts (seen fields.now)) }
+fn order_texts(alloc: Global, fields: &Fields<'_>) -> Result<[Option<Bytes>; 9], AllocError>
+    ensures { IfOk result (λ texts. texts ≡ order_texts fields.now) }
 {
     let texts = [
         text(fields, 18, &EXEC_INST),
@@ -118,7 +116,7 @@ macro_rules! order {
             security_id,
             id_source: code($fields, 22, &ID_SOURCE),
             security_type,
-            maturity: maturity($fields),
+            maturity: month_and_day($fields),
             security_exchange,
             side: code($fields, 54, &SIDE).unwrap_or(0),
             locate: flag($fields, 114),
@@ -143,15 +141,15 @@ macro_rules! order {
 #[tactic(auto, using(row_values::proofs::SaidRows::allocs_readable))]
 fn new_of(
     alloc: Global,
-    fields: &[Field<'_>],
+    fields: &Fields<'_>,
     groups: Groups,
     names: [Option<Bytes>; 5],
     texts: [Option<Bytes>; 9],
 ) -> New42
-    requires groups { AreGroups (seen fields.now) groups }
-    requires names { names ≡ new_names (seen fields.now) }
-    requires texts { texts ≡ order_texts (seen fields.now) }
-    ensures says { IsNew (seen fields.now) result }
+    requires groups { AreGroups fields.now groups }
+    requires names { names ≡ new_names fields.now }
+    requires texts { texts ≡ order_texts fields.now }
+    ensures says { IsNew fields.now result }
     ensures readable { IsReadableNew result }
 {
     let [cl_ord_id, client_id, exec_broker, clearing_firm, account] = names;
@@ -173,11 +171,11 @@ fn new_of(
 /// The new order of these fields.
 pub(crate) fn new_order(
     alloc: Global,
-    fields: &[Field<'_>],
+    fields: &Fields<'_>,
     groups: Groups,
 ) -> Result<New42, AllocError>
-    requires { AreGroups (seen fields.now) groups }
-    ensures says { IfOk result (IsNew (seen fields.now)) }
+    requires { AreGroups fields.now groups }
+    ensures says { IfOk result (IsNew fields.now) }
     ensures readable { IfOk result IsReadableNew }
 {
     let names = new_names(alloc, fields)?;
@@ -186,8 +184,8 @@ pub(crate) fn new_order(
 }
 
 /// The names in a cancel request.
-fn cancel_names(alloc: Global, fields: &[Field<'_>]) -> Result<[Option<Bytes>; 6], AllocError>
-    ensures { IfOk result (λ names. names ≡ cancel_names (seen fields.now)) }
+fn cancel_names(alloc: Global, fields: &Fields<'_>) -> Result<[Option<Bytes>; 6], AllocError>
+    ensures { IfOk result (λ names. names ≡ cancel_names fields.now) }
 {
     let names = [
         text(fields, 11, &Id),
@@ -202,8 +200,8 @@ fn cancel_names(alloc: Global, fields: &[Field<'_>]) -> Result<[Option<Bytes>; 6
 }
 
 /// The texts of a cancel request beside its names.
-fn cancel_texts(alloc: Global, fields: &[Field<'_>]) -> Result<[Option<Bytes>; 6], AllocError>
-    ensures { IfOk result (λ texts. texts ≡ cancel_texts (seen fields.now)) }
+fn cancel_texts(alloc: Global, fields: &Fields<'_>) -> Result<[Option<Bytes>; 6], AllocError>
+    ensures { IfOk result (λ texts. texts ≡ cancel_texts fields.now) }
 {
     let texts = [
         text(fields, 55, &Id),
@@ -220,13 +218,13 @@ fn cancel_texts(alloc: Global, fields: &[Field<'_>]) -> Result<[Option<Bytes>; 6
 /// The cancel request of these fields, names and texts.
 fn cancel_of(
     alloc: Global,
-    fields: &[Field<'_>],
+    fields: &Fields<'_>,
     names: [Option<Bytes>; 6],
     texts: [Option<Bytes>; 6],
 ) -> Cancel42
-    requires names { names ≡ cancel_names (seen fields.now) }
-    requires texts { texts ≡ cancel_texts (seen fields.now) }
-    ensures says { IsCancel (seen fields.now) result }
+    requires names { names ≡ cancel_names fields.now }
+    requires texts { texts ≡ cancel_texts fields.now }
+    ensures says { IsCancel fields.now result }
     ensures readable { IsReadableCancel result }
 {
     let [
@@ -258,7 +256,7 @@ fn cancel_of(
         security_id,
         id_source: code(fields, 22, &ID_SOURCE),
         security_type,
-        maturity: maturity(fields),
+        maturity: month_and_day(fields),
         security_exchange,
         side: code(fields, 54, &SIDE).unwrap_or(0),
         transact_time: stamp_or_epoch(fields, 60),
@@ -268,8 +266,8 @@ fn cancel_of(
 }
 
 /// The cancel request of these fields.
-pub(crate) fn cancel_request(alloc: Global, fields: &[Field<'_>]) -> Result<Cancel42, AllocError>
-    ensures says { IfOk result (IsCancel (seen fields.now)) }
+pub(crate) fn cancel_request(alloc: Global, fields: &Fields<'_>) -> Result<Cancel42, AllocError>
+    ensures says { IfOk result (IsCancel fields.now) }
     ensures readable { IfOk result IsReadableCancel }
 {
     let names = cancel_names(alloc, fields)?;
@@ -278,8 +276,8 @@ pub(crate) fn cancel_request(alloc: Global, fields: &[Field<'_>]) -> Result<Canc
 }
 
 /// The names in a replace request.
-fn replace_names(alloc: Global, fields: &[Field<'_>]) -> Result<[Option<Bytes>; 7], AllocError>
-    ensures { IfOk result (λ names. names ≡ replace_names (seen fields.now)) }
+fn replace_names(alloc: Global, fields: &Fields<'_>) -> Result<[Option<Bytes>; 7], AllocError>
+    ensures { IfOk result (λ names. names ≡ replace_names fields.now) }
 {
     let names = [
         text(fields, 11, &Id),
@@ -298,15 +296,15 @@ fn replace_names(alloc: Global, fields: &[Field<'_>]) -> Result<[Option<Bytes>; 
 #[tactic(auto, using(row_values::proofs::SaidRows::allocs_readable))]
 fn replace_of(
     alloc: Global,
-    fields: &[Field<'_>],
+    fields: &Fields<'_>,
     groups: Groups,
     names: [Option<Bytes>; 7],
     texts: [Option<Bytes>; 9],
 ) -> Replace42
-    requires groups { AreGroups (seen fields.now) groups }
-    requires names { names ≡ replace_names (seen fields.now) }
-    requires texts { texts ≡ order_texts (seen fields.now) }
-    ensures says { IsReplace (seen fields.now) result }
+    requires groups { AreGroups fields.now groups }
+    requires names { names ≡ replace_names fields.now }
+    requires texts { texts ≡ order_texts fields.now }
+    ensures says { IsReplace fields.now result }
     ensures readable { IsReadableReplace result }
 {
     let [
@@ -339,11 +337,11 @@ fn replace_of(
 /// The replace request of these fields.
 pub(crate) fn replace_request(
     alloc: Global,
-    fields: &[Field<'_>],
+    fields: &Fields<'_>,
     groups: Groups,
 ) -> Result<Replace42, AllocError>
-    requires { AreGroups (seen fields.now) groups }
-    ensures says { IfOk result (IsReplace (seen fields.now)) }
+    requires { AreGroups fields.now groups }
+    ensures says { IfOk result (IsReplace fields.now) }
     ensures readable { IfOk result IsReadableReplace }
 {
     let names = replace_names(alloc, fields)?;
@@ -352,9 +350,9 @@ pub(crate) fn replace_request(
 }
 
 /// The status request of these fields and texts.
-fn status_of(alloc: Global, fields: &[Field<'_>], texts: [Option<Bytes>; 10]) -> Status42
-    requires { texts ≡ status_texts (seen fields.now) }
-    ensures says { IsStatus (seen fields.now) result }
+fn status_of(alloc: Global, fields: &Fields<'_>, texts: [Option<Bytes>; 10]) -> Status42
+    requires { texts ≡ status_texts fields.now }
+    ensures says { IsStatus fields.now result }
     ensures readable { IsReadableStatus result }
 {
     let [
@@ -381,15 +379,15 @@ fn status_of(alloc: Global, fields: &[Field<'_>], texts: [Option<Bytes>; 10]) ->
         security_id,
         id_source: code(fields, 22, &ID_SOURCE),
         security_type,
-        maturity: maturity(fields),
+        maturity: month_and_day(fields),
         security_exchange,
         side: code(fields, 54, &SIDE).unwrap_or(0),
     }
 }
 
 /// The status request of these fields.
-pub(crate) fn status_request(alloc: Global, fields: &[Field<'_>]) -> Result<Status42, AllocError>
-    ensures says { IfOk result (IsStatus (seen fields.now)) }
+pub(crate) fn status_request(alloc: Global, fields: &Fields<'_>) -> Result<Status42, AllocError>
+    ensures says { IfOk result (IsStatus fields.now) }
     ensures readable { IfOk result IsReadableStatus }
 {
     let texts = [

@@ -2,58 +2,30 @@
 
 ghost use Rattle.std.specs.Prelude.{◌≡◌};
 ghost use Rattle.message_tables.specs.CodeTables.{table_of as code_table};
-ghost use Rattle.dict_fix42.specs.Message.{table};
+ghost use Rattle.rows_fix42.specs.Header.{table};
 ghost use Rattle.dict_fix42.specs.Requests.{cancel_request, new_order, replace_request};
 ghost use Rattle.dict_fix42.specs.Requests.{status_request};
 ghost use Rattle.row_values.specs.CodeKinds.{kind_of};
 
 use message_tables::Need::{Optional, Required, When};
-use message_tables::{Item, Row, Table, Test};
+use message_tables::{Item, Row, Table};
 use row_values::Kind::{DayOf, Value};
 use row_values::ValueKind::{
-    Code, Codes, Currency, Day, Filled, Flag, Id, MonthYear, OneByte, Price, Qty, Stamp, Text, Word,
+    Code, Codes, Currency, Day, Flag, Id, MonthYear, OneByte, Price, Qty, Stamp, Text, Word,
 };
 use row_values::{ALLOCS, Kind, SESSIONS};
+use rows_fix42::{HAS_DAY, HEADER};
 
 /// A row: the tag of its field, the kind of its values, and whether each message says it.
-macro_rules! row {
+macro_rules! one {
     ($tag:literal, $kind:expr, $need:expr) => {
-        Row {
+        Item::One(Row {
             tag: $tag,
             kind: $kind,
             need: $need,
-        }
+        })
     };
 }
-
-/// A row, as an item of a table.
-macro_rules! one {
-    ($tag:literal, $kind:expr, $need:expr) => {
-        Item::One(row!($tag, $kind, $need))
-    };
-}
-
-/// MaturityDay(205) is the day of a MaturityMonthYear(200).
-const HAS_DAY: &[&[Test]] = &[&[Test::Stands(205)]];
-
-/// The standard header.
-#[rattlefmt::skip]
-const HEADER: [Row<Kind>; 14] = [
-    row!(35, Value(Filled), Optional), // MsgType
-    row!(49, Value(Filled), Optional), // SenderCompID
-    row!(56, Value(Filled), Optional), // TargetCompID
-    row!(34, Value(Filled), Optional), // MsgSeqNum
-    row!(43, Value(Filled), Optional), // PossDupFlag
-    row!(97, Value(Flag), Optional), // PossResend
-    row!(52, Value(Filled), Optional), // SendingTime
-    row!(122, Value(Filled), Optional), // OrigSendingTime
-    row!(50, Value(Filled), Optional), // SenderSubID
-    row!(57, Value(Filled), Optional), // TargetSubID
-    row!(142, Value(Filled), Optional), // SenderLocationID
-    row!(143, Value(Filled), Optional), // TargetLocationID
-    row!(347, Value(Filled), Optional), // MessageEncoding
-    row!(369, Value(Filled), Optional), // LastMsgSeqNumProcessed
-];
 
 /// The items of New Order - Single (D) and of Order Cancel/Replace Request (G), in the order of
 /// writing; the request has the items that are given behind ClOrdID(11).

@@ -1,4 +1,3 @@
-pub mod Dates
 pub mod Given
 pub mod Means
 pub mod Times

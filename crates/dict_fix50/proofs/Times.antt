@@ -1,14 +1,13 @@
--- Codes that count only in some cases.
-use Rattle.std.specs.Prelude.{◌≡◌, ℕ, Bool, true, false, List, [], ◌∷◌, refl, not, codes, Ok}
-use Rattle.std.specs.Prelude.{Option, Some, None, ◌==◌, ◌||◌, if◌then◌else◌}
+-- A code that counts where it is listed.
+use Rattle.std.specs.Prelude.{◌≡◌, ℕ, Bool, true, false, List, [], ◌∷◌, refl, Ok}
+use Rattle.std.specs.Prelude.{Option, Some, None, ◌==◌}
 use Rattle.std.specs.List.{list_any}
 use Rattle.field_groups.specs.Field.{Field}
-use Rattle.message_tables.specs.Tables.{Verdict, Spells, Outside, Wrong, Said, ◌>>=◌, text_of}
-use Rattle.message_tables.specs.Tables.{is_listed, value_at}
-use Rattle.row_values.specs.ValueKind.{Code, OneByte, listed_word, is_code, spelling}
-use Rattle.row_values.specs.Kinds.{Value, Byte, TimeBeside, counted, is_at_close, judge}
+use Rattle.message_tables.specs.Tables.{Verdict, Spells, Outside, Wrong, ◌>>=◌, text_of}
+use Rattle.message_tables.specs.Tables.{value_at}
+use Rattle.row_values.specs.ValueKind.{Code, OneByte, listed_word, spelling}
+use Rattle.row_values.specs.Kinds.{Value, Byte, counted, judge}
 use Rattle.row_values.specs.Kinds.{verdict_of, said}
-use Rattle.std.proofs.Common.{◌∙◌}
 
 no_count : (v : Verdict) → text_of (counted false v) ≡ None
 no_count (Spells text) = refl
@@ -32,41 +31,3 @@ byte_said fields tag listed = here (value_at tag fields)
     here (Some []) = refl
     here (Some (b ∷ [])) = by_list (list_any (λ code. code == b) listed) b
     here (Some (b ∷ c ∷ bs)) = rw (no_count (verdict_of (spelling OneByte (b ∷ c ∷ bs)))) refl
-
--- a TimeInForce, where it may be at the close or not
-abbrev pub if_timely : Bool → Said → Said
-if_timely may_close None = None
-if_timely may_close (Some time) = if not (is_at_close time) || may_close then Some time else None
-
-pub time_said : (fields : List Field) → said fields 59 (TimeBeside 40)
-    ≡ if_timely (is_listed (codes "12") (value_at 40 fields))
-    (said fields 59 (Value (Code (codes "01234567"))))
-unfolding judge spelling
-time_said fields = here (is_listed (codes "12") (value_at 40 fields)) (value_at 59 fields)
-  where
-    by_list : (counts good : Bool) (bytes : List ℕ)
-        → text_of (counted counts (verdict_of (Ok (listed_word good bytes))))
-        ≡ (if good then (if counts then Some bytes else None) else None)
-    by_list true true bytes = refl
-    by_list true false bytes = refl
-    by_list false true bytes = refl
-    by_list false false bytes = refl
-
-    by_text : (may_close good : Bool) (bytes : List ℕ)
-        → (if good then (if not (is_at_close bytes) || may_close then Some bytes else None)
-        else None)
-        ≡ if_timely may_close (text_of (verdict_of (Ok (listed_word good bytes))))
-    by_text may_close true bytes = refl
-    by_text may_close false bytes = refl
-
-    here : (may_close : Bool) (o : Option (List ℕ))
-        → (o >>= (λ v. text_of (counted (not (is_at_close v) || may_close)
-        (verdict_of (spelling (Code (codes "01234567")) v)))))
-        ≡ if_timely may_close
-        (o >>= (λ v. text_of (verdict_of (spelling (Code (codes "01234567")) v))))
-    here may_close None = refl
-    here may_close (Some []) = refl
-    here may_close (Some (b ∷ bs)) =
-        let good = is_code (codes "01234567") (b ∷ bs) in
-        by_list (not (is_at_close (b ∷ bs)) || may_close) good (b ∷ bs)
-        ∙ by_text may_close good (b ∷ bs)

@@ -7,7 +7,7 @@ use Rattle.message_tables.specs.Content.{content}
 use Rattle.dict_fix50.specs.declared.requests.Msg50.{Msg50}
 use Rattle.dict_fix50.specs.declared.requests.Msg50.TheVariants as messages
 use Rattle.row_values.specs.Kinds.{Kind}
-use Rattle.dict_fix50.specs.Message.{table}
+use Rattle.rows_fix50.specs.Header.{table}
 use Rattle.dict_fix50.specs.Requests.{new_order, cancel_request, replace_request, status_request}
 use Rattle.dict_fix50.specs.Said.{says}
 

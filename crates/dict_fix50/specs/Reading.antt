@@ -1,11 +1,10 @@
 -- Inside: requests that say at each row what the fields say.
-use Rattle.std.specs.Prelude.{◌≡◌, ℕ, List, [], ◌∷◌, ◌++◌, length, take}
-use Rattle.std.specs.Prelude.{drop}
-use Rattle.std.specs.Prelude.{codes, Option, Some, unwrap_or, option_and_then, IfSome}
+use Rattle.std.specs.Prelude.{◌≡◌, List, [], ◌∷◌}
+use Rattle.std.specs.Prelude.{codes, unwrap_or, IfSome}
 use Rattle.std.specs.Option.{option_map}
-use Rattle.row_values.specs.ValueKind.{Id, Text, Word, Currency, Codes, Flag, Day, MonthYear, Qty}
+use Rattle.row_values.specs.ValueKind.{Id, Text, Word, Currency, Codes, Flag, Day, Qty}
 use Rattle.row_values.specs.ValueKind.{Price}
-use Rattle.row_values.specs.ValueKind.{Stamp, Code, DayOfMonth, spelled}
+use Rattle.row_values.specs.ValueKind.{Stamp, Code}
 use Rattle.typed_fields.specs.Dec.{dec_text}
 use Rattle.typed_fields.specs.Day.{day_text}
 use Rattle.typed_fields.specs.Stamp.{stamp_text}
@@ -13,31 +12,14 @@ use Rattle.typed_fields.specs.Flag.{flag_text}
 use Rattle.field_groups.specs.Field.{Field}
 use Rattle.message_tables.specs.Tables.{Said}
 use Rattle.dict_fix50.specs.declared.groups.Groups.{Groups}
-use Rattle.row_values.specs.declared.lines.Maturity.{Maturity}
 use Rattle.dict_fix50.specs.declared.requests.New50.{New50}
 use Rattle.dict_fix50.specs.declared.requests.Cancel50.{Cancel50}
 use Rattle.dict_fix50.specs.declared.requests.Replace50.{Replace50}
 use Rattle.dict_fix50.specs.declared.requests.Status50.{Status50}
-use Rattle.row_values.specs.Kinds.{Value, Byte, MonthBeside, TimeBeside, said, resend_of}
-use Rattle.dict_fix50.specs.Message.{month_by}
+use Rattle.row_values.specs.Kinds.{Value, Byte, TimeBeside, said, resend_of}
+use Rattle.rows_fix50.specs.Maturity.{IsMaturity}
 use Rattle.row_values.specs.Groups.{AreParties, AreAllocs, AreSessions}
 use Rattle.row_values.specs.CodeKinds.{code_text}
-use Rattle.row_values.specs.Lines.{month_text}
-use Rattle.row_values.specs.Writing.{date_text}
-
--- the parts of a date
-pub record IsDate (date : List ℕ) : Type 0 where
-  pub eight : length date ≡ 8
-  pub itself : spelled Day date ≡ Some date
-  pub month : spelled MonthYear (take 6 date) ≡ Some (take 6 date)
-  pub day : spelled DayOfMonth (drop 6 date) ≡ Some (drop 6 date)
-  pub whole : take 6 date ++ drop 6 date ≡ date
-
--- a maturity says what the fields say
-pub record IsMaturity (fields : List Field) (maturity : Option Maturity) : Type 0 where
-  pub month : option_map month_text maturity
-      ≡ month_by (said fields 541 (Value Day)) (said fields 200 (MonthBeside 541))
-  pub date : option_and_then date_text maturity ≡ said fields 541 (Value Day)
 
 pub record AreGroups (fields : List Field) (groups : Groups) : Type 0 where
   pub parties : AreParties fields groups.parties

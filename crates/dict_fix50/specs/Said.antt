@@ -1,27 +1,22 @@
 -- Own: what the structs of the requests of FIX 5.0 SP2 say, row by row of the request table.
-use Rattle.std.specs.Prelude.{ℕ, List, [], ◌∷◌, ◌==◌, map, Some}
+use Rattle.std.specs.Prelude.{[], ◌∷◌, map, Some}
 use Rattle.std.specs.Prelude.{option_and_then}
 use Rattle.std.specs.Option.{option_map}
-use Rattle.std.specs.List.{find}
 use Rattle.typed_fields.specs.Dec.{dec_text}
 use Rattle.typed_fields.specs.Day.{day_text}
 use Rattle.typed_fields.specs.Stamp.{stamp_text}
 use Rattle.typed_fields.specs.Flag.{flag_text}
 use Rattle.row_values.specs.CodeKinds.{code_text}
-use Rattle.message_tables.specs.Tables.{Tag, Role, Said, Message}
-use Rattle.order_meaning.specs.declared.party.PartyLine.{PartyLine}
+use Rattle.message_tables.specs.Tables.{Tag, Role, Message}
 use Rattle.row_values.specs.Lines.{month_text, party_cells, alloc_cells, session_cells}
 use Rattle.row_values.specs.Writing.{date_text}
+use Rattle.rows_fix50.specs.Meaning.{id_of}
 use Rattle.dict_fix50.specs.declared.requests.New50.{New50}
 use Rattle.dict_fix50.specs.declared.requests.Cancel50.{Cancel50}
 use Rattle.dict_fix50.specs.declared.requests.Replace50.{Replace50}
 use Rattle.dict_fix50.specs.declared.requests.Status50.{Status50}
 use Rattle.dict_fix50.specs.declared.requests.Msg50.{Msg50}
 use Rattle.dict_fix50.specs.declared.requests.Msg50.TheVariants as messages
-
--- the id of the first party of a role
-abbrev pub id_of : ℕ → List PartyLine → Said
-id_of role lines = option_map (λ line. line.id) (find (λ line. line.role == role) lines)
 
 -- what a new order says
 abbrev pub new_says : New50 → Message

@@ -1,49 +1,17 @@
 -- Standard: FIX 5.0 SP2, volume 4, New Order - Single (D), Order Cancel Request (F), Order
 -- Cancel/Replace Request (G), Order Status Request (H), and volume 6: what their fields mean.
-use Rattle.std.specs.Prelude.{ℕ, List, map, drop, Option, Some, None, ◌==◌}
+use Rattle.std.specs.Prelude.{ℕ, List, map, Option, Some, None, ◌==◌}
 use Rattle.std.specs.Prelude.{if◌then◌else◌}
 use Rattle.std.specs.Option.{option_map}
 use Rattle.std.specs.Result.{result_ok}
-use Rattle.std.specs.Str.Parse.{digits_value}
-use Rattle.row_values.specs.ValueKind.{units_of_text}
+use Rattle.row_values.specs.Amounts.{amount_if}
 use Rattle.field_groups.specs.Field.{Field}
-use Rattle.message_tables.specs.Tables.{Tag, Role, Said, Cell, Message, ◌>>=◌, said_at, lines_of}
+use Rattle.message_tables.specs.Tables.{Tag, Role, Cell, Message, ◌>>=◌, said_at, lines_of}
 use Rattle.message_tables.specs.Tables.{text_in, code_in, code_if, flag_of}
-use Rattle.order_meaning.specs.declared.Amount.{Amount}
-use Rattle.order_meaning.specs.Request.{RequestKind, New, Cancel, Replace, Status, OrderType}
-use Rattle.order_meaning.specs.Request.{Market, Limit, Stop, StopLimit, MarketOnClose, LimitOnClose}
-use Rattle.order_meaning.specs.Request.{NeutralAlloc, NeutralSession, NeutralMaturity, Request}
+use Rattle.order_meaning.specs.Request.{RequestKind, New, Cancel, Replace, Status}
+use Rattle.order_meaning.specs.Request.{NeutralAlloc, NeutralSession, Request}
+use Rattle.rows_fix50.specs.Meaning.{terms_of, maturity_of}
 use Rattle.dict_fix50.specs.Message.{message50}
-
-abbrev pub amount_of : List ℕ → Option Amount
-amount_of text = option_map (λ units. record { units = units }) (units_of_text text)
-
-abbrev pub amount_if : List Cell → ℕ → Option Amount
-amount_if cells tag = said_at cells (Tag tag) >>= amount_of
-
--- OrdType and TimeInForce: market and limit at the close (7) are order types of their own.
-abbrev plain_type : ℕ → Option OrderType
-plain_type code =
-    if code == 49 then Some Market else (if code == 50 then Some Limit else
-    (if code == 51 then Some Stop else (if code == 52 then Some StopLimit else None)))
-
-abbrev close_type : ℕ → Option OrderType
-close_type code =
-    if code == 49 then Some MarketOnClose else (if code == 50 then Some LimitOnClose else None)
-
-abbrev pub terms_of : Option ℕ → Option ℕ → Option OrderType × Option ℕ
-terms_of None time = (None, time)
-terms_of (Some code) None = (plain_type code, None)
-terms_of (Some code) (Some time) =
-    if time == 55 then (close_type code, None) else (plain_type code, Some time)
-
--- the last two digits of YYYYMMDD
-abbrev pub day_of : List ℕ → ℕ
-day_of date = digits_value 10 (drop 6 date)
-
-abbrev pub maturity_of : Said → Said → Option NeutralMaturity
-maturity_of None date = None
-maturity_of (Some month) date = Some (record { month = month; day = option_map day_of date })
 
 abbrev pub alloc_of : List Cell → NeutralAlloc
 alloc_of line = record { account = text_in line 79; qty = amount_if line 80 }

@@ -1,12 +1,11 @@
 //! Reading the lines of a request's groups.
 
 ghost use Rattle.std.specs.Prelude.{◌≤◌, IfOk, length};
-ghost use Rattle.message_tables.specs.CodeTables.{seen};
 ghost use Rattle.message_tables.specs.Tables.{lines_in, tags_in};
 ghost use Rattle.row_values.specs.Groups as groups;
 ghost use Rattle.dict_fix50.specs.Reading.{AreGroups};
 
-use field_groups::Field;
+use field_groups::Fields;
 use order_meaning::Lines;
 use row_values::{Allocs, Sessions, read_lines};
 use std::alloc::{AllocError, Global};
@@ -23,11 +22,11 @@ pub(crate) struct Groups {
 }
 
 /// The lines of all three groups.
-pub(crate) fn read_groups(alloc: Global, fields: &[Field<'_>]) -> Result<Groups, AllocError>
-    requires parties { length (lines_in (tags_in groups.parties) (seen fields.now)) ≤ 32 }
-    requires allocs { length (lines_in (tags_in groups.allocs) (seen fields.now)) ≤ 32 }
-    requires sessions { length (lines_in (tags_in groups.sessions) (seen fields.now)) ≤ 32 }
-    ensures { IfOk result (AreGroups (seen fields.now)) }
+pub(crate) fn read_groups(alloc: Global, fields: &Fields<'_>) -> Result<Groups, AllocError>
+    requires parties { length (lines_in (tags_in groups.parties) fields.now) ≤ 32 }
+    requires allocs { length (lines_in (tags_in groups.allocs) fields.now) ≤ 32 }
+    requires sessions { length (lines_in (tags_in groups.sessions) fields.now) ≤ 32 }
+    ensures { IfOk result (AreGroups fields.now) }
 {
     Ok(Groups {
         parties: read_lines(alloc, fields)?,

@@ -3,7 +3,8 @@
 ghost use Rattle.std.specs.Prelude.{◌≡◌, ◌++◌, ◌∷◌, [], IfOk, OnErr, OnOk, Some};
 ghost use Rattle.field_groups.specs.Field.{body_of};
 ghost use Rattle.row_values.specs.Gives.{Gives};
-ghost use Rattle.dict_fix50.specs.Message.{message50, message50_by, table};
+ghost use Rattle.dict_fix50.specs.Message.{message50, message50_by};
+ghost use Rattle.rows_fix50.specs.Header.{table};
 ghost use Rattle.dict_fix50.specs.Readable.{IsReadable50};
 ghost use Rattle.dict_fix50.specs.Requests.{cancel_request, new_order, replace_request};
 ghost use Rattle.dict_fix50.specs.Requests.{status_request};

@@ -4,7 +4,6 @@
 //! table is a line of the literal.
 
 ghost use Rattle.std.specs.Prelude.{◌≡◌, IfOk};
-ghost use Rattle.message_tables.specs.CodeTables.{seen};
 ghost use Rattle.dict_fix50.specs.Readable.{IsReadableCancel, IsReadableNew};
 ghost use Rattle.dict_fix50.specs.Readable.{IsReadableReplace, IsReadableStatus};
 ghost use Rattle.row_values.specs.Groups.{AreParties};
@@ -14,14 +13,15 @@ ghost use Rattle.dict_fix50.specs.Reading.{status_texts};
 
 use crate::groups::Groups;
 use crate::requests::{Cancel50, New50, Replace50, Status50};
-use crate::values::{capacity, maturity, time_in_force};
-use field_groups::Field;
+use crate::values::capacity;
+use field_groups::Fields;
 use order_meaning::{Bytes, Lines};
 use row_values::ValueKind::{Code, Codes, Currency, Id, Text, Word};
 use row_values::{
     ValueKind, code, day, flag, or_empty, owned, price, qty, qty_or_zero, resend, stamp,
     stamp_or_epoch, text,
 };
+use rows_fix50::{maturity, time_in_force};
 use std::alloc::{AllocError, Global};
 
 /// What SettlType(63) may be.
@@ -49,8 +49,8 @@ const ORD_TYPE: ValueKind = Code(b"1234");
 const POSITION_EFFECT: ValueKind = Code(b"OC");
 
 /// The texts of a new order.
-fn order_texts(alloc: Global, fields: &[Field<'_>]) -> Result<[Option<Bytes>; 11], AllocError>
-    ensures { IfOk result (λ texts. texts ≡ new_texts (seen fields.now)) }
+fn order_texts(alloc: Global, fields: &Fields<'_>) -> Result<[Option<Bytes>; 11], AllocError>
+    ensures { IfOk result (λ texts. texts ≡ new_texts fields.now) }
 {
     let texts = [
         text(fields, 11, &Id),
@@ -70,8 +70,8 @@ fn order_texts(alloc: Global, fields: &[Field<'_>]) -> Result<[Option<Bytes>; 11
 }
 
 /// The ids that a replace request has beside the texts of a new order.
-fn ids_of_replace(alloc: Global, fields: &[Field<'_>]) -> Result<[Option<Bytes>; 2], AllocError>
-    ensures { IfOk result (λ ids. ids ≡ replace_ids (seen fields.now)) }
+fn ids_of_replace(alloc: Global, fields: &Fields<'_>) -> Result<[Option<Bytes>; 2], AllocError>
+    ensures { IfOk result (λ ids. ids ≡ replace_ids fields.now) }
 {
     let ids = [text(fields, 41, &Id), text(fields, 37, &Id)].try_map(|text| owned(alloc, text))?;
     Ok(ids)
@@ -139,10 +139,10 @@ macro_rules! order {
 
 /// The new order of these fields and texts.
 #[tactic(auto, using(row_values::proofs::SaidRows::of_lines))]
-fn new_of(alloc: Global, fields: &[Field<'_>], groups: Groups, texts: [Option<Bytes>; 11]) -> New50
-    requires groups { AreGroups (seen fields.now) groups }
-    requires texts { texts ≡ new_texts (seen fields.now) }
-    ensures says { IsNew (seen fields.now) result }
+fn new_of(alloc: Global, fields: &Fields<'_>, groups: Groups, texts: [Option<Bytes>; 11]) -> New50
+    requires groups { AreGroups fields.now groups }
+    requires texts { texts ≡ new_texts fields.now }
+    ensures says { IsNew fields.now result }
     ensures readable { IsReadableNew result }
 {
     order!(New50, alloc, fields, groups, texts)
@@ -151,11 +151,11 @@ fn new_of(alloc: Global, fields: &[Field<'_>], groups: Groups, texts: [Option<By
 /// The new order of these fields.
 pub(crate) fn new_order(
     alloc: Global,
-    fields: &[Field<'_>],
+    fields: &Fields<'_>,
     groups: Groups,
 ) -> Result<New50, AllocError>
-    requires { AreGroups (seen fields.now) groups }
-    ensures says { IfOk result (IsNew (seen fields.now)) }
+    requires { AreGroups fields.now groups }
+    ensures says { IfOk result (IsNew fields.now) }
     ensures readable { IfOk result IsReadableNew }
 {
     let texts = order_texts(alloc, fields)?;
@@ -166,13 +166,13 @@ pub(crate) fn new_order(
 #[tactic(auto, using(row_values::proofs::SaidRows::of_lines))]
 fn cancel_of(
     alloc: Global,
-    fields: &[Field<'_>],
+    fields: &Fields<'_>,
     parties: Lines,
     texts: [Option<Bytes>; 10],
 ) -> Cancel50
-    requires parties { AreParties (seen fields.now) parties }
-    requires texts { texts ≡ cancel_texts (seen fields.now) }
-    ensures says { IsCancel (seen fields.now) result }
+    requires parties { AreParties fields.now parties }
+    requires texts { texts ≡ cancel_texts fields.now }
+    ensures says { IsCancel fields.now result }
     ensures readable { IsReadableCancel result }
 {
     let [
@@ -211,11 +211,11 @@ fn cancel_of(
 /// The cancel request of these fields.
 pub(crate) fn cancel_request(
     alloc: Global,
-    fields: &[Field<'_>],
+    fields: &Fields<'_>,
     parties: Lines,
 ) -> Result<Cancel50, AllocError>
-    requires { AreParties (seen fields.now) parties }
-    ensures says { IfOk result (IsCancel (seen fields.now)) }
+    requires { AreParties fields.now parties }
+    ensures says { IfOk result (IsCancel fields.now) }
     ensures readable { IfOk result IsReadableCancel }
 {
     let texts = [
@@ -238,15 +238,15 @@ pub(crate) fn cancel_request(
 #[tactic(auto, using(row_values::proofs::SaidRows::of_lines))]
 fn replace_of(
     alloc: Global,
-    fields: &[Field<'_>],
+    fields: &Fields<'_>,
     groups: Groups,
     ids: [Option<Bytes>; 2],
     texts: [Option<Bytes>; 11],
 ) -> Replace50
-    requires groups { AreGroups (seen fields.now) groups }
-    requires ids { ids ≡ replace_ids (seen fields.now) }
-    requires texts { texts ≡ new_texts (seen fields.now) }
-    ensures says { IsReplace (seen fields.now) result }
+    requires groups { AreGroups fields.now groups }
+    requires ids { ids ≡ replace_ids fields.now }
+    requires texts { texts ≡ new_texts fields.now }
+    ensures says { IsReplace fields.now result }
     ensures readable { IsReadableReplace result }
 {
     let [orig_id, order_id] = ids;
@@ -257,11 +257,11 @@ fn replace_of(
 /// The replace request of these fields.
 pub(crate) fn replace_request(
     alloc: Global,
-    fields: &[Field<'_>],
+    fields: &Fields<'_>,
     groups: Groups,
 ) -> Result<Replace50, AllocError>
-    requires { AreGroups (seen fields.now) groups }
-    ensures says { IfOk result (IsReplace (seen fields.now)) }
+    requires { AreGroups fields.now groups }
+    ensures says { IfOk result (IsReplace fields.now) }
     ensures readable { IfOk result IsReadableReplace }
 {
     let ids = ids_of_replace(alloc, fields)?;
@@ -273,13 +273,13 @@ pub(crate) fn replace_request(
 #[tactic(auto, using(row_values::proofs::SaidRows::of_lines))]
 fn status_of(
     alloc: Global,
-    fields: &[Field<'_>],
+    fields: &Fields<'_>,
     parties: Lines,
     texts: [Option<Bytes>; 8],
 ) -> Status50
-    requires parties { AreParties (seen fields.now) parties }
-    requires texts { texts ≡ status_texts (seen fields.now) }
-    ensures says { IsStatus (seen fields.now) result }
+    requires parties { AreParties fields.now parties }
+    requires texts { texts ≡ status_texts fields.now }
+    ensures says { IsStatus fields.now result }
     ensures readable { IsReadableStatus result }
 {
     let [
@@ -312,11 +312,11 @@ fn status_of(
 /// The status request of these fields.
 pub(crate) fn status_request(
     alloc: Global,
-    fields: &[Field<'_>],
+    fields: &Fields<'_>,
     parties: Lines,
 ) -> Result<Status50, AllocError>
-    requires { AreParties (seen fields.now) parties }
-    ensures says { IfOk result (IsStatus (seen fields.now)) }
+    requires { AreParties fields.now parties }
+    ensures says { IfOk result (IsStatus fields.now) }
     ensures readable { IfOk result IsReadableStatus }
 {
     let texts = [

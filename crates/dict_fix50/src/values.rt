@@ -1,102 +1,18 @@
-//! What the fields of a message of FIX 5.0 SP2 say beside other fields.
+//! What the fields of a request say beside other fields.
 
-ghost use Rattle.std.specs.Prelude.{◌≡◌, Some, codes, option_and_then, IfSome};
+ghost use Rattle.std.specs.Prelude.{◌≡◌, codes};
 ghost use Rattle.std.specs.Option.{option_map};
-ghost use Rattle.message_tables.specs.CodeTables.{seen};
-ghost use Rattle.row_values.specs.ValueKind as kinds;
-ghost use Rattle.row_values.specs.ValueKind.{spelled};
 ghost use Rattle.row_values.specs.CodeKinds.{code_text};
-ghost use Rattle.row_values.specs.Kinds.{Byte, TimeBeside, Value, month_in_date, said};
-ghost use Rattle.row_values.specs.Lines.{IsReadableMaturity, month_text};
-ghost use Rattle.row_values.specs.Writing.{date_text};
-ghost use Rattle.dict_fix50.specs.Reading.{IsDate, IsMaturity};
+ghost use Rattle.row_values.specs.Kinds.{Byte, said};
 
-use field_groups::Field;
-use message_tables::value;
+use field_groups::Fields;
 use row_values::ValueKind::Code;
-use row_values::{AT_CLOSE, Maturity, code, may_close, month, value_kind};
+use row_values::code;
 
 /// OrderCapacity(528): one byte, which counts where it is listed.
 #[tactic(auto, using(crate::proofs::Times::byte_said))]
-pub(crate) fn capacity(fields: &[Field<'_>]) -> Option<u8>
-    ensures { option_map code_text result ≡ said (seen fields.now) 528 (Byte (codes "AIP")) }
+pub(crate) fn capacity(fields: &Fields<'_>) -> Option<u8>
+    ensures { option_map code_text result ≡ said fields.now 528 (Byte (codes "AIP")) }
 {
     code(fields, 528, &Code(b"AIP"))
-}
-
-/// TimeInForce(59), of which 7, at the close, counts only beside a market or limit order.
-#[tactic(auto, using(crate::proofs::Times::time_said))]
-pub(crate) fn time_in_force(fields: &[Field<'_>]) -> Option<u8>
-    ensures { option_map code_text result ≡ said (seen fields.now) 59 (TimeBeside 40) }
-{
-    match code(fields, 59, &Code(b"01234567")) {
-        Some(time) => {
-            if time != AT_CLOSE || may_close(fields, 40) {
-                Some(time)
-            } else {
-                None
-            }
-        }
-        None => None,
-    }
-}
-
-/// The month and the day of a date.
-fn month_and_day(date: &[u8]) -> Option<Maturity>
-    requires { IsDate date.now }
-    ensures month { option_map month_text result ≡ Some (month_in_date date.now) }
-    ensures date { option_and_then date_text result ≡ Some date.now }
-    ensures bound { IfSome result IsReadableMaturity }
-{
-    match value_kind::month_year(&date[..6]) {
-        Some(month) => Some(Maturity {
-            month,
-            day: value_kind::day_of_month(&date[6..]),
-        }),
-        None => None,
-    }
-}
-
-/// The month and the day of a date, if it is one.
-#[tactic(auto, using(crate::proofs::Dates::is_date))]
-fn date_of(date: &[u8]) -> Option<Maturity>
-    ensures month { option_map month_text result
-        ≡ option_map month_in_date (spelled kinds.Day date.now) }
-    ensures date { option_and_then date_text result ≡ spelled kinds.Day date.now }
-    ensures bound { IfSome result IsReadableMaturity }
-{
-    match value_kind::day(date) {
-        Some(_) => month_and_day(date),
-        None => None,
-    }
-}
-
-/// MaturityDate(541).
-#[tactic(auto, using(row_values::proofs::Texts::at_tag))]
-fn maturity_date(fields: &[Field<'_>]) -> Option<Maturity>
-    ensures month { option_map month_text result
-        ≡ option_map month_in_date (said (seen fields.now) 541 (Value kinds.Day)) }
-    ensures date { option_and_then date_text result
-        ≡ said (seen fields.now) 541 (Value kinds.Day) }
-    ensures bound { IfSome result IsReadableMaturity }
-{
-    match value(fields, 541) {
-        Some(date) => date_of(date),
-        None => None,
-    }
-}
-
-/// MaturityDate(541), and where it says none MaturityMonthYear(200).
-#[tactic(auto, using(crate::proofs::Dates::month_alone))]
-pub(crate) fn maturity(fields: &[Field<'_>]) -> Option<Maturity>
-    ensures says { IsMaturity (seen fields.now) result }
-    ensures bound { IfSome result IsReadableMaturity }
-{
-    match maturity_date(fields) {
-        Some(maturity) => Some(maturity),
-        None => match month(fields, 200) {
-            Some(month) => Some(Maturity { month, day: None }),
-            None => None,
-        },
-    }
 }

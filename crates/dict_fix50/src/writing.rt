@@ -4,7 +4,7 @@ ghost use Rattle.std.specs.Prelude.{◌≡◌};
 ghost use Rattle.std.specs.List.{AllByRecursion, flat_map};
 ghost use Rattle.message_tables.specs.Content.{content};
 ghost use Rattle.row_values.specs.Writing.{IsPart, part_fields};
-ghost use Rattle.dict_fix50.specs.Message.{table};
+ghost use Rattle.rows_fix50.specs.Header.{table};
 ghost use Rattle.dict_fix50.specs.Requests.{cancel_request, new_order};
 ghost use Rattle.dict_fix50.specs.Requests.{replace_request, status_request};
 ghost use Rattle.dict_fix50.specs.Said.{cancel_says, new_says, replace_says, status_says};
@@ -19,41 +19,41 @@ use row_values::{Part, Value};
 macro_rules! order_parts {
     ($m:ident $(, $id:expr)*) => {
         [
-            Part::Row(11, Value::Own(&$m.cl_ord_id)),
+            Part::Row(11, Value::Text(&$m.cl_ord_id)),
             $($id,)*
             Part::Parties(&$m.parties),
             Part::Row(1, Value::TextIf(&$m.account)),
             Part::Allocs(&$m.allocs),
-            Part::Row(63, Value::Code($m.settl_type)),
-            Part::Row(64, Value::Day($m.settl_date)),
-            Part::Row(21, Value::Code(Some($m.hand_inst))),
+            Part::Row(63, Value::CodeIf($m.settl_type)),
+            Part::Row(64, Value::DayIf(&$m.settl_date)),
+            Part::Row(21, Value::Code($m.hand_inst)),
             Part::Row(18, Value::TextIf(&$m.exec_inst)),
-            Part::Row(110, Value::Dec($m.min_qty)),
-            Part::Row(1138, Value::Dec($m.max_floor)),
+            Part::Row(110, Value::DecIf(&$m.min_qty)),
+            Part::Row(1138, Value::DecIf(&$m.max_floor)),
             Part::Row(100, Value::TextIf(&$m.ex_destination)),
             Part::Sessions(&$m.sessions),
-            Part::Row(55, Value::Own(&$m.symbol)),
+            Part::Row(55, Value::Text(&$m.symbol)),
             Part::Row(65, Value::TextIf(&$m.symbol_sfx)),
             Part::Row(48, Value::TextIf(&$m.security_id)),
-            Part::Row(22, Value::Code($m.id_source)),
+            Part::Row(22, Value::CodeIf($m.id_source)),
             Part::Row(167, Value::TextIf(&$m.security_type)),
-            Part::Row(200, Value::Month($m.maturity)),
-            Part::Row(541, Value::Date($m.maturity)),
+            Part::Row(200, Value::Month(&$m.maturity)),
+            Part::Row(541, Value::Date(&$m.maturity)),
             Part::Row(207, Value::TextIf(&$m.security_exchange)),
-            Part::Row(54, Value::Code(Some($m.side))),
-            Part::Row(114, Value::Flag($m.locate)),
-            Part::Row(60, Value::Stamp(Some($m.transact_time))),
-            Part::Row(38, Value::Dec(Some($m.order_qty))),
-            Part::Row(40, Value::Code(Some($m.ord_type))),
-            Part::Row(44, Value::Dec($m.price)),
-            Part::Row(99, Value::Dec($m.stop_px)),
+            Part::Row(54, Value::Code($m.side)),
+            Part::Row(114, Value::FlagIf(&$m.locate)),
+            Part::Row(60, Value::Stamp(&$m.transact_time)),
+            Part::Row(38, Value::Dec(&$m.order_qty)),
+            Part::Row(40, Value::Code($m.ord_type)),
+            Part::Row(44, Value::DecIf(&$m.price)),
+            Part::Row(99, Value::DecIf(&$m.stop_px)),
             Part::Row(15, Value::TextIf(&$m.currency)),
-            Part::Row(59, Value::Code($m.time_in_force)),
-            Part::Row(168, Value::Stamp($m.effective_time)),
-            Part::Row(432, Value::Day($m.expire_date)),
-            Part::Row(126, Value::Stamp($m.expire_time)),
-            Part::Row(528, Value::Code($m.capacity)),
-            Part::Row(77, Value::Code($m.open_close)),
+            Part::Row(59, Value::CodeIf($m.time_in_force)),
+            Part::Row(168, Value::StampIf(&$m.effective_time)),
+            Part::Row(432, Value::DayIf(&$m.expire_date)),
+            Part::Row(126, Value::StampIf(&$m.expire_time)),
+            Part::Row(528, Value::CodeIf($m.capacity)),
+            Part::Row(77, Value::CodeIf($m.open_close)),
             Part::Row(58, Value::TextIf(&$m.text)),
         ]
     };
@@ -77,22 +77,22 @@ pub(crate) fn cancel_parts(m: &Cancel50) -> [Part<'_>; 17]
         ≡ content (table 70 cancel_request) (cancel_says m.now) }
 {
     [
-        Part::Row(11, Value::Own(&m.cl_ord_id)),
-        Part::Row(41, Value::Own(&m.orig_id)),
+        Part::Row(11, Value::Text(&m.cl_ord_id)),
+        Part::Row(41, Value::Text(&m.orig_id)),
         Part::Row(37, Value::TextIf(&m.order_id)),
         Part::Parties(&m.parties),
         Part::Row(1, Value::TextIf(&m.account)),
-        Part::Row(55, Value::Own(&m.symbol)),
+        Part::Row(55, Value::Text(&m.symbol)),
         Part::Row(65, Value::TextIf(&m.symbol_sfx)),
         Part::Row(48, Value::TextIf(&m.security_id)),
-        Part::Row(22, Value::Code(m.id_source)),
+        Part::Row(22, Value::CodeIf(m.id_source)),
         Part::Row(167, Value::TextIf(&m.security_type)),
-        Part::Row(200, Value::Month(m.maturity)),
-        Part::Row(541, Value::Date(m.maturity)),
+        Part::Row(200, Value::Month(&m.maturity)),
+        Part::Row(541, Value::Date(&m.maturity)),
         Part::Row(207, Value::TextIf(&m.security_exchange)),
-        Part::Row(54, Value::Code(Some(m.side))),
-        Part::Row(60, Value::Stamp(Some(m.transact_time))),
-        Part::Row(38, Value::Dec(m.order_qty)),
+        Part::Row(54, Value::Code(m.side)),
+        Part::Row(60, Value::Stamp(&m.transact_time)),
+        Part::Row(38, Value::DecIf(&m.order_qty)),
         Part::Row(58, Value::TextIf(&m.text)),
     ]
 }
@@ -106,7 +106,7 @@ pub(crate) fn replace_parts(m: &Replace50) -> [Part<'_>; 37]
 {
     order_parts!(
         m,
-        Part::Row(41, Value::Own(&m.orig_id)),
+        Part::Row(41, Value::Text(&m.orig_id)),
         Part::Row(37, Value::TextIf(&m.order_id))
     )
 }
@@ -119,18 +119,18 @@ pub(crate) fn status_parts(m: &Status50) -> [Part<'_>; 13]
         ≡ content (table 72 status_request) (status_says m.now) }
 {
     [
-        Part::Row(11, Value::Own(&m.cl_ord_id)),
+        Part::Row(11, Value::Text(&m.cl_ord_id)),
         Part::Row(37, Value::TextIf(&m.order_id)),
         Part::Parties(&m.parties),
         Part::Row(1, Value::TextIf(&m.account)),
-        Part::Row(55, Value::Own(&m.symbol)),
+        Part::Row(55, Value::Text(&m.symbol)),
         Part::Row(65, Value::TextIf(&m.symbol_sfx)),
         Part::Row(48, Value::TextIf(&m.security_id)),
-        Part::Row(22, Value::Code(m.id_source)),
+        Part::Row(22, Value::CodeIf(m.id_source)),
         Part::Row(167, Value::TextIf(&m.security_type)),
-        Part::Row(200, Value::Month(m.maturity)),
-        Part::Row(541, Value::Date(m.maturity)),
+        Part::Row(200, Value::Month(&m.maturity)),
+        Part::Row(541, Value::Date(&m.maturity)),
         Part::Row(207, Value::TextIf(&m.security_exchange)),
-        Part::Row(54, Value::Code(Some(m.side))),
+        Part::Row(54, Value::Code(m.side)),
     ]
 }

@@ -1,8 +1,8 @@
 use Rattle.std.proofs.Common.{ap, ◌∙◌}
 use Rattle.std.proofs.lemmas.List.{take_rest}
 use Rattle.row_values.specs.ValueKind.{DayOfMonth, spelled}
-use Rattle.dict_fix50.proofs.Dates.{date_again}
-use Rattle.dict_fix50.proofs.values.month_and_day.Goals as goal
+use Rattle.rows_fix50.proofs.Dates.{date_again}
+use Rattle.rows_fix50.proofs.values.month_and_day.Goals as goal
 
 pub returns-in-Some-clause-date : goal.returns-in-Some-clause-date
 returns-in-Some-clause-date c =

@@ -22,7 +22,7 @@ use Rattle.message_tables.specs.Tables.{Said, ◌>>=◌, text_of, value_at}
 use Rattle.row_values.specs.Kinds.{Value, MonthBeside, filled, if_spelled, judge, month_beside}
 use Rattle.row_values.specs.Kinds.{verdict_of}
 use Rattle.row_values.specs.Kinds.{said}
-use Rattle.dict_fix50.specs.Reading.{IsDate}
+use Rattle.rows_fix50.specs.Maturity.{IsDate}
 
 both : (a b : Bool) → (a && b) ≡ true → (a ≡ true) × (b ≡ true)
 both true true h = (refl, refl)

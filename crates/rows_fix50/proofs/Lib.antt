@@ -1,0 +1,3 @@
+pub mod Dates
+pub mod Roles
+pub mod Times
