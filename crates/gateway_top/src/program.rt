@@ -15,26 +15,30 @@ use std::alloc::Global;
 
 /// What `--help` prints.
 const HELP: &str = "\
-fixgate is a gateway from a trading client of FIX 4.2 to a venue of FIX 5.0 SP2 over FIXT 1.1.
-So far it translates order requests upward and checks streams.
+fixgate is a gateway from a trading client of FIX 4.2 to a venue of FIX 5.0 SP2
+over FIXT 1.1. So far it translates order requests upward and checks streams.
 
 Usage: fixgate COMMAND
 
-  translate up    reads FIX 4.2 order requests from standard input and writes them to standard output
-                  as the venue takes them; ends at the first piece of the input that it refuses
-  check client    reads a stream of FIX 4.2 and prints a line for each frame and each garbled piece
-  check venue     the same of a stream of FIXT 1.1
+  translate up    reads FIX 4.2 order requests from standard input and writes
+                  them to standard output as the venue takes them; ends at the
+                  first piece of the input that it refuses
+  check client    reads a stream of FIX 4.2 and prints a line for each frame and
+                  each garbled piece, with the first fault of each request
+  check venue     prints a line for each frame and garbled piece of FIXT 1.1
   --help          prints this text
   --version       prints the version
 
-Order requests are New Order - Single(D), Order Cancel Request(F), Order Cancel/Replace Request(G)
-and Order Status Request(H); docs/REQUESTS.md has their fields and what each becomes. Frames are read
-as they are on the wire, with SOH (byte 1) behind each field.
+Order requests are New Order - Single(D), Order Cancel Request(F), Order
+Cancel/Replace Request(G) and Order Status Request(H); docs/REQUESTS.md has
+their fields and what each becomes. Frames are read as they are on the wire,
+with SOH (byte 1) behind each field. A line of check begins with the place of
+its piece in bytes; README.md says what follows.
 
 Exit status:
    0  done
-   1  refused: a piece of the input is garbled, unfinished, at fault or has no counterpart; its
-      place is printed
+   1  refused: a piece of the input is garbled, unfinished, at fault, too long,
+      not supported or has no counterpart; its place is printed
    2  usage: the words are none of the above
    4  the input failed
    5  the output failed

@@ -9,26 +9,30 @@ use std::test::Fail;
 
 /// What `--help` prints.
 const HELP: &str = "\
-fixgate is a gateway from a trading client of FIX 4.2 to a venue of FIX 5.0 SP2 over FIXT 1.1.
-So far it translates order requests upward and checks streams.
+fixgate is a gateway from a trading client of FIX 4.2 to a venue of FIX 5.0 SP2
+over FIXT 1.1. So far it translates order requests upward and checks streams.
 
 Usage: fixgate COMMAND
 
-  translate up    reads FIX 4.2 order requests from standard input and writes them to standard output
-                  as the venue takes them; ends at the first piece of the input that it refuses
-  check client    reads a stream of FIX 4.2 and prints a line for each frame and each garbled piece
-  check venue     the same of a stream of FIXT 1.1
+  translate up    reads FIX 4.2 order requests from standard input and writes
+                  them to standard output as the venue takes them; ends at the
+                  first piece of the input that it refuses
+  check client    reads a stream of FIX 4.2 and prints a line for each frame and
+                  each garbled piece, with the first fault of each request
+  check venue     prints a line for each frame and garbled piece of FIXT 1.1
   --help          prints this text
   --version       prints the version
 
-Order requests are New Order - Single(D), Order Cancel Request(F), Order Cancel/Replace Request(G)
-and Order Status Request(H); docs/REQUESTS.md has their fields and what each becomes. Frames are read
-as they are on the wire, with SOH (byte 1) behind each field.
+Order requests are New Order - Single(D), Order Cancel Request(F), Order
+Cancel/Replace Request(G) and Order Status Request(H); docs/REQUESTS.md has
+their fields and what each becomes. Frames are read as they are on the wire,
+with SOH (byte 1) behind each field. A line of check begins with the place of
+its piece in bytes; README.md says what follows.
 
 Exit status:
    0  done
-   1  refused: a piece of the input is garbled, unfinished, at fault or has no counterpart; its
-      place is printed
+   1  refused: a piece of the input is garbled, unfinished, at fault, too long,
+      not supported or has no counterpart; its place is printed
    2  usage: the words are none of the above
    4  the input failed
    5  the output failed
@@ -39,25 +43,36 @@ On any status but 0 a line with the reason goes to standard error.
 
 /// A plain order, and the same as the venue takes it.
 const ORDER: &[u8] =
-    b"8=FIX.4.2\x019=120\x0135=D\x0149=CLNT\x0156=GATE\x0134=2\x0152=20240102-10:00:00\x0111=A1\x01109=FUND\x0121=1\x0155=IBM\x0154=1\x0160=20240102-10:00:00\x0138=100\x0140=2\x0144=10.5\x0110=044\x01";
+    b"8=FIX.4.2\x019=120\x0135=D\x0149=CLNT\x0156=GATE\x0134=2\x0152=20240102-10:00:00\x01\
+11=A1\x01109=FUND\x0121=1\x0155=IBM\x0154=1\x0160=20240102-10:00:00\x0138=100\x0140=2\x01\
+44=10.5\x0110=044\x01";
 
 const UP: &[u8] =
-    b"8=FIXT.1.1\x019=138\x0135=D\x0149=CLNT\x0156=GATE\x0134=2\x0152=20240102-10:00:00\x0111=A1\x01453=1\x01448=FUND\x01447=D\x01452=3\x0121=1\x0155=IBM\x0154=1\x0160=20240102-10:00:00\x0138=100\x0140=2\x0144=10.5\x0110=195\x01";
+    b"8=FIXT.1.1\x019=138\x0135=D\x0149=CLNT\x0156=GATE\x0134=2\x0152=20240102-10:00:00\x01\
+11=A1\x01453=1\x01448=FUND\x01447=D\x01452=3\x0121=1\x0155=IBM\x0154=1\x0160=20240102-10:00:00\x01\
+38=100\x0140=2\x0144=10.5\x0110=195\x01";
 
 /// The order with another OrdType, and the same as the venue takes it.
 const STOP_ORDER: &[u8] =
-    b"8=FIX.4.2\x019=120\x0135=D\x0149=CLNT\x0156=GATE\x0134=2\x0152=20240102-10:00:00\x0111=A1\x01109=FUND\x0121=1\x0155=IBM\x0154=1\x0160=20240102-10:00:00\x0138=100\x0140=3\x0144=10.5\x0110=045\x01";
+    b"8=FIX.4.2\x019=120\x0135=D\x0149=CLNT\x0156=GATE\x0134=2\x0152=20240102-10:00:00\x01\
+11=A1\x01109=FUND\x0121=1\x0155=IBM\x0154=1\x0160=20240102-10:00:00\x0138=100\x0140=3\x01\
+44=10.5\x0110=045\x01";
 
 const UP_STOP: &[u8] =
-    b"8=FIXT.1.1\x019=138\x0135=D\x0149=CLNT\x0156=GATE\x0134=2\x0152=20240102-10:00:00\x0111=A1\x01453=1\x01448=FUND\x01447=D\x01452=3\x0121=1\x0155=IBM\x0154=1\x0160=20240102-10:00:00\x0138=100\x0140=3\x0144=10.5\x0110=196\x01";
+    b"8=FIXT.1.1\x019=138\x0135=D\x0149=CLNT\x0156=GATE\x0134=2\x0152=20240102-10:00:00\x01\
+11=A1\x01453=1\x01448=FUND\x01447=D\x01452=3\x0121=1\x0155=IBM\x0154=1\x0160=20240102-10:00:00\x01\
+38=100\x0140=3\x0144=10.5\x0110=196\x01";
 
 /// A Heartbeat whose sum is one too high, and a TestRequest.
 const WRONG_SUM: &[u8] =
-    b"8=FIX.4.2\x019=47\x0135=0\x0149=CLNT\x0156=GATE\x0134=2\x0152=20240102-10:00:00\x0110=071\x018=FIX.4.2\x019=57\x0135=1\x0149=CLNT\x0156=GATE\x0134=3\x0152=20240102-10:00:00\x01112=8=FIX\x0110=119\x01";
+    b"8=FIX.4.2\x019=47\x0135=0\x0149=CLNT\x0156=GATE\x0134=2\x0152=20240102-10:00:00\x01\
+10=071\x018=FIX.4.2\x019=57\x0135=1\x0149=CLNT\x0156=GATE\x0134=3\x0152=20240102-10:00:00\x01\
+112=8=FIX\x0110=119\x01";
 
 /// A Heartbeat of the venue's session, and the front of another.
 const VENUE: &[u8] =
-    b"8=FIXT.1.1\x019=47\x0135=0\x0149=VENU\x0156=GATE\x0134=2\x0152=20240102-10:00:00\x0110=163\x018=FIXT.1.1\x019=4";
+    b"8=FIXT.1.1\x019=47\x0135=0\x0149=VENU\x0156=GATE\x0134=2\x0152=20240102-10:00:00\x01\
+10=163\x018=FIXT.1.1\x019=4";
 
 /// A run with these words separated by a space, over this input and a sink, each of which fails at
 /// the listed calls.
@@ -220,8 +235,8 @@ fn requests_go_up(rt: HostRuntime) -> Result<(), Fail> {
     let rows: [(&[u8], &[u8], &[u8]); 10] = [
         // parties
         (b"D", b"11=A1|109=FUND|76=BRKR|439=CLRF|21=1|55=IBM|54=1|60=20240102-10:00:00|38=1|40=1|",
-            b"11=A1|453=3|448=FUND|447=D|452=3|448=BRKR|447=D|452=1|448=CLRF|447=D|452=4|21=1|55=IBM|\
-54=1|60=20240102-10:00:00|38=1|40=1|"),
+            b"11=A1|453=3|448=FUND|447=D|452=3|448=BRKR|447=D|452=1|448=CLRF|447=D|452=4|21=1|\
+55=IBM|54=1|60=20240102-10:00:00|38=1|40=1|"),
         // on close
         (b"D", b"11=A1|21=1|55=IBM|54=1|60=20240102-10:00:00|38=1|40=5|",
             b"11=A1|21=1|55=IBM|54=1|60=20240102-10:00:00|38=1|40=1|59=7|"),
@@ -229,7 +244,8 @@ fn requests_go_up(rt: HostRuntime) -> Result<(), Fail> {
             b"11=A1|21=1|55=IBM|54=1|60=20240102-10:00:00|38=1|40=2|44=9.5|59=7|"),
         // codes and days
         (b"D", b"11=A1|21=1|55=IBM|200=202406|205=30|54=1|60=20240102-10:00:00|38=1|40=1|47=A|",
-            b"11=A1|21=1|55=IBM|200=202406|541=20240630|54=1|60=20240102-10:00:00|38=1|40=1|528=A|"),
+            b"11=A1|21=1|55=IBM|200=202406|541=20240630|54=1|60=20240102-10:00:00|38=1|40=1|\
+528=A|"),
         // MaxFloor and MinQty; fields in the order of their tags, as QuickFIX writes them
         (b"D", b"11=A1|21=3|38=0100.0|40=2|44=10.5|54=1|55=IBM|58=a note|59=0|\
 60=20240102-10:00:00.123|110=10|111=20|",
@@ -258,8 +274,8 @@ fn requests_go_up(rt: HostRuntime) -> Result<(), Fail> {
 
 /// Requests as other engines write them, and as the venue takes them; `|` stands for SOH. QuickFIX
 /// (C++) and QuickFIX/J write header and body in the order of the tags, the second with groups at
-/// the end. Fix8 writes them in the order of the standard, amounts with two decimals. What the venue
-/// takes was made from docs/REQUESTS.md, and not by the program.
+/// the end. Fix8 writes them in the order of the standard, amounts with two decimals. What the
+/// venue takes was made from docs/REQUESTS.md, and not by the program.
 #[rattlefmt::skip]
 const FOREIGN: [(&str, &[u8], &[u8]); 7] = [
     ("QuickFIX, D",
@@ -483,7 +499,8 @@ fn a_status_has_a_code_and_a_line(rt: HostRuntime) -> Result<(), Fail> {
             Status::Refused { at: 143 },
             1,
             "refused at 143",
-            "refused: a piece of the input is garbled, unfinished, at fault or has no counterpart; its\n      place is printed",
+            "refused: a piece of the input is garbled, unfinished, at fault, too long,\n      \
+not supported or has no counterpart; its place is printed",
         ),
         (
             Status::Usage,

@@ -19,7 +19,7 @@ use Rattle.message_tables.specs.Content.{content, cell_fields, line_fields, grou
 use Rattle.message_tables.specs.Content.{item_fields}
 use Rattle.field_groups.proofs.Plain.{plain_again}
 use Rattle.row_values.specs.Kinds as row_kinds
-use Rattle.dict_fix50.specs.Message.{table}
+use Rattle.rows_fix50.specs.Header.{table}
 use Rattle.request_translate.specs.Sound.{IsClear, AreSaid, IsLine, IsItem}
 use Rattle.request_translate.specs.Translation.{type_of, carried, carried_field, up_fields}
 use Rattle.request_translate.specs.Translation.{IsRequest}

@@ -6,7 +6,8 @@ use Rattle.typed_fields.specs.MonthYear.{month_year_text}
 use Rattle.typed_fields.specs.declared.month_year.MonthYear.{MonthYear}
 use Rattle.order_meaning.specs.declared.party.PartyLine.{PartyLine}
 use Rattle.order_meaning.specs.declared.party.Three.{Three}
-use Rattle.dict_fix50.specs.Message.{month_by}
+use Rattle.rows_fix50.specs.Header.{month_by}
+use Rattle.rows_fix50.specs.Meaning as meaning50
 use Rattle.dict_fix50.specs.Requests as requests50
 use Rattle.dict_fix50.specs.Said as said50
 use Rattle.dict_fix42.specs.declared.requests.New42.{New42}
@@ -35,6 +36,7 @@ use Rattle.request_translate.proofs.SoundUp.{replace_whole, status_whole, new_da
 use Rattle.request_translate.proofs.SoundUp.{replace_day, status_day}
 use Rattle.row_values.specs.Writing as row_parts
 use Rattle.row_values.specs.Lines as row_lines
+use Rattle.request_translate.proofs.SoundUp.{new_alike, cancel_alike, replace_alike, status_alike}
 
 -- the month is that of the date
 month_is : (maturity : Option Maturity) →
@@ -55,28 +57,30 @@ month_is (Some m) = by m.month m.day
 parties_are : (client broker firm : Option (List ℕ)) (lines : List PartyLine)
     → lines ≡ parties_up client broker firm →
     map row_lines.party_cells lines
-    ≡ party_lines (said50.id_of 3 lines) (said50.id_of 1 lines) (said50.id_of 4 lines)
+    ≡ party_lines (meaning50.id_of 3 lines) (meaning50.id_of 1 lines) (meaning50.id_of 4 lines)
 parties_are client broker firm lines e =
     let back = there_and_back client broker firm in
-    let first = ap (said50.id_of 3) e ∙ ap (λ (three : Three). three.client) back in
-    let second = ap (said50.id_of 1) e ∙ ap (λ (three : Three). three.broker) back in
-    let third = ap (said50.id_of 4) e ∙ ap (λ (three : Three). three.firm) back in
+    let first = ap (meaning50.id_of 3) e ∙ ap (λ (three : Three). three.client) back in
+    let second = ap (meaning50.id_of 1) e ∙ ap (λ (three : Three). three.broker) back in
+    let third = ap (meaning50.id_of 4) e ∙ ap (λ (three : Three). three.firm) back in
     ap (map row_lines.party_cells) e ∙ (λ i. party_lines (sym first i) (sym second i) (sym third i))
 
 two_parties_are : (client broker : Option (List ℕ)) (lines : List PartyLine)
     → lines ≡ parties_up client broker None →
-    map row_lines.party_cells lines ≡ party_lines (said50.id_of 3 lines) (said50.id_of 1 lines) None
+    map row_lines.party_cells lines
+    ≡ party_lines (meaning50.id_of 3 lines) (meaning50.id_of 1 lines) None
 two_parties_are client broker lines e =
     let back = there_and_back client broker None in
-    let first = ap (said50.id_of 3) e ∙ ap (λ (three : Three). three.client) back in
-    let second = ap (said50.id_of 1) e ∙ ap (λ (three : Three). three.broker) back in
+    let first = ap (meaning50.id_of 3) e ∙ ap (λ (three : Three). three.client) back in
+    let second = ap (meaning50.id_of 1) e ∙ ap (λ (three : Three). three.broker) back in
     ap (map row_lines.party_cells) e ∙ (λ i. party_lines (sym first i) (sym second i) None)
 
 pub new_kept : (msg : Msg42) (m : New42) (w : New50)
     → msg ≡ messages.New m → IsSound42 msg → IsNew m w →
     sense50.request50 (said50.new_says w) ≡ sense42.request42 (said42.says msg)
 new_kept msg m w is s written =
-    ap (λ (r : Request). Some r) (new_means m w written (new_day m (new_whole msg m is s)))
+    ap (λ (r : Request). Some r) (new_means m w written
+    (new_day m (new_whole msg m is s)) (new_alike m w written))
     ∙ ap (λ (x : Msg42). sense42.request42 (said42.says x)) (sym is)
 
 pub new_canonical : (msg : Msg42) (m : New42) (w : New50)
@@ -92,7 +96,8 @@ pub cancel_kept : (msg : Msg42) (m : Cancel42) (w : Cancel50)
     → msg ≡ messages.Cancel m → IsSound42 msg → IsCancel m w →
     sense50.request50 (said50.cancel_says w) ≡ sense42.request42 (said42.says msg)
 cancel_kept msg m w is s written =
-    ap (λ (r : Request). Some r) (cancel_means m w written (cancel_day m (cancel_whole msg m is s)))
+    ap (λ (r : Request). Some r) (cancel_means m w written
+    (cancel_day m (cancel_whole msg m is s)) (cancel_alike m w written))
     ∙ ap (λ (x : Msg42). sense42.request42 (said42.says x)) (sym is)
 
 pub cancel_canonical : (msg : Msg42) (m : Cancel42) (w : Cancel50)
@@ -109,7 +114,8 @@ pub replace_kept : (msg : Msg42) (m : Replace42) (w : Replace50)
     sense50.request50 (said50.replace_says w) ≡ sense42.request42 (said42.says msg)
 replace_kept msg m w is s written =
     ap (λ (r : Request). Some r)
-    (replace_means m w written (replace_day m (replace_whole msg m is s)))
+    (replace_means m w written
+    (replace_day m (replace_whole msg m is s)) (replace_alike m w written))
     ∙ ap (λ (x : Msg42). sense42.request42 (said42.says x)) (sym is)
 
 pub replace_canonical : (msg : Msg42) (m : Replace42) (w : Replace50)
@@ -125,7 +131,8 @@ pub status_kept : (msg : Msg42) (m : Status42) (w : Status50)
     → msg ≡ messages.Status m → IsSound42 msg → IsStatus m w →
     sense50.request50 (said50.status_says w) ≡ sense42.request42 (said42.says msg)
 status_kept msg m w is s written =
-    ap (λ (r : Request). Some r) (status_means m w written (status_day m (status_whole msg m is s)))
+    ap (λ (r : Request). Some r) (status_means m w written
+    (status_day m (status_whole msg m is s)) (status_alike m w written))
     ∙ ap (λ (x : Msg42). sense42.request42 (said42.says x)) (sym is)
 
 pub status_canonical : (msg : Msg42) (m : Status42) (w : Status50)

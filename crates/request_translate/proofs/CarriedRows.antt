@@ -2,7 +2,8 @@
 -- 5.0 SP2 may say too, over any two tables.
 use Rattle.std.proofs.Common.{◌≡◌, ℕ, List, [], ◌∷◌, ◌++◌, map, Bool, true, false, refl}
 use Rattle.std.proofs.Common.{sym, subst}
-use Rattle.std.specs.Prelude.{◌&&◌, ◌==◌, if◌then◌else◌}
+use Rattle.std.proofs.lemmas.Bool.{eqb-true}
+use Rattle.std.specs.Prelude.{◌||◌, ◌&&◌, ◌==◌, if◌then◌else◌}
 use Rattle.std.specs.List.{AllByRecursion, list_all}
 use Rattle.field_groups.specs.Field.{Field}
 use Rattle.message_tables.specs.Tables.{Need, Required, Optional, Lenient, Fixed, When, Row, Item}
@@ -17,7 +18,7 @@ use Rattle.request_translate.proofs.Carry.{required_said, optional_said, lenient
 -- ---- a row of FIX 4.2 as the row of FIX 5.0 SP2 that says the same
 
 -- MaxFloor (111) is DisplayQty (1138)
-abbrev up_tag : ℕ → ℕ
+abbrev pub up_tag : ℕ → ℕ
 up_tag tag = if tag == 111 then 1138 else tag
 
 -- a code or word that may be missing is dropped where it is outside the profile
@@ -47,8 +48,38 @@ is_plain Required = true
 is_plain Optional = true
 is_plain need = false
 
+-- THE TAGS at which both versions say alike, as FIX 4.2 has them
+abbrev pub alike_tags : List ℕ
+alike_tags =
+    11 ∷ 41 ∷ 37 ∷ 1 ∷ 63 ∷ 64 ∷ 21 ∷ 18 ∷ 110 ∷ 111 ∷ 100 ∷ 55 ∷ 65 ∷ 48 ∷ 22 ∷ 167 ∷ 207 ∷ 54
+    ∷ 114 ∷ 60 ∷ 38 ∷ 44 ∷ 99 ∷ 15 ∷ 168 ∷ 432 ∷ 126 ∷ 77 ∷ 58 ∷ []
+
+-- what a request of FIX 5.0 SP2 says there is what one of FIX 4.2 says
+abbrev pub SaysAlike : Message → Message → Type 0
+SaysAlike m w = map (λ tag. said_at w.cells (Tag (up_tag tag))) alike_tags
+    ≡ map (λ tag. said_at m.cells (Tag tag)) alike_tags
+
+same_at : (f g : ℕ → Said) (tags : List ℕ) → map f tags ≡ map g tags
+    → (tag : ℕ) → is_one_of tags tag ≡ true → f tag ≡ g tag
+same_at f g [] e tag there = absurd cc
+same_at f g (t ∷ tags) e tag there =
+    let here : f t ≡ g t = cc in
+    let rest : map f tags ≡ map g tags = cc in
+    by (t == tag) refl here there (λ later. same_at f g tags rest tag later)
+  where
+    by : (b : Bool) → (t == tag) ≡ b → f t ≡ g t → (b || is_one_of tags tag) ≡ true
+        → (is_one_of tags tag ≡ true → f tag ≡ g tag) → f tag ≡ g tag
+    by true e here there later =
+        let P : ℕ → Type 0 = λ x. f x ≡ g x in subst P (eqb-true t tag e) here
+    by false e here there later = later there
+
+pub alike_at : (m w : Message) → SaysAlike m w → (tag : ℕ) → is_one_of alike_tags tag ≡ true
+    → said_at w.cells (Tag (up_tag tag)) ≡ said_at m.cells (Tag tag)
+alike_at m w alike tag there = same_at (λ t. said_at w.cells (Tag (up_tag t)))
+    (λ t. said_at m.cells (Tag t)) alike_tags alike tag there
+
 abbrev can_go_up : Row Kind → Bool
-can_go_up row = is_value row.kind && is_plain row.need
+can_go_up row = is_value row.kind && (is_plain row.need && is_one_of alike_tags row.tag)
 
 module _ (fields42 fields50 : List Field) where
   value_up : (tag tag50 : ℕ) (kind : ValueKind) (coded : Bool) (need : Need) (said : Said)
@@ -70,7 +101,9 @@ module _ (fields42 fields50 : List Field) where
   row_up : (row : Row Kind) (said : Said) → can_go_up row ≡ true
       → IsSaid judge fields42 row said → IsSaid judge fields50 (up_row row) said
   row_up row said ok h =
-      let p = both (is_value row.kind) (is_plain row.need) ok in by row.kind p.0 p.1 h
+      let p = both (is_value row.kind) (is_plain row.need && is_one_of alike_tags row.tag) ok in
+      let q = both (is_plain row.need) (is_one_of alike_tags row.tag) p.1 in
+      by row.kind p.0 q.0 h
     where
       by : (kind : Kind) → is_value kind ≡ true → is_plain row.need ≡ true
           → IsSaid judge fields42 (record { tag = row.tag; kind = kind; need = row.need }) said
@@ -172,44 +205,34 @@ apart42 = 109 ∷ 76 ∷ 439 ∷ 200 ∷ 205 ∷ 40 ∷ 59 ∷ 47 ∷ []
 abbrev pub apart50 : List ℕ
 apart50 = 200 ∷ 541 ∷ 40 ∷ 59 ∷ 528 ∷ []
 
--- what is said at the rows of FIX 4.2, and at those of FIX 5.0 SP2 that stand for them
-abbrev pub said42 : List (Item Kind) → Message → List Said
-said42 items m = map (λ row. said_at m.cells (Tag row.tag)) (carried apart42 items)
-
-abbrev pub said50 : List (Item Kind) → Message → List Said
-said50 items w = map (λ row. said_at w.cells (Tag (up_tag row.tag))) (carried apart42 items)
-
 -- tables that have the same rows
 pub record GoUp (items42 items50 : List (Item Kind)) : Type 0 where
   pub plain : list_all can_go_up (carried apart42 items42) ≡ true
   pub same : carried apart50 items50 ≡ map up_row (carried apart42 items42)
 
-module _ (fields42 fields50 : List Field) (m w : Message) where
+module _ (fields42 fields50 : List Field) (m w : Message) (alike : SaysAlike m w) where
   rows_up : (rows : List (Row Kind)) → list_all can_go_up rows ≡ true
-      → map (λ row. said_at w.cells (Tag (up_tag row.tag))) rows
-      ≡ map (λ row. said_at m.cells (Tag row.tag)) rows
       → AllByRecursion (λ row. IsSaid judge fields42 row (said_at m.cells (Tag row.tag))) rows
       → AllByRecursion (λ row. IsSaid judge fields50 row (said_at w.cells (Tag row.tag)))
       (map up_row rows)
-  rows_up [] ok same h = tt
-  rows_up (row ∷ rows) ok same h =
+  rows_up [] ok h = tt
+  rows_up (row ∷ rows) ok h =
       let p = both (can_go_up row) (list_all can_go_up rows) ok in
-      let here : said_at w.cells (Tag (up_tag row.tag)) ≡ said_at m.cells (Tag row.tag) = cc in
-      let rest : map (λ r. said_at w.cells (Tag (up_tag r.tag))) rows
-      ≡ map (λ r. said_at m.cells (Tag r.tag)) rows = cc in
+      let q = both (is_value row.kind) (is_plain row.need && is_one_of alike_tags row.tag) p.0 in
+      let there = (both (is_plain row.need) (is_one_of alike_tags row.tag) q.1).1 in
       let P : Said → Type 0 = λ said. IsSaid judge fields50 (up_row row) said in (
-        subst P (sym here) (row_up fields42 fields50 row (said_at m.cells (Tag row.tag)) p.0 h.0),
-        rows_up rows p.1 rest h.1,
+        subst P (sym (alike_at m w alike row.tag there))
+            (row_up fields42 fields50 row (said_at m.cells (Tag row.tag)) p.0 h.0),
+        rows_up rows p.1 h.1,
       )
 
-  -- THE ITEMS of FIX 5.0 SP2, where the rows that both have say the same
-  pub items_up : (items42 items50 : List (Item Kind))
-      → GoUp items42 items50 → said50 items42 w ≡ said42 items42 m
+  -- THE ITEMS of FIX 5.0 SP2, where both versions say alike
+  pub items_up : (items42 items50 : List (Item Kind)) → GoUp items42 items50
       → AllByRecursion (IsItem judge fields42 m) items42
       → AllByRecursion (IsItem judge fields50 w) (others apart50 items50)
       → AllByRecursion (IsItem judge fields50 w) items50
-  items_up items42 items50 tables said sound apart =
+  items_up items42 items50 tables sound apart =
       let P : List (Row Kind) → Type 0 = λ rows. AllByRecursion (RowSaid apart50 fields50 w) rows in
       put_back apart50 fields50 w items50 (subst P (sym tables.same)
-      (rows_up (carried apart42 items42) tables.plain said
+      (rows_up (carried apart42 items42) tables.plain
       (carried_of apart42 fields42 m items42 sound))) apart

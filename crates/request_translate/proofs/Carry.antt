@@ -30,7 +30,7 @@ use Rattle.row_values.specs.Kinds as row_kinds
 use Rattle.row_values.specs.Kinds.{Kind, Value, Byte, DayOf, MonthBeside, TimeBeside, judge}
 use Rattle.row_values.specs.Kinds.{verdict_of, month_at, in_month, counted, is_at_close}
 use Rattle.row_values.specs.Kinds.{month_beside, month_in_date, filled, date_at, if_spelled}
-use Rattle.dict_fix50.specs.Said as said50
+use Rattle.rows_fix50.specs.Meaning as meaning50
 use Rattle.row_values.specs.declared.lines.Maturity.{Maturity}
 use Rattle.order_meaning.specs.declared.party.PartyLine.{PartyLine}
 use Rattle.party_translate.specs.Parties.{parties_of}
@@ -438,9 +438,9 @@ parties_said (Some client) (Some broker) (Some firm) c b f =
 
 -- what the lines say of the parties of the roles is their ids
 pub record RolesSaid (lines : List PartyLine) : Type 0 where
-  pub client : said50.id_of 3 lines ≡ party_in 3 (map row_lines.party_cells lines)
-  pub broker : said50.id_of 1 lines ≡ party_in 1 (map row_lines.party_cells lines)
-  pub firm : said50.id_of 4 lines ≡ party_in 4 (map row_lines.party_cells lines)
+  pub client : meaning50.id_of 3 lines ≡ party_in 3 (map row_lines.party_cells lines)
+  pub broker : meaning50.id_of 1 lines ≡ party_in 1 (map row_lines.party_cells lines)
+  pub firm : meaning50.id_of 4 lines ≡ party_in 4 (map row_lines.party_cells lines)
 
 pub roles_said : (client broker firm : Option (List ℕ))
     → RolesSaid (parties_of (record { client = client; broker = broker; firm = firm }))

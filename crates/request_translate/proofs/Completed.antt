@@ -7,7 +7,7 @@ use Rattle.std.proofs.lemmas.Bool.{eqb-true}
 use Rattle.message_tables.specs.Tables.{Item, Message, Cell, Said, Place, Tag, Role, is_place}
 use Rattle.message_tables.specs.Tables.{said_at}
 use Rattle.row_values.specs.Kinds.{Kind}
-use Rattle.dict_fix50.specs.Message.{completed, month_by}
+use Rattle.rows_fix50.specs.Header.{completed, month_by}
 use Rattle.request_translate.specs.Sound.{places_of}
 use Rattle.request_translate.specs.Canonical.{IsCanonical}
 use Rattle.request_translate.proofs.Lookups.{places_apart, cells_said}

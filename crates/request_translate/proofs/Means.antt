@@ -1,27 +1,29 @@
 -- What is written row by row in FIX 5.0 SP2 means what the request of FIX 4.2 meant.
 use Rattle.std.proofs.Common.{◌≡◌, ℕ, List, [], ap, ◌∙◌, map, Bool, Option, Some, None, option_map}
-use Rattle.std.proofs.Common.{option_and_then, refl, sym}
+use Rattle.std.proofs.Common.{option_and_then, refl, sym, true}
 use Rattle.typed_fields.specs.declared.dec.Dec.{Dec as DecValue}
-use Rattle.typed_fields.specs.declared.stamp.Stamp.{Stamp as StampValue}
 use Rattle.typed_fields.specs.declared.flag.Flag.{Flag as FlagValue}
 use Rattle.typed_fields.specs.Dec.{dec_text}
-use Rattle.typed_fields.specs.Day.{day_text}
-use Rattle.typed_fields.specs.Stamp.{stamp_text}
 use Rattle.typed_fields.specs.Flag.{flag_text}
 use Rattle.typed_fields.specs.Digits.{zero_padded}
 use Rattle.row_values.specs.CodeKinds.{two_digit_text}
 use Rattle.typed_fields.specs.MonthYear.{month_year_text}
 use Rattle.typed_fields.specs.declared.month_year.MonthYear.{MonthYear}
-use Rattle.std.specs.Prelude.{IfSome}
+use Rattle.std.specs.Prelude.{IfSome, unwrap_or}
 use Rattle.std.specs.Str.Parse.{digits_value}
 use Rattle.row_values.specs.declared.lines.Maturity.{Maturity}
-use Rattle.message_tables.specs.Tables.{◌>>=◌, flag_of}
+use Rattle.message_tables.specs.Tables.{◌>>=◌, flag_of, Message, Said, Tag, Role, said_at}
+use Rattle.message_tables.specs.Tables.{lines_of, code_if, code_of, is_one_of}
+use Rattle.request_translate.proofs.CarriedRows.{SaysAlike, alike_tags, up_tag, alike_at}
 use Rattle.order_meaning.specs.declared.Amount.{Amount}
 use Rattle.order_meaning.specs.declared.party.PartyLine.{PartyLine}
 use Rattle.order_meaning.specs.declared.party.Three.{Three}
-use Rattle.order_meaning.specs.Request.{New, Cancel, Replace, Status, OrderType, NeutralMaturity}
+use Rattle.order_meaning.specs.Request.{RequestKind, New, Cancel, Replace, Status, NeutralMaturity}
 use Rattle.party_translate.specs.Parties.{parties_of, three_of}
+use Rattle.row_values.specs.Amounts.{amount_of}
+use Rattle.rows_fix42.specs.Meaning as meaning42
 use Rattle.dict_fix42.specs.Sense as sense42
+use Rattle.rows_fix50.specs.Meaning as meaning50
 use Rattle.dict_fix50.specs.Sense as sense50
 use Rattle.dict_fix42.specs.Said as said42
 use Rattle.dict_fix50.specs.Said as said50
@@ -34,17 +36,17 @@ use Rattle.dict_fix50.specs.declared.requests.Replace50.{Replace50}
 use Rattle.dict_fix42.specs.declared.requests.Status42.{Status42}
 use Rattle.dict_fix50.specs.declared.requests.Status50.{Status50}
 use Rattle.request_translate.proofs.ShortDays.{IsShort, two_number, padded_number}
-use Rattle.request_translate.specs.Written.{coded, IsNew, IsCancel, IsReplace}
+use Rattle.request_translate.specs.Written.{parties_up, coded, IsNew, IsCancel, IsReplace}
 use Rattle.request_translate.specs.Written.{IsStatus}
 use Rattle.row_values.specs.Writing as row_parts
 use Rattle.row_values.specs.Lines as row_lines
 
 abbrev amount_as : Option DecValue → Option Amount
-amount_as d = option_map dec_text d >>= sense42.amount_of
+amount_as d = option_map dec_text d >>= amount_of
 
 -- a maturity of FIX 5.0 SP2, by its two spellings
 abbrev maturity_as : Option Maturity → Option NeutralMaturity
-maturity_as maturity = sense50.maturity_of
+maturity_as maturity = meaning50.maturity_of
     (option_map row_lines.month_text maturity) (option_and_then row_parts.date_text maturity)
 
 dated : (month : MonthYear) (day : ℕ) →
@@ -58,14 +60,14 @@ abbrev pub HasShortDay : Option Maturity → Type 0
 HasShortDay maturity = IfSome (option_and_then (λ m. m.day) maturity) IsShort
 
 same_maturity : (maturity : Option Maturity) → HasShortDay maturity →
-    maturity_as maturity ≡ sense42.maturity_of
+    maturity_as maturity ≡ meaning42.maturity_of
     (option_map row_lines.month_text maturity) (option_and_then row_parts.month_day_text maturity)
 same_maturity None short = refl
 same_maturity (Some m) short = by m.month m.day short
   where
     by : (month : MonthYear) (day : Option ℕ) → IfSome day IsShort →
         maturity_as (Some (record { month = month; day = day }))
-        ≡ sense42.maturity_of (Some (month_year_text month)) (option_map two_digit_text day)
+        ≡ meaning42.maturity_of (Some (month_year_text month)) (option_map two_digit_text day)
     by month None short = refl
     by month (Some day) short =
         dated month day
@@ -88,202 +90,157 @@ there_and_back (Some client) None (Some firm) = refl
 there_and_back (Some client) (Some broker) None = refl
 there_and_back (Some client) (Some broker) (Some firm) = refl
 
-party_is : (role : ℕ) {lines others : List PartyLine}
-    → lines ≡ others → said50.id_of role lines ≡ said50.id_of role others
-party_is role e = ap (said50.id_of role) e
+-- what a request of FIX 5.0 SP2 says beside one of FIX 4.2
+record MeansAlike (m w : Message) : Type 0 where
+  resend : w.resend ≡ m.resend
+  alike : SaysAlike m w
+  client : said_at w.cells (Role 3) ≡ said_at m.cells (Tag 109)
+  broker : said_at w.cells (Role 1) ≡ said_at m.cells (Tag 76)
+  firm : said_at w.cells (Role 4) ≡ said_at m.cells (Tag 439)
+  allocs : lines_of 78 w.groups ≡ lines_of 78 m.groups
+  sessions : lines_of 386 w.groups ≡ lines_of 386 m.groups
+  maturity : meaning50.maturity_of (said_at w.cells (Tag 200)) (said_at w.cells (Tag 541))
+      ≡ meaning42.maturity_of (said_at m.cells (Tag 200)) (said_at m.cells (Tag 205))
+  terms : meaning50.terms_of (code_if w.cells 40) (code_if w.cells 59)
+      ≡ (
+        code_if m.cells 40 >>= meaning42.order_type_of,
+        meaning42.time_of (meaning42.is_on_close (code_if m.cells 40)) (code_if m.cells 59),
+      )
+  capacity : code_if w.cells 528 ≡ code_if m.cells 47
 
-pub new_means : (m : New42) (written : New50) → IsNew m written → HasShortDay m.maturity →
-    sense50.request_of New (said50.new_says written) ≡ sense42.request_of New (said42.new_says m)
-new_means m written w short = λ i. record {
-  kind = New;
-  resend = w.resend i;
-  cl_ord_id = w.cl_ord_id i;
-  orig_id = None;
-  order_id = None;
-  client_id = (party_is 3 w.parties ∙ ap (λ (three : Three). three.client)
-      (there_and_back m.client_id m.exec_broker m.clearing_firm)) i;
-  exec_broker = (party_is 1 w.parties ∙ ap (λ (three : Three). three.broker)
-      (there_and_back m.client_id m.exec_broker m.clearing_firm)) i;
-  clearing_firm = (party_is 4 w.parties ∙ ap
-      (λ (three : Three). three.firm) (there_and_back m.client_id m.exec_broker m.clearing_firm)) i;
-  account = w.account i;
-  allocs = (ap (map sense42.alloc_of) w.allocs) i;
-  settl_type = (ap coded w.settl_type) i;
-  settl_date = (ap (option_map day_text) w.settl_date) i;
-  hand_inst = (ap (λ (code : ℕ). Some code) w.hand_inst) i;
-  exec_inst = w.exec_inst i;
-  min_qty = (ap amount_as w.min_qty) i;
-  max_floor = (ap amount_as w.max_floor) i;
-  ex_destination = w.ex_destination i;
-  sessions = (ap (map sense42.session_of) w.sessions) i;
-  symbol = w.symbol i;
-  symbol_sfx = w.symbol_sfx i;
-  security_id = w.security_id i;
-  id_source = (ap coded w.id_source) i;
-  security_type = w.security_type i;
-  maturity = (ap maturity_as w.maturity ∙ same_maturity m.maturity short) i;
-  security_exchange = w.security_exchange i;
-  side = w.side i;
-  locate = (ap flag_as w.locate) i;
-  transact_time = (ap (λ (time : StampValue). Some (stamp_text time)) w.transact_time) i;
-  order_qty = (ap (λ (d : DecValue). amount_as (Some d)) w.order_qty) i;
-  ord_type = (ap (λ (t : Option OrderType × Option ℕ). t.0) w.terms.on_close.same) i;
-  price = (ap amount_as w.price) i;
-  stop_px = (ap amount_as w.stop_px) i;
-  currency = w.currency i;
-  time_in_force = (ap (λ (t : Option OrderType × Option ℕ). t.1) w.terms.on_close.same) i;
-  effective_time = (ap (option_map stamp_text) w.effective_time) i;
-  expire_date = (ap (option_map day_text) w.expire_date) i;
-  expire_time = (ap (option_map stamp_text) w.expire_time) i;
-  capacity = (ap coded w.terms.capacity) i;
-  open_close = (ap coded w.open_close) i;
-  text = w.text i;
-}
+-- IT MEANS THE SAME.
+module _ (kind : RequestKind) (m w : Message) (h : MeansAlike m w) where
+  at : (tag : ℕ) → is_one_of alike_tags tag ≡ true
+      → said_at w.cells (Tag (up_tag tag)) ≡ said_at m.cells (Tag tag)
+  at tag there = alike_at m w h.alike tag there
 
-pub cancel_means : (m : Cancel42) (written : Cancel50)
-    → IsCancel m written → HasShortDay m.maturity →
-    sense50.request_of Cancel (said50.cancel_says written)
+  means : sense50.request_of kind w ≡ sense42.request_of kind m
+  means = λ i. record {
+    kind = kind;
+    resend = h.resend i;
+    cl_ord_id = unwrap_or (at 11 refl i) [];
+    orig_id = at 41 refl i;
+    order_id = at 37 refl i;
+    client_id = h.client i;
+    exec_broker = h.broker i;
+    clearing_firm = h.firm i;
+    account = at 1 refl i;
+    allocs = map sense42.alloc_of (h.allocs i);
+    settl_type = at 63 refl i >>= code_of;
+    settl_date = at 64 refl i;
+    hand_inst = at 21 refl i >>= code_of;
+    exec_inst = at 18 refl i;
+    min_qty = at 110 refl i >>= amount_of;
+    max_floor = at 111 refl i >>= amount_of;
+    ex_destination = at 100 refl i;
+    sessions = map sense42.session_of (h.sessions i);
+    symbol = unwrap_or (at 55 refl i) [];
+    symbol_sfx = at 65 refl i;
+    security_id = at 48 refl i;
+    id_source = at 22 refl i >>= code_of;
+    security_type = at 167 refl i;
+    maturity = h.maturity i;
+    security_exchange = at 207 refl i;
+    side = unwrap_or (at 54 refl i >>= code_of) 0;
+    locate = option_map flag_of (at 114 refl i);
+    transact_time = at 60 refl i;
+    order_qty = at 38 refl i >>= amount_of;
+    ord_type = (h.terms i).0;
+    price = at 44 refl i >>= amount_of;
+    stop_px = at 99 refl i >>= amount_of;
+    currency = at 15 refl i;
+    time_in_force = (h.terms i).1;
+    effective_time = at 168 refl i;
+    expire_date = at 432 refl i;
+    expire_time = at 126 refl i;
+    capacity = h.capacity i;
+    open_close = at 77 refl i >>= code_of;
+    text = at 58 refl i;
+  }
+
+-- the ids of the parties are those of the lines
+module _ (client broker firm : Said) (lines : List PartyLine)
+    (is : lines ≡ parties_up client broker firm) where
+  client_is : meaning50.id_of 3 lines ≡ client
+  client_is = ap (meaning50.id_of 3) is
+      ∙ ap (λ (three : Three). three.client) (there_and_back client broker firm)
+
+  broker_is : meaning50.id_of 1 lines ≡ broker
+  broker_is = ap (meaning50.id_of 1) is
+      ∙ ap (λ (three : Three). three.broker) (there_and_back client broker firm)
+
+  firm_is : meaning50.id_of 4 lines ≡ firm
+  firm_is = ap (meaning50.id_of 4) is
+      ∙ ap (λ (three : Three). three.firm) (there_and_back client broker firm)
+
+pub new_means : (m : New42) (w : New50) → IsNew m w → HasShortDay m.maturity
+    → SaysAlike (said42.new_says m) (said50.new_says w) →
+    sense50.request_of New (said50.new_says w)
+    ≡ sense42.request_of New (said42.new_says m)
+new_means m w written short alike =
+    means New (said42.new_says m) (said50.new_says w) (record {
+      resend = written.resend;
+      alike = alike;
+      client = client_is m.client_id m.exec_broker m.clearing_firm w.parties written.parties;
+      broker = broker_is m.client_id m.exec_broker m.clearing_firm w.parties written.parties;
+      firm = firm_is m.client_id m.exec_broker m.clearing_firm w.parties written.parties;
+      allocs = written.allocs;
+      sessions = written.sessions;
+      maturity = ap maturity_as written.maturity ∙ same_maturity m.maturity short;
+      terms = written.terms.on_close.same;
+      capacity = ap coded written.terms.capacity;
+    })
+
+pub cancel_means : (m : Cancel42) (w : Cancel50) → IsCancel m w → HasShortDay m.maturity
+    → SaysAlike (said42.cancel_says m) (said50.cancel_says w) →
+    sense50.request_of Cancel (said50.cancel_says w)
     ≡ sense42.request_of Cancel (said42.cancel_says m)
-cancel_means m written w short = λ i. record {
-  kind = Cancel;
-  resend = w.resend i;
-  cl_ord_id = w.cl_ord_id i;
-  orig_id = (ap (λ (id : List ℕ). Some id) w.orig_id) i;
-  order_id = w.order_id i;
-  client_id = (party_is 3 w.parties
-      ∙ ap (λ (three : Three). three.client) (there_and_back m.client_id m.exec_broker None)) i;
-  exec_broker = (party_is 1 w.parties
-      ∙ ap (λ (three : Three). three.broker) (there_and_back m.client_id m.exec_broker None)) i;
-  clearing_firm = None;
-  account = w.account i;
-  allocs = [];
-  settl_type = None;
-  settl_date = None;
-  hand_inst = None;
-  exec_inst = None;
-  min_qty = None;
-  max_floor = None;
-  ex_destination = None;
-  sessions = [];
-  symbol = w.symbol i;
-  symbol_sfx = w.symbol_sfx i;
-  security_id = w.security_id i;
-  id_source = (ap coded w.id_source) i;
-  security_type = w.security_type i;
-  maturity = (ap maturity_as w.maturity ∙ same_maturity m.maturity short) i;
-  security_exchange = w.security_exchange i;
-  side = w.side i;
-  locate = None;
-  transact_time = (ap (λ (time : StampValue). Some (stamp_text time)) w.transact_time) i;
-  order_qty = (ap amount_as w.order_qty) i;
-  ord_type = None;
-  price = None;
-  stop_px = None;
-  currency = None;
-  time_in_force = None;
-  effective_time = None;
-  expire_date = None;
-  expire_time = None;
-  capacity = None;
-  open_close = None;
-  text = w.text i;
-}
+cancel_means m w written short alike =
+    means Cancel (said42.cancel_says m) (said50.cancel_says w) (record {
+      resend = written.resend;
+      alike = alike;
+      client = client_is m.client_id m.exec_broker None w.parties written.parties;
+      broker = broker_is m.client_id m.exec_broker None w.parties written.parties;
+      firm = refl;
+      allocs = refl;
+      sessions = refl;
+      maturity = ap maturity_as written.maturity ∙ same_maturity m.maturity short;
+      terms = refl;
+      capacity = refl;
+    })
 
-pub replace_means : (m : Replace42) (written : Replace50)
-    → IsReplace m written → HasShortDay m.maturity →
-    sense50.request_of Replace (said50.replace_says written)
+pub replace_means : (m : Replace42) (w : Replace50) → IsReplace m w → HasShortDay m.maturity
+    → SaysAlike (said42.replace_says m) (said50.replace_says w) →
+    sense50.request_of Replace (said50.replace_says w)
     ≡ sense42.request_of Replace (said42.replace_says m)
-replace_means m written w short = λ i. record {
-  kind = Replace;
-  resend = w.resend i;
-  cl_ord_id = w.cl_ord_id i;
-  orig_id = (ap (λ (id : List ℕ). Some id) w.orig_id) i;
-  order_id = w.order_id i;
-  client_id = (party_is 3 w.parties ∙ ap (λ (three : Three). three.client)
-      (there_and_back m.client_id m.exec_broker m.clearing_firm)) i;
-  exec_broker = (party_is 1 w.parties ∙ ap (λ (three : Three). three.broker)
-      (there_and_back m.client_id m.exec_broker m.clearing_firm)) i;
-  clearing_firm = (party_is 4 w.parties ∙ ap
-      (λ (three : Three). three.firm) (there_and_back m.client_id m.exec_broker m.clearing_firm)) i;
-  account = w.account i;
-  allocs = (ap (map sense42.alloc_of) w.allocs) i;
-  settl_type = (ap coded w.settl_type) i;
-  settl_date = (ap (option_map day_text) w.settl_date) i;
-  hand_inst = (ap (λ (code : ℕ). Some code) w.hand_inst) i;
-  exec_inst = w.exec_inst i;
-  min_qty = (ap amount_as w.min_qty) i;
-  max_floor = (ap amount_as w.max_floor) i;
-  ex_destination = w.ex_destination i;
-  sessions = (ap (map sense42.session_of) w.sessions) i;
-  symbol = w.symbol i;
-  symbol_sfx = w.symbol_sfx i;
-  security_id = w.security_id i;
-  id_source = (ap coded w.id_source) i;
-  security_type = w.security_type i;
-  maturity = (ap maturity_as w.maturity ∙ same_maturity m.maturity short) i;
-  security_exchange = w.security_exchange i;
-  side = w.side i;
-  locate = (ap flag_as w.locate) i;
-  transact_time = (ap (λ (time : StampValue). Some (stamp_text time)) w.transact_time) i;
-  order_qty = (ap (λ (d : DecValue). amount_as (Some d)) w.order_qty) i;
-  ord_type = (ap (λ (t : Option OrderType × Option ℕ). t.0) w.terms.on_close.same) i;
-  price = (ap amount_as w.price) i;
-  stop_px = (ap amount_as w.stop_px) i;
-  currency = w.currency i;
-  time_in_force = (ap (λ (t : Option OrderType × Option ℕ). t.1) w.terms.on_close.same) i;
-  effective_time = (ap (option_map stamp_text) w.effective_time) i;
-  expire_date = (ap (option_map day_text) w.expire_date) i;
-  expire_time = (ap (option_map stamp_text) w.expire_time) i;
-  capacity = (ap coded w.terms.capacity) i;
-  open_close = (ap coded w.open_close) i;
-  text = w.text i;
-}
+replace_means m w written short alike =
+    means Replace (said42.replace_says m) (said50.replace_says w) (record {
+      resend = written.resend;
+      alike = alike;
+      client = client_is m.client_id m.exec_broker m.clearing_firm w.parties written.parties;
+      broker = broker_is m.client_id m.exec_broker m.clearing_firm w.parties written.parties;
+      firm = firm_is m.client_id m.exec_broker m.clearing_firm w.parties written.parties;
+      allocs = written.allocs;
+      sessions = written.sessions;
+      maturity = ap maturity_as written.maturity ∙ same_maturity m.maturity short;
+      terms = written.terms.on_close.same;
+      capacity = ap coded written.terms.capacity;
+    })
 
-pub status_means : (m : Status42) (written : Status50)
-    → IsStatus m written → HasShortDay m.maturity →
-    sense50.request_of Status (said50.status_says written)
+pub status_means : (m : Status42) (w : Status50) → IsStatus m w → HasShortDay m.maturity
+    → SaysAlike (said42.status_says m) (said50.status_says w) →
+    sense50.request_of Status (said50.status_says w)
     ≡ sense42.request_of Status (said42.status_says m)
-status_means m written w short = λ i. record {
-  kind = Status;
-  resend = w.resend i;
-  cl_ord_id = w.cl_ord_id i;
-  orig_id = None;
-  order_id = w.order_id i;
-  client_id = (party_is 3 w.parties
-      ∙ ap (λ (three : Three). three.client) (there_and_back m.client_id m.exec_broker None)) i;
-  exec_broker = (party_is 1 w.parties
-      ∙ ap (λ (three : Three). three.broker) (there_and_back m.client_id m.exec_broker None)) i;
-  clearing_firm = None;
-  account = w.account i;
-  allocs = [];
-  settl_type = None;
-  settl_date = None;
-  hand_inst = None;
-  exec_inst = None;
-  min_qty = None;
-  max_floor = None;
-  ex_destination = None;
-  sessions = [];
-  symbol = w.symbol i;
-  symbol_sfx = w.symbol_sfx i;
-  security_id = w.security_id i;
-  id_source = (ap coded w.id_source) i;
-  security_type = w.security_type i;
-  maturity = (ap maturity_as w.maturity ∙ same_maturity m.maturity short) i;
-  security_exchange = w.security_exchange i;
-  side = w.side i;
-  locate = None;
-  transact_time = None;
-  order_qty = None;
-  ord_type = None;
-  price = None;
-  stop_px = None;
-  currency = None;
-  time_in_force = None;
-  effective_time = None;
-  expire_date = None;
-  expire_time = None;
-  capacity = None;
-  open_close = None;
-  text = None;
-}
+status_means m w written short alike =
+    means Status (said42.status_says m) (said50.status_says w) (record {
+      resend = written.resend;
+      alike = alike;
+      client = client_is m.client_id m.exec_broker None w.parties written.parties;
+      broker = broker_is m.client_id m.exec_broker None w.parties written.parties;
+      firm = refl;
+      allocs = refl;
+      sessions = refl;
+      maturity = ap maturity_as written.maturity ∙ same_maturity m.maturity short;
+      terms = refl;
+      capacity = refl;
+    })

@@ -11,9 +11,10 @@ use Rattle.message_tables.specs.Tables.{Tag, Said, Message, ◌>>=◌, said_at, 
 use Rattle.message_tables.specs.Tables.{code_of, flag_of}
 use Rattle.message_tables.specs.Content.{content, item_fields, cell_fields, group_fields}
 use Rattle.order_meaning.specs.Request.{Request, RequestKind, New, Cancel, Replace, Status}
-use Rattle.dict_fix50.specs.Message.{table}
+use Rattle.rows_fix50.specs.Header.{table}
 use Rattle.dict_fix50.specs.Requests.{new_order, cancel_request, replace_request, status_request}
-use Rattle.dict_fix50.specs.Sense.{request50, request_of, amount_of}
+use Rattle.dict_fix50.specs.Sense.{request50, request_of}
+use Rattle.row_values.specs.Amounts.{amount_of}
 use Rattle.request_translate.specs.Sound.{IsItem}
 use Rattle.request_translate.specs.Canonical.{party_lines, IsCanonical, HaveOneContent}
 use Rattle.request_translate.proofs.ContentValues.{is_alone, groups_said, value_said}

@@ -16,7 +16,7 @@ use Rattle.dict_fix42.specs.Sense.{request42}
 use Rattle.dict_fix50.specs.Sense.{request50}
 use Rattle.request_translate.specs.declared.translate.TranslateError.{TranslateError}
 use Rattle.request_translate.specs.declared.translate.TranslateError.TheVariants as errors
-use Rattle.dict_fix50.specs.Message.{table}
+use Rattle.rows_fix50.specs.Header.{table}
 use Rattle.dict_fix50.specs.Requests.{new_order, cancel_request, replace_request, status_request}
 use Rattle.message_tables.specs.Tables.{Item}
 use Rattle.message_tables.specs.Content.{content}

@@ -28,7 +28,7 @@ use Rattle.message_tables.specs.FirstFault.{first_fault, message_of}
 use Rattle.message_tables.specs.Content.{content}
 use Rattle.dict_fix42.specs.Message.{message42}
 use Rattle.dict_fix42.specs.Sense.{request42}
-use Rattle.dict_fix50.specs.Message.{table}
+use Rattle.rows_fix50.specs.Header.{table}
 use Rattle.dict_fix50.specs.Requests.{new_order}
 use Rattle.dict_fix50.specs.Sense.{request50}
 use Rattle.request_translate.specs.declared.translate.TranslateError.{TranslateError}

@@ -15,7 +15,7 @@ use Rattle.typed_fields.specs.declared.day.Day.{Day as DayValue}
 use Rattle.typed_fields.specs.Day.{spells_date, day_number}
 use Rattle.typed_fields.specs.Digits.{has_pattern, are_digits}
 use Rattle.typed_fields.proofs.DigitsLemmas.{length-has_pattern, digits_of_pattern}
-use Rattle.dict_fix50.specs.Message.{month_by}
+use Rattle.rows_fix50.specs.Header.{month_by}
 use Rattle.std.specs.Char.{is_ascii_digit}
 use Rattle.std.specs.Int.{IsInRange}
 use Rattle.std.specs.Str.Parse.{digits_value}
@@ -38,7 +38,9 @@ use Rattle.order_meaning.specs.Request.{OrderType, Market, Limit, Stop, StopLimi
 use Rattle.order_meaning.specs.Request.{LimitOnClose, NeutralAlloc, NeutralSession, NeutralMaturity}
 use Rattle.row_values.specs.Kinds.{Value, Byte, TimeBeside, judge, verdict_of, counted, is_at_close}
 use Rattle.row_values.specs.Groups.{allocs, sessions}
-use Rattle.dict_fix50.specs.Sense.{amount_of, alloc_of, session_of, terms_of, day_of, maturity_of}
+use Rattle.dict_fix50.specs.Sense.{alloc_of, session_of}
+use Rattle.row_values.specs.Amounts.{amount_of}
+use Rattle.rows_fix50.specs.Meaning.{terms_of, day_of, maturity_of}
 use Rattle.request_translate.specs.Sound.{IsLine}
 
 -- ---- texts

@@ -26,13 +26,14 @@ use Rattle.message_tables.specs.FirstFault.{wrong, beyond, allowed, mark_of}
 use Rattle.message_tables.specs.Content.{content, cell_fields, item_fields}
 use Rattle.order_meaning.specs.Request.{Request, RequestKind, New, Cancel, Replace, Status}
 use Rattle.row_values.specs.Kinds as row_kinds
+use Rattle.rows_fix42.specs.Header as header42
 use Rattle.dict_fix42.specs.Message as read42
 use Rattle.dict_fix42.specs.Requests as requests42
 use Rattle.dict_fix42.specs.Sense.{sense42, request42}
 use Rattle.row_values.specs.Kinds.{Kind, Value, Byte, DayOf, MonthBeside, TimeBeside, Version}
 use Rattle.row_values.specs.Kinds.{judge, verdict_of, filled, month_beside, is_at_close, counted}
 use Rattle.dict_fix50.specs.Message as read50
-use Rattle.dict_fix50.specs.Message.{table, header, completed, month_by}
+use Rattle.rows_fix50.specs.Header.{table, header, completed, month_by}
 use Rattle.dict_fix50.specs.Requests.{new_order, cancel_request, replace_request, status_request}
 use Rattle.dict_fix50.specs.Sense.{sense50, request50}
 use Rattle.request_translate.specs.Sound.{IsClear, IsSaid, IsItem, IsSound, places_of}
@@ -426,10 +427,10 @@ spells_own kind v tag (Ok None) own e w b = absurd cc
 spells_own kind v tag (Err fault) own e w b = absurd cc
 
 module _ (letter : ℕ) (items : List (Item Kind))
-    (fields : List Field) (good : first_fault judge (read42.table letter items) fields ≡ None)
+    (fields : List Field) (good : first_fault judge (header42.table letter items) fields ≡ None)
     (clear : AllByRecursion (IsClearField judge) fields) where
   abbrev table42 : Table Kind
-  table42 = read42.table letter items
+  table42 = header42.table letter items
 
   head_own : (kind : ValueKind) (tag : ℕ) → is_own kind ≡ true → is_data_tag tag ≡ false
       → row_at tag (all_rows table42) ≡ Some (row_kinds.row Optional tag kind) →
@@ -489,7 +490,7 @@ module _ (msg_type : List ℕ) (fields : List Field) (x r : Message) (is_type : 
     -- one of the four tables of each version
     one_table : (letter letter42 : ℕ) (items items42 : List (Item Kind))
         → list_all ok_item items ≡ true → table_fits (table letter items) front ≡ true
-        → IsCanonical letter items r → Read42 (read42.table letter42 items42) fields x
+        → IsCanonical letter items r → Read42 (header42.table letter42 items42) fields x
         → resend_in (request50 r) ≡ Some r.resend → resend_in (request42 x) ≡ Some x.resend →
         result_ok (told50 (message_of judge (table letter items) (up_fields_of
         msg_type fields (content (table letter items) r)))) >>= request50 ≡ request42 x
@@ -514,14 +515,14 @@ module _ (msg_type : List ℕ) (fields : List Field) (x r : Message) (is_type : 
         → table_fits (table (letter_asked kind) (items_asked kind)) front ≡ true
         → IsAskedBy kind letter42
         → ((y : Message) → y.letter ≡ letter_asked kind → resend_in (request50 y) ≡ Some y.resend)
-        → row_faults.told (message_of judge (read42.table letter42 items42) fields) ≡ Ok x
+        → row_faults.told (message_of judge (header42.table letter42 items42) fields) ≡ Ok x
         → (written : List Field) → IsRequest r written →
         result_ok (told50 (message_of judge (table (letter_asked kind) (items_asked kind))
         (up_fields_of msg_type fields written))) >>= request50 ≡ request42 x
     unfolding IsAskedBy
     one_kind kind letter42 items42 ok fit asked mine e written request =
         let t = table (letter_asked kind) (items_asked kind) in
-        let read = read_of (read42.table letter42 items42) fields x e in
+        let read = read_of (header42.table letter42 items42) fields x e in
         let theirs = asked x (ap (λ (y : Message). y.letter) (sym read.is)) in
         let kinds_are : Some (kind_in request) ≡ Some kind = sym (kind_is r written request)
         ∙ ap (option_map (λ (q : Request). q.kind)) means ∙ theirs.0 in
@@ -530,15 +531,16 @@ module _ (msg_type : List ℕ) (fields : List Field) (x r : Message) (is_type : 
         let of : IsOfKind r written kind = subst Q same (of_kind r written request) in
         let P : List Field → Type 0 = λ fs. result_ok (told50
         (message_of judge t (up_fields_of msg_type fields fs))) >>= request50 ≡ request42 x in
-        subst P (sym of.is) (one_table (letter_asked kind) letter42 (items_asked kind) items42 ok fit
+        subst P (sym of.is)
+        (one_table (letter_asked kind) letter42 (items_asked kind) items42 ok fit
         of.canonical read (mine r of.canonical.sound.letter) theirs.1)
 
     -- A REQUEST IS READ AGAIN with the sense that it had.
     again_by : (written : List Field) → IsRequest r written → (d f g h : Bool)
-        → row_faults.message_by (if d then Some (read42.table 68 requests42.new_order)
-        else (if f then Some (read42.table 70 requests42.cancel_request)
-        else (if g then Some (read42.table 71 requests42.replace_request)
-        else (if h then Some (read42.table 72 requests42.status_request) else None))))
+        → row_faults.message_by (if d then Some (header42.table 68 requests42.new_order)
+        else (if f then Some (header42.table 70 requests42.cancel_request)
+        else (if g then Some (header42.table 71 requests42.replace_request)
+        else (if h then Some (header42.table 72 requests42.status_request) else None))))
         fields None ≡ Ok x →
         result_ok (read50.message50_by
         (if d then Some (table 68 new_order) else (if f then Some (table 70 cancel_request)

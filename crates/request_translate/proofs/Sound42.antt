@@ -26,7 +26,8 @@ use Rattle.message_tables.proofs.Few.{IsPlain}
 use Rattle.field_groups.proofs.Plain.{is_plain}
 use Rattle.row_values.specs.Kinds.{Kind, Value, Byte, DayOf, MonthBeside, TimeBeside, Version}
 use Rattle.row_values.specs.Kinds.{judge, verdict_of, month_at, in_month}
-use Rattle.dict_fix42.specs.Message.{message42, table}
+use Rattle.dict_fix42.specs.Message.{message42}
+use Rattle.rows_fix42.specs.Header.{table}
 use Rattle.row_values.specs.Faults.{message_by, told}
 use Rattle.dict_fix42.specs.Requests.{new_order, cancel_request, replace_request, status_request}
 use Rattle.row_values.specs.Groups.{allocs, sessions}

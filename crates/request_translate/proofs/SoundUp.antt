@@ -19,9 +19,10 @@ use Rattle.message_tables.specs.Tables.{Message, Tag, said_at, Said, Spells, val
 use Rattle.message_tables.specs.Tables.{groups_of}
 use Rattle.message_tables.specs.Content.{content}
 use Rattle.order_meaning.specs.declared.party.PartyLine.{PartyLine}
-use Rattle.dict_fix42.specs.Message.{table as table42}
-use Rattle.dict_fix50.specs.Message.{table as table50}
+use Rattle.rows_fix42.specs.Header.{table as table42}
+use Rattle.rows_fix50.specs.Header.{table as table50}
 use Rattle.dict_fix42.specs.Requests as requests42
+use Rattle.rows_fix50.specs.Meaning as meaning50
 use Rattle.dict_fix50.specs.Requests as requests50
 use Rattle.dict_fix42.specs.Said as said42
 use Rattle.dict_fix50.specs.Said as said50
@@ -43,8 +44,8 @@ use Rattle.request_translate.specs.Written.{parties_up, is_type42, IsTime42}
 use Rattle.request_translate.proofs.ContentValues.{groups_said, value_said, is_alone, GroupSaid}
 use Rattle.request_translate.proofs.Carry as carry
 use Rattle.request_translate.proofs.Carry.{party_id, RolesSaid, roles_said}
-use Rattle.request_translate.proofs.CarriedRows as rows
-use Rattle.request_translate.proofs.CarriedRows.{GoUp, apart50, others, apart42, others_of}
+use Rattle.request_translate.proofs.CarriedRows.{SaysAlike, GoUp, apart50, others, apart42}
+use Rattle.request_translate.proofs.CarriedRows.{others_of}
 use Rattle.request_translate.proofs.CarriedRows.{items_up}
 use Rattle.request_translate.proofs.Means.{HasShortDay}
 use Rattle.std.specs.List.{AllByRecursion, flat_map}
@@ -120,7 +121,7 @@ PartiesSaid lines = IsGroup judge row_groups.parties (map row_lines.party_cells 
 
 abbrev RoleSaid : ℕ → List PartyLine → Type 0
 RoleSaid role lines =
-    said50.id_of role lines ≡ party_in role (map row_lines.party_cells lines)
+    meaning50.id_of role lines ≡ party_in role (map row_lines.party_cells lines)
 
 module _ (fields : List Field) (maturity : Option Maturity) where
   -- the rows of the maturity, in both versions
@@ -293,10 +294,6 @@ module _ (t : Tables) where
   abbrev Groups50 : Message → Type 0
   Groups50 w = AllByRecursion (GroupSaid judge w) (flat_map groups_of t.items50)
 
-  -- what w says where both versions say alike is what m says there
-  abbrev SaysAlike : Message → Message → Type 0
-  SaysAlike m w = rows.said50 t.items42 w ≡ rows.said42 t.items42 m
-
   apart_of : (m : Message) → IsSoundIn42 m
       → AllByRecursion (IsItem judge (fields_of42 m) m) (others apart42 t.items42)
   apart_of m s = others_of apart42 (fields_of42 m) m t.items42 s.items
@@ -315,7 +312,7 @@ module _ (t : Tables) where
       → AllByRecursion (IsItem judge (fields_of50 w) w) (others apart50 t.items50)
       → AllByRecursion (IsItem judge (fields_of50 w) w) t.items50
   items_sound m w tables alike s apart =
-      items_up (fields_of42 m) (fields_of50 w) m w t.items42 t.items50 tables alike s.items apart
+      items_up (fields_of42 m) (fields_of50 w) m w alike t.items42 t.items50 tables s.items apart
 
 -- ---- a new order
 
@@ -344,10 +341,11 @@ new_time m s = order_time m.maturity m.time_in_force m.capacity (new_rows m s)
 pub new_day : (m : New42) → SoundNew42 m → HasShortDay m.maturity
 new_day m s = order_day m.maturity m.time_in_force m.capacity (new_rows m s)
 
-new_says : (m : New42) (w : New50) → IsNew m w
-    → SaysAlike new_tables (said42.new_says m) (said50.new_says w)
-new_says m w written = λ i.
+pub new_alike : (m : New42) (w : New50) → IsNew m w
+    → SaysAlike (said42.new_says m) (said50.new_says w)
+new_alike m w written = λ i.
     Some (written.cl_ord_id i) ∷
+    None ∷ None ∷
     written.account i ∷
     option_map code_text (written.settl_type i) ∷
     option_map day_text (written.settl_date i) ∷
@@ -386,7 +384,7 @@ new_sound m w written s =
     let apart = order_items (new_rows m s) written.parties written.allocs written.sessions
     written.maturity written.terms at200 (at50 t there 541 refl) (at50 t there 40 refl) in
     let tables : GoUp t.items42 t.items50 = record { plain = refl; same = refl } in
-    let items = items_sound t here there tables (new_says m w written) s apart in
+    let items = items_sound t here there tables (new_alike m w written) s apart in
     record { letter = refl; places = refl; counts = refl; items = items }
 
 -- ---- a request to cancel
@@ -409,13 +407,14 @@ cancel_rows m s = apart_of cancel_tables (said42.cancel_says m) s
 pub cancel_day : (m : Cancel42) → SoundCancel42 m → HasShortDay m.maturity
 cancel_day m s = refer_day m.maturity (cancel_rows m s)
 
-cancel_says : (m : Cancel42) (w : Cancel50) → IsCancel m w
-    → SaysAlike cancel_tables (said42.cancel_says m) (said50.cancel_says w)
-cancel_says m w written = λ i.
+pub cancel_alike : (m : Cancel42) (w : Cancel50) → IsCancel m w
+    → SaysAlike (said42.cancel_says m) (said50.cancel_says w)
+cancel_alike m w written = λ i.
     Some (written.cl_ord_id i) ∷
     Some (written.orig_id i) ∷
     written.order_id i ∷
     written.account i ∷
+    None ∷ None ∷ None ∷ None ∷ None ∷ None ∷ None ∷
     Some (written.symbol i) ∷
     written.symbol_sfx i ∷
     written.security_id i ∷
@@ -423,8 +422,10 @@ cancel_says m w written = λ i.
     written.security_type i ∷
     written.security_exchange i ∷
     Some (code_text (written.side i)) ∷
+    None ∷
     Some (stamp_text (written.transact_time i)) ∷
     option_map dec_text (written.order_qty i) ∷
+    None ∷ None ∷ None ∷ None ∷ None ∷ None ∷ None ∷
     written.text i ∷
     []
 
@@ -438,7 +439,7 @@ cancel_sound m w written s =
     let apart = refer_items (cancel_rows m s) written.parties written.maturity
     at200 (at50 t there 541 refl) in
     let tables : GoUp t.items42 t.items50 = record { plain = refl; same = refl } in
-    let items = items_sound t here there tables (cancel_says m w written) s apart in
+    let items = items_sound t here there tables (cancel_alike m w written) s apart in
     record { letter = refl; places = refl; counts = refl; items = items }
 
 -- ---- a request to replace
@@ -468,9 +469,9 @@ replace_time m s = order_time m.maturity m.time_in_force m.capacity (replace_row
 pub replace_day : (m : Replace42) → SoundReplace42 m → HasShortDay m.maturity
 replace_day m s = order_day m.maturity m.time_in_force m.capacity (replace_rows m s)
 
-replace_says : (m : Replace42) (w : Replace50) → IsReplace m w
-    → SaysAlike replace_tables (said42.replace_says m) (said50.replace_says w)
-replace_says m w written = λ i.
+pub replace_alike : (m : Replace42) (w : Replace50) → IsReplace m w
+    → SaysAlike (said42.replace_says m) (said50.replace_says w)
+replace_alike m w written = λ i.
     Some (written.cl_ord_id i) ∷
     Some (written.orig_id i) ∷
     written.order_id i ∷
@@ -512,7 +513,7 @@ replace_sound m w written s =
     let apart = order_items (replace_rows m s) written.parties written.allocs written.sessions
     written.maturity written.terms at200 (at50 t there 541 refl) (at50 t there 40 refl) in
     let tables : GoUp t.items42 t.items50 = record { plain = refl; same = refl } in
-    let items = items_sound t here there tables (replace_says m w written) s apart in
+    let items = items_sound t here there tables (replace_alike m w written) s apart in
     record { letter = refl; places = refl; counts = refl; items = items }
 
 -- ---- a request for the state of an order
@@ -535,12 +536,14 @@ status_rows m s = apart_of status_tables (said42.status_says m) s
 pub status_day : (m : Status42) → SoundStatus42 m → HasShortDay m.maturity
 status_day m s = refer_day m.maturity (status_rows m s)
 
-status_says : (m : Status42) (w : Status50) → IsStatus m w
-    → SaysAlike status_tables (said42.status_says m) (said50.status_says w)
-status_says m w written = λ i.
+pub status_alike : (m : Status42) (w : Status50) → IsStatus m w
+    → SaysAlike (said42.status_says m) (said50.status_says w)
+status_alike m w written = λ i.
     Some (written.cl_ord_id i) ∷
+    None ∷
     written.order_id i ∷
     written.account i ∷
+    None ∷ None ∷ None ∷ None ∷ None ∷ None ∷ None ∷
     Some (written.symbol i) ∷
     written.symbol_sfx i ∷
     written.security_id i ∷
@@ -548,6 +551,7 @@ status_says m w written = λ i.
     written.security_type i ∷
     written.security_exchange i ∷
     Some (code_text (written.side i)) ∷
+    None ∷ None ∷ None ∷ None ∷ None ∷ None ∷ None ∷ None ∷ None ∷ None ∷ None ∷
     []
 
 pub status_sound : (m : Status42) (w : Status50) → IsStatus m w → SoundStatus42 m
@@ -560,7 +564,7 @@ status_sound m w written s =
     let apart = refer_items (status_rows m s) written.parties written.maturity
     at200 (at50 t there 541 refl) in
     let tables : GoUp t.items42 t.items50 = record { plain = refl; same = refl } in
-    let items = items_sound t here there tables (status_says m w written) s apart in
+    let items = items_sound t here there tables (status_alike m w written) s apart in
     record { letter = refl; places = refl; counts = refl; items = items }
 
 -- ---- behind the message that is matched

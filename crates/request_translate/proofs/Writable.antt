@@ -10,7 +10,8 @@ use Rattle.std.proofs.lemmas.Slice.Eq.{bytes_eq-Decides}
 use Rattle.frame_grammar.specs.Frame.{IsWritable}
 use Rattle.field_groups.specs.Field.{Field, body_of, field_bytes}
 use Rattle.message_tables.specs.Tables.{Message}
-use Rattle.dict_fix42.specs.Message.{message42, table}
+use Rattle.dict_fix42.specs.Message.{message42}
+use Rattle.rows_fix42.specs.Header.{table}
 use Rattle.row_values.specs.Faults.{message_by}
 use Rattle.dict_fix42.specs.Requests.{new_order, cancel_request, replace_request, status_request}
 

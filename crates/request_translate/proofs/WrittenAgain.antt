@@ -13,12 +13,14 @@ use Rattle.message_tables.specs.FirstFault.{message_in, message_of, unless}
 use Rattle.message_tables.specs.Content.{content}
 use Rattle.row_values.specs.Kinds.{Kind, judge}
 use Rattle.row_values.specs.Faults.{told}
-use Rattle.dict_fix42.specs.Message.{message42, table as table42}
+use Rattle.dict_fix42.specs.Message.{message42}
+use Rattle.rows_fix42.specs.Header.{table as table42}
 use Rattle.dict_fix42.specs.Requests as requests42
 use Rattle.dict_fix42.specs.Said as said42
 use Rattle.dict_fix42.specs.declared.requests.Msg42.{Msg42}
 use Rattle.dict_fix42.specs.declared.requests.Msg42.TheVariants as messages42
-use Rattle.dict_fix50.specs.Message.{message50, completed_by, table as table50}
+use Rattle.dict_fix50.specs.Message.{message50}
+use Rattle.rows_fix50.specs.Header.{completed_by, table as table50}
 use Rattle.dict_fix50.specs.Requests as requests50
 use Rattle.dict_fix50.specs.Said as said50
 use Rattle.dict_fix50.specs.declared.requests.Msg50.{Msg50}

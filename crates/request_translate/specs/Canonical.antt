@@ -3,7 +3,7 @@ use Rattle.std.specs.Prelude.{◌≡◌, ℕ, List, map}
 use Rattle.message_tables.specs.Tables.{Tag, Role, Item, Cell, Said, Message, said_at, lines_of}
 use Rattle.message_tables.specs.Content.{content}
 use Rattle.row_values.specs.Kinds.{Kind, judge}
-use Rattle.dict_fix50.specs.Message.{table, month_by}
+use Rattle.rows_fix50.specs.Header.{table, month_by}
 use Rattle.dict_fix50.specs.Requests as requests
 use Rattle.dict_fix50.specs.Said as said50
 use Rattle.dict_fix50.specs.Sense.{request50}

@@ -13,7 +13,7 @@ use Rattle.message_tables.specs.Content.{content, cell_fields}
 use Rattle.order_meaning.specs.declared.fault.Fault.{Fault}
 use Rattle.dict_fix42.specs.Message.{message42}
 use Rattle.dict_fix42.specs.Sense.{sense42, request42}
-use Rattle.dict_fix50.specs.Message.{table}
+use Rattle.rows_fix50.specs.Header.{table}
 use Rattle.dict_fix50.specs.Sense.{sense50, request50}
 use Rattle.dict_fix50.specs.Requests.{new_order, cancel_request, replace_request, status_request}
 use Rattle.request_translate.specs.declared.translate.TheConstants.{MAX_CONTENT}

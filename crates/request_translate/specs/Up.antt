@@ -1,6 +1,6 @@
 -- Own: a sound request of FIX 4.2, one whose content says the same when it is read again.
 use Rattle.row_values.specs.Kinds.{judge as judge42}
-use Rattle.dict_fix42.specs.Message.{table as table42}
+use Rattle.rows_fix42.specs.Header.{table as table42}
 use Rattle.dict_fix42.specs.Requests as requests42
 use Rattle.dict_fix42.specs.Said as said42
 use Rattle.dict_fix42.specs.declared.requests.Msg42.{Msg42}

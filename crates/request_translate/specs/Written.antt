@@ -6,8 +6,8 @@ use Rattle.row_values.specs.CodeKinds.{code_text}
 use Rattle.message_tables.specs.Tables.{Said, ◌>>=◌, code_of, is_one_of}
 use Rattle.order_meaning.specs.Request.{OrderType}
 use Rattle.row_values.specs.Kinds.{is_at_close}
-use Rattle.dict_fix42.specs.Sense as sense42
-use Rattle.dict_fix50.specs.Sense as sense50
+use Rattle.rows_fix42.specs.Meaning as meaning42
+use Rattle.rows_fix50.specs.Meaning as meaning50
 use Rattle.dict_fix42.specs.declared.requests.New42.{New42}
 use Rattle.dict_fix42.specs.declared.requests.Cancel42.{Cancel42}
 use Rattle.dict_fix42.specs.declared.requests.Replace42.{Replace42}
@@ -46,16 +46,16 @@ IsTime50 ord_type time = IfSome time (IsTimeCode ord_type)
 
 -- what OrdType and TimeInForce of FIX 4.2 mean
 abbrev pub type42 : ℕ → Option OrderType
-type42 ord_type = sense42.order_type_of ord_type
+type42 ord_type = meaning42.order_type_of ord_type
 
 abbrev pub time42 : ℕ → Option ℕ → Option ℕ
-time42 ord_type time = sense42.time_of (sense42.is_on_close (Some ord_type)) (coded time)
+time42 ord_type time = meaning42.time_of (meaning42.is_on_close (Some ord_type)) (coded time)
 
 -- OrdType and TimeInForce of FIX 5.0 SP2 that mean the same
 pub record AreOnClose (ord_type : ℕ) (time : Option ℕ) (type50 : ℕ) (time50 : Option ℕ) : Type 0
   where
     pub said : lacks_time (type42 ord_type) (time42 ord_type time) ≡ false
-    pub same : sense50.terms_of (Some type50) (coded time50)
+    pub same : meaning50.terms_of (Some type50) (coded time50)
         ≡ (type42 ord_type, time42 ord_type time)
     pub listed : is_type50 type50 ≡ true
     pub timely : IsTime50 type50 time50
