@@ -1,7 +1,7 @@
 -- Own: what contracts see of the disk in memory.
 use Rattle.std.specs.Prelude.{◌≡◌, ◌⊎◌, ℕ, zero, suc, ◌+◌, ◌≤◌, max, List, [], ◌∷◌, ◌++◌, map}
 use Rattle.std.specs.Prelude.{length, Bool}
-use Rattle.std.specs.Prelude.{if◌then◌else◌, Result, IsErr, IsTrue}
+use Rattle.std.specs.Prelude.{if◌then◌else◌, Result, IsErr, IsTrue, OnOk}
 use Rattle.std.specs.Prelude.{false, replicate, Some, None}
 use Rattle.outside.specs.Disk.{Torn, write, replaced}
 use Rattle.outside.specs.Causes.{faults_after}
@@ -116,12 +116,14 @@ abbrev pub Fails : DiskState → Type 0
 Fails disk = IsListed disk.calls ⊎ (disk.fuse ≡ Blown)
 
 -- What every call of a disk in memory answers and counts: it fails where it is listed or behind the
--- fuse, else only for want of memory, and counts one fault then; it stands in the list of calls.
+-- fuse, else only for want of memory, and counts one fault then; it stands in the list of calls. A
+-- call that succeeds was refused no memory.
 pub record Answers {T : Type 0}
     (call : DiskCall) (old new : DiskState) (result : Result T Failed) : Type 0 where
   pub fails : Fails old → IsErr result
   pub only : IsErr result → Fails old ⊎ IsTrue new.refused
   pub noted : (new.made ≡ old.made ++ call ∷ []) ⊎ IsTrue new.refused
   pub kept : IsTrue old.refused → IsTrue new.refused
+  pub stays : OnOk result (new.refused ≡ old.refused)
   pub counted : new.calls ≡ called old.calls (faults_after result old.calls.faults)
   pub fuse : new.fuse ≡ old.fuse

@@ -393,13 +393,15 @@ impl Disk for MemDisk {
         requires within { at ≤ length self.old.bytes }
         requires limit { at + length piece.now ≤ MAX_DISK }
         ensures written { OnOk result (self.new.bytes ≡ write at piece.now self.old.bytes) }
-        ensures images { Follows (Torn at (length piece.now)) (IsImageOf self.old) (IsImageOf self.new) }
+        ensures images { Follows
+            (Torn at (length piece.now)) (IsImageOf self.old) (IsImageOf self.new) }
         ensures kept { AreAmong (IsImageOf self.old) (IsImageOf self.new) }
         ensures counted { self.new.reads ≡ self.old.reads }
         ensures cause { HasCause self.old.calls.faults self.new.calls.faults result }
         ensures failed { OnErr result (self.new.bytes ≡ self.old.bytes) }
         ensures stable { self.new.stable ≡ self.old.stable }
-        ensures pending { (self.new.pending ≡ self.old.pending ++ (record { at = at; piece = piece.now }) ∷ []) ⊎
+        ensures pending { (self.new.pending
+            ≡ self.old.pending ++ (record { at = at; piece = piece.now }) ∷ []) ⊎
             IsTrue self.new.refused }
         ensures answers { Answers (DiskCall.Write at (length piece.now))
             (record self.old { fuse = burnt self.old.fuse }) self.new result }

@@ -28,7 +28,11 @@ impl Model for MemSource {
 
     ghost Value = { SourceState };
 
-    ghost view = { λ s. record { left = drop s.at s.content.items; ended = s.ended; calls = s.calls } };
+    ghost view = { λ s. record {
+      left = drop s.at s.content.items;
+      ended = s.ended;
+      calls = s.calls;
+    } };
 
     ghost invariant = { λ s. s.at ≤ length s.content.items };
 }

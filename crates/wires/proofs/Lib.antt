@@ -1,0 +1,6 @@
+pub mod Moments
+pub mod Played
+pub mod Noting
+pub mod Silence
+pub mod Worked
+pub mod Kept

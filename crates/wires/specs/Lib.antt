@@ -1,0 +1,9 @@
+pub mod Told
+pub mod Wire
+pub mod Clock
+pub mod Script
+pub mod Play
+pub mod Record
+pub mod MemWire
+pub mod Quiet
+pub mod Laws
