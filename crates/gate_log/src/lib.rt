@@ -5,6 +5,7 @@
 //! it was, or with the one record in hand.
 #![tactic(auto)]
 
+mod bytes;
 mod commit;
 mod error;
 pub mod laws;
@@ -13,6 +14,7 @@ mod scan;
 #[cfg(test)]
 mod tests;
 
+pub use bytes::{extend_reserved, u32_front};
 pub use error::LogError;
 pub use log::Log;
 

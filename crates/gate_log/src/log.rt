@@ -15,6 +15,7 @@ ghost use Rattle.gate_log.specs.Log.{OnlyReads, HasFaultCause, Looks, Loads, Bor
 ghost use Rattle.gate_log.specs.Log.{HasRoom, KeepsList, IsAt, StaysUnborn, KeepsOneImage};
 ghost use Rattle.gate_log.specs.Scan.{HasRecords};
 
+use crate::bytes::extend_reserved;
 use crate::commit::{commit, write_stable};
 use crate::scan::{Found, scan, split_len};
 use crate::{BIRTH_LEN, LogError, MAX_PAYLOAD, OPEN};
@@ -69,15 +70,6 @@ fn read_image<D: Disk>(alloc: Global, disk: &mut D) -> Result<Vec<u8>, LogError>
         image.extend_from_slice(&buf[..count])?;
     }
     Ok(image)
-}
-
-/// Appends to a vector that has room.
-fn extend_reserved(bytes: &mut Vec<u8>, more: &[u8])
-    requires { vec_len bytes.old + length more.now ≤ vec_capacity bytes.old }
-    ensures items { bytes.new.items ≡ bytes.old.items ++ more.now }
-    ensures capacity { vec_capacity bytes.old ≤ vec_capacity bytes.new }
-{
-    let _ = bytes.extend_from_slice(more);
 }
 
 /// Appends a record behind the closing gate, with the next gate closed, to a vector that has room.

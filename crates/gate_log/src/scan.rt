@@ -6,6 +6,7 @@ ghost use Rattle.std.specs.Int.{w32, to_be_bytes};
 ghost use Rattle.gate_log.specs.Records.{blocks, HoldsRecord};
 ghost use Rattle.gate_log.specs.Scan.{IsFound, fits_at};
 
+use crate::bytes::u32_front;
 use crate::{BIRTH_LEN, MAX_PAYLOAD, OPEN, UNBORN_LEN};
 use outside::MAX_DISK;
 use std::alloc::{AllocError, Global};
@@ -34,11 +35,7 @@ pub(crate) fn split_len(bytes: &[u8]) -> Option<(usize, &[u8])>
     ensures { MatchOption result (length bytes.now < 4) (λ x.
         (bytes.now ≡ to_be_bytes w32 x.0 ++ x.1.now) × (x.0 < 2 ^ 32)) }
 {
-    if bytes.len() < 4 {
-        return None;
-    }
-    let (front, rest) = bytes.split_at(4);
-    let len = u32::from_be_bytes([front[0], front[1], front[2], front[3]]);
+    let (len, rest) = u32_front(bytes)?;
     Some((len as usize, rest))
 }
 

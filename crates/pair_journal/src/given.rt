@@ -12,7 +12,7 @@ use crate::numbers::{is_side, next_out};
 use crate::{Entry, Out, Took};
 use order_meaning::Side;
 
-/// The byte that ends a field.
+/// The byte that ends a field; this crate stands on none that reads fields.
 const SOH: u8 = 1;
 
 /// The out of this number among those to a side.

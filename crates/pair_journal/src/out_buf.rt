@@ -1,9 +1,10 @@
 //! Room for one out that is read from a journal.
 
-ghost use Rattle.std.specs.Prelude.{◌≡◌, ◌+◌, ◌≤◌, [], ◌++◌, length, vec_len, vec_capacity, IfOk};
+ghost use Rattle.std.specs.Prelude.{◌≡◌, ◌+◌, ◌≤◌, [], length, IfOk};
 ghost use Rattle.pair_journal.specs.OutBuf.{told};
 
 use crate::Out;
+use gate_log::extend_reserved;
 use std::alloc::{AllocError, Global};
 use std::marker::Model;
 
@@ -30,15 +31,6 @@ impl Model for OutBuf {
     ghost view = { told_by };
 
     ghost invariant = { IsRoomy };
-}
-
-/// Appends to a vector that has room.
-fn extend_reserved(bytes: &mut Vec<u8>, more: &[u8])
-    requires { vec_len bytes.old + length more.now ≤ vec_capacity bytes.old }
-    ensures items { bytes.new.items ≡ bytes.old.items ++ more.now }
-    ensures capacity { vec_capacity bytes.old ≤ vec_capacity bytes.new }
-{
-    let _ = bytes.extend_from_slice(more);
 }
 
 impl OutBuf {

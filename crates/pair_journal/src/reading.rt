@@ -20,21 +20,9 @@ ghost use Rattle.pair_journal.specs.Payload.{took_bytes, next_bytes, out_bytes, 
 use crate::{
     Entry, MAX_AT, MAX_CONTENT, MAX_NEXT, MAX_NUMBER, MAX_OUTS, MAX_RAW, MAX_TYPE, Out, Outs, Took,
 };
+use gate_log::u32_front;
 use order_meaning::{Bytes, Side};
 use std::alloc::{AllocError, Global};
-
-/// The number of four bytes in front, and what is behind it.
-fn u32_front(bytes: &[u8]) -> Option<(u32, &[u8])>
-    ensures { MatchOption result (length bytes.now < 4) (λ x.
-        (bytes.now ≡ to_be_bytes w32 x.0 ++ x.1.now) × (x.0 < 2 ^ 32)) }
-{
-    if bytes.len() < 4 {
-        return None;
-    }
-    let (front, rest) = bytes.split_at(4);
-    let number = u32::from_be_bytes([front[0], front[1], front[2], front[3]]);
-    Some((number, rest))
-}
 
 /// The number of eight bytes in front, and what is behind it.
 fn u64_front(bytes: &[u8]) -> Option<(u64, &[u8])>

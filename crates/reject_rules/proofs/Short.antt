@@ -8,10 +8,11 @@ use Rattle.order_meaning.specs.declared.fault.Fault.{Fault}
 use Rattle.order_meaning.specs.declared.fault.Fault.TheVariants.{Session, NoCounterpart}
 use Rattle.order_meaning.specs.declared.fault.Fault.TheVariants.{NotSupported, NoMemory}
 use Rattle.order_meaning.specs.declared.refusal.Refusal.{Refusal}
-use Rattle.reject_rules.specs.declared.said.Said.{Said}
+use Rattle.session_core.specs.declared.said.Said.{Said}
+use Rattle.session_core.specs.Said.{ref_msg_type}
 use Rattle.reject_rules.specs.Content.{reject, business_reject}
 use Rattle.reject_rules.specs.Reasons.{session_reason, session_text, business_reason, business_text}
-use Rattle.reject_rules.specs.Refusals.{refusal_of, session_refusal, business_refusal, ref_msg_type}
+use Rattle.reject_rules.specs.Refusals.{refusal_of, session_refusal, business_refusal}
 use Rattle.reject_rules.specs.Refusals.{no_counterpart, used_refusal, away_refusal}
 use Rattle.reject_rules.specs.Renumbered.{renumbered, quoted, rejected_text}
 use Rattle.reject_rules.specs.Laws.{IsShort, HasWords, IsBounded, IsWord}

@@ -11,7 +11,7 @@ use Rattle.order_meaning.specs.declared.fault.Fault.{Fault}
 use Rattle.order_meaning.specs.declared.fault.Fault.TheVariants.{Session, NoCounterpart}
 use Rattle.order_meaning.specs.declared.fault.Fault.TheVariants.{NotSupported, NoMemory}
 use Rattle.order_meaning.specs.declared.refusal.Refusal.{Refusal}
-use Rattle.reject_rules.specs.declared.said.Said.{Said}
+use Rattle.session_core.specs.declared.said.Said.{Said}
 use Rattle.reject_rules.specs.Content.{reject, business_reject}
 use Rattle.order_meaning.specs.Reasons.{later_reason_words}
 use Rattle.reject_rules.specs.Refusals.{refusal_of, used_refusal, away_refusal, no_counterpart}

@@ -5,7 +5,11 @@ use Rattle.std.specs.Option.{option_map}
 use Rattle.std.specs.Fmt.{decimal}
 use Rattle.field_groups.specs.Field.{Field, body_of}
 use Rattle.order_meaning.specs.declared.refusal.Refusal.{Refusal}
-use Rattle.reject_rules.specs.declared.said.Said.{Said}
+use Rattle.session_core.specs.declared.said.Said.{Said}
+use Rattle.session_core.specs.declared.tag.TheConstants.{REF_SEQ_NUM, REF_TAG_ID, REF_MSG_TYPE}
+use Rattle.session_core.specs.declared.tag.TheConstants.{SESSION_REJECT_REASON, TEXT}
+use Rattle.reject_rules.specs.declared.tag.TheConstants.{BUSINESS_REJECT_REF_ID}
+use Rattle.reject_rules.specs.declared.tag.TheConstants.{BUSINESS_REJECT_REASON}
 
 -- the field of a tag, where it has a value
 abbrev pub field_if : ℕ → Option (List ℕ) → List Field
@@ -16,17 +20,16 @@ field_if tag (Some value) = (tag, value) ∷ []
 abbrev pub number_if : ℕ → Option ℕ → List Field
 number_if tag number = field_if tag (option_map decimal number)
 
--- RefSeqNum, RefTagID, RefMsgType, SessionRejectReason, Text
 abbrev pub reject_fields : Refusal → List Field
 reject_fields r =
-    number_if 45 r.number ++ number_if 371 r.tag ++ field_if 372 r.msg_type ++
-    number_if 373 r.reason ++ field_if 58 r.text
+    number_if REF_SEQ_NUM r.number ++ number_if REF_TAG_ID r.tag ++ field_if REF_MSG_TYPE r.msg_type
+    ++ number_if SESSION_REJECT_REASON r.reason ++ field_if TEXT r.text
 
--- RefSeqNum, RefMsgType, BusinessRejectRefID, BusinessRejectReason, Text
 abbrev pub business_fields : Refusal → List Field
 business_fields r =
-    number_if 45 r.number ++ field_if 372 r.msg_type ++ field_if 379 r.id ++
-    number_if 380 r.reason ++ field_if 58 r.text
+    number_if REF_SEQ_NUM r.number ++ field_if REF_MSG_TYPE r.msg_type
+    ++ field_if BUSINESS_REJECT_REF_ID r.id ++ number_if BUSINESS_REJECT_REASON r.reason
+    ++ field_if TEXT r.text
 
 -- the Reject(3) of a refusal; like a message of the application it is repeated where messages are
 -- resent, which is own

@@ -9,12 +9,24 @@ use Rattle.order_meaning.specs.declared.fault.Fault.{Fault}
 use Rattle.order_meaning.specs.declared.fault.Fault.TheVariants.{Session, NoCounterpart}
 use Rattle.order_meaning.specs.declared.fault.Fault.TheVariants.{NotSupported, NoMemory}
 use Rattle.order_meaning.specs.declared.refusal.Refusal.{Refusal}
-use Rattle.reject_rules.specs.declared.said.Said.{Said}
+use Rattle.session_core.specs.declared.said.Said.{Said}
+use Rattle.session_core.specs.declared.tag.TheConstants.{REF_SEQ_NUM, REF_TAG_ID, REF_MSG_TYPE}
+use Rattle.session_core.specs.declared.tag.TheConstants.{SESSION_REJECT_REASON, TEXT}
+use Rattle.reject_rules.specs.declared.tag.TheConstants.{BUSINESS_REJECT_REF_ID}
+use Rattle.reject_rules.specs.declared.tag.TheConstants.{BUSINESS_REJECT_REASON}
 
--- one letter, and at most 1,024 bytes of content
+-- the most bytes of what a refusal says behind its header
+abbrev pub most_content : ℕ
+most_content = 1024
+
+-- the most bytes of a ClOrdID
+abbrev pub most_id : ℕ
+most_id = 128
+
+-- one letter, and not too much content
 pub record IsShort (said : Said) : Type 0 where
   pub letter : length said.msg_type ≡ 1
-  pub short : length said.content ≤ 1024
+  pub short : length said.content ≤ most_content
 
 abbrev pub IsWord : Option ℕ → Type 0
 IsWord number = IfSome number (λ n. n < 2 ^ 32)
@@ -26,11 +38,11 @@ HasWords (NoCounterpart tag) = tag < 2 ^ 32
 HasWords NotSupported = Unit {0}
 HasWords NoMemory = Unit {0}
 
--- a refusal with numbers of 32 bits, which names a ClOrdID of at most 128 bytes
+-- a refusal with numbers of 32 bits, which names a ClOrdID within its bound
 pub record IsBounded (r : Refusal) : Type 0 where
   pub tag : IsWord r.tag
   pub reason : IsWord r.reason
-  pub id : IfSome r.id (λ id. length id ≤ 128)
+  pub id : IfSome r.id (λ id. length id ≤ most_id)
 
 -- bytes with no SOH
 abbrev pub HasNoSoh : List ℕ → Type 0
@@ -43,7 +55,9 @@ pub record HasTexts (r : Refusal) : Type 0 where
 
 -- the tags of a Reject(3) and of a BusinessMessageReject(j)
 abbrev pub refusal_tags : List ℕ
-refusal_tags = 45 ∷ 58 ∷ 371 ∷ 372 ∷ 373 ∷ 379 ∷ 380 ∷ []
+refusal_tags =
+    REF_SEQ_NUM ∷ TEXT ∷ REF_TAG_ID ∷ REF_MSG_TYPE ∷ SESSION_REJECT_REASON
+    ∷ BUSINESS_REJECT_REF_ID ∷ BUSINESS_REJECT_REASON ∷ []
 
 -- a field of one of these tags, whose value ends at its SOH
 pub record IsRefusalField (f : Field) : Type 0 where
@@ -54,5 +68,5 @@ pub record IsRefusalField (f : Field) : Type 0 where
 -- number
 pub record IsOf (number : ℕ) (said : Said) : Type 0 where
   pub more : List Field
-  pub written : said.content ≡ body_of ((45, decimal number) ∷ more)
-  pub fields : All IsRefusalField ((45, decimal number) ∷ more)
+  pub written : said.content ≡ body_of ((REF_SEQ_NUM, decimal number) ∷ more)
+  pub fields : All IsRefusalField ((REF_SEQ_NUM, decimal number) ∷ more)

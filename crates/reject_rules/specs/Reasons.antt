@@ -8,6 +8,8 @@ use Rattle.order_meaning.specs.declared.Side.{Side}
 use Rattle.order_meaning.specs.declared.Side.TheVariants.{Client, Venue}
 use Rattle.order_meaning.specs.declared.reasons.TheConstants.{MAX_REASON42}
 use Rattle.order_meaning.specs.Reasons.{later_reason_words}
+use Rattle.reject_rules.specs.declared.reasons.TheConstants.{MAX_BUSINESS_REASON, MAX_TEXT, OTHER}
+use Rattle.reject_rules.specs.declared.tag.TheConstants.{BUSINESS_REJECT_REASON}
 
 -- SessionRejectReason to a side: FIX 4.2 has the reasons up to 11
 abbrev pub session_reason : Side → ℕ → Option ℕ
@@ -29,19 +31,20 @@ reason_suffix tag highest reason =
     if nat_le reason highest then []
     else codes " [" ++ decimal tag ++ codes "=" ++ decimal reason ++ codes "]"
 
--- a text with this at its end: it is first cut to 2,000 bytes, and where there is none, the first
--- space goes
+-- a text with this at its end: it is first cut so that both have room, and where there is none, the
+-- first space goes
 abbrev pub with_suffix : Option (List ℕ) → List ℕ → Option (List ℕ)
 with_suffix text [] = text
 with_suffix None (space ∷ suffix) = Some suffix
-with_suffix (Some text) (space ∷ suffix) = Some (take 2000 text ++ space ∷ suffix)
+with_suffix (Some text) (space ∷ suffix) = Some (take MAX_TEXT text ++ space ∷ suffix)
 
--- BusinessRejectReason to a side: FIX 4.2 has the reasons up to 5, and 0 is "other"
+-- BusinessRejectReason to a side: one that FIX 4.2 lacks is "other"
 abbrev pub business_reason : Side → ℕ → ℕ
-business_reason Client reason = reason_within 5 0 reason
+business_reason Client reason = reason_within MAX_BUSINESS_REASON OTHER reason
 business_reason Venue reason = reason
 
 -- Text beside a BusinessRejectReason to a side
 abbrev pub business_text : Side → Option ℕ → Option (List ℕ) → Option (List ℕ)
-business_text Client (Some reason) text = with_suffix text (reason_suffix 380 5 reason)
+business_text Client (Some reason) text =
+    with_suffix text (reason_suffix BUSINESS_REJECT_REASON MAX_BUSINESS_REASON reason)
 business_text side reason text = text

@@ -1,19 +1,19 @@
 -- Standard: FIX 4.2, Reject (session-level) and Business Message Reject.
--- The texts, and the cut of RefMsgType(372), are own: docs/DECISIONS.md, "Refusals".
-use Rattle.std.specs.Prelude.{ℕ, List, ◌++◌, take, codes, Some, None}
+-- The texts are own: docs/DECISIONS.md, "Refusals".
+use Rattle.std.specs.Prelude.{ℕ, List, ◌++◌, codes, Some, None}
 use Rattle.std.specs.declared.option.Option.{Option}
 use Rattle.std.specs.Fmt.{decimal}
 use Rattle.order_meaning.specs.declared.Side.{Side}
 use Rattle.order_meaning.specs.declared.fault.Fault.{Fault}
 use Rattle.order_meaning.specs.declared.fault.Fault.TheVariants.{Session, NoCounterpart}
 use Rattle.order_meaning.specs.declared.fault.Fault.TheVariants.{NotSupported, NoMemory}
-use Rattle.reject_rules.specs.declared.said.Said.{Said}
+use Rattle.session_core.specs.declared.said.Said.{Said}
+use Rattle.session_core.specs.declared.tag.TheConstants.{MSG_TYPE}
+use Rattle.session_core.specs.Said.{ref_msg_type}
+use Rattle.reject_rules.specs.declared.reasons.TheConstants.{OTHER, UNSUPPORTED_MESSAGE_TYPE}
+use Rattle.reject_rules.specs.declared.reasons.TheConstants.{APPLICATION_NOT_AVAILABLE}
 use Rattle.reject_rules.specs.Content.{reject, business_reject}
 use Rattle.reject_rules.specs.Reasons.{session_reason, session_text}
-
--- RefMsgType: the first 8 bytes of a type
-abbrev pub ref_msg_type : List ℕ → List ℕ
-ref_msg_type msg_type = take 8 msg_type
 
 -- the Reject to a side of its message of this number and type, for this tag and reason
 abbrev pub session_refusal : Side → ℕ → List ℕ → Option ℕ → ℕ → Said
@@ -40,22 +40,22 @@ business_refusal number msg_type reason text = business_reject (record {
 unfoldable pub no_counterpart : ℕ → List ℕ
 no_counterpart tag = codes "tag " ++ decimal tag ++ codes " has no counterpart"
 
--- what is said to a side of its message with a fault: 380=0 is "other", 380=3 "unsupported message
--- type"; nothing where memory was wanting to read it
+-- what is said to a side of its message with a fault; nothing where memory was wanting to read it
 abbrev pub refusal_of : Side → ℕ → List ℕ → Fault → Option Said
 refusal_of side number msg_type (Session tag reason) =
     Some (session_refusal side number msg_type tag reason)
 refusal_of side number msg_type (NoCounterpart tag) =
-    Some (business_refusal number msg_type 0 (no_counterpart tag))
+    Some (business_refusal number msg_type OTHER (no_counterpart tag))
 refusal_of side number msg_type NotSupported =
-    Some (business_refusal number msg_type 3 (no_counterpart 35))
+    Some (business_refusal number msg_type UNSUPPORTED_MESSAGE_TYPE (no_counterpart MSG_TYPE))
 refusal_of side number msg_type NoMemory = None
 
 -- what is said of a request whose ClOrdID(11) was used before
 abbrev pub used_refusal : ℕ → List ℕ → Said
-used_refusal number msg_type = business_refusal number msg_type 0 (codes "tag 11 is already used")
+used_refusal number msg_type =
+    business_refusal number msg_type OTHER (codes "tag 11 is already used")
 
--- what is said of a request while the venue's session is not active: 380=4 is "application not
--- available at this time"
+-- what is said of a request while the venue's session is not active
 abbrev pub away_refusal : ℕ → List ℕ → Said
-away_refusal number msg_type = business_refusal number msg_type 4 (codes "venue is not connected")
+away_refusal number msg_type =
+    business_refusal number msg_type APPLICATION_NOT_AVAILABLE (codes "venue is not connected")

@@ -7,10 +7,12 @@ use Rattle.std.specs.Fmt.{decimal}
 use Rattle.order_meaning.specs.declared.Side.{Side}
 use Rattle.order_meaning.specs.declared.Side.TheVariants.{Client, Venue}
 use Rattle.order_meaning.specs.declared.refusal.Refusal.{Refusal}
-use Rattle.reject_rules.specs.declared.said.Said.{Said}
+use Rattle.session_core.specs.declared.said.Said.{Said}
+use Rattle.session_core.specs.Said.{ref_msg_type}
+use Rattle.reject_rules.specs.declared.reasons.TheConstants.{OTHER}
+use Rattle.reject_rules.specs.declared.text.TheConstants.{MAX_QUOTE}
 use Rattle.reject_rules.specs.Content.{business_reject}
 use Rattle.reject_rules.specs.Reasons.{business_reason, business_text}
-use Rattle.reject_rules.specs.Refusals.{ref_msg_type}
 
 -- who refused what came from a side
 abbrev pub refuser_of : Side → List ℕ
@@ -22,14 +24,14 @@ abbrev pub words_if : List ℕ → Option ℕ → List ℕ
 words_if words None = []
 words_if words (Some number) = words ++ decimal number
 
--- a text that is quoted: its first 512 bytes, where there is one
+-- a text that is quoted: its first bytes, where there is one
 abbrev pub quoted : Option (List ℕ) → Option (List ℕ)
-quoted text = option_map (take 512) text
+quoted text = option_map (take MAX_QUOTE) text
 
 -- a quoted text behind others
 abbrev pub quote_if : Option (List ℕ) → List ℕ
 quote_if None = []
-quote_if (Some text) = codes ": " ++ take 512 text
+quote_if (Some text) = codes ": " ++ take MAX_QUOTE text
 
 -- what a Reject(3) by the other side says, as a text to this side: RefTagID, SessionRejectReason
 -- and Text, where they stand
@@ -55,6 +57,6 @@ renumbered side false r far far_type = business_reject (record {
   msg_type = Some (ref_msg_type far_type);
   id = None;
   tag = None;
-  reason = Some 0;
+  reason = Some OTHER;
   text = Some (rejected_text side r);
 })

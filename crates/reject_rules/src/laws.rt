@@ -5,7 +5,7 @@ ghost use Rattle.std.specs.Prelude.{◌≡◌, ℕ, Bool, List, ◌<◌, ◌^◌
 ghost use Rattle.order_meaning.specs.declared.Side.{Side};
 ghost use Rattle.order_meaning.specs.declared.fault.Fault.{Fault};
 ghost use Rattle.order_meaning.specs.declared.refusal.Refusal.{Refusal};
-ghost use Rattle.reject_rules.specs.declared.said.Said.{Said};
+ghost use Rattle.session_core.specs.declared.said.Said.{Said};
 ghost use Rattle.reject_rules.specs.Laws.{IsShort, HasWords, IsBounded, HasNoSoh, HasTexts, IsOf};
 ghost use Rattle.reject_rules.specs.Refusals.{refusal_of, used_refusal, away_refusal};
 ghost use Rattle.reject_rules.specs.Renumbered.{renumbered};

@@ -11,11 +11,11 @@ pub mod laws;
 mod reasons;
 mod refusals;
 mod renumbering;
-mod said;
+mod tag;
 #[cfg(test)]
 mod tests;
 mod text;
 
 pub use refusals::{away, refusal, used};
 pub use renumbering::renumber;
-pub use said::Said;
+pub use session_core::Said;

@@ -5,6 +5,7 @@ ghost use Rattle.std.specs.Option.{option_map};
 ghost use Rattle.reject_rules.specs.Reasons.{session_reason, session_text, reason_suffix};
 ghost use Rattle.reject_rules.specs.Reasons.{with_suffix, business_reason, business_text};
 
+use crate::tag::BUSINESS_REJECT_REASON;
 use crate::text::front;
 use itoa::Buffer;
 use order_meaning::{Bytes, MAX_REASON42, Side, later_reason_words};
@@ -21,9 +22,6 @@ pub(crate) const APPLICATION_NOT_AVAILABLE: u32 = 4;
 
 /// The highest BusinessRejectReason(380) of FIX 4.2, conditionally required field missing.
 const MAX_BUSINESS_REASON: u32 = 5;
-
-/// BusinessRejectReason(380).
-const BUSINESS_REJECT_REASON: u32 = 380;
 
 /// The most bytes of a text that a reason is added to.
 const MAX_TEXT: usize = 2000;

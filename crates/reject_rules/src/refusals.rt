@@ -2,23 +2,17 @@
 
 ghost use Rattle.std.specs.Prelude.{◌≡◌, Some, IfOk};
 ghost use Rattle.reject_rules.specs.Refusals.{refusal_of, business_refusal, no_counterpart};
-ghost use Rattle.reject_rules.specs.Refusals.{used_refusal, away_refusal, ref_msg_type};
+ghost use Rattle.reject_rules.specs.Refusals.{used_refusal, away_refusal};
 
-use crate::Said;
 use crate::content::{business_reject, reject};
 use crate::reasons::{
     APPLICATION_NOT_AVAILABLE, OTHER, UNSUPPORTED_MESSAGE_TYPE, session_reason, session_text,
 };
-use crate::text::front;
 use itoa::Buffer;
 use order_meaning::{Bytes, Fault, Refusal, Side};
+use session_core::tag::MSG_TYPE;
+use session_core::{Said, ref_msg_type};
 use std::alloc::{AllocError, Global};
-
-/// The most bytes of a type in RefMsgType(372).
-const MAX_REF_MSG_TYPE: usize = 8;
-
-/// MsgType(35), which is named where a type is not supported.
-const MSG_TYPE: u32 = 35;
 
 /// What is said to a side of its message of this number and type, which has this fault.
 ///
@@ -47,7 +41,7 @@ pub fn refusal(
         Fault::Session { tag, reason } => {
             let refusal = Refusal {
                 number: Some(number),
-                msg_type: Some(ref_msg_type(alloc, msg_type)?),
+                msg_type: Some(Bytes::copy(alloc, ref_msg_type(msg_type))?),
                 id: None,
                 tag,
                 reason: session_reason(side, reason),
@@ -105,20 +99,13 @@ fn business_refusal(
 {
     let refusal = Refusal {
         number: Some(number),
-        msg_type: Some(ref_msg_type(alloc, msg_type)?),
+        msg_type: Some(Bytes::copy(alloc, ref_msg_type(msg_type))?),
         id: None,
         tag: None,
         reason: Some(reason),
         text: Some(Bytes::copy(alloc, text)?),
     };
     business_reject(alloc, &refusal)
-}
-
-/// RefMsgType(372) of a type.
-pub(crate) fn ref_msg_type(alloc: Global, msg_type: &[u8]) -> Result<Bytes, AllocError>
-    ensures { IfOk result (λ cut. cut ≡ ref_msg_type msg_type.now) }
-{
-    Bytes::copy(alloc, front(msg_type, MAX_REF_MSG_TYPE))
 }
 
 /// The text that a tag has no counterpart.

@@ -4,13 +4,12 @@ ghost use Rattle.std.specs.Prelude.{◌≡◌, ◌++◌, true, false, IfOk, OnOk
 ghost use Rattle.reject_rules.specs.Renumbered.{renumbered, refuser_of, words_if, quote_if};
 ghost use Rattle.reject_rules.specs.Renumbered.{rejected_text};
 
-use crate::Said;
 use crate::content::business_reject;
 use crate::reasons::{OTHER, business_reason, business_text};
-use crate::refusals::ref_msg_type;
 use crate::text::quoted;
 use itoa::Buffer;
 use order_meaning::{Bytes, Refusal, Side};
+use session_core::{Said, ref_msg_type};
 use std::alloc::{AllocError, Global};
 
 /// What is said to a side of its own message of the number `far` and the type `far_type`, which the
@@ -61,7 +60,7 @@ fn passed_on(
     };
     let renumbered = Refusal {
         number: Some(far),
-        msg_type: Some(ref_msg_type(alloc, far_type)?),
+        msg_type: Some(Bytes::copy(alloc, ref_msg_type(far_type))?),
         id,
         tag: None,
         reason: refusal.reason.map(|reason| business_reason(side, reason)),
@@ -82,7 +81,7 @@ fn rejected(
 {
     let renumbered = Refusal {
         number: Some(far),
-        msg_type: Some(ref_msg_type(alloc, far_type)?),
+        msg_type: Some(Bytes::copy(alloc, ref_msg_type(far_type))?),
         id: None,
         tag: None,
         reason: Some(OTHER),

@@ -1,4 +1,5 @@
 pub mod Head
 pub mod Laws
 pub mod Numbers
+pub mod Said
 pub mod Table

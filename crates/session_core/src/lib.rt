@@ -14,6 +14,7 @@ pub mod laws;
 mod message;
 mod numbers;
 pub mod reason;
+mod said;
 mod session;
 pub mod tag;
 #[cfg(test)]
@@ -24,4 +25,5 @@ pub use act::{Act, Admin, Why};
 pub use acts::{Acts, MAX_ACTS};
 pub use head::{Head, What};
 pub use numbers::{ALL_USED, MAX_MSG_SEQ_NUM, Numbers};
+pub use said::{MAX_REF_MSG_TYPE, Said, ref_msg_type};
 pub use session::{Ask, LinkState, Session, Spent, Step};

@@ -1,6 +1,6 @@
 -- The header of the fields up to a place, and one more.
-use Rattle.std.proofs.Common.{◌≡◌, ℕ, ◌+◌, ◌==◌, ◌∙◌, true, false, List, [], ◌∷◌, ◌++◌, Some, None}
-use Rattle.std.proofs.Common.{refl, ap, take, map, find, get_or, length, ◌<◌}
+use Rattle.std.proofs.Common.{◌≡◌, ℕ, ◌+◌, ◌==◌, ◌∙◌, Bool, true, false, List, [], ◌∷◌, ◌++◌, Some}
+use Rattle.std.proofs.Common.{None, refl, ap, take, map, find, get_or, length, ◌<◌}
 use Rattle.std.proofs.Common.{if◌then◌else◌}
 use Rattle.std.specs.declared.option.Option.{Option}
 use Rattle.std.specs.Option.{option_map, option_or}
@@ -9,9 +9,12 @@ use Rattle.std.proofs.lemmas.List.{map-append, take_more}
 use Rattle.field_groups.specs.Field.{Field}
 use Rattle.session_core.specs.declared.tag.TheConstants.{MSG_SEQ_NUM, POSS_DUP_FLAG, SENDER_COMP_ID}
 use Rattle.session_core.specs.declared.tag.TheConstants.{SENDING_TIME, TARGET_COMP_ID}
-use Rattle.session_logon.specs.First.{first_value}
+use Rattle.message_tables.specs.Tables.{value_at}
 use Rattle.session_logon.specs.Header.{HeaderValues, header_of, noted, value_if}
-use Rattle.session_logon.proofs.FirstLemmas.{has}
+
+-- the test that a field has a tag
+abbrev pub has : ℕ → Field → Bool
+has tag field = field.0 == tag
 
 -- the value of what was found first, or then
 value_or : (a b : Option Field) → option_map (λ f. f.1) (option_or a b)
@@ -19,18 +22,18 @@ value_or : (a b : Option Field) → option_map (λ f. f.1) (option_or a b)
 value_or None b = refl
 value_or (Some f) b = refl
 
-value_one : (tag : ℕ) (field : Field) → first_value tag (field ∷ []) ≡ value_if tag field
+value_one : (tag : ℕ) (field : Field) → value_at tag (field ∷ []) ≡ value_if tag field
 value_one tag field =
     elim (field.0 == tag) as (λ b. option_map (λ f. f.1) (if b then Some field else None)
     ≡ (if b then Some field.1 else None)) [ true ↦ refl | false ↦ refl ]
 
 -- the first value among some fields and one more
-pub first_value-push : (tag : ℕ) (fields : List Field) (field : Field) → first_value
-    tag (fields ++ field ∷ []) ≡ option_or (first_value tag fields) (value_if tag field)
-first_value-push tag fields field =
+pub value_at-push : (tag : ℕ) (fields : List Field) (field : Field) → value_at
+    tag (fields ++ field ∷ []) ≡ option_or (value_at tag fields) (value_if tag field)
+value_at-push tag fields field =
     ap (λ o. option_map (λ f. f.1) o) (find-append (has tag) fields (field ∷ []))
     ∙ value_or (find (has tag) fields) (find (has tag) (field ∷ []))
-    ∙ ap (option_or (first_value tag fields)) (value_one tag field)
+    ∙ ap (option_or (value_at tag fields)) (value_one tag field)
 
 abbrev header : Option (List ℕ)
     → Option (List ℕ) → Option (List ℕ) → Option (List ℕ) → Option (List ℕ) → HeaderValues
@@ -40,21 +43,21 @@ header sender target number dup time =
 header_of_push : (fields : List Field) (field : Field)
     → header_of (fields ++ field ∷ []) ≡ noted field (header_of fields)
 header_of_push fields field =
-    let sender : first_value SENDER_COMP_ID (fields ++ field ∷ [])
-    ≡ option_or (first_value SENDER_COMP_ID fields) (value_if SENDER_COMP_ID field) =
-    first_value-push SENDER_COMP_ID fields field in
-    let target : first_value TARGET_COMP_ID (fields ++ field ∷ [])
-    ≡ option_or (first_value TARGET_COMP_ID fields) (value_if TARGET_COMP_ID field) =
-    first_value-push TARGET_COMP_ID fields field in
-    let number : first_value MSG_SEQ_NUM (fields ++ field ∷ [])
-    ≡ option_or (first_value MSG_SEQ_NUM fields) (value_if MSG_SEQ_NUM field) =
-    first_value-push MSG_SEQ_NUM fields field in
-    let dup : first_value POSS_DUP_FLAG (fields ++ field ∷ [])
-    ≡ option_or (first_value POSS_DUP_FLAG fields) (value_if POSS_DUP_FLAG field) =
-    first_value-push POSS_DUP_FLAG fields field in
-    let time : first_value SENDING_TIME (fields ++ field ∷ [])
-    ≡ option_or (first_value SENDING_TIME fields) (value_if SENDING_TIME field) =
-    first_value-push SENDING_TIME fields field in
+    let sender : value_at SENDER_COMP_ID (fields ++ field ∷ [])
+    ≡ option_or (value_at SENDER_COMP_ID fields) (value_if SENDER_COMP_ID field) =
+    value_at-push SENDER_COMP_ID fields field in
+    let target : value_at TARGET_COMP_ID (fields ++ field ∷ [])
+    ≡ option_or (value_at TARGET_COMP_ID fields) (value_if TARGET_COMP_ID field) =
+    value_at-push TARGET_COMP_ID fields field in
+    let number : value_at MSG_SEQ_NUM (fields ++ field ∷ [])
+    ≡ option_or (value_at MSG_SEQ_NUM fields) (value_if MSG_SEQ_NUM field) =
+    value_at-push MSG_SEQ_NUM fields field in
+    let dup : value_at POSS_DUP_FLAG (fields ++ field ∷ [])
+    ≡ option_or (value_at POSS_DUP_FLAG fields) (value_if POSS_DUP_FLAG field) =
+    value_at-push POSS_DUP_FLAG fields field in
+    let time : value_at SENDING_TIME (fields ++ field ∷ [])
+    ≡ option_or (value_at SENDING_TIME fields) (value_if SENDING_TIME field) =
+    value_at-push SENDING_TIME fields field in
     rw (sender, target, number, dup, time) refl
 
 -- fields that are seen through a view: one more

@@ -1,4 +1,3 @@
-mod FirstLemmas
 mod HeaderLemmas
 mod ReadBack
 mod Worked

@@ -40,7 +40,7 @@ use Rattle.session_logon.specs.declared.logon.TheConstants.{MAX_HEART}
 use Rattle.session_logon.specs.declared.reasons.TheConstants.{MAX_TEXT}
 use Rattle.order_meaning.specs.declared.reasons.TheConstants.{MAX_REASON42}
 use Rattle.order_meaning.specs.Reasons.{later_reason_words}
-use Rattle.session_logon.specs.First.{first_value}
+use Rattle.message_tables.specs.Tables.{value_at}
 use Rattle.session_logon.specs.Reasons.{required, read_between, text_fault}
 use Rattle.session_logon.specs.Logon.{is_yes}
 use Rattle.session_logon.specs.Head.{number_in, wrong_name, wrong_time, time_fault, distance}
@@ -50,7 +50,7 @@ use Rattle.session_logon.specs.Content.{logout_text, heartbeat_fields, test_requ
 use Rattle.session_logon.specs.Content.{resend_request_fields, rejected_fields, reason_fields}
 use Rattle.session_logon.specs.Content.{text_field, gap_fill_fields}
 use Rattle.session_logon.specs.Laws.{Heading, header_fields, turned, meant, IsSayable, IsReadAs}
-use Rattle.session_logon.proofs.FirstLemmas.{has}
+use Rattle.session_logon.proofs.HeaderLemmas.{has}
 
 -- ---- values that are read back
 
@@ -106,7 +106,7 @@ IsOutside tag = (nat_eq MSG_TYPE tag ≡ false)
 -- its first field is that of what stands behind the header
 behind : (tag : ℕ) → IsOutside tag
     → (side : Side) (names : Names) (msg_type : List ℕ) (h : Heading) (content : List Field)
-    → first_value tag (header_fields side names msg_type h ++ content) ≡ first_value tag content
+    → value_at tag (header_fields side names msg_type h ++ content) ≡ value_at tag content
 behind tag o side names msg_type h content =
     let header : List Field = header_fields side names msg_type h in
     let lacks : find (has tag) header ≡ None =
@@ -118,8 +118,8 @@ behind tag o side names msg_type h content =
 -- PossDupFlag(43) of the header, where nothing behind it has one
 dup_back : (side : Side) (names : Names) (msg_type : List ℕ)
     (number : ℕ) (dup resend : Bool) (sent : Stamp) (first : Option Stamp) (content : List Field)
-    → first_value POSS_DUP_FLAG content ≡ None
-    → is_yes (first_value POSS_DUP_FLAG (header_fields side names msg_type (record {
+    → value_at POSS_DUP_FLAG content ≡ None
+    → is_yes (value_at POSS_DUP_FLAG (header_fields side names msg_type (record {
       number = number;
       dup = dup;
       resend = resend;
@@ -134,7 +134,7 @@ dup_back side names msg_type number false false sent (Some x) content none = rw 
 
 time_back : (side : Side) (names : Names) (msg_type : List ℕ)
     (number : ℕ) (dup resend : Bool) (sent : Stamp) (first : Option Stamp) (content : List Field)
-    → first_value SENDING_TIME (header_fields side names msg_type (record {
+    → value_at SENDING_TIME (header_fields side names msg_type (record {
       number = number;
       dup = dup;
       resend = resend;
@@ -176,31 +176,31 @@ time_good window now sent value is near e =
     rw (e, stamp_reads_back sent is, le-leb (distance now sent) (SECOND * window) near) refl
 
 head_back : (side : Side) (msg_type : List ℕ) (content : List Field) (w : What)
-    → first_value POSS_DUP_FLAG content ≡ None
+    → value_at POSS_DUP_FLAG content ≡ None
     → ((names : Names) (h : Heading)
     → kind_of side msg_type (header_fields side names msg_type h ++ content) ≡ w)
     → IsReadAs side msg_type content w
 head_back side msg_type content w none kind names window h now timely =
     let fields : List Field = header_fields side names msg_type h ++ content in
-    same_head (number_in fields) (Some h.number) (is_yes (first_value POSS_DUP_FLAG fields)) h.dup
+    same_head (number_in fields) (Some h.number) (is_yes (value_at POSS_DUP_FLAG fields)) h.dup
     (wrong_name side (turned names) fields)
     (wrong_time window now fields) (kind_of side msg_type fields) w
     (number_good h.number timely.number)
     (dup_back side names msg_type h.number h.dup h.resend h.sent h.first content none)
     (names_good side names msg_type h content)
-    (time_good window now h.sent (first_value SENDING_TIME fields) timely.stamp timely.near
+    (time_good window now h.sent (value_at SENDING_TIME fields) timely.stamp timely.near
     (time_back side names msg_type h.number h.dup h.resend h.sent h.first content))
     (kind names h)
 
 -- ---- the kinds
 
 logon_good : (side : Side) (reset : Bool) (heart : ℕ) → heart ≤ MAX_HEART → (fields : List Field)
-    → first_value ENCRYPT_METHOD fields ≡ first_value ENCRYPT_METHOD (logon_fields side reset heart)
-    → first_value HEART_BT_INT fields ≡ first_value HEART_BT_INT (logon_fields side reset heart)
-    → first_value DEFAULT_APPL_VER_ID fields
-    ≡ first_value DEFAULT_APPL_VER_ID (logon_fields side reset heart)
-    → first_value RESET_SEQ_NUM_FLAG fields
-    ≡ first_value RESET_SEQ_NUM_FLAG (logon_fields side reset heart)
+    → value_at ENCRYPT_METHOD fields ≡ value_at ENCRYPT_METHOD (logon_fields side reset heart)
+    → value_at HEART_BT_INT fields ≡ value_at HEART_BT_INT (logon_fields side reset heart)
+    → value_at DEFAULT_APPL_VER_ID fields
+    ≡ value_at DEFAULT_APPL_VER_ID (logon_fields side reset heart)
+    → value_at RESET_SEQ_NUM_FLAG fields
+    ≡ value_at RESET_SEQ_NUM_FLAG (logon_fields side reset heart)
     → kind_of side (codes "A") fields ≡ meant side (admin.Logon reset) heart
 logon_good Client true heart h fields a b c d =
     let read : read_between 0 MAX_HEART (decimal heart) ≡ Ok heart =
@@ -228,7 +228,7 @@ text_good n is =
     rw (not_zero (length (codes "T" ++ decimal n)) (omega arith), small) refl
 
 test_good : (side : Side) (n : ℕ) → IsMsgSeqNum n
-    → (fields : List Field) → first_value TEST_REQ_ID fields ≡ Some (codes "T" ++ decimal n)
+    → (fields : List Field) → value_at TEST_REQ_ID fields ≡ Some (codes "T" ++ decimal n)
     → kind_of side (codes "1") fields ≡ what.TestRequest
 test_good side n is fields e = rw e (ap test_request_kind (text_good n is))
 
@@ -241,8 +241,8 @@ zero_back =
     subst (λ bytes. read_number bytes ≡ Ok (record { value = 0 })) text read
 
 resend_good : (side : Side) (from : ℕ) → IsMsgSeqNum from
-    → (fields : List Field) → first_value BEGIN_SEQ_NO fields ≡ Some (decimal from)
-    → first_value END_SEQ_NO fields ≡ Some (codes "0")
+    → (fields : List Field) → value_at BEGIN_SEQ_NO fields ≡ Some (decimal from)
+    → value_at END_SEQ_NO fields ≡ Some (codes "0")
     → kind_of side (codes "2") fields ≡ what.ResendRequest from 0
 resend_good side from is fields a b =
     let read : read_between 1 MAX_MSG_SEQ_NUM (decimal from) ≡ Ok from =
@@ -250,8 +250,8 @@ resend_good side from is fields a b =
     rw (a, read, b, zero_back) refl
 
 gap_good : (side : Side) (to : ℕ)
-    → IsNextNumber to → (fields : List Field) → first_value GAP_FILL_FLAG fields ≡ Some (codes "Y")
-    → first_value NEW_SEQ_NO fields ≡ Some (decimal to)
+    → IsNextNumber to → (fields : List Field) → value_at GAP_FILL_FLAG fields ≡ Some (codes "Y")
+    → value_at NEW_SEQ_NO fields ≡ Some (decimal to)
     → kind_of side (codes "4") fields ≡ what.GapFill to
 gap_good side to is fields a b =
     let read : read_between 1 ALL_USED (decimal to) ≡ Ok to =
@@ -260,29 +260,29 @@ gap_good side to is fields a b =
 -- ---- what is said has no PossDupFlag(43) of its own
 
 logon_undup : (side : Side) (reset : Bool) (heart : ℕ)
-    → first_value POSS_DUP_FLAG (logon_fields side reset heart) ≡ None
+    → value_at POSS_DUP_FLAG (logon_fields side reset heart) ≡ None
 logon_undup Client true heart = refl
 logon_undup Client false heart = refl
 logon_undup Venue reset heart = refl
 
-logout_undup : (text : List ℕ) → first_value POSS_DUP_FLAG (logout_fields text) ≡ None
-logout_undup text = elim (length text == 0) as (λ b. first_value
+logout_undup : (text : List ℕ) → value_at POSS_DUP_FLAG (logout_fields text) ≡ None
+logout_undup text = elim (length text == 0) as (λ b. value_at
     POSS_DUP_FLAG (if b then [] else (TEXT, text) ∷ []) ≡ None) [ true ↦ refl | false ↦ refl ]
 
 heartbeat_undup : (has : Bool) (echo : List ℕ)
-    → first_value POSS_DUP_FLAG (heartbeat_fields has echo) ≡ None
+    → value_at POSS_DUP_FLAG (heartbeat_fields has echo) ≡ None
 heartbeat_undup true echo = refl
 heartbeat_undup false echo = refl
 
-text_undup : (text : Option (List ℕ)) → first_value POSS_DUP_FLAG (text_field text) ≡ None
+text_undup : (text : Option (List ℕ)) → value_at POSS_DUP_FLAG (text_field text) ≡ None
 text_undup None = refl
 text_undup (Some text) = refl
 
 reason_undup : (side : Side) (reason : ℕ)
-    → first_value POSS_DUP_FLAG (reason_fields side reason) ≡ None
+    → value_at POSS_DUP_FLAG (reason_fields side reason) ≡ None
 reason_undup Client reason =
     elim (nat_le reason MAX_REASON42) as (λ b.
-    first_value POSS_DUP_FLAG (if b then (SESSION_REJECT_REASON, decimal reason) ∷ []
+    value_at POSS_DUP_FLAG (if b then (SESSION_REJECT_REASON, decimal reason) ∷ []
     else text_field (later_reason_words reason)) ≡ None)
     [ true ↦ refl | false ↦ text_undup (later_reason_words reason) ]
 reason_undup Venue reason = refl

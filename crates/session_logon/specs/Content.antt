@@ -3,7 +3,7 @@
 --
 -- What a session says: the type and the fields of each of its messages, behind the standard header.
 use Rattle.std.specs.Prelude.{ℕ, ◌==◌, Bool, true, false, List, [], ◌∷◌, ◌++◌, Some, None, codes}
-use Rattle.std.specs.Prelude.{length, nat_le, take, if◌then◌else◌}
+use Rattle.std.specs.Prelude.{length, nat_le, if◌then◌else◌}
 use Rattle.std.specs.declared.option.Option.{Option}
 use Rattle.std.specs.Fmt.{decimal}
 use Rattle.order_meaning.specs.declared.Side.{Side}
@@ -21,8 +21,8 @@ use Rattle.session_core.specs.declared.tag.TheConstants.{HEART_BT_INT, TEST_REQ_
 use Rattle.session_core.specs.declared.tag.TheConstants.{RESET_SEQ_NUM_FLAG, REF_TAG_ID}
 use Rattle.session_core.specs.declared.tag.TheConstants.{REF_MSG_TYPE, SESSION_REJECT_REASON}
 use Rattle.session_core.specs.declared.tag.TheConstants.{DEFAULT_APPL_VER_ID}
-use Rattle.session_logon.specs.declared.content.TheConstants.{MAX_MSG_TYPE}
-use Rattle.session_logon.specs.declared.content.Said42.{Said42}
+use Rattle.session_core.specs.declared.said.Said.{Said}
+use Rattle.session_core.specs.Said.{ref_msg_type}
 
 -- MsgType(35)
 abbrev pub type_of : Admin → List ℕ
@@ -86,7 +86,7 @@ reason_fields Venue reason = (SESSION_REJECT_REASON, decimal reason) ∷ []
 abbrev pub rejected_fields : ℕ → ℕ → List ℕ → List Field
 rejected_fields tag number msg_type =
     (REF_SEQ_NUM, decimal number) ∷ (REF_TAG_ID, decimal tag)
-    ∷ (REF_MSG_TYPE, take MAX_MSG_TYPE msg_type) ∷ []
+    ∷ (REF_MSG_TYPE, ref_msg_type msg_type) ∷ []
 
 -- The fields of a session's message to this side: HeartBtInt(108) is `heart`, its own number
 -- `next_out`. It may answer a message of this number and type, with this TestReqID(112).
@@ -108,7 +108,7 @@ abbrev pub is_admin : Admin → Bool
 is_admin (admin.Reject tag reason) = false
 is_admin other = true
 
-abbrev pub said : Side → Admin → ℕ → ℕ → ℕ → List ℕ → List ℕ → Said42
+abbrev pub said : Side → Admin → ℕ → ℕ → ℕ → List ℕ → List ℕ → Said
 said side a heart next_out number msg_type echo = record {
   msg_type = type_of a;
   content = body_of (fields_of side a heart next_out number msg_type echo);

@@ -26,7 +26,7 @@ use Rattle.session_core.specs.declared.head.What.TheVariants as what
 use Rattle.session_logon.specs.declared.head.TheConstants.{SECOND}
 use Rattle.session_logon.specs.declared.logon.LogonFault.{LogonFault}
 use Rattle.session_logon.specs.declared.logon.LogonFault.TheVariants.{Tag}
-use Rattle.session_logon.specs.First.{first_value}
+use Rattle.message_tables.specs.Tables.{value_at}
 use Rattle.session_logon.specs.Reasons.{required, read_between, read_zero_or_from, text_fault}
 use Rattle.session_logon.specs.Logon.{is_text, is_yes, logon_of}
 
@@ -35,7 +35,7 @@ use Rattle.session_logon.specs.Logon.{is_text, is_yes, logon_of}
 -- MsgSeqNum(34): a number from 1 to 999,999,999, or none
 abbrev pub number_in : List Field → Option ℕ
 number_in fields =
-    result_ok (required (read_between 1 MAX_MSG_SEQ_NUM) (first_value MSG_SEQ_NUM fields))
+    result_ok (required (read_between 1 MAX_MSG_SEQ_NUM) (value_at MSG_SEQ_NUM fields))
 
 -- who speaks to the gateway on this side, and how it is called there
 abbrev pub peer : Side → Names → List ℕ
@@ -55,7 +55,7 @@ wrong_of side names sender target =
 
 abbrev pub wrong_name : Side → Names → List Field → Option ℕ
 wrong_name side names fields =
-    wrong_of side names (first_value SENDER_COMP_ID fields) (first_value TARGET_COMP_ID fields)
+    wrong_of side names (value_at SENDER_COMP_ID fields) (value_at TARGET_COMP_ID fields)
 
 -- how far a stamp is from a moment, in milliseconds
 abbrev pub distance : ℕ → Stamp → ℕ
@@ -70,7 +70,7 @@ time_fault window now (Err reason) = Some reason
 
 abbrev pub wrong_time : ℕ → ℕ → List Field → Option ℕ
 wrong_time window now fields =
-    time_fault window now (required read_stamp (first_value SENDING_TIME fields))
+    time_fault window now (required read_stamp (value_at SENDING_TIME fields))
 
 -- ---- the kinds of messages, with their own fields
 
@@ -90,7 +90,7 @@ end_kind from (Err reason) = what.Faulty END_SEQ_NO reason
 
 abbrev pub resend_request_kind : Result ℕ ℕ → List Field → What
 resend_request_kind (Ok from) fields =
-    end_kind from (required (read_zero_or_from from) (first_value END_SEQ_NO fields))
+    end_kind from (required (read_zero_or_from from) (value_at END_SEQ_NO fields))
 resend_request_kind (Err reason) fields = what.Faulty BEGIN_SEQ_NO reason
 
 -- SequenceReset: NewSeqNo(36), in gap fill mode where GapFillFlag(123) is `Y`, and else in reset
@@ -107,21 +107,21 @@ kind_of side msg_type fields =
     if bytes_eq msg_type (codes "A") then logon_kind (logon_of side fields)
     else (if bytes_eq msg_type (codes "0") then what.Heartbeat
     else (if bytes_eq msg_type (codes "1") then
-    test_request_kind (text_fault (first_value TEST_REQ_ID fields))
+    test_request_kind (text_fault (value_at TEST_REQ_ID fields))
     else (if bytes_eq msg_type (codes "2") then
     resend_request_kind
-    (required (read_between 1 MAX_MSG_SEQ_NUM) (first_value BEGIN_SEQ_NO fields)) fields
+    (required (read_between 1 MAX_MSG_SEQ_NUM) (value_at BEGIN_SEQ_NO fields)) fields
     else (if bytes_eq msg_type (codes "3") then what.Reject
     else (if bytes_eq msg_type (codes "4") then
-    sequence_reset_kind (is_yes (first_value GAP_FILL_FLAG fields))
-    (required (read_between 1 ALL_USED) (first_value NEW_SEQ_NO fields))
+    sequence_reset_kind (is_yes (value_at GAP_FILL_FLAG fields))
+    (required (read_between 1 ALL_USED) (value_at NEW_SEQ_NO fields))
     else (if bytes_eq msg_type (codes "5") then what.Logout else what.App))))))
 
 -- ---- the head of a message that came from this side at this moment
 abbrev pub head_of : Side → Names → ℕ → List ℕ → List Field → ℕ → Head
 head_of side names window msg_type fields now = record {
   number = number_in fields;
-  dup = is_yes (first_value POSS_DUP_FLAG fields);
+  dup = is_yes (value_at POSS_DUP_FLAG fields);
   comp = wrong_name side names fields;
   time = wrong_time window now fields;
   what = kind_of side msg_type fields;

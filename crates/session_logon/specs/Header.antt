@@ -5,7 +5,7 @@ use Rattle.std.specs.Option.{option_or}
 use Rattle.field_groups.specs.Field.{Field}
 use Rattle.session_core.specs.declared.tag.TheConstants.{MSG_SEQ_NUM, POSS_DUP_FLAG, SENDER_COMP_ID}
 use Rattle.session_core.specs.declared.tag.TheConstants.{SENDING_TIME, TARGET_COMP_ID}
-use Rattle.session_logon.specs.First.{first_value}
+use Rattle.message_tables.specs.Tables.{value_at}
 
 -- the values of the header's fields
 pub record HeaderValues : Type 0 where
@@ -18,11 +18,11 @@ pub record HeaderValues : Type 0 where
 -- each the first one of its tag
 abbrev pub header_of : List Field → HeaderValues
 header_of fields = record {
-  sender = first_value SENDER_COMP_ID fields;
-  target = first_value TARGET_COMP_ID fields;
-  number = first_value MSG_SEQ_NUM fields;
-  dup = first_value POSS_DUP_FLAG fields;
-  time = first_value SENDING_TIME fields;
+  sender = value_at SENDER_COMP_ID fields;
+  target = value_at TARGET_COMP_ID fields;
+  number = value_at MSG_SEQ_NUM fields;
+  dup = value_at POSS_DUP_FLAG fields;
+  time = value_at SENDING_TIME fields;
 }
 
 -- the value of a field if it has this tag

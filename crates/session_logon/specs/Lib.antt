@@ -1,5 +1,4 @@
 pub mod Content
-pub mod First
 pub mod Head
 pub mod Header
 pub mod Laws

@@ -18,7 +18,7 @@ use Rattle.session_core.specs.declared.tag.TheConstants.{DEFAULT_APPL_VER_ID, RE
 use Rattle.session_logon.specs.declared.logon.TheConstants.{MAX_HEART}
 use Rattle.session_logon.specs.declared.logon.LogonFault.{LogonFault}
 use Rattle.session_logon.specs.declared.logon.LogonFault.TheVariants.{Tag}
-use Rattle.session_logon.specs.First.{first_value}
+use Rattle.message_tables.specs.Tables.{value_at}
 use Rattle.session_logon.specs.Reasons.{required, read_between}
 
 -- the field is there and has just this value
@@ -42,18 +42,18 @@ is_flag_or_none (Some value) = is_ok (read_flag value)
 
 -- HeartBtInt(108), in seconds
 abbrev pub heart_in : List Field → Result ℕ ℕ
-heart_in fields = required (read_between 0 MAX_HEART) (first_value HEART_BT_INT fields)
+heart_in fields = required (read_between 0 MAX_HEART) (value_at HEART_BT_INT fields)
 
 -- the venue's Logon says which version of the application it speaks: 9 is FIX 5.0 SP2
 abbrev pub is_version : Side → List Field → Bool
 is_version Client fields = true
-is_version Venue fields = is_text (codes "9") (first_value DEFAULT_APPL_VER_ID fields)
+is_version Venue fields = is_text (codes "9") (value_at DEFAULT_APPL_VER_ID fields)
 
 -- What a Logon says: HeartBtInt(108), and whether ResetSeqNumFlag(141) is `Y`. Else the first tag
 -- whose field is wrong, in the order 98, 108, 1137, 141.
 abbrev pub logon_of : Side → List Field → Result (ℕ × Bool) LogonFault
 logon_of side fields =
-    if is_text (codes "0") (first_value ENCRYPT_METHOD fields) then with_heart (heart_in fields)
+    if is_text (codes "0") (value_at ENCRYPT_METHOD fields) then with_heart (heart_in fields)
     side fields
     else Err (Tag ENCRYPT_METHOD)
   where
@@ -61,7 +61,7 @@ logon_of side fields =
     with_heart (Err reason) side fields = Err (Tag HEART_BT_INT)
     with_heart (Ok heart) side fields =
         if is_version side fields then
-        (if is_flag_or_none (first_value RESET_SEQ_NUM_FLAG fields)
-        then Ok (heart, is_yes (first_value RESET_SEQ_NUM_FLAG fields)) else Err
+        (if is_flag_or_none (value_at RESET_SEQ_NUM_FLAG fields)
+        then Ok (heart, is_yes (value_at RESET_SEQ_NUM_FLAG fields)) else Err
         (Tag RESET_SEQ_NUM_FLAG))
         else Err (Tag DEFAULT_APPL_VER_ID)

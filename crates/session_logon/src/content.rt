@@ -2,36 +2,21 @@
 
 ghost use Rattle.std.specs.Prelude.{◌≡◌, ◌++◌, IfOk, OnOk, codes, decimal};
 ghost use Rattle.std.specs.Option.{option_map};
-ghost use Rattle.field_groups.specs.Field.{body_of, field_bytes};
+ghost use Rattle.field_groups.specs.Field.{body_of};
 ghost use Rattle.session_logon.specs.Content.{said, type_of, logon_fields};
 ghost use Rattle.session_logon.specs.Content.{logout_text, logout_fields, heartbeat_fields};
 ghost use Rattle.session_logon.specs.Content.{test_request_fields, resend_request_fields};
 ghost use Rattle.session_logon.specs.Content.{rejected_fields, reason_fields, text_field};
 
-use field_groups::SOH;
+use field_groups::{put_field, put_number};
 use itoa::Buffer;
 use order_meaning::{Bytes, MAX_REASON42, Side, later_reason_words};
 use session_core::tag::{
     BEGIN_SEQ_NO, DEFAULT_APPL_VER_ID, ENCRYPT_METHOD, END_SEQ_NO, HEART_BT_INT, REF_MSG_TYPE,
     REF_SEQ_NUM, REF_TAG_ID, RESET_SEQ_NUM_FLAG, SESSION_REJECT_REASON, TEST_REQ_ID, TEXT,
 };
-use session_core::{Admin, Why};
+use session_core::{Admin, Said, Why, ref_msg_type};
 use std::alloc::{AllocError, Global};
-
-/// How many bytes of a MsgType(35) a Reject repeats (own).
-pub const MAX_MSG_TYPE: usize = 8;
-
-/// A message as it is said: the type, what stands behind the standard header, and what is done
-/// where messages are sent again.
-#[derive(Debug, Drop)]
-pub struct Said42 {
-    /// MsgType(35).
-    pub msg_type: Bytes,
-    /// The fields behind the header, as they are written.
-    pub content: Bytes,
-    /// A gap fill stands for it where messages are sent again. It does not for a Reject alone.
-    pub admin: bool,
-}
 
 // MsgType(35).
 fn type_of(admin: &Admin) -> &'static [u8]
@@ -47,40 +32,23 @@ fn type_of(admin: &Admin) -> &'static [u8]
     }
 }
 
-// Appends a number in decimal digits.
+// Appends a number in decimal digits to a text.
 fn push_number(out: &mut Bytes, number: u32) -> Result<(), AllocError>
     ensures { OnOk result (out.new ≡ out.old ++ decimal number) }
 {
     out.extend_from_slice(Buffer::new().format(number).as_bytes())
 }
 
-// Appends a field.
-#[tactic(auto, unfolding(field_groups::specs::Field::field_bytes))]
-fn push_field(out: &mut Bytes, tag: u32, value: &[u8]) -> Result<(), AllocError>
-    ensures { OnOk result (out.new ≡ out.old ++ field_bytes (tag, value.now)) }
+fn push_logon(out: &mut Vec<u8>, side: Side, reset: bool, heart: u32) -> Result<(), AllocError>
+    ensures { OnOk result (out.new.items
+        ≡ out.old.items ++ body_of (logon_fields side reset heart)) }
 {
-    push_number(out, tag)?;
-    out.extend_from_slice(b"=")?;
-    out.extend_from_slice(value)?;
-    out.extend_from_slice(&[SOH])
-}
-
-// Appends a field whose value is a number.
-fn push_number_field(out: &mut Bytes, tag: u32, number: u32) -> Result<(), AllocError>
-    ensures { OnOk result (out.new ≡ out.old ++ field_bytes (tag, decimal number)) }
-{
-    push_field(out, tag, Buffer::new().format(number).as_bytes())
-}
-
-fn push_logon(out: &mut Bytes, side: Side, reset: bool, heart: u32) -> Result<(), AllocError>
-    ensures { OnOk result (out.new ≡ out.old ++ body_of (logon_fields side reset heart)) }
-{
-    push_field(out, ENCRYPT_METHOD, b"0")?;
-    push_number_field(out, HEART_BT_INT, heart)?;
+    put_field(out, ENCRYPT_METHOD, b"0")?;
+    put_number(out, HEART_BT_INT, heart)?;
     match side {
-        Side::Client if reset => push_field(out, RESET_SEQ_NUM_FLAG, b"Y"),
+        Side::Client if reset => put_field(out, RESET_SEQ_NUM_FLAG, b"Y"),
         Side::Client => Ok(()),
-        Side::Venue => push_field(out, DEFAULT_APPL_VER_ID, b"9"),
+        Side::Venue => put_field(out, DEFAULT_APPL_VER_ID, b"9"),
     }
 }
 
@@ -120,72 +88,75 @@ fn logout_text(alloc: Global, why: &Why) -> Result<Bytes, AllocError>
     }
 }
 
-fn push_logout(out: &mut Bytes, text: &[u8]) -> Result<(), AllocError>
-    ensures { OnOk result (out.new ≡ out.old ++ body_of (logout_fields text.now)) }
+fn push_logout(out: &mut Vec<u8>, text: &[u8]) -> Result<(), AllocError>
+    ensures { OnOk result (out.new.items ≡ out.old.items ++ body_of (logout_fields text.now)) }
 {
     if text.is_empty() {
         Ok(())
     } else {
-        push_field(out, TEXT, text)
+        put_field(out, TEXT, text)
     }
 }
 
-fn push_heartbeat(out: &mut Bytes, has_echo: bool, echo: &[u8]) -> Result<(), AllocError>
-    ensures { OnOk result (out.new ≡ out.old ++ body_of (heartbeat_fields has_echo echo.now)) }
+fn push_heartbeat(out: &mut Vec<u8>, has_echo: bool, echo: &[u8]) -> Result<(), AllocError>
+    ensures { OnOk result (out.new.items
+        ≡ out.old.items ++ body_of (heartbeat_fields has_echo echo.now)) }
 {
     if has_echo {
-        push_field(out, TEST_REQ_ID, echo)
+        put_field(out, TEST_REQ_ID, echo)
     } else {
         Ok(())
     }
 }
 
-fn push_test_request(alloc: Global, out: &mut Bytes, number: u32) -> Result<(), AllocError>
-    ensures { OnOk result (out.new ≡ out.old ++ body_of (test_request_fields number)) }
+fn push_test_request(alloc: Global, out: &mut Vec<u8>, number: u32) -> Result<(), AllocError>
+    ensures { OnOk result (out.new.items ≡ out.old.items ++ body_of (test_request_fields number)) }
 {
     let mut text = Bytes::copy(alloc, b"T")?;
     push_number(&mut text, number)?;
-    push_field(out, TEST_REQ_ID, text.as_slice())
+    put_field(out, TEST_REQ_ID, text.as_slice())
 }
 
-fn push_resend_request(out: &mut Bytes, from: u32) -> Result<(), AllocError>
-    ensures { OnOk result (out.new ≡ out.old ++ body_of (resend_request_fields from)) }
+fn push_resend_request(out: &mut Vec<u8>, from: u32) -> Result<(), AllocError>
+    ensures { OnOk result (out.new.items ≡ out.old.items ++ body_of (resend_request_fields from)) }
 {
-    push_number_field(out, BEGIN_SEQ_NO, from)?;
-    push_field(out, END_SEQ_NO, b"0")
+    put_number(out, BEGIN_SEQ_NO, from)?;
+    put_field(out, END_SEQ_NO, b"0")
 }
 
 // Appends a text, where there is one.
-fn push_text(out: &mut Bytes, text: Option<&[u8]>) -> Result<(), AllocError>
-    ensures { OnOk result (out.new ≡ out.old
+fn push_text(out: &mut Vec<u8>, text: Option<&[u8]>) -> Result<(), AllocError>
+    ensures { OnOk result (out.new.items ≡ out.old.items
         ++ body_of (text_field (option_map (λ text. text.now) text.entry))) }
 {
     match text {
-        Some(text) => push_field(out, TEXT, text),
+        Some(text) => put_field(out, TEXT, text),
         None => Ok(()),
     }
 }
 
-fn push_reason(out: &mut Bytes, side: Side, reason: u8) -> Result<(), AllocError>
-    ensures { OnOk result (out.new ≡ out.old ++ body_of (reason_fields side reason)) }
+fn push_reason(out: &mut Vec<u8>, side: Side, reason: u8) -> Result<(), AllocError>
+    ensures { OnOk result (out.new.items ≡ out.old.items ++ body_of (reason_fields side reason)) }
 {
     match side {
         Side::Client if reason > MAX_REASON42 => push_text(out, later_reason_words(reason)),
-        _ => push_number_field(out, SESSION_REJECT_REASON, u32::from(reason)),
+        _ => put_number(out, SESSION_REJECT_REASON, u32::from(reason)),
     }
 }
 
 // Names the message that is rejected, and the field.
-fn push_rejected(out: &mut Bytes, tag: u32, number: u32, msg_type: &[u8]) -> Result<(), AllocError>
-    ensures { OnOk result (out.new ≡ out.old ++ body_of (rejected_fields tag number msg_type.now)) }
+fn push_rejected(
+    out: &mut Vec<u8>,
+    tag: u32,
+    number: u32,
+    msg_type: &[u8],
+) -> Result<(), AllocError>
+    ensures { OnOk result (out.new.items
+        ≡ out.old.items ++ body_of (rejected_fields tag number msg_type.now)) }
 {
-    push_number_field(out, REF_SEQ_NUM, number)?;
-    push_number_field(out, REF_TAG_ID, tag)?;
-    push_field(
-        out,
-        REF_MSG_TYPE,
-        &msg_type[..msg_type.len().min(MAX_MSG_TYPE)],
-    )
+    put_number(out, REF_SEQ_NUM, number)?;
+    put_number(out, REF_TAG_ID, tag)?;
+    put_field(out, REF_MSG_TYPE, ref_msg_type(msg_type))
 }
 
 /// The message of a session to a side. (FIX 4.2 and FIXT 1.1, "Administrative Messages".)
@@ -206,11 +177,11 @@ pub fn say(
     number: u32,
     msg_type: &[u8],
     echo: &[u8],
-) -> Result<Said42, AllocError>
+) -> Result<Said, AllocError>
     ensures { IfOk result (λ message. message
         ≡ said side admin.now heart next_out number msg_type.now echo.now) }
 {
-    let mut content = Bytes::new(alloc);
+    let mut content = Vec::new(alloc);
     match admin {
         Admin::Logon { reset } => push_logon(&mut content, side, *reset, heart)?,
         Admin::Logout(why) => push_logout(&mut content, logout_text(alloc, why)?.as_slice())?,
@@ -222,9 +193,9 @@ pub fn say(
             push_reason(&mut content, side, *reason)?;
         }
     }
-    Ok(Said42 {
+    Ok(Said {
         msg_type: Bytes::copy(alloc, type_of(admin))?,
-        content,
+        content: Bytes::copy(alloc, &content)?,
         admin: !matches!(admin, Admin::Reject { .. }),
     })
 }

@@ -3,7 +3,7 @@
 ghost use Rattle.std.specs.Prelude.{◌≡◌};
 ghost use Rattle.std.specs.Option.{option_map};
 ghost use Rattle.session_core.specs.Head.{HasNumbers};
-ghost use Rattle.session_logon.specs.First.{first_value};
+ghost use Rattle.message_tables.specs.Tables.{value_at};
 ghost use Rattle.session_logon.specs.Head.{wrong_of, wrong_time, time_fault, distance};
 ghost use Rattle.session_logon.specs.Head.{peer, our, logon_kind, test_request_kind};
 ghost use Rattle.session_logon.specs.Head.{resend_request_kind, sequence_reset_kind, kind_of};
@@ -13,11 +13,11 @@ ghost use Rattle.session_logon.specs.Logon.{logon_of, is_yes};
 ghost use Rattle.session_logon.specs.Reasons.{required, read_between};
 ghost use Rattle.session_logon.specs.Reasons.{text_fault};
 
-use crate::first::first_value;
 use crate::header::Header;
 use crate::logon::{LogonFault, check_logon, is_text, is_yes};
 use crate::reasons::{number_between, reason_of, text_fault, zero_or_from};
 use field_groups::{Fields, Split};
+use message_tables::value;
 use order_meaning::{Names, Side};
 use session_core::reason::{REQUIRED_TAG_MISSING, SENDING_TIME_ACCURACY_PROBLEM};
 use session_core::tag::{
@@ -96,10 +96,10 @@ fn logon(side: Side, fields: &Fields<'_>) -> What
 }
 
 fn test_request(fields: &Fields<'_>) -> What
-    ensures kind { result ≡ test_request_kind (text_fault (first_value TEST_REQ_ID fields.now)) }
+    ensures kind { result ≡ test_request_kind (text_fault (value_at TEST_REQ_ID fields.now)) }
     ensures numbers { HasNumbers result }
 {
-    match text_fault(first_value(fields, TEST_REQ_ID)) {
+    match text_fault(value(fields.as_slice(), TEST_REQ_ID)) {
         None => What::TestRequest,
         Some(reason) => What::Faulty {
             tag: TEST_REQ_ID,
@@ -110,10 +110,10 @@ fn test_request(fields: &Fields<'_>) -> What
 
 fn resend_request(fields: &Fields<'_>) -> What
     ensures kind { result ≡ resend_request_kind (required (read_between 1 MAX_MSG_SEQ_NUM)
-        (first_value BEGIN_SEQ_NO fields.now)) fields.now }
+        (value_at BEGIN_SEQ_NO fields.now)) fields.now }
     ensures numbers { HasNumbers result }
 {
-    let from = match number_between(first_value(fields, BEGIN_SEQ_NO), 1, MAX_MSG_SEQ_NUM) {
+    let from = match number_between(value(fields.as_slice(), BEGIN_SEQ_NO), 1, MAX_MSG_SEQ_NUM) {
         Ok(from) => from,
         Err(reason) => {
             return What::Faulty {
@@ -122,7 +122,7 @@ fn resend_request(fields: &Fields<'_>) -> What
             };
         }
     };
-    match zero_or_from(first_value(fields, END_SEQ_NO), from) {
+    match zero_or_from(value(fields.as_slice(), END_SEQ_NO), from) {
         Ok(to) => What::ResendRequest { from, to },
         Err(reason) => What::Faulty {
             tag: END_SEQ_NO,
@@ -132,13 +132,13 @@ fn resend_request(fields: &Fields<'_>) -> What
 }
 
 fn sequence_reset(fields: &Fields<'_>) -> What
-    ensures kind { result ≡ sequence_reset_kind (is_yes (first_value GAP_FILL_FLAG fields.now))
-        (required (read_between 1 ALL_USED) (first_value NEW_SEQ_NO fields.now)) }
+    ensures kind { result ≡ sequence_reset_kind (is_yes (value_at GAP_FILL_FLAG fields.now))
+        (required (read_between 1 ALL_USED) (value_at NEW_SEQ_NO fields.now)) }
     ensures numbers { HasNumbers result }
 {
     let tag = NEW_SEQ_NO;
-    let to = number_between(first_value(fields, NEW_SEQ_NO), 1, ALL_USED);
-    match (is_yes(first_value(fields, GAP_FILL_FLAG)), to) {
+    let to = number_between(value(fields.as_slice(), NEW_SEQ_NO), 1, ALL_USED);
+    match (is_yes(value(fields.as_slice(), GAP_FILL_FLAG)), to) {
         (true, Ok(to)) => What::GapFill { to },
         (true, Err(reason)) => What::Faulty { tag, reason },
         (false, Ok(to)) => What::Reset { to },

@@ -10,7 +10,6 @@
 #![tactic(auto)]
 
 mod content;
-mod first;
 mod head;
 mod header;
 pub mod laws;
@@ -19,7 +18,8 @@ mod reasons;
 #[cfg(test)]
 mod tests;
 
-pub use content::{MAX_MSG_TYPE, Said42, say};
+pub use content::say;
 pub use head::read_head;
 pub use logon::{LogonFault, MAX_HEART, check_logon};
 pub use order_meaning::{Name, Names};
+pub use session_core::Said as Said42;

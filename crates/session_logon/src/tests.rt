@@ -217,97 +217,164 @@ fn windows(rt: HostRuntime) -> Result<(), Fail> {
     Ok(())
 }
 
-fn faulty(tag: u32, reason: u8) -> What {
-    What::Faulty { tag, reason }
+macro_rules! faulty {
+    ($tag:expr, $reason:expr) => {
+        What::Faulty {
+            tag: $tag,
+            reason: $reason,
+        }
+    };
 }
 
-fn faulty_reset(reason: u8) -> What {
-    What::FaultyReset { tag: 36, reason }
+macro_rules! faulty_reset {
+    ($reason:expr) => {
+        What::FaultyReset {
+            tag: 36,
+            reason: $reason,
+        }
+    };
 }
 
-#[test]
-fn kinds(rt: HostRuntime) -> Result<(), Fail> {
-    let names = names(&rt);
-    // the type and the fields behind a good header; the kind
-    #[rattlefmt::skip]
-    let rows: [(&[u8], &[u8], What); 69] = [
-        (b"0", b"", What::Heartbeat),
-        (b"0", b"112=|", What::Heartbeat),
-        (b"3", b"", What::Reject),
-        (b"5", b"58=bye|", What::Logout),
-        (b"D", b"7=x|", What::App),
-        (b"AA", b"98=0|108=30|", What::App),
-        (b"a", b"", What::App),
-        (b"00", b"", What::App),
-        (b"", b"", What::App),
-        (b"1", b"112=T7|", What::TestRequest),
-        (b"1", b"112= |", What::TestRequest),
-        (b"1", b"", faulty(112, 1)),
-        (b"1", b"112=|", faulty(112, 4)),
-        (b"1", b"112=|112=T|", faulty(112, 4)),
-        (b"1", b"112=T|112=|", What::TestRequest),
-        (b"2", b"7=1|16=0|", What::ResendRequest { from: 1, to: 0 }),
-        (b"2", b"16=3|7=2|", What::ResendRequest { from: 2, to: 3 }),
-        (b"2", b"7=2|7=9|16=3|16=1|", What::ResendRequest { from: 2, to: 3 }),
-        (b"2", b"7=5|16=5|", What::ResendRequest { from: 5, to: 5 }),
-        (b"2", b"7=5|16=4|", faulty(16, 5)),
-        (b"2", b"7=5|16=6|", What::ResendRequest { from: 5, to: 6 }),
-        (b"2", b"7=2|16=1|16=3|", faulty(16, 5)),
-        (b"2", b"7=x|7=2|16=3|", faulty(7, 6)),
-        (b"2", b"7=999999998|16=999999999|",
-            What::ResendRequest { from: 999_999_998, to: 999_999_999 }),
-        (b"2", b"7=999999999|16=999999998|", faulty(16, 5)),
-        (b"2", b"7=999999999|16=1000000000|",
-            What::ResendRequest { from: 999_999_999, to: 1_000_000_000 }),
-        (b"2", b"7=1|16=1000000001|", faulty(16, 5)),
-        (b"2", b"7=0|16=0|", faulty(7, 5)),
-        (b"2", b"7=1000000000|16=0|", faulty(7, 5)),
-        (b"2", b"16=0|", faulty(7, 1)),
-        (b"2", b"7=1|", faulty(16, 1)),
-        (b"2", b"", faulty(7, 1)),
-        (b"2", b"7=|16=|", faulty(7, 4)),
-        (b"2", b"7=1|16=|", faulty(16, 4)),
-        (b"2", b"16=x|7=x|", faulty(7, 6)),
-        (b"2", b"7=1|16=-1|", faulty(16, 6)),
-        (b"2", b"7=00000000001|16=0|", faulty(7, 6)),
-        (b"4", b"123=Y|36=5|", What::GapFill { to: 5 }),
-        (b"4", b"36=5|123=Y|", What::GapFill { to: 5 }),
-        (b"4", b"123=Y|123=N|36=5|36=7|", What::GapFill { to: 5 }),
-        (b"4", b"123=Y|36=x|36=5|", faulty(36, 6)),
-        (b"4", b"123=Y|36=1|", What::GapFill { to: 1 }),
-        (b"4", b"123=Y|36=2|", What::GapFill { to: 2 }),
-        (b"4", b"123=Y|36=999999999|", What::GapFill { to: 999_999_999 }),
-        (b"4", b"123=Y|36=1000000000|", What::GapFill { to: 1_000_000_000 }),
-        (b"4", b"123=Y|36=1000000001|", faulty(36, 5)),
-        (b"4", b"123=Y|36=0|", faulty(36, 5)),
-        (b"4", b"123=Y|", faulty(36, 1)),
-        (b"4", b"123=Y|36=|", faulty(36, 4)),
-        (b"4", b"123=Y|36=five|", faulty(36, 6)),
-        (b"4", b"36=5|", What::Reset { to: 5 }),
-        (b"4", b"123=N|36=5|", What::Reset { to: 5 }),
-        (b"4", b"123=N|123=Y|36=5|36=7|", What::Reset { to: 5 }),
-        (b"4", b"123=X|36=5|", What::Reset { to: 5 }),
-        (b"4", b"123=y|36=5|", What::Reset { to: 5 }),
-        (b"4", b"123=|36=5|", What::Reset { to: 5 }),
-        (b"4", b"36=1|", What::Reset { to: 1 }),
-        (b"4", b"36=2|", What::Reset { to: 2 }),
-        (b"4", b"36=999999999|", What::Reset { to: 999_999_999 }),
-        (b"4", b"36=1000000000|", What::Reset { to: 1_000_000_000 }),
-        (b"4", b"36=1000000001|", faulty_reset(5)),
-        (b"4", b"36=0|", faulty_reset(5)),
-        (b"4", b"", faulty_reset(1)),
-        (b"4", b"123=N|", faulty_reset(1)),
-        (b"4", b"36=|", faulty_reset(4)),
-        (b"4", b"36=5.0|", faulty_reset(6)),
-        (b"4", b"36=99999999999|", faulty_reset(6)),
-        (b"4", b"36=x|123=X|", faulty_reset(6)),
-        (b"4", b"36=0|36=5|", faulty_reset(5)),
-    ];
-    for (msg_type, fields, what) in rows {
-        let head = head(rt.alloc(), &names, Client, msg_type, HEADER, fields)?;
-        assert_eq!(rt; head.what, what, "{fields:?}");
+/// The fields behind a good header, and the kind of the message.
+type Reading = (&'static [u8], What);
+
+// Each message of this type is read as its kind, with nothing wrong in its header.
+fn read_as(
+    rt: &impl Abort,
+    alloc: Global,
+    msg_type: &[u8],
+    rows: &[Reading],
+) -> Result<(), AllocError> {
+    let names = names(rt);
+    for (fields, what) in rows {
+        let head = head(alloc, &names, Client, msg_type, HEADER, fields)?;
+        assert_eq!(rt; head.what, *what, "{fields:?}");
         assert_eq!(rt; (head.number, head.comp, head.time), (Some(2), None, None));
     }
+    Ok(())
+}
+
+/// Types of which no field is read: each with its fields and its kind.
+#[rattlefmt::skip]
+static OTHERS: [(&[u8], Reading); 9] = [
+    (b"0", (b"", What::Heartbeat)),
+    (b"0", (b"112=|", What::Heartbeat)),
+    (b"3", (b"", What::Reject)),
+    (b"5", (b"58=bye|", What::Logout)),
+    (b"D", (b"7=x|", What::App)),
+    (b"AA", (b"98=0|108=30|", What::App)),
+    (b"a", (b"", What::App)),
+    (b"00", (b"", What::App)),
+    (b"", (b"", What::App)),
+];
+
+#[test]
+fn types_of_which_no_field_is_read(rt: HostRuntime) -> Result<(), Fail> {
+    for (msg_type, row) in &OTHERS {
+        read_as(&rt, rt.alloc(), msg_type, &[*row])?;
+    }
+    Ok(())
+}
+
+#[rattlefmt::skip]
+static TEST_REQUESTS: [Reading; 6] = [
+    (b"112=T7|", What::TestRequest),
+    (b"112= |", What::TestRequest),
+    (b"", faulty!(112, 1)),
+    (b"112=|", faulty!(112, 4)),
+    (b"112=|112=T|", faulty!(112, 4)),
+    (b"112=T|112=|", What::TestRequest),
+];
+
+#[test]
+fn test_requests(rt: HostRuntime) -> Result<(), Fail> {
+    read_as(&rt, rt.alloc(), b"1", &TEST_REQUESTS)?;
+    Ok(())
+}
+
+#[rattlefmt::skip]
+static RESEND_REQUESTS: [Reading; 22] = [
+    (b"7=1|16=0|", What::ResendRequest { from: 1, to: 0 }),
+    (b"16=3|7=2|", What::ResendRequest { from: 2, to: 3 }),
+    (b"7=2|7=9|16=3|16=1|", What::ResendRequest { from: 2, to: 3 }),
+    (b"7=5|16=5|", What::ResendRequest { from: 5, to: 5 }),
+    (b"7=5|16=4|", faulty!(16, 5)),
+    (b"7=5|16=6|", What::ResendRequest { from: 5, to: 6 }),
+    (b"7=2|16=1|16=3|", faulty!(16, 5)),
+    (b"7=x|7=2|16=3|", faulty!(7, 6)),
+    (b"7=999999998|16=999999999|", What::ResendRequest { from: 999_999_998, to: 999_999_999 }),
+    (b"7=999999999|16=999999998|", faulty!(16, 5)),
+    (b"7=999999999|16=1000000000|", What::ResendRequest { from: 999_999_999, to: 1_000_000_000 }),
+    (b"7=1|16=1000000001|", faulty!(16, 5)),
+    (b"7=0|16=0|", faulty!(7, 5)),
+    (b"7=1000000000|16=0|", faulty!(7, 5)),
+    (b"16=0|", faulty!(7, 1)),
+    (b"7=1|", faulty!(16, 1)),
+    (b"", faulty!(7, 1)),
+    (b"7=|16=|", faulty!(7, 4)),
+    (b"7=1|16=|", faulty!(16, 4)),
+    (b"16=x|7=x|", faulty!(7, 6)),
+    (b"7=1|16=-1|", faulty!(16, 6)),
+    (b"7=00000000001|16=0|", faulty!(7, 6)),
+];
+
+#[test]
+fn resend_requests(rt: HostRuntime) -> Result<(), Fail> {
+    read_as(&rt, rt.alloc(), b"2", &RESEND_REQUESTS)?;
+    Ok(())
+}
+
+/// SequenceReset with GapFillFlag(123) `Y`.
+#[rattlefmt::skip]
+static GAP_FILLS: [Reading; 13] = [
+    (b"123=Y|36=5|", What::GapFill { to: 5 }),
+    (b"36=5|123=Y|", What::GapFill { to: 5 }),
+    (b"123=Y|123=N|36=5|36=7|", What::GapFill { to: 5 }),
+    (b"123=Y|36=x|36=5|", faulty!(36, 6)),
+    (b"123=Y|36=1|", What::GapFill { to: 1 }),
+    (b"123=Y|36=2|", What::GapFill { to: 2 }),
+    (b"123=Y|36=999999999|", What::GapFill { to: 999_999_999 }),
+    (b"123=Y|36=1000000000|", What::GapFill { to: 1_000_000_000 }),
+    (b"123=Y|36=1000000001|", faulty!(36, 5)),
+    (b"123=Y|36=0|", faulty!(36, 5)),
+    (b"123=Y|", faulty!(36, 1)),
+    (b"123=Y|36=|", faulty!(36, 4)),
+    (b"123=Y|36=five|", faulty!(36, 6)),
+];
+
+#[test]
+fn gap_fills(rt: HostRuntime) -> Result<(), Fail> {
+    read_as(&rt, rt.alloc(), b"4", &GAP_FILLS)?;
+    Ok(())
+}
+
+/// SequenceReset without it.
+#[rattlefmt::skip]
+static RESETS: [Reading; 19] = [
+    (b"36=5|", What::Reset { to: 5 }),
+    (b"123=N|36=5|", What::Reset { to: 5 }),
+    (b"123=N|123=Y|36=5|36=7|", What::Reset { to: 5 }),
+    (b"123=X|36=5|", What::Reset { to: 5 }),
+    (b"123=y|36=5|", What::Reset { to: 5 }),
+    (b"123=|36=5|", What::Reset { to: 5 }),
+    (b"36=1|", What::Reset { to: 1 }),
+    (b"36=2|", What::Reset { to: 2 }),
+    (b"36=999999999|", What::Reset { to: 999_999_999 }),
+    (b"36=1000000000|", What::Reset { to: 1_000_000_000 }),
+    (b"36=1000000001|", faulty_reset!(5)),
+    (b"36=0|", faulty_reset!(5)),
+    (b"", faulty_reset!(1)),
+    (b"123=N|", faulty_reset!(1)),
+    (b"36=|", faulty_reset!(4)),
+    (b"36=5.0|", faulty_reset!(6)),
+    (b"36=99999999999|", faulty_reset!(6)),
+    (b"36=x|123=X|", faulty_reset!(6)),
+    (b"36=0|36=5|", faulty_reset!(5)),
+];
+
+#[test]
+fn resets(rt: HostRuntime) -> Result<(), Fail> {
+    read_as(&rt, rt.alloc(), b"4", &RESETS)?;
     Ok(())
 }
 
@@ -317,7 +384,7 @@ fn long_texts(rt: HostRuntime) -> Result<(), Fail> {
     for (len, what) in [
         (2047, What::TestRequest),
         (2048, What::TestRequest),
-        (2049, faulty(112, 5)),
+        (2049, faulty!(112, 5)),
     ] {
         let mut fields = Vec::from_slice(rt.alloc(), b"112=")?;
         for _ in 0..len {
@@ -338,72 +405,78 @@ const TAG_1137: What = What::BadLogon { tag: 1137 };
 
 const TAG_141: What = What::BadLogon { tag: 141 };
 
-fn logs_on(heart: u32, reset: bool) -> What {
-    What::Logon { heart, reset }
+macro_rules! logs_on {
+    ($heart:expr, $reset:expr) => {
+        What::Logon {
+            heart: $heart,
+            reset: $reset,
+        }
+    };
 }
+
+/// The side and the fields behind a good header; what the Logon says.
+#[rattlefmt::skip]
+static LOGONS: [(Side, &[u8], What); 48] = [
+    (Client, b"98=0|108=30|", logs_on!(30, false)),
+    (Client, b"108=30|98=0|", logs_on!(30, false)),
+    (Client, b"98=0|98=1|108=30|108=x|", logs_on!(30, false)),
+    (Client, b"98=0|108=0|", logs_on!(0, false)),
+    (Client, b"98=0|108=1|", logs_on!(1, false)),
+    (Client, b"98=0|108=86399|", logs_on!(86_399, false)),
+    (Client, b"98=0|108=86400|", logs_on!(86_400, false)),
+    (Client, b"98=0|108=030|", logs_on!(30, false)),
+    (Client, b"98=0|108=30|141=Y|", logs_on!(30, true)),
+    (Client, b"98=0|108=30|141=N|", logs_on!(30, false)),
+    (Client, b"98=0|108=30|141=N|141=Y|", logs_on!(30, false)),
+    (Client, b"98=0|108=30|1137=8|", logs_on!(30, false)),
+    (Client, b"108=30|", TAG_98),
+    (Client, b"98=|108=30|", TAG_98),
+    (Client, b"98=1|108=30|", TAG_98),
+    (Client, b"98=00|108=30|", TAG_98),
+    (Client, b"98=1|98=0|108=30|", TAG_98),
+    (Client, b"98=1|108=x|141=X|", TAG_98),
+    (Client, b"98=0|", TAG_108),
+    (Client, b"98=0|108=|", TAG_108),
+    (Client, b"98=0|108=86401|", TAG_108),
+    (Client, b"98=0|108=-1|", TAG_108),
+    (Client, b"98=0|108=30.0|", TAG_108),
+    (Client, b"98=0|108=x|108=30|", TAG_108),
+    (Client, b"98=0|108=x|141=X|", TAG_108),
+    (Client, b"98=0|108=30|141=|", TAG_141),
+    (Client, b"98=0|108=30|141=X|", TAG_141),
+    (Client, b"98=0|108=30|141=y|", TAG_141),
+    (Client, b"98=0|108=30|141=X|141=Y|", TAG_141),
+    (Venue, b"98=0|108=30|1137=9|", logs_on!(30, false)),
+    (Venue, b"1137=9|141=Y|108=30|98=0|", logs_on!(30, true)),
+    (Venue, b"98=0|108=30|1137=9|1137=8|", logs_on!(30, false)),
+    (Venue, b"98=0|108=30|", TAG_1137),
+    (Venue, b"98=0|108=30|1137=|", TAG_1137),
+    (Venue, b"98=0|108=30|1137=8|", TAG_1137),
+    (Venue, b"98=0|108=30|1137=10|", TAG_1137),
+    (Venue, b"98=0|108=30|1137=x|", TAG_1137),
+    (Venue, b"98=0|108=30|1137=8|1137=9|", TAG_1137),
+    (Venue, b"98=0|108=30|1137=09|", TAG_1137),
+    (Venue, b"98=0|108=30|1137=8|141=X|", TAG_1137),
+    (Venue, b"98=0|108=86401|1137=9|", TAG_108),
+    (Venue, b"98=0|108=30|1137=9|141=N|", logs_on!(30, false)),
+    (Venue, b"98=0|108=30|1137=9|141=X|", TAG_141),
+    (Venue, b"98=0|108=30|1137=9|141=|", TAG_141),
+    (Venue, b"98=1|108=30|1137=9|", TAG_98),
+    (Venue, b"", TAG_98),
+    (Venue, b"98=0|1137=8|", TAG_108),
+    (Venue, b"1137=8|", TAG_98),
+];
 
 #[test]
 fn logons(rt: HostRuntime) -> Result<(), Fail> {
     let names = names(&rt);
-    // the side and the fields behind a good header; what the Logon says
-    #[rattlefmt::skip]
-    let rows: [(Side, &[u8], What); 48] = [
-        (Client, b"98=0|108=30|", logs_on(30, false)),
-        (Client, b"108=30|98=0|", logs_on(30, false)),
-        (Client, b"98=0|98=1|108=30|108=x|", logs_on(30, false)),
-        (Client, b"98=0|108=0|", logs_on(0, false)),
-        (Client, b"98=0|108=1|", logs_on(1, false)),
-        (Client, b"98=0|108=86399|", logs_on(86_399, false)),
-        (Client, b"98=0|108=86400|", logs_on(86_400, false)),
-        (Client, b"98=0|108=030|", logs_on(30, false)),
-        (Client, b"98=0|108=30|141=Y|", logs_on(30, true)),
-        (Client, b"98=0|108=30|141=N|", logs_on(30, false)),
-        (Client, b"98=0|108=30|141=N|141=Y|", logs_on(30, false)),
-        (Client, b"98=0|108=30|1137=8|", logs_on(30, false)),
-        (Client, b"108=30|", TAG_98),
-        (Client, b"98=|108=30|", TAG_98),
-        (Client, b"98=1|108=30|", TAG_98),
-        (Client, b"98=00|108=30|", TAG_98),
-        (Client, b"98=1|98=0|108=30|", TAG_98),
-        (Client, b"98=1|108=x|141=X|", TAG_98),
-        (Client, b"98=0|", TAG_108),
-        (Client, b"98=0|108=|", TAG_108),
-        (Client, b"98=0|108=86401|", TAG_108),
-        (Client, b"98=0|108=-1|", TAG_108),
-        (Client, b"98=0|108=30.0|", TAG_108),
-        (Client, b"98=0|108=x|108=30|", TAG_108),
-        (Client, b"98=0|108=x|141=X|", TAG_108),
-        (Client, b"98=0|108=30|141=|", TAG_141),
-        (Client, b"98=0|108=30|141=X|", TAG_141),
-        (Client, b"98=0|108=30|141=y|", TAG_141),
-        (Client, b"98=0|108=30|141=X|141=Y|", TAG_141),
-        (Venue, b"98=0|108=30|1137=9|", logs_on(30, false)),
-        (Venue, b"1137=9|141=Y|108=30|98=0|", logs_on(30, true)),
-        (Venue, b"98=0|108=30|1137=9|1137=8|", logs_on(30, false)),
-        (Venue, b"98=0|108=30|", TAG_1137),
-        (Venue, b"98=0|108=30|1137=|", TAG_1137),
-        (Venue, b"98=0|108=30|1137=8|", TAG_1137),
-        (Venue, b"98=0|108=30|1137=10|", TAG_1137),
-        (Venue, b"98=0|108=30|1137=x|", TAG_1137),
-        (Venue, b"98=0|108=30|1137=8|1137=9|", TAG_1137),
-        (Venue, b"98=0|108=30|1137=09|", TAG_1137),
-        (Venue, b"98=0|108=30|1137=8|141=X|", TAG_1137),
-        (Venue, b"98=0|108=86401|1137=9|", TAG_108),
-        (Venue, b"98=0|108=30|1137=9|141=N|", logs_on(30, false)),
-        (Venue, b"98=0|108=30|1137=9|141=X|", TAG_141),
-        (Venue, b"98=0|108=30|1137=9|141=|", TAG_141),
-        (Venue, b"98=1|108=30|1137=9|", TAG_98),
-        (Venue, b"", TAG_98),
-        (Venue, b"98=0|1137=8|", TAG_108),
-        (Venue, b"1137=8|", TAG_98),
-    ];
-    for (side, fields, what) in rows {
+    for (side, fields, what) in &LOGONS {
         let header = match side {
             Client => HEADER,
             Venue => VENUE,
         };
-        let head = head(rt.alloc(), &names, side, b"A", header, fields)?;
-        assert_eq!(rt; head.what, what, "{fields:?}");
+        let head = head(rt.alloc(), &names, *side, b"A", header, fields)?;
+        assert_eq!(rt; head.what, *what, "{fields:?}");
         assert_eq!(rt; (head.comp, head.time), (None, None));
     }
     let fields = body(rt.alloc(), b"98=0|108=86400|141=Y|", b"")?;
@@ -425,34 +498,34 @@ fn logons_of_other_engines(rt: HostRuntime) -> Result<(), Fail> {
     let rows: [(Side, &[u8], What); 10] = [
         // QuickFIX, FIX 4.2
         (Client, b"35=A|34=1|49=CLNT|52=20240102-10:00:00|56=GATE|98=0|108=30|",
-            logs_on(30, false)),
+            logs_on!(30, false)),
         // QuickFIX/J, ResetOnLogon
         (Client, b"35=A|34=1|49=CLNT|52=20240102-10:00:00.123|56=GATE|98=0|108=30|141=Y|",
-            logs_on(30, true)),
+            logs_on!(30, true)),
         // QuickFIX/J, FIXT 1.1, EnableNextExpectedMsgSeqNum
         (Venue, b"35=A|34=1|49=VENU|52=20240102-10:00:00.123|56=GATE|98=0|108=30|789=1|1137=9|",
-            logs_on(30, false)),
+            logs_on!(30, false)),
         // a user name and a password
         (Client, b"35=A|49=CLNT|56=GATE|34=1|52=20240102-10:00:00|98=0|108=10|553=user|554=pass|",
-            logs_on(10, false)),
+            logs_on!(10, false)),
         // the types of messages that the client sends and takes
         (Client, b"35=A|49=CLNT|56=GATE|34=1|52=20240102-10:00:00|98=0|108=60|383=8192|\
-384=2|372=D|385=S|372=8|385=R|", logs_on(60, false)),
+384=2|372=D|385=S|372=8|385=R|", logs_on!(60, false)),
         // raw data before the heartbeat
         (Client, b"35=A|49=CLNT|50=DESK|56=GATE|34=1|52=20240102-10:00:00|98=0|95=4|96=abcd|\
-108=30|", logs_on(30, false)),
+108=30|", logs_on!(30, false)),
         // FIX 4.2 with NextExpectedMsgSeqNum, which came after it
         (Client, b"35=A|34=1|49=CLNT|52=20240102-10:00:00|56=GATE|98=0|108=30|789=1|",
-            logs_on(30, false)),
+            logs_on!(30, false)),
         // the order of the dictionary, the flag written out
         (Client, b"35=A|49=CLNT|56=GATE|34=1|52=20240102-10:00:00.000|98=0|108=10|141=N|553=bob|\
-554=secret|", logs_on(10, false)),
+554=secret|", logs_on!(10, false)),
         // FIXT 1.1 with all of these
         (Venue, b"35=A|34=1|49=VENU|52=20240102-10:00:00.000|56=GATE|98=0|108=30|141=Y|383=8192|\
-384=2|372=D|385=R|372=8|385=S|464=N|553=user|554=pass|789=1|1137=9|", logs_on(30, true)),
+384=2|372=D|385=R|372=8|385=S|464=N|553=user|554=pass|789=1|1137=9|", logs_on!(30, true)),
         // FIXT 1.1 with the version of each type
         (Venue, b"35=A|34=1|49=VENU|52=20240102-10:00:00.000|56=GATE|1128=9|98=0|108=30|\
-384=1|372=8|385=S|1130=9|464=N|1137=9|1408=x|", logs_on(30, false)),
+384=1|372=8|385=S|1130=9|464=N|1137=9|1408=x|", logs_on!(30, false)),
     ];
     for (side, fields, what) in rows {
         let head = head(rt.alloc(), &names, side, b"A", fields, b"")?;
