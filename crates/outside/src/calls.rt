@@ -11,7 +11,7 @@ use std::marker::Model;
 ///
 /// Counts stand still at 2^64 - 1.
 #[derive(Debug, Drop)]
-pub(crate) struct Calls {
+pub struct Calls {
     made: u64,
     fail: Vec<u64>,
     faults: u64,
@@ -27,7 +27,7 @@ impl Model for Calls {
 
 impl Calls {
     /// No call yet; those with the numbers in `fail` are to fail.
-    pub(crate) fn new(fail: Vec<u64>) -> Calls
+    pub fn new(fail: Vec<u64>) -> Calls
         ensures { result ≡ record { made = 0; fail = fail.items; faults = 0 } }
     {
         Calls {
@@ -41,7 +41,7 @@ impl Calls {
     ///
     /// # Errors
     /// [`Failed`] exactly where the call is listed, and then it is counted as a fault.
-    pub(crate) fn begin(&mut self) -> Result<(), Failed>
+    pub fn begin(&mut self) -> Result<(), Failed>
         ensures listed { IsErr result ↔ IsListed self.old }
         ensures counted { self.new ≡ called self.old (faults_after result self.old.faults) }
         ensures cause { HasCause self.old.faults self.new.faults result }
@@ -54,7 +54,7 @@ impl Calls {
     }
 
     /// Counts a fault.
-    pub(crate) fn fail(&mut self) -> Failed
+    pub fn fail(&mut self) -> Failed
         ensures counted { self.new ≡ record self.old { faults = next_count self.old.faults } }
         ensures later { self.old.faults ≤ self.new.faults }
     {

@@ -15,10 +15,11 @@ mod mem_sink;
 mod mem_source;
 mod stream;
 
+pub use calls::Calls;
 pub use disk::{Disk, MAX_DISK};
 pub use mem_disk::{DiskCall, Image, MemDisk};
 pub use mem_sink::MemSink;
-pub use mem_source::MemSource;
+pub use mem_source::{MemSource, fill};
 pub use stream::{Failed, Sink, Source};
 
 #[cfg(test)]

@@ -74,7 +74,7 @@ impl MemSource {
 }
 
 /// Copies as many bytes as there are and as there is room for, and answers how many.
-pub(crate) fn fill(buf: &mut [u8], rest: &[u8]) -> usize
+pub fn fill(buf: &mut [u8], rest: &[u8]) -> usize
     ensures count { result ≡ min (length buf.old) (length rest.now) }
     ensures bytes { take result buf.new ≡ take result rest.now }
 {

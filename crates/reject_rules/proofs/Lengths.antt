@@ -15,7 +15,8 @@ use Rattle.order_meaning.specs.declared.refusal.Refusal.{Refusal}
 use Rattle.reject_rules.specs.Content.{field_if, number_if, reject, business_reject}
 use Rattle.order_meaning.specs.declared.reasons.TheConstants.{MAX_REASON42}
 use Rattle.order_meaning.specs.Reasons.{later_reason_words}
-use Rattle.reject_rules.specs.Reasons.{session_reason, session_text, reason_suffix, with_suffix}
+use Rattle.session_core.specs.Reason.{session_reason, session_text}
+use Rattle.reject_rules.specs.Reasons.{reason_suffix, with_suffix}
 use Rattle.reject_rules.specs.Reasons.{business_reason, business_text}
 use Rattle.reject_rules.specs.Refusals.{no_counterpart}
 use Rattle.reject_rules.specs.Renumbered.{refuser_of, words_if, quoted, quote_if, rejected_text}

@@ -25,7 +25,8 @@ use Rattle.session_core.specs.declared.said.Said.{Said}
 use Rattle.session_core.specs.Said.{ref_msg_type}
 use Rattle.reject_rules.specs.Content.{field_if, number_if, reject, business_reject}
 use Rattle.order_meaning.specs.Reasons.{later_reason_words}
-use Rattle.reject_rules.specs.Reasons.{session_reason, session_text, reason_suffix, with_suffix}
+use Rattle.session_core.specs.Reason.{session_reason, session_text}
+use Rattle.reject_rules.specs.Reasons.{reason_suffix, with_suffix}
 use Rattle.reject_rules.specs.Reasons.{business_reason, business_text}
 use Rattle.reject_rules.specs.Refusals.{refusal_of, session_refusal, business_refusal}
 use Rattle.reject_rules.specs.Refusals.{no_counterpart, used_refusal, away_refusal}

@@ -11,7 +11,8 @@ use Rattle.order_meaning.specs.declared.refusal.Refusal.{Refusal}
 use Rattle.session_core.specs.declared.said.Said.{Said}
 use Rattle.session_core.specs.Said.{ref_msg_type}
 use Rattle.reject_rules.specs.Content.{reject, business_reject}
-use Rattle.reject_rules.specs.Reasons.{session_reason, session_text, business_reason, business_text}
+use Rattle.session_core.specs.Reason.{session_reason, session_text}
+use Rattle.reject_rules.specs.Reasons.{business_reason, business_text}
 use Rattle.reject_rules.specs.Refusals.{refusal_of, session_refusal, business_refusal}
 use Rattle.reject_rules.specs.Refusals.{no_counterpart, used_refusal, away_refusal}
 use Rattle.reject_rules.specs.Renumbered.{renumbered, quoted, rejected_text}

@@ -6,7 +6,7 @@ use Rattle.order_meaning.specs.declared.Side.{Side}
 use Rattle.order_meaning.specs.declared.Side.TheVariants.{Client, Venue}
 use Rattle.order_meaning.specs.declared.reasons.TheConstants.{MAX_REASON42}
 use Rattle.order_meaning.specs.Reasons.{later_reason_words}
-use Rattle.reject_rules.specs.Reasons.{session_text}
+use Rattle.session_core.specs.Reason.{session_text}
 
 -- one of three texts, or none
 pub by_three : (P : List ℕ → Type 0) (a b c : Bool) (x y z : List ℕ) → P x → P y → P z →

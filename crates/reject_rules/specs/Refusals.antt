@@ -9,11 +9,11 @@ use Rattle.order_meaning.specs.declared.fault.Fault.TheVariants.{Session, NoCoun
 use Rattle.order_meaning.specs.declared.fault.Fault.TheVariants.{NotSupported, NoMemory}
 use Rattle.session_core.specs.declared.said.Said.{Said}
 use Rattle.session_core.specs.declared.tag.TheConstants.{MSG_TYPE}
+use Rattle.session_core.specs.Reason.{session_reason, session_text}
 use Rattle.session_core.specs.Said.{ref_msg_type}
 use Rattle.reject_rules.specs.declared.reasons.TheConstants.{OTHER, UNSUPPORTED_MESSAGE_TYPE}
 use Rattle.reject_rules.specs.declared.reasons.TheConstants.{APPLICATION_NOT_AVAILABLE}
 use Rattle.reject_rules.specs.Content.{reject, business_reject}
-use Rattle.reject_rules.specs.Reasons.{session_reason, session_text}
 
 -- the Reject to a side of its message of this number and type, for this tag and reason
 abbrev pub session_refusal : Side → ℕ → List ℕ → Option ℕ → ℕ → Said

@@ -2,13 +2,13 @@
 
 ghost use Rattle.std.specs.Prelude.{◌≡◌, IfOk};
 ghost use Rattle.std.specs.Option.{option_map};
-ghost use Rattle.reject_rules.specs.Reasons.{session_reason, session_text, reason_suffix};
-ghost use Rattle.reject_rules.specs.Reasons.{with_suffix, business_reason, business_text};
+ghost use Rattle.reject_rules.specs.Reasons.{reason_suffix, with_suffix, business_reason};
+ghost use Rattle.reject_rules.specs.Reasons.{business_text};
 
 use crate::tag::BUSINESS_REJECT_REASON;
 use crate::text::front;
 use itoa::Buffer;
-use order_meaning::{Bytes, MAX_REASON42, Side, later_reason_words};
+use order_meaning::{Bytes, Side};
 use std::alloc::{AllocError, Global};
 
 /// BusinessRejectReason(380): any other.
@@ -26,32 +26,8 @@ const MAX_BUSINESS_REASON: u32 = 5;
 /// The most bytes of a text that a reason is added to.
 const MAX_TEXT: usize = 2000;
 
-/// SessionRejectReason(373) to a side.
-pub(crate) fn session_reason(side: Side, reason: u8) -> Option<u32>
-    ensures { result ≡ session_reason side reason }
-{
-    match side {
-        Side::Client if reason > MAX_REASON42 => None,
-        _ => Some(u32::from(reason)),
-    }
-}
-
-/// Text(58) beside a SessionRejectReason(373) to a side.
-pub(crate) fn session_text(
-    alloc: Global,
-    side: Side,
-    reason: u8,
-) -> Result<Option<Bytes>, AllocError>
-    ensures { IfOk result (λ text. text ≡ session_text side reason) }
-{
-    match side {
-        Side::Client if reason > MAX_REASON42 => copied(alloc, later_reason_words(reason)),
-        _ => Ok(None),
-    }
-}
-
 /// A copy of a text, where there is one.
-fn copied(alloc: Global, text: Option<&[u8]>) -> Result<Option<Bytes>, AllocError>
+pub(crate) fn copied(alloc: Global, text: Option<&[u8]>) -> Result<Option<Bytes>, AllocError>
     ensures { IfOk result (λ copy. copy ≡ option_map (λ bytes. bytes.now) text.entry) }
 {
     match text {

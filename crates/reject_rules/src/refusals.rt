@@ -5,11 +5,10 @@ ghost use Rattle.reject_rules.specs.Refusals.{refusal_of, business_refusal, no_c
 ghost use Rattle.reject_rules.specs.Refusals.{used_refusal, away_refusal};
 
 use crate::content::{business_reject, reject};
-use crate::reasons::{
-    APPLICATION_NOT_AVAILABLE, OTHER, UNSUPPORTED_MESSAGE_TYPE, session_reason, session_text,
-};
+use crate::reasons::{APPLICATION_NOT_AVAILABLE, OTHER, UNSUPPORTED_MESSAGE_TYPE, copied};
 use itoa::Buffer;
 use order_meaning::{Bytes, Fault, Refusal, Side};
+use session_core::reason::{session_reason, session_text};
 use session_core::tag::MSG_TYPE;
 use session_core::{Said, ref_msg_type};
 use std::alloc::{AllocError, Global};
@@ -45,7 +44,7 @@ pub fn refusal(
                 id: None,
                 tag,
                 reason: session_reason(side, reason),
-                text: session_text(alloc, side, reason)?,
+                text: copied(alloc, session_text(side, reason))?,
             };
             reject(alloc, &refusal)
         }

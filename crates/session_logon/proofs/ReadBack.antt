@@ -25,7 +25,7 @@ use Rattle.session_core.specs.declared.numbers.TheConstants.{MAX_MSG_SEQ_NUM, AL
 use Rattle.session_core.specs.declared.tag.TheConstants.{BEGIN_SEQ_NO, END_SEQ_NO, NEW_SEQ_NO, TEXT}
 use Rattle.session_core.specs.declared.tag.TheConstants.{ENCRYPT_METHOD, HEART_BT_INT, TEST_REQ_ID}
 use Rattle.session_core.specs.declared.tag.TheConstants.{GAP_FILL_FLAG, RESET_SEQ_NUM_FLAG}
-use Rattle.session_core.specs.declared.tag.TheConstants.{SESSION_REJECT_REASON, DEFAULT_APPL_VER_ID}
+use Rattle.session_core.specs.declared.tag.TheConstants.{DEFAULT_APPL_VER_ID}
 use Rattle.session_core.specs.declared.tag.TheConstants.{MSG_TYPE, MSG_SEQ_NUM, POSS_DUP_FLAG}
 use Rattle.session_core.specs.declared.tag.TheConstants.{SENDER_COMP_ID, SENDING_TIME}
 use Rattle.session_core.specs.declared.tag.TheConstants.{TARGET_COMP_ID, POSS_RESEND}
@@ -38,8 +38,7 @@ use Rattle.session_core.specs.declared.head.What.TheVariants as what
 use Rattle.session_logon.specs.declared.head.TheConstants.{SECOND}
 use Rattle.session_logon.specs.declared.logon.TheConstants.{MAX_HEART}
 use Rattle.session_logon.specs.declared.reasons.TheConstants.{MAX_TEXT}
-use Rattle.order_meaning.specs.declared.reasons.TheConstants.{MAX_REASON42}
-use Rattle.order_meaning.specs.Reasons.{later_reason_words}
+use Rattle.session_core.specs.Reason.{session_reason, session_text}
 use Rattle.message_tables.specs.Tables.{value_at}
 use Rattle.session_logon.specs.Reasons.{required, read_between, text_fault}
 use Rattle.session_logon.specs.Logon.{is_yes}
@@ -48,7 +47,7 @@ use Rattle.session_logon.specs.Head.{kind_of, test_request_kind}
 use Rattle.session_logon.specs.Content.{type_of, fields_of, logon_fields, logout_fields}
 use Rattle.session_logon.specs.Content.{logout_text, heartbeat_fields, test_request_fields}
 use Rattle.session_logon.specs.Content.{resend_request_fields, rejected_fields, reason_fields}
-use Rattle.session_logon.specs.Content.{text_field, gap_fill_fields}
+use Rattle.session_logon.specs.Content.{reason_field, text_field, gap_fill_fields}
 use Rattle.session_logon.specs.Laws.{Heading, header_fields, turned, meant, IsSayable, IsReadAs}
 use Rattle.session_logon.proofs.HeaderLemmas.{has}
 
@@ -280,12 +279,12 @@ text_undup (Some text) = refl
 
 reason_undup : (side : Side) (reason : ℕ)
     → value_at POSS_DUP_FLAG (reason_fields side reason) ≡ None
-reason_undup Client reason =
-    elim (nat_le reason MAX_REASON42) as (λ b.
-    value_at POSS_DUP_FLAG (if b then (SESSION_REJECT_REASON, decimal reason) ∷ []
-    else text_field (later_reason_words reason)) ≡ None)
-    [ true ↦ refl | false ↦ text_undup (later_reason_words reason) ]
-reason_undup Venue reason = refl
+reason_undup side reason = here (session_reason side reason) (session_text side reason)
+  where
+    here : (number : Option ℕ) (text : Option (List ℕ))
+        → value_at POSS_DUP_FLAG (reason_field number ++ text_field text) ≡ None
+    here None text = text_undup text
+    here (Some number) text = text_undup text
 
 -- ---- each message
 

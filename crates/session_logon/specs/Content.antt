@@ -3,13 +3,11 @@
 --
 -- What a session says: the type and the fields of each of its messages, behind the standard header.
 use Rattle.std.specs.Prelude.{ℕ, ◌==◌, Bool, true, false, List, [], ◌∷◌, ◌++◌, Some, None, codes}
-use Rattle.std.specs.Prelude.{length, nat_le, if◌then◌else◌}
+use Rattle.std.specs.Prelude.{length, if◌then◌else◌}
 use Rattle.std.specs.declared.option.Option.{Option}
 use Rattle.std.specs.Fmt.{decimal}
 use Rattle.order_meaning.specs.declared.Side.{Side}
 use Rattle.order_meaning.specs.declared.Side.TheVariants.{Client, Venue}
-use Rattle.order_meaning.specs.declared.reasons.TheConstants.{MAX_REASON42}
-use Rattle.order_meaning.specs.Reasons.{later_reason_words}
 use Rattle.field_groups.specs.Field.{Field, body_of}
 use Rattle.session_core.specs.declared.act.Admin.{Admin}
 use Rattle.session_core.specs.declared.act.Admin.TheVariants as admin
@@ -22,6 +20,7 @@ use Rattle.session_core.specs.declared.tag.TheConstants.{RESET_SEQ_NUM_FLAG, REF
 use Rattle.session_core.specs.declared.tag.TheConstants.{REF_MSG_TYPE, SESSION_REJECT_REASON}
 use Rattle.session_core.specs.declared.tag.TheConstants.{DEFAULT_APPL_VER_ID}
 use Rattle.session_core.specs.declared.said.Said.{Said}
+use Rattle.session_core.specs.Reason.{session_reason, session_text}
 use Rattle.session_core.specs.Said.{ref_msg_type}
 
 -- MsgType(35)
@@ -75,12 +74,14 @@ abbrev pub text_field : Option (List ℕ) → List Field
 text_field None = []
 text_field (Some text) = (TEXT, text) ∷ []
 
--- for a reason that FIX 4.2 lacks stand words, where there are some
+abbrev pub reason_field : Option ℕ → List Field
+reason_field None = []
+reason_field (Some reason) = (SESSION_REJECT_REASON, decimal reason) ∷ []
+
+-- a reason as it is told to a side
 abbrev pub reason_fields : Side → ℕ → List Field
-reason_fields Client reason =
-    if nat_le reason MAX_REASON42 then (SESSION_REJECT_REASON, decimal reason) ∷ []
-    else text_field (later_reason_words reason)
-reason_fields Venue reason = (SESSION_REJECT_REASON, decimal reason) ∷ []
+reason_fields side reason =
+    reason_field (session_reason side reason) ++ text_field (session_text side reason)
 
 -- a Reject names the message by its number and its type, of which 8 bytes are kept, and the field
 abbrev pub rejected_fields : ℕ → ℕ → List ℕ → List Field

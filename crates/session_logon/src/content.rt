@@ -6,11 +6,13 @@ ghost use Rattle.field_groups.specs.Field.{body_of};
 ghost use Rattle.session_logon.specs.Content.{said, type_of, logon_fields};
 ghost use Rattle.session_logon.specs.Content.{logout_text, logout_fields, heartbeat_fields};
 ghost use Rattle.session_logon.specs.Content.{test_request_fields, resend_request_fields};
-ghost use Rattle.session_logon.specs.Content.{rejected_fields, reason_fields, text_field};
+ghost use Rattle.session_logon.specs.Content.{rejected_fields, reason_field, reason_fields};
+ghost use Rattle.session_logon.specs.Content.{text_field};
 
 use field_groups::{put_field, put_number};
 use itoa::Buffer;
-use order_meaning::{Bytes, MAX_REASON42, Side, later_reason_words};
+use order_meaning::{Bytes, Side};
+use session_core::reason::{session_reason, session_text};
 use session_core::tag::{
     BEGIN_SEQ_NO, DEFAULT_APPL_VER_ID, ENCRYPT_METHOD, END_SEQ_NO, HEART_BT_INT, REF_MSG_TYPE,
     REF_SEQ_NUM, REF_TAG_ID, RESET_SEQ_NUM_FLAG, SESSION_REJECT_REASON, TEST_REQ_ID, TEXT,
@@ -135,13 +137,21 @@ fn push_text(out: &mut Vec<u8>, text: Option<&[u8]>) -> Result<(), AllocError>
     }
 }
 
+// Appends the number of a reason, where there is one.
+fn push_number_of(out: &mut Vec<u8>, reason: Option<u32>) -> Result<(), AllocError>
+    ensures { OnOk result (out.new.items ≡ out.old.items ++ body_of (reason_field reason)) }
+{
+    match reason {
+        Some(reason) => put_number(out, SESSION_REJECT_REASON, reason),
+        None => Ok(()),
+    }
+}
+
 fn push_reason(out: &mut Vec<u8>, side: Side, reason: u8) -> Result<(), AllocError>
     ensures { OnOk result (out.new.items ≡ out.old.items ++ body_of (reason_fields side reason)) }
 {
-    match side {
-        Side::Client if reason > MAX_REASON42 => push_text(out, later_reason_words(reason)),
-        _ => put_number(out, SESSION_REJECT_REASON, u32::from(reason)),
-    }
+    push_number_of(out, session_reason(side, reason))?;
+    push_text(out, session_text(side, reason))
 }
 
 // Names the message that is rejected, and the field.

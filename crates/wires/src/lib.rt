@@ -10,7 +10,6 @@
 //! refused memory tells nothing from then on.
 #![tactic(auto)]
 
-mod calls;
 mod clock;
 pub mod laws;
 mod mem_wire;

@@ -10,11 +10,10 @@ ghost use Rattle.wires.specs.Wire.{within_after, SendGrows, HangUpGrows};
 ghost use Rattle.wires.specs.Script.{next_of, rest_of};
 ghost use Rattle.wires.specs.MemWire.{fresh, noted, lost, hung_up, connections_told, sent, Answers};
 
-use crate::calls::Calls;
 use crate::record::Record;
 use crate::script::Play;
 use crate::{Arrival, Connection, Script, Wire};
-use outside::Failed;
+use outside::{Calls, Failed};
 use std::alloc::{AllocError, Global};
 use std::marker::Model;
 

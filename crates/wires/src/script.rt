@@ -6,6 +6,7 @@ ghost use Rattle.wires.specs.Script.{item_of, next_of, rest_of};
 ghost use Rattle.wires.specs.Play.{bytes_ahead, cut, left_of};
 
 use crate::Arrival;
+use outside::fill;
 use std::marker::Model;
 
 /// What a poll of a wire in memory is to give. It gives `Nothing` for what may not come at its
@@ -39,16 +40,6 @@ impl Model for Play {
     ghost Value = { List Came };
 
     ghost view = { λ p. left_of p.items.items p.next p.given };
-}
-
-/// Copies as many bytes as there are and as there is room for, and answers how many.
-fn fill(buf: &mut [u8], bytes: &[u8]) -> usize
-    ensures count { result ≡ min (length buf.old) (length bytes.now) }
-    ensures bytes { take result buf.new ≡ take result bytes.now }
-{
-    let count = buf.len().min(bytes.len());
-    buf[..count].copy_from_slice(&bytes[..count]);
-    count
 }
 
 /// What comes of these bytes, which are put at the front of the buffer.
