@@ -5,22 +5,14 @@ use Rattle.std.specs.Prelude.{if◌then◌else◌}
 use Rattle.std.specs.declared.option.Option.{Option}
 use Rattle.std.specs.Option.{option_map}
 use Rattle.std.specs.Result.{result_ok}
+pub use Rattle.row_values.specs.Amounts.{alloc_of, session_of}
 use Rattle.row_values.specs.Amounts.{amount_if}
 use Rattle.field_groups.specs.Field.{Field}
-use Rattle.message_tables.specs.Tables.{Tag, Cell, Message, ◌>>=◌, said_at, lines_of, text_in}
+use Rattle.message_tables.specs.Tables.{Tag, Message, ◌>>=◌, said_at, lines_of, text_in}
 use Rattle.message_tables.specs.Tables.{code_if, code_in, flag_of}
 use Rattle.order_meaning.specs.Request.{Request, RequestKind, New, Cancel, Replace, Status}
-use Rattle.order_meaning.specs.Request.{NeutralAlloc, NeutralSession}
 use Rattle.rows_fix42.specs.Meaning.{order_type_of, is_on_close, time_of, maturity_of}
 use Rattle.dict_fix42.specs.Message.{message42}
-
--- an account's part of an order, by its line of NoAllocs(78)
-abbrev pub alloc_of : List Cell → NeutralAlloc
-alloc_of line = record { account = text_in line 79; qty = amount_if line 80 }
-
--- a session, by its line of NoTradingSessions(386)
-abbrev pub session_of : List Cell → NeutralSession
-session_of line = record { id = text_in line 336 }
 
 -- what a message asks for
 abbrev pub request_of : RequestKind → Message → Request

@@ -19,7 +19,7 @@ use crate::tables;
 use crate::writing::{cancel_parts, new_parts, replace_parts, status_parts};
 use field_groups::Split;
 use order_meaning::Fault;
-use row_values::{good_fields, put_parts};
+use row_values::{good_fields, put_content};
 use std::alloc::{AllocError, Global};
 
 /// The letter of a message's type, as MsgType(35) has it; it takes no memory.
@@ -102,22 +102,6 @@ pub fn read42(alloc: Global, msg_type: &[u8], split: &Split<'_>) -> Result<Msg42
     }
 }
 
-/// How many bytes the content of an ordinary request has at most.
-const ORDINARY: usize = 512;
-
-/// Appends the content of a message.
-fn put_content(out: &mut Vec<u8>, msg: &Msg42) -> Result<(), AllocError>
-    requires { IsReadable42 msg.now }
-    ensures { OnOk result (out.new.items ≡ out.old.items ++ body_of (content42 msg.now)) }
-{
-    match msg {
-        Msg42::New(order) => put_parts(out, &new_parts(order)),
-        Msg42::Cancel(request) => put_parts(out, &cancel_parts(request)),
-        Msg42::Replace(request) => put_parts(out, &replace_parts(request)),
-        Msg42::Status(request) => put_parts(out, &status_parts(request)),
-    }
-}
-
 /// Appends the content of a message whose values can be read: the fields after the header, in the
 /// order of the request table, each in its canonical spelling, and without PossResend(97).
 ///
@@ -129,7 +113,10 @@ pub fn write42(msg: &Msg42, out: &mut Vec<u8>) -> Result<(), AllocError>
     ensures ok { OnOk result (out.new.items ≡ out.old.items ++ body_of (content42 msg.now)) }
     ensures err { OnErr result (out.new.items ≡ out.old.items) }
 {
-    let mut content = Vec::with_capacity(*out.allocator(), ORDINARY)?;
-    put_content(&mut content, msg)?;
-    out.extend_from_slice(&content)
+    match msg {
+        Msg42::New(order) => put_content(out, &new_parts(order)),
+        Msg42::Cancel(request) => put_content(out, &cancel_parts(request)),
+        Msg42::Replace(request) => put_content(out, &replace_parts(request)),
+        Msg42::Status(request) => put_content(out, &status_parts(request)),
+    }
 }

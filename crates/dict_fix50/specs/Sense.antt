@@ -4,20 +4,15 @@ use Rattle.std.specs.Prelude.{ℕ, List, map, Option, Some, None, ◌==◌}
 use Rattle.std.specs.Prelude.{if◌then◌else◌}
 use Rattle.std.specs.Option.{option_map}
 use Rattle.std.specs.Result.{result_ok}
+pub use Rattle.row_values.specs.Amounts.{alloc_of, session_of}
 use Rattle.row_values.specs.Amounts.{amount_if}
 use Rattle.field_groups.specs.Field.{Field}
-use Rattle.message_tables.specs.Tables.{Tag, Role, Cell, Message, ◌>>=◌, said_at, lines_of}
+use Rattle.message_tables.specs.Tables.{Tag, Role, Message, ◌>>=◌, said_at, lines_of}
 use Rattle.message_tables.specs.Tables.{text_in, code_in, code_if, flag_of}
 use Rattle.order_meaning.specs.Request.{RequestKind, New, Cancel, Replace, Status}
-use Rattle.order_meaning.specs.Request.{NeutralAlloc, NeutralSession, Request}
+use Rattle.order_meaning.specs.Request.{Request}
 use Rattle.rows_fix50.specs.Meaning.{terms_of, maturity_of}
 use Rattle.dict_fix50.specs.Message.{message50}
-
-abbrev pub alloc_of : List Cell → NeutralAlloc
-alloc_of line = record { account = text_in line 79; qty = amount_if line 80 }
-
-abbrev pub session_of : List Cell → NeutralSession
-session_of line = record { id = text_in line 336 }
 
 -- what a message asks for
 abbrev pub request_of : RequestKind → Message → Request

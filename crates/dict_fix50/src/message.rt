@@ -18,7 +18,7 @@ use crate::tables;
 use crate::writing::{cancel_parts, new_parts, replace_parts, status_parts};
 use field_groups::Split;
 use order_meaning::Fault;
-use row_values::{good_fields, put_parts, read_lines};
+use row_values::{good_fields, put_content, read_lines};
 use std::alloc::{AllocError, Global};
 
 /// The letter of a message's type, as MsgType(35) has it; it takes no memory.
@@ -104,22 +104,6 @@ pub fn read50(alloc: Global, msg_type: &[u8], split: &Split<'_>) -> Result<Msg50
     }
 }
 
-/// How many bytes the content of an ordinary request has at most.
-const ORDINARY: usize = 512;
-
-/// Appends the content of a message.
-fn put_content(out: &mut Vec<u8>, msg: &Msg50) -> Result<(), AllocError>
-    requires { IsReadable50 msg.now }
-    ensures { OnOk result (out.new.items ≡ out.old.items ++ body_of (content50 msg.now)) }
-{
-    match msg {
-        Msg50::New(order) => put_parts(out, &new_parts(order)),
-        Msg50::Cancel(request) => put_parts(out, &cancel_parts(request)),
-        Msg50::Replace(request) => put_parts(out, &replace_parts(request)),
-        Msg50::Status(request) => put_parts(out, &status_parts(request)),
-    }
-}
-
 /// Appends the content of a message whose values can be read: the fields after the header, in the
 /// order of the request table, each in its canonical spelling, and without PossResend(97).
 ///
@@ -131,7 +115,10 @@ pub fn write50(msg: &Msg50, out: &mut Vec<u8>) -> Result<(), AllocError>
     ensures ok { OnOk result (out.new.items ≡ out.old.items ++ body_of (content50 msg.now)) }
     ensures err { OnErr result (out.new.items ≡ out.old.items) }
 {
-    let mut content = Vec::with_capacity(*out.allocator(), ORDINARY)?;
-    put_content(&mut content, msg)?;
-    out.extend_from_slice(&content)
+    match msg {
+        Msg50::New(order) => put_content(out, &new_parts(order)),
+        Msg50::Cancel(request) => put_content(out, &cancel_parts(request)),
+        Msg50::Replace(request) => put_content(out, &replace_parts(request)),
+        Msg50::Status(request) => put_content(out, &status_parts(request)),
+    }
 }

@@ -25,7 +25,8 @@ contras_say (line ∷ lines) (l ∷ ls) w i =
     cell (full_text _ _ i.0 w.0.broker) (cell w.0.trader (cell w.0.qty (cell w.0.time refl))) in
     let es = contras_say lines ls w.1 i.1 in λ j. e j ∷ es j
 
-by_contras : (lines : List (List Field)) (ls : List ContraLine) → AllZip IsContra lines ls
+-- lines that are read can be written
+pub by_contras : (lines : List (List Field)) (ls : List ContraLine) → AllZip IsContra lines ls
     → AreReadableContras ls
 by_contras [] [] w = tt
 by_contras [] (l ∷ ls) w = absurd w

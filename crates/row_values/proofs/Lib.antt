@@ -10,3 +10,5 @@ pub mod ByTable
 pub mod Days
 pub mod ContraRows
 pub mod OnePass
+pub mod MadeByEach
+pub mod StepsByType

@@ -10,4 +10,5 @@ pub mod Writing
 pub mod Maturity
 pub mod Contras
 pub mod Amounts
+pub mod Phases
 pub mod OnePass

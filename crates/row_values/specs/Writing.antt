@@ -69,7 +69,7 @@ part_fields (parts.Sessions lines) = group_fields 386 (map session_cells lines.n
 part_fields (parts.Contras lines) = group_fields 382 (map contra_cells lines.now)
 
 abbrev pub IsPart : Part → Type 0
-IsPart (parts.Row tag value) = (tag ≤ 1_000_000_000) × IsValue value
+IsPart (parts.Row tag value) = IsValue value
 IsPart (parts.Parties lines) = AreReadableParties lines.now
 IsPart (parts.Allocs lines) = AreReadableAllocs lines.now
 IsPart (parts.Sessions lines) = Unit {0}

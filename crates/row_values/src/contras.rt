@@ -3,11 +3,12 @@
 ghost use Rattle.row_values.specs.Contras.{IsContra, IsReadableContra, contra_cells, contras};
 ghost use Rattle.message_tables.specs.Tables.{tags_in};
 
+use crate::copies::owned;
 use crate::kinds::Kind;
 use crate::lines::GroupLine;
 use crate::value_kind::ValueKind;
 use crate::value_kind::ValueKind::Id;
-use crate::values::{or_empty, owned, qty, stamp, text};
+use crate::values::{or_empty, qty, stamp, text};
 use crate::writing::{Value, put_row};
 use field_groups::Field;
 use message_tables::Need::{Optional, Required};

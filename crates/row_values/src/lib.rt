@@ -3,6 +3,7 @@
 #![tactic(auto)]
 
 mod contras;
+mod copies;
 mod faults;
 mod kinds;
 mod lines;
@@ -14,16 +15,17 @@ mod values;
 mod writing;
 
 pub use contras::{CONTRA_ROWS, CONTRAS, ContraLine, Contras};
+pub use copies::{TEXTS, all_owned, bytes_of, owned};
 pub use faults::good_fields;
 pub use kinds::Kind;
 pub use lines::{
     ALLOCS, AllocLine, Allocs, GroupLine, Maturity, PARTIES, SESSIONS, SessionLine, Sessions,
-    read_lines,
+    read_group, read_lines,
 };
 pub use maturity::month_and_day;
 pub use value_kind::ValueKind;
 pub use values::{
-    AT_CLOSE, code, day, flag, may_close, month, number, number_or_zero, or_empty, owned, price,
+    AT_CLOSE, code, day, flag, may_close, month, number, number_or_zero, or_empty, price,
     price_or_zero, qty, qty_or_zero, reason, resend, stamp, stamp_or_epoch, text,
 };
-pub use writing::{Part, Value, put_parts};
+pub use writing::{Part, Value, put_content};

@@ -11,12 +11,13 @@ ghost use Rattle.row_values.specs.Lines.{IsAlloc, IsParty, IsSession, alloc_cell
 ghost use Rattle.row_values.specs.Lines.{session_cells};
 ghost use Rattle.row_values.specs.Groups.{allocs, parties, sessions};
 
+use crate::copies::owned;
 use crate::kinds::Kind;
 use crate::value_kind::ValueKind;
 use crate::value_kind::ValueKind::{Id, OneByte, Qty};
-use crate::values::{number_or_zero, or_empty, owned, qty, text};
-use crate::writing::{Value, put_row, put_text};
-use field_groups::{Field, Fields};
+use crate::values::{number_or_zero, or_empty, qty, text};
+use crate::writing::{Value, put_row};
+use field_groups::{Field, Fields, put_field};
 use message_tables::Need::{Fixed, Optional, Required};
 use message_tables::{Line, RepeatingGroup, Row, line, line_end};
 use order_meaning::{Bytes, GroupLines, PartyLine};
@@ -175,7 +176,7 @@ impl GroupLine for PartyLine {
 
     fn write(&self, out: &mut Vec<u8>) -> Result<(), AllocError> {
         put_row(out, 448, &Value::Text(&self.id))?;
-        put_text(out, 447, b"D")?;
+        put_field(out, 447, b"D")?;
         put_row(out, 452, &Value::Number(Number { value: self.role }))
     }
 }
@@ -244,7 +245,33 @@ fn members<'f, 'a>(group: &RepeatingGroup<Kind>, fields: &'f Fields<'a>) -> &'f 
     }
 }
 
-/// The lines of a group of at most 32.
+/// The lines of a group of at most 32, where the group is not the lines' own: a version of FIX may
+/// pass over other tags.
+///
+/// # Errors
+///
+/// `AllocError` for want of memory.
+pub fn read_group<L: GroupLine>(
+    alloc: Global,
+    group: &RepeatingGroup<Kind>,
+    fields: &Fields<'_>,
+) -> Result<GroupLines<L>, AllocError>
+    requires { length (lines_in (own_tags group.now) fields.now) ≤ 32 }
+    ensures { IfOk result (AllZip L.is_line (lines_in (own_tags group.now) fields.now)) }
+{
+    let members = members(group, fields);
+    let first = group.first();
+    let mut lines = GroupLines::new(alloc);
+    let mut from = 0;
+    while from < members.len() {
+        let end = line_end(members, from, first);
+        lines.push(L::read(alloc, line(members, from, end))?)?;
+        from = end;
+    }
+    Ok(lines)
+}
+
+/// The lines of their group, of at most 32.
 ///
 /// # Errors
 ///
@@ -256,15 +283,5 @@ pub fn read_lines<L: GroupLine>(
     requires { length (lines_in L.tags fields.now) ≤ 32 }
     ensures { IfOk result (AllZip L.is_line (lines_in L.tags fields.now)) }
 {
-    let group = L::group();
-    let members = members(group, fields);
-    let first = group.first();
-    let mut lines = GroupLines::new(alloc);
-    let mut from = 0;
-    while from < members.len() {
-        let end = line_end(members, from, first);
-        lines.push(L::read(alloc, line(members, from, end))?)?;
-        from = end;
-    }
-    Ok(lines)
+    read_group(alloc, L::group(), fields)
 }

@@ -11,8 +11,9 @@ use crate::ValueKind::{
 };
 use crate::{
     ALLOCS, AllocLine, Allocs, ContraLine, GroupLine, Kind, Maturity, Part, SessionLine, Sessions,
-    Value, ValueKind, code, day, flag, good_fields, may_close, month, number_or_zero, or_empty,
-    owned, price, put_parts, qty, qty_or_zero, resend, stamp, stamp_or_epoch, text, value_kind,
+    TEXTS, Value, ValueKind, all_owned, bytes_of, code, day, flag, good_fields, may_close, month,
+    number_or_zero, or_empty, owned, price, put_content, qty, qty_or_zero, resend, stamp,
+    stamp_or_epoch, text, value_kind,
 };
 use FieldFault::{Empty, Form, Range};
 use field_groups::{Field, split};
@@ -199,6 +200,10 @@ fn texts_are_owned(rt: HostRuntime) -> Result<(), Fail> {
     for (text, want) in [(Some(b"IBM".as_slice()), b"IBM".as_slice()), (None, b"")] {
         let owned = owned(rt.alloc(), text)?;
         assert_eq!(rt; owned.is_some(), text.is_some());
+        assert_eq!(rt; bytes_of(&owned), text);
+        for copy in all_owned(rt.alloc(), [text; TEXTS])? {
+            assert_eq!(rt; bytes_of(&copy), text);
+        }
         assert_eq!(rt; or_empty(rt.alloc(), owned).as_slice(), want);
     }
     Ok(())
@@ -361,9 +366,9 @@ fn written_groups(alloc: Global) -> Result<Vec<u8>, AllocError> {
         id: Bytes::copy(alloc, b"S")?,
     })?;
     let mut out = Vec::new(alloc);
-    put_parts(&mut out, &[Part::Parties(&parties)])?;
-    put_parts(&mut out, &[Part::Allocs(&allocs)])?;
-    put_parts(&mut out, &[Part::Sessions(&sessions)])?;
+    put_content(&mut out, &[Part::Parties(&parties)])?;
+    put_content(&mut out, &[Part::Allocs(&allocs)])?;
+    put_content(&mut out, &[Part::Sessions(&sessions)])?;
     Ok(out)
 }
 
@@ -397,9 +402,9 @@ fn written_values(alloc: Global) -> Result<Vec<u8>, AllocError> {
     let locate = flag(&FIELDS, 114);
     let maturity = third_day();
     let mut out = Vec::new(alloc);
-    put_parts(&mut out, &[Part::Row(448, Value::Text(&id))])?;
-    put_parts(&mut out, &[Part::Row(58, Value::TextIf(&note))])?;
-    put_parts(
+    put_content(&mut out, &[Part::Row(448, Value::Text(&id))])?;
+    put_content(&mut out, &[Part::Row(58, Value::TextIf(&note))])?;
+    put_content(
         &mut out,
         &[
             Part::Row(40, Value::Code(b'2')),

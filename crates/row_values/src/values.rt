@@ -43,16 +43,6 @@ pub fn text<'f, F: Lookup>(fields: &'f F, tag: u32, kind: &ValueKind) -> Option<
     }
 }
 
-/// A text of its own.
-pub fn owned(alloc: Global, text: Option<&[u8]>) -> Result<Option<Bytes>, AllocError>
-    ensures { IfOk result (λ copy. copy ≡ option_map (λ text. text.now) text.entry) }
-{
-    match text {
-        None => Ok(None),
-        Some(bytes) => Ok(Some(Bytes::copy(alloc, bytes)?)),
-    }
-}
-
 /// A text that is there, or none.
 pub fn or_empty(alloc: Global, text: Option<Bytes>) -> Bytes
     ensures { result ≡ unwrap_or text [] }

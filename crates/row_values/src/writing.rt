@@ -1,6 +1,6 @@
 //! Writing contents: each row of a table is a part.
 
-ghost use Rattle.std.specs.Prelude.{◌≡◌, ◌≤◌, ◌++◌, ◌∷◌, [], map, IfSome, OnOk, option_and_then};
+ghost use Rattle.std.specs.Prelude.{◌≡◌, ◌≤◌, ◌++◌, ◌∷◌, [], map, IfSome, OnErr, OnOk, option_and_then};
 ghost use Rattle.std.specs.List.{AllByRecursion, flat_map};
 ghost use Rattle.std.specs.Option.{option_map};
 ghost use Rattle.std.specs.Fmt.{decimal};
@@ -16,7 +16,7 @@ ghost use Rattle.row_values.specs.Writing.{month_day_text, part_fields, value_te
 
 use crate::contras::Contras;
 use crate::lines::{Allocs, GroupLine, Maturity, Sessions};
-use field_groups::SOH;
+use field_groups::{SOH, put_field, put_tag};
 use order_meaning::{Bytes, GroupLines, Lines};
 use std::alloc::AllocError;
 use typed_fields::{Day, Dec, FieldValue, Flag, MonthYear, Number, Stamp};
@@ -72,33 +72,10 @@ pub enum Part<'a> {
     Contras(&'a Contras),
 }
 
-/// Begins a field.
-fn put_tag(out: &mut Vec<u8>, tag: u32) -> Result<(), AllocError>
-    requires { tag ≤ 1_000_000_000 }
-    ensures { OnOk result (out.new.items ≡ out.old.items ++ decimal tag ++ 61 ∷ []) }
-{
-    Number { value: tag }.write(out)?;
-    out.push(b'=')?;
-    Ok(())
-}
-
-/// Appends a field of these bytes.
-#[tactic(auto, unfolding(field_groups::specs::Field::field_bytes))]
-pub(crate) fn put_text(out: &mut Vec<u8>, tag: u32, text: &[u8]) -> Result<(), AllocError>
-    requires { tag ≤ 1_000_000_000 }
-    ensures { OnOk result (out.new.items ≡ out.old.items ++ field_bytes (tag, text.now)) }
-{
-    put_tag(out, tag)?;
-    out.extend_from_slice(text)?;
-    out.push(SOH)?;
-    Ok(())
-}
-
 /// Appends a field of a value.
 #[tactic(auto, unfolding(field_groups::specs::Field::field_bytes))]
 fn put_value<T: FieldValue>(out: &mut Vec<u8>, tag: u32, value: &T) -> Result<(), AllocError>
-    requires tag { tag ≤ 1_000_000_000 }
-    requires value { T.can_be value.now }
+    requires { T.can_be value.now }
     ensures { OnOk result (out.new.items
         ≡ out.old.items ++ field_bytes (tag, T.spelling value.now)) }
 {
@@ -110,8 +87,7 @@ fn put_value<T: FieldValue>(out: &mut Vec<u8>, tag: u32, value: &T) -> Result<()
 
 /// Appends a field of a value, if there is one.
 fn put_if<T: FieldValue>(out: &mut Vec<u8>, tag: u32, value: &Option<T>) -> Result<(), AllocError>
-    requires tag { tag ≤ 1_000_000_000 }
-    requires value { IfSome value.now T.can_be }
+    requires { IfSome value.now T.can_be }
     ensures { OnOk result (out.new.items
         ≡ out.old.items ++ body_of (cell_fields (Tag tag, option_map T.spelling value.now))) }
 {
@@ -124,7 +100,6 @@ fn put_if<T: FieldValue>(out: &mut Vec<u8>, tag: u32, value: &Option<T>) -> Resu
 /// Appends the field of a row's code.
 #[tactic(auto, unfolding(field_groups::specs::Field::field_bytes))]
 fn put_code(out: &mut Vec<u8>, tag: u32, code: u8) -> Result<(), AllocError>
-    requires { tag ≤ 1_000_000_000 }
     ensures { OnOk result (out.new.items ≡ out.old.items ++ field_bytes (tag, code_text code)) }
 {
     put_tag(out, tag)?;
@@ -135,7 +110,6 @@ fn put_code(out: &mut Vec<u8>, tag: u32, code: u8) -> Result<(), AllocError>
 
 /// Appends the field of a row's code, if there is one.
 fn put_code_if(out: &mut Vec<u8>, tag: u32, code: Option<u8>) -> Result<(), AllocError>
-    requires { tag ≤ 1_000_000_000 }
     ensures { OnOk result (out.new.items
         ≡ out.old.items ++ body_of (cell_fields (Tag tag, option_map code_text code))) }
 {
@@ -147,20 +121,18 @@ fn put_code_if(out: &mut Vec<u8>, tag: u32, code: Option<u8>) -> Result<(), Allo
 
 /// Appends the field of a text, if there is one.
 fn put_text_if(out: &mut Vec<u8>, tag: u32, text: &Option<Bytes>) -> Result<(), AllocError>
-    requires { tag ≤ 1_000_000_000 }
     ensures { OnOk result (out.new.items
         ≡ out.old.items ++ body_of (cell_fields (Tag tag, text.now))) }
 {
     match text {
         None => Ok(()),
-        Some(text) => put_text(out, tag, text.as_slice()),
+        Some(text) => put_field(out, tag, text.as_slice()),
     }
 }
 
 /// Appends the field of a month, if there is one.
 fn put_month(out: &mut Vec<u8>, tag: u32, maturity: Option<Maturity>) -> Result<(), AllocError>
-    requires tag { tag ≤ 1_000_000_000 }
-    requires month { IfSome maturity IsReadableMaturity }
+    requires { IfSome maturity IsReadableMaturity }
     ensures { OnOk result (out.new.items
         ≡ out.old.items ++ body_of (cell_fields (Tag tag, option_map month_text maturity))) }
 {
@@ -181,8 +153,7 @@ fn last_two_digits(number: u8) -> [u8; 2]
 /// Appends the field of a date.
 #[tactic(auto, unfolding(field_groups::specs::Field::field_bytes))]
 fn put_day(out: &mut Vec<u8>, tag: u32, month: MonthYear, day: u8) -> Result<(), AllocError>
-    requires tag { tag ≤ 1_000_000_000 }
-    requires month { IsMonthYear month }
+    requires { IsMonthYear month }
     ensures { OnOk result (out.new.items ≡ out.old.items
         ++ field_bytes (tag, month_year_text month ++ zero_padded 2 day)) }
 {
@@ -202,7 +173,6 @@ fn two_digits(number: u8) -> [u8; 2]
 
 /// Appends the field of a day of a month, if there is one.
 fn put_month_day(out: &mut Vec<u8>, tag: u32, maturity: Option<Maturity>) -> Result<(), AllocError>
-    requires { tag ≤ 1_000_000_000 }
     ensures { OnOk result (out.new.items ≡ out.old.items
         ++ body_of (cell_fields (Tag tag, option_and_then month_day_text maturity))) }
 {
@@ -210,15 +180,14 @@ fn put_month_day(out: &mut Vec<u8>, tag: u32, maturity: Option<Maturity>) -> Res
         None => Ok(()),
         Some(maturity) => match maturity.day {
             None => Ok(()),
-            Some(day) => put_text(out, tag, &two_digits(day)),
+            Some(day) => put_field(out, tag, &two_digits(day)),
         },
     }
 }
 
 /// Appends the field of a date, if there is one.
 fn put_date(out: &mut Vec<u8>, tag: u32, maturity: Option<Maturity>) -> Result<(), AllocError>
-    requires tag { tag ≤ 1_000_000_000 }
-    requires month { IfSome maturity IsReadableMaturity }
+    requires { IfSome maturity IsReadableMaturity }
     ensures { OnOk result (out.new.items
         ≡ out.old.items ++ body_of (cell_fields (Tag tag, option_and_then date_text maturity))) }
 {
@@ -233,13 +202,12 @@ fn put_date(out: &mut Vec<u8>, tag: u32, maturity: Option<Maturity>) -> Result<(
 
 /// Appends what a row says.
 pub(crate) fn put_row(out: &mut Vec<u8>, tag: u32, value: &Value<'_>) -> Result<(), AllocError>
-    requires tag { tag ≤ 1_000_000_000 }
-    requires value { IsValue value.now }
+    requires { IsValue value.now }
     ensures { OnOk result (out.new.items
         ≡ out.old.items ++ body_of (cell_fields (Tag tag, value_text value.now))) }
 {
     match value {
-        Value::Text(text) => put_text(out, tag, text.as_slice()),
+        Value::Text(text) => put_field(out, tag, text.as_slice()),
         Value::TextIf(text) => put_text_if(out, tag, text),
         Value::Code(code) => put_code(out, tag, *code),
         Value::CodeIf(code) => put_code_if(out, tag, *code),
@@ -259,8 +227,7 @@ pub(crate) fn put_row(out: &mut Vec<u8>, tag: u32, value: &Value<'_>) -> Result<
 
 /// Appends the count of a group that has lines.
 fn put_count(out: &mut Vec<u8>, tag: u32, count: usize) -> Result<(), AllocError>
-    requires tag { tag ≤ 1_000_000_000 }
-    requires count { count ≤ 32 }
+    requires { count ≤ 32 }
     ensures { OnOk result (out.new.items
         ≡ out.old.items ++ body_of (count_fields tag count)) }
 {
@@ -283,8 +250,7 @@ fn put_lines<L: GroupLine>(
     tag: u32,
     lines: &GroupLines<L>,
 ) -> Result<(), AllocError>
-    requires tag { tag ≤ 1_000_000_000 }
-    requires lines { AllByRecursion L.is_readable lines.now }
+    requires { AllByRecursion L.is_readable lines.now }
     ensures { OnOk result (out.new.items
         ≡ out.old.items ++ body_of (group_fields tag (map L.cells lines.now))) }
 {
@@ -315,7 +281,7 @@ fn put_part(out: &mut Vec<u8>, part: &Part<'_>) -> Result<(), AllocError>
 /// # Errors
 ///
 /// `AllocError` for want of memory; then nothing is said of `out`.
-pub fn put_parts(out: &mut Vec<u8>, parts: &[Part<'_>]) -> Result<(), AllocError>
+fn put_parts(out: &mut Vec<u8>, parts: &[Part<'_>]) -> Result<(), AllocError>
     requires { AllByRecursion IsPart parts.now }
     ensures { OnOk result (out.new.items
         ≡ out.old.items ++ body_of (flat_map part_fields parts.now)) }
@@ -324,4 +290,23 @@ pub fn put_parts(out: &mut Vec<u8>, parts: &[Part<'_>]) -> Result<(), AllocError
         put_part(out, part)?;
     }
     Ok(())
+}
+
+/// How many bytes the content of an ordinary message has at most.
+const ORDINARY: usize = 512;
+
+/// Appends the parts of a content, all or none.
+///
+/// # Errors
+///
+/// `AllocError` for want of memory; then `out` is unchanged.
+pub fn put_content(out: &mut Vec<u8>, parts: &[Part<'_>]) -> Result<(), AllocError>
+    requires { AllByRecursion IsPart parts.now }
+    ensures ok { OnOk result (out.new.items
+        ≡ out.old.items ++ body_of (flat_map part_fields parts.now)) }
+    ensures err { OnErr result (out.new.items ≡ out.old.items) }
+{
+    let mut content = Vec::with_capacity(*out.allocator(), ORDINARY)?;
+    put_parts(&mut content, parts)?;
+    out.extend_from_slice(&content)
 }

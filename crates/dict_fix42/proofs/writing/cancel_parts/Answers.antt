@@ -1,28 +1,28 @@
-use Rattle.std.proofs.Common.{lit≤, refl}
+use Rattle.std.proofs.Common.{refl}
 use Rattle.row_values.proofs.Contents.{also}
 use Rattle.dict_fix42.proofs.writing.cancel_parts.Goals as goal
 
 pub returns : goal.returns
 returns c = record {
   parts =
-      also (lit≤ tt, tt) (
-      also (lit≤ tt, tt) (
-      also (lit≤ tt, tt) (
-      also (lit≤ tt, tt) (
-      also (lit≤ tt, tt) (
-      also (lit≤ tt, tt) (
-      also (lit≤ tt, tt) (
-      also (lit≤ tt, tt) (
-      also (lit≤ tt, tt) (
-      also (lit≤ tt, tt) (
-      also (lit≤ tt, tt) (
-      also (lit≤ tt, c.requires.maturity) (
-      also (lit≤ tt, tt) (
-      also (lit≤ tt, tt) (
-      also (lit≤ tt, tt) (
-      also (lit≤ tt, c.requires.transact_time) (
-      also (lit≤ tt, c.requires.order_qty) (
-      also (lit≤ tt, tt) (
+      also tt (
+      also tt (
+      also tt (
+      also tt (
+      also tt (
+      also tt (
+      also tt (
+      also tt (
+      also tt (
+      also tt (
+      also tt (
+      also c.requires.maturity (
+      also tt (
+      also tt (
+      also tt (
+      also c.requires.transact_time (
+      also c.requires.order_qty (
+      also tt (
       tt))))))))))))))))));
   content = refl;
 }

@@ -1,49 +1,49 @@
-use Rattle.std.proofs.Common.{lit≤, refl}
+use Rattle.std.proofs.Common.{refl}
 use Rattle.row_values.proofs.Contents.{also}
 use Rattle.dict_fix42.proofs.writing.replace_parts.Goals as goal
 
 pub returns : goal.returns
 returns c = record {
   parts =
-      also (lit≤ tt, tt) (
-      also (lit≤ tt, tt) (
-      also (lit≤ tt, tt) (
-      also (lit≤ tt, tt) (
-      also (lit≤ tt, tt) (
-      also (lit≤ tt, tt) (
-      also (lit≤ tt, tt) (
-      also c.requires.allocs (
-      also (lit≤ tt, tt) (
-      also (lit≤ tt, c.requires.settl_date) (
-      also (lit≤ tt, tt) (
-      also (lit≤ tt, tt) (
-      also (lit≤ tt, c.requires.min_qty) (
-      also (lit≤ tt, c.requires.max_floor) (
-      also (lit≤ tt, tt) (
       also tt (
-      also (lit≤ tt, tt) (
-      also (lit≤ tt, tt) (
-      also (lit≤ tt, tt) (
-      also (lit≤ tt, tt) (
-      also (lit≤ tt, tt) (
-      also (lit≤ tt, c.requires.maturity) (
-      also (lit≤ tt, tt) (
-      also (lit≤ tt, tt) (
-      also (lit≤ tt, tt) (
-      also (lit≤ tt, tt) (
-      also (lit≤ tt, c.requires.transact_time) (
-      also (lit≤ tt, c.requires.order_qty) (
-      also (lit≤ tt, tt) (
-      also (lit≤ tt, c.requires.price) (
-      also (lit≤ tt, c.requires.stop_px) (
-      also (lit≤ tt, tt) (
-      also (lit≤ tt, tt) (
-      also (lit≤ tt, c.requires.effective_time) (
-      also (lit≤ tt, c.requires.expire_date) (
-      also (lit≤ tt, c.requires.expire_time) (
-      also (lit≤ tt, tt) (
-      also (lit≤ tt, tt) (
-      also (lit≤ tt, tt) (
+      also tt (
+      also tt (
+      also tt (
+      also tt (
+      also tt (
+      also tt (
+      also c.requires.allocs (
+      also tt (
+      also c.requires.settl_date (
+      also tt (
+      also tt (
+      also c.requires.min_qty (
+      also c.requires.max_floor (
+      also tt (
+      also tt (
+      also tt (
+      also tt (
+      also tt (
+      also tt (
+      also tt (
+      also c.requires.maturity (
+      also tt (
+      also tt (
+      also tt (
+      also tt (
+      also c.requires.transact_time (
+      also c.requires.order_qty (
+      also tt (
+      also c.requires.price (
+      also c.requires.stop_px (
+      also tt (
+      also tt (
+      also c.requires.effective_time (
+      also c.requires.expire_date (
+      also c.requires.expire_time (
+      also tt (
+      also tt (
+      also tt (
       tt)))))))))))))))))))))))))))))))))))))));
   content = refl;
 }

@@ -2,7 +2,7 @@ use Rattle.std.proofs.Common.{◌-◌, ◌≤◌, length, drop}
 use Rattle.message_tables.specs.CodeTables.{seen}
 use Rattle.message_tables.specs.Tables.{in_lines}
 use Rattle.row_values.proofs.LineByLine.{Reads}
-use Rattle.row_values.proofs.lines.read_lines.Given as goal
+use Rattle.row_values.proofs.lines.read_group.Given as goal
 
 abbrev pub invariant-loop-from : goal.invariant-loop-from
 invariant-loop-from g l = record {
