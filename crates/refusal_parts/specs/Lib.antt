@@ -1,0 +1,4 @@
+pub mod Once
+pub mod Said
+pub mod Readable
+pub mod Reading

@@ -1,0 +1,5 @@
+pub mod ContraRows
+pub mod Given
+pub mod Means
+pub mod Steps
+mod Worked

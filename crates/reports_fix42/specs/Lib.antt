@@ -1,0 +1,9 @@
+pub mod Reports
+pub mod Message
+pub mod Sense
+pub mod Step
+pub mod Said
+pub mod Readable
+pub mod Content
+pub mod Reading
+pub mod Laws

@@ -1,0 +1,5 @@
+pub mod Few
+pub mod Lines
+pub mod Means
+pub mod Steps
+mod Worked

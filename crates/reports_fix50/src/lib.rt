@@ -1,0 +1,20 @@
+//! The reports of FIX 5.0 SP2, Execution Report (8) and Order Cancel Reject (9), and its refusals,
+//! Reject (3) and Business Message Reject (j), read and written by the profile's tables.
+#![tactic(auto)]
+
+mod groups;
+pub mod laws;
+mod message;
+mod order_part;
+mod reading;
+mod reports;
+mod tables;
+#[cfg(test)]
+mod tests;
+mod writing;
+
+pub use message::{
+    read_business_reject, read_cancel_reject, read_report, read_session_reject,
+    write_business_reject, write_cancel_reject, write_report, write_session_reject,
+};
+pub use reports::{CancelReject50, Report50};
