@@ -1,0 +1,4 @@
+pub mod Mapping
+pub mod Down
+pub mod Written
+pub mod Laws
