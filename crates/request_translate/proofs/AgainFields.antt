@@ -21,7 +21,7 @@ use Rattle.field_groups.proofs.Plain.{plain_again}
 use Rattle.row_values.specs.Kinds as row_kinds
 use Rattle.rows_fix50.specs.Header.{table}
 use Rattle.request_translate.specs.Sound.{IsClear, AreSaid, IsLine, IsItem}
-use Rattle.request_translate.specs.Translation.{type_of, carried, carried_field, up_fields}
+use Rattle.translation.specs.Header.{type_of, carried, carried_field, with_content}
 use Rattle.request_translate.specs.Translation.{IsRequest}
 use Rattle.request_translate.proofs.Each.{both, not_true, each_joined}
 use Rattle.order_meaning.specs.Request.{RequestKind, New, Cancel, Replace, Status}
@@ -30,7 +30,7 @@ use Rattle.request_translate.proofs.Outcomes.{kind_in, letter_asked, items_asked
 use Rattle.request_translate.proofs.ReadSound.{IsClearField}
 use Rattle.request_translate.proofs.Sound42.{clear_fields}
 use Rattle.request_translate.proofs.SpelledAgain.{digits_clear}
-use Rattle.request_translate.proofs.Writable.{IsType, One as OneByte}
+use Rattle.translation.proofs.Writable.{IsType, One as OneByte}
 
 -- a tag of a field that is no raw data
 abbrev is_good_tag : ℕ → Bool
@@ -291,7 +291,7 @@ request_fits m written request =
 -- WHAT IS WRITTEN IS SPLIT AGAIN.
 pub split_again : (fields written : List Field) (m : Message)
     → AreFields None fields → IsType (type_of fields) → IsRequest m written →
-    SplitsInto (body_of (up_fields fields written)) (up_fields fields written) None
+    SplitsInto (body_of (with_content fields written)) (with_content fields written) None
 unfolding is_data_tag
 split_again fields written m good is request =
     let fits = request_fits m written request in
@@ -301,6 +301,6 @@ split_again fields written m good is request =
     carried_all (49 ∷ 56 ∷ 34 ∷ 43 ∷ 97 ∷ 52 ∷ 122 ∷ []) fields refl clear in
     let short : length head ≤ 7 = carried_length (49 ∷ 56 ∷ 34 ∷ 43 ∷ 97 ∷ 52 ∷ 122 ∷ []) fields in
     let all = each_joined IsPlainField head written tags fits.plain in
-    plain_again (up_fields fields written)
-    (all_of (up_fields fields written) (type_plain (type_of fields) is, all))
+    plain_again (with_content fields written)
+    (all_of (with_content fields written) (type_plain (type_of fields) is, all))
     (omega (arith, short, fits.few, length-append head written))

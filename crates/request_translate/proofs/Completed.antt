@@ -1,4 +1,4 @@
--- A canonical message of FIX 5.0 SP2 says the month of its date.
+-- A message of FIX 5.0 SP2 that says the month of its date has nothing to complete.
 use Rattle.std.proofs.Common.{◌≡◌, ℕ, List, [], ◌∷◌, map, Bool, true, false, refl, sym, ap, subst}
 use Rattle.std.proofs.Common.{◌∙◌}
 use Rattle.std.specs.Prelude.{◌==◌, if◌then◌else◌}
@@ -10,9 +10,10 @@ use Rattle.row_values.specs.Kinds.{Kind}
 use Rattle.rows_fix50.specs.Header.{completed, month_by}
 use Rattle.request_translate.specs.Sound.{places_of}
 use Rattle.request_translate.specs.Canonical.{IsCanonical}
+use Rattle.request_translate.specs.Up.{IsComplete}
 use Rattle.request_translate.proofs.Lookups.{places_apart, cells_said}
 
-abbrev with_month : Said → Cell → Cell
+abbrev pub with_month : Said → Cell → Cell
 with_month date cell = if is_place cell.0 (Tag 200) then (Tag 200, month_by date cell.1) else cell
 
 month_fixed : (date : Said) (cells cs : List Cell) → AllByRecursion (λ c. said_at cells c.0 ≡ c.1)
@@ -38,12 +39,17 @@ month_fixed date cells (c ∷ cs) said month =
             let same : month_by date s ≡ s = ap (month_by date) (sym there) ∙ sym month ∙ there in
             λ i. (Tag (sym is i), same i)
 
--- A CANONICAL MESSAGE IS COMPLETE, whether it repeats what was sent before or not.
+-- A COMPLETE MESSAGE STAYS, whether it repeats what was sent before or not.
 pub completed_again : (letter : ℕ) (items : List (Item Kind)) (r : Message)
-    → IsCanonical letter items r → places_apart (flat_map places_of items) ≡ true
+    → IsComplete letter items r → places_apart (flat_map places_of items) ≡ true
     → (resend : Bool)
     → completed (record r { resend = resend }) ≡ record r { resend = resend }
 completed_again letter items r c places resend =
     let cells = month_fixed (said_at r.cells (Tag 541))
     r.cells r.cells (cells_said r.cells (ap places_apart c.sound.places ∙ places)) c.month in
     λ i. record { letter = r.letter; resend = resend; cells = cells i; groups = r.groups }
+
+-- a canonical message is complete
+pub complete : (letter : ℕ) (items : List (Item Kind)) (r : Message)
+    → IsCanonical letter items r → IsComplete letter items r
+complete letter items r c = record { sound = c.sound; month = c.month }

@@ -126,7 +126,7 @@ module _ {Kind : Type 0} (judge : Judge Kind) where
   groups_said fields m (Lines group ∷ items) h = (h.0, groups_said fields m items h.1)
 
   module _ (m : Message) where
-    row_value : (tag : ℕ) (row : Row Kind)
+    pub row_value : (tag : ℕ) (row : Row Kind)
         → (row.tag == tag) ≡ false → value_at tag (item_fields m (One row)) ≡ None
     row_value tag row other = cell_value tag row.tag (said_at m.cells (Tag row.tag)) ∙ rw other refl
 

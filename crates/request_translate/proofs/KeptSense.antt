@@ -14,7 +14,8 @@ use Rattle.field_groups.proofs.Determined.{determined}
 use Rattle.order_meaning.specs.Request.{Request, RequestKind}
 use Rattle.dict_fix42.specs.Sense.{sense42, request42}
 use Rattle.dict_fix50.specs.Sense.{sense50}
-use Rattle.request_translate.specs.Translation.{type_of, up_fields, IsUp, KeepSense}
+use Rattle.translation.specs.Header.{type_of, with_content}
+use Rattle.request_translate.specs.Translation.{IsUp, KeepSense}
 use Rattle.request_translate.specs.Laws.{FramesKeepSense}
 use Rattle.request_translate.proofs.Outcomes.{kind_is}
 
@@ -36,7 +37,7 @@ bodies_keep : (body up : List ℕ) → IsUp body up → KeepSense body up
 bodies_keep body up is fields others read again =
     let here = (determined body fields is.fields None None read is.stands.good.split).0 in
     let there =
-    (determined up others (up_fields is.fields is.written) None None again is.again).0 in
+    (determined up others (with_content is.fields is.written) None None again is.again).0 in
     let mine = ap (λ (fs : List Field). sense42 (type_of fs) fs) here in
     let theirs = ap (λ (fs : List Field). sense50 (type_of fs) fs) there in
     (theirs ∙ is.same ∙ sym mine, ap is_some mine ∙ means_some body up is)

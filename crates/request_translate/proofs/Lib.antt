@@ -1,15 +1,15 @@
 mod AgainFields
-mod Bodies
 mod CanonicalUp
 mod CarriedRows
 mod Carry
 mod Completed
+mod CompletedSound
 mod ContentValues
-mod Copies
 mod Each
 mod Found
 mod Good
 mod GroupStage
+mod Judged50
 mod KeptSense
 mod Lacks
 mod Lookups
@@ -17,6 +17,7 @@ mod Means
 mod OneContent
 mod Outcomes
 mod PlainOrders
+mod PlainRows
 mod ReadAgain
 mod ReadSound
 mod Readable
@@ -26,6 +27,7 @@ mod Sayable
 mod SenseAgain
 mod ShortDays
 mod Sound42
+mod Sound50
 mod SoundUp
 mod SpelledAgain
 mod Stages

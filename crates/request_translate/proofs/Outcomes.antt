@@ -14,8 +14,8 @@ use Rattle.order_meaning.specs.Request.{Request, RequestKind, New, Cancel, Repla
 use Rattle.dict_fix42.specs.Message.{message42}
 use Rattle.dict_fix42.specs.Sense.{request42}
 use Rattle.dict_fix50.specs.Sense.{request50}
-use Rattle.request_translate.specs.declared.translate.TranslateError.{TranslateError}
-use Rattle.request_translate.specs.declared.translate.TranslateError.TheVariants as errors
+use Rattle.translation.specs.declared.error.TranslateError.{TranslateError}
+use Rattle.translation.specs.declared.error.TranslateError.TheVariants as errors
 use Rattle.rows_fix50.specs.Header.{table}
 use Rattle.dict_fix50.specs.Requests.{new_order, cancel_request, replace_request, status_request}
 use Rattle.message_tables.specs.Tables.{Item}
@@ -23,7 +23,8 @@ use Rattle.message_tables.specs.Content.{content}
 use Rattle.row_values.specs.Kinds.{Kind}
 use Rattle.request_translate.specs.Canonical.{IsCanonical, HaveOneContent}
 use Rattle.request_translate.specs.Lack.{lack_if}
-use Rattle.request_translate.specs.Translation.{type_of, up_fields, IsRequest, News, Cancels}
+use Rattle.translation.specs.Header.{type_of, with_content}
+use Rattle.request_translate.specs.Translation.{IsRequest, News, Cancels}
 use Rattle.request_translate.specs.Translation.{Replaces, Statuses, IsGood, StandsFor}
 use Rattle.request_translate.specs.Translation.{IsTranslation, IsFaulty, IsLacking, IsTooLong}
 use Rattle.request_translate.specs.Translation.{IsOutcome}
@@ -156,10 +157,11 @@ module _ (body : List ℕ) where
       t.request v w s.canonical t.canonical (s.means ∙ ap request42 same ∙ sym t.means)
 
   pub same_up : (a b v w : List Field)
-      → StandsFor body a v → StandsFor body b w → body_of (up_fields a v) ≡ body_of (up_fields b w)
+      → StandsFor body a v → StandsFor body b w
+      → body_of (with_content a v) ≡ body_of (with_content b w)
   same_up a b v w s t =
       let f = same_fields a b s.good t.good in let c = same_content a b v w s t in
-      λ i. body_of (up_fields (f i) (c i))
+      λ i. body_of (with_content (f i) (c i))
 
   same_texts : (a b : List ℕ) → IsTranslation body a → IsTranslation body b → a ≡ b
   same_texts a b s t =
@@ -177,7 +179,7 @@ module _ (body : List ℕ) where
       let fits : length (body_of t.written) ≤ _ =
       subst (λ (bytes : List ℕ). length bytes ≤ 7936) content u.content_fits in
       let long = t.long fits in
-      let most : length (body_of (up_fields t.fields t.written)) ≤ 8192 =
+      let most : length (body_of (with_content t.fields t.written)) ≤ 8192 =
       subst (λ (bytes : List ℕ). length bytes ≤ 8192) (u.bytes ∙ up) u.body_fits in
       absurd (omega (arith, long, most))
 

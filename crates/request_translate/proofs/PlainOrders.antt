@@ -31,12 +31,13 @@ use Rattle.dict_fix42.specs.Sense.{request42}
 use Rattle.rows_fix50.specs.Header.{table}
 use Rattle.dict_fix50.specs.Requests.{new_order}
 use Rattle.dict_fix50.specs.Sense.{request50}
-use Rattle.request_translate.specs.declared.translate.TranslateError.{TranslateError}
-use Rattle.request_translate.specs.declared.translate.TranslateError.TheVariants as errors
+use Rattle.translation.specs.declared.error.TranslateError.{TranslateError}
+use Rattle.translation.specs.declared.error.TranslateError.TheVariants as errors
 use Rattle.request_translate.specs.Canonical.{IsCanonical, party_lines}
 use Rattle.request_translate.specs.Lack.{lack_if}
 use Rattle.request_translate.specs.Sound.{IsClear, IsSaid, IsGroup}
-use Rattle.request_translate.specs.Translation.{News, StandsFor, IsOutcome, IsTooLong, up_fields}
+use Rattle.translation.specs.Header.{with_content}
+use Rattle.request_translate.specs.Translation.{News, StandsFor, IsOutcome, IsTooLong}
 use Rattle.request_translate.specs.Plain.{PlainOrder, IsValue, HasPlainValues, client_field}
 use Rattle.request_translate.specs.Plain.{client_party, terms, plain_fields, translated_fields}
 use Rattle.request_translate.specs.Plain.{PlainOrdersAreTranslated}
@@ -283,7 +284,7 @@ written_is o (Some id) None c l = rw (c, l) refl
 written_is o (Some id) (Some price) c l = rw (c, l) refl
 
 up_is : (o : PlainOrder) (client limit : Option (List ℕ)) → o.client_id ≡ client
-    → o.limit ≡ limit → up_fields (plain_fields o) (content_fields o) ≡ translated_fields o
+    → o.limit ≡ limit → with_content (plain_fields o) (content_fields o) ≡ translated_fields o
 up_is o None None c l = rw (c, l) refl
 up_is o None (Some price) c l = rw (c, l) refl
 up_is o (Some id) None c l = rw (c, l) refl
@@ -536,7 +537,7 @@ module _ (o : PlainOrder) (v : HasPlainValues o) where
   }
 
   same_body : (fields written : List Field) → StandsFor body fields written
-      → body_of (up_fields fields written) ≡ body_of (translated_fields o)
+      → body_of (with_content fields written) ≡ body_of (translated_fields o)
   same_body fields written s =
       same_up body fields (plain_fields o) written (content_fields o) s stands
       ∙ ap body_of (up_is o o.client_id o.limit refl refl)

@@ -62,7 +62,7 @@ module _ {Kind : Type 0} (judge : Judge Kind) where
     by_need (Fixed text) j value h k = k text refl
     by_need (When condition) j value h k = by_value j value h
 
-  text_again : (j : List ℕ → Verdict) (said : Said)
+  pub text_again : (j : List ℕ → Verdict) (said : Said)
       → IfSome said (λ text. j text ≡ Spells text) → said >>= (λ bytes. text_of (j bytes)) ≡ said
   text_again j None h = refl
   text_again j (Some text) h = ap text_of h

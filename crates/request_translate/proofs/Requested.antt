@@ -9,12 +9,14 @@ use Rattle.dict_fix42.specs.Message.{message42, table_of}
 use Rattle.row_values.specs.Faults.{message_by}
 use Rattle.dict_fix42.specs.Said.{says}
 use Rattle.dict_fix42.specs.declared.requests.Msg42.{Msg42}
+use Rattle.dict_fix50.specs.Content.{content50}
 use Rattle.dict_fix50.specs.declared.requests.Msg50.{Msg50}
-use Rattle.request_translate.specs.declared.translate.TranslateError.{TranslateError}
-use Rattle.request_translate.specs.declared.translate.TranslateError.TheVariants as errors
+use Rattle.translation.specs.declared.error.TranslateError.{TranslateError}
+use Rattle.translation.specs.declared.error.TranslateError.TheVariants as errors
 use Rattle.request_translate.specs.Writing.{Means, IsUnsaid, AreRead, IsRequestOf, Refuses}
-use Rattle.request_translate.specs.Writing.{IsWritten, IsUnwritten, IsUpOf, RefusesUp}
-use Rattle.request_translate.specs.Translation.{type_of}
+use Rattle.request_translate.specs.Writing.{IsUpOf, RefusesUp}
+use Rattle.translation.specs.Header.{type_of}
+use Rattle.translation.specs.Writing.{IsWritten, IsUnwritten}
 use Rattle.request_translate.specs.Up.{IsSound42}
 use Rattle.request_translate.proofs.Sound42.{clear_fields, read_is_sound}
 
@@ -66,7 +68,7 @@ refused fields stopped x (Err errors.TooLong) e h = absurd h
 pub written_up : (fields : List Field) (stopped : Option SplitFault)
     (request : Msg50) (up : List ℕ) (r : Result (Unit {0}) TranslateError) →
     IsRequestOf fields stopped request
-    → OnOk r (IsWritten fields request up) → OnOk r (IsUpOf fields stopped up)
+    → OnOk r (IsWritten fields (content50 request) up) → OnOk r (IsUpOf fields stopped up)
 written_up fields stopped request up (Ok u) q h =
     record { request = request; asked = q; written = h }
 written_up fields stopped request up (Err error) q h = tt
@@ -74,7 +76,7 @@ written_up fields stopped request up (Err error) q h = tt
 pub unwritten_up : (fields : List Field)
     (stopped : Option SplitFault) (request : Msg50) (r : Result (Unit {0}) TranslateError) →
     IsRequestOf fields stopped request
-    → IfErr r (IsUnwritten fields request) → IfErr r (RefusesUp fields stopped)
+    → IfErr r (IsUnwritten fields (content50 request)) → IfErr r (RefusesUp fields stopped)
 unwritten_up fields stopped request (Ok u) q h = tt
 unwritten_up fields stopped request (Err errors.NoMemory) q h = tt
 unwritten_up fields stopped request (Err errors.TooLong) q h =

@@ -38,7 +38,8 @@ use Rattle.dict_fix50.specs.Requests.{new_order, cancel_request, replace_request
 use Rattle.dict_fix50.specs.Sense.{sense50, request50}
 use Rattle.request_translate.specs.Sound.{IsClear, IsSaid, IsItem, IsSound, places_of}
 use Rattle.request_translate.specs.Canonical.{IsCanonical}
-use Rattle.request_translate.specs.Translation.{carried, carried_field, IsRequest}
+use Rattle.translation.specs.Header.{carried, carried_field}
+use Rattle.request_translate.specs.Translation.{IsRequest}
 use Rattle.request_translate.proofs.Each.{are_apart, both, either, not_true, each_part}
 use Rattle.request_translate.proofs.Each.{each_joined, each_front}
 use Rattle.request_translate.proofs.Lookups.{places_apart}
@@ -50,13 +51,13 @@ use Rattle.std.proofs.lemmas.Bool.Decides.{nat_tests}
 use Rattle.order_meaning.specs.declared.fault.Fault.{Fault}
 use Rattle.request_translate.proofs.Outcomes.{kind_in, kind_is, letter_asked, items_asked}
 use Rattle.request_translate.proofs.Outcomes.{IsOfKind, of_kind}
-use Rattle.request_translate.proofs.Writable.{IsType, One as OneByte}
+use Rattle.translation.proofs.Writable.{IsType, One as OneByte}
 use Rattle.request_translate.proofs.Stages.{AreOf}
 use Rattle.request_translate.proofs.Found.{value_behind}
 use Rattle.request_translate.proofs.Values.{cells_in}
 use Rattle.request_translate.proofs.ReadAgain as again
 use Rattle.request_translate.proofs.ReadAgain.{IsTable, cells_by_places}
-use Rattle.request_translate.proofs.Completed.{completed_again}
+use Rattle.request_translate.proofs.Completed.{completed_again, complete}
 use Rattle.request_translate.proofs.TableFits as fits
 use Rattle.request_translate.proofs.TableFits.{table_fits}
 use Rattle.row_values.specs.Faults as row_faults
@@ -413,7 +414,8 @@ module _ (msg_type : List ℕ) (fields : List Field) (r : Message) where
         ap (λ (f : Option TableFault). told50
         (unless f (message_in judge t (all letter items msg_type fields r)))) none
         ∙ ap (λ (x : Message). Ok (completed x)) same
-        ∙ ap (λ (x : Message). Ok x) (completed_again letter items r c places r.resend))
+        ∙ ap (λ (x : Message). Ok x) (completed_again letter items r
+        (complete letter items r c) places r.resend))
 
 -- ---- what the fields of FIX 4.2 say of the header
 

@@ -3,26 +3,23 @@ use Rattle.std.proofs.Common.{◌≡◌, ℕ, List, [], ◌∷◌, Option, Some,
 use Rattle.std.proofs.Common.{sym, ap, subst, ◌∙◌, codes}
 use Rattle.std.specs.Prelude.{Result, Ok, Err, not, ◌&&◌, ◌||◌, ◌==◌, if◌then◌else◌}
 use Rattle.std.specs.Result.{result_ok}
-use Rattle.std.specs.List.{AllByRecursion, list_all}
+use Rattle.std.specs.List.{AllByRecursion, flat_map, list_all}
 use Rattle.std.specs.Str.{bytes_eq}
 use Rattle.std.proofs.lemmas.Bool.{eqb-true}
 use Rattle.typed_fields.specs.declared.fault.FieldFault.{FieldFault}
 use Rattle.typed_fields.specs.declared.month_year.MonthYear.{MonthYear as MonthValue}
 use Rattle.typed_fields.specs.MonthYear.{read_month_year}
 use Rattle.typed_fields.specs.Day.{is_date}
-use Rattle.row_values.specs.ValueKind.{ValueKind, MonthYear, DayOfMonth, Spelling, spelling}
-use Rattle.row_values.specs.ValueKind.{spelt, number_of_two}
-use Rattle.message_tables.specs.declared.table_fault.TableFault.{TableFault}
+use Rattle.row_values.specs.ValueKind.{MonthYear, DayOfMonth, spelling, spelt, number_of_two}
 use Rattle.field_groups.specs.Field.{Field, AreFields}
 use Rattle.field_groups.specs.Data.{is_data_tag}
 use Rattle.message_tables.specs.Tables.{Verdict, Spells, Outside, Wrong, Need, Required, Optional}
 use Rattle.message_tables.specs.Tables.{Lenient, Fixed, When, Stands, Is, Row, Item, One, Party}
 use Rattle.message_tables.specs.Tables.{Lines, Table, Message, Said, ◌>>=◌, has_tag, value_at}
-use Rattle.message_tables.specs.Tables.{is_needed, text_of, tags_in, said_at, Tag}
-use Rattle.message_tables.specs.FirstFault.{first_fault, message_in, message_of, unless}
+use Rattle.message_tables.specs.Tables.{is_needed, text_of, groups_of, said_at, Tag}
+use Rattle.message_tables.specs.FirstFault.{first_fault, message_in, message_of}
 use Rattle.message_tables.specs.Content.{content}
 use Rattle.message_tables.proofs.Clean.{stands, value_at-none}
-use Rattle.message_tables.proofs.Few.{IsPlain}
 use Rattle.field_groups.proofs.Plain.{is_plain}
 use Rattle.row_values.specs.Kinds.{Kind, Value, Byte, DayOf, MonthBeside, TimeBeside, Version}
 use Rattle.row_values.specs.Kinds.{judge, verdict_of, month_at, in_month}
@@ -30,34 +27,20 @@ use Rattle.dict_fix42.specs.Message.{message42}
 use Rattle.rows_fix42.specs.Header.{table}
 use Rattle.row_values.specs.Faults.{message_by, told}
 use Rattle.dict_fix42.specs.Requests.{new_order, cancel_request, replace_request, status_request}
-use Rattle.row_values.specs.Groups.{allocs, sessions}
 use Rattle.dict_fix42.specs.Said.{says as says42}
 use Rattle.dict_fix42.specs.declared.requests.Msg42.{Msg42}
 use Rattle.dict_fix42.specs.declared.requests.Msg42.TheVariants as messages
 use Rattle.request_translate.specs.Sound.{IsClear, IsSound}
 use Rattle.request_translate.specs.Up.{IsSound42}
-use Rattle.request_translate.proofs.Each.{both}
-use Rattle.request_translate.proofs.SpelledAgain.{spelled_again, spelled_clear}
+use Rattle.request_translate.proofs.Each.{both, not_true}
 use Rattle.request_translate.proofs.ContentValues.{is_alone, value_said}
-use Rattle.request_translate.proofs.ReadSound.{IsPlainRow, IsClearField, IsStableRow, IsStableItem}
-use Rattle.request_translate.proofs.ReadSound.{IsPlainItem, IsTable, read_sound}
+use Rattle.request_translate.proofs.PlainRows.{value_again, value_clear, HasPlainRows, allocs_plain}
+use Rattle.request_translate.proofs.PlainRows.{sessions_plain, allocs_apart, sessions_apart}
+use Rattle.request_translate.proofs.PlainRows.{unfixed, plain_items, of_message}
+use Rattle.request_translate.proofs.ReadSound.{IsClearField, IsStableRow, IsStableItem, IsTable}
+use Rattle.request_translate.proofs.ReadSound.{read_sound}
 
 -- ---- the values of FIX 4.2
-
-spelled : (s : Spelling) (text : List ℕ) → verdict_of s ≡ Spells text → s ≡ Ok (Some text)
-spelled (Ok (Some other)) text h = cc
-spelled (Ok None) text h = absurd cc
-spelled (Err fault) text h = absurd cc
-
-value_again : (kind : ValueKind) (bytes text : List ℕ)
-    → verdict_of (spelling kind bytes) ≡ Spells text → verdict_of (spelling kind text) ≡ Spells text
-value_again kind bytes text h =
-    ap verdict_of (spelled_again kind bytes text (spelled (spelling kind bytes) text h))
-
-value_clear : (kind : ValueKind) (bytes text : List ℕ)
-    → IsClear bytes → verdict_of (spelling kind bytes) ≡ Spells text → IsClear text
-value_clear kind bytes text c h =
-    spelled_clear kind bytes text c (spelled (spelling kind bytes) text h)
 
 -- a day that its month has is a day
 day_in : (month : Option MonthValue) (v : Verdict) (day : List ℕ)
@@ -85,95 +68,12 @@ ours_kind (Value kind) = true
 ours_kind (DayOf month) = month == 200
 ours_kind kind = false
 
-abbrev plain_need : Need → Bool
-plain_need Required = true
-plain_need Optional = true
-plain_need need = false
-
-abbrev plain_kind : Kind → Bool
-plain_kind (Value kind) = true
-plain_kind kind = false
-
 abbrev is_ours_row : Row Kind → Bool
 is_ours_row row = not (is_data_tag row.tag) && (ours_need row.need && ours_kind row.kind)
 
-abbrev is_plain_row : Row Kind → Bool
-is_plain_row row = not (is_data_tag row.tag) && (plain_need row.need && plain_kind row.kind)
-
 abbrev is_ours : Item Kind → Bool
 is_ours (One row) = is_ours_row row
-is_ours (Party role) = true
-is_ours (Lines group) = list_all is_plain_row group.rows
-
--- ---- members of groups
-
-not_true : (b : Bool) → not b ≡ true → b ≡ false
-not_true true h = absurd cc
-not_true false h = refl
-
-steady_need : (need : Need)
-    → plain_need need ≡ true → (l k : List Field) → is_needed need l ≡ is_needed need k
-steady_need Required h l k = refl
-steady_need Optional h l k = refl
-steady_need Lenient h l k = refl
-steady_need (Fixed text) h l k = refl
-steady_need (When condition) h l k = absurd cc
-
-unfixed : (need : Need) → plain_need need ≡ true → (text : List ℕ) → need ≡ Fixed text → ⊥
-unfixed Required h text e = absurd cc
-unfixed Optional h text e = absurd cc
-unfixed Lenient h text e = absurd cc
-unfixed (Fixed other) h text e = absurd cc
-unfixed (When condition) h text e = absurd cc
-
-plain_same : (kind : Kind) → plain_kind kind ≡ true
-    → (l k : List Field) (bytes : List ℕ) → judge l kind bytes ≡ judge k kind bytes
-unfolding judge
-plain_same (Value kind) h l k bytes = refl
-plain_same (DayOf month) h l k bytes = absurd cc
-plain_same (Byte listed) h l k bytes = absurd cc
-plain_same (MonthBeside date) h l k bytes = absurd cc
-plain_same (TimeBeside ord_type) h l k bytes = absurd cc
-plain_same Version h l k bytes = absurd cc
-
-plain_again : (kind : Kind) → plain_kind kind ≡ true
-    → (bytes text : List ℕ) → judge [] kind bytes ≡ Spells text → judge [] kind text ≡ Spells text
-unfolding judge
-plain_again (Value kind) h bytes text e = value_again kind bytes text e
-plain_again (DayOf month) h bytes text e = absurd cc
-plain_again (Byte listed) h bytes text e = absurd cc
-plain_again (MonthBeside date) h bytes text e = absurd cc
-plain_again (TimeBeside ord_type) h bytes text e = absurd cc
-plain_again Version h bytes text e = absurd cc
-
-plain_clear : (kind : Kind) → plain_kind kind ≡ true
-    → (bytes text : List ℕ) → IsClear bytes → judge [] kind bytes ≡ Spells text → IsClear text
-unfolding judge
-plain_clear (Value kind) h bytes text c e = value_clear kind bytes text c e
-plain_clear (DayOf month) h bytes text c e = absurd cc
-plain_clear (Byte listed) h bytes text c e = absurd cc
-plain_clear (MonthBeside date) h bytes text c e = absurd cc
-plain_clear (TimeBeside ord_type) h bytes text c e = absurd cc
-plain_clear Version h bytes text c e = absurd cc
-
-plain_row : (row : Row Kind) → is_plain_row row ≡ true → IsPlainRow judge row
-plain_row row h =
-    let a = both (not (is_data_tag row.tag)) (plain_need row.need && plain_kind row.kind) h in
-    let b = both (plain_need row.need) (plain_kind row.kind) a.1 in
-    record {
-      steady = steady_need row.need b.0;
-      same = plain_same row.kind b.1;
-      spelled = plain_again row.kind b.1;
-      clear = plain_clear row.kind b.1;
-      fixed = λ text e. absurd (unfixed row.need b.0 text e);
-      bare = not_true (is_data_tag row.tag) a.0;
-    }
-
-plain_rows : (rows : List (Row Kind))
-    → list_all is_plain_row rows ≡ true → AllByRecursion (IsPlainRow judge) rows
-plain_rows [] h = tt
-plain_rows (row ∷ rows) h = let p = both (is_plain_row row) (list_all is_plain_row rows) h
-    in (plain_row row p.0, plain_rows rows p.1)
+is_ours item = true
 
 -- fields of a body have no SOH, but where they are raw data
 pub clear_fields : (before : Option Field) (fields : List Field)
@@ -190,16 +90,6 @@ module _ (table : Table Kind) (fields : List Field) where
 
   abbrev after : List Field
   after = content table m
-
-  plain_items : (items : List (Item Kind))
-      → list_all is_ours items ≡ true → AllByRecursion (IsPlainItem judge table fields) items
-  plain_items [] h = tt
-  plain_items (One row ∷ items) h =
-      (tt, plain_items items (both (is_ours_row row) (list_all is_ours items) h).1)
-  plain_items (Party role ∷ items) h = (tt, plain_items items h)
-  plain_items (Lines group ∷ items) h =
-      let p = both (list_all is_plain_row group.rows) (list_all is_ours items) h
-      in (plain_rows group.rows p.0, plain_items items p.1)
 
   module _ (same_month : month_at 200 after ≡ month_at 200 fields)
       (same_day : has_tag 205 after ≡ true → has_tag 205 fields ≡ true) where
@@ -228,13 +118,6 @@ module _ (table : Table Kind) (fields : List Field) where
     kept_need (When ((Is tag listed ∷ tests) ∷ more)) h n = absurd cc
     kept_need (When ((Stands tag ∷ test ∷ tests) ∷ more)) h n = absurd cc
     kept_need (When ((Stands tag ∷ []) ∷ other ∷ more)) h n = absurd cc
-
-    ours_unfixed : (need : Need) → ours_need need ≡ true → (text : List ℕ) → need ≡ Fixed text → ⊥
-    ours_unfixed (Fixed other) h text e = absurd cc
-    ours_unfixed Required h text e = absurd cc
-    ours_unfixed Optional h text e = absurd cc
-    ours_unfixed Lenient h text e = absurd cc
-    ours_unfixed (When condition) h text e = absurd cc
 
     ours_again : (kind : Kind) → ours_kind kind ≡ true → (bytes text : List ℕ)
         → judge fields kind bytes ≡ Spells text → judge after kind text ≡ Spells text
@@ -273,7 +156,7 @@ module _ (table : Table Kind) (fields : List Field) where
           kept = kept_need row.need b.0;
           spelled = λ bytes text at e. ours_again row.kind b.1 bytes text e;
           clear = ours_clear row.kind b.1;
-          fixed = λ text e. absurd (ours_unfixed row.need b.0 text e);
+          fixed = λ text e. absurd (unfixed ours_need (λ other. refl) row.need b.0 text e);
           bare = not_true (is_data_tag row.tag) a.0;
         }
 
@@ -283,10 +166,7 @@ module _ (table : Table Kind) (fields : List Field) where
     stable_items (One row ∷ items) h = let p = both (is_ours_row row) (list_all is_ours items) h
         in (stable_row row p.0, stable_items items p.1)
     stable_items (Party role ∷ items) h = (tt, stable_items items h)
-    stable_items (Lines group ∷ items) h = (
-      tt,
-      stable_items items (both (list_all is_plain_row group.rows) (list_all is_ours items) h).1,
-    )
+    stable_items (Lines group ∷ items) h = (tt, stable_items items h)
 
 -- ---- the month and the day of the content are those of the fields
 
@@ -339,24 +219,6 @@ module _ (fields after : List Field) where
 
 -- ---- the four messages
 
-plain_allocs : IsPlain (tags_in allocs)
-plain_allocs = record {
-  first_inside =
-      refl;
-  first_counts_not = refl;
-  first_is_said = refl;
-  count_outside = refl;
-}
-
-plain_sessions : IsPlain (tags_in sessions)
-plain_sessions = record {
-  first_inside =
-      refl;
-  first_counts_not = refl;
-  first_is_said = refl;
-  count_outside = refl;
-}
-
 module _ (fields : List Field) (clear : AllByRecursion (IsClearField judge) fields) where
   -- the table of a letter
   abbrev Reads : ℕ → List (Item Kind) → Type 0
@@ -364,14 +226,15 @@ module _ (fields : List Field) (clear : AllByRecursion (IsClearField judge) fiel
       → IsSound judge (table letter items) (message_in judge (table letter items) fields)
 
   table_read : (letter : ℕ) (items : List (Item Kind)) → IsTable judge (table letter items) fields
-      → list_all is_ours items ≡ true → is_alone 200 items ≡ true → is_alone 205 items ≡ true
+      → list_all is_ours items ≡ true → AllByRecursion HasPlainRows (flat_map groups_of items)
+      → is_alone 200 items ≡ true → is_alone 205 items ≡ true
       → said_at (message_in judge (table letter items) fields).cells (Tag 200) ≡ month_said fields
       → said_at (message_in judge (table letter items) fields).cells (Tag 205) ≡ day_said fields
       → Reads letter items
-  table_read letter items is ours month day month_is day_is h =
+  table_read letter items is ours plain month day month_is day_is h =
       let t = table letter items in
       let m = message_in judge t fields in
-      read_sound judge t fields is (plain_items t fields items ours)
+      read_sound judge t fields is (plain_items t fields items plain)
       (λ groups. stable_items t fields
       (same_month_by fields (content t m) (value_said judge m 200 items month groups ∙ month_is))
       (same_day_by fields (content t m) (value_said judge m 205 items day groups ∙ day_is))
@@ -384,13 +247,13 @@ module _ (fields : List Field) (clear : AllByRecursion (IsClearField judge) fiel
     rows = refl;
     places = refl;
     counts = refl;
-    plain = (plain_allocs, (plain_sessions, tt));
-  }) refl refl refl refl refl
+    plain = (allocs_apart, (sessions_apart, tt));
+  }) refl (allocs_plain, (sessions_plain, tt)) refl refl refl refl
 
   cancel_read : Reads 70 cancel_request
   unfolding is_data_tag
   cancel_read = table_read 70 cancel_request
-      (record { rows = refl; places = refl; counts = refl; plain = tt }) refl refl refl refl refl
+      (record { rows = refl; places = refl; counts = refl; plain = tt }) refl tt refl refl refl refl
 
   replace_read : Reads 71 replace_request
   unfolding is_data_tag
@@ -398,30 +261,19 @@ module _ (fields : List Field) (clear : AllByRecursion (IsClearField judge) fiel
     rows = refl;
     places = refl;
     counts = refl;
-    plain = (plain_allocs, (plain_sessions, tt));
-  }) refl refl refl refl refl
+    plain = (allocs_apart, (sessions_apart, tt));
+  }) refl (allocs_plain, (sessions_plain, tt)) refl refl refl refl
 
   status_read : Reads 72 status_request
   unfolding is_data_tag
   status_read = table_read 72 status_request
-      (record { rows = refl; places = refl; counts = refl; plain = tt }) refl refl refl refl refl
-
-  -- a message of a table that was read
-  by_fault : (table : Table Kind) (fault : Option TableFault) (m x : Message)
-      → (fault ≡ None → IsSound judge table m) →
-      told (unless fault m) ≡ Ok x → IsSound judge table x
-  by_fault table None m x h e =
-      let same : m ≡ x = cc in
-      let P : Message → Type 0 = λ y. IsSound judge table y in subst P same (h refl)
-  by_fault table (Some fault) m x h e = absurd cc
+      (record { rows = refl; places = refl; counts = refl; plain = tt }) refl tt refl refl refl refl
 
   by_table : (letter : ℕ) (items : List (Item Kind)) (x : Message)
       → Reads letter items → told (message_of judge (table letter items) fields) ≡ Ok x →
       IsSound judge (table letter items) x
-  unfolding message_of
   by_table letter items x h e =
-      by_fault (table letter items) (first_fault judge (table letter items) fields)
-      (message_in judge (table letter items) fields) x h e
+      of_message (table letter items) fields (IsSound judge (table letter items)) h x e
 
   -- a sound message of the table of its letter
   data IsSoundOf (x : Message) : Type 0 where

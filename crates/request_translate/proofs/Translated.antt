@@ -9,10 +9,11 @@ use Rattle.dict_fix50.specs.Content.{content50}
 use Rattle.dict_fix50.specs.Said as said50
 use Rattle.dict_fix50.specs.declared.requests.Msg50.{Msg50}
 use Rattle.dict_fix50.specs.declared.requests.Msg50.TheVariants as messages
-use Rattle.request_translate.specs.declared.translate.TranslateError.{TranslateError}
-use Rattle.request_translate.specs.declared.translate.TranslateError.TheVariants as errors
+use Rattle.translation.specs.declared.error.TranslateError.{TranslateError}
+use Rattle.translation.specs.declared.error.TranslateError.TheVariants as errors
 use Rattle.request_translate.specs.Canonical.{IsCanonical50}
-use Rattle.request_translate.specs.Translation.{type_of, carried, up_fields, IsRequest, News}
+use Rattle.translation.specs.Header.{type_of, carried, with_content}
+use Rattle.request_translate.specs.Translation.{IsRequest, News}
 use Rattle.request_translate.specs.Translation.{Cancels, Replaces, Statuses, IsGood, StandsFor}
 use Rattle.request_translate.specs.Translation.{IsTranslation, IsRefused, IsRefusedByCheck}
 use Rattle.request_translate.specs.Writing.{IsRequestOf, Refuses, IsUpOf, RefusesUp}
@@ -21,7 +22,8 @@ use Rattle.dict_fix50.specs.Sense.{sense50}
 use Rattle.request_translate.proofs.AgainFields.{split_again}
 use Rattle.request_translate.proofs.SenseAgain.{same_sense}
 use Rattle.request_translate.proofs.Sound42.{clear_fields}
-use Rattle.request_translate.proofs.Writable.{type_is, writable}
+use Rattle.request_translate.proofs.Writable.{type_is}
+use Rattle.translation.proofs.Writable.{writable}
 
 is_request : (request : Msg50)
     → IsCanonical50 request → IsRequest (said50.says request) (content50 request)
@@ -62,18 +64,19 @@ module _ (body : List ℕ) (fields : List Field)
       (type_is (type_of fields) fields asked.message asked.read.read))
 
   split_up : (up : List ℕ) (is : IsUpOf fields stopped up)
-      → SplitsInto up (up_fields fields (content50 is.request)) None
+      → SplitsInto up (with_content fields (content50 is.request)) None
   split_up up is =
       let asked = is.asked in
       let P : List ℕ → Type 0 =
-      λ bytes. SplitsInto bytes (up_fields fields (content50 is.request)) None in
+      λ bytes. SplitsInto bytes (with_content fields (content50 is.request)) None in
       subst P (sym is.written.bytes)
       (split_again fields (content50 is.request) (said50.says is.request) split.good
       (type_is (type_of fields) fields asked.message asked.read.read)
       (is_request is.request asked.written.canonical))
 
   same_up : (up : List ℕ) (is : IsUpOf fields stopped up) → sense50
-      (type_of fields) (up_fields fields (content50 is.request)) ≡ sense42 (type_of fields) fields
+      (type_of fields) (with_content fields (content50 is.request))
+      ≡ sense42 (type_of fields) fields
   same_up up is =
       let asked = is.asked in
       same_sense (type_of fields) fields asked.message

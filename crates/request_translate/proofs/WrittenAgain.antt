@@ -26,7 +26,7 @@ use Rattle.dict_fix50.specs.Said as said50
 use Rattle.dict_fix50.specs.declared.requests.Msg50.{Msg50}
 use Rattle.dict_fix50.specs.declared.requests.Msg50.TheVariants as messages50
 use Rattle.request_translate.specs.Sound.{IsSound, places_of}
-use Rattle.request_translate.specs.Canonical.{IsCanonical}
+use Rattle.request_translate.specs.Up.{IsComplete}
 use Rattle.request_translate.specs.Laws.{without_resend, IsReadAgain42, IsReadAgain50}
 use Rattle.request_translate.proofs.Each.{are_apart}
 use Rattle.request_translate.proofs.Lookups.{places_apart}
@@ -99,10 +99,10 @@ again42 (messages42.Status m) sound =
 module _ (letter : ℕ) (items : List (Item Kind))
     (fit : table_fits (table50 letter items) [] ≡ true)
     (bare : is_one_of (flat_map item_tags items) 97 ≡ false) where
-  canonical_again : (m : Message) → IsCanonical letter items m → completed_by
+  complete_again : (m : Message) → IsComplete letter items m → completed_by
       (told (message_of judge (table50 letter items) (content (table50 letter items) m)))
       ≡ Ok (without_resend m)
-  canonical_again m c =
+  complete_again m c =
       let t = table50 letter items in
       ap completed_by (read_again t m fit bare c.sound)
       ∙ ap (λ (x : Message). Ok x)
@@ -111,10 +111,10 @@ module _ (letter : ℕ) (items : List (Item Kind))
 pub again50 : (m : Msg50) → IsReadAgain50 m
 unfolding message50
 again50 (messages50.New m) c =
-    canonical_again 68 requests50.new_order refl refl (said50.new_says m) c
+    complete_again 68 requests50.new_order refl refl (said50.new_says m) c
 again50 (messages50.Cancel m) c =
-    canonical_again 70 requests50.cancel_request refl refl (said50.cancel_says m) c
+    complete_again 70 requests50.cancel_request refl refl (said50.cancel_says m) c
 again50 (messages50.Replace m) c =
-    canonical_again 71 requests50.replace_request refl refl (said50.replace_says m) c
+    complete_again 71 requests50.replace_request refl refl (said50.replace_says m) c
 again50 (messages50.Status m) c =
-    canonical_again 72 requests50.status_request refl refl (said50.status_says m) c
+    complete_again 72 requests50.status_request refl refl (said50.status_says m) c

@@ -17,12 +17,16 @@ use Rattle.row_values.specs.Lines as row_lines
 abbrev pub party_lines : Said → Said → Said → List (List Cell)
 party_lines client broker firm = map row_lines.party_cells (parties_up client broker firm)
 
+-- the month is that of the date, where a request has one
+abbrev pub HasMonthOfDate : Message → Type 0
+HasMonthOfDate m = said_at m.cells (Tag 200)
+    ≡ month_by (said_at m.cells (Tag 541)) (said_at m.cells (Tag 200))
+
 -- A CANONICAL request: it is sound, its month is that of its date where it has one, and its parties
 -- are those of the roles 3, 1 and 4, once each and in this order.
 pub record IsCanonical (letter : ℕ) (items : List (Item Kind)) (m : Message) : Type 0 where
   pub sound : IsSound judge (table letter items) m
-  pub month : said_at m.cells (Tag 200)
-      ≡ month_by (said_at m.cells (Tag 541)) (said_at m.cells (Tag 200))
+  pub month : HasMonthOfDate m
   pub parties : lines_of 453 m.groups
       ≡ party_lines (said_at m.cells (Role 3)) (said_at m.cells (Role 1)) (said_at m.cells (Role 4))
 

@@ -15,10 +15,10 @@ use Rattle.dict_fix50.specs.declared.requests.Msg50.{Msg50}
 use Rattle.dict_fix50.specs.Sense.{sense50}
 use Rattle.dict_fix50.specs.Requests.{new_order, cancel_request, replace_request, status_request}
 use Rattle.request_translate.specs.Canonical.{HaveOneContent, IsCanonical50}
-use Rattle.request_translate.specs.declared.translate.TranslateError.{TranslateError}
+use Rattle.translation.specs.declared.error.TranslateError.{TranslateError}
 use Rattle.request_translate.specs.Lack.{lack_of}
 use Rattle.request_translate.specs.Translation.{IsOutcome, IsTranslation, KeepSense}
-use Rattle.request_translate.specs.Up.{IsSound42}
+use Rattle.request_translate.specs.Up.{IsSound42, IsSound50}
 
 -- what a message of FIX 5.0 SP2 means lacks nothing there
 abbrev pub LacksNothing : Type 0
@@ -54,14 +54,16 @@ IsReadAgain42 m = IsSound42 m
     → message42 ((says42 m).letter ∷ []) (content42 m) None ≡ Ok (without_resend (says42 m))
 
 abbrev pub IsReadAgain50 : Msg50 → Type 0
-IsReadAgain50 m = IsCanonical50 m
+IsReadAgain50 m = IsSound50 m
     → message50 ((says50 m).letter ∷ []) (content50 m) None ≡ Ok (without_resend (says50 m))
 
 pub record WrittenIsReadAgain : Type 0 where
   pub fix42 : (m : Msg42) → IsReadAgain42 m
   pub fix50 : (m : Msg50) → IsReadAgain50 m
 
--- what is read of the fields of a body of FIX 4.2 is sound
-abbrev pub ReadIsSound : Type 0
-ReadIsSound = (msg_type : List ℕ) (fields : List Field) (m : Msg42) → AreFields None fields
-    → message42 msg_type fields None ≡ Ok (says42 m) → IsSound42 m
+-- what is read of the fields of a body is sound, in each version
+pub record ReadIsSound : Type 0 where
+  pub fix42 : (msg_type : List ℕ) (fields : List Field) (m : Msg42) → AreFields None fields
+      → message42 msg_type fields None ≡ Ok (says42 m) → IsSound42 m
+  pub fix50 : (msg_type : List ℕ) (fields : List Field) (m : Msg50) → AreFields None fields
+      → message50 msg_type fields None ≡ Ok (says50 m) → IsSound50 m

@@ -6,7 +6,7 @@ use Rattle.frame_grammar.specs.declared.frame.Kind.TheVariants.{Fixt11}
 use Rattle.frame_grammar.specs.Frame.{frame_of}
 use Rattle.field_groups.specs.Field.{Field, body_of}
 use Rattle.row_values.specs.ValueKind.{ValueKind, Id, Code, Stamp, Qty, Price, spelling}
-use Rattle.request_translate.specs.declared.translate.TranslateError.{TranslateError}
+use Rattle.translation.specs.declared.error.TranslateError.{TranslateError}
 use Rattle.request_translate.specs.Sound.{IsClear}
 use Rattle.request_translate.specs.Translation.{IsOutcome}
 

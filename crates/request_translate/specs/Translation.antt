@@ -1,46 +1,26 @@
 -- Own: what `translate up` makes of a body of FIX 4.2, and why it makes nothing of it.
-use Rattle.std.specs.Prelude.{◌≡◌, ◌≤◌, ◌<◌, ℕ, List, [], ◌∷◌, ◌++◌, length, Option, Some, None}
+use Rattle.std.specs.Prelude.{◌≡◌, ◌≤◌, ◌<◌, ℕ, List, length, Option, Some, None}
 use Rattle.std.specs.Prelude.{Result, Ok, Err, IsTrue, is_some}
-use Rattle.std.specs.List.{flat_map}
 use Rattle.frame_grammar.specs.declared.frame.Kind.TheVariants.{Fixt11}
 use Rattle.frame_grammar.specs.declared.frame.TheConstants.{MAX_BODY}
 use Rattle.frame_grammar.specs.Frame.{IsFrame, frame_of}
 use Rattle.field_groups.specs.declared.fault.SplitFault.{SplitFault}
 use Rattle.field_groups.specs.Field.{Field, body_of}
 use Rattle.field_groups.specs.Fields.{SplitsInto}
-use Rattle.message_tables.specs.Tables.{Message, Tag, value_at}
-use Rattle.message_tables.specs.Content.{content, cell_fields}
+use Rattle.message_tables.specs.Tables.{Message}
+use Rattle.message_tables.specs.Content.{content}
 use Rattle.order_meaning.specs.declared.fault.Fault.{Fault}
 use Rattle.dict_fix42.specs.Message.{message42}
 use Rattle.dict_fix42.specs.Sense.{sense42, request42}
 use Rattle.rows_fix50.specs.Header.{table}
 use Rattle.dict_fix50.specs.Sense.{sense50, request50}
 use Rattle.dict_fix50.specs.Requests.{new_order, cancel_request, replace_request, status_request}
-use Rattle.request_translate.specs.declared.translate.TheConstants.{MAX_CONTENT}
-use Rattle.request_translate.specs.declared.translate.TranslateError.{TranslateError}
-use Rattle.request_translate.specs.declared.translate.TranslateError.TheVariants as errors
+use Rattle.translation.specs.declared.lengths.TheConstants.{MAX_CONTENT}
+use Rattle.translation.specs.declared.error.TranslateError.{TranslateError}
+use Rattle.translation.specs.declared.error.TranslateError.TheVariants as errors
+use Rattle.translation.specs.Header.{type_of, with_content}
 use Rattle.request_translate.specs.Canonical.{IsCanonical}
 use Rattle.request_translate.specs.Lack.{lack_if}
-
--- the type of a message, which is the value of its first field, MsgType(35)
-abbrev pub type_of : List Field → List ℕ
-type_of [] = []
-type_of (field ∷ fields) = field.1
-
--- The header fields that a translation carries, as they stand, in the order of writing:
--- SenderCompID, TargetCompID, MsgSeqNum, PossDupFlag, PossResend, SendingTime, OrigSendingTime.
-abbrev pub carried_tags : List ℕ
-carried_tags = 49 ∷ 56 ∷ 34 ∷ 43 ∷ 97 ∷ 52 ∷ 122 ∷ []
-
-abbrev pub carried_field : List Field → ℕ → List Field
-carried_field fields tag = cell_fields (Tag tag, value_at tag fields)
-
-abbrev pub carried : List Field → List Field
-carried fields = flat_map (carried_field fields) carried_tags
-
--- the fields that stand for these: those of the header, and then a content
-abbrev pub up_fields : List Field → List Field → List Field
-up_fields fields written = (35, type_of fields) ∷ carried fields ++ written
 
 -- a canonical request of one of the four types, and its content
 pub data IsRequest (m : Message) (fields : List Field) : Type 0 where
@@ -73,11 +53,12 @@ pub record IsUp (body up : List ℕ) : Type 0 where
   pub fields : List Field
   pub written : List Field
   pub stands : StandsFor body fields written
-  pub bytes : up ≡ body_of (up_fields fields written)
+  pub bytes : up ≡ body_of (with_content fields written)
   pub content_fits : length (body_of written) ≤ MAX_CONTENT
   pub body_fits : length up ≤ MAX_BODY
-  pub again : SplitsInto up (up_fields fields written) None
-  pub same : sense50 (type_of fields) (up_fields fields written) ≡ sense42 (type_of fields) fields
+  pub again : SplitsInto up (with_content fields written) None
+  pub same : sense50 (type_of fields) (with_content fields written)
+      ≡ sense42 (type_of fields) fields
 
 -- Two bodies, one of FIX 4.2 and one of FIX 5.0 SP2, mean the same request: whatever fields they
 -- are read as, what those mean is equal, and they mean something.
@@ -115,7 +96,7 @@ pub record IsTooLong (body : List ℕ) : Type 0 where
   pub written : List Field
   pub stands : StandsFor body fields written
   pub long : length (body_of written) ≤ MAX_CONTENT
-      → MAX_BODY < length (body_of (up_fields fields written))
+      → MAX_BODY < length (body_of (with_content fields written))
 
 -- THE OUTCOME of a body: the text of a frame, or why there is none. Want of memory is no outcome.
 abbrev pub IsOutcome : List ℕ → Result (List ℕ) TranslateError → Type 0

@@ -1,14 +1,9 @@
 -- Inside: what is known on the way from a body to its translation.
-use Rattle.std.specs.Prelude.{◌≡◌, ◌≤◌, ◌<◌, ℕ, List, [], ◌∷◌, ◌++◌, length, Option, Some, None, Ok}
-use Rattle.std.specs.Prelude.{Err}
-use Rattle.frame_grammar.specs.declared.frame.TheConstants.{MAX_BODY}
+use Rattle.std.specs.Prelude.{◌≡◌, ℕ, List, Option, Some, None, Ok, Err}
 use Rattle.field_groups.specs.declared.fault.SplitFault.{SplitFault}
-use Rattle.field_groups.specs.Field.{Field, body_of}
+use Rattle.field_groups.specs.Field.{Field}
 use Rattle.message_tables.specs.Tables.{Message}
 use Rattle.order_meaning.specs.declared.fault.Fault.{Fault}
-use Rattle.order_meaning.specs.declared.fault.Fault.TheVariants as faults
-use Rattle.order_meaning.specs.declared.fault.Lack.{Lack}
-use Rattle.order_meaning.specs.declared.fault.Lack.TheVariants as lacks
 use Rattle.dict_fix42.specs.Message.{message42}
 use Rattle.dict_fix42.specs.Sense.{request42}
 use Rattle.dict_fix50.specs.Content.{content50}
@@ -16,21 +11,12 @@ use Rattle.dict_fix50.specs.Readable.{IsReadable50}
 use Rattle.dict_fix50.specs.Said as said50
 use Rattle.dict_fix50.specs.Sense.{request50}
 use Rattle.dict_fix50.specs.declared.requests.Msg50.{Msg50}
-use Rattle.request_translate.specs.declared.translate.TheConstants.{MAX_CONTENT}
-use Rattle.request_translate.specs.declared.translate.TranslateError.{TranslateError}
-use Rattle.request_translate.specs.declared.translate.TranslateError.TheVariants as errors
+use Rattle.translation.specs.declared.error.TranslateError.{TranslateError}
+use Rattle.translation.specs.declared.error.TranslateError.TheVariants as errors
+use Rattle.translation.specs.Header.{type_of}
+use Rattle.translation.specs.Writing.{IsWritten, IsUnwritten}
 use Rattle.request_translate.specs.Canonical.{IsCanonical50}
 use Rattle.request_translate.specs.Lack.{lack_if}
-use Rattle.request_translate.specs.Translation.{type_of, up_fields}
-
--- what a fault of a reading, or a lack of a translation, is for a body
-abbrev pub error_of_fault : Fault → TranslateError
-error_of_fault faults.NoMemory = errors.NoMemory
-error_of_fault fault = errors.Faulty fault
-
-abbrev pub error_of_lack : Lack → TranslateError
-error_of_lack lacks.NoMemory = errors.NoMemory
-error_of_lack (lacks.Tag tag) = errors.Lacking tag
 
 -- a request of FIX 5.0 SP2 that means what a message of FIX 4.2 means
 pub record Means (message : Message) (request : Msg50) : Type 0 where
@@ -66,37 +52,18 @@ Refuses fields stopped (errors.Lacking tag) = (message : Message)
     × AreRead fields stopped message × (lack_if (request42 message) ≡ Some tag)
 Refuses fields stopped errors.TooLong = ⊥
 
--- what is written tag by tag, behind this start
-abbrev pub put : (ℕ → List Field) → List ℕ → List ℕ → List ℕ
-put fields start [] = start
-put fields start (tag ∷ tags) = put fields (start ++ body_of (fields tag)) tags
-
--- what is written for a request, which is as long as it may be
-pub record IsWritten (fields : List Field) (request : Msg50) (up : List ℕ) : Type 0 where
-  pub bytes : up ≡ body_of (up_fields fields (content50 request))
-  pub content_fits : length (body_of (content50 request)) ≤ MAX_CONTENT
-  pub body_fits : length up ≤ MAX_BODY
-
--- why it is not written
-abbrev pub IsUnwritten : List Field → Msg50 → TranslateError → Type 0
-IsUnwritten fields request errors.NoMemory = Unit {0}
-IsUnwritten fields request errors.TooLong =
-    length (body_of (content50 request)) ≤ MAX_CONTENT
-    → MAX_BODY < length (body_of (up_fields fields (content50 request)))
-IsUnwritten fields request error = ⊥
-
 -- a body that stands for the fields of a body
 pub record IsUpOf
     (fields : List Field) (stopped : Option SplitFault) (up : List ℕ) : Type 0 where
   pub request : Msg50
   pub asked : IsRequestOf fields stopped request
-  pub written : IsWritten fields request up
+  pub written : IsWritten fields (content50 request) up
 
 -- a request whose translation is too long
 pub record IsLongOf (fields : List Field) (stopped : Option SplitFault) : Type 0 where
   pub request : Msg50
   pub asked : IsRequestOf fields stopped request
-  pub long : IsUnwritten fields request errors.TooLong
+  pub long : IsUnwritten fields (content50 request) errors.TooLong
 
 -- why there is none
 abbrev pub RefusesUp : List Field → Option SplitFault → TranslateError → Type 0

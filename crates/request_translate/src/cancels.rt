@@ -3,11 +3,11 @@
 ghost use Rattle.std.specs.Prelude.{◌≡◌, None, IfOk};
 ghost use Rattle.request_translate.specs.Written.{IsCancel, cancel_texts, parties_up};
 
-use crate::parts::{TEXTS, all_copied, bytes_of, parties};
+use crate::parts::{TEXTS, parties};
 use dict_fix42::Cancel42;
 use dict_fix50::Cancel50;
 use order_meaning::{Bytes, Lines};
-use row_values::or_empty;
+use row_values::{all_owned, bytes_of, or_empty};
 use std::alloc::{AllocError, Global};
 
 /// The request to cancel, Order Cancel Request(F), with these texts.
@@ -65,7 +65,7 @@ pub(crate) fn cancel_request(alloc: Global, msg: &Cancel42) -> Result<Cancel50, 
     ensures { IfOk result (IsCancel msg.now) }
 {
     let parties = parties(alloc, &msg.client_id, &msg.exec_broker, &None)?;
-    let texts = all_copied(
+    let texts = all_owned(
         alloc,
         [
             Some(msg.cl_ord_id.as_slice()),

@@ -37,15 +37,15 @@ pub fn a_plain_order_is_translated_as_before()
     ensures { PlainOrdersAreTranslated }
 {}
 
-/// What is written of a sound message of FIX 4.2, or of a canonical one of FIX 5.0 SP2, is read
-/// again: its content is at no fault and says the same, but for PossResend(97), which stands in the
-/// header.
+/// What is written of a sound message is read again: its content is at no fault and says the same,
+/// but for PossResend(97), which stands in the header. A sound message of FIX 5.0 SP2 says the
+/// month of its date, and its parties are any.
 pub fn written_is_read_again()
     ensures { WrittenIsReadAgain }
 {}
 
-/// What is read of the fields of a body of FIX 4.2 is sound, so that what is written of it is read
-/// again.
+/// What is read of the fields of a body is sound, in FIX 4.2 and in FIX 5.0 SP2, so that what is
+/// written of it is read again.
 pub fn read_is_sound()
     ensures { ReadIsSound }
 {}

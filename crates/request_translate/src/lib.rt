@@ -15,5 +15,6 @@ mod tests;
 mod translate;
 mod upward;
 
-pub use translate::{MAX_CONTENT, TranslateError, Translator};
+pub use translate::Translator;
+pub use translation::{MAX_CONTENT, TranslateError};
 pub use upward::up;

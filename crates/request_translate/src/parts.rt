@@ -2,7 +2,6 @@
 //! alike.
 
 ghost use Rattle.std.specs.Prelude.{◌≡◌, [], map, IfOk, IfErr, MatchOption, not, true, unwrap_or};
-ghost use Rattle.std.specs.Option.{option_map};
 ghost use Rattle.request_translate.specs.Lack.{lacks_time, lacks_capacity, IsLackIn};
 ghost use Rattle.request_translate.specs.Written.{AreOnClose, AreTerms, IsTime42, coded, is_type42};
 ghost use Rattle.request_translate.specs.Written.{parties_up, type42, time42};
@@ -10,7 +9,7 @@ ghost use Rattle.row_values.specs.Lines as row_lines;
 
 use order_meaning::{Bytes, Lack, Lines, Three};
 use party_translate::to_parties;
-use row_values::{AllocLine, Allocs, SessionLine, Sessions, owned};
+use row_values::{AllocLine, Allocs, SessionLine, Sessions, bytes_of, owned};
 use std::alloc::{AllocError, Global};
 
 /// What FIX 5.0 SP2 spells otherwise than FIX 4.2.
@@ -35,28 +34,8 @@ pub(crate) struct Groups {
     pub(crate) sessions: Sessions,
 }
 
-/// The bytes of an optional text.
-pub(crate) fn bytes_of(text: &Option<Bytes>) -> Option<&[u8]>
-    ensures { option_map (λ bytes. bytes.now) result ≡ text.now }
-{
-    match text {
-        None => None,
-        Some(text) => Some(text.as_slice()),
-    }
-}
-
 /// The most texts that a request has.
 pub(crate) const TEXTS: usize = 13;
-
-/// Copies of the texts of a request: the one step of a translation that takes memory for them.
-pub(crate) fn all_copied(
-    alloc: Global,
-    texts: [Option<&[u8]>; TEXTS],
-) -> Result<[Option<Bytes>; TEXTS], AllocError>
-    ensures { IfOk result (λ copies. copies ≡ map (option_map (λ text. text.now)) texts.entry) }
-{
-    texts.try_map(|text| owned(alloc, text))
-}
 
 /// ClientID(109), ExecBroker(76) and ClearingFirm(439) as lines of the Parties group.
 pub(crate) fn parties(

@@ -6,11 +6,11 @@ ghost use Rattle.dict_fix50.specs.Said as said50;
 ghost use Rattle.request_translate.specs.Written.{AreTerms, IsReplace, replace_texts, parties_up};
 ghost use Rattle.row_values.specs.Lines as row_lines;
 
-use crate::parts::{Groups, TEXTS, Terms, all_copied, allocs, bytes_of, parties, sessions};
+use crate::parts::{Groups, TEXTS, Terms, allocs, parties, sessions};
 use dict_fix42::Replace42;
 use dict_fix50::Replace50;
 use order_meaning::Bytes;
-use row_values::or_empty;
+use row_values::{all_owned, bytes_of, or_empty};
 use std::alloc::{AllocError, Global};
 
 /// The request to replace, Order Cancel/Replace Request(G), with these texts.
@@ -103,7 +103,7 @@ pub(crate) fn replace_request(
         allocs: allocs(alloc, &msg.allocs)?,
         sessions: sessions(alloc, &msg.sessions)?,
     };
-    let texts = all_copied(
+    let texts = all_owned(
         alloc,
         [
             Some(msg.cl_ord_id.as_slice()),

@@ -1,8 +1,9 @@
 //! Translating the body of a request of FIX 4.2 to FIX 5.0 SP2.
 
-ghost use Rattle.std.specs.Prelude.{◌≡◌, ◌≤◌, ◌++◌, ℕ, List, Ok, None, IfOk, IfErr, OnOk};
+ghost use Rattle.std.specs.Prelude.{◌≡◌, ◌++◌, ℕ, List, Ok, None, IfOk, IfErr, OnOk};
 ghost use Rattle.std.specs.Prelude.{OnErr};
-ghost use Rattle.field_groups.specs.Field.{Field, AreFields, body_of, field_bytes};
+ghost use Rattle.field_groups.specs.Field.{Field, AreFields};
+ghost use Rattle.dict_fix50.specs.Content.{content50};
 ghost use Rattle.dict_fix42.specs.Readable.{IsReadable42};
 ghost use Rattle.dict_fix50.specs.Readable.{IsReadable50};
 ghost use Rattle.dict_fix42.specs.Message.{message42};
@@ -10,83 +11,18 @@ ghost use Rattle.dict_fix42.specs.Said as said42;
 ghost use Rattle.request_translate.specs.Up.{IsSound42};
 ghost use Rattle.request_translate.specs.Translation.{IsGood, IsTranslation, IsRefused};
 ghost use Rattle.request_translate.specs.Translation.{IsRefusedByCheck};
-ghost use Rattle.request_translate.specs.Translation.{carried_field, carried_tags, type_of};
-ghost use Rattle.request_translate.specs.Writing.{error_of_fault, error_of_lack, Means, IsUnsaid};
-ghost use Rattle.request_translate.specs.Writing.{IsRequestOf, Refuses};
-ghost use Rattle.request_translate.specs.Writing.{put, IsWritten, IsUnwritten, IsUpOf, RefusesUp};
+ghost use Rattle.request_translate.specs.Writing.{Means, IsUnsaid, IsRequestOf, Refuses};
+ghost use Rattle.request_translate.specs.Writing.{IsUpOf, RefusesUp};
+ghost use Rattle.translation.specs.Header.{type_of};
+ghost use Rattle.translation.specs.Writing.{IsWritten, IsUnwritten};
 
 use crate::upward::up;
 use dict_fix42::{Msg42, read42};
 use dict_fix50::{Msg50, write50};
-use field_groups::{Fields, SOH, Split, split};
-use frame_grammar::{FrameError, Kind, MAX_BODY, write_frame};
-use message_tables::value;
-use order_meaning::{Fault, Lack};
-use std::alloc::{AllocError, Global};
-use thiserror::Error;
-use typed_fields::{FieldValue, Number};
-
-/// The most bytes of a content, which is what a body has after its header.
-pub const MAX_CONTENT: usize = 7936;
-
-/// Why a body is not translated.
-#[derive(Clone, Copy, Debug, PartialEq, Eq, Error)]
-pub enum TranslateError {
-    /// The message has this first fault, or a type that is not translated. It is never
-    /// `Fault::NoMemory`.
-    #[error("the message is at fault")]
-    Faulty(Fault),
-    /// The field of this tag says what FIX 5.0 SP2 cannot say.
-    #[error("tag {0} has no counterpart")]
-    Lacking(u32),
-    /// The content has more than 7,936 bytes, or the body more than 8,192.
-    #[error("the translation is too long")]
-    TooLong,
-    /// There is no memory for the translation.
-    #[error("out of memory")]
-    NoMemory,
-}
-
-impl From<AllocError> for TranslateError {
-    ghost use Rattle.std.specs.Prelude.{◌≡◌};
-    ghost use Rattle.request_translate.specs.declared.translate.TranslateError.TheVariants.{NoMemory};
-
-    ghost from_gives = { λ error result. result ≡ NoMemory };
-
-    fn from(_error: AllocError) -> TranslateError {
-        TranslateError::NoMemory
-    }
-}
-
-/// The fault of a message that was read.
-fn faulty(fault: Fault) -> TranslateError
-    ensures { result ≡ error_of_fault fault }
-{
-    match fault {
-        Fault::NoMemory => TranslateError::NoMemory,
-        fault => TranslateError::Faulty(fault),
-    }
-}
-
-/// The lack of a message that was translated.
-fn lacking(lack: Lack) -> TranslateError
-    ensures { result ≡ error_of_lack lack }
-{
-    match lack {
-        Lack::NoMemory => TranslateError::NoMemory,
-        Lack::Tag(tag) => TranslateError::Lacking(tag),
-    }
-}
-
-/// MsgType(35), the value of the first field; nothing where there is none.
-fn msg_type<'a>(fields: &Fields<'a>) -> &'a [u8]
-    ensures { result.now ≡ type_of fields.now }
-{
-    match fields.at(0) {
-        Some((_, value)) => value,
-        None => b"",
-    }
-}
+use field_groups::{Fields, Split, split};
+use frame_grammar::{FrameError, Kind, write_frame};
+use std::alloc::Global;
+use translation::{TranslateError, check_lengths, faulty, lacking, msg_type, write_head};
 
 /// The message of FIX 4.2 that the fields of a body are.
 fn message(alloc: Global, split: &Split<'_>) -> Result<Msg42, TranslateError>
@@ -124,63 +60,19 @@ fn request(alloc: Global, split: &Split<'_>) -> Result<Msg50, TranslateError>
     written(alloc, &message)
 }
 
-/// Appends a field ("Message Format"): its tag, `=`, its value and SOH.
-#[tactic(auto, unfolding(field_groups::specs::Field::field_bytes))]
-fn write_field(tag: u32, value: &[u8], out: &mut Vec<u8>) -> Result<(), AllocError>
-    requires { tag ≤ 1_000_000_000 }
-    ensures { OnOk result (out.new.items ≡ out.old.items ++ field_bytes (tag, value.now)) }
-{
-    Number { value: tag }.write(out)?;
-    out.extend_from_slice(b"=")?;
-    out.extend_from_slice(value)?;
-    out.extend_from_slice(&[SOH])
-}
-
-/// Appends the first of these fields with a tag, if there is one.
-fn write_carried(tag: u32, fields: &Fields<'_>, out: &mut Vec<u8>) -> Result<(), AllocError>
-    requires { tag ≤ 1_000_000_000 }
-    ensures { OnOk result (out.new.items
-        ≡ out.old.items ++ body_of (carried_field fields.now tag)) }
-{
-    match value(fields.as_slice(), tag) {
-        None => Ok(()),
-        Some(value) => write_field(tag, value, out),
-    }
-}
-
-/// Appends the header of a translation: MsgType(35), and then SenderCompID(49), TargetCompID(56),
-/// MsgSeqNum(34), PossDupFlag(43), PossResend(97), SendingTime(52) and OrigSendingTime(122) where
-/// these fields have them.
-fn write_head(fields: &Fields<'_>, out: &mut Vec<u8>) -> Result<(), AllocError>
-    ensures { OnOk result (out.new.items
-        ≡ put (carried_field fields.now)
-        (out.old.items ++ field_bytes (35, type_of fields.now)) carried_tags) }
-{
-    write_field(35, msg_type(fields), out)?;
-    write_carried(49, fields, out)?;
-    write_carried(56, fields, out)?;
-    write_carried(34, fields, out)?;
-    write_carried(43, fields, out)?;
-    write_carried(97, fields, out)?;
-    write_carried(52, fields, out)?;
-    write_carried(122, fields, out)
-}
-
 /// Writes to `up`, in place of what it has, the header of these fields and the content of a
 /// request.
 fn write_body(fields: &Fields<'_>, request: &Msg50, up: &mut Vec<u8>) -> Result<(), TranslateError>
     requires { IsReadable50 request.now }
-    ensures ok { OnOk result (IsWritten fields.now request.now up.new.items) }
-    ensures refused { IfErr result (IsUnwritten fields.now request.now) }
+    ensures ok { OnOk result (IsWritten fields.now (content50 request.now) up.new.items) }
+    ensures refused { IfErr result (IsUnwritten fields.now (content50 request.now)) }
 {
     up.clear();
     write_head(fields, up)?;
     let head = up.len();
     write50(request, up)?;
-    if up.len() - head > MAX_CONTENT || up.len() > MAX_BODY {
-        return Err(TranslateError::TooLong);
-    }
-    Ok(())
+    let body = up.len();
+    check_lengths(body - head, body)
 }
 
 /// Writes to `up`, in place of what it has, the body that stands for the fields of a body.

@@ -1,7 +1,12 @@
 use Rattle.request_translate.proofs.Sound42.{clear_fields, read_is_sound}
+use Rattle.request_translate.proofs.Sound50.{read_is_complete}
 use Rattle.std.proofs.Common.{None}
 use Rattle.request_translate.proofs.laws.read_is_sound.Goals as goal
 
 pub returns : goal.returns
-returns c = λ msg_type fields m are read.
-    read_is_sound fields (clear_fields None fields are) msg_type m read
+returns c = record {
+  fix42 = λ msg_type fields m are read.
+      read_is_sound fields (clear_fields None fields are) msg_type m read;
+  fix50 = λ msg_type fields m are read.
+      read_is_complete fields (clear_fields None fields are) msg_type m read;
+}

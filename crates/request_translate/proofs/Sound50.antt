@@ -1,0 +1,246 @@
+-- What is read of the fields of a request of FIX 5.0 SP2 is a sound message that says the month of
+-- its date.
+use Rattle.std.proofs.Common.{◌≡◌, ℕ, List, [], ◌∷◌, Some, None, Bool, true, false, refl}
+use Rattle.std.proofs.Common.{sym, subst, ◌∙◌, codes}
+use Rattle.std.specs.Prelude.{Result, Ok, Err, IfSome, if◌then◌else◌}
+use Rattle.std.specs.List.{AllByRecursion, flat_map, list_any, list_all}
+use Rattle.std.specs.Str.{bytes_eq}
+use Rattle.field_groups.specs.Field.{Field}
+use Rattle.field_groups.specs.Data.{is_data_tag}
+use Rattle.order_meaning.specs.declared.fault.Fault.{Fault}
+use Rattle.message_tables.specs.Tables.{Row, Item, One, Party, Lines, Table, Message, Tag, is_place}
+use Rattle.message_tables.specs.Tables.{Said, said_at, groups_of, groups_in}
+use Rattle.message_tables.specs.FirstFault.{first_fault, message_in, message_of}
+use Rattle.message_tables.specs.Content.{content}
+use Rattle.row_values.specs.Kinds.{Kind, judge, date_at}
+use Rattle.row_values.specs.Faults.{told}
+use Rattle.rows_fix50.specs.Header.{table, completed, completed_by}
+use Rattle.dict_fix50.specs.Message.{message50, message50_by}
+use Rattle.dict_fix50.specs.Requests.{new_order, cancel_request, replace_request, status_request}
+use Rattle.dict_fix50.specs.Said.{says as says50}
+use Rattle.dict_fix50.specs.declared.requests.Msg50.{Msg50}
+use Rattle.dict_fix50.specs.declared.requests.Msg50.TheVariants as messages
+use Rattle.request_translate.specs.Sound.{IsClear, IsSound, places_of}
+use Rattle.request_translate.specs.Up.{IsComplete, IsSound50}
+use Rattle.request_translate.proofs.Each.{both, not_true}
+use Rattle.request_translate.proofs.ContentValues.{is_alone, value_said, groups_said, GroupSaid}
+use Rattle.request_translate.proofs.PlainRows.{HasPlainRows, parties_plain, allocs_plain}
+use Rattle.request_translate.proofs.PlainRows.{sessions_plain, parties_apart, allocs_apart}
+use Rattle.request_translate.proofs.PlainRows.{sessions_apart, unfixed, plain_items, of_message}
+use Rattle.request_translate.proofs.ReadSound.{IsClearField, IsStableRow, IsStableItem, IsTable}
+use Rattle.request_translate.proofs.ReadSound.{read_sound}
+use Rattle.request_translate.proofs.Judged50.{AreAlike, judged_again, judged_clear, clear_date}
+use Rattle.request_translate.proofs.Judged50.{date_said, type_said, date_kept, type_kept}
+use Rattle.request_translate.proofs.CompletedSound.{is_ours, is_ours_row, ours, ours_need}
+use Rattle.request_translate.proofs.CompletedSound.{kept_need, completed_sound}
+use Rattle.request_translate.proofs.CompletedSound.{completed_month}
+
+module _ (fields : List Field) (clear : AllByRecursion (IsClearField judge) fields) where
+  -- ---- before its month is completed
+
+  module _ (timed : Bool) (table : Table Kind)
+      (alike : AreAlike timed fields (content table (message_in judge table fields))) where
+    abbrev after : List Field
+    after = content table (message_in judge table fields)
+
+    stable_row : (row : Row Kind)
+        → is_ours_row timed row ≡ true → IsStableRow judge table fields row
+    stable_row row h = let o = ours timed row h in record {
+      kept = kept_need row.need o.need fields after;
+      spelled = λ bytes text at e.
+          judged_again timed fields after alike row.kind o.kind bytes text e;
+      clear = judged_clear timed fields clear row.kind o.kind;
+      fixed = λ text e. absurd (unfixed ours_need (λ other. refl) row.need o.need text e);
+      bare = not_true (is_data_tag row.tag) o.bare;
+    }
+
+    stable_items : (items : List (Item Kind)) → list_all (is_ours timed) items ≡ true
+        → AllByRecursion (IsStableItem judge table fields) items
+    stable_items [] h = tt
+    stable_items (One row ∷ items) h =
+        let p = both (is_ours_row timed row) (list_all (is_ours timed) items) h in
+        (stable_row row p.0, stable_items items p.1)
+    stable_items (Party role ∷ items) h = (tt, stable_items items h)
+    stable_items (Lines group ∷ items) h = (tt, stable_items items h)
+
+  -- ---- a table
+
+  -- what a table says at the tags that others are judged beside
+  record SaysTypes (letter : ℕ) (items : List (Item Kind)) : Type 0 where
+    alone : is_alone 40 items ≡ true
+    said : said_at (message_in judge (table letter items) fields).cells (Tag 40) ≡ type_said fields
+
+  record IsOf (timed : Bool) (letter : ℕ) (items : List (Item Kind)) : Type 0 where
+    once : IsTable judge (table letter items) fields
+    known : list_all (is_ours timed) items ≡ true
+    plain : AllByRecursion HasPlainRows (flat_map groups_of items)
+    month : list_any (is_place (Tag 200)) (flat_map places_of items) ≡ true
+    date : is_alone 541 items ≡ true
+    date_is : said_at (message_in judge (table letter items) fields).cells (Tag 541)
+        ≡ date_said fields
+    types : timed ≡ true → SaysTypes letter items
+
+  -- what is read by a table
+  abbrev Reads : ℕ → List (Item Kind) → Type 0
+  Reads letter items = first_fault judge (table letter items) fields ≡ None
+      → IsComplete letter items (completed (message_in judge (table letter items) fields))
+
+  date_same : date_said fields ≡ date_at 541 fields
+  unfolding judge
+  date_same = refl
+
+  module _ (timed : Bool) (letter : ℕ) (items : List (Item Kind)) (is : IsOf timed letter items)
+    where
+      abbrev t : Table Kind
+      t = table letter items
+
+      abbrev m : Message
+      m = message_in judge t fields
+
+      alike : AllByRecursion (GroupSaid judge m) (groups_in t) → AreAlike timed fields (content t m)
+      alike groups = record {
+        date = date_kept fields (content t m) (value_said judge m 541 items is.date groups
+            ∙ is.date_is);
+        ord_type = λ there. let types = is.types there in type_kept fields (content t m)
+            (value_said judge m 40 items types.alone groups ∙ types.said);
+      }
+
+      sound : first_fault judge t fields ≡ None → IsSound judge t m
+      sound none = read_sound judge t fields is.once (plain_items t fields items is.plain)
+          (λ groups. stable_items timed t (alike groups) items is.known) clear none
+
+      table_read : Reads letter items
+      table_read none =
+          let s = sound none in
+          let groups = groups_said judge (content t m) m items s.items in
+          let there : said_at m.cells (Tag 541) ≡ date_at 541 fields = is.date_is ∙ date_same in
+          let at_date = (alike groups).date ∙ sym there in
+          let no_soh = subst (λ (date : Said). IfSome date IsClear) (sym there)
+          (clear_date fields clear) in
+          record {
+            sound = completed_sound timed t m is.month at_date no_soh s is.known;
+            month = completed_month timed t m is.month at_date no_soh s;
+          }
+
+  -- ---- the four messages
+
+  new_read : Reads 68 new_order
+  unfolding is_data_tag
+  new_read = table_read true 68 new_order (record {
+    once = record {
+      rows = refl;
+      places = refl;
+      counts = refl;
+      plain = (parties_apart, (allocs_apart, (sessions_apart, tt)));
+    };
+    known = refl;
+    plain = (parties_plain, (allocs_plain, (sessions_plain, tt)));
+    month = refl;
+    date = refl;
+    date_is = refl;
+    types = λ _. record { alone = refl; said = refl };
+  })
+
+  cancel_read : Reads 70 cancel_request
+  unfolding is_data_tag
+  cancel_read = table_read false 70 cancel_request (record {
+    once = record { rows = refl; places = refl; counts = refl; plain = (parties_apart, tt) };
+    known = refl;
+    plain = (parties_plain, tt);
+    month = refl;
+    date = refl;
+    date_is = refl;
+    types = λ untrue. absurd cc;
+  })
+
+  replace_read : Reads 71 replace_request
+  unfolding is_data_tag
+  replace_read = table_read true 71 replace_request (record {
+    once = record {
+      rows = refl;
+      places = refl;
+      counts = refl;
+      plain = (parties_apart, (allocs_apart, (sessions_apart, tt)));
+    };
+    known = refl;
+    plain = (parties_plain, (allocs_plain, (sessions_plain, tt)));
+    month = refl;
+    date = refl;
+    date_is = refl;
+    types = λ _. record { alone = refl; said = refl };
+  })
+
+  status_read : Reads 72 status_request
+  unfolding is_data_tag
+  status_read = table_read false 72 status_request (record {
+    once = record { rows = refl; places = refl; counts = refl; plain = (parties_apart, tt) };
+    known = refl;
+    plain = (parties_plain, tt);
+    month = refl;
+    date = refl;
+    date_is = refl;
+    types = λ untrue. absurd cc;
+  })
+
+  -- a message of a table that was read
+  by_completed : (P : Message → Type 0) (r : Result Message Fault)
+      → ((y : Message) → r ≡ Ok y → P (completed y)) →
+      (x : Message) → completed_by r ≡ Ok x → P x
+  by_completed P (Ok y) h x e = let same : completed y ≡ x = cc in subst P same (h y refl)
+  by_completed P (Err fault) h x e = absurd cc
+
+  by_table : (letter : ℕ) (items : List (Item Kind)) (x : Message) → Reads letter items
+      → completed_by (told (message_of judge (table letter items) fields)) ≡ Ok x
+      → IsComplete letter items x
+  by_table letter items x h e =
+      by_completed (IsComplete letter items) (told (message_of judge (table letter items) fields))
+      (of_message (table letter items) fields (λ y. IsComplete letter items (completed y)) h) x e
+
+  -- a complete message of the table of its letter
+  data IsCompleteOf (x : Message) : Type 0 where
+    News : IsComplete 68 new_order x → IsCompleteOf x
+    Cancels : IsComplete 70 cancel_request x → IsCompleteOf x
+    Replaces : IsComplete 71 replace_request x → IsCompleteOf x
+    Statuses : IsComplete 72 status_request x → IsCompleteOf x
+
+  by_type : (d f g h : Bool) (x : Message) → message50_by
+      (if d then Some (table 68 new_order) else (if f then Some (table 70 cancel_request) else
+      (if g then Some (table 71 replace_request)
+      else (if h then Some (table 72 status_request) else None))))
+      fields
+      None
+      ≡ Ok
+      x
+      → IsCompleteOf
+      x
+  by_type true f g h x e = News (by_table 68 new_order x new_read e)
+  by_type false true g h x e = Cancels (by_table 70 cancel_request x cancel_read e)
+  by_type false false true h x e = Replaces (by_table 71 replace_request x replace_read e)
+  by_type false false false true x e = Statuses (by_table 72 status_request x status_read e)
+  by_type false false false false x e = absurd cc
+
+  by_letter : (m : Msg50) → IsCompleteOf (says50 m) → IsSound50 m
+  by_letter (messages.New m) (News c) = c
+  by_letter (messages.New m) (Cancels c) = absurd (let no = c.sound.letter in cc)
+  by_letter (messages.New m) (Replaces c) = absurd (let no = c.sound.letter in cc)
+  by_letter (messages.New m) (Statuses c) = absurd (let no = c.sound.letter in cc)
+  by_letter (messages.Cancel m) (Cancels c) = c
+  by_letter (messages.Cancel m) (News c) = absurd (let no = c.sound.letter in cc)
+  by_letter (messages.Cancel m) (Replaces c) = absurd (let no = c.sound.letter in cc)
+  by_letter (messages.Cancel m) (Statuses c) = absurd (let no = c.sound.letter in cc)
+  by_letter (messages.Replace m) (Replaces c) = c
+  by_letter (messages.Replace m) (News c) = absurd (let no = c.sound.letter in cc)
+  by_letter (messages.Replace m) (Cancels c) = absurd (let no = c.sound.letter in cc)
+  by_letter (messages.Replace m) (Statuses c) = absurd (let no = c.sound.letter in cc)
+  by_letter (messages.Status m) (Statuses c) = c
+  by_letter (messages.Status m) (News c) = absurd (let no = c.sound.letter in cc)
+  by_letter (messages.Status m) (Cancels c) = absurd (let no = c.sound.letter in cc)
+  by_letter (messages.Status m) (Replaces c) = absurd (let no = c.sound.letter in cc)
+
+  -- WHAT IS READ IS SOUND, AND COMPLETE.
+  pub read_is_complete : (msg_type : List ℕ) (m : Msg50)
+      → message50 msg_type fields None ≡ Ok (says50 m) → IsSound50 m
+  unfolding message50
+  read_is_complete msg_type m e =
+      by_letter m (by_type (bytes_eq msg_type (codes "D")) (bytes_eq msg_type (codes "F"))
+      (bytes_eq msg_type (codes "G")) (bytes_eq msg_type (codes "H")) (says50 m) e)

@@ -1,9 +1,0 @@
-use Rattle.std.proofs.Common.{rules}
-use Rattle.std.specs.Option.{option_map}
-use Rattle.std.proofs.lemmas.Result.{IfOk-weaker}
-use Rattle.request_translate.proofs.Copies.{made_by_each}
-use Rattle.request_translate.proofs.parts.all_copied.Goals as goal
-
-pub returns : goal.returns
-returns c = IfOk-weaker c.try_map.result _ _ (λ ys h. made_by_each _ (option_map (λ text. text.now))
-    (λ x y r. search rules) c.args.texts ys h.whole) c.try_map.ensures.ok

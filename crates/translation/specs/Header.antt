@@ -1,0 +1,27 @@
+-- Own: which fields of its header a translation carries, and in which order; docs/DECISIONS.md,
+-- "Requests". The fields are those of the standard header of FIX 4.2 and FIXT 1.1.
+use Rattle.std.specs.Prelude.{ℕ, List, [], ◌∷◌, ◌++◌}
+use Rattle.std.specs.List.{flat_map}
+use Rattle.field_groups.specs.Field.{Field}
+use Rattle.message_tables.specs.Tables.{Tag, value_at}
+use Rattle.message_tables.specs.Content.{cell_fields}
+
+-- the type of a message, which is the value of its first field, MsgType(35)
+abbrev pub type_of : List Field → List ℕ
+type_of [] = []
+type_of (field ∷ fields) = field.1
+
+-- The header fields that a translation carries, as they stand, in the order of writing:
+-- SenderCompID, TargetCompID, MsgSeqNum, PossDupFlag, PossResend, SendingTime, OrigSendingTime.
+abbrev pub carried_tags : List ℕ
+carried_tags = 49 ∷ 56 ∷ 34 ∷ 43 ∷ 97 ∷ 52 ∷ 122 ∷ []
+
+abbrev pub carried_field : List Field → ℕ → List Field
+carried_field fields tag = cell_fields (Tag tag, value_at tag fields)
+
+abbrev pub carried : List Field → List Field
+carried fields = flat_map (carried_field fields) carried_tags
+
+-- the fields that stand for these: MsgType, those of the header, and then a content
+abbrev pub with_content : List Field → List Field → List Field
+with_content fields written = (35, type_of fields) ∷ carried fields ++ written
