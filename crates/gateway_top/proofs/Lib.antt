@@ -1,3 +1,4 @@
+pub mod Answered
 pub mod Catching
 pub mod Midway
 mod Worked

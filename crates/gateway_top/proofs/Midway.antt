@@ -15,7 +15,8 @@ use Rattle.frame_grammar.specs.Held.{Held}
 use Rattle.frame_grammar.specs.Cut.{Piece, ComeFirst, Cut}
 use Rattle.frame_grammar.specs.Framer.{StandsFor, EndsIn, place_after}
 use Rattle.gateway_top.specs.declared.task.Task.{Task}
-use Rattle.gateway_top.specs.declared.task.Task.TheVariants.{TranslateUp, CheckClient, CheckVenue}
+use Rattle.gateway_top.specs.declared.task.Task.TheVariants.{TranslateUp, TranslateDown}
+use Rattle.gateway_top.specs.declared.task.Task.TheVariants.{CheckClient, CheckVenue}
 use Rattle.gateway_top.specs.declared.status.Status.{Status}
 use Rattle.gateway_top.specs.declared.status.Status.TheVariants.{Done, Refused, Usage, InputFault}
 use Rattle.gateway_top.specs.declared.status.Status.TheVariants.{OutputFault, NoMemory}
@@ -42,11 +43,13 @@ pub record Midway (task : Task) (input_old input out_old out : Option (List ℕ)
 
 cut_empty : (task : Task) → Cut (kind_of task) [] [] []
 cut_empty TranslateUp = (refl, refl)
+cut_empty TranslateDown = (refl, refl)
 cut_empty CheckClient = (refl, refl)
 cut_empty CheckVenue = (refl, refl)
 
 going_none : (task : Task) → has_ended task None ≡ false
 going_none TranslateUp = refl
+going_none TranslateDown = refl
 going_none CheckClient = refl
 going_none CheckVenue = refl
 

@@ -6,7 +6,7 @@ use Rattle.frame_grammar.specs.declared.frame.Garble.TheVariants.{TooLong}
 use Rattle.gateway_top.specs.declared.status.Status.TheVariants.{Done, Refused, Usage, InputTooLong}
 use Rattle.gateway_top.specs.declared.stream.TheConstants.{MAX_INPUT, MAX_READ}
 use Rattle.gateway_top.specs.MsgType.{type_in}
-use Rattle.gateway_top.specs.Finding.{is_session, is_unread}
+use Rattle.gateway_top.specs.Finding.{is_session, is_refusal}
 use Rattle.gateway_top.specs.Line.{LF, finding_words, no_counterpart, cause_name}
 use Rattle.gateway_top.specs.declared.finding.Finding.TheVariants.{Reason, NoCounterpart}
 use Rattle.gateway_top.specs.Status.{code_of, last_words}
@@ -39,11 +39,11 @@ msg_type = refl
 test_request : is_session (codes "1") ≡ true
 test_request = refl
 
-report : is_unread (codes "8") ≡ true
-report = refl
+reject : is_refusal (codes "3") ≡ true
+reject = refl
 
-order : is_unread (codes "D") ≡ false
-order = refl
+report : is_refusal (codes "8") ≡ false
+report = refl
 
 reason : finding_words (Reason (Some 54) 5) ≡ codes " tag 54 reason 5"
 unfolding digits

@@ -1,15 +1,19 @@
 -- Own: what `check` finds of a frame; docs/DECISIONS.md, "Commands". The types are those of FIX 4.2
 -- and FIXT 1.1, MsgType.
-use Rattle.std.specs.Prelude.{◌≡◌, ◌⊎◌, ℕ, Bool, ◌||◌, List, codes, Some, None, if◌then◌else◌}
-use Rattle.std.specs.Prelude.{MatchBool}
+use Rattle.std.specs.Prelude.{◌≡◌, ◌⊎◌, ℕ, Bool, ◌||◌, List, codes, Some, None, MatchBool}
 use Rattle.std.specs.declared.option.Option.{Option}
 use Rattle.std.specs.Str.{bytes_eq}
-use Rattle.order_meaning.specs.declared.fault.Fault.{Fault}
+use Rattle.order_meaning.specs.declared.Side.{Side}
+use Rattle.order_meaning.specs.declared.Side.TheVariants.{Client, Venue}
 use Rattle.order_meaning.specs.declared.fault.Fault.TheVariants as faults
-use Rattle.request_translate.specs.Translation.{IsChecked, IsFaulty, IsLacking}
+use Rattle.translation.specs.declared.error.TranslateError.{TranslateError}
+use Rattle.translation.specs.declared.error.TranslateError.TheVariants as errors
+use Rattle.request_translate.specs.Translation as up
+use Rattle.report_translate.specs.Translation as down
+use Rattle.report_translate.specs.Refusals.{IsCheckedRefusal}
 use Rattle.gateway_top.specs.MsgType.{type_in}
 use Rattle.gateway_top.specs.declared.finding.Finding.{Finding}
-use Rattle.gateway_top.specs.declared.finding.Finding.TheVariants.{Session, Unread, Good, Reason}
+use Rattle.gateway_top.specs.declared.finding.Finding.TheVariants.{Session, Good, Reason}
 use Rattle.gateway_top.specs.declared.finding.Finding.TheVariants.{NoCounterpart, NotSupported}
 
 -- Heartbeat, TestRequest, ResendRequest, SequenceReset, Logout and Logon
@@ -19,41 +23,34 @@ is_session msg_type =
     || bytes_eq msg_type (codes "2") || bytes_eq msg_type (codes "4")
     || bytes_eq msg_type (codes "5") || bytes_eq msg_type (codes "A")
 
--- ExecutionReport, OrderCancelReject, Reject and BusinessMessageReject of the client's session
-abbrev pub is_unread : List ℕ → Bool
-is_unread msg_type =
-    bytes_eq msg_type (codes "8") || bytes_eq msg_type (codes "9")
-    || bytes_eq msg_type (codes "3") || bytes_eq msg_type (codes "j")
+-- Reject and BusinessMessageReject
+abbrev pub is_refusal : List ℕ → Bool
+is_refusal msg_type = bytes_eq msg_type (codes "3") || bytes_eq msg_type (codes "j")
 
--- no type of the venue's session is read yet but the session's
-abbrev pub venue_finding : List ℕ → Finding
-venue_finding body = if is_session (type_in body) then Session else Unread
+-- What is found of a body that is read, where a check of it has these outcomes: it is good; its
+-- first fault; the first tag that has no counterpart; or a type that is not the side's.
+abbrev pub IsRead : (Option TranslateError → Type 0) → Finding → Type 0
+IsRead checked Good = checked None
+IsRead checked (Reason tag reason) = checked (Some (errors.Faulty (faults.Session tag reason)))
+IsRead checked (NoCounterpart tag) =
+    checked (Some (errors.Faulty (faults.NoCounterpart tag))) ⊎ checked (Some (errors.Lacking tag))
+IsRead checked NotSupported = checked (Some (errors.Faulty faults.NotSupported))
+IsRead checked Session = ⊥
 
--- what is found of a fault; want of memory is none of a message's
-abbrev pub fault_finding : Fault → Option Finding
-fault_finding (faults.Session tag reason) = Some (Reason tag reason)
-fault_finding (faults.NoCounterpart tag) = Some (NoCounterpart tag)
-fault_finding faults.NotSupported = Some NotSupported
-fault_finding faults.NoMemory = None
+-- the outcome of a check of what a side sends besides refusals: requests, or reports
+abbrev pub IsCheckedMessage : Side → List ℕ → Option TranslateError → Type 0
+IsCheckedMessage Client body checked = up.IsChecked body checked
+IsCheckedMessage Venue body checked = down.IsChecked body checked
 
--- what is found of a body of FIX 4.2 that is read: it has a counterpart; its first fault; or the
--- first tag that has no counterpart
-abbrev pub IsRead : List ℕ → Finding → Type 0
-IsRead body Good = IsChecked body None
-IsRead body (Reason tag reason) = IsFaulty body (faults.Session tag reason)
-IsRead body (NoCounterpart tag) = IsFaulty body (faults.NoCounterpart tag) ⊎ IsLacking body tag
-IsRead body NotSupported = IsFaulty body faults.NotSupported
-IsRead body other = ⊥
-
--- what is found of a body of the client's session
-abbrev pub IsFound : List ℕ → Finding → Type 0
-IsFound body finding =
+-- what is found of a body of a side's session
+abbrev pub IsFound : Side → List ℕ → Finding → Type 0
+IsFound side body finding =
     MatchBool (is_session (type_in body)) (finding ≡ Session)
-    (MatchBool (is_unread (type_in body)) (finding ≡ Unread) (IsRead body finding))
+    (MatchBool (is_refusal (type_in body)) (IsRead (IsCheckedRefusal side body) finding)
+    (IsRead (IsCheckedMessage side body) finding))
 
 -- where a frame that begins here is refused for what is found of it
 abbrev pub refusal_at : Finding → ℕ → Option ℕ
 refusal_at Session at = None
-refusal_at Unread at = None
 refusal_at Good at = None
 refusal_at other at = Some at

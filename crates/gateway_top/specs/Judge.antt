@@ -1,43 +1,55 @@
 -- Own: what a task writes for the pieces of its input; docs/DECISIONS.md, "Commands".
 use Rattle.std.specs.Prelude.{◌≡◌, ℕ, List, [], ◌∷◌, ◌++◌, length, Some, None, MatchBool}
-use Rattle.std.specs.Prelude.{Ok, Err}
+use Rattle.std.specs.Prelude.{Result, Ok, Err}
 use Rattle.std.specs.declared.option.Option.{Option}
 use Rattle.frame_grammar.specs.declared.pieces.Rest.{Rest}
 use Rattle.frame_grammar.specs.declared.pieces.Rest.TheVariants as rests
 use Rattle.frame_grammar.specs.Cut.{Piece, Good, Bad}
 use Rattle.frame_grammar.specs.Held.{capped}
 use Rattle.frame_grammar.specs.Framer.{place_after}
-use Rattle.request_translate.specs.declared.translate.TranslateError.{TranslateError}
-use Rattle.request_translate.specs.Translation.{IsOutcome}
-use Rattle.gateway_top.specs.Finding.{IsFound, venue_finding, refusal_at}
+use Rattle.translation.specs.declared.error.TranslateError.{TranslateError}
+use Rattle.request_translate.specs.Translation as up
+use Rattle.report_translate.specs.Translation as down
+use Rattle.order_meaning.specs.declared.Side.TheVariants.{Client, Venue}
+use Rattle.gateway_top.specs.Finding.{IsFound, refusal_at}
 use Rattle.gateway_top.specs.Line.{frame_line, garbled_line, inside_line}
 use Rattle.gateway_top.specs.declared.finding.Finding.{Finding}
 use Rattle.gateway_top.specs.Task.{has_ended, first_of}
 use Rattle.gateway_top.specs.declared.task.Task.{Task}
-use Rattle.gateway_top.specs.declared.task.Task.TheVariants.{TranslateUp, CheckClient, CheckVenue}
+use Rattle.gateway_top.specs.declared.task.Task.TheVariants.{TranslateUp, TranslateDown}
+use Rattle.gateway_top.specs.declared.task.Task.TheVariants.{CheckClient, CheckVenue}
 
--- a body for which no frame is written: it has a fault, says what has no counterpart, or its
--- translation is too long
-abbrev pub HasNoTranslation : List ℕ → Type 0
-HasNoTranslation body = (error : TranslateError) × IsOutcome body (Err error)
+-- What a translation writes for a frame that begins here, where its body has these outcomes: the
+-- text of a frame, or nothing where there is none, and then it is refused.
+abbrev pub Writes : (Result (List ℕ) TranslateError → Type 0) → ℕ → Option ℕ → List ℕ → Type 0
+Writes outcome place None said = outcome (Ok said)
+Writes outcome place (Some at) said =
+    ((error : TranslateError) × outcome (Err error)) × (at ≡ place) × (said ≡ [])
+
+-- What a check writes for a frame that begins here and has these bytes, where this may be found of
+-- it: its line. It is refused for what is found.
+abbrev pub Tells : (Finding → Type 0) → ℕ → List ℕ → List ℕ → Option ℕ → List ℕ → Type 0
+Tells found place body bytes refused said =
+    (finding : Finding) × found finding × (refused ≡ refusal_at finding place)
+    × (said ≡ frame_line place (length bytes) body finding)
 
 -- What a task writes for a piece that comes behind others, and where that piece begins if it is
--- refused. A translation is written for a request that has one, and any other piece is refused. A
--- check writes a line for each piece, and refuses those that are garbled, faulty, not supported or
--- without a counterpart.
+-- refused. A translation is written for a request, or a report, that has one, and any other piece
+-- is refused. A check writes a line for each piece, and refuses those that are garbled, faulty, not
+-- supported or without a counterpart.
 abbrev pub Judges : Task → List Piece → Piece → Option ℕ → List ℕ → Type 0
-Judges TranslateUp before (Good body bytes) None said = IsOutcome body (Ok said)
-Judges TranslateUp before (Good body bytes) (Some at) said = HasNoTranslation body
-    × (at ≡ place_after before) × (said ≡ [])
-Judges TranslateUp before (Bad cause bytes) refused said = (refused ≡ Some (place_after before))
-    × (said ≡ [])
+Judges TranslateUp before (Good body bytes) refused said =
+    Writes (up.IsOutcome body) (place_after before) refused said
+Judges TranslateDown before (Good body bytes) refused said =
+    Writes (down.IsOutcome body) (place_after before) refused said
 Judges CheckClient before (Good body bytes) refused said =
-    (finding : Finding) × IsFound body finding
-    × (refused ≡ refusal_at finding (place_after before))
-    × (said ≡ frame_line (place_after before) (length bytes) body finding)
+    Tells (IsFound Client body) (place_after before) body bytes refused said
 Judges CheckVenue before (Good body bytes) refused said =
-    (refused ≡ None)
-    × (said ≡ frame_line (place_after before) (length bytes) body (venue_finding body))
+    Tells (IsFound Venue body) (place_after before) body bytes refused said
+Judges TranslateUp before (Bad cause bytes) refused said =
+    (refused ≡ Some (place_after before)) × (said ≡ [])
+Judges TranslateDown before (Bad cause bytes) refused said =
+    (refused ≡ Some (place_after before)) × (said ≡ [])
 Judges task before (Bad cause bytes) refused said =
     (refused ≡ Some (place_after before))
     × (said ≡ garbled_line (place_after before) (capped (length bytes)) cause)
@@ -55,6 +67,7 @@ JudgesAll task before (piece ∷ pieces) refused said =
 -- what a task writes for the end of the input, and where what is unfinished there begins
 abbrev pub end_said : Task → Rest → List ℕ
 end_said TranslateUp rest = []
+end_said TranslateDown rest = []
 end_said task rests.Clean = []
 end_said task (rests.Inside at len) = inside_line at len
 end_said task (rests.Garbled at len cause) = garbled_line at len cause

@@ -3,6 +3,7 @@ pub mod Task
 pub mod Status
 pub mod MsgType
 pub mod Finding
+pub mod Answer
 pub mod Line
 pub mod Judge
 pub mod Program

@@ -7,7 +7,7 @@ use Rattle.frame_grammar.specs.declared.frame.Garble.TheVariants.{BeginString, L
 use Rattle.frame_grammar.specs.declared.frame.Garble.TheVariants.{TypeField, Trailer, Sum}
 use Rattle.gateway_top.specs.MsgType.{type_in}
 use Rattle.gateway_top.specs.declared.finding.Finding.{Finding}
-use Rattle.gateway_top.specs.declared.finding.Finding.TheVariants.{Session, Unread, Good, Reason}
+use Rattle.gateway_top.specs.declared.finding.Finding.TheVariants.{Session, Good, Reason}
 use Rattle.gateway_top.specs.declared.finding.Finding.TheVariants.{NoCounterpart, NotSupported}
 
 -- the byte that ends a line
@@ -24,7 +24,6 @@ no_counterpart = codes " no counterpart"
 -- what is found of a frame
 abbrev pub finding_words : Finding → List ℕ
 finding_words Session = codes " session"
-finding_words Unread = codes " unread"
 finding_words Good = codes " ok"
 finding_words (Reason tag reason) =
     tag_words (unwrap_or tag 0) ++ codes " reason " ++ decimal reason

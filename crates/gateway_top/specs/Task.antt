@@ -4,17 +4,20 @@ use Rattle.std.specs.declared.option.Option.{Option}
 use Rattle.frame_grammar.specs.declared.frame.Kind.{Kind}
 use Rattle.frame_grammar.specs.declared.frame.Kind.TheVariants.{Fix42, Fixt11}
 use Rattle.gateway_top.specs.declared.task.Task.{Task}
-use Rattle.gateway_top.specs.declared.task.Task.TheVariants.{TranslateUp, CheckClient, CheckVenue}
+use Rattle.gateway_top.specs.declared.task.Task.TheVariants.{TranslateUp, TranslateDown}
+use Rattle.gateway_top.specs.declared.task.Task.TheVariants.{CheckClient, CheckVenue}
 
 -- the kind of the frames that a task reads
 abbrev pub kind_of : Task → Kind
 kind_of TranslateUp = Fix42
+kind_of TranslateDown = Fixt11
 kind_of CheckClient = Fix42
 kind_of CheckVenue = Fixt11
 
 -- whether a task ends at the first piece that it refuses
 abbrev pub stops : Task → Bool
 stops TranslateUp = true
+stops TranslateDown = true
 stops CheckClient = false
 stops CheckVenue = false
 

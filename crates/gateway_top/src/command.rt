@@ -27,6 +27,9 @@ pub(crate) fn read_command(words: &[String]) -> Option<Command>
         [first, second] if first.as_str() == "translate" && second.as_str() == "up" => {
             Some(Command::Stream(Task::TranslateUp))
         }
+        [first, second] if first.as_str() == "translate" && second.as_str() == "down" => {
+            Some(Command::Stream(Task::TranslateDown))
+        }
         [first, second] if first.as_str() == "check" && second.as_str() == "client" => {
             Some(Command::Stream(Task::CheckClient))
         }

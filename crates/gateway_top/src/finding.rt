@@ -1,29 +1,31 @@
 //! What `check` finds of a frame.
 
 ghost use Rattle.std.specs.Prelude.{◌≡◌, IfOk};
-ghost use Rattle.order_meaning.specs.declared.fault.Fault.TheVariants as faults;
-ghost use Rattle.gateway_top.specs.Finding.{is_session, is_unread, venue_finding, fault_finding};
-ghost use Rattle.gateway_top.specs.Finding.{IsFound, refusal_at};
+ghost use Rattle.order_meaning.specs.declared.Side.TheVariants.{Client, Venue};
+ghost use Rattle.report_translate.specs.Refusals.{IsCheckedRefusal};
+ghost use Rattle.gateway_top.specs.Answer.{found_by, fault_finding};
+ghost use Rattle.gateway_top.specs.Finding.{is_session, is_refusal, refusal_at};
+ghost use Rattle.gateway_top.specs.Finding.{IsRead, IsCheckedMessage, IsFound};
 
 use crate::line::type_in;
-use order_meaning::Fault;
-use request_translate::{TranslateError, Translator};
-use std::alloc::AllocError;
+use order_meaning::{Fault, Side};
+use report_translate::{ReportTranslator, check_refusal};
+use request_translate::Translator;
+use std::alloc::{AllocError, Global};
+use translation::TranslateError;
 
 /// What is found of a message.
 #[derive(Clone, Copy, Debug, PartialEq, Eq)]
 pub(crate) enum Finding {
     /// It is a message of the session.
     Session,
-    /// Its type is not read yet.
-    Unread,
-    /// It has a counterpart in the other version.
+    /// It is well formed, and what it orders or reports has a counterpart in the other version.
     Good,
     /// The field of this tag, where one is known, is at fault for this SessionRejectReason(373).
     Reason { tag: Option<u32>, reason: u8 },
     /// What it says at this tag the other version cannot say.
     NoCounterpart { tag: u32 },
-    /// Its type is none of the profile's.
+    /// Its type is none that its side sends.
     NotSupported,
 }
 
@@ -33,7 +35,7 @@ impl Finding {
         ensures { result ≡ refusal_at self at }
     {
         match self {
-            Finding::Session | Finding::Unread | Finding::Good => None,
+            Finding::Session | Finding::Good => None,
             _ => Some(at),
         }
     }
@@ -47,23 +49,11 @@ fn is_session(msg_type: &[u8]) -> bool
     matches!(msg_type, b"0" | b"1" | b"2" | b"4" | b"5" | b"A")
 }
 
-/// Whether a type of the client's session is not read yet: ExecutionReport, OrderCancelReject,
-/// Reject and BusinessMessageReject.
-fn is_unread(msg_type: &[u8]) -> bool
-    ensures { result ≡ is_unread msg_type.now }
+/// Whether a type is that of a refusal: Reject and BusinessMessageReject.
+fn is_refusal(msg_type: &[u8]) -> bool
+    ensures { result ≡ is_refusal msg_type.now }
 {
-    matches!(msg_type, b"8" | b"9" | b"3" | b"j")
-}
-
-/// What is found of a message of the venue's session: no type but the session's is read yet.
-pub(crate) fn of_venue(body: &[u8]) -> Finding
-    ensures { result ≡ venue_finding body.now }
-{
-    if is_session(type_in(body)) {
-        Finding::Session
-    } else {
-        Finding::Unread
-    }
+    matches!(msg_type, b"3" | b"j")
 }
 
 /// What is found of a fault; none where it is want of memory.
@@ -78,21 +68,71 @@ fn of_fault(fault: Fault) -> Option<Finding>
     }
 }
 
+/// What is found of a message by what its check answered.
+fn found_by(answer: Result<(), TranslateError>) -> Result<Finding, AllocError>
+    ensures { result ≡ found_by answer }
+{
+    match answer {
+        Ok(()) => Ok(Finding::Good),
+        Err(TranslateError::Faulty(fault)) => of_fault(fault).ok_or(AllocError),
+        Err(TranslateError::Lacking(tag)) => Ok(Finding::NoCounterpart { tag }),
+        Err(_) => Err(AllocError),
+    }
+}
+
+/// What is found of a refusal by a side.
+fn of_refusal(alloc: Global, side: Side, body: &[u8]) -> Result<Finding, AllocError>
+    ensures { IfOk result (IsRead (IsCheckedRefusal side body.now)) }
+{
+    found_by(check_refusal(alloc, side, body))
+}
+
+/// What is found of a request, or of a type that the client does not send.
+fn of_request(requests: &Translator, body: &[u8]) -> Result<Finding, AllocError>
+    ensures { IfOk result (IsRead (IsCheckedMessage Client body.now)) }
+{
+    found_by(requests.check(body))
+}
+
+/// What is found of a report, or of a type that the venue does not send.
+fn of_report(reports: &ReportTranslator, body: &[u8]) -> Result<Finding, AllocError>
+    ensures { IfOk result (IsRead (IsCheckedMessage Venue body.now)) }
+{
+    found_by(reports.check(body))
+}
+
 /// What is found of a message of the client's session.
-pub(crate) fn of_client(translator: &Translator, body: &[u8]) -> Result<Finding, AllocError>
-    ensures { IfOk result (IsFound body.now) }
+pub(crate) fn of_client(
+    alloc: Global,
+    requests: &Translator,
+    body: &[u8],
+) -> Result<Finding, AllocError>
+    ensures { IfOk result (IsFound Client body.now) }
 {
     let msg_type = type_in(body);
     if is_session(msg_type) {
         return Ok(Finding::Session);
     }
-    if is_unread(msg_type) {
-        return Ok(Finding::Unread);
+    if is_refusal(msg_type) {
+        return of_refusal(alloc, Side::Client, body);
     }
-    match translator.check(body) {
-        Ok(()) => Ok(Finding::Good),
-        Err(TranslateError::Lacking(tag)) => Ok(Finding::NoCounterpart { tag }),
-        Err(TranslateError::Faulty(fault)) => of_fault(fault).ok_or(AllocError),
-        Err(_) => Err(AllocError),
+    of_request(requests, body)
+}
+
+/// What is found of a message of the venue's session.
+pub(crate) fn of_venue(
+    alloc: Global,
+    reports: &ReportTranslator,
+    body: &[u8],
+) -> Result<Finding, AllocError>
+    ensures { IfOk result (IsFound Venue body.now) }
+{
+    let msg_type = type_in(body);
+    if is_session(msg_type) {
+        return Ok(Finding::Session);
     }
+    if is_refusal(msg_type) {
+        return of_refusal(alloc, Side::Venue, body);
+    }
+    of_report(reports, body)
 }

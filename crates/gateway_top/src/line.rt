@@ -88,7 +88,6 @@ fn append_finding(finding: Finding, out: &mut Vec<u8>) -> Result<(), AllocError>
 {
     match finding {
         Finding::Session => append_text(b" session", out),
-        Finding::Unread => append_text(b" unread", out),
         Finding::Good => append_text(b" ok", out),
         Finding::Reason { tag, reason } => {
             append_tag(tag.unwrap_or(0), out)?;

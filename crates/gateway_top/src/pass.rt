@@ -11,6 +11,7 @@ ghost use Rattle.frame_grammar.specs.Framer.{StandsFor, EndsIn, place_after};
 ghost use Rattle.frame_grammar.specs.declared.framer.TheConstants.{LEAST_ROOM};
 ghost use Rattle.frame_grammar.specs.declared.pieces.Rest.{Rest};
 ghost use Rattle.frame_grammar.specs.Held.{fresh, room, capped};
+ghost use Rattle.gateway_top.specs.Answer.{refused_by};
 ghost use Rattle.gateway_top.specs.Judge.{Judges, JudgesAll, end_said, unfinished};
 ghost use Rattle.gateway_top.specs.Pass.{CaughtUp, Advances, Ends};
 ghost use Rattle.gateway_top.specs.Task.{has_ended, kind_of, stops, first_of};
@@ -21,8 +22,10 @@ use crate::line::{append_frame, append_garbled, append_inside};
 use crate::task::{Task, first_of};
 use frame_grammar::{Framer, Garble, Next, Rest, Span};
 use outside::{Failed, Sink};
-use request_translate::{TranslateError, Translator};
+use report_translate::ReportTranslator;
+use request_translate::Translator;
 use std::alloc::{AllocError, Global};
+use translation::TranslateError;
 
 /// Why a run stops before the end of its input.
 #[derive(Clone, Copy, Debug, PartialEq, Eq)]
@@ -36,7 +39,9 @@ pub(crate) enum Stop {
 pub(crate) struct Pass {
     pub(crate) task: Task,
     pub(crate) framer: Framer,
-    translator: Translator,
+    alloc: Global,
+    requests: Translator,
+    reports: ReportTranslator,
     /// Where the first piece that was refused begins.
     pub(crate) refused: Option<u64>,
     /// What is said of the pieces of one read.
@@ -54,7 +59,9 @@ impl Pass {
         Ok(Pass {
             task,
             framer: Framer::new(alloc, task.kind())?,
-            translator: Translator::new(alloc),
+            alloc,
+            requests: Translator::new(alloc),
+            reports: ReportTranslator::new(alloc),
             refused: None,
             text: Vec::new(alloc),
         })
@@ -75,16 +82,13 @@ impl Pass {
         let body = self.framer.part(body);
         let finding = match self.task {
             Task::TranslateUp => {
-                return match self.translator.translate(body, &mut self.text) {
-                    Ok(()) => Ok(None),
-                    Err(TranslateError::NoMemory) => Err(AllocError),
-                    Err(TranslateError::Faulty(_)) => Ok(Some(at)),
-                    Err(TranslateError::Lacking(_)) => Ok(Some(at)),
-                    Err(TranslateError::TooLong) => Ok(Some(at)),
-                };
+                return refused_by(at, self.requests.translate(body, &mut self.text));
             }
-            Task::CheckClient => of_client(&self.translator, body)?,
-            Task::CheckVenue => of_venue(body),
+            Task::TranslateDown => {
+                return refused_by(at, self.reports.translate(body, &mut self.text));
+            }
+            Task::CheckClient => of_client(self.alloc, &self.requests, body)?,
+            Task::CheckVenue => of_venue(self.alloc, &self.reports, body)?,
         };
         append_frame(at, u64::from(len), body, finding, &mut self.text)?;
         Ok(finding.refusal_at(at))
@@ -101,7 +105,7 @@ impl Pass {
         ensures refused { self.new.refused ≡ self.old.refused }
     {
         match self.task {
-            Task::TranslateUp => Ok(()),
+            Task::TranslateUp | Task::TranslateDown => Ok(()),
             Task::CheckClient | Task::CheckVenue => append_garbled(at, len, cause, &mut self.text),
         }
     }
@@ -205,12 +209,23 @@ impl Pass {
     }
 }
 
+/// Where a frame that begins here is refused by what its translation answered.
+fn refused_by(at: u64, answer: Result<(), TranslateError>) -> Result<Option<u64>, AllocError>
+    ensures { result ≡ refused_by at answer }
+{
+    match answer {
+        Ok(()) => Ok(None),
+        Err(TranslateError::NoMemory) => Err(AllocError),
+        Err(_) => Ok(Some(at)),
+    }
+}
+
 /// Appends what the task says of the end of the input.
 fn append_end(task: Task, rest: Rest, text: &mut Vec<u8>) -> Result<(), AllocError>
     ensures { OnOk result (text.new.items ≡ text.old.items ++ end_said task rest) }
 {
     match (task, rest) {
-        (Task::TranslateUp, _) | (_, Rest::Clean) => Ok(()),
+        (Task::TranslateUp | Task::TranslateDown, _) | (_, Rest::Clean) => Ok(()),
         (_, Rest::Inside { at, len }) => append_inside(at, u64::from(len), text),
         (_, Rest::Garbled { at, len, cause }) => append_garbled(at, len, cause, text),
     }

@@ -16,21 +16,25 @@ use std::alloc::Global;
 /// What `--help` prints.
 const HELP: &str = "\
 fixgate is a gateway from a trading client of FIX 4.2 to a venue of FIX 5.0 SP2
-over FIXT 1.1. So far it translates order requests upward and checks streams.
+over FIXT 1.1. So far it translates order requests upward and reports downward,
+and checks streams of both sides.
 
 Usage: fixgate COMMAND
 
   translate up    reads FIX 4.2 order requests from standard input and writes
                   them to standard output as the venue takes them; ends at the
                   first piece of the input that it refuses
+  translate down  reads FIX 5.0 SP2 reports and writes them as the client takes
+                  them; ends in the same way
   check client    reads a stream of FIX 4.2 and prints a line for each frame and
                   each garbled piece, with the first fault of each request
-  check venue     prints a line for each frame and garbled piece of FIXT 1.1
+  check venue     the same of a stream of FIXT 1.1 and of each report
   --help          prints this text
   --version       prints the version
 
 Order requests are New Order - Single(D), Order Cancel Request(F), Order
-Cancel/Replace Request(G) and Order Status Request(H); docs/REQUESTS.md has
+Cancel/Replace Request(G) and Order Status Request(H); reports are Execution
+Report(8) and Order Cancel Reject(9). docs/REQUESTS.md and docs/REPORTS.md have
 their fields and what each becomes. Frames are read as they are on the wire,
 with SOH (byte 1) behind each field. A line of check begins with the place of
 its piece in bytes; README.md says what follows.
@@ -48,7 +52,7 @@ On any status but 0 a line with the reason goes to standard error.
 ";
 
 /// What `--version` prints.
-const VERSION: &str = "fixgate 0.2.0\n";
+const VERSION: &str = "fixgate 0.3.0\n";
 
 /// Writes a text.
 fn write_text<O: Sink>(out: &mut O, text: &str) -> Status

@@ -8,8 +8,10 @@ use frame_grammar::Kind;
 /// What is done to a stream of frames.
 #[derive(Clone, Copy, Debug, PartialEq, Eq)]
 pub enum Task {
-    /// `translate up`: the orders of a client, FIX 4.2, are written as the venue takes them.
+    /// `translate up`: the requests of a client, FIX 4.2, are written as the venue takes them.
     TranslateUp,
+    /// `translate down`: the reports of a venue, FIX 5.0 SP2, are written as the client takes them.
+    TranslateDown,
     /// `check client`: a line is written for each piece of a stream of FIX 4.2.
     CheckClient,
     /// `check venue`: a line is written for each piece of a stream of FIXT 1.1.
@@ -23,7 +25,7 @@ impl Task {
     {
         match self {
             Task::TranslateUp | Task::CheckClient => Kind::Fix42,
-            Task::CheckVenue => Kind::Fixt11,
+            Task::TranslateDown | Task::CheckVenue => Kind::Fixt11,
         }
     }
 
@@ -31,7 +33,7 @@ impl Task {
     pub(crate) fn stops(self) -> bool
         ensures { result ≡ stops self }
     {
-        matches!(self, Task::TranslateUp)
+        matches!(self, Task::TranslateUp | Task::TranslateDown)
     }
 
     /// Whether it has ended, where the first piece that it refused begins here.

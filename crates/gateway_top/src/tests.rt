@@ -1,5 +1,6 @@
 //! The program over inputs and outputs in memory. Frames are cut and summed by hand; lines and
-//! codes are those of the help and of the README.
+//! codes are those of the help and of the README. Tables of whole messages of both sides stand in
+//! `tests/messages`, which reads them through the built program.
 
 use crate::{End, Status, code, run};
 use outside::{MemSink, MemSource};
@@ -10,21 +11,25 @@ use std::test::Fail;
 /// What `--help` prints.
 const HELP: &str = "\
 fixgate is a gateway from a trading client of FIX 4.2 to a venue of FIX 5.0 SP2
-over FIXT 1.1. So far it translates order requests upward and checks streams.
+over FIXT 1.1. So far it translates order requests upward and reports downward,
+and checks streams of both sides.
 
 Usage: fixgate COMMAND
 
   translate up    reads FIX 4.2 order requests from standard input and writes
                   them to standard output as the venue takes them; ends at the
                   first piece of the input that it refuses
+  translate down  reads FIX 5.0 SP2 reports and writes them as the client takes
+                  them; ends in the same way
   check client    reads a stream of FIX 4.2 and prints a line for each frame and
                   each garbled piece, with the first fault of each request
-  check venue     prints a line for each frame and garbled piece of FIXT 1.1
+  check venue     the same of a stream of FIXT 1.1 and of each report
   --help          prints this text
   --version       prints the version
 
 Order requests are New Order - Single(D), Order Cancel Request(F), Order
-Cancel/Replace Request(G) and Order Status Request(H); docs/REQUESTS.md has
+Cancel/Replace Request(G) and Order Status Request(H); reports are Execution
+Report(8) and Order Cancel Reject(9). docs/REQUESTS.md and docs/REPORTS.md have
 their fields and what each becomes. Frames are read as they are on the wire,
 with SOH (byte 1) behind each field. A line of check begins with the place of
 its piece in bytes; README.md says what follows.
@@ -207,193 +212,39 @@ fn wire(alloc: Global, text: &[u8]) -> Result<Vec<u8>, AllocError> {
     Ok(bytes)
 }
 
-/// A frame of a type, numbered 2, with a content; `|` stands for SOH.
-fn framed(
-    alloc: Global,
-    begin: &[u8],
-    msg_type: &[u8],
-    content: &[u8],
-) -> Result<Vec<u8>, AllocError> {
-    let header = b"|49=CLNT|56=GATE|34=2|52=20240102-10:00:00|";
-    let body = [b"35=", msg_type, header, content].concat(alloc)?;
-    let length = format!(in alloc; "|9={}|", body.len())?;
-    let mut frame = wire(alloc, &[begin, length.as_bytes(), &body].concat(alloc)?)?;
-    let mut sum = 0u8;
-    for byte in &frame {
-        sum = sum.wrapping_add(*byte);
-    }
-    let trailer = format!(in alloc; "10={sum:03}\x01")?;
-    frame.extend_from_slice(trailer.as_bytes())?;
-    Ok(frame)
-}
+/// A bust as QuickFIX (C++, version 1.15.1) writes it, and as the client takes it; `|` stands for
+/// SOH.
+const BUST: &[u8] =
+    b"8=FIXT.1.1|9=154|35=8|34=9|49=VENU|52=20240102-10:00:00.123|56=GATE|1128=9|6=0|11=A1|\
+14=0|17=E4|19=E3|37=O1|38=100|39=0|54=1|55=IBM|60=20240102-10:00:00.456|150=H|151=100|10=132|";
+
+const BUST_DOWN: &[u8] =
+    b"8=FIX.4.2|9=152|35=8|49=VENU|56=GATE|34=9|52=20240102-10:00:00.123|37=O1|11=A1|17=E4|\
+20=1|19=E3|150=0|39=0|55=IBM|54=1|38=100|151=100|14=0|6=0|60=20240102-10:00:00.456|10=168|";
 
 #[test]
-fn requests_go_up(rt: HostRuntime) -> Result<(), Fail> {
+fn reports_go_down(rt: HostRuntime) -> Result<(), Fail> {
     let alloc = rt.alloc();
-    // the type; the content of FIX 4.2; that of FIX 5.0 SP2
-    #[rattlefmt::skip]
-    let rows: [(&[u8], &[u8], &[u8]); 10] = [
-        // parties
-        (b"D", b"11=A1|109=FUND|76=BRKR|439=CLRF|21=1|55=IBM|54=1|60=20240102-10:00:00|38=1|40=1|",
-            b"11=A1|453=3|448=FUND|447=D|452=3|448=BRKR|447=D|452=1|448=CLRF|447=D|452=4|21=1|\
-55=IBM|54=1|60=20240102-10:00:00|38=1|40=1|"),
-        // on close
-        (b"D", b"11=A1|21=1|55=IBM|54=1|60=20240102-10:00:00|38=1|40=5|",
-            b"11=A1|21=1|55=IBM|54=1|60=20240102-10:00:00|38=1|40=1|59=7|"),
-        (b"D", b"11=A1|21=1|55=IBM|54=1|60=20240102-10:00:00|38=1|40=B|44=9.50|59=0|",
-            b"11=A1|21=1|55=IBM|54=1|60=20240102-10:00:00|38=1|40=2|44=9.5|59=7|"),
-        // codes and days
-        (b"D", b"11=A1|21=1|55=IBM|200=202406|205=30|54=1|60=20240102-10:00:00|38=1|40=1|47=A|",
-            b"11=A1|21=1|55=IBM|200=202406|541=20240630|54=1|60=20240102-10:00:00|38=1|40=1|\
-528=A|"),
-        // MaxFloor and MinQty; fields in the order of their tags, as QuickFIX writes them
-        (b"D", b"11=A1|21=3|38=0100.0|40=2|44=10.5|54=1|55=IBM|58=a note|59=0|\
-60=20240102-10:00:00.123|110=10|111=20|",
-            b"11=A1|21=3|110=10|1138=20|55=IBM|54=1|60=20240102-10:00:00.123|38=100|40=2|44=10.5|\
-59=0|58=a note|"),
-        // groups
-        (b"D", b"11=A1|78=2|79=X|80=60|79=Y|80=40|21=1|386=1|336=DAY|55=IBM|54=2|\
-60=20240102-10:00:00|38=100|40=1|",
-            b"11=A1|78=2|79=X|80=60|79=Y|80=40|21=1|386=1|336=DAY|55=IBM|54=2|\
-60=20240102-10:00:00|38=100|40=1|"),
-        (b"F", b"41=A1|11=A2|55=IBM|54=1|60=20240102-10:00:00|38=100|58=enough|",
-            b"11=A2|41=A1|55=IBM|54=1|60=20240102-10:00:00|38=100|58=enough|"),
-        (b"G", b"41=A1|11=A2|21=1|55=IBM|54=1|60=20240102-10:00:00|38=50|40=2|44=-.5|",
-            b"11=A2|41=A1|21=1|55=IBM|54=1|60=20240102-10:00:00|38=50|40=2|44=-0.5|"),
-        (b"H", b"37=O1|11=A1|109=FUND|55=IBM|54=1|",
-            b"11=A1|37=O1|453=1|448=FUND|447=D|452=3|55=IBM|54=1|"),
-        (b"H", b"11=A1|55=IBM|54=6|", b"11=A1|55=IBM|54=6|"),
-    ];
-    for (msg_type, content, written) in rows {
-        let input = framed(alloc, b"8=FIX.4.2", msg_type, content)?;
-        let up = framed(alloc, b"8=FIXT.1.1", msg_type, written)?;
-        ends(&rt, alloc, "translate up", &input, Status::Done, &up)?;
-    }
+    let (bust, down) = (wire(alloc, BUST)?, wire(alloc, BUST_DOWN)?);
+    ends(&rt, alloc, "translate down", &bust, Status::Done, &down)?;
+    ends(
+        &rt,
+        alloc,
+        "check venue",
+        &bust,
+        Status::Done,
+        b"0 frame 178 8 ok\n",
+    )?;
+    let at = Status::Refused { at: 178 };
+    ends(
+        &rt,
+        alloc,
+        "translate down",
+        &[bust.as_slice(), ORDER].concat(alloc)?,
+        at,
+        &down,
+    )?;
     Ok(())
-}
-
-/// Requests as other engines write them, and as the venue takes them; `|` stands for SOH. QuickFIX
-/// (C++) and QuickFIX/J write header and body in the order of the tags, the second with groups at
-/// the end. Fix8 writes them in the order of the standard, amounts with two decimals. What the
-/// venue takes was made from docs/REQUESTS.md, and not by the program.
-#[rattlefmt::skip]
-const FOREIGN: [(&str, &[u8], &[u8]); 7] = [
-    ("QuickFIX, D",
-        b"8=FIX.4.2|9=143|35=D|34=215|49=CLNT|52=20240102-10:00:00.123|56=GATE|1=ACC1|11=A1|21=1|\
-38=100|40=2|44=10.5|54=1|55=IBM|58=a note|59=0|60=20240102-10:00:00.098|10=074|",
-        b"8=FIXT.1.1|9=143|35=D|49=CLNT|56=GATE|34=215|52=20240102-10:00:00.123|11=A1|1=ACC1|\
-21=1|55=IBM|54=1|60=20240102-10:00:00.098|38=100|40=2|44=10.5|59=0|58=a note|10=154|"),
-    ("QuickFIX, F, sent again",
-        b"8=FIX.4.2|9=140|35=F|34=216|43=Y|49=CLNT|52=20240102-10:00:05.040|56=GATE|\
-122=20240102-10:00:01.004|11=A2|38=100|41=A1|54=1|55=IBM|60=20240102-10:00:01.002|10=001|",
-        b"8=FIXT.1.1|9=140|35=F|49=CLNT|56=GATE|34=216|43=Y|52=20240102-10:00:05.040|\
-122=20240102-10:00:01.004|11=A2|41=A1|55=IBM|54=1|60=20240102-10:00:01.002|38=100|10=081|"),
-    ("QuickFIX/J, G",
-        b"8=FIX.4.2|9=169|35=G|34=217|49=CLNT|52=20240102-10:00:02.350|56=GATE|11=A3|18=6|21=1|\
-38=150|40=2|41=A2|44=10.75|54=1|55=IBM|60=20240102-10:00:02.349|109=FUND|78=2|79=X|80=90|79=Y|\
-80=60|10=116|",
-        b"8=FIXT.1.1|9=187|35=G|49=CLNT|56=GATE|34=217|52=20240102-10:00:02.350|11=A3|41=A2|\
-453=1|448=FUND|447=D|452=3|78=2|79=X|80=90|79=Y|80=60|21=1|18=6|55=IBM|54=1|\
-60=20240102-10:00:02.349|38=150|40=2|44=10.75|10=002|"),
-    ("Fix8, D",
-        b"8=FIX.4.2|9=146|35=D|49=CLNT|56=GATE|34=2|50=DESK|52=20240102-10:00:00.123|11=A1|21=1|\
-55=IBM|54=1|60=20240102-10:00:00.098|38=100.00|40=2|44=10.50|59=0|58=a note|10=008|",
-        b"8=FIXT.1.1|9=134|35=D|49=CLNT|56=GATE|34=2|52=20240102-10:00:00.123|11=A1|21=1|55=IBM|\
-54=1|60=20240102-10:00:00.098|38=100|40=2|44=10.5|59=0|58=a note|10=205|"),
-    ("Fix8, F",
-        b"8=FIX.4.2|9=110|35=F|49=CLNT|56=GATE|34=3|52=20240102-10:00:01.004|41=A1|11=A2|55=IBM|\
-54=1|60=20240102-10:00:01.002|38=100.00|10=065|",
-        b"8=FIXT.1.1|9=107|35=F|49=CLNT|56=GATE|34=3|52=20240102-10:00:01.004|11=A2|41=A1|55=IBM|\
-54=1|60=20240102-10:00:01.002|38=100|10=009|"),
-    ("Fix8, G, sent again",
-        b"8=FIX.4.2|9=189|35=G|49=CLNT|56=GATE|34=4|43=Y|52=20240102-10:00:09.000|\
-122=20240102-10:00:02.350|109=FUND|41=A2|11=A3|78=1|79=X|80=150.00|21=1|55=IBM|54=1|\
-60=20240102-10:00:02.349|38=150.00|40=2|44=10.75|10=077|",
-        b"8=FIXT.1.1|9=201|35=G|49=CLNT|56=GATE|34=4|43=Y|52=20240102-10:00:09.000|\
-122=20240102-10:00:02.350|11=A3|41=A2|453=1|448=FUND|447=D|452=3|78=1|79=X|80=150|21=1|55=IBM|\
-54=1|60=20240102-10:00:02.349|38=150|40=2|44=10.75|10=176|"),
-    ("every field of D",
-        b"8=FIX.4.2|9=498|35=D|49=CLNT|56=GATE|34=3|50=DESK|142=LDN|57=DESK|143=NYC|43=N|97=Y|\
-52=20240102-10:00:00|122=20240102-09:59:59|347=ISO-8859-1|369=7|11=A1|109=FUND|76=BRKR|1=ACC1|\
-78=2|79=X|80=60.0|79=Y|80=40|63=6|64=20240131|21=2|18=1 6 G|110=010|111=20.50|100=XNYS|386=2|\
-336=DAY|336=EVE|55=IBM|65=WI|48=459200101|22=1|167=FUT|200=202406|205=7|207=XNYS|54=5|114=Y|\
-60=20240102-09:59:58.500|38=0100|40=4|44=10.50|99=.5|15=USD|59=6|168=20240102-10:30:00|\
-432=20240202|126=20240202-16:00:00|47=P|58=a note|77=O|439=CLRF|10=006|",
-        b"8=FIXT.1.1|9=492|35=D|49=CLNT|56=GATE|34=3|43=N|97=Y|52=20240102-10:00:00|\
-122=20240102-09:59:59|11=A1|453=3|448=FUND|447=D|452=3|448=BRKR|447=D|452=1|448=CLRF|447=D|452=4|\
-1=ACC1|78=2|79=X|80=60|79=Y|80=40|63=6|64=20240131|21=2|18=1 6 G|110=10|1138=20.5|100=XNYS|386=2|\
-336=DAY|336=EVE|55=IBM|65=WI|48=459200101|22=1|167=FUT|200=202406|541=20240607|207=XNYS|54=5|\
-114=Y|60=20240102-09:59:58.500|38=100|40=4|44=10.5|99=0.5|15=USD|59=6|168=20240102-10:30:00|\
-432=20240202|126=20240202-16:00:00|528=P|77=O|58=a note|10=168|"),
-];
-
-#[test]
-fn requests_of_other_engines_go_up(rt: HostRuntime) -> Result<(), Fail> {
-    let alloc = rt.alloc();
-    for (name, request, written) in FOREIGN {
-        let (ended, sink) = ran(alloc, "translate up", &wire(alloc, request)?, &[], &[])?;
-        assert_eq!(rt; ended, Status::Done, "{name}");
-        assert_eq!(rt; sink.bytes(), wire(alloc, written)?.as_slice(), "{name}");
-    }
-    Ok(())
-}
-
-#[test]
-fn requests_are_checked(rt: HostRuntime) -> Result<(), Fail> {
-    let alloc = rt.alloc();
-    // the type and the content; what the line says at its end
-    #[rattlefmt::skip]
-    let rows: [(&[u8], &[u8], &[u8]); 15] = [
-        (b"D", b"11=A1|21=1|55=IBM|54=1|60=20240102-10:00:00|38=1|40=1|", b"D ok\n"),
-        (b"D", b"11=A1|21=1|55=IBM|54=1|60=20240102-10:00:00|38=1|40=5|59=3|",
-            b"D tag 59 no counterpart\n"),
-        (b"D", b"11=A1|21=1|55=IBM|54=1|60=20240102-10:00:00|38=1|40=1|47=J|",
-            b"D tag 47 no counterpart\n"),
-        (b"D", b"11=A1|21=1|55=IBM|200=202406|205=31|54=1|60=20240102-10:00:00|38=1|40=1|",
-            b"D tag 205 reason 5\n"),
-        (b"D", b"11=A1|21=1|55=IBM|54=1|60=20240102-10:00:00|38=1|38=1|40=1|",
-            b"D tag 38 reason 13\n"),
-        (b"D", b"11=A1|21=1|55=IBM|54=1|60=20240102-10:00:00|38=1|40=1|354=8|355=x|10=070|58=t|",
-            b"D tag 354 no counterpart\n"),
-        (b"D", b"11=A1|354=99|355=x|", b"D tag 355 reason 6\n"),
-        (b"D", b"11=A1|x=1|", b"D tag 0 reason 0\n"),
-        (b"D", b"11=A1|78=2|79=X|21=1|55=IBM|54=1|60=20240102-10:00:00|38=1|40=1|",
-            b"D tag 78 reason 16\n"),
-        (b"D", b"11=A1|21=1|55=IBM|54=1|60=20240102-10:00:00|38=1|", b"D tag 40 reason 1\n"),
-        (b"H", b"11=A1|55=IBM|54=9|", b"H tag 54 no counterpart\n"),
-        (b"F", b"11=A2|41=|55=IBM|54=1|60=20240102-10:00:00|", b"F tag 41 reason 4\n"),
-        (b"8", b"x=1|", b"8 unread\n"),
-        (b"0", b"x=1|", b"0 session\n"),
-        (b"AE", b"11=A1|", b"AE not supported\n"),
-    ];
-    for (msg_type, content, words) in rows {
-        is_checked(&rt, alloc, msg_type, content, words)?;
-    }
-    Ok(())
-}
-
-/// A line ends like this for a frame of this type and content, which is refused or is fine.
-fn is_checked(
-    rt: &impl Abort,
-    alloc: Global,
-    msg_type: &[u8],
-    content: &[u8],
-    words: &[u8],
-) -> Result<(), Fail> {
-    let input = framed(alloc, b"8=FIX.4.2", msg_type, content)?;
-    let line = format!(in alloc; "0 frame {} ", input.len())?;
-    let mut put = Vec::new(alloc);
-    put.extend_from_slice(line.as_bytes())?;
-    put.extend_from_slice(words)?;
-    let is_fine = words.ends_with(b"ok\n")
-        || words.ends_with(b"unread\n")
-        || words.ends_with(b"session\n");
-    let status = if is_fine {
-        Status::Done
-    } else {
-        Status::Refused { at: 0 }
-    };
-    ends(rt, alloc, "check client", &input, status, &put)
 }
 
 #[test]
@@ -404,6 +255,7 @@ fn words_are_judged(rt: HostRuntime) -> Result<(), Fail> {
         "translate",
         "translate sideways",
         "translate up up",
+        "translate down up",
         "check",
         "check gate",
         "--help up",
@@ -416,7 +268,7 @@ fn words_are_judged(rt: HostRuntime) -> Result<(), Fail> {
         "--version",
         b"",
         Status::Done,
-        b"fixgate 0.2.0\n",
+        b"fixgate 0.3.0\n",
     )?;
     ends(&rt, alloc, "--help", b"", Status::Done, HELP.as_bytes())?;
     Ok(())

@@ -1,0 +1,5 @@
+pub mod Lacks
+pub mod OfType
+pub mod Stands
+pub mod Translated
+pub mod Refused

@@ -1,0 +1,216 @@
+-- Reports and refusals, by their types.
+use Rattle.std.proofs.Common.{◌≡◌, ℕ, Bool, true, false, ◌||◌, List, codes, Option, Some, None}
+use Rattle.std.proofs.Common.{Result, Ok, Err, refl, sym, ap, ◌∙◌, subst, arith}
+use Rattle.std.specs.Str.{bytes_eq}
+use Rattle.std.proofs.lemmas.Slice.Eq.{bytes_eq-Decides}
+use Rattle.field_groups.specs.declared.fault.SplitFault.{SplitFault}
+use Rattle.field_groups.specs.Field.{Field}
+use Rattle.message_tables.specs.Tables.{Table, Message}
+use Rattle.order_meaning.specs.declared.Side.{Side}
+use Rattle.order_meaning.specs.declared.Side.TheVariants.{Client, Venue}
+use Rattle.order_meaning.specs.declared.fault.Fault.{Fault}
+use Rattle.order_meaning.specs.declared.fault.Fault.TheVariants as faults
+use Rattle.order_meaning.specs.declared.refusal.Refusal.{Refusal}
+use Rattle.row_values.specs.Kinds.{Kind}
+use Rattle.row_values.specs.Faults.{of_split}
+use Rattle.row_values.specs.Gives.{Gives, Tells}
+use Rattle.refusal_parts.specs.Once.{refusal_by}
+use Rattle.reports_fix42.specs.Message.{message42 as any42}
+use Rattle.reports_fix42.specs.Message.{session_reject_table as session_reject_table42}
+use Rattle.reports_fix42.specs.Message.{business_reject_table as business_reject_table42}
+use Rattle.reports_fix50.specs.Message.{report_by, report_table, cancel_reject_table}
+use Rattle.reports_fix50.specs.Message.{message50 as any50}
+use Rattle.reports_fix50.specs.Message.{session_reject_table as session_reject_table50}
+use Rattle.reports_fix50.specs.Message.{business_reject_table as business_reject_table50}
+use Rattle.translation.specs.declared.error.TranslateError.{TranslateError}
+use Rattle.translation.specs.Errors.{error_of_fault}
+use Rattle.translation.specs.Header.{type_of}
+use Rattle.translation.proofs.Writable.{IsType, is_byte}
+use Rattle.report_translate.specs.declared.report.VenueReport.{VenueReport}
+use Rattle.report_translate.specs.Reading.{report_message, refusal_message}
+use Rattle.report_translate.specs.Said.{says50}
+use Rattle.report_translate.specs.Writing.{IsMisread, IsReadAs}
+
+module _ (msg_type : List ℕ) (fields : List Field) (stopped : Option SplitFault) where
+  is_type : (known : List ℕ) → bytes_eq msg_type known ≡ true → msg_type ≡ known
+  is_type known test = (bytes_eq-Decides msg_type known).0 test
+
+  pub eight : bytes_eq msg_type (codes "8") ≡ true
+      → report_message msg_type fields stopped ≡ report_by report_table fields stopped
+  unfolding report_message any50
+  eight test = ap (λ (t : List ℕ). report_message t fields stopped) (is_type (codes "8") test)
+
+  pub nine : bytes_eq msg_type (codes "9") ≡ true
+      → report_message msg_type fields stopped ≡ report_by cancel_reject_table fields stopped
+  unfolding report_message any50
+  nine test = ap (λ (t : List ℕ). report_message t fields stopped) (is_type (codes "9") test)
+
+  pub no_report : bytes_eq msg_type (codes "8") ≡ false → bytes_eq msg_type (codes "9") ≡ false
+      → report_message msg_type fields stopped ≡ Err faults.NotSupported
+  unfolding report_message
+  no_report eight nine = rw (eight, nine) refl
+
+  by_table : (table : Table Kind) (x : Message) → report_by table fields stopped ≡ Ok x
+      → stopped ≡ None
+  by_table table x is = by stopped is
+    where
+      by : (s : Option SplitFault) → report_by table fields s ≡ Ok x → s ≡ None
+      by None is = refl
+      by (Some fault) is = absurd cc
+
+  -- fields that are a report are those of a whole body
+  pub whole : (x : Message) → report_message msg_type fields stopped ≡ Ok x → stopped ≡ None
+  whole x is = by (bytes_eq msg_type (codes "8")) (bytes_eq msg_type (codes "9")) refl refl
+    where
+      by : (a b : Bool) → bytes_eq msg_type (codes "8") ≡ a → bytes_eq msg_type (codes "9") ≡ b
+          → stopped ≡ None
+      by true b a' b' = by_table report_table x (sym (eight a') ∙ is)
+      by false true a' b' = by_table cancel_reject_table x (sym (nine b') ∙ is)
+      by false false a' b' = let no = no_report a' b' in absurd cc
+
+  -- and have a type of one byte
+  pub type_is : (x : Message) → report_message msg_type fields stopped ≡ Ok x → IsType msg_type
+  type_is x is = by (bytes_eq msg_type (codes "8")) (bytes_eq msg_type (codes "9")) refl refl
+    where
+      by : (a b : Bool) → bytes_eq msg_type (codes "8") ≡ a → bytes_eq msg_type (codes "9") ≡ b
+          → IsType msg_type
+      by true b a' b' = is_byte msg_type 56 (λ no. absurd (omega (arith, no))) a'
+      by false true a' b' = is_byte msg_type 57 (λ no. absurd (omega (arith, no))) b'
+      by false false a' b' = let no = no_report a' b' in absurd cc
+
+  three42 : bytes_eq msg_type (codes "3") ≡ true → refusal_message Client msg_type fields stopped
+      ≡ any42 (codes "3") fields stopped
+  unfolding refusal_message
+  three42 test =
+      ap (λ (t : List ℕ). refusal_message Client t fields stopped) (is_type (codes "3") test)
+
+  j42 : bytes_eq msg_type (codes "j") ≡ true → refusal_message Client msg_type fields stopped
+      ≡ any42 (codes "j") fields stopped
+  unfolding refusal_message
+  j42 test =
+      ap (λ (t : List ℕ). refusal_message Client t fields stopped) (is_type (codes "j") test)
+
+  three50 : bytes_eq msg_type (codes "3") ≡ true → refusal_message Venue msg_type fields stopped
+      ≡ any50 (codes "3") fields stopped
+  unfolding refusal_message
+  three50 test =
+      ap (λ (t : List ℕ). refusal_message Venue t fields stopped) (is_type (codes "3") test)
+
+  j50 : bytes_eq msg_type (codes "j") ≡ true → refusal_message Venue msg_type fields stopped
+      ≡ any50 (codes "j") fields stopped
+  unfolding refusal_message
+  j50 test =
+      ap (λ (t : List ℕ). refusal_message Venue t fields stopped) (is_type (codes "j") test)
+
+  pub no_refusal : (side : Side) → bytes_eq msg_type (codes "3") ≡ false
+      → bytes_eq msg_type (codes "j") ≡ false
+      → refusal_message side msg_type fields stopped ≡ Err faults.NotSupported
+  unfolding refusal_message
+  no_refusal side three j = rw (three, j) refl
+
+  -- a refusal that is read is that of a whole body
+  ends : (message : Option SplitFault → Result Message Fault) (x : Message)
+      → ((fault : SplitFault) → message (Some fault) ≡ Err (of_split fault))
+      → message stopped ≡ Ok x → stopped ≡ None
+  ends message x stops is = by stopped is
+    where
+      by : (s : Option SplitFault) → message s ≡ Ok x → s ≡ None
+      by None is = refl
+      by (Some fault) is = let no = stops fault in absurd cc
+
+  whole42 : (a b : Bool) → bytes_eq msg_type (codes "3") ≡ a → bytes_eq msg_type (codes "j") ≡ b
+      → (x : Message) → refusal_message Client msg_type fields stopped ≡ Ok x → stopped ≡ None
+  unfolding any42
+  whole42 true b a' b' x is =
+      ends (any42 (codes "3") fields) x (λ fault. refl) (sym (three42 a') ∙ is)
+  whole42 false true a' b' x is =
+      ends (any42 (codes "j") fields) x (λ fault. refl) (sym (j42 b') ∙ is)
+  whole42 false false a' b' x is = let no = no_refusal Client a' b' in absurd cc
+
+  whole50 : (a b : Bool) → bytes_eq msg_type (codes "3") ≡ a → bytes_eq msg_type (codes "j") ≡ b
+      → (x : Message) → refusal_message Venue msg_type fields stopped ≡ Ok x → stopped ≡ None
+  unfolding any50
+  whole50 true b a' b' x is =
+      ends (any50 (codes "3") fields) x (λ fault. refl) (sym (three50 a') ∙ is)
+  whole50 false true a' b' x is =
+      ends (any50 (codes "j") fields) x (λ fault. refl) (sym (j50 b') ∙ is)
+  whole50 false false a' b' x is = let no = no_refusal Venue a' b' in absurd cc
+
+  pub whole_refusal : (side : Side) (x : Message)
+      → refusal_message side msg_type fields stopped ≡ Ok x → stopped ≡ None
+  whole_refusal Client x is =
+      whole42 (bytes_eq msg_type (codes "3")) (bytes_eq msg_type (codes "j")) refl refl x is
+  whole_refusal Venue x is =
+      whole50 (bytes_eq msg_type (codes "3")) (bytes_eq msg_type (codes "j")) refl refl x is
+
+  read_as : (says : Refusal → Message) (r : Result Refusal Fault) (x y : Result Message Fault)
+      → Gives says r x → y ≡ x → IsReadAs r y
+  read_as says (Ok refusal) x y gives same = (says refusal, same ∙ gives)
+  read_as says (Err faults.NoMemory) x y gives same = tt
+  read_as says (Err faults.NotSupported) x y gives same = same ∙ gives
+  read_as says (Err (faults.Session tag reason)) x y gives same = same ∙ gives
+  read_as says (Err (faults.NoCounterpart tag)) x y gives same = same ∙ gives
+
+  pub session42 : (says : Refusal → Message) (r : Result Refusal Fault)
+      → bytes_eq msg_type (codes "3") ≡ true → Gives says r (refusal_by session_reject_table42 fields stopped)
+      → IsReadAs r (refusal_message Client msg_type fields stopped)
+  unfolding any42
+  session42 says r test gives =
+      read_as says r (refusal_by session_reject_table42 fields stopped) _ gives (three42 test)
+
+  pub business42 : (says : Refusal → Message) (r : Result Refusal Fault)
+      → bytes_eq msg_type (codes "j") ≡ true → Gives says r (refusal_by business_reject_table42 fields stopped)
+      → IsReadAs r (refusal_message Client msg_type fields stopped)
+  unfolding any42
+  business42 says r test gives =
+      read_as says r (refusal_by business_reject_table42 fields stopped) _ gives (j42 test)
+
+  pub session50 : (says : Refusal → Message) (r : Result Refusal Fault)
+      → bytes_eq msg_type (codes "3") ≡ true → Gives says r (refusal_by session_reject_table50 fields stopped)
+      → IsReadAs r (refusal_message Venue msg_type fields stopped)
+  unfolding any50
+  session50 says r test gives =
+      read_as says r (refusal_by session_reject_table50 fields stopped) _ gives (three50 test)
+
+  pub business50 : (says : Refusal → Message) (r : Result Refusal Fault)
+      → bytes_eq msg_type (codes "j") ≡ true → Gives says r (refusal_by business_reject_table50 fields stopped)
+      → IsReadAs r (refusal_message Venue msg_type fields stopped)
+  unfolding any50
+  business50 says r test gives =
+      read_as says r (refusal_by business_reject_table50 fields stopped) _ gives (j50 test)
+
+  -- an answer that says what the table says
+  pub gives_eight : (r : Result VenueReport Fault) → bytes_eq msg_type (codes "8") ≡ true
+      → Gives says50 r (report_by report_table fields stopped)
+      → Gives says50 r (report_message msg_type fields stopped)
+  gives_eight r test gives =
+      let P : Result Message Fault → Type 0 = λ m. Gives says50 r m in
+      subst P (sym (eight test)) gives
+
+  pub gives_nine : (r : Result VenueReport Fault) → bytes_eq msg_type (codes "9") ≡ true
+      → Gives says50 r (report_by cancel_reject_table fields stopped)
+      → Gives says50 r (report_message msg_type fields stopped)
+  gives_nine r test gives =
+      let P : Result Message Fault → Type 0 = λ m. Gives says50 r m in
+      subst P (sym (nine test)) gives
+
+-- a fault, as the error that it is
+pub misread : (fields : List Field) (stopped : Option SplitFault) (fault : Fault)
+    (error : TranslateError) → error ≡ error_of_fault fault
+    → Tells fault (report_message (type_of fields) fields stopped) → IsMisread fields stopped error
+misread fields stopped fault error same told =
+    let P : TranslateError → Type 0 = λ e. IsMisread fields stopped e in
+    subst P (sym same) (by fault told)
+  where
+    by : (fault : Fault) → Tells fault (report_message (type_of fields) fields stopped)
+        → IsMisread fields stopped (error_of_fault fault)
+    by faults.NoMemory told = tt
+    by faults.NotSupported told = told
+    by (faults.Session tag reason) told = told
+    by (faults.NoCounterpart tag) told = told
+
+pub ruleset by_type = (gives_eight, gives_nine, no_report)
+
+pub ruleset refusals42 = (session42, business42, no_refusal)
+
+pub ruleset refusals50 = (session50, business50, no_refusal)

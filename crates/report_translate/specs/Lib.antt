@@ -1,0 +1,6 @@
+pub mod Reading
+pub mod Lack
+pub mod Translation
+pub mod Refusals
+pub mod Said
+pub mod Writing

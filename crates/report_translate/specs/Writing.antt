@@ -1,0 +1,105 @@
+-- Inside: what is known on the way from a body to its translation.
+use Rattle.std.specs.Prelude.{◌≡◌, ℕ, true, false, List, Option, Some, None, Result, Ok, Err}
+use Rattle.field_groups.specs.declared.fault.SplitFault.{SplitFault}
+use Rattle.field_groups.specs.Field.{Field}
+use Rattle.message_tables.specs.Tables.{Message}
+use Rattle.order_meaning.specs.Book.{Book}
+use Rattle.order_meaning.specs.declared.fault.Fault.{Fault}
+use Rattle.order_meaning.specs.declared.refusal.Refusal.{Refusal}
+use Rattle.row_values.specs.Gives.{Tells}
+use Rattle.reports_fix42.specs.Sense.{report42}
+use Rattle.reports_fix42.specs.Step.{step42}
+use Rattle.reports_fix50.specs.Sense.{report50}
+use Rattle.reports_fix50.specs.Step.{step50}
+use Rattle.translation.specs.declared.error.TranslateError.{TranslateError}
+use Rattle.translation.specs.declared.error.TranslateError.TheVariants as errors
+use Rattle.translation.specs.Header.{type_of}
+use Rattle.translation.specs.Writing.{IsWritten, IsUnwritten}
+use Rattle.report_translate.specs.declared.report.ClientReport.{ClientReport}
+use Rattle.report_translate.specs.declared.report.VenueReport.{VenueReport}
+use Rattle.report_translate.specs.Lack.{lack_of, lacks_codes}
+use Rattle.report_translate.specs.Reading.{report_message}
+use Rattle.report_translate.specs.Said.{says50, says42, IsReadable42, content42}
+use Rattle.report_translate.specs.Translation.{IsWrittenIn}
+
+-- a report of FIX 4.2 that means what one of FIX 5.0 SP2 means
+pub record Means (venue : VenueReport) (client : ClientReport) : Type 0 where
+  pub said : lack_of (says50 venue) ≡ None
+  pub codes : lacks_codes (says50 venue) ≡ false
+  pub readable : IsReadable42 client
+  pub written : IsWrittenIn (says50 venue) (says42 client) (content42 client)
+  pub means : report42 (says42 client) ≡ report50 (says50 venue)
+  pub books : (book : Book) → step42 book (says42 client) ≡ step50 book (says50 venue)
+
+-- why there is none
+abbrev pub IsUnsaid : VenueReport → TranslateError → Type 0
+IsUnsaid venue errors.NoMemory = Unit {0}
+IsUnsaid venue (errors.Lacking tag) = lack_of (says50 venue) ≡ Some tag
+IsUnsaid venue error = ⊥
+
+-- why a message has no codes of FIX 4.2
+abbrev pub LacksCodes : Message → TranslateError → Type 0
+LacksCodes m errors.NoMemory = Unit {0}
+LacksCodes m (errors.Lacking tag) = (tag ≡ 150) × (lacks_codes m ≡ true)
+LacksCodes m error = ⊥
+
+-- fields of a whole body are read as this report
+pub record AreRead
+    (fields : List Field) (stopped : Option SplitFault) (venue : VenueReport) : Type 0 where
+  pub whole : stopped ≡ None
+  pub read : report_message (type_of fields) fields None ≡ Ok (says50 venue)
+
+-- why they are not read
+abbrev pub IsMisread : List Field → Option SplitFault → TranslateError → Type 0
+IsMisread fields stopped errors.NoMemory = Unit {0}
+IsMisread fields stopped (errors.Faulty fault) =
+    report_message (type_of fields) fields stopped ≡ Err fault
+IsMisread fields stopped error = ⊥
+
+-- a report of FIX 4.2 that means what these fields mean
+pub record IsReportOf
+    (fields : List Field) (stopped : Option SplitFault) (client : ClientReport) : Type 0 where
+  pub venue : VenueReport
+  pub read : AreRead fields stopped venue
+  pub written : Means venue client
+
+-- why there is none
+abbrev pub Refuses : List Field → Option SplitFault → TranslateError → Type 0
+Refuses fields stopped (errors.Lacking tag) = (venue : VenueReport)
+    × AreRead fields stopped venue × (lack_of (says50 venue) ≡ Some tag)
+Refuses fields stopped error = IsMisread fields stopped error
+
+-- fields that are a report that has codes of FIX 4.2
+pub record IsCheckedOf (fields : List Field) (stopped : Option SplitFault) : Type 0 where
+  pub venue : VenueReport
+  pub read : AreRead fields stopped venue
+  pub codes : lacks_codes (says50 venue) ≡ false
+
+-- why they are none
+abbrev pub RefusesCheck : List Field → Option SplitFault → TranslateError → Type 0
+RefusesCheck fields stopped (errors.Lacking tag) = (tag ≡ 150) × (venue : VenueReport)
+    × AreRead fields stopped venue × (lacks_codes (says50 venue) ≡ true)
+RefusesCheck fields stopped error = IsMisread fields stopped error
+
+-- a body that stands for the fields of a body
+pub record IsDownOf
+    (fields : List Field) (stopped : Option SplitFault) (down : List ℕ) : Type 0 where
+  pub client : ClientReport
+  pub told : IsReportOf fields stopped client
+  pub written : IsWritten fields (content42 client) down
+
+-- a report whose translation is too long
+pub record IsLongOf (fields : List Field) (stopped : Option SplitFault) : Type 0 where
+  pub client : ClientReport
+  pub told : IsReportOf fields stopped client
+  pub long : IsUnwritten fields (content42 client) errors.TooLong
+
+-- why there is none
+abbrev pub RefusesDown : List Field → Option SplitFault → TranslateError → Type 0
+RefusesDown fields stopped errors.TooLong = IsLongOf fields stopped
+RefusesDown fields stopped error = Refuses fields stopped error
+
+-- what an answer of a reading says of the refusal that fields are: there is one, or its first fault
+abbrev pub IsReadAs : Result Refusal Fault → Result Message Fault → Type 0
+IsReadAs (Ok refusal) message = (m : Message) × (message ≡ Ok m)
+IsReadAs (Err fault) message = Tells fault message

@@ -1,0 +1,83 @@
+//! Translating the body of a report of FIX 5.0 SP2 to FIX 4.2.
+
+ghost use Rattle.std.specs.Prelude.{◌≡◌, ◌++◌, ℕ, List, IfErr, OnOk, OnErr, None};
+ghost use Rattle.field_groups.specs.Field.{Field, AreFields};
+ghost use Rattle.report_translate.specs.Translation.{IsKnown, IsTranslation, IsRefused};
+ghost use Rattle.report_translate.specs.Translation.{IsRefusedByCheck};
+ghost use Rattle.report_translate.specs.Writing.{IsDownOf, RefusesDown};
+
+use crate::report::{check, down, write_body};
+use field_groups::{Split, split};
+use frame_grammar::{FrameError, Kind, write_frame};
+use std::alloc::Global;
+use translation::TranslateError;
+
+/// Writes to `body`, in place of what it has, the body that stands for the fields of a body.
+fn write_down(alloc: Global, split: &Split<'_>, body: &mut Vec<u8>) -> Result<(), TranslateError>
+    requires { AreFields None split.now.fields }
+    ensures ok { OnOk result (IsDownOf split.now.fields split.now.fault body.new.items) }
+    ensures refused { IfErr result (RefusesDown split.now.fields split.now.fault) }
+{
+    let report = down(alloc, split)?;
+    write_body(&split.fields, &report, body)
+}
+
+/// Translates bodies of reports. It keeps the memory for one body from each call to the next.
+#[derive(Debug, Drop)]
+pub struct ReportTranslator {
+    alloc: Global,
+    down: Vec<u8>,
+}
+
+impl ReportTranslator {
+    /// A translator, which takes its memory by `alloc`, and none yet.
+    pub fn new(alloc: Global) -> ReportTranslator {
+        ReportTranslator {
+            alloc,
+            down: Vec::new(alloc),
+        }
+    }
+
+    /// Appends to `out` the FIX 4.2 frame of the report that means what a body of FIX 5.0 SP2
+    /// means, and changes each book alike.
+    ///
+    /// The body is that of an Execution Report(8) or an Order Cancel Reject(9). The frame has its
+    /// MsgType(35), of its header the fields 49, 56, 34, 43, 97, 52 and 122 that it has, as they
+    /// stand and in this order, and then the content that means the same, with ExecTransType(20),
+    /// ExecType(150), OrdStatus(39) and ExecID(17) by the mapping. It has at most 8,218 bytes.
+    ///
+    /// # Errors
+    ///
+    /// `Faulty` for the first fault of the body; `Lacking(150)` where its ExecType(150) has no
+    /// counterpart, and `Lacking(41)` where a cancel reject says no OrigClOrdID(41); `TooLong`
+    /// where the content would have more than 7,936 bytes or the body more than 8,192, each
+    /// exactly there; `NoMemory` for want of memory. `out` is then as it was.
+    pub fn translate(&mut self, body: &[u8], out: &mut Vec<u8>) -> Result<(), TranslateError>
+        ensures ok { OnOk result ((text : List ℕ)
+            × IsTranslation body.now text × (out.new.items ≡ out.old.items ++ text)) }
+        ensures refused { IfErr result (IsRefused body.now) }
+        ensures err { OnErr result (out.new.items ≡ out.old.items) }
+    {
+        let split = split(self.alloc, body)?;
+        write_down(self.alloc, &split, &mut self.down)?;
+        match write_frame(Kind::Fix42, &self.down, out) {
+            Ok(()) => Ok(()),
+            Err(FrameError::NoMemory) => Err(TranslateError::NoMemory),
+            Err(FrameError::TooLong) => unreachable!(),
+        }
+    }
+
+    /// Whether a body of FIX 5.0 SP2 has a translation, of whatever length, where the order is
+    /// known that a cancel reject is of.
+    ///
+    /// # Errors
+    ///
+    /// `Faulty` and `Lacking(150)` as `translate` has them; `NoMemory` for want of memory.
+    pub fn check(&self, body: &[u8]) -> Result<(), TranslateError>
+        ensures ok { OnOk result ((fields : List Field) × IsKnown body.now fields) }
+        ensures refused { IfErr result (IsRefusedByCheck body.now) }
+    {
+        let split = split(self.alloc, body)?;
+        check(self.alloc, &split)
+    }
+}
