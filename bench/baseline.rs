@@ -1,7 +1,10 @@
-//! The baseline of the benchmark: `translate up` and `check client` in plain Rust over std alone,
-//! unproved, with the same rules, the same reads of 4,096 bytes and the same output. It was written
-//! from the documents and definitions and not from the program's code, so it is also what the
-//! program is compared with. Build it with `rustc -O`.
+//! The baseline of the benchmark: `translate` and `check` in plain Rust over std alone, unproved,
+//! with the same rules, the same reads of 4,096 bytes and the same output. It was written from the
+//! documents and definitions and not from the program's code, so it is also what the program is
+//! compared with. Build it with `rustc -O`.
+mod reports;
+
+use reports::Report;
 use std::fs::File;
 use std::io::{self, Read, Write};
 use std::ops::Range;
@@ -49,8 +52,8 @@ fn sum_digits(sum: u8) -> [u8; 3] {
 }
 
 /// The place and the length of the body of the frame that begins a text.
-fn scan(text: &[u8]) -> Result<(usize, usize), Stop> {
-    let at = behind(text, 0, b"8=FIX.4.2\x01", BeginString)?;
+fn scan(text: &[u8], begin: &[u8]) -> Result<(usize, usize), Stop> {
+    let at = behind(text, 0, begin, BeginString)?;
     let first = behind(text, at, b"9=", LengthField)?;
     let (mut at, mut len) = (first, 0);
     while *text.get(at).ok_or(None)? != SOH || at == first {
@@ -90,6 +93,7 @@ struct Piece(u64, u64, Result<Range<usize>, Garble>);
 
 #[derive(Default)]
 struct Framer {
+    begin: &'static [u8],
     buffer: Vec<u8>,
     start: usize,
     at: u64,
@@ -127,7 +131,7 @@ impl Framer {
         if let Some((at, dropped, cause)) = self.lost {
             return self.lose(at, dropped, cause, 0);
         }
-        match scan(&self.buffer[self.start..]) {
+        match scan(&self.buffer[self.start..], self.begin) {
             Err(None) => None,
             Err(Some(cause)) => self.lose(self.at, 0, cause, 1),
             Ok((start, body)) => {
@@ -235,7 +239,7 @@ static LENGTHS: [u32; 640] = {
 // ---- values
 
 #[rustfmt::skip]
-enum Mark { Good, Outside, Wrong(u32), Opens }
+enum Mark { Good, Drops, Outside, Wrong(u32), Opens }
 use Mark::*;
 
 const EMPTY: u32 = 4;
@@ -385,12 +389,12 @@ impl Span {
 
 #[derive(Clone, Copy, PartialEq)]
 #[rustfmt::skip]
-enum Finding { Session, Unread, Fine, Reason(u32, u32), NoCounterpart(u32), NotSupported }
+enum Finding { Session, Fine, Reason(u32, u32), NoCounterpart(u32), NotSupported }
 use Finding::*;
 
 #[derive(Clone, Copy, PartialEq, PartialOrd)]
 #[rustfmt::skip]
-enum Stage { Twice, Order, Value, Missing, Counterpart, None }
+enum Stage { Twice, Version, Order, Value, Missing, Counterpart, None }
 
 /// The first fault so far, by its stage and its place in the message.
 struct First(Stage, usize, Finding);
@@ -516,7 +520,7 @@ impl Request {
             seen |= set;
             self.fields[slot] = span;
             match judge(&ROWS[slot].1, value) {
-                Good => {}
+                Good | Drops => {}
                 Outside => first.keep(Stage::Counterpart, at, NoCounterpart(tag)),
                 Wrong(reason) => first.keep(Stage::Value, at, Reason(tag, reason)),
                 Opens => self.open = Some((tag, at, number_in(value))),
@@ -668,44 +672,78 @@ fn column_of(kind: &[u8]) -> Option<usize> {
     b"DFGH".iter().position(|letter| kind == [*letter])
 }
 
-/// Appends the frame of FIXT 1.1 that stands for a body, where there is one.
-fn translate(body: &[u8], request: &mut Request, up: &mut Vec<u8>, out: &mut Vec<u8>) -> bool {
-    let Some(column) = column_of(msg_type(body)) else { return false };
-    if request.read(body, column) != Fine || !request.write(body, up) {
-        return false;
-    }
-    let start = out.len();
-    out.extend_from_slice(b"8=FIXT.1.1\x01");
-    push_number(out, b"9=", up.len() as u64, b"\x01");
-    out.extend_from_slice(up);
-    let sum = sum_digits(sum_of(&out[start..]));
-    push_field(out, b"10=", &sum);
-    true
+/// What is done to a stream of frames.
+#[derive(Clone, Copy, PartialEq)]
+#[rustfmt::skip]
+enum Task { TranslateUp, TranslateDown, CheckClient, CheckVenue }
+use Task::*;
+
+const BEGIN_42: &[u8] = b"8=FIX.4.2\x01";
+const BEGIN_50: &[u8] = b"8=FIXT.1.1\x01";
+
+/// What reads the messages of both sides, and writes their translations.
+struct Reader {
+    request: Request,
+    report: Report,
+    written: Vec<u8>,
 }
 
-/// Appends the line of a frame, and answers whether it is refused.
-fn check(at: u64, len: u64, body: &[u8], request: &mut Request, out: &mut Vec<u8>) -> bool {
-    let kind = msg_type(body);
-    let finding = match kind {
-        b"0" | b"1" | b"2" | b"4" | b"5" | b"A" => Session,
-        b"8" | b"9" | b"3" | b"j" => Unread,
-        _ => column_of(kind).map_or(NotSupported, |column| request.read(body, column)),
-    };
-    push_number(out, b"", at, b" frame ");
-    push_number(out, b"", len, b" ");
-    out.extend_from_slice(kind);
-    match finding {
-        Session => out.extend_from_slice(b" session\n"),
-        Unread => out.extend_from_slice(b" unread\n"),
-        Fine => out.extend_from_slice(b" ok\n"),
-        Reason(tag, reason) => {
-            push_number(out, b" tag ", tag.into(), b" reason ");
-            push_number(out, b"", reason.into(), b"\n");
+impl Reader {
+    /// Appends the frame that stands for a body, where there is one.
+    fn translate(&mut self, task: Task, body: &[u8], out: &mut Vec<u8>) -> bool {
+        let kind = msg_type(body);
+        let (begin, is_written) = if task == TranslateUp {
+            let Some(column) = column_of(kind) else { return false };
+            let is_good = self.request.read(body, column) == Fine;
+            (BEGIN_50, is_good && self.request.write(body, &mut self.written))
+        } else {
+            let Some(column @ (0 | 1)) = reports::column_of(kind, true) else { return false };
+            let is_good = self.report.read(body, column) == Fine;
+            (BEGIN_42, is_good && self.report.write(body, column, &mut self.written))
+        };
+        if is_written {
+            let start = out.len();
+            out.extend_from_slice(begin);
+            push_number(out, b"9=", self.written.len() as u64, b"\x01");
+            out.extend_from_slice(&self.written);
+            let sum = sum_digits(sum_of(&out[start..]));
+            push_field(out, b"10=", &sum);
         }
-        NoCounterpart(tag) => push_number(out, b" tag ", tag.into(), b" no counterpart\n"),
-        NotSupported => out.extend_from_slice(b" not supported\n"),
+        is_written
     }
-    !matches!(finding, Session | Unread | Fine)
+
+    fn find(&mut self, task: Task, body: &[u8]) -> Finding {
+        let kind = msg_type(body);
+        if matches!(kind, b"0" | b"1" | b"2" | b"4" | b"5" | b"A") {
+            return Session;
+        }
+        if let Some(column) = reports::column_of(kind, task == CheckVenue) {
+            return self.report.read(body, column);
+        }
+        match column_of(kind) {
+            Some(column) if task == CheckClient => self.request.read(body, column),
+            _ => NotSupported,
+        }
+    }
+
+    /// Appends the line of a frame, and answers whether it is refused.
+    fn check(&mut self, task: Task, at: u64, len: u64, body: &[u8], out: &mut Vec<u8>) -> bool {
+        let finding = self.find(task, body);
+        push_number(out, b"", at, b" frame ");
+        push_number(out, b"", len, b" ");
+        out.extend_from_slice(msg_type(body));
+        match finding {
+            Session => out.extend_from_slice(b" session\n"),
+            Fine => out.extend_from_slice(b" ok\n"),
+            Reason(tag, reason) => {
+                push_number(out, b" tag ", tag.into(), b" reason ");
+                push_number(out, b"", reason.into(), b"\n");
+            }
+            NoCounterpart(tag) => push_number(out, b" tag ", tag.into(), b" no counterpart\n"),
+            NotSupported => out.extend_from_slice(b" not supported\n"),
+        }
+        !matches!(finding, Session | Fine)
+    }
 }
 
 /// How a run ends that is not done: the exit code, and the line of the status.
@@ -715,17 +753,20 @@ fn fault(code: u8, line: &str) -> impl Fn(io::Error) -> End + '_ {
     move |_| End(code, line.into())
 }
 
-fn run(is_check: bool) -> Result<(), End> {
+fn run(task: Task) -> Result<(), End> {
+    let is_check = matches!(task, CheckClient | CheckVenue);
     let (input_fault, output_fault) = (fault(4, "input fault"), fault(5, "output fault"));
     // The files themselves, since std's handles read 8,192 bytes at a time and write by lines.
     let input = io::stdin().as_fd().try_clone_to_owned().map_err(&input_fault)?;
     let output = io::stdout().as_fd().try_clone_to_owned().map_err(&output_fault)?;
     let (mut input, mut output) = (File::from(input), File::from(output));
-    let mut framer = Framer { buffer: Vec::with_capacity(CAPACITY), ..Framer::default() };
+    let begin = if matches!(task, TranslateUp | CheckClient) { BEGIN_42 } else { BEGIN_50 };
+    let mut framer = Framer { begin, buffer: Vec::with_capacity(CAPACITY), ..Framer::default() };
     let fields = [Span::default(); ROWS.len()];
     let (allocs, sessions) = (Vec::new(), Vec::new());
-    let mut request = Request { seen: 0, fields, allocs, sessions, open: None };
-    let (mut up, mut text) = (Vec::new(), Vec::new());
+    let request = Request { seen: 0, fields, allocs, sessions, open: None };
+    let mut reader = Reader { request, report: Report::new(), written: Vec::new() };
+    let mut text = Vec::new();
     let mut chunk = [0; CHUNK];
     let (mut taken, mut first_refused) = (0, None);
     loop {
@@ -743,9 +784,9 @@ fn run(is_check: bool) -> Result<(), End> {
         while let Some(Piece(at, len, body)) = framer.next() {
             let is_refused = match body {
                 Ok(body) if is_check => {
-                    check(at, len, &framer.buffer[body], &mut request, &mut text)
+                    reader.check(task, at, len, &framer.buffer[body], &mut text)
                 }
-                Ok(body) => !translate(&framer.buffer[body], &mut request, &mut up, &mut text),
+                Ok(body) => !reader.translate(task, &framer.buffer[body], &mut text),
                 Err(cause) => {
                     if is_check {
                         let _ = writeln!(text, "{at} garbled {len} {cause:?}");
@@ -783,8 +824,10 @@ fn run(is_check: bool) -> Result<(), End> {
 fn main() -> ExitCode {
     let words: Vec<String> = std::env::args().skip(1).collect();
     let ended = match words.iter().map(String::as_str).collect::<Vec<_>>()[..] {
-        ["translate", "up"] => run(false),
-        ["check", "client"] => run(true),
+        ["translate", "up"] => run(TranslateUp),
+        ["translate", "down"] => run(TranslateDown),
+        ["check", "client"] => run(CheckClient),
+        ["check", "venue"] => run(CheckVenue),
         _ => Err(End(2, "usage".into())),
     };
     let Err(End(code, line)) = ended else { return ExitCode::SUCCESS };

@@ -1,13 +1,16 @@
-"""Order requests of FIX 4.2 made from a seed: those of the timed streams, and those of --compare.
+"""Order requests of FIX 4.2 and reports of FIX 5.0 SP2 made from a seed: those of the timed
+streams, and those of --compare, with refusals of both sides.
 
-A request is a list of fields, each a pair of bytes: a tag, and a value. What stops the fields of a
+A message is a list of fields, each a pair of bytes: a tag, and a value. What stops the fields of a
 body is a pair whose tag is all of it and whose value is None.
 """
+import collections
 import random
 
 # A line of docs/REQUESTS.md for each field: its tag, the kind of its values, and what D, F, G and H
-# say of it. A group has its count here; GROUPS has what stands in its lines.
-TABLE = """
+# say of it; then those of a refusal by the client. A group has its count here; GROUPS has what
+# stands in its lines.
+REQUESTS = """
 11 id RRRR      41 id -RR-     37 id -ooo        109 id oooo      76 id oooo       439 id o-o-
 1 id oooo       78 group o-o-  63 0123456789 o-o-  64 day o-o-    21 123 R-R-      18 some o-o-
 110 qty o-o-    111 qty o-o-   100 id o-o-       386 group o-o-   55 id RRRR       65 id oooo
@@ -15,15 +18,56 @@ TABLE = """
 54 123456 RRRR  114 flag o-o-  60 stamp RRR-     38 qty RoR-      40 12345B R-R-   44 price o-o-
 99 price o-o-   15 money o-o-  59 0123456 o-o-   168 stamp o-o-   432 day o-o-     126 stamp o-o-
 47 byte o-o-    77 OC o-o-     58 text ooo-
-""".split()
-ROWS = [(tag.encode(), kind, dict(zip("DFGH", needs)))
-        for tag, kind, needs in zip(TABLE[::3], TABLE[1::3], TABLE[2::3])]
-KINDS = {tag: kind for tag, kind, _ in ROWS}
+"""
+REFUSALS = """
+45 number RR    371 number o-  372 id oR       373 number o-     379 id -o         380 number -R
+58 text oo
+"""
+
+# The same of docs/REPORTS.md: what 8, 9, 3 and j say of each field.
+REPORTS = """
+37 id RR--      198 id oo--    11 id oR--      41 id oR--        453 group o---    382 group o---
+17 id R---      19 id o---     150 FFFFFF000345678GHILABCDE R---  39 000111246AE RR--
+103 reason o--- 378 reason o--- 1 id oo--      63 0123456789 o--- 64 day o---      55 id R---
+65 id o---      48 id o---     22 123456789 o---  167 word o---   200 month o---    541 day o---
+207 id o---     54 123456 R--- 38 qty o---     40 1234 o---      44 price o---     99 price o---
+15 money o---   59 01234567 o---  432 day o--- 126 stamp o---    528 AIP o---      32 qty o---
+31 price o---   30 id o---     151 qty R---    14 qty R---       6 price R---      75 day o---
+60 stamp oo--   110 qty o---   1138 qty o---   434 12 -R--       102 reason -o--   45 number --Ro
+371 number --o- 372 id --oR    373 number --o- 379 id ---o       380 number ---R   58 text oooo
+"""
+
+
+def rows_of(table, kinds):
+    words = table.split()
+    return [(tag.encode(), kind, dict(zip(kinds, needs)))
+            for tag, kind, needs in zip(words[::3], words[1::3], words[2::3])]
+
+
+# What a side sends: how a frame begins, its table, and the groups of it: by the tag of a count that
+# of the field that begins a line, and those of the others with their chances.
+Side = collections.namedtuple("Side", "begin rows kinds header_tags groups members codes")
 HEADER = [b"49", b"56", b"34", b"52"]
 HEADER_TAGS = [b"49", b"56", b"34", b"43", b"97", b"52", b"122", b"35", b"50", b"57", b"142",
                b"143", b"347", b"369"]
-GROUPS = {b"78": (b"79", b"80"), b"386": (b"336", None)}
-MEMBERS = {b"79": "id", b"80": "qty", b"336": "id"}
+CODES = [b"", b"0", b"7", b"9", b"B", b"12", b" 1", b"1 ", b"a", b"C", b"OC"]
+
+
+def side_of(begin, rows, header_tags, groups, members, codes):
+    kinds = {tag: kind for tag, kind, _ in rows}
+    return Side(begin, rows, kinds, header_tags, groups, members, codes)
+
+
+CLIENT = side_of(b"8=FIX.4.2", rows_of(REQUESTS, "DFGH"), HEADER_TAGS,
+                 {b"78": (b"79", {b"80": 0.7}), b"386": (b"336", {})},
+                 {b"79": "id", b"80": "qty", b"336": "id"}, CODES)
+CLIENT_REFUSALS = CLIENT._replace(rows=rows_of(REFUSALS, "3j"))
+VENUE = side_of(b"8=FIXT.1.1", rows_of(REPORTS, "893j"), HEADER_TAGS + [b"1128"],
+                {b"453": (b"448", {b"447": 0.9, b"452": 1, b"802": 0.05}),
+                 b"382": (b"375", {b"337": 0.5, b"437": 0.5, b"438": 0.5, b"655": 0.05})},
+                {b"448": "id", b"447": "D", b"452": "role", b"802": "id", b"375": "id",
+                 b"337": "id", b"437": "qty", b"438": "stamp", b"655": "id"},
+                CODES + [b"1", b"6", b"E", b"F", b"G", b"H", b"I", b"J", b"K", b"L", b"M"])
 
 # Values as clients write them, and good ones that few write.
 USUAL = {
@@ -40,6 +84,9 @@ USUAL = {
     "flag": [b"Y", b"N"],
     "byte": [b"A", b"I", b"P"],
     "word": [b"CS", b"PS", b"FUT"],
+    "number": [b"2", b"41", b"1007"],
+    "reason": [b"0", b"1", b"3", b"99"],
+    "role": [b"1", b"3", b"4", b"17"],
 }
 RARE = {
     "id": [b"x" * 128, b" ", b"=", b"\xff\x80", b"8=FIX.4.2"],
@@ -55,6 +102,9 @@ RARE = {
     "month": [b"202402", b"000001", b"202302", b"999912", b"190002"],
     "dom": [b"1", b"01", b"28", b"29", b"30", b"31", b"9"],
     "money": [b"XXX", b"ZZZ"],
+    "number": [b"0", b"0002", b"1000000000", b"0000000001"],
+    "reason": [b"0099", b"4", b"5", b"6", b"8", b"9", b"9999", b"0000000008"],
+    "role": [b"03", b"0", b"1000000000", b"001"],
 }
 # Values that are empty, of wrong form, out of range, or outside the profile.
 BAD = {
@@ -78,6 +128,9 @@ BAD = {
     "flag": [b"", b"y", b"YN", b"1"],
     "byte": [b"", b"AA", b"J", b"a", b" ", b"Z", b"\xff"],
     "word": [b"", b"C", b"CSX", b"cs", b"OPT", b"FUTX"],
+    "number": [b"", b"x", b"-1", b"1000000001", b"9999999999", b"00000000001", b"1.", b" 1"],
+    "reason": [b"", b"x", b"-1", b"10000", b"9999999999", b"00000000001", b"1.", b" 1"],
+    "role": [b"", b"x", b"-1", b"1000000001", b"00000000001", b"1.", b" 1"],
 }
 BAD["price"] = [value for value in BAD["qty"] if not value.startswith(b"-")] + [b"-", b"-x"]
 COUNTS = [b"", b"0", b"00", b"1", b"01", b"2", b"3", b"32", b"33", b"x", b"-1", b"1.",
@@ -102,6 +155,10 @@ OTHERS = [b"0", b"1", b"2", b"3", b"4", b"5", b"6", b"7", b"8", b"9", b"A", b"B"
           b"j", b"AE", b"DD", b"D ", b"DF", b"\xc3\xa9", b"=", b"35=D"]
 
 
+# What a trade, a correction and a bust say besides.
+NEEDED = {b"F": (b"32", b"31"), b"G": (b"19", b"32", b"31"), b"H": (b"19",)}
+
+
 def body_of(kind, fields):
     text = bytearray(b"35=%s\x01" % kind)
     for tag, value in fields:
@@ -109,8 +166,8 @@ def body_of(kind, fields):
     return bytes(text)
 
 
-def frame(body):
-    text = b"8=FIX.4.2\x019=%d\x01" % len(body) + body
+def frame(body, side=CLIENT):
+    text = b"%s\x019=%d\x01" % (side.begin, len(body)) + body
     return text + b"10=%03d\x01" % (sum(text) % 256)
 
 
@@ -121,29 +178,31 @@ def value_of(draw, tag, kind, rare=0.0):
     return draw.choice(USUAL[kind]) if kind in USUAL else draw.choice(kind).encode()
 
 
-def group_of(draw, count, lines, rare=0.0):
-    first, other = GROUPS[count]
+def group_of(draw, side, count, lines, rare=0.0):
+    first, others = side.groups[count]
     fields = [(count, b"%d" % lines)]
     for _ in range(lines):
-        fields.append((first, value_of(draw, first, MEMBERS[first], rare)))
-        if other and draw.random() < 0.7:
-            fields.append((other, value_of(draw, other, MEMBERS[other], rare)))
+        fields.append((first, value_of(draw, first, side.members[first], rare)))
+        for other, chance in others.items():
+            if chance == 1 or draw.random() < chance:
+                fields.append((other, value_of(draw, other, side.members[other], rare)))
     return fields
 
 
-def request(draw, kind, number, share, grouped=0.0, rare=0.0):
-    """The fields of a request in pieces that stay together: its required fields, and each other
+def message(draw, side, kind, number, share, grouped=0.0, rare=0.0):
+    """The fields of a message in pieces that stay together: its required fields, and each other
     with a chance of this share; each group with its own."""
     pieces = [[(b"49", b"CLNT")], [(b"56", b"GATE")], [(b"34", b"%d" % number)],
               [(b"52", b"20240102-10:00:00")]]
     on_close = False
-    for tag, form, needs in ROWS:
+    needed = ()
+    for tag, form, needs in side.rows:
         need = needs[kind]
         chance = grouped if form == "group" else share
-        if need == "-" or (need == "o" and draw.random() >= chance):
+        if need == "-" or (need == "o" and tag not in needed and draw.random() >= chance):
             continue
         if form == "group":
-            pieces.append(group_of(draw, tag, draw.randint(1, 4), rare))
+            pieces.append(group_of(draw, side, tag, draw.randint(1, 4), rare))
             continue
         if tag == b"205" and pieces[-1][0][0] != b"200":
             continue
@@ -151,6 +210,10 @@ def request(draw, kind, number, share, grouped=0.0, rare=0.0):
         on_close = on_close or (tag == b"40" and value in (b"5", b"B"))
         if tag == b"59" and on_close:
             value = b"0"
+        if tag == b"150":
+            needed = NEEDED.get(value, ())
+            if b"19" in needed and b"19" not in [piece[0][0] for piece in pieces]:
+                pieces.append([(b"19", b"E%d" % number)])
         pieces.append([(tag, value)])
     return pieces
 
@@ -180,30 +243,43 @@ def good_requests(seed, size):
     half of them D, a fifth each F and G, a tenth H. Two thirds of them have few fields and a third
     most; one in ten of D and G has accounts, and one in ten sessions; a third of D and G is on
     close."""
-    return requests(seed, size, False)
+    return messages(seed, size, CLIENT, "DDDDDFFGGH", "")
 
 
 def mixed_requests(seed, size):
     """The same, but one in eight has a change that is a fault in most, of any stage, and one in
     eight is a Heartbeat or of another type that is no order request."""
-    return requests(seed, size, True)
+    return messages(seed, size, CLIENT, "DDDDDFFGGH", ["0", "0", "8", "AE"])
 
 
-def requests(seed, size, faulty):
+def good_reports(seed, size):
+    """Frames of a mix of reports, of this many bytes together or a little more, and their number:
+    nine of ten are 8 and the others 9. Two thirds of them have few fields and a third most; one in
+    ten of 8 has parties, and one in ten contra brokers."""
+    return messages(seed, size, VENUE, "8888888889", "")
+
+
+def mixed_reports(seed, size):
+    """The same, but one in eight has a change that is a fault in most, of any stage, and one in
+    eight is a Heartbeat or of another type that is no report."""
+    return messages(seed, size, VENUE, "8888888889", ["0", "0", "D", "AE"])
+
+
+def messages(seed, size, side, kinds, others):
     draw = random.Random(seed)
     stream, count = bytearray(), 0
     while len(stream) < size:
         count += 1
-        kind = draw.choice("DDDDDFFGGH")
+        kind = draw.choice(kinds)
         share = 0.05 if draw.random() < 0.66 else 0.8
-        fields = flat(request(draw, kind, count, share, 0.1))
+        fields = flat(message(draw, side, kind, count, share, 0.1))
         name = kind.encode()
-        chance = draw.random() if faulty else 1
+        chance = draw.random() if others else 1
         if chance < 0.125:
-            fields = broken(draw, kind, fields)
+            fields = broken(draw, side, fields)
         elif chance < 0.25:
-            name = draw.choice([b"0", b"0", b"8", b"AE"])
-        stream += frame(body_of(name, fields))
+            name = draw.choice(others).encode()
+        stream += frame(body_of(name, fields), side)
     return bytes(stream), count
 
 
@@ -213,29 +289,30 @@ def somewhere(draw, fields):
     return draw.randint(0, len(fields))
 
 
-def stopped(draw, kind, fields):
+def stopped(draw, side, fields):
     piece = draw.choice(STOPS if draw.random() < 0.3 else DATA)
     fields.insert(somewhere(draw, fields), (piece, None))
 
 
-def crowded(draw, kind, fields):
+def crowded(draw, side, fields):
     """So many fields that there are 255 to 257, of tags with or without a row."""
     at = somewhere(draw, fields)
     lacking = draw.choice([255, 256, 256, 257]) - 1 - len(fields)
     fields[at:at] = [draw.choice([(b"7000", b"x"), (b"58", b"t")])] * lacking
 
 
-def twice(draw, kind, fields):
+def twice(draw, side, fields):
     tag, value = draw.choice(fields)
     if draw.random() < 0.3:
-        tag = draw.choice(HEADER_TAGS)
+        tag = draw.choice(side.header_tags)
     fields.insert(somewhere(draw, fields), (tag, draw.choice([value, b"", b"1"])))
 
 
-def miscounted(draw, kind, fields):
-    counts = [i for i, (tag, _) in enumerate(fields) if tag in GROUPS]
+def miscounted(draw, side, fields):
+    counts = [i for i, (tag, _) in enumerate(fields) if tag in side.groups]
     if not counts:
-        added = group_of(draw, draw.choice([b"78", b"386"]), draw.choice([0, 1, 2, 3, 32, 33, 34]))
+        added = group_of(draw, side, draw.choice(list(side.groups)),
+                         draw.choice([0, 1, 2, 3, 32, 33, 34]))
         at = somewhere(draw, fields)
         fields[at:at] = added
         counts = [at]
@@ -244,32 +321,32 @@ def miscounted(draw, kind, fields):
         fields[at] = (fields[at][0], draw.choice(COUNTS))
 
 
-def misplaced(draw, kind, fields):
+def misplaced(draw, side, fields):
     """A member of a group somewhere, often in or beside a group."""
     near = [i + draw.randint(0, 3) for i, (tag, _) in enumerate(fields)
-            if tag in GROUPS or tag in MEMBERS]
+            if tag in side.groups or tag in side.members]
     at = draw.choice(near) if near and draw.random() < 0.8 else somewhere(draw, fields)
-    tag = draw.choice(list(MEMBERS))
+    tag = draw.choice(list(side.members))
     fields.insert(at, (tag, draw.choice([b"", b"7", b"A", b"-1"])))
 
 
-def misvalued(draw, kind, fields):
+def misvalued(draw, side, fields):
     """Another value of a field: one at fault or outside the profile, or just a rare one."""
     at = draw.randrange(len(fields))
     tag, value = fields[at]
-    form = KINDS.get(tag) or MEMBERS.get(tag)
+    form = side.kinds.get(tag) or side.members.get(tag)
     if form is None or form == "group":
         value = draw.choice([b"", b"Y", b"N", b"x", b"YY"])
     elif form in BAD:
         value = draw.choice(BAD[form] + RARE.get(form, []))
     else:
-        value = draw.choice([b"", b"0", b"7", b"9", b"B", b"12", b" 1", b"1 ", b"a", b"C", b"OC"])
+        value = draw.choice(side.codes)
     fields[at] = (tag, value)
 
 
-def added(draw, kind, fields):
+def added(draw, side, fields):
     """One more field of the table, good or not, of this message or of another."""
-    tag, form, _ = draw.choice(ROWS)
+    tag, form, _ = draw.choice(side.rows)
     good = draw.random() < 0.6 or form not in BAD
     if form == "group":
         value = draw.choice(COUNTS)
@@ -278,16 +355,16 @@ def added(draw, kind, fields):
     fields.insert(somewhere(draw, fields), (tag, value))
 
 
-def missing(draw, kind, fields):
+def missing(draw, side, fields):
     del fields[draw.randrange(len(fields))]
 
 
-def unknown(draw, kind, fields):
+def unknown(draw, side, fields):
     value = draw.choice([b"", b"x", b"1", b"x", b"D"])
     fields.insert(somewhere(draw, fields), (draw.choice(UNKNOWN), value))
 
 
-def lacking(draw, kind, fields):
+def lacking(draw, side, fields):
     """An order on close beside some TimeInForce, or some Rule80A."""
     values = {b"40": draw.choice([b"5", b"B", b"2"]), b"59": draw.choice([b"0", b"3", b"6", b"7"]),
               b"47": draw.choice([b"A", b"I", b"P", b"J", b"a", b"AA"])}
@@ -296,15 +373,16 @@ def lacking(draw, kind, fields):
         fields.insert(somewhere(draw, fields), (tag, values[tag]))
 
 
-def maturing(draw, kind, fields):
-    """A month and a day of a month, either of which may be none."""
-    fields[:] = [field for field in fields if field[0] not in (b"200", b"205")]
-    for tag, form in draw.sample([(b"200", "month"), (b"205", "dom")], draw.randint(1, 2)):
+def maturing(draw, side, fields):
+    """A month and its day, or a date, either of which may be none."""
+    fields[:] = [field for field in fields if field[0] not in (b"200", b"205", b"541")]
+    other = (b"205", "dom") if side is CLIENT else (b"541", "day")
+    for tag, form in draw.sample([(b"200", "month"), other], draw.randint(1, 2)):
         value = draw.choice(BAD[form] + 3 * RARE[form])
         fields.insert(somewhere(draw, fields), (tag, value))
 
 
-def swapped(draw, kind, fields):
+def swapped(draw, side, fields):
     i, j = draw.randrange(len(fields)), draw.randrange(len(fields))
     fields[i], fields[j] = fields[j], fields[i]
 
@@ -313,10 +391,10 @@ FAULTS = [stopped, twice, miscounted, misplaced, misvalued, misvalued, added, mi
           lacking, maturing, swapped]
 
 
-def broken(draw, kind, fields):
+def broken(draw, side, fields):
     """The fields with one change that is a fault in most of them."""
     fields = list(fields)
-    draw.choice(FAULTS)(draw, kind, fields)
+    draw.choice(FAULTS)(draw, side, fields)
     return fields
 
 
@@ -337,11 +415,12 @@ def scratched(draw, body):
     return bytes(text)
 
 
-def long_body(draw, number):
+def long_request(draw, number):
     """A good body whose translation is about as long as one may be: its content has about 7,936
     bytes, which is as many as here, or its body about 8,192, which is 18 more than here."""
     kind = draw.choice("DG")
-    fields = [field for field in flat(request(draw, kind, number, 0.0)) if field[0] != b"40"]
+    fields = [field for field in flat(message(draw, CLIENT, kind, number, 0.0))
+              if field[0] != b"40"]
     fields.append((b"40", b"2"))
     header = len(body_of(kind.encode(), fields[:len(HEADER)]))
     near = draw.choice([-200, -1, 0, 1, 200])
@@ -357,27 +436,60 @@ def long_body(draw, number):
     return body_of(kind.encode(), fields)
 
 
-def any_body(draw, number):
-    """A body of any kind: good or at fault, with up to three faults."""
+def long_report(draw, number):
+    """The same of a report; each becomes one with 5 bytes more, ExecTransType."""
+    ids = [(tag, b"x" * 5) for tag in (b"37", b"11", b"41", b"17", b"55")]
+    fields = [(tag, b"H") for tag in HEADER] + ids
+    fields += [(b"150", b"0"), (b"39", b"0"), (b"54", b"1"), (b"151", b"1"), (b"14", b"0"),
+               (b"6", b"0")]
+    header = len(body_of(b"8", fields[:len(HEADER)]))
+    near = draw.choice([-200, -1, 0, 1, 200])
+    if draw.random() < 0.5:
+        fields += [(b"382", b"32")] + [(b"375", b"c" * 128), (b"337", b"d" * 30)] * 32
+        lacking = header + 7_936 - 5 + near - len(body_of(b"8", fields)) - 4
+        fields.append((b"58", b"t" * lacking))
+    else:
+        lacking = 8_192 - 5 + min(near, 5) - len(body_of(b"8", fields)) - 5
+        fields.insert(0, (b"122", b"x" * lacking))
+    return body_of(b"8", fields)
+
+
+def any_request(draw, number):
+    """A body of any kind that a client may send: good or at fault, with up to three faults."""
     if draw.random() < 0.02:
-        return long_body(draw, number)
+        return long_request(draw, number)
+    if draw.random() < 0.1:
+        return any_body(draw, CLIENT_REFUSALS, "3j", number)
+    return any_body(draw, CLIENT, "DDDDGGGFFH", number)
+
+
+def any_report(draw, number):
+    """The same of a venue."""
+    if draw.random() < 0.02:
+        return long_report(draw, number)
+    return any_body(draw, VENUE, "8888888993j", number)
+
+
+def any_body(draw, side, kinds, number):
     while True:
-        kind = draw.choice("DDDDGGGFFH")
+        kind = draw.choice(kinds)
         share = draw.choice([0.0, 0.1, 0.3, 0.8, 1.0])
         rare = draw.choice([0.0, 0.3, 0.9])
-        pieces = request(draw, kind, number, share, draw.choice([0.0, 0.3, 0.9]), rare)
+        pieces = message(draw, side, kind, number, share, draw.choice([0.0, 0.3, 0.9]), rare)
         if draw.random() < 0.3:
             for tag in draw.sample([b"43", b"97", b"122", b"50", b"347", b"369"], 2):
                 pieces.append([(tag, draw.choice([b"Y", b"N", b"x" * draw.randint(1, 300)]
                                                  if tag != b"97" else [b"Y", b"N"]))])
+        if draw.random() < 0.1:
+            pieces.append([(b"1128", draw.choice([b"9", b"9", b"9", b"8", b"", b"99"]))])
         if draw.random() < 0.5:
             draw.shuffle(pieces)
         fields = flat(pieces)
         for _ in range(draw.choice([0, 0, 1, 1, 1, 2, 2, 2, 3])):
             if fields:
-                fields = broken(draw, kind, fields)
+                fields = broken(draw, side, fields)
         if draw.random() < 0.02:
-            crowded(draw, kind, fields)
+            crowded(draw, side, fields)
         body = body_of(kind.encode() if draw.random() < 0.97 else draw.choice(OTHERS), fields)
         if draw.random() < 0.1:
             body = scratched(draw, body)
