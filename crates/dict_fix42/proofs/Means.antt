@@ -3,7 +3,7 @@ use Rattle.std.proofs.Common.{◌≡◌, List, [], ◌∷◌, codes, None, refl}
 use Rattle.field_groups.specs.Field.{Field}
 use Rattle.message_tables.specs.Tables.{Table}
 use Rattle.message_tables.specs.FirstFault.{first_fault, message_in}
-use Rattle.row_values.specs.ValueKind.{Id, Code, Qty, Stamp}
+use Rattle.value_kinds.specs.ValueKind.{Id, Code, Qty, Stamp}
 use Rattle.row_values.specs.Kinds.{Kind, Value, judge}
 use Rattle.row_values.proofs.SaidRows.{cell, full, full_text}
 use Rattle.row_values.proofs.Days.{dated}

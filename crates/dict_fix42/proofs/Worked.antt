@@ -4,7 +4,7 @@ use Rattle.std.specs.Prelude.{Some, None, Result, Ok, Err}
 use Rattle.std.specs.declared.option.Option.{Option}
 use Rattle.std.specs.Option.{option_map}
 use Rattle.std.specs.Fmt.{digits}
-use Rattle.row_values.specs.ValueKind.{spelling, units_of_text}
+use Rattle.value_kinds.specs.ValueKind.{spelling, units_of_text}
 use Rattle.typed_fields.specs.Digits.{are_digits, number_of, has_pattern, zero_padded}
 use Rattle.typed_fields.specs.Digits.{without_leading_zeros, without_trailing_zeros}
 use Rattle.order_meaning.specs.declared.fault.Fault.{Fault}

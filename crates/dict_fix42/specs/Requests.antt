@@ -3,8 +3,8 @@
 -- writing.
 use Rattle.std.specs.Prelude.{ℕ, List, [], ◌∷◌, codes}
 use Rattle.message_tables.specs.Tables.{Condition, Optional, When, Item}
-use Rattle.row_values.specs.ValueKind.{ValueKind, Flag, OneByte, Id, Code, Codes, Word, Text}
-use Rattle.row_values.specs.ValueKind.{Currency, Qty, Price, Stamp, Day, MonthYear}
+use Rattle.value_kinds.specs.ValueKind.{ValueKind, Flag, OneByte, Id, Code, Codes, Word, Text}
+use Rattle.value_kinds.specs.ValueKind.{Currency, Qty, Price, Stamp, Day, MonthYear}
 use Rattle.row_values.specs.Kinds.{Kind, Value, DayOf}
 use Rattle.row_values.specs.Groups.{allocs, sessions}
 use Rattle.row_values.specs.Columns.{Column, R, O, N, Line, line, field, value, lines}

@@ -5,7 +5,7 @@ use Rattle.typed_fields.specs.Dec.{dec_text}
 use Rattle.typed_fields.specs.Day.{day_text}
 use Rattle.typed_fields.specs.Stamp.{stamp_text}
 use Rattle.typed_fields.specs.Flag.{flag_text}
-use Rattle.row_values.specs.CodeKinds.{code_text}
+use Rattle.value_kinds.specs.CodeKinds.{code_text}
 use Rattle.message_tables.specs.Tables.{Tag, Message}
 use Rattle.row_values.specs.Lines.{month_text, alloc_cells, session_cells}
 use Rattle.row_values.specs.Writing.{month_day_text}

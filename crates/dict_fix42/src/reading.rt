@@ -14,12 +14,13 @@ use crate::groups::Groups;
 use crate::requests::{Cancel42, New42, Replace42, Status42};
 use field_groups::Fields;
 use order_meaning::Bytes;
-use row_values::ValueKind::{Code, Codes, Currency, Id, OneByte, Text, Word};
 use row_values::{
-    ValueKind, code, day, flag, month_and_day, or_empty, owned, price, qty, qty_or_zero, resend,
-    stamp, stamp_or_epoch, text,
+    code, day, flag, month_and_day, or_empty, owned, price, qty, qty_or_zero, resend, stamp,
+    stamp_or_epoch, text,
 };
 use std::alloc::{AllocError, Global};
+use value_kinds::ValueKind;
+use value_kinds::ValueKind::{Code, Codes, Currency, Id, OneByte, Text, Word};
 
 /// What SettlmntTyp(63) may be.
 const SETTL_TYPE: ValueKind = Code(b"0123456789");

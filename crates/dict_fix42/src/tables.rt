@@ -10,11 +10,11 @@ ghost use Rattle.row_values.specs.CodeKinds.{kind_of};
 use message_tables::Need::{Optional, Required, When};
 use message_tables::{Item, Row, Table};
 use row_values::Kind::{DayOf, Value};
-use row_values::ValueKind::{
-    Code, Codes, Currency, Day, Flag, Id, MonthYear, OneByte, Price, Qty, Stamp, Text, Word,
-};
 use row_values::{ALLOCS, Kind, SESSIONS};
 use rows_fix42::{HAS_DAY, HEADER};
+use value_kinds::ValueKind::{
+    Code, Codes, Currency, Day, Flag, Id, MonthYear, OneByte, Price, Qty, Stamp, Text, Word,
+};
 
 /// A row: the tag of its field, the kind of its values, and whether each message says it.
 macro_rules! one {

@@ -5,7 +5,7 @@ use Rattle.std.proofs.Common.{lit<}
 use Rattle.field_groups.specs.Field.{Field}
 use Rattle.message_tables.specs.Tables.{Table, first_of, group_says}
 use Rattle.message_tables.specs.FirstFault.{first_fault, message_in}
-use Rattle.row_values.specs.ValueKind.{Id, Qty, Stamp, Code}
+use Rattle.value_kinds.specs.ValueKind.{Id, Qty, Stamp, Code}
 use Rattle.row_values.specs.Kinds.{Kind, Value, judge}
 use Rattle.row_values.specs.Lines.{party_cells}
 use Rattle.row_values.specs.Groups.{parties}

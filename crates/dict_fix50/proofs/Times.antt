@@ -5,7 +5,7 @@ use Rattle.std.specs.List.{list_any}
 use Rattle.field_groups.specs.Field.{Field}
 use Rattle.message_tables.specs.Tables.{Verdict, Spells, Outside, Wrong, ◌>>=◌, text_of}
 use Rattle.message_tables.specs.Tables.{value_at}
-use Rattle.row_values.specs.ValueKind.{Code, OneByte, listed_word, spelling}
+use Rattle.value_kinds.specs.ValueKind.{Code, OneByte, listed_word, spelling}
 use Rattle.row_values.specs.Kinds.{Value, Byte, counted, judge}
 use Rattle.row_values.specs.Kinds.{verdict_of, said}
 

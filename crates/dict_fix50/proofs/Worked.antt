@@ -2,7 +2,7 @@
 use Rattle.std.specs.Prelude.{◌≡◌, ℕ, List, [], ◌∷◌, ◌++◌, codes, refl, Option}
 use Rattle.std.specs.Prelude.{Some, None, Result, Ok, Err}
 use Rattle.std.specs.Fmt.{digits}
-use Rattle.row_values.specs.ValueKind.{spelling}
+use Rattle.value_kinds.specs.ValueKind.{spelling}
 use Rattle.typed_fields.specs.Digits.{are_digits, number_of, has_pattern, zero_padded}
 use Rattle.typed_fields.specs.Digits.{without_leading_zeros, without_trailing_zeros}
 use Rattle.field_groups.specs.declared.fault.SplitFault.TheVariants.{NoEnd, TooMany}

@@ -3,8 +3,8 @@
 -- count.
 use Rattle.std.specs.Prelude.{ℕ, List, [], ◌∷◌, codes}
 use Rattle.message_tables.specs.Tables.{Lenient, Item}
-use Rattle.row_values.specs.ValueKind.{Flag, Id, Code, Codes, Word, Text, Currency, Qty, Price}
-use Rattle.row_values.specs.ValueKind.{Stamp, Day}
+use Rattle.value_kinds.specs.ValueKind.{Flag, Id, Code, Codes, Word, Text, Currency, Qty, Price}
+use Rattle.value_kinds.specs.ValueKind.{Stamp, Day}
 use Rattle.row_values.specs.Kinds.{Kind, Value, Byte, MonthBeside, TimeBeside}
 use Rattle.row_values.specs.Groups.{parties, allocs, sessions}
 use Rattle.row_values.specs.Columns.{Column, R, O, N, Line, line, field, value, party, lines}

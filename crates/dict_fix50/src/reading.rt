@@ -16,13 +16,13 @@ use crate::requests::{Cancel50, New50, Replace50, Status50};
 use crate::values::capacity;
 use field_groups::Fields;
 use order_meaning::{Bytes, Lines};
-use row_values::ValueKind::{Code, Codes, Currency, Id, Text, Word};
 use row_values::{
-    ValueKind, code, day, flag, or_empty, owned, price, qty, qty_or_zero, resend, stamp,
-    stamp_or_epoch, text,
+    code, day, flag, or_empty, owned, price, qty, qty_or_zero, resend, stamp, stamp_or_epoch, text,
 };
 use rows_fix50::{maturity, time_in_force};
 use std::alloc::{AllocError, Global};
+use value_kinds::ValueKind;
+use value_kinds::ValueKind::{Code, Codes, Currency, Id, Text, Word};
 
 /// What SettlType(63) may be.
 const SETTL_TYPE: ValueKind = Code(b"0123456789");

@@ -10,9 +10,9 @@ ghost use Rattle.dict_fix50.specs.Requests.{status_request};
 use message_tables::Need::{Lenient, Optional, Required};
 use message_tables::{Item, Row, Table};
 use row_values::Kind::{Byte, MonthBeside, TimeBeside, Value};
-use row_values::ValueKind::{Code, Codes, Currency, Day, Flag, Id, Price, Qty, Stamp, Text, Word};
 use row_values::{ALLOCS, Kind, PARTIES, SESSIONS};
 use rows_fix50::HEADER;
+use value_kinds::ValueKind::{Code, Codes, Currency, Day, Flag, Id, Price, Qty, Stamp, Text, Word};
 
 /// A row: the tag of its field, the kind of its values, and whether each message says it.
 macro_rules! one {

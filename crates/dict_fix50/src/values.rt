@@ -2,12 +2,12 @@
 
 ghost use Rattle.std.specs.Prelude.{◌≡◌, codes};
 ghost use Rattle.std.specs.Option.{option_map};
-ghost use Rattle.row_values.specs.CodeKinds.{code_text};
+ghost use Rattle.value_kinds.specs.CodeKinds.{code_text};
 ghost use Rattle.row_values.specs.Kinds.{Byte, said};
 
 use field_groups::Fields;
-use row_values::ValueKind::Code;
 use row_values::code;
+use value_kinds::ValueKind::Code;
 
 /// OrderCapacity(528): one byte, which counts where it is listed.
 #[tactic(auto, using(crate::proofs::Times::byte_said))]

@@ -1,6 +1,7 @@
 -- What is written in FIX 4.2 row by row means what the report meant.
 use Rattle.std.proofs.Common.{◌≡◌, ℕ, Bool, true, false, if◌then◌else◌, codes, List, [], refl, ap}
-use Rattle.std.proofs.Common.{sym, ◌∙◌, ◌++◌, map, Option, Some, None, option_map, unwrap_or, pos, lit≤}
+use Rattle.std.proofs.Common.{sym, ◌∙◌, ◌++◌, map, Option, Some, None, option_map, unwrap_or, pos}
+use Rattle.std.proofs.Common.{lit≤}
 use Rattle.std.specs.Prelude.{option_and_then}
 use Rattle.typed_fields.specs.declared.dec.Dec.{Dec as DecValue}
 use Rattle.typed_fields.specs.declared.number.Number.{Number}

@@ -1,6 +1,8 @@
 -- The values that FIX 4.2 spells otherwise.
-use Rattle.std.proofs.Common.{◌≡◌, ◌≤◌, ◌<◌, ◌+◌, ◌^◌, ◌/◌, ◌%◌, ℕ, Bool, true, false, List, [], ◌∷◌, ◌++◌, Option}
-use Rattle.std.proofs.Common.{Some, None, refl, ap, sym, subst, ◌∙◌, option_map, IfSome, if◌then◌else◌}
+use Rattle.std.proofs.Common.{◌≡◌, ◌≤◌, ◌<◌, ◌+◌, ◌^◌, ◌/◌, ◌%◌, ℕ, Bool, true, false, List, []}
+use Rattle.std.proofs.Common.{◌∷◌, ◌++◌, Option}
+use Rattle.std.proofs.Common.{Some, None, refl, ap, sym, subst, ◌∙◌, option_map, IfSome}
+use Rattle.std.proofs.Common.{if◌then◌else◌}
 use Rattle.std.proofs.Common.{option_and_then, codes, length, take, arith, nat_le}
 use Rattle.std.specs.Str.Parse.{digits_value}
 use Rattle.std.specs.Fmt.{decimal}
@@ -19,10 +21,10 @@ use Rattle.typed_fields.specs.MonthYear.{month_year_text}
 use Rattle.typed_fields.specs.Number.{IsNumber, number_text}
 use Rattle.typed_fields.proofs.DigitsLemmas.{numerals, zero_padded_two}
 use Rattle.typed_fields.proofs.SpellingLemmas.{two_back}
-use Rattle.row_values.specs.CodeKinds.{two_digit_text}
+use Rattle.value_kinds.specs.CodeKinds.{two_digit_text}
 use Rattle.row_values.specs.Lines.{month_text}
 use Rattle.row_values.specs.Writing.{month_day_text, date_text}
-use Rattle.row_values.specs.ValueKind.{number_of_two}
+use Rattle.value_kinds.specs.ValueKind.{number_of_two}
 use Rattle.row_values.specs.declared.lines.Maturity.{Maturity}
 use Rattle.rows_fix42.specs.Meaning.{maturity_of as maturity42}
 use Rattle.rows_fix50.specs.Meaning.{maturity_of as maturity50}

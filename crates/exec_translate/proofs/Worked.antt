@@ -15,7 +15,7 @@ use Rattle.message_tables.specs.FirstFault.{first_fault, message_of}
 use Rattle.order_meaning.specs.Report.{New, filled}
 use Rattle.order_meaning.specs.Book.{Book, reported, changed, at_execution}
 use Rattle.row_values.specs.Kinds.{judge}
-use Rattle.row_values.specs.ValueKind.{spelling, units_of_text}
+use Rattle.value_kinds.specs.ValueKind.{spelling, units_of_text}
 use Rattle.reports_fix42.specs.Message.{message42}
 use Rattle.reports_fix42.specs.Sense as sense42
 use Rattle.reports_fix42.specs.Sense.{report_sense42}

@@ -5,8 +5,8 @@ use Rattle.std.specs.Ordering.{int_eq}
 use Rattle.message_tables.specs.Tables.{is_one_of}
 use Rattle.exec_translate.specs.declared.mapping.ExecCodes.{ExecCodes}
 
--- Whether a trade fills its order: OrdStatus is 2, Filled; or it is 6, Pending Cancel, or E, Pending
--- Replace, and nothing is left.
+-- Whether a trade fills its order: OrdStatus is 2, Filled; or it is 6, Pending Cancel, or E,
+-- Pending Replace, and nothing is left.
 abbrev pub is_fill : ℕ → ℤ → Bool
 is_fill ord_status leaves =
     ord_status == 50 || (ord_status == 54 || ord_status == 69) && int_eq leaves (pos 0)
@@ -20,9 +20,9 @@ abbrev as_codes : ℕ → ℕ → ℕ → ExecCodes
 as_codes trans_type exec_type ord_status =
     record { trans_type = trans_type; exec_type = exec_type; ord_status = ord_status }
 
--- THE MAPPING, by ExecType, OrdStatus, and whether a trade fills its order: ExecTransType, ExecType
--- and OrdStatus of FIX 4.2. J, Trade in a Clearing Hold, and K, Trade has been released to Clearing,
--- have no counterpart.
+-- THE MAPPING, by ExecType, OrdStatus, and whether a trade fills its order: ExecTransType,
+-- ExecType and OrdStatus of FIX 4.2. J, Trade in a Clearing Hold, and K, Trade has been released to
+-- Clearing, have no counterpart.
 abbrev pub mapped : ℕ → ℕ → Bool → Option ExecCodes
 mapped exec_type ord_status fill =
     -- F, Trade: 0, New, and 1, Partial fill, or 2, Fill

@@ -6,7 +6,7 @@ use Rattle.std.specs.Fmt.{decimal}
 use Rattle.typed_fields.specs.declared.number.Number.{Number}
 use Rattle.message_tables.specs.Tables.{Said, ◌>>=◌, code_of}
 use Rattle.order_meaning.specs.Request.{OrderType}
-use Rattle.row_values.specs.CodeKinds.{code_text}
+use Rattle.value_kinds.specs.CodeKinds.{code_text}
 use Rattle.row_values.specs.declared.lines.Maturity.{Maturity}
 use Rattle.reports_fix42.specs.Sense.{phase_of as phase42}
 use Rattle.rows_fix42.specs.Meaning.{order_type_of, time_of, is_on_close}

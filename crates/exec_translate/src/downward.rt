@@ -51,8 +51,8 @@ pub fn down_report(alloc: Global, msg: &Report50) -> Result<Report42, Lack>
     }
 }
 
-/// The cancel reject of FIX 4.2 that means what one of FIX 5.0 SP2 means, with the id `orig` that is
-/// known of the order where the venue says none, and changes each book alike.
+/// The cancel reject of FIX 4.2 that means what one of FIX 5.0 SP2 means, with the id `orig` that
+/// is known of the order where the venue says none, and changes each book alike.
 ///
 /// # Errors
 ///

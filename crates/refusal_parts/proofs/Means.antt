@@ -6,7 +6,7 @@ use Rattle.message_tables.specs.Tables.{Need, Required, Optional, Row, One, Tabl
 use Rattle.message_tables.specs.FirstFault.{message_in}
 use Rattle.order_meaning.specs.declared.refusal.Refusal.{Refusal}
 use Rattle.row_values.specs.Kinds.{Kind, judge, row}
-use Rattle.row_values.specs.ValueKind.{Id, Text, Number}
+use Rattle.value_kinds.specs.ValueKind.{Id, Text, Number}
 use Rattle.row_values.proofs.SaidRows.{cell}
 use Rattle.refusal_parts.specs.Once.{once}
 use Rattle.refusal_parts.specs.Said.{session_reject_says, business_reject_says}

@@ -4,7 +4,7 @@ use Rattle.std.specs.Option.{option_map}
 use Rattle.std.specs.Fmt.{decimal}
 use Rattle.field_groups.specs.Field.{Field}
 use Rattle.order_meaning.specs.declared.refusal.Refusal.{Refusal}
-use Rattle.row_values.specs.ValueKind.{Id, Text, Number}
+use Rattle.value_kinds.specs.ValueKind.{Id, Text, Number}
 use Rattle.row_values.specs.Kinds.{Value, said}
 
 -- each row of a Reject says what the fields say

@@ -3,16 +3,16 @@
 ghost use Rattle.std.specs.Prelude.{◌≡◌, IfOk, IfSome, None};
 ghost use Rattle.std.specs.Fmt.{decimal};
 ghost use Rattle.std.specs.Option.{option_map};
-ghost use Rattle.row_values.specs.ValueKind as kinds;
+ghost use Rattle.value_kinds.specs.ValueKind as kinds;
 ghost use Rattle.row_values.specs.Kinds.{Value, said};
 ghost use Rattle.refusal_parts.specs.Readable.{IsReadableRefusal, IsWhole};
 ghost use Rattle.refusal_parts.specs.Reading.{IsBusinessReject, IsSessionReject};
 
 use field_groups::Fields;
 use order_meaning::Refusal;
-use row_values::ValueKind::{Id, Text};
 use row_values::{number, owned, text};
 use std::alloc::{AllocError, Global};
+use value_kinds::ValueKind::{Id, Text};
 
 /// The number that the field of a tag says.
 fn number_at(fields: &Fields<'_>, tag: u32) -> Option<u32>

@@ -152,28 +152,32 @@ module _ (msg_type : List ℕ) (fields : List Field) (stopped : Option SplitFaul
   read_as says (Err (faults.NoCounterpart tag)) x y gives same = same ∙ gives
 
   pub session42 : (says : Refusal → Message) (r : Result Refusal Fault)
-      → bytes_eq msg_type (codes "3") ≡ true → Gives says r (refusal_by session_reject_table42 fields stopped)
+      → bytes_eq msg_type (codes "3") ≡ true
+      → Gives says r (refusal_by session_reject_table42 fields stopped)
       → IsReadAs r (refusal_message Client msg_type fields stopped)
   unfolding any42
   session42 says r test gives =
       read_as says r (refusal_by session_reject_table42 fields stopped) _ gives (three42 test)
 
   pub business42 : (says : Refusal → Message) (r : Result Refusal Fault)
-      → bytes_eq msg_type (codes "j") ≡ true → Gives says r (refusal_by business_reject_table42 fields stopped)
+      → bytes_eq msg_type (codes "j") ≡ true
+      → Gives says r (refusal_by business_reject_table42 fields stopped)
       → IsReadAs r (refusal_message Client msg_type fields stopped)
   unfolding any42
   business42 says r test gives =
       read_as says r (refusal_by business_reject_table42 fields stopped) _ gives (j42 test)
 
   pub session50 : (says : Refusal → Message) (r : Result Refusal Fault)
-      → bytes_eq msg_type (codes "3") ≡ true → Gives says r (refusal_by session_reject_table50 fields stopped)
+      → bytes_eq msg_type (codes "3") ≡ true
+      → Gives says r (refusal_by session_reject_table50 fields stopped)
       → IsReadAs r (refusal_message Venue msg_type fields stopped)
   unfolding any50
   session50 says r test gives =
       read_as says r (refusal_by session_reject_table50 fields stopped) _ gives (three50 test)
 
   pub business50 : (says : Refusal → Message) (r : Result Refusal Fault)
-      → bytes_eq msg_type (codes "j") ≡ true → Gives says r (refusal_by business_reject_table50 fields stopped)
+      → bytes_eq msg_type (codes "j") ≡ true
+      → Gives says r (refusal_by business_reject_table50 fields stopped)
       → IsReadAs r (refusal_message Venue msg_type fields stopped)
   unfolding any50
   business50 says r test gives =

@@ -5,7 +5,7 @@ use Rattle.message_tables.specs.Tables.{Required, group_says, lines_in, tags_in}
 use Rattle.message_tables.specs.FirstFault.{first_fault, message_in}
 use Rattle.message_tables.proofs.Members.{lines_say}
 use Rattle.row_values.specs.declared.contras.ContraLine.{ContraLine}
-use Rattle.row_values.specs.ValueKind.{Id, Code, Qty, Price}
+use Rattle.value_kinds.specs.ValueKind.{Id, Code, Qty, Price}
 use Rattle.row_values.specs.Kinds.{Value, judge, row}
 use Rattle.row_values.specs.Contras.{contra_cells}
 use Rattle.row_values.proofs.SaidRows.{cell, full, full_text}

@@ -4,8 +4,8 @@
 use Rattle.std.specs.Prelude.{ℕ, List, [], ◌∷◌, codes}
 use Rattle.message_tables.specs.Tables.{Condition, Is, Required, Optional, When}
 use Rattle.message_tables.specs.Tables.{RepeatingGroup, Item, One, Lines}
-use Rattle.row_values.specs.ValueKind.{ValueKind, Id, Code, Word, Text, Currency, Number, Reason}
-use Rattle.row_values.specs.ValueKind.{Qty, Price, Stamp, Day, MonthYear}
+use Rattle.value_kinds.specs.ValueKind.{ValueKind, Id, Code, Word, Text, Currency, Number, Reason}
+use Rattle.value_kinds.specs.ValueKind.{Qty, Price, Stamp, Day, MonthYear}
 use Rattle.row_values.specs.Kinds.{Kind, DayOf, row}
 use Rattle.row_values.specs.Contras as both
 use Rattle.rows_fix42.specs.Header.{has_day}

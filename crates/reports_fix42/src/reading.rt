@@ -4,7 +4,7 @@
 //! is a line of the literal.
 
 ghost use Rattle.std.specs.Prelude.{◌≡◌, IfOk, IfSome, IsTrue};
-ghost use Rattle.row_values.specs.CodeKinds.{code_text, is_byte_kind, value_kind_of};
+ghost use Rattle.value_kinds.specs.CodeKinds.{code_text, is_byte_kind, value_kind_of};
 ghost use Rattle.row_values.specs.Kinds.{Value, said};
 ghost use Rattle.reports_fix42.specs.Readable.{IsReadableCancelReject, IsReadableReport};
 ghost use Rattle.reports_fix42.specs.Reading.{AreContras, AreTexts, IsCancelReject, IsReport};
@@ -13,12 +13,13 @@ ghost use Rattle.reports_fix42.specs.Reading.{cancel_reject_texts, report_names,
 use crate::reports::{CancelReject42, Report42};
 use field_groups::Fields;
 use order_meaning::Bytes;
-use row_values::ValueKind::{Code, Currency, Id, Text, Word};
 use row_values::{
-    Contras, ValueKind, code, day, month_and_day, or_empty, owned, price, price_or_zero, qty,
-    qty_or_zero, reason, resend, stamp, text,
+    Contras, code, day, month_and_day, or_empty, owned, price, price_or_zero, qty, qty_or_zero,
+    reason, resend, stamp, text,
 };
 use std::alloc::{AllocError, Global};
+use value_kinds::ValueKind;
+use value_kinds::ValueKind::{Code, Currency, Id, Text, Word};
 
 /// What ExecTransType(20) may be.
 const TRANS_TYPE: ValueKind = Code(b"0123");

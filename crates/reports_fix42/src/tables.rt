@@ -11,11 +11,11 @@ ghost use Rattle.row_values.specs.CodeKinds.{kind_of};
 use message_tables::Need::{Optional, Required, When};
 use message_tables::{Item, RepeatingGroup, Row, Table, Test};
 use row_values::Kind::{DayOf, Value};
-use row_values::ValueKind::{
-    Code, Currency, Day, Id, MonthYear, Number, Price, Qty, Reason, Stamp, Text, Word,
-};
 use row_values::{CONTRA_ROWS, Kind};
 use rows_fix42::{HAS_DAY, HEADER};
+use value_kinds::ValueKind::{
+    Code, Currency, Day, Id, MonthYear, Number, Price, Qty, Reason, Stamp, Text, Word,
+};
 
 /// A row: the tag of its field, the kind of its values, and whether each message says it.
 macro_rules! one {

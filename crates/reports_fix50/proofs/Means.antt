@@ -3,7 +3,7 @@ use Rattle.std.proofs.Common.{◌≡◌, List, [], ◌∷◌, None, map, refl, c
 use Rattle.field_groups.specs.Field.{Field}
 use Rattle.message_tables.specs.Tables.{first_of, group_says}
 use Rattle.message_tables.specs.FirstFault.{first_fault, message_in}
-use Rattle.row_values.specs.ValueKind.{Id, Qty, Price, Code, Known}
+use Rattle.value_kinds.specs.ValueKind.{Id, Qty, Price, Code, Known}
 use Rattle.row_values.specs.Kinds.{Value, judge}
 use Rattle.row_values.specs.Groups.{parties}
 use Rattle.row_values.specs.Lines.{party_cells}

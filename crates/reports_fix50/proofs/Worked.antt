@@ -3,7 +3,7 @@
 use Rattle.std.specs.Prelude.{◌≡◌, ℕ, ◌*◌, pos, Bool, true, false, List, [], ◌∷◌, ◌++◌, codes}
 use Rattle.std.specs.Prelude.{Option, Some, None, Result, Ok, Err, refl, option_and_then}
 use Rattle.std.specs.Fmt.{digits}
-use Rattle.row_values.specs.ValueKind.{spelling, units_of_text}
+use Rattle.value_kinds.specs.ValueKind.{spelling, units_of_text}
 use Rattle.typed_fields.specs.Digits.{are_digits, number_of, has_pattern, zero_padded}
 use Rattle.typed_fields.specs.Digits.{without_leading_zeros, without_trailing_zeros}
 use Rattle.field_groups.specs.declared.fault.SplitFault.TheVariants.{NoEnd, TooMany}

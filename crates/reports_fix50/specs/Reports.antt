@@ -4,8 +4,8 @@
 use Rattle.std.specs.Prelude.{ℕ, List, [], ◌∷◌, codes}
 use Rattle.message_tables.specs.Tables.{Test, Is, Required, Optional, Lenient}
 use Rattle.message_tables.specs.Tables.{When, Item, One, Party, Lines}
-use Rattle.row_values.specs.ValueKind.{ValueKind, Id, Code, Known, Word, Text, Currency, Number}
-use Rattle.row_values.specs.ValueKind.{Reason, Qty, Price, Stamp, Day}
+use Rattle.value_kinds.specs.ValueKind.{ValueKind, Id, Code, Known, Word, Text, Currency, Number}
+use Rattle.value_kinds.specs.ValueKind.{Reason, Qty, Price, Stamp, Day}
 use Rattle.row_values.specs.Kinds.{Kind, MonthBeside, TimeBeside, row}
 use Rattle.row_values.specs.Groups.{parties}
 use Rattle.row_values.specs.Contras.{contras}

@@ -5,11 +5,12 @@ ghost use Rattle.reports_fix50.specs.Reading.{IsOrderPart, IsReadableOrderPart, 
 
 use field_groups::Fields;
 use order_meaning::Bytes;
-use row_values::ValueKind::{Code, Currency, Id, Word};
-use row_values::{Maturity, ValueKind, code, day, or_empty, owned, price, qty, stamp, text};
+use row_values::{Maturity, code, day, or_empty, owned, price, qty, stamp, text};
 use rows_fix50::{maturity, time_in_force};
 use std::alloc::{AllocError, Global};
 use typed_fields::{Day, Dec, Stamp};
+use value_kinds::ValueKind;
+use value_kinds::ValueKind::{Code, Currency, Id, Word};
 
 /// The rows of an execution report from Account(1) to OrderCapacity(528).
 #[derive(Drop)]

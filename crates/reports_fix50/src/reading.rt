@@ -15,12 +15,12 @@ use crate::reports::{CancelReject50, Report50};
 use crate::tables::{EXEC_TYPES, ORD_STATUSES};
 use field_groups::Fields;
 use order_meaning::Bytes;
-use row_values::ValueKind::{Id, Known, Text};
 use row_values::{
-    ValueKind, code, day, or_empty, owned, price, price_or_zero, qty, qty_or_zero, reason, resend,
-    stamp, text,
+    code, day, or_empty, owned, price, price_or_zero, qty, qty_or_zero, reason, resend, stamp, text,
 };
 use std::alloc::{AllocError, Global};
+use value_kinds::ValueKind;
+use value_kinds::ValueKind::{Id, Known, Text};
 
 /// What ExecType(150) may be.
 const EXEC_TYPE: ValueKind = Known(EXEC_TYPES);

@@ -9,11 +9,11 @@ ghost use Rattle.reports_fix50.specs.Message.{report_table, session_reject_table
 use message_tables::Need::{Lenient, Optional, Required, When};
 use message_tables::{Item, Need, Row, Table, Test};
 use row_values::Kind::{MonthBeside, TimeBeside, Value};
-use row_values::ValueKind::{
-    Code, Currency, Day, Id, Known, Number, Price, Qty, Reason, Stamp, Text, Word,
-};
 use row_values::{CONTRAS, Kind, PARTIES};
 use rows_fix50::HEADER;
+use value_kinds::ValueKind::{
+    Code, Currency, Day, Id, Known, Number, Price, Qty, Reason, Stamp, Text, Word,
+};
 
 /// What ExecType(150) may be.
 pub(crate) const EXEC_TYPES: &[u8] = b"03456789ABCDEFGHIJKL";

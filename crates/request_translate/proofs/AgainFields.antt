@@ -20,16 +20,16 @@ use Rattle.message_tables.specs.Content.{item_fields}
 use Rattle.field_groups.proofs.Plain.{plain_again}
 use Rattle.row_values.specs.Kinds as row_kinds
 use Rattle.rows_fix50.specs.Header.{table}
-use Rattle.request_translate.specs.Sound.{IsClear, AreSaid, IsLine, IsItem}
+use Rattle.sound_messages.specs.Sound.{IsClear, AreSaid, IsLine, IsItem}
 use Rattle.translation.specs.Header.{type_of, carried, carried_field, with_content}
 use Rattle.request_translate.specs.Translation.{IsRequest}
-use Rattle.request_translate.proofs.Each.{both, not_true, each_joined}
+use Rattle.sound_messages.proofs.Each.{both, not_true, each_joined}
 use Rattle.order_meaning.specs.Request.{RequestKind, New, Cancel, Replace, Status}
-use Rattle.request_translate.proofs.Good.{held}
+use Rattle.sound_messages.proofs.Good.{held}
 use Rattle.request_translate.proofs.Outcomes.{kind_in, letter_asked, items_asked, of_kind}
-use Rattle.request_translate.proofs.ReadSound.{IsClearField}
+use Rattle.sound_messages.proofs.ReadSound.{IsClearField}
 use Rattle.request_translate.proofs.Sound42.{clear_fields}
-use Rattle.request_translate.proofs.SpelledAgain.{digits_clear}
+use Rattle.sound_messages.proofs.SpelledAgain.{digits_clear}
 use Rattle.translation.proofs.Writable.{IsType, One as OneByte}
 
 -- a tag of a field that is no raw data

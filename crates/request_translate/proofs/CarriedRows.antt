@@ -8,11 +8,11 @@ use Rattle.std.specs.List.{AllByRecursion, list_all}
 use Rattle.field_groups.specs.Field.{Field}
 use Rattle.message_tables.specs.Tables.{Need, Required, Optional, Lenient, Fixed, When, Row, Item}
 use Rattle.message_tables.specs.Tables.{One, Party, Lines, Message, Said, Tag, is_one_of, said_at}
-use Rattle.row_values.specs.ValueKind.{ValueKind, Code, Codes, Word}
+use Rattle.value_kinds.specs.ValueKind.{ValueKind, Code, Codes, Word}
 use Rattle.row_values.specs.Kinds.{Kind, Value, Byte, DayOf, MonthBeside, TimeBeside, Version}
 use Rattle.row_values.specs.Kinds.{judge}
-use Rattle.request_translate.specs.Sound.{IsSaid, IsItem}
-use Rattle.request_translate.proofs.Each.{both, each_front, each_back, each_joined}
+use Rattle.sound_messages.specs.Sound.{IsSaid, IsItem}
+use Rattle.sound_messages.proofs.Each.{both, each_front, each_back, each_joined}
 use Rattle.request_translate.proofs.Carry.{required_said, optional_said, lenient_said, same_value}
 
 -- ---- a row of FIX 4.2 as the row of FIX 5.0 SP2 that says the same

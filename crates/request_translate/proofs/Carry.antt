@@ -5,12 +5,12 @@ use Rattle.std.proofs.Common.{option_map, option_and_then, lit≤}
 use Rattle.std.specs.Prelude.{IsSome, IfSome, not, ◌||◌, ◌&&◌, ◌==◌, Result, Ok, Err, if◌then◌else◌}
 use Rattle.std.specs.List.{AllByRecursion, slice_get, list_any}
 use Rattle.typed_fields.specs.declared.fault.FieldFault.{FieldFault}
-use Rattle.row_values.specs.ValueKind as kinds
-use Rattle.row_values.specs.ValueKind.{ValueKind, Spelling, spelling, spelt, is_code, listed_word}
-use Rattle.row_values.specs.ValueKind.{formed, number_of_two}
+use Rattle.value_kinds.specs.ValueKind as kinds
+use Rattle.value_kinds.specs.ValueKind.{ValueKind, Spelling, spelling, spelt, is_code, listed_word}
+use Rattle.value_kinds.specs.ValueKind.{formed, number_of_two}
 use Rattle.typed_fields.specs.declared.day.Day.{Day as DayValue}
 use Rattle.typed_fields.specs.declared.month_year.MonthYear.{MonthYear}
-use Rattle.row_values.specs.CodeKinds.{two_digit_text, code_text}
+use Rattle.value_kinds.specs.CodeKinds.{two_digit_text, code_text}
 use Rattle.std.specs.Char.{is_ascii_digit}
 use Rattle.typed_fields.specs.MonthYear.{month_year_text, read_month_year}
 use Rattle.typed_fields.specs.MonthYear as months
@@ -34,11 +34,11 @@ use Rattle.rows_fix50.specs.Meaning as meaning50
 use Rattle.row_values.specs.declared.lines.Maturity.{Maturity}
 use Rattle.order_meaning.specs.declared.party.PartyLine.{PartyLine}
 use Rattle.party_translate.specs.Parties.{parties_of}
-use Rattle.request_translate.specs.Sound.{IsClear, IsSaid, IsLine, IsGroup}
+use Rattle.sound_messages.specs.Sound.{IsClear, IsSaid, IsLine, IsGroup}
 use Rattle.request_translate.specs.Written.{coded, is_type50, IsTimeCode, IsTime50}
 use Rattle.request_translate.specs.Lack.{lacks_capacity}
-use Rattle.request_translate.proofs.SpelledAgain.{clear_joined, digits_clear}
-use Rattle.request_translate.proofs.ShortDays.{IsShort, short_by, two_number, padded_number}
+use Rattle.sound_messages.proofs.SpelledAgain.{clear_joined, digits_clear}
+use Rattle.sound_messages.proofs.ShortDays.{IsShort, short_by, two_number, padded_number}
 use Rattle.row_values.specs.Writing as row_parts
 use Rattle.row_values.specs.Groups as row_groups
 use Rattle.row_values.specs.Lines as row_lines

@@ -8,10 +8,10 @@ use Rattle.message_tables.specs.Tables.{Item, Message, Cell, Said, Place, Tag, R
 use Rattle.message_tables.specs.Tables.{said_at}
 use Rattle.row_values.specs.Kinds.{Kind}
 use Rattle.rows_fix50.specs.Header.{completed, month_by}
-use Rattle.request_translate.specs.Sound.{places_of}
+use Rattle.sound_messages.specs.Sound.{places_of}
 use Rattle.request_translate.specs.Canonical.{IsCanonical}
 use Rattle.request_translate.specs.Up.{IsComplete}
-use Rattle.request_translate.proofs.Lookups.{places_apart, cells_said}
+use Rattle.sound_messages.proofs.Lookups.{places_apart, cells_said}
 
 abbrev pub with_month : Said → Cell → Cell
 with_month date cell = if is_place cell.0 (Tag 200) then (Tag 200, month_by date cell.1) else cell

@@ -12,18 +12,18 @@ use Rattle.message_tables.specs.Tables.{When, Row, Item, One, Party, Lines, Tabl
 use Rattle.message_tables.specs.Tables.{Said, Place, Tag, Role, is_place, said_at, value_at, says}
 use Rattle.message_tables.specs.Tables.{or_else, ◌>>=◌, text_of, is_needed, is_listed}
 use Rattle.message_tables.specs.Content.{content, cell_fields, item_fields}
-use Rattle.row_values.specs.ValueKind.{Day, spelling}
+use Rattle.value_kinds.specs.ValueKind.{Day, spelling}
 use Rattle.row_values.specs.Kinds.{Kind, Value, Byte, DayOf, MonthBeside, TimeBeside, Version}
 use Rattle.row_values.specs.Kinds.{judge, verdict_of, date_at}
 use Rattle.rows_fix50.specs.Header.{completed, month_by}
-use Rattle.request_translate.specs.Sound.{IsClear, IsSaid, IsItem, IsSound, places_of}
+use Rattle.sound_messages.specs.Sound.{IsClear, IsSaid, IsItem, IsSound, places_of}
 use Rattle.request_translate.specs.Canonical.{HasMonthOfDate}
-use Rattle.request_translate.proofs.Each.{both}
-use Rattle.request_translate.proofs.ContentValues.{value_at-append, row_value}
-use Rattle.request_translate.proofs.ReadSound.{text_again}
+use Rattle.sound_messages.proofs.Each.{both}
+use Rattle.sound_messages.proofs.ContentValues.{value_at-append, row_value}
+use Rattle.sound_messages.proofs.ReadSound.{text_again}
 use Rattle.request_translate.proofs.Completed.{with_month}
-use Rattle.request_translate.proofs.Judged50.{ours_kind, AreAlike, judged_again, month_of_date}
-use Rattle.request_translate.proofs.Judged50.{clear_front}
+use Rattle.sound_messages.proofs.Judged50.{ours_kind, AreAlike, judged_again, month_of_date}
+use Rattle.sound_messages.proofs.Judged50.{clear_front}
 
 -- ---- the cells
 

@@ -6,7 +6,7 @@ use Rattle.typed_fields.specs.declared.flag.Flag.{Flag as FlagValue}
 use Rattle.typed_fields.specs.Dec.{dec_text}
 use Rattle.typed_fields.specs.Flag.{flag_text}
 use Rattle.typed_fields.specs.Digits.{zero_padded}
-use Rattle.row_values.specs.CodeKinds.{two_digit_text}
+use Rattle.value_kinds.specs.CodeKinds.{two_digit_text}
 use Rattle.typed_fields.specs.MonthYear.{month_year_text}
 use Rattle.typed_fields.specs.declared.month_year.MonthYear.{MonthYear}
 use Rattle.std.specs.Prelude.{IfSome, unwrap_or}
@@ -35,7 +35,7 @@ use Rattle.dict_fix42.specs.declared.requests.Replace42.{Replace42}
 use Rattle.dict_fix50.specs.declared.requests.Replace50.{Replace50}
 use Rattle.dict_fix42.specs.declared.requests.Status42.{Status42}
 use Rattle.dict_fix50.specs.declared.requests.Status50.{Status50}
-use Rattle.request_translate.proofs.ShortDays.{IsShort, two_number, padded_number}
+use Rattle.sound_messages.proofs.ShortDays.{IsShort, two_number, padded_number}
 use Rattle.request_translate.specs.Written.{parties_up, coded, IsNew, IsCancel, IsReplace}
 use Rattle.request_translate.specs.Written.{IsStatus}
 use Rattle.row_values.specs.Writing as row_parts

@@ -2,7 +2,7 @@
 use Rattle.std.proofs.Common.{◌≡◌, ℕ, List, [], ◌∷◌, ◌++◌, codes, Option, Some, refl, sym, ap, ◌∙◌}
 use Rattle.std.proofs.Common.{unwrap_or, option_map, true}
 use Rattle.std.specs.List.{AllByRecursion, slice_get, flat_map}
-use Rattle.row_values.specs.ValueKind as kinds
+use Rattle.value_kinds.specs.ValueKind as kinds
 use Rattle.row_values.specs.Kinds as of50
 use Rattle.row_values.specs.Groups as row_groups
 use Rattle.field_groups.specs.Field.{Field}
@@ -15,11 +15,11 @@ use Rattle.rows_fix50.specs.Header.{table}
 use Rattle.dict_fix50.specs.Requests.{new_order, cancel_request, replace_request, status_request}
 use Rattle.dict_fix50.specs.Sense.{request50, request_of}
 use Rattle.row_values.specs.Amounts.{amount_of}
-use Rattle.request_translate.specs.Sound.{IsItem}
+use Rattle.sound_messages.specs.Sound.{IsItem}
 use Rattle.request_translate.specs.Canonical.{party_lines, IsCanonical, HaveOneContent}
-use Rattle.request_translate.proofs.ContentValues.{is_alone, groups_said, value_said}
+use Rattle.sound_messages.proofs.ContentValues.{is_alone, groups_said, value_said}
 use Rattle.request_translate.proofs.Carry.{item_at}
-use Rattle.request_translate.proofs.Each.{◌&◌}
+use Rattle.sound_messages.proofs.Each.{◌&◌}
 use Rattle.request_translate.proofs.SameRows as same
 
 abbrev at : Message → ℕ → Said

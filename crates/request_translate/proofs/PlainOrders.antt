@@ -18,8 +18,8 @@ use Rattle.typed_fields.specs.Reading.{judged}
 use Rattle.typed_fields.specs.Digits.{has_pattern}
 use Rattle.typed_fields.specs.Dec.{dec_text, is_dec_form, is_dec_bounded}
 use Rattle.typed_fields.specs.Stamp.{is_stamp_form, spells_moment, stamp_in}
-use Rattle.row_values.specs.ValueKind.{ValueKind, Filled, Id, Code, Stamp, Qty, Price, spelling}
-use Rattle.row_values.specs.ValueKind.{spelt, if_in_range}
+use Rattle.value_kinds.specs.ValueKind.{ValueKind, Filled, Id, Code, Stamp, Qty, Price, spelling}
+use Rattle.value_kinds.specs.ValueKind.{spelt, if_in_range}
 use Rattle.row_values.specs.Kinds.{Kind, Value, judge}
 use Rattle.row_values.specs.Groups.{allocs, sessions}
 use Rattle.message_tables.specs.Tables.{Cell, Message, Tag, Role, Required, Optional, Lenient}
@@ -35,7 +35,7 @@ use Rattle.translation.specs.declared.error.TranslateError.{TranslateError}
 use Rattle.translation.specs.declared.error.TranslateError.TheVariants as errors
 use Rattle.request_translate.specs.Canonical.{IsCanonical, party_lines}
 use Rattle.request_translate.specs.Lack.{lack_if}
-use Rattle.request_translate.specs.Sound.{IsClear, IsSaid, IsGroup}
+use Rattle.sound_messages.specs.Sound.{IsClear, IsSaid, IsGroup}
 use Rattle.translation.specs.Header.{with_content}
 use Rattle.request_translate.specs.Translation.{News, StandsFor, IsOutcome, IsTooLong}
 use Rattle.request_translate.specs.Plain.{PlainOrder, IsValue, HasPlainValues, client_field}
@@ -44,7 +44,7 @@ use Rattle.request_translate.specs.Plain.{PlainOrdersAreTranslated}
 use Rattle.request_translate.proofs.AgainFields.{plain_field, all_of}
 use Rattle.request_translate.proofs.Carry.{IsPartyId, optional_said, lenient_said, required_said}
 use Rattle.request_translate.proofs.Carry.{parties_said}
-use Rattle.request_translate.proofs.Each.{◌&◌, both, each_joined}
+use Rattle.sound_messages.proofs.Each.{◌&◌, both, each_joined}
 use Rattle.request_translate.proofs.Outcomes.{good_not_faulty, good_not_lacking, same_content}
 use Rattle.request_translate.proofs.Outcomes.{same_up}
 

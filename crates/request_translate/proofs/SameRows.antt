@@ -26,9 +26,9 @@ use Rattle.std.proofs.Common.{length-drop}
 use Rattle.typed_fields.specs.declared.flag.Flag.{Flag as FlagValue}
 use Rattle.typed_fields.specs.Flag.{is_flag_form}
 use Rattle.typed_fields.specs.Dec.{dec_text, read_dec}
-use Rattle.row_values.specs.ValueKind as kinds
-use Rattle.row_values.specs.ValueKind.{spelling, spelt, if_in_range, is_code}
-use Rattle.row_values.specs.ValueKind.{listed_word, units_of_text}
+use Rattle.value_kinds.specs.ValueKind as kinds
+use Rattle.value_kinds.specs.ValueKind.{spelling, spelt, if_in_range, is_code}
+use Rattle.value_kinds.specs.ValueKind.{listed_word, units_of_text}
 use Rattle.field_groups.specs.Field.{Field}
 use Rattle.message_tables.specs.Tables.{Verdict, Spells, Outside, Wrong, Tag, Said, Cell, ◌>>=◌}
 use Rattle.message_tables.specs.Tables.{code_of, is_one_of, is_listed, flag_of, value_at}
@@ -41,7 +41,7 @@ use Rattle.row_values.specs.Groups.{allocs, sessions}
 use Rattle.dict_fix50.specs.Sense.{alloc_of, session_of}
 use Rattle.row_values.specs.Amounts.{amount_of}
 use Rattle.rows_fix50.specs.Meaning.{terms_of, day_of, maturity_of}
-use Rattle.request_translate.specs.Sound.{IsLine}
+use Rattle.sound_messages.specs.Sound.{IsLine}
 
 -- ---- texts
 

@@ -3,7 +3,7 @@ use Rattle.std.proofs.Common.{◌≡◌, ℕ, List, [], ◌∷◌, Bool, true, f
 use Rattle.std.proofs.Common.{refl, ap, codes, if◌then◌else◌, ◌==◌}
 use Rattle.std.specs.Prelude.{Result, not}
 use Rattle.std.specs.Result.{result_ok}
-use Rattle.row_values.specs.ValueKind.{spelling, OneByte}
+use Rattle.value_kinds.specs.ValueKind.{spelling, OneByte}
 use Rattle.message_tables.specs.declared.table_fault.TableFault.{TableFault}
 use Rattle.field_groups.specs.Field.{Field}
 use Rattle.message_tables.specs.Tables.{Verdict, Spells, Outside, Wrong, Table, Message, Lenient}

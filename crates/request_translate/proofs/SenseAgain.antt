@@ -9,8 +9,8 @@ use Rattle.std.specs.List.{AllByRecursion, flat_map, list_any, list_all}
 use Rattle.std.specs.Str.{bytes_eq}
 use Rattle.std.proofs.lemmas.Bool.{eqb-true}
 use Rattle.std.proofs.lemmas.Grind.{flat_map-append}
-use Rattle.row_values.specs.ValueKind.{ValueKind, Filled, Flag, Spelling, spelling}
-use Rattle.row_values.specs.ValueKind as kinds
+use Rattle.value_kinds.specs.ValueKind.{ValueKind, Filled, Flag, Spelling, spelling}
+use Rattle.value_kinds.specs.ValueKind as kinds
 use Rattle.message_tables.specs.declared.table_fault.TableFault.{TableFault}
 use Rattle.field_groups.specs.Data.{is_data_tag}
 use Rattle.field_groups.specs.Field.{Field}
@@ -36,30 +36,30 @@ use Rattle.dict_fix50.specs.Message as read50
 use Rattle.rows_fix50.specs.Header.{table, header, completed, month_by}
 use Rattle.dict_fix50.specs.Requests.{new_order, cancel_request, replace_request, status_request}
 use Rattle.dict_fix50.specs.Sense.{sense50, request50}
-use Rattle.request_translate.specs.Sound.{IsClear, IsSaid, IsItem, IsSound, places_of}
+use Rattle.sound_messages.specs.Sound.{IsClear, IsSaid, IsItem, IsSound, places_of}
 use Rattle.request_translate.specs.Canonical.{IsCanonical}
 use Rattle.translation.specs.Header.{carried, carried_field}
 use Rattle.request_translate.specs.Translation.{IsRequest}
-use Rattle.request_translate.proofs.Each.{are_apart, both, either, not_true, each_part}
-use Rattle.request_translate.proofs.Each.{each_joined, each_front}
-use Rattle.request_translate.proofs.Lookups.{places_apart}
-use Rattle.request_translate.proofs.Good.{held, IsGood, all_good}
-use Rattle.request_translate.proofs.ReadSound.{IsClearField}
-use Rattle.request_translate.proofs.SpelledAgain.{is_own, own_bytes}
+use Rattle.sound_messages.proofs.Each.{are_apart, both, either, not_true, each_part}
+use Rattle.sound_messages.proofs.Each.{each_joined, each_front}
+use Rattle.sound_messages.proofs.Lookups.{places_apart}
+use Rattle.sound_messages.proofs.Good.{held, IsGood, all_good}
+use Rattle.sound_messages.proofs.ReadSound.{IsClearField}
+use Rattle.sound_messages.proofs.SpelledAgain.{is_own, own_bytes}
 use Rattle.request_translate.proofs.Carry.{optional_said}
 use Rattle.std.proofs.lemmas.Bool.Decides.{nat_tests}
 use Rattle.order_meaning.specs.declared.fault.Fault.{Fault}
 use Rattle.request_translate.proofs.Outcomes.{kind_in, kind_is, letter_asked, items_asked}
 use Rattle.request_translate.proofs.Outcomes.{IsOfKind, of_kind}
 use Rattle.translation.proofs.Writable.{IsType, One as OneByte}
-use Rattle.request_translate.proofs.Stages.{AreOf}
-use Rattle.request_translate.proofs.Found.{value_behind}
-use Rattle.request_translate.proofs.Values.{cells_in}
-use Rattle.request_translate.proofs.ReadAgain as again
-use Rattle.request_translate.proofs.ReadAgain.{IsTable, cells_by_places}
+use Rattle.sound_messages.proofs.Stages.{AreOf}
+use Rattle.sound_messages.proofs.Found.{value_behind}
+use Rattle.sound_messages.proofs.Values.{cells_in}
+use Rattle.sound_messages.proofs.ReadAgain as again
+use Rattle.sound_messages.proofs.ReadAgain.{IsTable, cells_by_places}
 use Rattle.request_translate.proofs.Completed.{completed_again, complete}
-use Rattle.request_translate.proofs.TableFits as fits
-use Rattle.request_translate.proofs.TableFits.{table_fits}
+use Rattle.sound_messages.proofs.TableFits as fits
+use Rattle.sound_messages.proofs.TableFits.{table_fits}
 use Rattle.row_values.specs.Faults as row_faults
 use Rattle.request_translate.proofs.Sayable.{told50}
 

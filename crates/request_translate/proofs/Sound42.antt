@@ -10,7 +10,7 @@ use Rattle.typed_fields.specs.declared.fault.FieldFault.{FieldFault}
 use Rattle.typed_fields.specs.declared.month_year.MonthYear.{MonthYear as MonthValue}
 use Rattle.typed_fields.specs.MonthYear.{read_month_year}
 use Rattle.typed_fields.specs.Day.{is_date}
-use Rattle.row_values.specs.ValueKind.{MonthYear, DayOfMonth, spelling, spelt, number_of_two}
+use Rattle.value_kinds.specs.ValueKind.{MonthYear, DayOfMonth, spelling, spelt, number_of_two}
 use Rattle.field_groups.specs.Field.{Field, AreFields}
 use Rattle.field_groups.specs.Data.{is_data_tag}
 use Rattle.message_tables.specs.Tables.{Verdict, Spells, Outside, Wrong, Need, Required, Optional}
@@ -30,15 +30,15 @@ use Rattle.dict_fix42.specs.Requests.{new_order, cancel_request, replace_request
 use Rattle.dict_fix42.specs.Said.{says as says42}
 use Rattle.dict_fix42.specs.declared.requests.Msg42.{Msg42}
 use Rattle.dict_fix42.specs.declared.requests.Msg42.TheVariants as messages
-use Rattle.request_translate.specs.Sound.{IsClear, IsSound}
+use Rattle.sound_messages.specs.Sound.{IsClear, IsSound}
 use Rattle.request_translate.specs.Up.{IsSound42}
-use Rattle.request_translate.proofs.Each.{both, not_true}
-use Rattle.request_translate.proofs.ContentValues.{is_alone, value_said}
-use Rattle.request_translate.proofs.PlainRows.{value_again, value_clear, HasPlainRows, allocs_plain}
-use Rattle.request_translate.proofs.PlainRows.{sessions_plain, allocs_apart, sessions_apart}
-use Rattle.request_translate.proofs.PlainRows.{unfixed, plain_items, of_message}
-use Rattle.request_translate.proofs.ReadSound.{IsClearField, IsStableRow, IsStableItem, IsTable}
-use Rattle.request_translate.proofs.ReadSound.{read_sound}
+use Rattle.sound_messages.proofs.Each.{both, not_true}
+use Rattle.sound_messages.proofs.ContentValues.{is_alone, value_said}
+use Rattle.sound_messages.proofs.PlainRows.{value_again, value_clear, HasPlainRows, allocs_plain}
+use Rattle.sound_messages.proofs.PlainRows.{sessions_plain, allocs_apart, sessions_apart}
+use Rattle.sound_messages.proofs.PlainRows.{unfixed, plain_items, of_message}
+use Rattle.sound_messages.proofs.ReadSound.{IsClearField, IsStableRow, IsStableItem, IsTable}
+use Rattle.sound_messages.proofs.ReadSound.{read_sound}
 
 -- ---- the values of FIX 4.2
 

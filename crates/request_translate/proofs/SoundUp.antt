@@ -6,8 +6,8 @@ use Rattle.typed_fields.specs.Dec.{dec_text}
 use Rattle.typed_fields.specs.Day.{day_text}
 use Rattle.typed_fields.specs.Stamp.{stamp_text}
 use Rattle.typed_fields.specs.Flag.{flag_text}
-use Rattle.row_values.specs.ValueKind as kinds
-use Rattle.row_values.specs.CodeKinds.{code_text}
+use Rattle.value_kinds.specs.ValueKind as kinds
+use Rattle.value_kinds.specs.CodeKinds.{code_text}
 use Rattle.row_values.specs.Kinds.{row, Kind, Value, Byte, DayOf, MonthBeside, TimeBeside, judge}
 use Rattle.row_values.specs.Writing as row_parts
 use Rattle.row_values.specs.Groups as row_groups
@@ -37,11 +37,11 @@ use Rattle.dict_fix50.specs.declared.requests.Status50.{Status50}
 use Rattle.dict_fix42.specs.declared.requests.Msg42.{Msg42}
 use Rattle.dict_fix42.specs.declared.requests.Msg42.TheVariants as messages
 use Rattle.request_translate.specs.declared.parts.Terms.{Terms}
-use Rattle.request_translate.specs.Sound.{IsSaid, IsGroup, IsSound, IsItem}
+use Rattle.sound_messages.specs.Sound.{IsSaid, IsGroup, IsSound, IsItem}
 use Rattle.request_translate.specs.Up.{IsSound42}
 use Rattle.request_translate.specs.Written.{IsNew, IsCancel, IsReplace, IsStatus, AreTerms}
 use Rattle.request_translate.specs.Written.{parties_up, is_type42, IsTime42}
-use Rattle.request_translate.proofs.ContentValues.{groups_said, value_said, is_alone, GroupSaid}
+use Rattle.sound_messages.proofs.ContentValues.{groups_said, value_said, is_alone, GroupSaid}
 use Rattle.request_translate.proofs.Carry as carry
 use Rattle.request_translate.proofs.Carry.{party_id, RolesSaid, roles_said}
 use Rattle.request_translate.proofs.CarriedRows.{SaysAlike, GoUp, apart50, others, apart42}

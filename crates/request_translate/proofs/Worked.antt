@@ -3,7 +3,7 @@ use Rattle.std.specs.Prelude.{[], ◌∷◌, ◌≡◌, codes, Some, refl}
 use Rattle.std.specs.Fmt.{digits}
 use Rattle.typed_fields.specs.Digits.{are_digits, number_of, has_pattern, zero_padded}
 use Rattle.typed_fields.specs.Digits.{without_leading_zeros, without_trailing_zeros}
-use Rattle.row_values.specs.ValueKind.{spelling}
+use Rattle.value_kinds.specs.ValueKind.{spelling}
 use Rattle.request_translate.specs.Plain.{PlainOrder, HasPlainValues, translated_fields}
 
 abbrev order : PlainOrder

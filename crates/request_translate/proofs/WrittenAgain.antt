@@ -25,18 +25,18 @@ use Rattle.dict_fix50.specs.Requests as requests50
 use Rattle.dict_fix50.specs.Said as said50
 use Rattle.dict_fix50.specs.declared.requests.Msg50.{Msg50}
 use Rattle.dict_fix50.specs.declared.requests.Msg50.TheVariants as messages50
-use Rattle.request_translate.specs.Sound.{IsSound, places_of}
+use Rattle.sound_messages.specs.Sound.{IsSound, places_of}
 use Rattle.request_translate.specs.Up.{IsComplete}
 use Rattle.request_translate.specs.Laws.{without_resend, IsReadAgain42, IsReadAgain50}
-use Rattle.request_translate.proofs.Each.{are_apart}
-use Rattle.request_translate.proofs.Lookups.{places_apart}
-use Rattle.request_translate.proofs.Stages.{item_tags}
-use Rattle.request_translate.proofs.Found.{items_of, value_none}
-use Rattle.request_translate.proofs.Values.{cells_in}
-use Rattle.request_translate.proofs.ReadAgain as again
-use Rattle.request_translate.proofs.ReadAgain.{cells_by_places}
-use Rattle.request_translate.proofs.TableFits as fits
-use Rattle.request_translate.proofs.TableFits.{table_fits}
+use Rattle.sound_messages.proofs.Each.{are_apart}
+use Rattle.sound_messages.proofs.Lookups.{places_apart}
+use Rattle.sound_messages.proofs.Stages.{item_tags}
+use Rattle.sound_messages.proofs.Found.{items_of, value_none}
+use Rattle.sound_messages.proofs.Values.{cells_in}
+use Rattle.sound_messages.proofs.ReadAgain as again
+use Rattle.sound_messages.proofs.ReadAgain.{cells_by_places}
+use Rattle.sound_messages.proofs.TableFits as fits
+use Rattle.sound_messages.proofs.TableFits.{table_fits}
 use Rattle.request_translate.proofs.Completed.{completed_again}
 
 module _ (table : Table Kind) (m : Message)

@@ -9,7 +9,7 @@ use Rattle.dict_fix50.specs.Said as said50
 use Rattle.dict_fix50.specs.Sense.{request50}
 use Rattle.dict_fix50.specs.declared.requests.Msg50.{Msg50}
 use Rattle.dict_fix50.specs.declared.requests.Msg50.TheVariants as messages
-use Rattle.request_translate.specs.Sound.{IsSound}
+use Rattle.sound_messages.specs.Sound.{IsSound}
 use Rattle.request_translate.specs.Written.{parties_up}
 use Rattle.row_values.specs.Lines as row_lines
 

@@ -2,7 +2,6 @@ pub mod Canonical
 pub mod Lack
 pub mod Laws
 pub mod Plain
-pub mod Sound
 pub mod Translation
 pub mod Up
 pub mod Writing

@@ -5,9 +5,9 @@ use Rattle.std.specs.declared.option.Option.{Option}
 use Rattle.frame_grammar.specs.declared.frame.Kind.TheVariants.{Fixt11}
 use Rattle.frame_grammar.specs.Frame.{frame_of}
 use Rattle.field_groups.specs.Field.{Field, body_of}
-use Rattle.row_values.specs.ValueKind.{ValueKind, Id, Code, Stamp, Qty, Price, spelling}
+use Rattle.value_kinds.specs.ValueKind.{ValueKind, Id, Code, Stamp, Qty, Price, spelling}
 use Rattle.translation.specs.declared.error.TranslateError.{TranslateError}
-use Rattle.request_translate.specs.Sound.{IsClear}
+use Rattle.sound_messages.specs.Sound.{IsClear}
 use Rattle.request_translate.specs.Translation.{IsOutcome}
 
 -- the values of a plain order

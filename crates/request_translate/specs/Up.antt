@@ -12,7 +12,7 @@ use Rattle.dict_fix50.specs.Requests as requests50
 use Rattle.dict_fix50.specs.Said as said50
 use Rattle.dict_fix50.specs.declared.requests.Msg50.{Msg50}
 use Rattle.dict_fix50.specs.declared.requests.Msg50.TheVariants as messages50
-use Rattle.request_translate.specs.Sound.{IsSound}
+use Rattle.sound_messages.specs.Sound.{IsSound}
 use Rattle.request_translate.specs.Canonical.{HasMonthOfDate}
 
 abbrev pub IsSound42 : Msg42 → Type 0

@@ -2,7 +2,7 @@
 use Rattle.std.specs.Prelude.{◌≡◌, ℕ, List, [], ◌∷◌, map, codes, Bool, true, false, not, ◌||◌}
 use Rattle.std.specs.Prelude.{Option, Some, None, IfSome}
 use Rattle.std.specs.Option.{option_map}
-use Rattle.row_values.specs.CodeKinds.{code_text}
+use Rattle.value_kinds.specs.CodeKinds.{code_text}
 use Rattle.message_tables.specs.Tables.{Said, ◌>>=◌, code_of, is_one_of}
 use Rattle.order_meaning.specs.Request.{OrderType}
 use Rattle.row_values.specs.Kinds.{is_at_close}

@@ -11,7 +11,7 @@ use Rattle.message_tables.proofs.Members.{lines_say, row_says}
 use Rattle.order_meaning.specs.declared.party.PartyLine.{PartyLine}
 use Rattle.row_values.specs.declared.lines.AllocLine.{AllocLine}
 use Rattle.row_values.specs.declared.lines.SessionLine.{SessionLine}
-use Rattle.row_values.specs.ValueKind.{Id, Number}
+use Rattle.value_kinds.specs.ValueKind.{Id, Number}
 use Rattle.row_values.specs.Kinds.{Kind, judge, row, said}
 use Rattle.row_values.specs.Lines.{party_cells, alloc_cells, session_cells}
 use Rattle.row_values.specs.Groups.{parties, allocs, sessions, AreParties, AreAllocs, AreSessions}

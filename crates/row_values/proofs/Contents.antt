@@ -8,7 +8,7 @@ use Rattle.field_groups.specs.Field.{Field, body_of, field_bytes}
 use Rattle.message_tables.specs.Tables.{Cell}
 use Rattle.message_tables.specs.Content.{line_fields, group_fields}
 use Rattle.typed_fields.specs.Digits.{zero_padded}
-use Rattle.row_values.specs.CodeKinds.{two_digit_text}
+use Rattle.value_kinds.specs.CodeKinds.{two_digit_text}
 use Rattle.row_values.specs.Writing.{count_fields}
 
 pub body-append : (xs ys : List Field) → body_of (xs ++ ys) ≡ body_of xs ++ body_of ys

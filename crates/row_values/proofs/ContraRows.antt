@@ -8,7 +8,7 @@ use Rattle.message_tables.specs.FirstFault.{first_fault}
 use Rattle.message_tables.proofs.Few.{IsPlain}
 use Rattle.message_tables.proofs.Members.{lines_say}
 use Rattle.row_values.specs.declared.contras.ContraLine.{ContraLine}
-use Rattle.row_values.specs.ValueKind.{Id}
+use Rattle.value_kinds.specs.ValueKind.{Id}
 use Rattle.row_values.specs.Kinds.{Kind, Value, judge, row}
 use Rattle.row_values.specs.Contras.{contras, contra_cells, IsContra, AreContras}
 use Rattle.row_values.specs.Contras.{AreReadableContras}

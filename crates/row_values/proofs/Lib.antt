@@ -1,4 +1,3 @@
-pub mod Spelled
 pub mod Marks
 pub mod Texts
 pub mod FirstFaults

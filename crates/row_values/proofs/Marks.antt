@@ -4,9 +4,10 @@ use Rattle.std.specs.Prelude.{Some, None, Ok, Err, is_some, if◌then◌else◌,
 use Rattle.std.specs.declared.option.Option.{Option}
 use Rattle.std.specs.Option.{option_map}
 use Rattle.std.specs.List.{list_any}
-use Rattle.row_values.specs.CodeKinds.{judged, code_text, two_digit_text, day_mark}
-use Rattle.row_values.specs.ValueKind.{Spelling, Code, MonthYear, is_code, listed_word, spelling}
-use Rattle.row_values.specs.ValueKind.{spelled, text_of as spelled_text, number_of_two}
+use Rattle.value_kinds.specs.CodeKinds.{judged, code_text, two_digit_text}
+use Rattle.row_values.specs.CodeKinds.{day_mark}
+use Rattle.value_kinds.specs.ValueKind.{Spelling, Code, MonthYear, is_code, listed_word, spelling}
+use Rattle.value_kinds.specs.ValueKind.{spelled, text_of as spelled_text, number_of_two}
 use Rattle.message_tables.specs.declared.table_fault.Mark.{Mark}
 use Rattle.message_tables.specs.declared.table_fault.Mark.TheVariants as marks
 use Rattle.message_tables.specs.Tables.{Said, Verdict, Spells, Outside, Wrong}

@@ -2,21 +2,20 @@
 use Rattle.std.proofs.Common.{◌≡◌, ℕ, ◌+◌, ◌<◌, ◌≤◌, Bool, true, false, List, [], ◌∷◌, ◌++◌, length}
 use Rattle.std.proofs.Common.{get_or, take, map, replicate, refl, sym, ap, ◌∙◌, arith}
 use Rattle.std.proofs.lemmas.List.{append-nil}
-use Rattle.std.specs.Prelude.{◌&&◌, None}
+use Rattle.std.specs.Prelude.{None}
 use Rattle.std.specs.List.{list_all, flat_map}
-use Rattle.std.proofs.lemmas.List.{take_more, map-append, get_or-replicate, length-replicate}
+use Rattle.std.proofs.lemmas.List.{take_more, map-append, get_or-replicate}
 use Rattle.std.proofs.lemmas.List.Folds.{list_all-append}
 use Rattle.std.proofs.lemmas.Grind.{flat_map-append}
 use Rattle.field_groups.specs.Field.{Field}
 use Rattle.message_tables.specs.declared.table.Row.{Row as CodeRow}
 use Rattle.message_tables.specs.declared.table.Item.{Item as CodeItem}
-use Rattle.message_tables.specs.declared.table.Table.{Table as CodeTable}
 use Rattle.message_tables.specs.Tables.{Row, Item, Table, rows_of, rows_in, all_rows}
 use Rattle.message_tables.specs.FirstFault.{first_fault}
-use Rattle.message_tables.specs.CodeTables.{row_of, item_of, table_of}
-use Rattle.message_tables.specs.Plain.{fits, item_fits, with_place, with_places}
-use Rattle.message_tables.proofs.OnePass.{IsPlain, RowAt, plain_is_clean, row_of_place, each_marked}
-use Rattle.message_tables.proofs.OnePass.{with_places-append, has}
+use Rattle.message_tables.specs.CodeTables.{row_of, item_of}
+use Rattle.message_tables.specs.Plain.{fits, item_fits, with_places}
+use Rattle.message_tables.proofs.OnePass.{RowAt, plain_is_clean, row_of_place, each_marked}
+use Rattle.message_tables.proofs.OnePass.{with_places-append}
 use Rattle.row_values.specs.declared.kinds.Kind.{Kind as CodeKind}
 use Rattle.row_values.specs.Kinds.{Kind, judge}
 use Rattle.row_values.specs.CodeKinds.{kind_of}

@@ -9,7 +9,7 @@ use Rattle.message_tables.proofs.Few.{IsPlain}
 use Rattle.order_meaning.specs.declared.party.PartyLine.{PartyLine}
 use Rattle.row_values.specs.declared.lines.AllocLine.{AllocLine}
 use Rattle.row_values.specs.declared.lines.SessionLine.{SessionLine}
-use Rattle.row_values.specs.ValueKind.{Id, Number}
+use Rattle.value_kinds.specs.ValueKind.{Id, Number}
 use Rattle.row_values.specs.Kinds.{Kind, Value, judge, said}
 use Rattle.row_values.specs.Lines.{IsParty, IsAlloc, IsSession, party_cells, alloc_cells}
 use Rattle.row_values.specs.Lines.{session_cells, AreReadableParties, AreReadableAllocs}

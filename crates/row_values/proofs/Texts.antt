@@ -16,14 +16,14 @@ use Rattle.typed_fields.specs.Stamp.{read_stamp, stamp_text}
 use Rattle.typed_fields.specs.Flag.{read_flag, flag_text}
 use Rattle.typed_fields.specs.Number.{read_number, number_text}
 use Rattle.typed_fields.specs.MonthYear.{read_month_year, month_year_text}
-use Rattle.row_values.proofs.Spelled.{as_price, as_number, as_qty, as_reason, in_range}
+use Rattle.value_kinds.proofs.Spelled.{as_price, as_number, as_qty, as_reason, in_range}
 use Rattle.typed_fields.proofs.DayLaws.{day_is_plain}
 use Rattle.typed_fields.proofs.StampLaws.{stamp_is_plain}
 use Rattle.typed_fields.proofs.NumberLaws.{flag_is_plain, month_year_is_plain}
-use Rattle.row_values.specs.ValueKind.{Stamp, Flag, MonthYear, Price, Qty, Number, Reason, spelt}
-use Rattle.row_values.specs.ValueKind.{most_reason}
-use Rattle.row_values.specs.ValueKind.{ValueKind, Code, Day, Spelling, listed_word}
-use Rattle.row_values.specs.ValueKind.{spelling, spelled, text_of as spelled_text}
+use Rattle.value_kinds.specs.ValueKind.{Stamp, Flag, MonthYear, Price, Qty, Number, Reason, spelt}
+use Rattle.value_kinds.specs.ValueKind.{most_reason}
+use Rattle.value_kinds.specs.ValueKind.{ValueKind, Code, Day, Spelling, listed_word}
+use Rattle.value_kinds.specs.ValueKind.{spelling, spelled, text_of as spelled_text}
 use Rattle.field_groups.specs.Field.{Field}
 use Rattle.message_tables.specs.Tables.{Said, ◌>>=◌, text_of}
 use Rattle.message_tables.specs.Tables.{is_listed, value_at}

@@ -8,7 +8,7 @@ use Rattle.message_tables.specs.Tables.{Tag, Cell, ◌>>=◌, said_at, text_in}
 use Rattle.order_meaning.specs.declared.Amount.{Amount}
 use Rattle.order_meaning.specs.Report.{NeutralContra}
 use Rattle.order_meaning.specs.Request.{NeutralAlloc, NeutralSession}
-use Rattle.row_values.specs.ValueKind.{units_of_text}
+use Rattle.value_kinds.specs.ValueKind.{units_of_text}
 
 abbrev pub amount_of : List ℕ → Option Amount
 amount_of text = option_map (λ units. record { units = units }) (units_of_text text)

@@ -4,7 +4,7 @@ use Rattle.std.specs.Prelude.{ℕ, List, [], ◌∷◌}
 use Rattle.std.specs.List.{flat_map}
 use Rattle.message_tables.specs.Tables.{Need, Required, Optional, RepeatingGroup, Item, One, Party}
 use Rattle.message_tables.specs.Tables.{Lines}
-use Rattle.row_values.specs.ValueKind.{ValueKind}
+use Rattle.value_kinds.specs.ValueKind.{ValueKind}
 use Rattle.row_values.specs.Kinds.{Kind, Value}
 
 -- whether a message has a row: R, each does; O, it may; N, it has none

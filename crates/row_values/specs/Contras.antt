@@ -9,7 +9,7 @@ use Rattle.field_groups.specs.Field.{Field}
 use Rattle.message_tables.specs.Tables.{Required, Optional, RepeatingGroup, Tag, Cell, lines_in}
 use Rattle.message_tables.specs.Tables.{tags_in}
 use Rattle.row_values.specs.declared.contras.ContraLine.{ContraLine}
-use Rattle.row_values.specs.ValueKind.{Id, Qty, Stamp}
+use Rattle.value_kinds.specs.ValueKind.{Id, Qty, Stamp}
 use Rattle.row_values.specs.Kinds.{Kind, Value, row, said}
 
 -- the brokers on the other side of a trade; ContraLegRefID is passed over

@@ -8,7 +8,7 @@ use Rattle.message_tables.specs.Tables.{tags_in}
 use Rattle.order_meaning.specs.declared.party.PartyLine.{PartyLine}
 use Rattle.row_values.specs.declared.lines.AllocLine.{AllocLine}
 use Rattle.row_values.specs.declared.lines.SessionLine.{SessionLine}
-use Rattle.row_values.specs.ValueKind.{Id, Number, OneByte, Qty}
+use Rattle.value_kinds.specs.ValueKind.{Id, Number, OneByte, Qty}
 use Rattle.row_values.specs.Kinds.{Kind, row}
 use Rattle.row_values.specs.Lines.{IsParty, IsAlloc, IsSession}
 

@@ -15,8 +15,8 @@ use Rattle.typed_fields.specs.Day.{is_date}
 use Rattle.field_groups.specs.Field.{Field}
 use Rattle.message_tables.specs.Tables.{Verdict, Spells, Outside, Wrong, Said, Judge, Need, Row}
 use Rattle.message_tables.specs.Tables.{◌>>=◌, flag_of, is_listed, text_of, value_at}
-use Rattle.row_values.specs.ValueKind.{ValueKind, OneByte, Code, Day, MonthYear, DayOfMonth}
-use Rattle.row_values.specs.ValueKind.{Spelling, is_code, spelling, number_of_two}
+use Rattle.value_kinds.specs.ValueKind.{ValueKind, OneByte, Code, Day, MonthYear, DayOfMonth}
+use Rattle.value_kinds.specs.ValueKind.{Spelling, is_code, spelling, number_of_two}
 
 -- the kinds of values: those of the single fields, and those in which other fields have a part
 pub data Kind : Type 0 where

@@ -1,4 +1,3 @@
-pub mod ValueKind
 pub mod Kinds
 pub mod Faults
 pub mod Lines

@@ -12,7 +12,7 @@ use Rattle.order_meaning.specs.declared.party.PartyLine.{PartyLine}
 use Rattle.row_values.specs.declared.lines.AllocLine.{AllocLine}
 use Rattle.row_values.specs.declared.lines.SessionLine.{SessionLine}
 use Rattle.row_values.specs.declared.lines.Maturity.{Maturity}
-use Rattle.row_values.specs.ValueKind.{Id, Qty, Number}
+use Rattle.value_kinds.specs.ValueKind.{Id, Qty, Number}
 use Rattle.row_values.specs.Kinds.{Value, said}
 
 -- ---- what is said

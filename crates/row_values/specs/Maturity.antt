@@ -3,7 +3,7 @@ use Rattle.std.specs.Prelude.{◌≡◌, List, Option, None, option_and_then}
 use Rattle.std.specs.Option.{option_map}
 use Rattle.field_groups.specs.Field.{Field}
 use Rattle.row_values.specs.declared.lines.Maturity.{Maturity}
-use Rattle.row_values.specs.ValueKind.{MonthYear}
+use Rattle.value_kinds.specs.ValueKind.{MonthYear}
 use Rattle.row_values.specs.Kinds.{Value, DayOf, said}
 use Rattle.row_values.specs.Lines.{month_text}
 use Rattle.row_values.specs.Writing.{month_day_text}

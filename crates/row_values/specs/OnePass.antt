@@ -1,5 +1,5 @@
 -- Inside: what a pass over the rows of a table has shown and marked.
-use Rattle.std.specs.Prelude.{◌≡◌, Bool, true, List, IsTrue}
+use Rattle.std.specs.Prelude.{◌≡◌, Bool, true, List}
 use Rattle.std.specs.List.{list_all, flat_map}
 use Rattle.field_groups.specs.Field.{Field}
 use Rattle.message_tables.specs.Tables.{Row, Item, rows_of}
@@ -12,6 +12,7 @@ pub record Fit (fields : List Field) (rows : List (Row Kind)) (old new : List Bo
   pub places : new ≡ with_places fields rows old
 
 -- items fit, and the places of the fields of their rows are marked
-pub record ItemsFit (fields : List Field) (items : List (Item Kind)) (old new : List Bool) : Type 0 where
+pub record ItemsFit
+    (fields : List Field) (items : List (Item Kind)) (old new : List Bool) : Type 0 where
   pub all : list_all (item_fits judge fields) items ≡ true
   pub places : new ≡ with_places fields (flat_map rows_of items) old

@@ -1,5 +1,5 @@
 -- Inside: the parts in which a content is written.
-use Rattle.std.specs.Prelude.{ℕ, ◌≤◌, ◌++◌, zero, suc, List, [], ◌∷◌, map, Option, Some, IfSome}
+use Rattle.std.specs.Prelude.{ℕ, ◌++◌, zero, suc, List, [], ◌∷◌, map, Option, Some, IfSome}
 use Rattle.std.specs.Prelude.{option_and_then}
 use Rattle.std.specs.Option.{option_map}
 use Rattle.std.specs.Fmt.{decimal}
@@ -17,7 +17,7 @@ use Rattle.row_values.specs.declared.writing.Value.{Value}
 use Rattle.row_values.specs.declared.writing.Value.TheVariants as values
 use Rattle.row_values.specs.declared.writing.Part.{Part}
 use Rattle.row_values.specs.declared.writing.Part.TheVariants as parts
-use Rattle.row_values.specs.CodeKinds.{code_text, two_digit_text}
+use Rattle.value_kinds.specs.CodeKinds.{code_text, two_digit_text}
 use Rattle.row_values.specs.Contras.{contra_cells, AreReadableContras}
 use Rattle.row_values.specs.Lines.{month_text, party_cells, alloc_cells, session_cells}
 use Rattle.row_values.specs.Lines.{IsReadableMaturity, AreReadableParties, AreReadableAllocs}

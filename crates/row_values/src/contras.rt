@@ -6,8 +6,6 @@ ghost use Rattle.message_tables.specs.Tables.{tags_in};
 use crate::copies::owned;
 use crate::kinds::Kind;
 use crate::lines::GroupLine;
-use crate::value_kind::ValueKind;
-use crate::value_kind::ValueKind::Id;
 use crate::values::{or_empty, qty, stamp, text};
 use crate::writing::{Value, put_row};
 use field_groups::Field;
@@ -16,6 +14,8 @@ use message_tables::{Line, RepeatingGroup, Row};
 use order_meaning::{Bytes, GroupLines};
 use std::alloc::{AllocError, Global};
 use typed_fields::{Dec, Stamp};
+use value_kinds::ValueKind;
+use value_kinds::ValueKind::Id;
 
 /// One line of the brokers on the other side of a trade: NoContraBrokers(382) of FIX 4.2,
 /// ContraGrp(382) of FIX 5.0 SP2.

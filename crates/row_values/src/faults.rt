@@ -93,7 +93,7 @@ fn value_fits(row: &Row<Kind>, fields: &Fields<'_>, value: &[u8]) -> bool
     }
 }
 
-/// Whether the field of a row has a good value, or none is needed. The place of the field is marked.
+/// Whether the field of a row has a good value, or none is needed. The field's place is marked.
 fn row_fits(row: &Row<Kind>, fields: &Fields<'_>, rowed: &mut Rowed) -> bool
     ensures fits { result ≡ fits judge fields.now (row_of kind_of row.now) }
     ensures places { rowed.new

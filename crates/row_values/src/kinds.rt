@@ -5,22 +5,21 @@ ghost use Rattle.std.specs.Prelude.{IfSome};
 ghost use Rattle.std.specs.Str.{bytes_eq};
 ghost use Rattle.message_tables.specs.FirstFault.{mark_of};
 ghost use Rattle.message_tables.specs.Tables.{Said, Spells, Wrong};
-ghost use Rattle.row_values.specs.ValueKind as kinds;
-ghost use Rattle.row_values.specs.ValueKind.{is_code, spelling};
+ghost use Rattle.value_kinds.specs.ValueKind as kinds;
+ghost use Rattle.value_kinds.specs.ValueKind.{is_code, spelling};
 ghost use Rattle.typed_fields.specs.Day.{is_date};
 ghost use Rattle.typed_fields.specs.MonthYear.{IsMonthYear};
 ghost use Rattle.row_values.specs.Kinds.{counted, filled, if_spelled, is_at_close, judge};
 ghost use Rattle.row_values.specs.Kinds.{in_month, month_beside, reason_of, verdict_of};
 ghost use Rattle.row_values.specs.CodeKinds.{counted_mark, day_mark, judged_mark, kind_of};
-ghost use Rattle.row_values.specs.CodeKinds.{value_kind_of};
+ghost use Rattle.value_kinds.specs.CodeKinds.{value_kind_of};
 
-use crate::value_kind;
-use crate::value_kind::ValueKind::{Code, OneByte};
-use crate::value_kind::{ValueKind, day_of_month, has_day};
 use crate::values::{AT_CLOSE, day, may_close, month};
 use field_groups::Fields;
 use message_tables::Mark;
 use typed_fields::{FieldFault, MonthYear};
+use value_kinds::ValueKind::{Code, OneByte};
+use value_kinds::{ValueKind, day_of_month, has_day};
 
 /// SessionRejectReason(373): tag specified without a value.
 const EMPTY: u8 = 4;
@@ -130,7 +129,7 @@ fn counted(counts: bool, mark: Mark) -> Mark
 fn month_alone(month: &[u8]) -> Mark
     ensures { result ≡ mark_of (if_spelled (spelling kinds.MonthYear month.now)) }
 {
-    match value_kind::month_year(month) {
+    match value_kinds::month_year(month) {
         Some(_) => Mark::Good,
         None => Mark::Outside,
     }
@@ -169,7 +168,7 @@ fn judge_byte(listed: &'static [u8], value: &[u8]) -> Mark
         (verdict_of (spelling kinds.OneByte value.now))) }
 {
     counted(
-        value_kind::code(&Code(listed), value).is_some(),
+        value_kinds::code(&Code(listed), value).is_some(),
         mark_of(OneByte.judge(value)),
     )
 }

@@ -10,7 +10,6 @@ mod lines;
 mod maturity;
 #[cfg(test)]
 mod tests;
-pub mod value_kind;
 mod values;
 mod writing;
 
@@ -23,7 +22,6 @@ pub use lines::{
     read_group, read_lines,
 };
 pub use maturity::month_and_day;
-pub use value_kind::ValueKind;
 pub use values::{
     AT_CLOSE, code, day, flag, may_close, month, number, number_or_zero, or_empty, price,
     price_or_zero, qty, qty_or_zero, reason, resend, stamp, stamp_or_epoch, text,

@@ -13,8 +13,6 @@ ghost use Rattle.row_values.specs.Groups.{allocs, parties, sessions};
 
 use crate::copies::owned;
 use crate::kinds::Kind;
-use crate::value_kind::ValueKind;
-use crate::value_kind::ValueKind::{Id, OneByte, Qty};
 use crate::values::{number_or_zero, or_empty, qty, text};
 use crate::writing::{Value, put_row};
 use field_groups::{Field, Fields, put_field};
@@ -23,6 +21,8 @@ use message_tables::{Line, RepeatingGroup, Row, line, line_end};
 use order_meaning::{Bytes, GroupLines, PartyLine};
 use std::alloc::{AllocError, Global};
 use typed_fields::{Dec, MonthYear, Number};
+use value_kinds::ValueKind;
+use value_kinds::ValueKind::{Id, OneByte, Qty};
 
 /// A month, and maybe a day of it.
 #[derive(Clone, Copy, Debug, PartialEq, Eq)]

@@ -4,17 +4,17 @@ ghost use Rattle.std.specs.Prelude.{◌≡◌, ◌≤◌, Some, None, IfSome, if
 ghost use Rattle.std.specs.Option.{option_map};
 ghost use Rattle.typed_fields.specs.Day.{is_date};
 ghost use Rattle.typed_fields.specs.MonthYear.{IsMonthYear};
-ghost use Rattle.row_values.specs.CodeKinds.{two_digit_text};
+ghost use Rattle.value_kinds.specs.CodeKinds.{two_digit_text};
 ghost use Rattle.row_values.specs.Kinds.{DayOf, month_at, said};
 ghost use Rattle.row_values.specs.Lines.{IsReadableMaturity};
 ghost use Rattle.row_values.specs.Maturity.{IsMaturity};
 
 use crate::lines::Maturity;
-use crate::value_kind::{day_of_month, has_day};
 use crate::values::month;
 use field_groups::Fields;
 use message_tables::Lookup;
 use typed_fields::MonthYear;
+use value_kinds::{day_of_month, has_day};
 
 /// The day, where the month has it.
 fn day_in(month: &MonthYear, day: u8) -> Option<u8>

@@ -6,10 +6,10 @@ ghost use Rattle.std.specs.Prelude.{if◌then◌else◌};
 ghost use Rattle.std.specs.Int.{is_negative};
 ghost use Rattle.std.specs.Option.{option_map};
 ghost use Rattle.std.specs.Result.{result_ok};
-ghost use Rattle.row_values.specs.ValueKind as kinds;
-ghost use Rattle.row_values.specs.ValueKind.{most_reason, spelled};
-ghost use Rattle.row_values.specs.CodeKinds.{code_text, is_byte_kind, is_verbatim};
-ghost use Rattle.row_values.specs.CodeKinds.{value_kind_of};
+ghost use Rattle.value_kinds.specs.ValueKind as kinds;
+ghost use Rattle.value_kinds.specs.ValueKind.{most_reason, spelled};
+ghost use Rattle.value_kinds.specs.CodeKinds.{code_text, is_byte_kind, is_verbatim};
+ghost use Rattle.value_kinds.specs.CodeKinds.{value_kind_of};
 ghost use Rattle.typed_fields.specs.Dec.{dec_text, IsDec};
 ghost use Rattle.typed_fields.specs.Day.{day_text, IsDay};
 ghost use Rattle.typed_fields.specs.Flag.{flag_text};
@@ -19,13 +19,12 @@ ghost use Rattle.typed_fields.specs.Stamp.{stamp_text, IsStamp};
 ghost use Rattle.message_tables.specs.Tables.{is_listed, value_at};
 ghost use Rattle.row_values.specs.Kinds.{Value, month_at, resend_of, said};
 
-use crate::value_kind;
-use crate::value_kind::ValueKind::Code;
-use crate::value_kind::{MAX_REASON, ValueKind};
 use message_tables::Lookup;
 use order_meaning::Bytes;
 use std::alloc::{AllocError, Global};
 use typed_fields::{Day, Dec, FieldValue, Flag, MonthYear, Number, Stamp};
+use value_kinds::ValueKind::Code;
+use value_kinds::{MAX_REASON, ValueKind};
 
 /// TimeInForce(59): at the close.
 pub const AT_CLOSE: u8 = b'7';
@@ -38,7 +37,7 @@ pub fn text<'f, F: Lookup>(fields: &'f F, tag: u32, kind: &ValueKind) -> Option<
         ≡ said (F.fields fields.now) tag (Value (value_kind_of kind.now)) }
 {
     match fields.value(tag) {
-        Some(bytes) => value_kind::text(kind, bytes),
+        Some(bytes) => value_kinds::text(kind, bytes),
         None => None,
     }
 }
@@ -61,7 +60,7 @@ pub fn code<F: Lookup>(fields: &F, tag: u32, kind: &ValueKind) -> Option<u8>
         ≡ said (F.fields fields.now) tag (Value (value_kind_of kind.now)) }
 {
     match fields.value(tag) {
-        Some(bytes) => value_kind::code(kind, bytes),
+        Some(bytes) => value_kinds::code(kind, bytes),
         None => None,
     }
 }
@@ -120,7 +119,8 @@ pub fn day<F: Lookup>(fields: &F, tag: u32) -> Option<Day>
 
 /// The moment that the field of a tag says.
 pub fn stamp<F: Lookup>(fields: &F, tag: u32) -> Option<Stamp>
-    ensures text { option_map stamp_text result ≡ said (F.fields fields.now) tag (Value kinds.Stamp) }
+    ensures text { option_map stamp_text result
+        ≡ said (F.fields fields.now) tag (Value kinds.Stamp) }
     ensures bound { IfSome result IsStamp }
 {
     read(fields, tag)
@@ -135,7 +135,8 @@ pub fn flag<F: Lookup>(fields: &F, tag: u32) -> Option<Flag>
 
 /// The number that the field of a tag says.
 pub fn number<F: Lookup>(fields: &F, tag: u32) -> Option<Number>
-    ensures text { option_map number_text result ≡ said (F.fields fields.now) tag (Value kinds.Number) }
+    ensures text { option_map number_text result
+        ≡ said (F.fields fields.now) tag (Value kinds.Number) }
     ensures bound { IfSome result IsNumber }
 {
     read(fields, tag)
@@ -156,7 +157,8 @@ fn not_past_reasons(number: Number) -> Option<Number>
 
 /// The reason that the field of a tag says.
 pub fn reason<F: Lookup>(fields: &F, tag: u32) -> Option<Number>
-    ensures text { option_map number_text result ≡ said (F.fields fields.now) tag (Value kinds.Reason) }
+    ensures text { option_map number_text result
+        ≡ said (F.fields fields.now) tag (Value kinds.Reason) }
     ensures bound { IfSome result IsNumber }
 {
     match read::<Number, F>(fields, tag) {

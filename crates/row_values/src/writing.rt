@@ -1,6 +1,7 @@
 //! Writing contents: each row of a table is a part.
 
-ghost use Rattle.std.specs.Prelude.{◌≡◌, ◌≤◌, ◌++◌, ◌∷◌, [], map, IfSome, OnErr, OnOk, option_and_then};
+ghost use Rattle.std.specs.Prelude.{◌≡◌, ◌≤◌, ◌++◌, ◌∷◌, [], map, IfSome, OnErr, OnOk};
+ghost use Rattle.std.specs.Prelude.{option_and_then};
 ghost use Rattle.std.specs.List.{AllByRecursion, flat_map};
 ghost use Rattle.std.specs.Option.{option_map};
 ghost use Rattle.std.specs.Fmt.{decimal};
@@ -9,7 +10,7 @@ ghost use Rattle.typed_fields.specs.MonthYear.{IsMonthYear, month_year_text};
 ghost use Rattle.field_groups.specs.Field.{body_of, field_bytes};
 ghost use Rattle.message_tables.specs.Tables.{Tag};
 ghost use Rattle.message_tables.specs.Content.{cell_fields, group_fields};
-ghost use Rattle.row_values.specs.CodeKinds.{code_text, two_digit_text};
+ghost use Rattle.value_kinds.specs.CodeKinds.{code_text, two_digit_text};
 ghost use Rattle.row_values.specs.Lines.{IsReadableMaturity, month_text};
 ghost use Rattle.row_values.specs.Writing.{IsPart, IsValue, count_fields, date_text};
 ghost use Rattle.row_values.specs.Writing.{month_day_text, part_fields, value_text};

@@ -11,7 +11,7 @@ use Rattle.message_tables.specs.declared.table_fault.TableFault.TheVariants.{Rea
 use Rattle.order_meaning.specs.Request.{OrderType, Market, Limit, Stop, StopLimit, MarketOnClose}
 use Rattle.order_meaning.specs.Request.{LimitOnClose}
 use Rattle.row_values.specs.Kinds.{judge}
-use Rattle.row_values.specs.ValueKind.{spelling}
+use Rattle.value_kinds.specs.ValueKind.{spelling}
 use Rattle.rows_fix42.specs.Header.{table, has_day}
 use Rattle.rows_fix42.specs.Meaning.{maturity_of, order_type_of, is_on_close, time_of}
 

@@ -3,7 +3,7 @@
 -- outside the profile.
 use Rattle.std.specs.Prelude.{ℕ, true, List, [], ◌∷◌}
 use Rattle.message_tables.specs.Tables.{Condition, Stands, Optional, Row, Item, Table}
-use Rattle.row_values.specs.ValueKind.{Filled, Flag}
+use Rattle.value_kinds.specs.ValueKind.{Filled, Flag}
 use Rattle.row_values.specs.Kinds.{Kind, row}
 
 -- The standard header. Of its fields PossResend (97) alone is a part of what a message means; of

@@ -6,7 +6,7 @@ use Rattle.std.specs.Option.{option_map}
 use Rattle.message_tables.specs.Tables.{Said}
 use Rattle.order_meaning.specs.Request.{OrderType, Market, Limit, Stop, StopLimit, MarketOnClose}
 use Rattle.order_meaning.specs.Request.{LimitOnClose, NeutralMaturity}
-use Rattle.row_values.specs.ValueKind.{number_of_two}
+use Rattle.value_kinds.specs.ValueKind.{number_of_two}
 
 -- MaturityMonthYear(200) and MaturityDay(205)
 abbrev pub maturity_of : Said → Said → Option NeutralMaturity

@@ -4,7 +4,7 @@ use message_tables::Need::Optional;
 use message_tables::{Row, Test};
 use row_values::Kind;
 use row_values::Kind::Value;
-use row_values::ValueKind::{Filled, Flag};
+use value_kinds::ValueKind::{Filled, Flag};
 
 /// A row: the tag of its field, and the kind of its values.
 macro_rules! row {

@@ -6,7 +6,7 @@ use Rattle.std.specs.Prelude.{if◌then◌else◌}
 use Rattle.message_tables.specs.Tables.{Optional, Row, Item, Tag, Said, Cell, Table, Message}
 use Rattle.message_tables.specs.Tables.{is_place, said_at}
 use Rattle.order_meaning.specs.declared.fault.Fault.{Fault}
-use Rattle.row_values.specs.ValueKind.{Filled, Flag}
+use Rattle.value_kinds.specs.ValueKind.{Filled, Flag}
 use Rattle.row_values.specs.Kinds.{Kind, Version, row, month_in_date}
 
 -- The standard header. Of its fields PossResend (97) alone is a part of what a message means, and

@@ -2,7 +2,7 @@
 use Rattle.std.specs.Prelude.{◌≡◌, ℕ, List, ◌++◌, length, take, drop, Option, Some}
 use Rattle.std.specs.Prelude.{option_and_then}
 use Rattle.std.specs.Option.{option_map}
-use Rattle.row_values.specs.ValueKind.{Day, MonthYear, DayOfMonth, spelled}
+use Rattle.value_kinds.specs.ValueKind.{Day, MonthYear, DayOfMonth, spelled}
 use Rattle.field_groups.specs.Field.{Field}
 use Rattle.row_values.specs.declared.lines.Maturity.{Maturity}
 use Rattle.row_values.specs.Kinds.{Value, MonthBeside, said}

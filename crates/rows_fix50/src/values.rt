@@ -2,9 +2,9 @@
 
 ghost use Rattle.std.specs.Prelude.{◌≡◌, Some, option_and_then, IfSome};
 ghost use Rattle.std.specs.Option.{option_map};
-ghost use Rattle.row_values.specs.ValueKind as kinds;
-ghost use Rattle.row_values.specs.ValueKind.{spelled};
-ghost use Rattle.row_values.specs.CodeKinds.{code_text};
+ghost use Rattle.value_kinds.specs.ValueKind as kinds;
+ghost use Rattle.value_kinds.specs.ValueKind.{spelled};
+ghost use Rattle.value_kinds.specs.CodeKinds.{code_text};
 ghost use Rattle.row_values.specs.Kinds.{TimeBeside, Value, month_in_date, said};
 ghost use Rattle.row_values.specs.Lines.{IsReadableMaturity, month_text};
 ghost use Rattle.row_values.specs.Writing.{date_text};
@@ -12,8 +12,8 @@ ghost use Rattle.rows_fix50.specs.Maturity.{IsDate, IsMaturity};
 
 use field_groups::Fields;
 use message_tables::Lookup;
-use row_values::ValueKind::Code;
-use row_values::{AT_CLOSE, Maturity, code, may_close, month, value_kind};
+use row_values::{AT_CLOSE, Maturity, code, may_close, month};
+use value_kinds::ValueKind::Code;
 
 /// TimeInForce(59), of which 7, at the close, counts only beside a market or limit order.
 #[tactic(auto, using(crate::proofs::Times::time_said))]
@@ -39,10 +39,10 @@ fn month_and_day(date: &[u8]) -> Option<Maturity>
     ensures date { option_and_then date_text result ≡ Some date.now }
     ensures bound { IfSome result IsReadableMaturity }
 {
-    match value_kind::month_year(&date[..6]) {
+    match value_kinds::month_year(&date[..6]) {
         Some(month) => Some(Maturity {
             month,
-            day: value_kind::day_of_month(&date[6..]),
+            day: value_kinds::day_of_month(&date[6..]),
         }),
         None => None,
     }
@@ -56,7 +56,7 @@ fn date_of(date: &[u8]) -> Option<Maturity>
     ensures date { option_and_then date_text result ≡ spelled kinds.Day date.now }
     ensures bound { IfSome result IsReadableMaturity }
 {
-    match value_kind::day(date) {
+    match value_kinds::day(date) {
         Some(_) => month_and_day(date),
         None => None,
     }

@@ -22,4 +22,5 @@ returns-clause-says c =
     let none = no_fault c.replace_request.ensures c.in_ok-fields.ensures in
     ap completed_by (reads c.replace_request.ensures c.in_ok-fields.ensures _ refl)
     ∙ ap Ok
-    (sym (replace_means _ none c.in_ok-replace_request.field-0 c.in_ok-replace_request.ensures.says))
+    (sym
+    (replace_means _ none c.in_ok-replace_request.field-0 c.in_ok-replace_request.ensures.says))

@@ -9,7 +9,10 @@ use Rattle.gateway_top.proofs.finding.of_refusal.Goals as goal
 
 pub returns : goal.returns
 returns c =
-    subst (λ (r : Result Finding AllocError). IfOk r (IsRead (IsCheckedRefusal c.args.side c.args.body.now)))
-    (sym c.found_by.ensures) (read_by (IsCheckedRefusal c.args.side c.args.body.now) (IsFaultyRefusal c.args.side c.args.body.now)
+    subst (λ (r : Result Finding AllocError). IfOk r
+    (IsRead (IsCheckedRefusal c.args.side c.args.body.now)))
+    (sym c.found_by.ensures)
+    (read_by (IsCheckedRefusal c.args.side c.args.body.now)
+    (IsFaultyRefusal c.args.side c.args.body.now)
     (λ fault why. why) (λ tag why. why) c.check_refusal.result c.check_refusal.ensures.ok
     c.check_refusal.ensures.refused)

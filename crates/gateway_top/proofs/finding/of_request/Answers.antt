@@ -10,7 +10,10 @@ use Rattle.gateway_top.proofs.finding.of_request.Goals as goal
 
 pub returns : goal.returns
 returns c =
-    subst (λ (r : Result Finding AllocError). IfOk r (IsRead (IsCheckedMessage Client c.args.body.now)))
-    (sym c.found_by.ensures) (read_by (IsCheckedMessage Client c.args.body.now) (IsRefusedByCheck c.args.body.now)
+    subst (λ (r : Result Finding AllocError). IfOk r
+    (IsRead (IsCheckedMessage Client c.args.body.now)))
+    (sym c.found_by.ensures)
+    (read_by (IsCheckedMessage Client c.args.body.now)
+    (IsRefusedByCheck c.args.body.now)
     (λ fault why. why) (λ tag why. why) c.check.result c.check.ensures.ok
     c.check.ensures.refused)

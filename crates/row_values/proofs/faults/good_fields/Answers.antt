@@ -1,7 +1,5 @@
 use Rattle.std.proofs.Common.{Err, sym, ap, ◌∙◌}
-use Rattle.message_tables.specs.FirstFault.{first_fault}
 use Rattle.message_tables.specs.CodeTables.{table_of}
-use Rattle.row_values.specs.Kinds.{judge}
 use Rattle.row_values.specs.CodeKinds.{kind_of}
 use Rattle.row_values.proofs.Given.{refused}
 use Rattle.row_values.proofs.faults.good_fields.Goals as goal

@@ -1,4 +1,4 @@
-use Rattle.std.proofs.Common.{List, Bool, ℕ, length, take, sym, ap, ◌∙◌}
+use Rattle.std.proofs.Common.{Bool, ℕ, take, sym, ap, ◌∙◌}
 use Rattle.std.specs.List.{list_all}
 use Rattle.message_tables.specs.CodeTables.{table_of}
 use Rattle.row_values.specs.CodeKinds.{kind_of}

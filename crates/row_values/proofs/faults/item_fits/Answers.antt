@@ -1,10 +1,8 @@
-use Rattle.std.proofs.Common.{◌≡◌, List, Bool, true, sym, ap, ◌∙◌}
-use Rattle.message_tables.specs.Tables.{rows_of, tags_in}
-use Rattle.message_tables.specs.CodeTables.{item_of, group_of, row_of}
-use Rattle.message_tables.specs.Plain.{item_fits, with_places}
+use Rattle.std.proofs.Common.{sym, ◌∙◌}
+use Rattle.message_tables.specs.Tables.{tags_in}
+use Rattle.message_tables.specs.CodeTables.{group_of}
 use Rattle.message_tables.proofs.Mapped.{lacks_mapped}
 use Rattle.message_tables.proofs.OnePass.{lacking_rows, lacking_group}
-use Rattle.row_values.specs.Kinds.{judge}
 use Rattle.row_values.specs.CodeKinds.{kind_of}
 use Rattle.row_values.proofs.faults.item_fits.Goals as goal
 

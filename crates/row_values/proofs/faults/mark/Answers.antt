@@ -1,6 +1,6 @@
 use Rattle.std.proofs.Common.{ap, ◌∙◌}
 use Rattle.message_tables.specs.FirstFault.{allowed}
-use Rattle.message_tables.specs.CodeTables.{seen, need_of, row_of}
+use Rattle.message_tables.specs.CodeTables.{need_of, row_of}
 use Rattle.row_values.proofs.FirstFaults.{with_row, with_none}
 use Rattle.row_values.proofs.faults.mark.Goals as goal
 

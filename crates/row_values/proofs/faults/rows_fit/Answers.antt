@@ -1,7 +1,5 @@
 use Rattle.std.proofs.Common.{sym, ◌∙◌}
 use Rattle.std.proofs.lemmas.List.{get_or_default}
-use Rattle.message_tables.specs.CodeTables.{row_of}
-use Rattle.row_values.specs.CodeKinds.{kind_of}
 use Rattle.row_values.proofs.OnePass.{next_row}
 use Rattle.row_values.proofs.faults.rows_fit.Goals as goal
 

@@ -5,4 +5,5 @@ use Rattle.row_values.specs.OnePass.{Fit}
 use Rattle.row_values.proofs.faults.rows_fit.Given as goal
 
 abbrev pub invariant-loop-row : goal.invariant-loop-row
-invariant-loop-row l = Fit l.fields (map (row_of kind_of) (take l.row-index l.rows)) l.fn.rowed l.rowed
+invariant-loop-row l =
+    Fit l.fields (map (row_of kind_of) (take l.row-index l.rows)) l.fn.rowed l.rowed

@@ -1,5 +1,5 @@
 use Rattle.std.proofs.Common.{ap, ◌∙◌}
-use Rattle.row_values.specs.ValueKind.{OneByte, spelling}
+use Rattle.value_kinds.specs.ValueKind.{OneByte, spelling}
 use Rattle.row_values.specs.CodeKinds.{counted_mark, judged_mark}
 use Rattle.row_values.proofs.Marks.{code_spelled, counted_marked, mark_judged}
 use Rattle.row_values.proofs.kinds.judge_byte.Goals as goal

@@ -1,5 +1,5 @@
 use Rattle.std.proofs.Common.{sym, ap, ◌∙◌}
-use Rattle.row_values.specs.ValueKind.{DayOfMonth, spelled, spelling}
+use Rattle.value_kinds.specs.ValueKind.{DayOfMonth, spelled, spelling}
 use Rattle.message_tables.specs.FirstFault.{mark_of}
 use Rattle.row_values.specs.Kinds.{in_month, verdict_of}
 use Rattle.row_values.proofs.Marks.{day_marked, no_day}

@@ -6,4 +6,5 @@ use Rattle.row_values.proofs.values.day.Goals as goal
 
 pub returns-clause-text : goal.returns-clause-text
 returns-clause-text g c =
-    ap (option_map day_text) c.read.ensures.value ∙ day_said (g.F.Lookup.fields c.args.fields.now) c.args.tag
+    ap (option_map day_text) c.read.ensures.value
+    ∙ day_said (g.F.Lookup.fields c.args.fields.now) c.args.tag

@@ -6,4 +6,5 @@ use Rattle.row_values.proofs.values.flag.Goals as goal
 
 pub returns : goal.returns
 returns g c =
-    ap (option_map flag_text) c.read.ensures.value ∙ flag_said (g.F.Lookup.fields c.args.fields.now) c.args.tag
+    ap (option_map flag_text) c.read.ensures.value
+    ∙ flag_said (g.F.Lookup.fields c.args.fields.now) c.args.tag

@@ -6,4 +6,5 @@ use Rattle.row_values.proofs.values.stamp.Goals as goal
 
 pub returns-clause-text : goal.returns-clause-text
 returns-clause-text g c =
-    ap (option_map stamp_text) c.read.ensures.value ∙ stamp_said (g.F.Lookup.fields c.args.fields.now) c.args.tag
+    ap (option_map stamp_text) c.read.ensures.value
+    ∙ stamp_said (g.F.Lookup.fields c.args.fields.now) c.args.tag

@@ -1,6 +1,6 @@
 use Rattle.std.proofs.Common.{ap, ◌∙◌}
 use Rattle.std.proofs.lemmas.List.{take_rest}
-use Rattle.row_values.specs.ValueKind.{DayOfMonth, spelled}
+use Rattle.value_kinds.specs.ValueKind.{DayOfMonth, spelled}
 use Rattle.rows_fix50.proofs.Dates.{date_again}
 use Rattle.rows_fix50.proofs.values.month_and_day.Goals as goal
 

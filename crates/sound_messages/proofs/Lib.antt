@@ -1,0 +1,15 @@
+pub mod ContentValues
+pub mod Each
+pub mod Found
+pub mod Good
+pub mod GroupStage
+pub mod Judged50
+pub mod Lookups
+pub mod PlainRows
+pub mod ReadAgain
+pub mod ReadSound
+pub mod ShortDays
+pub mod SpelledAgain
+pub mod Stages
+pub mod TableFits
+pub mod Values

@@ -1,0 +1,2 @@
+pub mod ValueKind
+pub mod CodeKinds
