@@ -11,5 +11,7 @@ mod mapping;
 mod parts;
 mod reasons;
 mod reports;
+#[cfg(test)]
+mod tests;
 
 pub use downward::{down_cancel_reject, down_report};
