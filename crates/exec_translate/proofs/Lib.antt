@@ -6,3 +6,8 @@ pub mod Means
 pub mod Readable
 pub mod Mapped
 mod Worked
+pub mod DownCodes
+pub mod DownValues
+pub mod DownRows
+pub mod SoundDown
+mod ReportsAgain

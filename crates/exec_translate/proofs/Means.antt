@@ -1,7 +1,7 @@
 -- What is written in FIX 4.2 row by row means what the report meant.
 use Rattle.std.proofs.Common.{◌≡◌, ℕ, Bool, true, false, if◌then◌else◌, codes, List, [], refl, ap}
 use Rattle.std.proofs.Common.{sym, ◌∙◌, ◌++◌, map, Option, Some, None, option_map, unwrap_or, pos}
-use Rattle.std.proofs.Common.{lit≤}
+use Rattle.std.proofs.Common.{lit≤, subst}
 use Rattle.std.specs.Prelude.{option_and_then}
 use Rattle.typed_fields.specs.declared.dec.Dec.{Dec as DecValue}
 use Rattle.typed_fields.specs.declared.number.Number.{Number}
@@ -171,3 +171,15 @@ pub refusal_books : (m : CancelReject50) (original : Option (List ℕ)) (orig_id
 refusal_books m original orig_id r h known w book =
     books_go_alike book (said42.cancel_reject_says r) (said50.cancel_reject_says m) original
     (refusal_kept m original orig_id r h known w)
+
+-- a cancel reject is of the order that it names
+pub of_its_order : (m : CancelReject50) (orig_id : List ℕ) (r : CancelReject42)
+    → IsWrittenReject m orig_id r → IsWrittenReject m r.orig_id r
+of_its_order m orig_id r w =
+    subst (λ (id : List ℕ). IsWrittenReject m id r) (sym w.orig_id) w
+
+pub original_told : (m : CancelReject50) (original : Option (List ℕ)) (orig_id : List ℕ)
+    (r : CancelReject42) → or_known m.orig_id original ≡ Some orig_id
+    → IsWrittenReject m orig_id r → or_known m.orig_id original ≡ Some r.orig_id
+original_told m original orig_id r known w =
+    known ∙ ap (λ (id : List ℕ). Some id) (sym w.orig_id)

@@ -79,10 +79,10 @@ within_says last other reason few good =
 
 -- ---- maturities
 
-two_number : (day : ℕ) → number_of_two (two_digit_text day) ≡ day
+pub two_number : (day : ℕ) → number_of_two (two_digit_text day) ≡ day
 two_number day = omega arith
 
-padded_number : (day : ℕ) → digits_value 10 (zero_padded 2 day) ≡ day % 100
+pub padded_number : (day : ℕ) → digits_value 10 (zero_padded 2 day) ≡ day % 100
 unfolding number_of
 padded_number day =
     let ten : day / 10 % 10 ≡ day % 100 / 10 % 10 = omega arith in

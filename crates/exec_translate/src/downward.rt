@@ -1,9 +1,9 @@
 //! Reports of FIX 5.0 SP2 as reports of FIX 4.2.
 
-ghost use Rattle.std.specs.Prelude.{◌≡◌, IfOk, IfErr};
+ghost use Rattle.std.specs.Prelude.{◌≡◌, Some, IfOk, IfErr};
 ghost use Rattle.std.specs.Option.{option_map};
 ghost use Rattle.order_meaning.specs.Book.{Book};
-ghost use Rattle.order_meaning.specs.Report.{filled};
+ghost use Rattle.order_meaning.specs.Report.{filled, or_known};
 ghost use Rattle.reports_fix42.specs.Readable as readable42;
 ghost use Rattle.reports_fix42.specs.Said as said42;
 ghost use Rattle.reports_fix42.specs.Sense.{report42};
@@ -13,6 +13,7 @@ ghost use Rattle.reports_fix50.specs.Said as said50;
 ghost use Rattle.reports_fix50.specs.Sense.{report50};
 ghost use Rattle.reports_fix50.specs.Step.{step50};
 ghost use Rattle.exec_translate.specs.Down.{IsMapped, LacksCodes, LacksOriginal};
+ghost use Rattle.exec_translate.specs.Written.{IsWritten, IsWrittenReject};
 
 use crate::cancel_rejects::{cancel_reject, original};
 use crate::mapping::exec_codes;
@@ -40,6 +41,7 @@ pub fn down_report(alloc: Global, msg: &Report50) -> Result<Report42, Lack>
     ensures sense { IfOk result (λ written. report42 (said42.report_says written)
         ≡ report50 (said50.report_says msg.now)) }
     ensures codes { IfOk result (IsMapped msg.now) }
+    ensures written { IfOk result (IsWritten msg.now) }
     ensures readable { IfOk result readable42.IsReadableReport }
     ensures book { IfOk result (λ written. (book : Book)
         → step42 book (said42.report_says written) ≡ step50 book (said50.report_says msg.now)) }
@@ -68,6 +70,10 @@ pub fn down_cancel_reject(
         ≡ option_map (filled (option_map (λ o. o.now) orig.entry))
         (report50 (said50.cancel_reject_says msg.now))) }
     ensures status { IfOk result (λ written. written.ord_status ≡ msg.now.ord_status) }
+    ensures original { IfOk result (λ written. or_known msg.now.orig_id
+        (option_map (λ o. o.now) orig.entry) ≡ Some written.orig_id) }
+    ensures written { IfOk result (λ written.
+        IsWrittenReject msg.now written.orig_id written) }
     ensures readable { IfOk result readable42.IsReadableCancelReject }
     ensures book { IfOk result (λ written. (book : Book)
         → step42 book (said42.cancel_reject_says written)

@@ -75,7 +75,7 @@ pub with_original : (m : CancelReject50) (r : CancelReject42)
 unfolding original_in
 with_original m r same = known m.orig_id r.orig_id (ap original_in same)
 
-nothing_known : (said : Option (List ℕ)) → or_known said None ≡ said
+pub nothing_known : (said : Option (List ℕ)) → or_known said None ≡ said
 nothing_known None = refl
 nothing_known (Some said) = refl
 

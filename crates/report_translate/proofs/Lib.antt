@@ -1,5 +1,8 @@
 pub mod Lacks
 pub mod OfType
 pub mod Stands
+pub mod ReadReports
+pub mod DownAgain
 pub mod Translated
 pub mod Refused
+mod KeptSense

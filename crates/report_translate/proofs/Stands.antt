@@ -8,7 +8,7 @@ use Rattle.field_groups.specs.Field.{Field}
 use Rattle.order_meaning.specs.declared.fault.Lack.{Lack}
 use Rattle.order_meaning.specs.declared.fault.Lack.TheVariants as lacks
 use Rattle.order_meaning.specs.Book.{Book}
-use Rattle.order_meaning.specs.Report.{filled}
+use Rattle.order_meaning.specs.Report.{filled, or_known}
 use Rattle.reports_fix42.specs.declared.reports.Report42.{Report42}
 use Rattle.reports_fix42.specs.declared.reports.CancelReject42.{CancelReject42}
 use Rattle.reports_fix42.specs.Readable as readable42
@@ -17,11 +17,13 @@ use Rattle.reports_fix42.specs.Sense.{report42}
 use Rattle.reports_fix42.specs.Step.{step42}
 use Rattle.reports_fix50.specs.declared.reports.Report50.{Report50}
 use Rattle.reports_fix50.specs.declared.reports.CancelReject50.{CancelReject50}
+use Rattle.reports_fix50.specs.Readable as readable50
 use Rattle.reports_fix50.specs.Said as said50
 use Rattle.reports_fix50.specs.Sense.{report50}
 use Rattle.reports_fix50.specs.Step.{step50}
 use Rattle.exec_translate.specs.Down as lack_of_down
 use Rattle.exec_translate.specs.Down.{IsMapped, LacksOriginal}
+use Rattle.exec_translate.specs.Written as rows
 use Rattle.translation.specs.declared.error.TranslateError.{TranslateError}
 use Rattle.translation.specs.declared.error.TranslateError.TheVariants as errors
 use Rattle.translation.specs.Errors.{error_of_lack}
@@ -40,6 +42,7 @@ use Rattle.report_translate.specs.Writing.{IsReportOf, Refuses, IsCheckedOf, Ref
 use Rattle.report_translate.specs.Writing.{RefusesDown}
 use Rattle.report_translate.proofs.Lacks.{without_codes, with_codes, lack_of_codes, lack_of_nothing}
 use Rattle.report_translate.proofs.Lacks.{without_original, with_original, same_sense}
+use Rattle.report_translate.proofs.Lacks.{nothing_known}
 use Rattle.report_translate.proofs.OfType.{whole}
 
 -- ---- one report
@@ -48,8 +51,9 @@ pub executed : (m : Report50) (r : Report42)
     → report42 (said42.report_says r) ≡ report50 (said50.report_says m) → IsMapped m r
     → readable42.IsReadableReport r
     → ((book : Book) → step42 book (said42.report_says r) ≡ step50 book (said50.report_says m))
+    → readable50.IsReadableReport m → rows.IsWritten m r
     → Means (venue.Execution m) (client.Execution r)
-executed m r means mapped readable books =
+executed m r means mapped readable books told written =
     let codes = with_codes m (ap is_some mapped.exec) in
     record {
       said = lack_of_nothing (said50.report_says m) codes refl;
@@ -64,6 +68,7 @@ executed m r means mapped readable books =
         mapped = mapped;
         content = refl;
       });
+      rows = record { readable = told; rows = written; codes = mapped };
       means = means;
       books = books;
     }
@@ -74,8 +79,10 @@ pub rejected : (m : CancelReject50) (r : CancelReject42)
     → r.ord_status ≡ m.ord_status → readable42.IsReadableCancelReject r
     → ((book : Book)
     → step42 book (said42.cancel_reject_says r) ≡ step50 book (said50.cancel_reject_says m))
+    → readable50.IsReadableCancelReject m → rows.IsWrittenReject m r.orig_id r
+    → or_known m.orig_id None ≡ Some r.orig_id
     → Means (venue.CancelReject m) (client.CancelReject r)
-rejected m r same status readable books = record {
+rejected m r same status readable books told written original = record {
   said = with_original m r same;
   codes = refl;
   readable = readable;
@@ -88,6 +95,11 @@ rejected m r same status readable books = record {
     status = status;
     content = refl;
   });
+  rows = record {
+    readable = told;
+    rows = written;
+    original = sym (nothing_known m.orig_id) ∙ original;
+  };
   means = same_sense m r same;
   books = books;
 }

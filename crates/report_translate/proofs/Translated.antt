@@ -8,7 +8,7 @@ use Rattle.field_groups.specs.Field.{Field}
 use Rattle.field_groups.specs.Fields.{SplitsInto}
 use Rattle.translation.specs.declared.error.TranslateError.{TranslateError}
 use Rattle.translation.specs.declared.error.TranslateError.TheVariants as errors
-use Rattle.translation.specs.Header.{type_of, carried}
+use Rattle.translation.specs.Header.{type_of, carried, with_content}
 use Rattle.translation.proofs.Writable.{writable}
 use Rattle.report_translate.specs.declared.report.ClientReport.{ClientReport}
 use Rattle.report_translate.specs.declared.report.VenueReport.{VenueReport}
@@ -17,6 +17,9 @@ use Rattle.report_translate.specs.Translation.{IsReport, IsGood, IsKnown, Stands
 use Rattle.report_translate.specs.Translation.{IsRefused, IsRefusedByCheck}
 use Rattle.report_translate.specs.Writing.{AreRead, IsReportOf, Refuses, IsCheckedOf, RefusesCheck}
 use Rattle.report_translate.specs.Writing.{IsDownOf, RefusesDown}
+use Rattle.row_values.specs.Kinds.{judge}
+use Rattle.sound_messages.proofs.PlainFields.{clear_fields}
+use Rattle.report_translate.proofs.DownAgain.{reads_again, splits_again}
 use Rattle.report_translate.proofs.Lacks.{lack_of_codes}
 use Rattle.report_translate.proofs.OfType.{type_is}
 
@@ -45,8 +48,17 @@ module _ (body : List ℕ) (fields : List Field)
       (writable (type_of fields) (carried fields ++ content42 is.client)
       (type_is (type_of fields) fields None (says50 is.told.venue) is.told.read.read))
 
+  split_down : (down : List ℕ) (is : IsDownOf fields stopped down)
+      → SplitsInto down (with_content fields (content42 is.client)) None
+  split_down down is =
+      let P : List ℕ → Type 0 =
+      λ bytes. SplitsInto bytes (with_content fields (content42 is.client)) None in
+      subst P (sym is.written.bytes) (splits_again fields is.told.venue is.client split.good
+      is.told.written.rows is.told.read.read)
+
   pub translation : (down : List ℕ) → IsDownOf fields stopped down
       → IsFrame Fix42 down (frame_of Fix42 down) → IsTranslation body (frame_of Fix42 down)
+  unfolding stands
   translation down is frame = record {
     down = down;
     stands = record {
@@ -56,6 +68,9 @@ module _ (body : List ℕ) (fields : List Field)
       bytes = is.written.bytes;
       content_fits = is.written.content_fits;
       body_fits = is.written.body_fits;
+      again = split_down down is;
+      read = reads_again fields (clear_fields judge None fields split.good) is.told.venue is.client
+          is.told.written.rows is.told.read.read;
     };
     written = refl;
     frame = frame;

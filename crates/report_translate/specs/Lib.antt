@@ -4,3 +4,4 @@ pub mod Translation
 pub mod Refusals
 pub mod Said
 pub mod Writing
+pub mod Laws

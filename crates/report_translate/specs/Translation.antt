@@ -13,6 +13,7 @@ use Rattle.order_meaning.specs.Book.{Book}
 use Rattle.reports_fix42.specs.declared.reports.Report42.{Report42}
 use Rattle.reports_fix42.specs.declared.reports.CancelReject42.{CancelReject42}
 use Rattle.reports_fix42.specs.Content as content42
+use Rattle.reports_fix42.specs.Message.{message42}
 use Rattle.reports_fix42.specs.Readable as readable42
 use Rattle.reports_fix42.specs.Said as said42
 use Rattle.reports_fix42.specs.Sense.{report42}
@@ -81,6 +82,8 @@ pub record StandsFor (body : List ℕ) (fields written : List Field) : Type 0 wh
   pub books : (book : Book) → step42 book client ≡ step50 book good.report.message
 
 -- A body of FIX 4.2 that stands for a body of FIX 5.0 SP2: the header fields, and then the content.
+-- It is split again into these fields, which by the tables of FIX 4.2 are at no fault and are the
+-- very report that was written, with the PossResend of the header.
 pub record IsDown (body down : List ℕ) : Type 0 where
   pub fields : List Field
   pub written : List Field
@@ -88,6 +91,8 @@ pub record IsDown (body down : List ℕ) : Type 0 where
   pub bytes : down ≡ body_of (with_content fields written)
   pub content_fits : length (body_of written) ≤ MAX_CONTENT
   pub body_fits : length down ≤ MAX_BODY
+  pub again : SplitsInto down (with_content fields written) None
+  pub read : message42 (type_of fields) (with_content fields written) None ≡ Ok stands.client
 
 -- a frame of FIX 4.2 whose body stands for a body of FIX 5.0 SP2
 pub record IsTranslation (body text : List ℕ) : Type 0 where

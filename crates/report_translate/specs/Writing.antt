@@ -7,20 +7,46 @@ use Rattle.order_meaning.specs.Book.{Book}
 use Rattle.order_meaning.specs.declared.fault.Fault.{Fault}
 use Rattle.order_meaning.specs.declared.refusal.Refusal.{Refusal}
 use Rattle.row_values.specs.Gives.{Tells}
+use Rattle.reports_fix42.specs.declared.reports.Report42.{Report42}
+use Rattle.reports_fix42.specs.declared.reports.CancelReject42.{CancelReject42}
 use Rattle.reports_fix42.specs.Sense.{report42}
 use Rattle.reports_fix42.specs.Step.{step42}
+use Rattle.reports_fix50.specs.declared.reports.Report50.{Report50}
+use Rattle.reports_fix50.specs.declared.reports.CancelReject50.{CancelReject50}
+use Rattle.reports_fix50.specs.Readable as readable50
 use Rattle.reports_fix50.specs.Sense.{report50}
 use Rattle.reports_fix50.specs.Step.{step50}
+use Rattle.exec_translate.specs.Down.{IsMapped}
+use Rattle.exec_translate.specs.Written as rows
 use Rattle.translation.specs.declared.error.TranslateError.{TranslateError}
 use Rattle.translation.specs.declared.error.TranslateError.TheVariants as errors
 use Rattle.translation.specs.Header.{type_of}
 use Rattle.translation.specs.Writing.{IsWritten, IsUnwritten}
 use Rattle.report_translate.specs.declared.report.ClientReport.{ClientReport}
+use Rattle.report_translate.specs.declared.report.ClientReport.TheVariants as client
 use Rattle.report_translate.specs.declared.report.VenueReport.{VenueReport}
+use Rattle.report_translate.specs.declared.report.VenueReport.TheVariants as venue
 use Rattle.report_translate.specs.Lack.{lack_of, lacks_codes}
 use Rattle.report_translate.specs.Reading.{report_message}
 use Rattle.report_translate.specs.Said.{says50, says42, IsReadable42, content42}
 use Rattle.report_translate.specs.Translation.{IsWrittenIn}
+
+-- an execution report of FIX 4.2 that is one of FIX 5.0 SP2, row by row
+pub record IsExecutionOf (told : Report50) (report : Report42) : Type 0 where
+  pub readable : readable50.IsReadableReport told
+  pub rows : rows.IsWritten told report
+  pub codes : IsMapped told report
+
+-- a cancel reject of FIX 4.2 that is one of FIX 5.0 SP2, row by row
+pub record IsRejectOf (told : CancelReject50) (reject : CancelReject42) : Type 0 where
+  pub readable : readable50.IsReadableCancelReject told
+  pub rows : rows.IsWrittenReject told reject.orig_id reject
+  pub original : told.orig_id ≡ Some reject.orig_id
+
+abbrev pub AreWritten : VenueReport → ClientReport → Type 0
+AreWritten (venue.Execution told) (client.Execution report) = IsExecutionOf told report
+AreWritten (venue.CancelReject told) (client.CancelReject reject) = IsRejectOf told reject
+AreWritten report other = ⊥
 
 -- a report of FIX 4.2 that means what one of FIX 5.0 SP2 means
 pub record Means (venue : VenueReport) (client : ClientReport) : Type 0 where
@@ -28,6 +54,7 @@ pub record Means (venue : VenueReport) (client : ClientReport) : Type 0 where
   pub codes : lacks_codes (says50 venue) ≡ false
   pub readable : IsReadable42 client
   pub written : IsWrittenIn (says50 venue) (says42 client) (content42 client)
+  pub rows : AreWritten venue client
   pub means : report42 (says42 client) ≡ report50 (says50 venue)
   pub books : (book : Book) → step42 book (says42 client) ≡ step50 book (says50 venue)
 

@@ -35,6 +35,8 @@ use Rattle.row_values.specs.declared.lines.Maturity.{Maturity}
 use Rattle.order_meaning.specs.declared.party.PartyLine.{PartyLine}
 use Rattle.party_translate.specs.Parties.{parties_of}
 use Rattle.sound_messages.specs.Sound.{IsClear, IsSaid, IsLine, IsGroup}
+use Rattle.sound_messages.proofs.RowsSaid.{required_said, optional_said, lenient_said, same_value}
+use Rattle.sound_messages.proofs.RowsSaid.{listed_clear}
 use Rattle.request_translate.specs.Written.{coded, is_type50, IsTimeCode, IsTime50}
 use Rattle.request_translate.specs.Lack.{lacks_capacity}
 use Rattle.sound_messages.proofs.SpelledAgain.{clear_joined, digits_clear}
@@ -50,66 +52,7 @@ item_at P i [] x e h = absurd cc
 item_at P zero (y ∷ ys) x e h = let same : y ≡ x = cc in subst P same h.0
 item_at P (suc i) (y ∷ ys) x e h = item_at P i ys x e h.1
 
-again_of : (j : List ℕ → Verdict) (said : Said)
-    → IfSome said (λ text. j text ≡ Spells text) → said >>= (λ bytes. text_of (j bytes)) ≡ said
-again_of j None h = refl
-again_of j (Some text) h = ap text_of h
-
-module _ (fields : List Field) where
-  pub optional_said : (tag : ℕ) (kind : Kind) (said : Said)
-      → IfSome said (λ text. judge fields kind text ≡ Spells text) → IfSome said IsClear →
-      IsSaid judge fields (record { tag = tag; kind = kind; need = Optional }) said
-  optional_said tag kind said h c = record {
-    needed =
-        λ e. absurd cc;
-    spelled = h;
-    again = again_of (judge fields kind) said h;
-    clear = c;
-  }
-
-  pub lenient_said : (tag : ℕ) (kind : Kind) (said : Said)
-      → IfSome said (λ text. judge fields kind text ≡ Spells text) → IfSome said IsClear →
-      IsSaid judge fields (record { tag = tag; kind = kind; need = Lenient }) said
-  lenient_said tag kind said h c = record {
-    needed =
-        λ e. absurd cc;
-    spelled = h;
-    again = again_of (judge fields kind) said h;
-    clear = c;
-  }
-
-  pub required_said : (tag : ℕ) (kind : Kind) (said : Said) → IsSome said
-      → IfSome said (λ text. judge fields kind text ≡ Spells text) → IfSome said IsClear →
-      IsSaid judge fields (record { tag = tag; kind = kind; need = Required }) said
-  required_said tag kind said there h c = record {
-    needed =
-        λ e. there;
-    spelled = h;
-    again = again_of (judge fields kind) said h;
-    clear = c;
-  }
-
--- the values of a kind are the same in both versions
-pub same_value : (fields42 fields50 : List Field) (kind : ValueKind) (said : Said) →
-    IfSome said (λ text. judge fields42 (Value kind) text ≡ Spells text)
-    → IfSome said (λ text. judge fields50 (Value kind) text ≡ Spells text)
-unfolding judge
-same_value fields42 fields50 kind None h = tt
-same_value fields42 fields50 kind (Some text) h = h
-
 -- ---- OrdType, TimeInForce, OrderCapacity
-
--- a listed code is not SOH
-listed_clear : (listed : List ℕ) (code : ℕ)
-    → list_any is_soh listed ≡ false → is_one_of listed code ≡ true → IsClear (code ∷ [])
-listed_clear listed code none h = by (code == 1) refl
-  where
-    by : (b : Bool) → (code == 1) ≡ b → (b || false) ≡ false
-    by false e = refl
-    by true e = absurd (
-        let is : code ≡ 1 = eqb-true code 1 e in
-        let P : ℕ → Type 0 = λ c. is_one_of listed c ≡ true in
-        let there : is_one_of listed 1 ≡ true = subst P is h in cc)
 
 pub type_said : (fields : List Field) (ord_type : ℕ) → is_type50 ord_type ≡ true →
     IsSaid judge
@@ -454,24 +397,6 @@ roles_said (Some client) None (Some firm) = record { client = refl; broker = ref
 roles_said None (Some broker) (Some firm) = record { client = refl; broker = refl; firm = refl }
 roles_said (Some client) (Some broker) (Some firm) =
     record { client = refl; broker = refl; firm = refl }
-
--- ---- the codes of FIX 4.2
-
-code_by : (listed : Bool) (code : ℕ)
-    → verdict_of (Ok (listed_word listed (code ∷ []))) ≡ Spells (code ∷ []) → listed ≡ true
-code_by true code h = refl
-code_by false code h = absurd cc
-
-pub listed_code : (listed : List ℕ) (code : ℕ) → judge []
-    (Value (kinds.Code listed)) (code ∷ []) ≡ Spells (code ∷ []) → is_one_of listed code ≡ true
-unfolding judge spelling
-listed_code listed code h = code_by (is_one_of listed code) code h
-
-pub listed_codes : (listed : List ℕ) (code : Option ℕ) → IfSome (option_map code_text code)
-    (λ text. judge [] (Value (kinds.Code listed)) text ≡ Spells text) →
-    IfSome code (λ c. is_one_of listed c ≡ true)
-listed_codes listed None h = tt
-listed_codes listed (Some code) h = listed_code listed code h
 
 pub capacity_carried : (fields : List Field) (capacity same : Option ℕ)
     → same ≡ capacity → lacks_capacity (coded capacity) ≡ false →

@@ -17,85 +17,13 @@ use Rattle.row_values.specs.Kinds.{Kind, Value, Byte, DayOf, MonthBeside, TimeBe
 use Rattle.row_values.specs.Kinds.{judge, verdict_of, date_at}
 use Rattle.rows_fix50.specs.Header.{completed, month_by}
 use Rattle.sound_messages.specs.Sound.{IsClear, IsSaid, IsItem, IsSound, places_of}
-use Rattle.request_translate.specs.Canonical.{HasMonthOfDate}
+use Rattle.sound_messages.specs.Complete.{HasMonthOfDate}
 use Rattle.sound_messages.proofs.Each.{both}
 use Rattle.sound_messages.proofs.ContentValues.{value_at-append, row_value}
 use Rattle.sound_messages.proofs.ReadSound.{text_again}
-use Rattle.request_translate.proofs.Completed.{with_month}
+use Rattle.sound_messages.proofs.Completed.{other_said, month_said, same_places}
 use Rattle.sound_messages.proofs.Judged50.{ours_kind, AreAlike, judged_again, month_of_date}
 use Rattle.sound_messages.proofs.Judged50.{clear_front}
-
--- ---- the cells
-
-no_month : (p : Place) → is_place p (Tag 200) ≡ false → is_place (Tag 200) p ≡ false
-no_month (Tag tag) h = grind (arith, nat_tests)
-no_month (Role role) h = refl
-
-no_month_tag : (tag : ℕ) → (tag == 200) ≡ false → (200 == tag) ≡ false
-no_month_tag tag h = grind (arith, nat_tests)
-
-module _ (date : Said) where
-  -- what stands at other places stays
-  pub other_said : (cells : List Cell) (p : Place) → is_place p (Tag 200) ≡ false
-      → said_at (map (with_month date) cells) p ≡ said_at cells p
-  other_said [] p other = refl
-  other_said ((Role role, s) ∷ cells) p other =
-      ap (λ (x : Said). if is_place (Role role) p then s else x) (other_said cells p other)
-  other_said ((Tag tag, s) ∷ cells) p other =
-      by (tag == 200) refl (other_said cells p other)
-    where
-      by : (b : Bool) → (tag == 200) ≡ b
-          → said_at (map (with_month date) cells) p ≡ said_at cells p →
-          said_at ((if b then (Tag 200, month_by date s) else (Tag tag, s))
-          ∷ map (with_month date) cells) p ≡ said_at ((Tag tag, s) ∷ cells) p
-      by false e rest = ap (λ (x : Said). if is_place (Tag tag) p then s else x) rest
-      by true e rest =
-          let is : tag ≡ 200 = eqb-true tag 200 e in
-          let apart = no_month p other in
-          let P : ℕ → Type 0 = λ t. is_place (Tag t) p ≡ false in
-          let also : is_place (Tag tag) p ≡ false = subst P (sym is) apart in
-          ap (λ (b : Bool). if b then month_by date s
-          else said_at (map (with_month date) cells) p) apart ∙ rest
-          ∙ sym (ap (λ (b : Bool). if b then s else said_at cells p) also)
-
-  -- the month is that of the date
-  pub month_said : (cells : List Cell) → list_any (is_place (Tag 200)) (map (λ c. c.0) cells) ≡ true
-      → said_at (map (with_month date) cells) (Tag 200) ≡ month_by date (said_at cells (Tag 200))
-  month_said [] there = absurd cc
-  month_said ((Role role, s) ∷ cells) there = month_said cells there
-  month_said ((Tag tag, s) ∷ cells) there =
-      by (tag == 200) refl (λ later. month_said cells later)
-    where
-      behind : (200 == tag) ≡ false → list_any (is_place (Tag 200)) (map (λ c. c.0) cells) ≡ true
-      behind apart = ap (λ (b : Bool). b || list_any (is_place (Tag 200)) (map (λ c. c.0) cells))
-          (sym apart) ∙ there
-
-      by : (b : Bool) → (tag == 200) ≡ b
-          → (list_any (is_place (Tag 200)) (map (λ c. c.0) cells) ≡ true →
-          said_at (map (with_month date) cells) (Tag 200)
-          ≡ month_by date (said_at cells (Tag 200))) →
-          said_at ((if b then (Tag 200, month_by date s) else (Tag tag, s))
-          ∷ map (with_month date) cells) (Tag 200)
-          ≡ month_by date (if b then s else said_at cells (Tag 200))
-      by true e rest = refl
-      by false e rest = ap (λ (b : Bool). if b then s
-          else said_at (map (with_month date) cells) (Tag 200)) e
-          ∙ rest (behind (no_month_tag tag e))
-
-  same_places : (cells : List Cell)
-      → map (λ c. c.0) (map (with_month date) cells) ≡ map (λ c. c.0) cells
-  same_places [] = refl
-  same_places ((Role role, s) ∷ cells) = ap (◌∷◌ (Role role)) (same_places cells)
-  same_places ((Tag tag, s) ∷ cells) = by (tag == 200) refl (same_places cells)
-    where
-      by : (b : Bool) → (tag == 200) ≡ b
-          → map (λ c. c.0) (map (with_month date) cells) ≡ map (λ c. c.0) cells →
-          map (λ c. c.0) ((if b then (Tag 200, month_by date s) else (Tag tag, s))
-          ∷ map (with_month date) cells) ≡ Tag tag ∷ map (λ c. c.0) cells
-      by false e rest = ap (◌∷◌ (Tag tag)) rest
-      by true e rest =
-          let is : tag ≡ 200 = eqb-true tag 200 e in let there = sym is in
-          λ i. Tag (there i) ∷ rest i
 
 -- ---- the rows
 

@@ -2,7 +2,6 @@ mod AgainFields
 mod CanonicalUp
 mod CarriedRows
 mod Carry
-mod Completed
 mod CompletedSound
 mod KeptSense
 mod Lacks

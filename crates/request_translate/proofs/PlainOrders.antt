@@ -41,9 +41,9 @@ use Rattle.request_translate.specs.Translation.{News, StandsFor, IsOutcome, IsTo
 use Rattle.request_translate.specs.Plain.{PlainOrder, IsValue, HasPlainValues, client_field}
 use Rattle.request_translate.specs.Plain.{client_party, terms, plain_fields, translated_fields}
 use Rattle.request_translate.specs.Plain.{PlainOrdersAreTranslated}
-use Rattle.request_translate.proofs.AgainFields.{plain_field, all_of}
-use Rattle.request_translate.proofs.Carry.{IsPartyId, optional_said, lenient_said, required_said}
-use Rattle.request_translate.proofs.Carry.{parties_said}
+use Rattle.sound_messages.proofs.PlainFields.{plain_field, all_of}
+use Rattle.sound_messages.proofs.RowsSaid.{optional_said, lenient_said, required_said}
+use Rattle.request_translate.proofs.Carry.{IsPartyId, parties_said}
 use Rattle.sound_messages.proofs.Each.{◌&◌, both, each_joined}
 use Rattle.request_translate.proofs.Outcomes.{good_not_faulty, good_not_lacking, same_content}
 use Rattle.request_translate.proofs.Outcomes.{same_up}

@@ -18,7 +18,9 @@ use Rattle.request_translate.specs.Writing.{IsUpOf, RefusesUp}
 use Rattle.translation.specs.Header.{type_of}
 use Rattle.translation.specs.Writing.{IsWritten, IsUnwritten}
 use Rattle.request_translate.specs.Up.{IsSound42}
-use Rattle.request_translate.proofs.Sound42.{clear_fields, read_is_sound}
+use Rattle.row_values.specs.Kinds.{judge}
+use Rattle.sound_messages.proofs.PlainFields.{clear_fields}
+use Rattle.request_translate.proofs.Sound42.{read_is_sound}
 
 whole_by : (table : Option (Table Kind))
     (fields : List Field) (stopped : Option SplitFault) (x : Message) →
@@ -43,8 +45,9 @@ are_read fields stopped x e =
 pub sound : (fields : List Field) (stopped : Option SplitFault) (m : Msg42)
     → AreFields None fields →
     message42 (type_of fields) fields stopped ≡ Ok (says m) → IsSound42 m
-sound fields stopped m good e = read_is_sound fields
-    (clear_fields None fields good) (type_of fields) m (are_read fields stopped (says m) e).read
+sound fields stopped m good e =
+    read_is_sound fields (clear_fields judge None fields good) (type_of fields) m
+    (are_read fields stopped (says m) e).read
 
 pub asked : (fields : List Field)
     (stopped : Option SplitFault) (x : Message) (r : Result Msg50 TranslateError) →

@@ -75,13 +75,6 @@ abbrev is_ours : Item Kind → Bool
 is_ours (One row) = is_ours_row row
 is_ours item = true
 
--- fields of a body have no SOH, but where they are raw data
-pub clear_fields : (before : Option Field) (fields : List Field)
-    → AreFields before fields → AllByRecursion (IsClearField judge) fields
-clear_fields before [] h = tt
-clear_fields before (f ∷ fs) h =
-    (λ none. (is_plain before f h.0 none).no_soh, clear_fields (Some f) fs h.1)
-
 -- ---- a table
 
 module _ (table : Table Kind) (fields : List Field) where

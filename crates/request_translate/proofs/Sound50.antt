@@ -21,7 +21,8 @@ use Rattle.dict_fix50.specs.Said.{says as says50}
 use Rattle.dict_fix50.specs.declared.requests.Msg50.{Msg50}
 use Rattle.dict_fix50.specs.declared.requests.Msg50.TheVariants as messages
 use Rattle.sound_messages.specs.Sound.{IsClear, IsSound, places_of}
-use Rattle.request_translate.specs.Up.{IsComplete, IsSound50}
+use Rattle.sound_messages.specs.Complete.{IsComplete}
+use Rattle.request_translate.specs.Up.{IsSound50}
 use Rattle.sound_messages.proofs.Each.{both, not_true}
 use Rattle.sound_messages.proofs.ContentValues.{is_alone, value_said, groups_said, GroupSaid}
 use Rattle.sound_messages.proofs.PlainRows.{HasPlainRows, parties_plain, allocs_plain}
@@ -83,7 +84,7 @@ module _ (fields : List Field) (clear : AllByRecursion (IsClearField judge) fiel
   -- what is read by a table
   abbrev Reads : ℕ → List (Item Kind) → Type 0
   Reads letter items = first_fault judge (table letter items) fields ≡ None
-      → IsComplete letter items (completed (message_in judge (table letter items) fields))
+      → IsComplete (table letter items) (completed (message_in judge (table letter items) fields))
 
   date_same : date_said fields ≡ date_at 541 fields
   unfolding judge
@@ -191,17 +192,18 @@ module _ (fields : List Field) (clear : AllByRecursion (IsClearField judge) fiel
 
   by_table : (letter : ℕ) (items : List (Item Kind)) (x : Message) → Reads letter items
       → completed_by (told (message_of judge (table letter items) fields)) ≡ Ok x
-      → IsComplete letter items x
+      → IsComplete (table letter items) x
   by_table letter items x h e =
-      by_completed (IsComplete letter items) (told (message_of judge (table letter items) fields))
-      (of_message (table letter items) fields (λ y. IsComplete letter items (completed y)) h) x e
+      let t = table letter items in
+      by_completed (IsComplete t) (told (message_of judge t fields))
+      (of_message t fields (λ y. IsComplete t (completed y)) h) x e
 
   -- a complete message of the table of its letter
   data IsCompleteOf (x : Message) : Type 0 where
-    News : IsComplete 68 new_order x → IsCompleteOf x
-    Cancels : IsComplete 70 cancel_request x → IsCompleteOf x
-    Replaces : IsComplete 71 replace_request x → IsCompleteOf x
-    Statuses : IsComplete 72 status_request x → IsCompleteOf x
+    News : IsComplete (table 68 new_order) x → IsCompleteOf x
+    Cancels : IsComplete (table 70 cancel_request) x → IsCompleteOf x
+    Replaces : IsComplete (table 71 replace_request) x → IsCompleteOf x
+    Statuses : IsComplete (table 72 status_request) x → IsCompleteOf x
 
   by_type : (d f g h : Bool) (x : Message) → message50_by
       (if d then Some (table 68 new_order) else (if f then Some (table 70 cancel_request) else

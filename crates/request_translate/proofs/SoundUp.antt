@@ -44,9 +44,9 @@ use Rattle.request_translate.specs.Written.{parties_up, is_type42, IsTime42}
 use Rattle.sound_messages.proofs.ContentValues.{groups_said, value_said, is_alone, GroupSaid}
 use Rattle.request_translate.proofs.Carry as carry
 use Rattle.request_translate.proofs.Carry.{party_id, RolesSaid, roles_said}
-use Rattle.request_translate.proofs.CarriedRows.{SaysAlike, GoUp, apart50, others, apart42}
-use Rattle.request_translate.proofs.CarriedRows.{others_of}
-use Rattle.request_translate.proofs.CarriedRows.{items_up}
+use Rattle.request_translate.proofs.CarriedRows.{SaysAlike, GoUp, apart50, apart42, items_up}
+use Rattle.sound_messages.proofs.ApartRows.{others, others_of}
+use Rattle.sound_messages.proofs.RowsSaid.{listed_code, listed_codes}
 use Rattle.request_translate.proofs.Means.{HasShortDay}
 use Rattle.std.specs.List.{AllByRecursion, flat_map}
 
@@ -203,12 +203,10 @@ module _ {fields : List Field} {client broker firm : Said} {allocs sessions : Li
     (said : OrderRows fields
     client broker firm allocs sessions maturity ord_type time capacity) where
   order_type : is_type42 ord_type ≡ true
-  unfolding judge kinds.spelling
-  order_type = carry.listed_code (codes "12345B") ord_type said.1.1.1.1.1.1.1.0.spelled
+  order_type = listed_code fields (codes "12345B") ord_type said.1.1.1.1.1.1.1.0.spelled
 
   order_time : IsTime42 time
-  unfolding judge kinds.spelling
-  order_time = carry.listed_codes (codes "0123456") time said.1.1.1.1.1.1.1.1.0.spelled
+  order_time = listed_codes fields (codes "0123456") time said.1.1.1.1.1.1.1.1.0.spelled
 
   order_day : HasShortDay maturity
   order_day = carry.short_said fields maturity said.1.1.1.1.1.1.0.spelled

@@ -21,7 +21,8 @@ use Rattle.dict_fix42.specs.Sense.{sense42}
 use Rattle.dict_fix50.specs.Sense.{sense50}
 use Rattle.request_translate.proofs.AgainFields.{split_again}
 use Rattle.request_translate.proofs.SenseAgain.{same_sense}
-use Rattle.request_translate.proofs.Sound42.{clear_fields}
+use Rattle.row_values.specs.Kinds.{judge}
+use Rattle.sound_messages.proofs.PlainFields.{clear_fields}
 use Rattle.request_translate.proofs.Writable.{type_is}
 use Rattle.translation.proofs.Writable.{writable}
 
@@ -81,7 +82,7 @@ module _ (body : List ℕ) (fields : List Field)
       let asked = is.asked in
       same_sense (type_of fields) fields asked.message
       (said50.says is.request) (type_is (type_of fields) fields asked.message asked.read.read)
-      (clear_fields None fields split.good) asked.written.means
+      (clear_fields judge None fields split.good) asked.written.means
       (content50 is.request) (is_request is.request asked.written.canonical) asked.read.read
 
   pub translation : (up : List ℕ) → IsUpOf fields stopped up

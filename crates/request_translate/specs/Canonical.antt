@@ -1,26 +1,22 @@
 -- Own: the one content in which a request is written in FIX 5.0 SP2.
 use Rattle.std.specs.Prelude.{◌≡◌, ℕ, List, map}
-use Rattle.message_tables.specs.Tables.{Tag, Role, Item, Cell, Said, Message, said_at, lines_of}
+use Rattle.message_tables.specs.Tables.{Role, Item, Cell, Said, Message, said_at, lines_of}
 use Rattle.message_tables.specs.Content.{content}
 use Rattle.row_values.specs.Kinds.{Kind, judge}
-use Rattle.rows_fix50.specs.Header.{table, month_by}
+use Rattle.rows_fix50.specs.Header.{table}
 use Rattle.dict_fix50.specs.Requests as requests
 use Rattle.dict_fix50.specs.Said as said50
 use Rattle.dict_fix50.specs.Sense.{request50}
 use Rattle.dict_fix50.specs.declared.requests.Msg50.{Msg50}
 use Rattle.dict_fix50.specs.declared.requests.Msg50.TheVariants as messages
 use Rattle.sound_messages.specs.Sound.{IsSound}
+use Rattle.sound_messages.specs.Complete.{HasMonthOfDate}
 use Rattle.request_translate.specs.Written.{parties_up}
 use Rattle.row_values.specs.Lines as row_lines
 
 -- the lines of the parties of the roles 3, 1 and 4
 abbrev pub party_lines : Said → Said → Said → List (List Cell)
 party_lines client broker firm = map row_lines.party_cells (parties_up client broker firm)
-
--- the month is that of the date, where a request has one
-abbrev pub HasMonthOfDate : Message → Type 0
-HasMonthOfDate m = said_at m.cells (Tag 200)
-    ≡ month_by (said_at m.cells (Tag 541)) (said_at m.cells (Tag 200))
 
 -- A CANONICAL request: it is sound, its month is that of its date where it has one, and its parties
 -- are those of the roles 3, 1 and 4, once each and in this order.

@@ -1,9 +1,8 @@
 -- Own: what holds of the translations of requests.
-use Rattle.std.specs.Prelude.{◌≡◌, ℕ, false, List, [], ◌∷◌, None, Result, Ok, IfSome}
+use Rattle.std.specs.Prelude.{◌≡◌, ℕ, List, [], ◌∷◌, None, Result, Ok, IfSome}
 use Rattle.frame_grammar.specs.declared.frame.Kind.TheVariants.{Fix42, Fixt11}
 use Rattle.frame_grammar.specs.Frame.{IsFrame}
 use Rattle.field_groups.specs.Field.{Field, AreFields}
-use Rattle.message_tables.specs.Tables.{Message}
 use Rattle.dict_fix42.specs.Content.{content42}
 use Rattle.dict_fix42.specs.Message.{message42}
 use Rattle.dict_fix42.specs.Said.{says as says42}
@@ -14,6 +13,7 @@ use Rattle.dict_fix50.specs.Said.{says as says50}
 use Rattle.dict_fix50.specs.declared.requests.Msg50.{Msg50}
 use Rattle.dict_fix50.specs.Sense.{sense50}
 use Rattle.dict_fix50.specs.Requests.{new_order, cancel_request, replace_request, status_request}
+use Rattle.sound_messages.specs.Sound.{without_resend}
 use Rattle.request_translate.specs.Canonical.{HaveOneContent, IsCanonical50}
 use Rattle.translation.specs.declared.error.TranslateError.{TranslateError}
 use Rattle.request_translate.specs.Lack.{lack_of}
@@ -42,10 +42,6 @@ OneOutcome = (body : List ℕ) (a b : Result (List ℕ) TranslateError)
 abbrev pub FramesKeepSense : Type 0
 FramesKeepSense = (body input text : List ℕ) → IsFrame Fix42 body input → IsTranslation body text
     → (other up : List ℕ) → IsFrame Fix42 other input → IsFrame Fixt11 up text → KeepSense other up
-
--- what a content says of a message: all but PossResend, which stands in the header
-abbrev pub without_resend : Message → Message
-without_resend m = record m { resend = false }
 
 -- what is written of a sound message is read again: its content, under its type, is at no fault and
 -- says what the message says

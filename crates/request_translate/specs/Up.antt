@@ -1,7 +1,5 @@
 -- Own: a sound request of each version, one whose content says the same when it is read again.
-use Rattle.std.specs.Prelude.{ℕ, List}
-use Rattle.message_tables.specs.Tables.{Item, Message}
-use Rattle.row_values.specs.Kinds.{Kind, judge}
+use Rattle.row_values.specs.Kinds.{judge}
 use Rattle.rows_fix42.specs.Header.{table as table42}
 use Rattle.rows_fix50.specs.Header.{table as table50}
 use Rattle.dict_fix42.specs.Requests as requests42
@@ -13,7 +11,7 @@ use Rattle.dict_fix50.specs.Said as said50
 use Rattle.dict_fix50.specs.declared.requests.Msg50.{Msg50}
 use Rattle.dict_fix50.specs.declared.requests.Msg50.TheVariants as messages50
 use Rattle.sound_messages.specs.Sound.{IsSound}
-use Rattle.request_translate.specs.Canonical.{HasMonthOfDate}
+use Rattle.sound_messages.specs.Complete.{IsComplete}
 
 abbrev pub IsSound42 : Msg42 → Type 0
 IsSound42 (messages42.New m) = IsSound judge (table42 68 requests42.new_order) (said42.new_says m)
@@ -24,13 +22,11 @@ IsSound42 (messages42.Replace m) =
 IsSound42 (messages42.Status m) =
     IsSound judge (table42 72 requests42.status_request) (said42.status_says m)
 
--- a sound request of FIX 5.0 SP2 that says the month of its date; its parties are any
-pub record IsComplete (letter : ℕ) (items : List (Item Kind)) (m : Message) : Type 0 where
-  pub sound : IsSound judge (table50 letter items) m
-  pub month : HasMonthOfDate m
-
 abbrev pub IsSound50 : Msg50 → Type 0
-IsSound50 (messages50.New m) = IsComplete 68 requests50.new_order (said50.new_says m)
-IsSound50 (messages50.Cancel m) = IsComplete 70 requests50.cancel_request (said50.cancel_says m)
-IsSound50 (messages50.Replace m) = IsComplete 71 requests50.replace_request (said50.replace_says m)
-IsSound50 (messages50.Status m) = IsComplete 72 requests50.status_request (said50.status_says m)
+IsSound50 (messages50.New m) = IsComplete (table50 68 requests50.new_order) (said50.new_says m)
+IsSound50 (messages50.Cancel m) =
+    IsComplete (table50 70 requests50.cancel_request) (said50.cancel_says m)
+IsSound50 (messages50.Replace m) =
+    IsComplete (table50 71 requests50.replace_request) (said50.replace_says m)
+IsSound50 (messages50.Status m) =
+    IsComplete (table50 72 requests50.status_request) (said50.status_says m)

@@ -1,3 +1,6 @@
+pub mod ApartRows
+pub mod Completed
+pub mod ContentAgain
 pub mod ContentValues
 pub mod Each
 pub mod Found
@@ -5,9 +8,11 @@ pub mod Good
 pub mod GroupStage
 pub mod Judged50
 pub mod Lookups
+pub mod PlainFields
 pub mod PlainRows
 pub mod ReadAgain
 pub mod ReadSound
+pub mod RowsSaid
 pub mod ShortDays
 pub mod SpelledAgain
 pub mod Stages

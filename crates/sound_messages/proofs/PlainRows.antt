@@ -16,11 +16,13 @@ use Rattle.message_tables.proofs.Few.{IsPlain}
 use Rattle.row_values.specs.Kinds.{Kind, Value, Byte, DayOf, MonthBeside, TimeBeside, Version}
 use Rattle.row_values.specs.Kinds.{judge, verdict_of, row}
 use Rattle.row_values.specs.Faults.{told}
+use Rattle.row_values.specs.Contras.{contras}
 use Rattle.row_values.specs.Groups.{parties, allocs, sessions}
 use Rattle.sound_messages.specs.Sound.{IsClear}
 use Rattle.sound_messages.proofs.Each.{both, not_true}
 use Rattle.sound_messages.proofs.SpelledAgain.{spelled_again, spelled_clear}
-use Rattle.sound_messages.proofs.ReadSound.{IsPlainRow, IsPlainItem}
+use Rattle.sound_messages.proofs.ReadSound.{IsPlainRow, IsPlainItem, IsStableRow, IsStableItem}
+use Rattle.sound_messages.proofs.ReadSound.{after}
 
 -- ---- values
 
@@ -58,7 +60,7 @@ abbrev plain_kind : Kind → Bool
 plain_kind (Value kind) = true
 plain_kind kind = false
 
-abbrev is_plain_row : Row Kind → Bool
+abbrev pub is_plain_row : Row Kind → Bool
 is_plain_row row = not (is_data_tag row.tag) && (plain_need row.need && plain_kind row.kind)
 
 steady_need : (need : Need)
@@ -161,6 +163,10 @@ pub sessions_plain : HasPlainRows sessions
 unfolding is_data_tag
 sessions_plain = plain_rows sessions.rows refl
 
+pub contras_plain : HasPlainRows contras
+unfolding is_data_tag
+contras_plain = plain_rows contras.rows refl
+
 pub parties_apart : IsPlain (tags_in parties)
 parties_apart = record {
   first_inside = refl;
@@ -185,6 +191,14 @@ sessions_apart = record {
   count_outside = refl;
 }
 
+pub contras_apart : IsPlain (tags_in contras)
+contras_apart = record {
+  first_inside = refl;
+  first_counts_not = refl;
+  first_is_said = refl;
+  count_outside = refl;
+}
+
 module _ (table : Table Kind) (fields : List Field) where
   pub plain_items : (items : List (Item Kind))
       → AllByRecursion HasPlainRows (flat_map groups_of items) →
@@ -193,6 +207,34 @@ module _ (table : Table Kind) (fields : List Field) where
   plain_items (One row ∷ items) h = (tt, plain_items items h)
   plain_items (Party role ∷ items) h = (tt, plain_items items h)
   plain_items (Lines group ∷ items) h = (h.0, plain_items items h.1)
+
+-- rows that stand by themselves, whatever other rows say
+abbrev pub is_plain_item : Item Kind → Bool
+is_plain_item (One row) = is_plain_row row
+is_plain_item item = true
+
+plain_stable : (table : Table Kind) (fields : List Field) (row : Row Kind)
+    → IsPlainRow judge row → IsStableRow judge table fields row
+plain_stable table fields row p =
+    let later = after judge table fields in
+    record {
+      kept = λ n. p.steady fields later ∙ n;
+      spelled = λ bytes text at e. p.same later [] text
+          ∙ p.spelled bytes text (p.same [] fields bytes ∙ e);
+      clear = λ bytes text c e. p.clear bytes text c (p.same [] fields bytes ∙ e);
+      fixed = λ text e. (p.same later [] text ∙ (p.fixed text e).0, (p.fixed text e).1);
+      bare = p.bare;
+    }
+
+pub plain_stables : (table : Table Kind) (fields : List Field) (items : List (Item Kind))
+    → list_all is_plain_item items ≡ true
+    → AllByRecursion (IsStableItem judge table fields) items
+plain_stables table fields [] h = tt
+plain_stables table fields (One row ∷ items) h =
+    let p = both (is_plain_row row) (list_all is_plain_item items) h in
+    (plain_stable table fields row (plain_row row p.0), plain_stables table fields items p.1)
+plain_stables table fields (Party role ∷ items) h = (tt, plain_stables table fields items h)
+plain_stables table fields (Lines group ∷ items) h = (tt, plain_stables table fields items h)
 
 -- ---- a message of a table that was read
 

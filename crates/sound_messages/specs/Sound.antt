@@ -61,3 +61,7 @@ pub record IsSound {Kind : Type 0} (judge : Judge Kind) (table : Table Kind) (m 
     pub places : map (λ cell. cell.0) m.cells ≡ flat_map places_of table.items
     pub counts : map (λ group. group.0) m.groups ≡ map (λ group. group.count) (groups_in table)
     pub items : AllByRecursion (IsItem judge (content table m) m) table.items
+
+-- what a content says of a message: all but PossResend, which stands in the header
+abbrev pub without_resend : Message → Message
+without_resend m = record m { resend = false }

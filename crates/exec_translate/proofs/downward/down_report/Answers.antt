@@ -31,3 +31,6 @@ pub returns-in_ok-report-in-Some-clause-readable : goal.returns-in_ok-report-in-
 returns-in_ok-report-in-Some-clause-readable c =
     let is = c.in_ok-report-in-Some.ensures in
     report_readable c.args.msg.now c.in_ok-report-in-Some.field-0 c.requires is.rows
+
+pub returns-in_ok-report-in-Some-clause-written : goal.returns-in_ok-report-in-Some-clause-written
+returns-in_ok-report-in-Some-clause-written c = c.in_ok-report-in-Some.ensures.rows

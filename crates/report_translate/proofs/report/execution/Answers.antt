@@ -4,7 +4,7 @@ use Rattle.report_translate.proofs.report.execution.Goals as goal
 pub returns-in-Ok-clause-ok : goal.returns-in-Ok-clause-ok
 returns-in-Ok-clause-ok c =
     executed c.args.msg.now c.in-Ok.report c.in-Ok.ensures.sense c.in-Ok.ensures.codes
-    c.in-Ok.ensures.readable c.in-Ok.ensures.book
+    c.in-Ok.ensures.readable c.in-Ok.ensures.book c.requires c.in-Ok.ensures.written
 
 pub returns-in-Err-clause-codes : goal.returns-in-Err-clause-codes
 returns-in-Err-clause-codes c =

@@ -1,0 +1,104 @@
+-- What a header that is carried says is its own canonical spelling, where the fields that it was
+-- read of are at no fault.
+use Rattle.std.proofs.Common.{◌≡◌, ℕ, List, Some, None, true, false, Ok, Err, refl, ap, subst, ◌∙◌}
+use Rattle.std.proofs.Common.{arith, sym}
+use Rattle.std.specs.Prelude.{IfSome, ◌==◌, if◌then◌else◌}
+use Rattle.std.specs.List.{AllByRecursion}
+use Rattle.std.proofs.lemmas.Bool.Decides.{nat_tests}
+use Rattle.field_groups.specs.Data.{is_data_tag}
+use Rattle.field_groups.specs.Field.{Field}
+use Rattle.message_tables.specs.Tables.{Optional, Table, Said, all_rows, is_one_of, row_at}
+use Rattle.message_tables.specs.Tables.{value_at}
+use Rattle.message_tables.specs.FirstFault.{allowed, beyond, first_fault, mark_of, wrong}
+use Rattle.value_kinds.specs.ValueKind.{ValueKind, Filled, Flag, Spelling, spelling}
+use Rattle.row_values.specs.Kinds.{Kind, Value, judge, row, verdict_of}
+use Rattle.sound_messages.specs.Sound.{IsClear, IsSaid}
+use Rattle.sound_messages.proofs.Good.{held, IsGood, all_good}
+use Rattle.sound_messages.proofs.ReadSound.{IsClearField}
+use Rattle.sound_messages.proofs.RowsSaid.{optional_said}
+use Rattle.sound_messages.proofs.SpelledAgain.{is_own, own_bytes}
+use Rattle.translation.specs.Header.{carried_tags}
+use Rattle.translation.proofs.Writable.{IsType, One as OneByte}
+
+-- what a translation says at the row of a tag of its header
+abbrev pub head_value : List ℕ → List Field → ℕ → Said
+head_value msg_type fields tag =
+    if tag == 35 then Some msg_type
+    else (if is_one_of carried_tags tag then value_at tag fields else None)
+
+-- a value that is its own canonical spelling
+abbrev pub IsOwn : ValueKind → Said → Type 0
+IsOwn kind said = IfSome said (λ v. (spelling kind v ≡ Ok (Some v)) × IsClear v)
+
+pub own_said : (all : List Field) (tag : ℕ) (kind : ValueKind) (said : Said)
+    → IsOwn kind said → IsSaid judge all (row Optional tag kind) said
+unfolding judge
+own_said all tag kind None own = optional_said all tag (Value kind) None tt tt
+own_said all tag kind (Some text) own =
+    optional_said all tag (Value kind) (Some text) (ap verdict_of own.0) own.1
+
+-- the header's values, each its own spelling
+pub record IsOwnHead (msg_type : List ℕ) (fields : List Field) : Type 0 where
+  pub kind : IsOwn Filled (Some msg_type)
+  pub sender : IsOwn Filled (value_at 49 fields)
+  pub target : IsOwn Filled (value_at 56 fields)
+  pub number : IsOwn Filled (value_at 34 fields)
+  pub dup : IsOwn Filled (value_at 43 fields)
+  pub resend : IsOwn Flag (value_at 97 fields)
+  pub time : IsOwn Filled (value_at 52 fields)
+  pub first_time : IsOwn Filled (value_at 122 fields)
+
+-- a table has the rows of the header that is carried
+pub record HasHeader (table : Table Kind) : Type 0 where
+  pub sender : row_at 49 (all_rows table) ≡ Some (row Optional 49 Filled)
+  pub target : row_at 56 (all_rows table) ≡ Some (row Optional 56 Filled)
+  pub number : row_at 34 (all_rows table) ≡ Some (row Optional 34 Filled)
+  pub dup : row_at 43 (all_rows table) ≡ Some (row Optional 43 Filled)
+  pub resend : row_at 97 (all_rows table) ≡ Some (row Optional 97 Flag)
+  pub time : row_at 52 (all_rows table) ≡ Some (row Optional 52 Filled)
+  pub first_time : row_at 122 (all_rows table) ≡ Some (row Optional 122 Filled)
+
+spells_own : (kind : ValueKind) (v : List ℕ) (tag : ℕ) (s : Spelling)
+    → is_own kind ≡ true → spelling kind v ≡ s
+    → wrong (tag, allowed Optional (mark_of (verdict_of s))) ≡ None
+    → beyond (tag, allowed Optional (mark_of (verdict_of s))) ≡ None
+    → spelling kind v ≡ Ok (Some v)
+spells_own kind v tag (Ok (Some text)) own e w b =
+    e ∙ ap (λ (x : List ℕ). Ok (Some x)) (own_bytes kind v own text e)
+spells_own kind v tag (Ok None) own e w b = absurd cc
+spells_own kind v tag (Err fault) own e w b = absurd cc
+
+module _ (table : Table Kind) (fields : List Field) (good : first_fault judge table fields ≡ None)
+    (clear : AllByRecursion (IsClearField judge) fields) where
+  head_own : (kind : ValueKind) (tag : ℕ) → is_own kind ≡ true → is_data_tag tag ≡ false
+      → row_at tag (all_rows table) ≡ Some (row Optional tag kind)
+      → IsOwn kind (value_at tag fields)
+  unfolding judge
+  head_own kind tag own bare its = by (value_at tag fields) refl
+    where
+      by : (value : Said) → value_at tag fields ≡ value → IsOwn kind value
+      by None at = tt
+      by (Some v) at =
+          let g = held (IsGood judge table fields) tag fields v at
+          (all_good judge table fields good) in
+          let w = rw its at g.0 in let b = rw its at g.1 in (
+            spells_own kind v tag (spelling kind v) own refl w b,
+            held (IsClearField judge) tag fields v at clear bare,
+          )
+
+  -- THE HEADER of fields at no fault
+  pub head_is_own : (msg_type : List ℕ) → IsType msg_type → HasHeader table
+      → IsOwnHead msg_type fields
+  unfolding is_data_tag spelling
+  head_is_own msg_type (OneByte byte other is) has =
+      let P : List ℕ → Type 0 = λ v. (spelling Filled v ≡ Ok (Some v)) × IsClear v in
+      record {
+        kind = subst P (sym is) (refl, grind (arith, nat_tests));
+        sender = head_own Filled 49 refl refl has.sender;
+        target = head_own Filled 56 refl refl has.target;
+        number = head_own Filled 34 refl refl has.number;
+        dup = head_own Filled 43 refl refl has.dup;
+        resend = head_own Flag 97 refl refl has.resend;
+        time = head_own Filled 52 refl refl has.time;
+        first_time = head_own Filled 122 refl refl has.first_time;
+      }
