@@ -37,6 +37,10 @@ impl Model for Chains {
     ghost Value = { List ChainItem };
 
     ghost view = { λ c. map item_of c.items.entries };
+
+    ghost use Rattle.order_chains.specs.Chains.{AreDistinct};
+
+    ghost invariant = { λ c. AreDistinct (map item_of c.items.entries) };
 }
 
 impl Chains {
@@ -111,7 +115,8 @@ impl Chains {
 
     /// Whether an item has this ClOrdID(11). It takes no memory.
     pub fn has(&self, id: &[u8]) -> bool
-        ensures { result ≡ has_id self.now id.now }
+        ensures has { result ≡ has_id self.now id.now }
+        ensures distinct { AreDistinct self.now }
     {
         self.items.contains_key(id)
     }

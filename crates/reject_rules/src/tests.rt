@@ -119,7 +119,7 @@ const J: bool = true;
 const R: bool = false;
 
 #[rattlefmt::skip]
-static RENUMBERED: [Row; 13] = rows![
+static RENUMBERED: [Row; 15] = rows![
     "tag and reason" | Client R b"" Some(40), Some(5), b""
         => b"j 45=2|372=D|380=0|58=rejected by venue tag 40 reason 5|";
     "with a text" | Client R b"" Some(40), Some(5), b"bad"
@@ -138,6 +138,8 @@ static RENUMBERED: [Row; 13] = rows![
     "its text" | Client J b"" None, Some(6), b"no" => b"j 45=2|372=D|380=0|58=no [380=6]|";
     "two digits" | Client J b"A1" None, Some(18), b"no"
         => b"j 45=2|372=D|379=A1|380=0|58=no [380=18]|";
+    "5 to the venue" | Venue J b"" None, Some(5), b"no" => b"j 45=2|372=D|380=5|58=no|";
+    "6 without a text" | Venue J b"" None, Some(6), b"" => b"j 45=2|372=D|380=6|";
     "to the venue" | Venue J b"E1" None, Some(6), b"no" => b"j 45=2|372=D|379=E1|380=6|58=no|";
     "other" | Venue J b"" None, Some(0), b"" => b"j 45=2|372=D|380=0|";
 ];

@@ -10,5 +10,8 @@ returns-clause-ok c =
     c.in_ok-key.key c.args.item
     c.self.view_is c.requires named c.in_ok-insert.ensures.entries
 
+pub invariant_of-self-2 : goal.invariant_of-self-2
+invariant_of-self-2 c = distinct_ids c.insert.new.self.entries c.insert.ensures.unique
+
 pub returns-clause-distinct : goal.returns-clause-distinct
 returns-clause-distinct c = distinct_ids c.insert.new.self.entries c.insert.ensures.unique

@@ -1,0 +1,35 @@
+-- Own: what may happen to the gateway.
+use Rattle.std.specs.Prelude.{ℕ, List}
+use Rattle.order_meaning.specs.declared.Side.{Side}
+use Rattle.frame_grammar.specs.Frame.{IsBody}
+use Rattle.event_decisions.specs.declared.event.Event.{Event as GivenEvent}
+use Rattle.event_decisions.specs.declared.event.Event.TheVariants as given
+
+-- a connection opened; a frame with this body came; the connection ended; time went by; the gateway
+-- ends
+pub data Event : Type 0 where
+  Opened : (side : Side) → Event
+  Frame : (side : Side) → (body : List ℕ) → Event
+  Closed : (side : Side) → Event
+  Tick : (side : Side) → Event
+  End : (side : Side) → Event
+
+-- an event as the code is handed it
+abbrev pub event_of : GivenEvent → Event
+event_of (given.Opened side) = Opened side
+event_of (given.Frame side body) = Frame side body.now
+event_of (given.Closed side) = Closed side
+event_of (given.Tick side) = Tick side
+event_of (given.End side) = End side
+
+abbrev pub side_of : Event → Side
+side_of (Opened side) = side
+side_of (Frame side body) = side
+side_of (Closed side) = side
+side_of (Tick side) = side
+side_of (End side) = side
+
+-- what comes with an event is the body of a frame
+abbrev pub IsFramed : Event → Type 0
+IsFramed (Frame side body) = IsBody body
+IsFramed event = Unit {0}

@@ -1,0 +1,20 @@
+//! What holds of every decision. Each law is a contract: its function does nothing.
+
+ghost use Rattle.event_decisions.specs.Laws.{BodiesAreRead, DecisionsContinue, DecisionsMake};
+
+/// The fields of a body are those into which it splits.
+pub fn bodies_are_read()
+    ensures { BodiesAreRead }
+{}
+
+/// What an event decides goes on from the sessions before it: the numbers of its entry, the took,
+/// and what is sent again.
+pub fn decisions_continue()
+    ensures { DecisionsContinue }
+{}
+
+/// The entry that an event decides is an answer to what it took, a session's Reject, or messages of
+/// the sessions alone; and what it took was in turn.
+pub fn decisions_make()
+    ensures { DecisionsMake }
+{}
