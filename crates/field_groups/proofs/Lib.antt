@@ -8,5 +8,6 @@ pub mod Whole
 pub mod Lines
 pub mod Plain
 pub mod Grouped
+pub mod TagDigits
 mod Worked
 pub mod Indexing
