@@ -3,9 +3,9 @@
 ghost use Rattle.std.specs.Prelude.{◌≡◌, ◌+◌, ◌/◌, ◌^◌, ◌<◌, ◌≤◌, ◌++◌, unsigned_abs, length};
 ghost use Rattle.std.specs.Prelude.{IsTrue, OnOk, OnErr, IfOk};
 ghost use Rattle.std.specs.List.{before_first, after_first, position};
-ghost use Rattle.typed_fields.specs.Digits.{are_digits};
+ghost use Rattle.typed_fields.specs.Digits.{are_digits, without_trailing_zeros, zero_padded};
 ghost use Rattle.typed_fields.specs.Dec.{read_dec, dec_text, IsDec, has_minus, without_minus};
-ghost use Rattle.typed_fields.specs.Dec.{is_point, units_of, signed, sign_text};
+ghost use Rattle.typed_fields.specs.Dec.{is_point, units_of, signed, sign_text, with_point};
 ghost use Rattle.std.specs.Fmt.{decimal};
 ghost use Rattle.std.specs.Int.{is_negative};
 ghost use Rattle.arrayvec.specs.ArrayVec.{array_vec_len};
@@ -152,14 +152,20 @@ impl Dec {
     }
 
     /// The sign, where there is one.
-    fn sign(&self) -> &'static [u8]
-        ensures value { result.now ≡ sign_text (is_negative self.now.units) }
-        ensures len { length result.now ≤ 1 }
+    #[inline(always)]
+    fn sign(&self) -> ArrayVec<u8, 32>
+        ensures items { result.items ≡ sign_text (is_negative self.now.units) }
+        ensures len { array_vec_len result ≤ 1 }
     {
-        if self.units < 0 { b"-" } else { b"" }
+        let mut text = ArrayVec::new();
+        if self.units < 0 {
+            text.push(b'-');
+        }
+        text
     }
 
     /// The sign and the whole part.
+    #[inline(always)]
     fn whole_text(&self) -> ArrayVec<u8, 32>
         requires { IsDec self.now }
         ensures items { result.items ≡ sign_text (is_negative self.now.units)
@@ -168,27 +174,40 @@ impl Dec {
     {
         let mut buffer = Buffer::new();
         let whole = buffer.format((self.units.unsigned_abs() / ONE) as u64);
-        let mut text = ArrayVec::new();
-        append(&mut text, self.sign());
+        let mut text = self.sign();
         append(&mut text, whole.as_bytes());
         text
     }
 
     /// The spelling.
+    #[inline(always)]
     fn text(&self) -> ArrayVec<u8, 32>
         requires { IsDec self.now }
         ensures { result.items ≡ dec_text self.now }
     {
-        let digits = eight_digits((self.units.unsigned_abs() % ONE) as u32);
-        let fraction = without_trailing_zeros(&digits);
-        let mut text = self.whole_text();
-        match fraction {
-            [] => text,
-            _ => {
-                append(&mut text, b".");
-                append(&mut text, fraction);
-                text
-            }
+        let fraction = (self.units.unsigned_abs() % ONE) as u32;
+        if fraction == 0 {
+            self.whole_text()
+        } else {
+            with_fraction(self.whole_text(), fraction)
+        }
+    }
+}
+
+/// A text with the digits of a fraction behind it, and a point in front of these.
+fn with_fraction(mut text: ArrayVec<u8, 32>, fraction: u32) -> ArrayVec<u8, 32>
+    requires { array_vec_len text ≤ 16 }
+    ensures { result.items
+        ≡ text.items ++ with_point (without_trailing_zeros (zero_padded 8 fraction)) }
+{
+    let digits = eight_digits(fraction);
+    let fraction = without_trailing_zeros(&digits);
+    match fraction {
+        [] => text,
+        _ => {
+            append(&mut text, b".");
+            append(&mut text, fraction);
+            text
         }
     }
 }

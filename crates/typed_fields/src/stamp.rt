@@ -1,17 +1,16 @@
 //! Moments.
 
 ghost use Rattle.std.specs.Prelude.{◌≡◌, ◌^◌, ◌<◌, ◌≤◌, ◌++◌, codes, take, IsTrue};
-ghost use Rattle.std.specs.Prelude.{OnOk, OnErr, IfOk, unwrap_or, if◌then◌else◌};
-ghost use Rattle.arrayvec.specs.ArrayVec.{array_vec_len};
+ghost use Rattle.std.specs.Prelude.{OnOk, OnErr, IfOk, Some, unwrap_or, if◌then◌else◌};
 ghost use Rattle.typed_fields.specs.Digits.{has_pattern};
 ghost use Rattle.typed_fields.specs.Stamp.{read_stamp, milli_in, spells_moment, stamp_in};
 ghost use Rattle.typed_fields.specs.Stamp.{seconds_text, stamp_text, millis_of_day, stamp_millis};
+ghost use Rattle.typed_fields.specs.Stamp.{milli_text};
 ghost use Rattle.typed_fields.specs.Stamp.{stamp_at, IsStamp};
 
 use crate::day::{day_digits, day_number};
-use crate::digits::{append, has_pattern, number_at, three_digits, two_digits};
+use crate::digits::{has_pattern, number_at, three_digits, two_digits};
 use crate::fault::FieldFault;
-use arrayvec::ArrayVec;
 use std::alloc::AllocError;
 
 /// The last moment before the year 2100, in milliseconds since 1 January 1970, 00:00.
@@ -92,40 +91,56 @@ impl Stamp {
         ensures ok { OnOk result (out.new.items ≡ out.old.items ++ stamp_text self.now) }
         ensures err { OnErr result (out.new.items ≡ out.old.items) }
     {
-        out.extend_from_slice(self.text().as_slice())
+        match self.milli {
+            None => out.extend_from_slice(&self.seconds_text()),
+            Some(milli) => out.extend_from_slice(&self.millis_text(milli)),
+        }
     }
 
     /// The spelling without the milliseconds.
-    fn seconds_text(&self) -> ArrayVec<u8, 21>
+    #[inline(always)]
+    fn seconds_text(&self) -> [u8; 17]
         requires { IsStamp self.now }
-        ensures items { result.items ≡ seconds_text self.now }
-        ensures len { array_vec_len result ≡ 17 }
+        ensures { result ≡ seconds_text self.now }
     {
-        let mut text = ArrayVec::new();
-        append(&mut text, &day_digits(self.day));
-        append(&mut text, b"-");
-        append(&mut text, &two_digits(self.hour));
-        append(&mut text, b":");
-        append(&mut text, &two_digits(self.minute));
-        append(&mut text, b":");
-        append(&mut text, &two_digits(self.second));
-        text
+        let [y1, y2, y3, y4, m1, m2, d1, d2] = day_digits(self.day);
+        let [h1, h2] = two_digits(self.hour);
+        let [n1, n2] = two_digits(self.minute);
+        let [s1, s2] = two_digits(self.second);
+        [
+            y1, y2, y3, y4, m1, m2, d1, d2, b'-', h1, h2, b':', n1, n2, b':', s1, s2,
+        ]
     }
 
-    /// The spelling.
-    fn text(&self) -> ArrayVec<u8, 21>
+    /// The spelling with these milliseconds.
+    #[inline(always)]
+    fn millis_text(&self, milli: u16) -> [u8; 21]
         requires { IsStamp self.now }
-        ensures { result.items ≡ stamp_text self.now }
+        ensures { result ≡ seconds_text self.now ++ milli_text (Some milli) }
     {
-        let mut text = self.seconds_text();
-        match self.milli {
-            None => text,
-            Some(milli) => {
-                append(&mut text, b".");
-                append(&mut text, &three_digits(milli));
-                text
-            }
-        }
+        let [
+            y1,
+            y2,
+            y3,
+            y4,
+            m1,
+            m2,
+            d1,
+            d2,
+            dash,
+            h1,
+            h2,
+            c1,
+            n1,
+            n2,
+            c2,
+            s1,
+            s2,
+        ] = self.seconds_text();
+        let [k1, k2, k3] = three_digits(milli);
+        [
+            y1, y2, y3, y4, m1, m2, d1, d2, dash, h1, h2, c1, n1, n2, c2, s1, s2, b'.', k1, k2, k3,
+        ]
     }
 
     /// The milliseconds of the time of day.

@@ -1,4 +1,4 @@
-use Rattle.std.proofs.Common.{◌≤◌, length, ap, arith}
+use Rattle.std.proofs.Common.{◌≤◌, length, arith}
 use Rattle.typed_fields.proofs.DecLemmas.{whole_is_short, dec_fits}
 use Rattle.typed_fields.proofs.dec.Dec.whole_text.Goals as goal
 
@@ -11,5 +11,4 @@ returns-clause-len c =
       c.unsigned_abs.ensures.value,
       dec_fits c.args.self.now c.requires,
     ) (whole_is_short c.args.self.now c.requires) in
-    let none = ap length c.new-text.ensures in
-    grind (arith, text, none, c.append-2.ensures.len, c.append.ensures.len, c.sign.ensures.len)
+    grind (arith, text, c.append.ensures.len, c.sign-text.ensures.len)

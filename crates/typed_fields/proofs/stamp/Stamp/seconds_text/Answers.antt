@@ -1,0 +1,15 @@
+use Rattle.std.proofs.Common.{refl}
+use Rattle.typed_fields.specs.Digits.{zero_padded}
+use Rattle.typed_fields.proofs.DateLemmas.{day_fits}
+use Rattle.typed_fields.proofs.stamp.Stamp.seconds_text.Goals as goal
+
+pub returns : goal.returns
+unfolding zero_padded
+returns c =
+    rw (
+      c.day_digits.ensures,
+      day_fits c.args.self.now.day c.requires.day,
+      c.two_digits.ensures,
+      c.two_digits-2.ensures,
+      c.two_digits-3.ensures,
+    ) refl
