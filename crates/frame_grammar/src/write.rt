@@ -3,7 +3,7 @@ ghost use Rattle.std.specs.Prelude.{◌≡◌, ◌↔◌, ◌<◌, ◌++◌, ℕ
 ghost use Rattle.frame_grammar.specs.Frame.{IsWritable, IsFrame, frame_of, front, trailer};
 ghost use Rattle.frame_grammar.specs.Found.{Whole, found};
 
-use crate::checksum::{begin_string_of, trailer_of};
+use crate::checksum::{opening_of, trailer_of};
 use crate::frame::{MAX_BODY, SOH};
 use crate::{FrameError, Kind};
 use itoa::Buffer;
@@ -18,8 +18,7 @@ fn append(kind: Kind, digits: &[u8], body: &[u8], out: &mut Vec<u8>) -> Result<(
     ensures kept { take (length out.old.items) out.new.items ≡ out.old.items }
 {
     let start = out.len();
-    out.extend_from_slice(begin_string_of(kind))?;
-    out.extend_from_slice(b"9=")?;
+    out.extend_from_slice(opening_of(kind))?;
     out.extend_from_slice(digits)?;
     out.push(SOH)?;
     out.extend_from_slice(body)?;

@@ -17,7 +17,7 @@ ghost use Rattle.row_values.specs.Writing.{month_day_text, part_fields, value_te
 
 use crate::contras::Contras;
 use crate::lines::{Allocs, GroupLine, Maturity, Sessions};
-use field_groups::{SOH, put_field, put_tag};
+use field_groups::{SOH, put_byte, put_field, put_tag};
 use order_meaning::{Bytes, GroupLines, Lines};
 use std::alloc::AllocError;
 use typed_fields::{Day, Dec, FieldValue, Flag, MonthYear, Number, Stamp};
@@ -74,6 +74,7 @@ pub enum Part<'a> {
 }
 
 /// Appends a field of a value.
+#[inline(never)]
 #[tactic(auto, unfolding(field_groups::specs::Field::field_bytes))]
 fn put_value<T: FieldValue>(out: &mut Vec<u8>, tag: u32, value: &T) -> Result<(), AllocError>
     requires { T.can_be value.now }
@@ -87,6 +88,7 @@ fn put_value<T: FieldValue>(out: &mut Vec<u8>, tag: u32, value: &T) -> Result<()
 }
 
 /// Appends a field of a value, if there is one.
+#[inline(always)]
 fn put_if<T: FieldValue>(out: &mut Vec<u8>, tag: u32, value: &Option<T>) -> Result<(), AllocError>
     requires { IfSome value.now T.can_be }
     ensures { OnOk result (out.new.items
@@ -98,29 +100,20 @@ fn put_if<T: FieldValue>(out: &mut Vec<u8>, tag: u32, value: &Option<T>) -> Resu
     }
 }
 
-/// Appends the field of a row's code.
-#[tactic(auto, unfolding(field_groups::specs::Field::field_bytes))]
-fn put_code(out: &mut Vec<u8>, tag: u32, code: u8) -> Result<(), AllocError>
-    ensures { OnOk result (out.new.items ≡ out.old.items ++ field_bytes (tag, code_text code)) }
-{
-    put_tag(out, tag)?;
-    out.push(code)?;
-    out.push(SOH)?;
-    Ok(())
-}
-
 /// Appends the field of a row's code, if there is one.
+#[inline(always)]
 fn put_code_if(out: &mut Vec<u8>, tag: u32, code: Option<u8>) -> Result<(), AllocError>
     ensures { OnOk result (out.new.items
         ≡ out.old.items ++ body_of (cell_fields (Tag tag, option_map code_text code))) }
 {
     match code {
         None => Ok(()),
-        Some(code) => put_code(out, tag, code),
+        Some(code) => put_byte(out, tag, code),
     }
 }
 
 /// Appends the field of a text, if there is one.
+#[inline(always)]
 fn put_text_if(out: &mut Vec<u8>, tag: u32, text: &Option<Bytes>) -> Result<(), AllocError>
     ensures { OnOk result (out.new.items
         ≡ out.old.items ++ body_of (cell_fields (Tag tag, text.now))) }
@@ -132,10 +125,11 @@ fn put_text_if(out: &mut Vec<u8>, tag: u32, text: &Option<Bytes>) -> Result<(), 
 }
 
 /// Appends the field of a month, if there is one.
-fn put_month(out: &mut Vec<u8>, tag: u32, maturity: Option<Maturity>) -> Result<(), AllocError>
-    requires { IfSome maturity IsReadableMaturity }
+#[inline(always)]
+fn put_month(out: &mut Vec<u8>, tag: u32, maturity: &Option<Maturity>) -> Result<(), AllocError>
+    requires { IfSome maturity.now IsReadableMaturity }
     ensures { OnOk result (out.new.items
-        ≡ out.old.items ++ body_of (cell_fields (Tag tag, option_map month_text maturity))) }
+        ≡ out.old.items ++ body_of (cell_fields (Tag tag, option_map month_text maturity.now))) }
 {
     match maturity {
         None => Ok(()),
@@ -152,6 +146,7 @@ fn last_two_digits(number: u8) -> [u8; 2]
 }
 
 /// Appends the field of a date.
+#[inline(never)]
 #[tactic(auto, unfolding(field_groups::specs::Field::field_bytes))]
 fn put_day(out: &mut Vec<u8>, tag: u32, month: MonthYear, day: u8) -> Result<(), AllocError>
     requires { IsMonthYear month }
@@ -172,25 +167,36 @@ fn two_digits(number: u8) -> [u8; 2]
     [b'0' + number / 10, b'0' + number % 10]
 }
 
+/// Appends the field of a number of two digits.
+#[inline(never)]
+fn put_two_digits(out: &mut Vec<u8>, tag: u32, number: u8) -> Result<(), AllocError>
+    ensures { OnOk result (out.new.items
+        ≡ out.old.items ++ field_bytes (tag, two_digit_text number)) }
+{
+    put_field(out, tag, &two_digits(number))
+}
+
 /// Appends the field of a day of a month, if there is one.
-fn put_month_day(out: &mut Vec<u8>, tag: u32, maturity: Option<Maturity>) -> Result<(), AllocError>
+#[inline(always)]
+fn put_month_day(out: &mut Vec<u8>, tag: u32, maturity: &Option<Maturity>) -> Result<(), AllocError>
     ensures { OnOk result (out.new.items ≡ out.old.items
-        ++ body_of (cell_fields (Tag tag, option_and_then month_day_text maturity))) }
+        ++ body_of (cell_fields (Tag tag, option_and_then month_day_text maturity.now))) }
 {
     match maturity {
         None => Ok(()),
         Some(maturity) => match maturity.day {
             None => Ok(()),
-            Some(day) => put_field(out, tag, &two_digits(day)),
+            Some(day) => put_two_digits(out, tag, day),
         },
     }
 }
 
 /// Appends the field of a date, if there is one.
-fn put_date(out: &mut Vec<u8>, tag: u32, maturity: Option<Maturity>) -> Result<(), AllocError>
-    requires { IfSome maturity IsReadableMaturity }
+#[inline(always)]
+fn put_date(out: &mut Vec<u8>, tag: u32, maturity: &Option<Maturity>) -> Result<(), AllocError>
+    requires { IfSome maturity.now IsReadableMaturity }
     ensures { OnOk result (out.new.items
-        ≡ out.old.items ++ body_of (cell_fields (Tag tag, option_and_then date_text maturity))) }
+        ≡ out.old.items ++ body_of (cell_fields (Tag tag, option_and_then date_text maturity.now))) }
 {
     match maturity {
         None => Ok(()),
@@ -201,7 +207,8 @@ fn put_date(out: &mut Vec<u8>, tag: u32, maturity: Option<Maturity>) -> Result<(
     }
 }
 
-/// Appends what a row says.
+/// Appends what a row says. A row that says nothing costs a look at it and no call.
+#[inline(always)]
 pub(crate) fn put_row(out: &mut Vec<u8>, tag: u32, value: &Value<'_>) -> Result<(), AllocError>
     requires { IsValue value.now }
     ensures { OnOk result (out.new.items
@@ -210,7 +217,7 @@ pub(crate) fn put_row(out: &mut Vec<u8>, tag: u32, value: &Value<'_>) -> Result<
     match value {
         Value::Text(text) => put_field(out, tag, text.as_slice()),
         Value::TextIf(text) => put_text_if(out, tag, text),
-        Value::Code(code) => put_code(out, tag, *code),
+        Value::Code(code) => put_byte(out, tag, *code),
         Value::CodeIf(code) => put_code_if(out, tag, *code),
         Value::Dec(dec) => put_value(out, tag, *dec),
         Value::DecIf(dec) => put_if(out, tag, *dec),
@@ -220,9 +227,9 @@ pub(crate) fn put_row(out: &mut Vec<u8>, tag: u32, value: &Value<'_>) -> Result<
         Value::FlagIf(flag) => put_if(out, tag, *flag),
         Value::Number(number) => put_value(out, tag, number),
         Value::NumberIf(number) => put_if(out, tag, number),
-        Value::Month(maturity) => put_month(out, tag, **maturity),
-        Value::MonthDay(maturity) => put_month_day(out, tag, **maturity),
-        Value::Date(maturity) => put_date(out, tag, **maturity),
+        Value::Month(maturity) => put_month(out, tag, maturity),
+        Value::MonthDay(maturity) => put_month_day(out, tag, maturity),
+        Value::Date(maturity) => put_date(out, tag, maturity),
     }
 }
 
@@ -246,6 +253,7 @@ fn put_count(out: &mut Vec<u8>, tag: u32, count: usize) -> Result<(), AllocError
 }
 
 /// Appends a group, if it has lines.
+#[inline(never)]
 fn put_lines<L: GroupLine>(
     out: &mut Vec<u8>,
     tag: u32,
@@ -264,6 +272,7 @@ fn put_lines<L: GroupLine>(
 }
 
 /// Appends a part of a content.
+#[inline(always)]
 fn put_part(out: &mut Vec<u8>, part: &Part<'_>) -> Result<(), AllocError>
     requires { IsPart part.now }
     ensures { OnOk result (out.new.items ≡ out.old.items ++ body_of (part_fields part.now)) }

@@ -6,7 +6,7 @@ ghost use Rattle.translation.specs.Header.{carried_field, carried_tags, type_of}
 ghost use Rattle.translation.specs.Writing.{put};
 
 use field_groups::{Fields, put_field};
-use message_tables::value;
+use message_tables::Lookup;
 use std::alloc::AllocError;
 
 /// MsgType(35), the value of the first field; nothing where there is none.
@@ -24,7 +24,7 @@ fn write_carried(tag: u32, fields: &Fields<'_>, out: &mut Vec<u8>) -> Result<(),
     ensures { OnOk result (out.new.items
         ≡ out.old.items ++ body_of (carried_field fields.now tag)) }
 {
-    match value(fields.as_slice(), tag) {
+    match fields.value(tag) {
         None => Ok(()),
         Some(value) => put_field(out, tag, value),
     }
