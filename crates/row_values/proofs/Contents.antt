@@ -1,7 +1,9 @@
 -- The bytes of contents, a part and a line at a time.
 use Rattle.std.proofs.Common.{◌≡◌, ℕ, ◌+◌, ◌/◌, ◌%◌, List, [], ◌∷◌, ◌++◌, length, map, refl, sym}
 use Rattle.std.proofs.Common.{ap, ◌∙◌, append_assoc, arith, ◌≤◌, take}
-use Rattle.std.proofs.lemmas.List.{length-map, take_all}
+use Rattle.std.proofs.lemmas.List.{length-append, length-map, take-take, take_all}
+use Rattle.std.proofs.Math.Seq.{take-append_seam}
+use Rattle.std.specs.Io.{StartsWith}
 use Rattle.std.specs.List.{AllByRecursion, flat_map}
 use Rattle.std.specs.Fmt.{decimal}
 use Rattle.field_groups.specs.Field.{Field, body_of, field_bytes}
@@ -68,3 +70,11 @@ nothing_asked (line ∷ lines) = (tt, nothing_asked lines)
 -- one fact, and others
 pub also : {A B : Type 0} → A → B → A × B
 also a b = (a, b)
+
+-- what stood in front is kept where all that stood before a later step is
+pub still_kept : (old more new : List ℕ)
+    → StartsWith new (old ++ more) → StartsWith new old
+still_kept old more new kept =
+    let le : length old ≤ length (old ++ more) = rw (length-append old more) (omega arith) in
+    sym (take-take (length old) (length (old ++ more)) new le)
+    ∙ ap (λ (bytes : List ℕ). take (length old) bytes) kept ∙ take-append_seam old more

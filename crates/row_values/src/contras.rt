@@ -7,8 +7,8 @@ use crate::copies::owned;
 use crate::kinds::Kind;
 use crate::lines::GroupLine;
 use crate::values::{or_empty, qty, stamp, text};
-use crate::writing::{Value, put_row};
-use field_groups::Field;
+use crate::writing::{put_if, put_text_if};
+use field_groups::{Field, put_field};
 use message_tables::Need::{Optional, Required};
 use message_tables::{Line, RepeatingGroup, Row};
 use order_meaning::{Bytes, GroupLines};
@@ -89,9 +89,9 @@ impl GroupLine for ContraLine {
     }
 
     fn write(&self, out: &mut Vec<u8>) -> Result<(), AllocError> {
-        put_row(out, 375, &Value::Text(&self.broker))?;
-        put_row(out, 337, &Value::TextIf(&self.trader))?;
-        put_row(out, 437, &Value::DecIf(&self.qty))?;
-        put_row(out, 438, &Value::StampIf(&self.time))
+        put_field(out, 375, self.broker.as_slice())?;
+        put_text_if(out, 337, &self.trader)?;
+        put_if(out, 437, &self.qty)?;
+        put_if(out, 438, &self.time)
     }
 }

@@ -14,13 +14,13 @@ ghost use Rattle.row_values.specs.Groups.{allocs, parties, sessions};
 use crate::copies::owned;
 use crate::kinds::Kind;
 use crate::values::{number_or_zero, or_empty, qty, text};
-use crate::writing::{Value, put_row};
-use field_groups::{Field, Fields, put_field};
+use crate::writing::put_if;
+use field_groups::{Field, Fields, put_field, put_number};
 use message_tables::Need::{Fixed, Optional, Required};
 use message_tables::{Line, RepeatingGroup, Row, line, line_end};
 use order_meaning::{Bytes, GroupLines, PartyLine};
 use std::alloc::{AllocError, Global};
-use typed_fields::{Dec, MonthYear, Number};
+use typed_fields::{Dec, MonthYear};
 use value_kinds::ValueKind;
 use value_kinds::ValueKind::{Id, OneByte, Qty};
 
@@ -175,9 +175,9 @@ impl GroupLine for PartyLine {
     }
 
     fn write(&self, out: &mut Vec<u8>) -> Result<(), AllocError> {
-        put_row(out, 448, &Value::Text(&self.id))?;
+        put_field(out, 448, self.id.as_slice())?;
         put_field(out, 447, b"D")?;
-        put_row(out, 452, &Value::Number(Number { value: self.role }))
+        put_number(out, 452, self.role)
     }
 }
 
@@ -204,8 +204,8 @@ impl GroupLine for AllocLine {
     }
 
     fn write(&self, out: &mut Vec<u8>) -> Result<(), AllocError> {
-        put_row(out, 79, &Value::Text(&self.account))?;
-        put_row(out, 80, &Value::DecIf(&self.qty))
+        put_field(out, 79, self.account.as_slice())?;
+        put_if(out, 80, &self.qty)
     }
 }
 
@@ -231,7 +231,7 @@ impl GroupLine for SessionLine {
     }
 
     fn write(&self, out: &mut Vec<u8>) -> Result<(), AllocError> {
-        put_row(out, 336, &Value::Text(&self.id))
+        put_field(out, 336, self.id.as_slice())
     }
 }
 

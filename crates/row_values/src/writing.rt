@@ -5,6 +5,7 @@ ghost use Rattle.std.specs.Prelude.{option_and_then};
 ghost use Rattle.std.specs.List.{AllByRecursion, flat_map};
 ghost use Rattle.std.specs.Option.{option_map};
 ghost use Rattle.std.specs.Fmt.{decimal};
+ghost use Rattle.std.specs.Io.{StartsWith};
 ghost use Rattle.typed_fields.specs.Digits.{zero_padded};
 ghost use Rattle.typed_fields.specs.MonthYear.{IsMonthYear, month_year_text};
 ghost use Rattle.field_groups.specs.Field.{body_of, field_bytes};
@@ -17,7 +18,7 @@ ghost use Rattle.row_values.specs.Writing.{month_day_text, part_fields, value_te
 
 use crate::contras::Contras;
 use crate::lines::{Allocs, GroupLine, Maturity, Sessions};
-use field_groups::{SOH, put_byte, put_field, put_tag};
+use field_groups::{SOH, put_byte, put_field, put_number, put_tag};
 use order_meaning::{Bytes, GroupLines, Lines};
 use std::alloc::AllocError;
 use typed_fields::{Day, Dec, FieldValue, Flag, MonthYear, Number, Stamp};
@@ -73,13 +74,17 @@ pub enum Part<'a> {
     Contras(&'a Contras),
 }
 
+/// How many bytes the lines of an ordinary group have at most.
+const ORDINARY: usize = 256;
+
 /// Appends a field of a value.
 #[inline(never)]
 #[tactic(auto, unfolding(field_groups::specs::Field::field_bytes))]
 fn put_value<T: FieldValue>(out: &mut Vec<u8>, tag: u32, value: &T) -> Result<(), AllocError>
     requires { T.can_be value.now }
-    ensures { OnOk result (out.new.items
+    ensures done { OnOk result (out.new.items
         ≡ out.old.items ++ field_bytes (tag, T.spelling value.now)) }
+    ensures kept { StartsWith out.new.items out.old.items }
 {
     put_tag(out, tag)?;
     value.write(out)?;
@@ -89,10 +94,15 @@ fn put_value<T: FieldValue>(out: &mut Vec<u8>, tag: u32, value: &T) -> Result<()
 
 /// Appends a field of a value, if there is one.
 #[inline(always)]
-fn put_if<T: FieldValue>(out: &mut Vec<u8>, tag: u32, value: &Option<T>) -> Result<(), AllocError>
+pub(crate) fn put_if<T: FieldValue>(
+    out: &mut Vec<u8>,
+    tag: u32,
+    value: &Option<T>,
+) -> Result<(), AllocError>
     requires { IfSome value.now T.can_be }
-    ensures { OnOk result (out.new.items
+    ensures done { OnOk result (out.new.items
         ≡ out.old.items ++ body_of (cell_fields (Tag tag, option_map T.spelling value.now))) }
+    ensures kept { StartsWith out.new.items out.old.items }
 {
     match value {
         None => Ok(()),
@@ -103,8 +113,9 @@ fn put_if<T: FieldValue>(out: &mut Vec<u8>, tag: u32, value: &Option<T>) -> Resu
 /// Appends the field of a row's code, if there is one.
 #[inline(always)]
 fn put_code_if(out: &mut Vec<u8>, tag: u32, code: Option<u8>) -> Result<(), AllocError>
-    ensures { OnOk result (out.new.items
+    ensures done { OnOk result (out.new.items
         ≡ out.old.items ++ body_of (cell_fields (Tag tag, option_map code_text code))) }
+    ensures kept { StartsWith out.new.items out.old.items }
 {
     match code {
         None => Ok(()),
@@ -114,9 +125,14 @@ fn put_code_if(out: &mut Vec<u8>, tag: u32, code: Option<u8>) -> Result<(), Allo
 
 /// Appends the field of a text, if there is one.
 #[inline(always)]
-fn put_text_if(out: &mut Vec<u8>, tag: u32, text: &Option<Bytes>) -> Result<(), AllocError>
-    ensures { OnOk result (out.new.items
+pub(crate) fn put_text_if(
+    out: &mut Vec<u8>,
+    tag: u32,
+    text: &Option<Bytes>,
+) -> Result<(), AllocError>
+    ensures done { OnOk result (out.new.items
         ≡ out.old.items ++ body_of (cell_fields (Tag tag, text.now))) }
+    ensures kept { StartsWith out.new.items out.old.items }
 {
     match text {
         None => Ok(()),
@@ -128,8 +144,9 @@ fn put_text_if(out: &mut Vec<u8>, tag: u32, text: &Option<Bytes>) -> Result<(), 
 #[inline(always)]
 fn put_month(out: &mut Vec<u8>, tag: u32, maturity: &Option<Maturity>) -> Result<(), AllocError>
     requires { IfSome maturity.now IsReadableMaturity }
-    ensures { OnOk result (out.new.items
+    ensures done { OnOk result (out.new.items
         ≡ out.old.items ++ body_of (cell_fields (Tag tag, option_map month_text maturity.now))) }
+    ensures kept { StartsWith out.new.items out.old.items }
 {
     match maturity {
         None => Ok(()),
@@ -150,8 +167,9 @@ fn last_two_digits(number: u8) -> [u8; 2]
 #[tactic(auto, unfolding(field_groups::specs::Field::field_bytes))]
 fn put_day(out: &mut Vec<u8>, tag: u32, month: MonthYear, day: u8) -> Result<(), AllocError>
     requires { IsMonthYear month }
-    ensures { OnOk result (out.new.items ≡ out.old.items
+    ensures done { OnOk result (out.new.items ≡ out.old.items
         ++ field_bytes (tag, month_year_text month ++ zero_padded 2 day)) }
+    ensures kept { StartsWith out.new.items out.old.items }
 {
     put_tag(out, tag)?;
     month.write(out)?;
@@ -170,8 +188,9 @@ fn two_digits(number: u8) -> [u8; 2]
 /// Appends the field of a number of two digits.
 #[inline(never)]
 fn put_two_digits(out: &mut Vec<u8>, tag: u32, number: u8) -> Result<(), AllocError>
-    ensures { OnOk result (out.new.items
+    ensures done { OnOk result (out.new.items
         ≡ out.old.items ++ field_bytes (tag, two_digit_text number)) }
+    ensures kept { StartsWith out.new.items out.old.items }
 {
     put_field(out, tag, &two_digits(number))
 }
@@ -179,8 +198,9 @@ fn put_two_digits(out: &mut Vec<u8>, tag: u32, number: u8) -> Result<(), AllocEr
 /// Appends the field of a day of a month, if there is one.
 #[inline(always)]
 fn put_month_day(out: &mut Vec<u8>, tag: u32, maturity: &Option<Maturity>) -> Result<(), AllocError>
-    ensures { OnOk result (out.new.items ≡ out.old.items
+    ensures done { OnOk result (out.new.items ≡ out.old.items
         ++ body_of (cell_fields (Tag tag, option_and_then month_day_text maturity.now))) }
+    ensures kept { StartsWith out.new.items out.old.items }
 {
     match maturity {
         None => Ok(()),
@@ -195,8 +215,9 @@ fn put_month_day(out: &mut Vec<u8>, tag: u32, maturity: &Option<Maturity>) -> Re
 #[inline(always)]
 fn put_date(out: &mut Vec<u8>, tag: u32, maturity: &Option<Maturity>) -> Result<(), AllocError>
     requires { IfSome maturity.now IsReadableMaturity }
-    ensures { OnOk result (out.new.items
+    ensures done { OnOk result (out.new.items
         ≡ out.old.items ++ body_of (cell_fields (Tag tag, option_and_then date_text maturity.now))) }
+    ensures kept { StartsWith out.new.items out.old.items }
 {
     match maturity {
         None => Ok(()),
@@ -209,10 +230,11 @@ fn put_date(out: &mut Vec<u8>, tag: u32, maturity: &Option<Maturity>) -> Result<
 
 /// Appends what a row says. A row that says nothing costs a look at it and no call.
 #[inline(always)]
-pub(crate) fn put_row(out: &mut Vec<u8>, tag: u32, value: &Value<'_>) -> Result<(), AllocError>
+fn put_row(out: &mut Vec<u8>, tag: u32, value: &Value<'_>) -> Result<(), AllocError>
     requires { IsValue value.now }
-    ensures { OnOk result (out.new.items
+    ensures done { OnOk result (out.new.items
         ≡ out.old.items ++ body_of (cell_fields (Tag tag, value_text value.now))) }
+    ensures kept { StartsWith out.new.items out.old.items }
 {
     match value {
         Value::Text(text) => put_field(out, tag, text.as_slice()),
@@ -242,18 +264,12 @@ fn put_count(out: &mut Vec<u8>, tag: u32, count: usize) -> Result<(), AllocError
     if count == 0 {
         Ok(())
     } else {
-        put_row(
-            out,
-            tag,
-            &Value::Number(Number {
-                value: count as u32,
-            }),
-        )
+        put_number(out, tag, count as u32)
     }
 }
 
-/// Appends a group, if it has lines.
-#[inline(never)]
+/// Appends a group, if it has lines; `out` may have a part of it after an error, and then nothing
+/// is said of it.
 fn put_lines<L: GroupLine>(
     out: &mut Vec<u8>,
     tag: u32,
@@ -271,18 +287,54 @@ fn put_lines<L: GroupLine>(
     Ok(())
 }
 
+/// Appends a group that has lines: all of it, or nothing.
+#[inline(never)]
+fn put_all_lines<L: GroupLine>(
+    out: &mut Vec<u8>,
+    tag: u32,
+    lines: &GroupLines<L>,
+) -> Result<(), AllocError>
+    requires { AllByRecursion L.is_readable lines.now }
+    ensures done { OnOk result (out.new.items
+        ≡ out.old.items ++ body_of (group_fields tag (map L.cells lines.now))) }
+    ensures kept { StartsWith out.new.items out.old.items }
+{
+    let mut group = Vec::with_capacity(*out.allocator(), ORDINARY)?;
+    put_lines(&mut group, tag, lines)?;
+    out.extend_from_slice(&group)
+}
+
+/// Appends a group, if it has lines.
+#[inline(always)]
+fn put_group<L: GroupLine>(
+    out: &mut Vec<u8>,
+    tag: u32,
+    lines: &GroupLines<L>,
+) -> Result<(), AllocError>
+    requires { AllByRecursion L.is_readable lines.now }
+    ensures done { OnOk result (out.new.items
+        ≡ out.old.items ++ body_of (group_fields tag (map L.cells lines.now))) }
+    ensures kept { StartsWith out.new.items out.old.items }
+{
+    match lines.as_slice() {
+        [] => Ok(()),
+        _ => put_all_lines(out, tag, lines),
+    }
+}
+
 /// Appends a part of a content.
 #[inline(always)]
 fn put_part(out: &mut Vec<u8>, part: &Part<'_>) -> Result<(), AllocError>
     requires { IsPart part.now }
-    ensures { OnOk result (out.new.items ≡ out.old.items ++ body_of (part_fields part.now)) }
+    ensures done { OnOk result (out.new.items ≡ out.old.items ++ body_of (part_fields part.now)) }
+    ensures kept { StartsWith out.new.items out.old.items }
 {
     match part {
         Part::Row(tag, value) => put_row(out, *tag, value),
-        Part::Parties(lines) => put_lines(out, 453, lines),
-        Part::Allocs(lines) => put_lines(out, 78, lines),
-        Part::Sessions(lines) => put_lines(out, 386, lines),
-        Part::Contras(lines) => put_lines(out, 382, lines),
+        Part::Parties(lines) => put_group(out, 453, lines),
+        Part::Allocs(lines) => put_group(out, 78, lines),
+        Part::Sessions(lines) => put_group(out, 386, lines),
+        Part::Contras(lines) => put_group(out, 382, lines),
     }
 }
 
@@ -290,20 +342,20 @@ fn put_part(out: &mut Vec<u8>, part: &Part<'_>) -> Result<(), AllocError>
 ///
 /// # Errors
 ///
-/// `AllocError` for want of memory; then nothing is said of `out`.
+/// `AllocError` for want of memory; then some of the parts may stand at the end of `out`.
+#[inline(always)]
+#[tactic(auto, using(crate::proofs::Contents::still_kept))]
 fn put_parts(out: &mut Vec<u8>, parts: &[Part<'_>]) -> Result<(), AllocError>
     requires { AllByRecursion IsPart parts.now }
-    ensures { OnOk result (out.new.items
+    ensures done { OnOk result (out.new.items
         ≡ out.old.items ++ body_of (flat_map part_fields parts.now)) }
+    ensures kept { StartsWith out.new.items out.old.items }
 {
     for part in parts {
         put_part(out, part)?;
     }
     Ok(())
 }
-
-/// How many bytes the content of an ordinary message has at most.
-const ORDINARY: usize = 512;
 
 /// Appends the parts of a content, all or none.
 ///
@@ -316,7 +368,10 @@ pub fn put_content(out: &mut Vec<u8>, parts: &[Part<'_>]) -> Result<(), AllocErr
         ≡ out.old.items ++ body_of (flat_map part_fields parts.now)) }
     ensures err { OnErr result (out.new.items ≡ out.old.items) }
 {
-    let mut content = Vec::with_capacity(*out.allocator(), ORDINARY)?;
-    put_parts(&mut content, parts)?;
-    out.extend_from_slice(&content)
+    let start = out.len();
+    if put_parts(out, parts).is_err() {
+        out.truncate(start);
+        return Err(AllocError);
+    }
+    Ok(())
 }

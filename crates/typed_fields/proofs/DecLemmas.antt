@@ -6,10 +6,7 @@ use Rattle.std.proofs.Common.{sym, ap, ◌∙◌, arith, unsigned_abs, append-ni
 use Rattle.std.proofs.lemmas.List.{length-append}
 use Rattle.std.proofs.lemmas.Nat.{mul-le}
 use Rattle.std.proofs.Math.Nat.{pow-le-pow_right}
-use Rattle.std.specs.Int.{w128, is_negative}
-use Rattle.std.specs.Prelude.{◌%◌}
-use Rattle.std.specs.Fmt.{decimal}
-use Rattle.std.proofs.lemmas.Fmt.{length-decimal-le}
+use Rattle.std.specs.Int.{w128}
 use Rattle.std.proofs.lemmas.Bool.Decides.{nat_tests}
 use Rattle.jiff_core.proofs.SignedLemmas.{back_small}
 use Rattle.typed_fields.specs.declared.dec.Dec.{Dec}
@@ -17,7 +14,6 @@ use Rattle.typed_fields.specs.Digits.{are_digits, number_of, without_leading_zer
 use Rattle.typed_fields.specs.Digits.{without_trailing_zeros, zero_padded}
 use Rattle.typed_fields.specs.Dec.{whole_part, fraction_part, whole_digits, fraction_digits}
 use Rattle.typed_fields.specs.Dec.{has_minus, units_of, signed, read_dec, IsDec, with_point}
-use Rattle.typed_fields.specs.Dec.{sign_text, dec_text}
 use Rattle.typed_fields.proofs.DigitsLemmas.{number_of-append, number_of-lt, are_digits-append}
 
 -- the magnitude of a signed number
@@ -107,28 +103,18 @@ read_dec-found
     let places' = rw kept_f' at places in
     rw (kept_w', kept_f') (sym (read_dec-good v not_empty long whole' fraction' any' few' places'))
 
--- its whole part has at most fifteen digits
-pub whole-lt : (d : Dec) → IsDec d → unsigned_abs d.units / 10 ^ 8 < 10 ^ 15
-whole-lt d h = omega (arith, units-lt d h)
-
-pub whole_is_short : (d : Dec) → IsDec d → length (decimal (unsigned_abs d.units / 10 ^ 8)) ≤ 15
-whole_is_short d h = length-decimal-le
-    15 (unsigned_abs d.units / 10 ^ 8) (omega arith) (whole-lt d h) (omega (arith, whole-lt d h))
-
+-- and it fits its type
 pub dec_fits : (d : Dec) → IsDec d → to_z w128 (of_z w128 d.units) ≡ d.units
 dec_fits d h = back_small w128 d.units (omega (arith, units-lt d h))
 
 -- nothing is said of a fraction of no units
-pub no_fraction : with_point (without_trailing_zeros (zero_padded 8 0)) ≡ []
+no_fraction : with_point (without_trailing_zeros (zero_padded 8 0)) ≡ []
 unfolding zero_padded without_trailing_zeros
 no_fraction = refl
 
--- a number of no such fraction is its sign and its whole part
-pub whole_is_all : (d : Dec) (text : List ℕ) → unsigned_abs d.units % 10 ^ 8 ≡ 0
-    → text ≡ sign_text (is_negative d.units) ++ decimal (unsigned_abs d.units / 10 ^ 8)
-    → text ≡ dec_text d
-whole_is_all d text none is =
-    let front = sign_text (is_negative d.units) ++ decimal (unsigned_abs d.units / 10 ^ 8) in
-    let fraction : ℕ → List ℕ = λ n. with_point (without_trailing_zeros (zero_padded 8 n)) in
-    let empty : fraction (unsigned_abs d.units % 10 ^ 8) ≡ [] = ap fraction none ∙ no_fraction in
-    is ∙ sym (append-nil front) ∙ ap (λ (tail : List ℕ). front ++ tail) (sym empty)
+-- and nothing is appended
+pub no_places : (old : List ℕ) (fraction : ℕ) → fraction ≡ 0
+    → old ≡ old ++ with_point (without_trailing_zeros (zero_padded 8 fraction))
+no_places old fraction none =
+    let places : ℕ → List ℕ = λ n. with_point (without_trailing_zeros (zero_padded 8 n)) in
+    sym (append-nil old) ∙ ap (λ (bytes : List ℕ). old ++ bytes) (sym (ap places none ∙ no_fraction))

@@ -8,13 +8,12 @@ ghost use Rattle.typed_fields.specs.Dec.{read_dec, dec_text, IsDec, has_minus, w
 ghost use Rattle.typed_fields.specs.Dec.{is_point, units_of, signed, sign_text, with_point};
 ghost use Rattle.std.specs.Fmt.{decimal};
 ghost use Rattle.std.specs.Int.{is_negative};
-ghost use Rattle.arrayvec.specs.ArrayVec.{array_vec_len};
+ghost use Rattle.std.specs.Prelude.{◌%◌, vec_capacity, vec_len};
 
 use crate::digits::{
-    append, are_digits, eight_digits, number, without_leading_zeros, without_trailing_zeros,
+    are_digits, eight_digits, number, without_leading_zeros, without_trailing_zeros,
 };
 use crate::fault::FieldFault;
-use arrayvec::ArrayVec;
 use itoa::Buffer;
 use std::alloc::AllocError;
 
@@ -148,66 +147,82 @@ impl Dec {
         ensures ok { OnOk result (out.new.items ≡ out.old.items ++ dec_text self.now) }
         ensures err { OnErr result (out.new.items ≡ out.old.items) }
     {
-        out.extend_from_slice(self.text().as_slice())
-    }
-
-    /// The sign, where there is one.
-    #[inline(always)]
-    fn sign(&self) -> ArrayVec<u8, 32>
-        ensures items { result.items ≡ sign_text (is_negative self.now.units) }
-        ensures len { array_vec_len result ≤ 1 }
-    {
-        let mut text = ArrayVec::new();
-        if self.units < 0 {
-            text.push(b'-');
-        }
-        text
-    }
-
-    /// The sign and the whole part.
-    #[inline(always)]
-    fn whole_text(&self) -> ArrayVec<u8, 32>
-        requires { IsDec self.now }
-        ensures items { result.items ≡ sign_text (is_negative self.now.units)
-            ++ decimal (unsigned_abs self.now.units / 10 ^ 8) }
-        ensures len { array_vec_len result ≤ 16 }
-    {
-        let mut buffer = Buffer::new();
-        let whole = buffer.format((self.units.unsigned_abs() / ONE) as u64);
-        let mut text = self.sign();
-        append(&mut text, whole.as_bytes());
-        text
-    }
-
-    /// The spelling.
-    #[inline(always)]
-    fn text(&self) -> ArrayVec<u8, 32>
-        requires { IsDec self.now }
-        ensures { result.items ≡ dec_text self.now }
-    {
-        let fraction = (self.units.unsigned_abs() % ONE) as u32;
-        if fraction == 0 {
-            self.whole_text()
-        } else {
-            with_fraction(self.whole_text(), fraction)
-        }
+        out.reserve(MAX_BYTES)?;
+        let (whole, fraction) = whole_and_fraction(self.units.unsigned_abs());
+        push_whole(out, self.units < 0, whole);
+        push_fraction(out, fraction);
+        Ok(())
     }
 }
 
-/// A text with the digits of a fraction behind it, and a point in front of these.
-fn with_fraction(mut text: ArrayVec<u8, 32>, fraction: u32) -> ArrayVec<u8, 32>
-    requires { array_vec_len text ≤ 16 }
-    ensures { result.items
-        ≡ text.items ++ with_point (without_trailing_zeros (zero_padded 8 fraction)) }
+/// The whole part of a magnitude, and its units behind the point. Most magnitudes have 64 bits,
+/// which are divided at once.
+#[inline(always)]
+fn whole_and_fraction(magnitude: u128) -> (u64, u32)
+    requires { magnitude < 10 ^ 23 }
+    ensures whole { result.0 ≡ magnitude / 10 ^ 8 }
+    ensures fraction { result.1 ≡ magnitude % 10 ^ 8 }
+{
+    if magnitude <= 0xffff_ffff_ffff_ffff {
+        let units = magnitude as u64;
+        (units / 100_000_000, (units % 100_000_000) as u32)
+    } else {
+        ((magnitude / ONE) as u64, (magnitude % ONE) as u32)
+    }
+}
+
+/// Appends the minus sign of a negative number, where there is room.
+#[inline(always)]
+fn push_sign(out: &mut Vec<u8>, minus: bool)
+    requires { vec_len out.old < vec_capacity out.old }
+    ensures items { out.new.items ≡ out.old.items ++ sign_text minus }
+    ensures len { vec_len out.new ≤ vec_len out.old + 1 }
+    ensures capacity { vec_capacity out.old ≤ vec_capacity out.new }
+{
+    if minus {
+        out.push_reserved(b'-');
+    }
+}
+
+/// Appends the sign and the whole part, where there is room.
+#[inline(always)]
+fn push_whole(out: &mut Vec<u8>, minus: bool, whole: u64)
+    requires { vec_len out.old + 21 ≤ vec_capacity out.old }
+    ensures items { out.new.items ≡ out.old.items ++ sign_text minus ++ decimal whole }
+    ensures len { vec_len out.new ≤ vec_len out.old + 21 }
+    ensures capacity { vec_capacity out.old ≤ vec_capacity out.new }
+{
+    push_sign(out, minus);
+    out.extend_from_slice(Buffer::new().format(whole).as_bytes())
+        .unwrap();
+}
+
+/// Appends the digits of a fraction behind a point, where there are any and room for them.
+#[inline(always)]
+fn push_fraction(out: &mut Vec<u8>, fraction: u32)
+    requires { vec_len out.old + 9 ≤ vec_capacity out.old }
+    ensures { out.new.items
+        ≡ out.old.items ++ with_point (without_trailing_zeros (zero_padded 8 fraction)) }
+{
+    if fraction != 0 {
+        push_places(out, fraction);
+    }
+}
+
+/// Appends the digits of a fraction without the zeros at its end, behind a point.
+#[inline(never)]
+fn push_places(out: &mut Vec<u8>, fraction: u32)
+    requires { vec_len out.old + 9 ≤ vec_capacity out.old }
+    ensures { out.new.items
+        ≡ out.old.items ++ with_point (without_trailing_zeros (zero_padded 8 fraction)) }
 {
     let digits = eight_digits(fraction);
     let fraction = without_trailing_zeros(&digits);
     match fraction {
-        [] => text,
+        [] => {}
         _ => {
-            append(&mut text, b".");
-            append(&mut text, fraction);
-            text
+            out.push_reserved(b'.');
+            out.extend_from_slice(fraction).unwrap();
         }
     }
 }

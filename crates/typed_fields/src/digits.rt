@@ -1,13 +1,10 @@
 //! Texts of digits and the numbers that they spell.
 
-ghost use Rattle.std.specs.Prelude.{◌≡◌, ◌+◌, ◌-◌, ◌^◌, ◌<◌, ◌≤◌, ◌++◌, length, slice_range};
+ghost use Rattle.std.specs.Prelude.{◌≡◌, ◌+◌, ◌-◌, ◌^◌, ◌<◌, ◌≤◌, length, slice_range};
 ghost use Rattle.std.specs.Prelude.{IsTrue};
-ghost use Rattle.arrayvec.specs.ArrayVec.{array_vec_len};
 ghost use Rattle.typed_fields.specs.Digits.{are_digits, number_of, has_mark, have_marks};
 ghost use Rattle.typed_fields.specs.Digits.{has_pattern, zero_padded, without_leading_zeros};
 ghost use Rattle.typed_fields.specs.Digits.{without_trailing_zeros};
-
-use arrayvec::ArrayVec;
 
 /// Whether each byte is a digit.
 #[tactic(auto, unfolding(crate::specs::Digits::are_digits))]
@@ -70,15 +67,6 @@ pub(crate) fn has_pattern(pattern: &[u8], bytes: &[u8]) -> bool
     ensures { result ≡ has_pattern pattern.now bytes.now }
 {
     pattern.len() == bytes.len() && have_marks(pattern, bytes)
-}
-
-/// Appends bytes to a text with room for them.
-pub(crate) fn append<const CAP: usize>(text: &mut ArrayVec<u8, CAP>, bytes: &[u8])
-    requires { array_vec_len text.old + length bytes.now ≤ CAP }
-    ensures items { text.new.items ≡ text.old.items ++ bytes.now }
-    ensures len { array_vec_len text.new ≡ array_vec_len text.old + length bytes.now }
-{
-    text.try_extend_from_slice(bytes).unwrap()
 }
 
 /// The last two digits of a number.

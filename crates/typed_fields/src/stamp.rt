@@ -1,8 +1,8 @@
 //! Moments.
 
 ghost use Rattle.std.specs.Prelude.{◌≡◌, ◌^◌, ◌<◌, ◌≤◌, ◌++◌, codes, take, IsTrue};
-ghost use Rattle.std.specs.Prelude.{OnOk, OnErr, IfOk, Some, unwrap_or, if◌then◌else◌};
-ghost use Rattle.typed_fields.specs.Digits.{has_pattern};
+ghost use Rattle.std.specs.Prelude.{OnOk, OnErr, IfOk, Some, ◌∷◌, unwrap_or, if◌then◌else◌};
+ghost use Rattle.typed_fields.specs.Digits.{has_pattern, zero_padded};
 ghost use Rattle.typed_fields.specs.Stamp.{read_stamp, milli_in, spells_moment, stamp_in};
 ghost use Rattle.typed_fields.specs.Stamp.{seconds_text, stamp_text, millis_of_day, stamp_millis};
 ghost use Rattle.typed_fields.specs.Stamp.{milli_text};
@@ -97,6 +97,18 @@ impl Stamp {
         }
     }
 
+    /// The time of day as `HH:MM:SS`.
+    #[inline(always)]
+    fn time_digits(&self) -> [u8; 8]
+        ensures { result ≡ zero_padded 2 self.now.hour ++ 58 ∷ zero_padded 2 self.now.minute
+            ++ 58 ∷ zero_padded 2 self.now.second }
+    {
+        let [h1, h2] = two_digits(self.hour);
+        let [m1, m2] = two_digits(self.minute);
+        let [s1, s2] = two_digits(self.second);
+        [h1, h2, b':', m1, m2, b':', s1, s2]
+    }
+
     /// The spelling without the milliseconds.
     #[inline(always)]
     fn seconds_text(&self) -> [u8; 17]
@@ -104,11 +116,9 @@ impl Stamp {
         ensures { result ≡ seconds_text self.now }
     {
         let [y1, y2, y3, y4, m1, m2, d1, d2] = day_digits(self.day);
-        let [h1, h2] = two_digits(self.hour);
-        let [n1, n2] = two_digits(self.minute);
-        let [s1, s2] = two_digits(self.second);
+        let [t1, t2, t3, t4, t5, t6, t7, t8] = self.time_digits();
         [
-            y1, y2, y3, y4, m1, m2, d1, d2, b'-', h1, h2, b':', n1, n2, b':', s1, s2,
+            y1, y2, y3, y4, m1, m2, d1, d2, b'-', t1, t2, t3, t4, t5, t6, t7, t8,
         ]
     }
 
@@ -118,28 +128,11 @@ impl Stamp {
         requires { IsStamp self.now }
         ensures { result ≡ seconds_text self.now ++ milli_text (Some milli) }
     {
-        let [
-            y1,
-            y2,
-            y3,
-            y4,
-            m1,
-            m2,
-            d1,
-            d2,
-            dash,
-            h1,
-            h2,
-            c1,
-            n1,
-            n2,
-            c2,
-            s1,
-            s2,
-        ] = self.seconds_text();
+        let [y1, y2, y3, y4, m1, m2, d1, d2] = day_digits(self.day);
+        let [t1, t2, t3, t4, t5, t6, t7, t8] = self.time_digits();
         let [k1, k2, k3] = three_digits(milli);
         [
-            y1, y2, y3, y4, m1, m2, d1, d2, dash, h1, h2, c1, n1, n2, c2, s1, s2, b'.', k1, k2, k3,
+            y1, y2, y3, y4, m1, m2, d1, d2, b'-', t1, t2, t3, t4, t5, t6, t7, t8, b'.', k1, k2, k3,
         ]
     }
 

@@ -1,7 +1,14 @@
 use Rattle.std.proofs.Common.{refl}
 use Rattle.typed_fields.specs.Digits.{zero_padded}
+use Rattle.typed_fields.proofs.DateLemmas.{day_fits}
 use Rattle.typed_fields.proofs.stamp.Stamp.millis_text.Goals as goal
 
 pub returns : goal.returns
 unfolding zero_padded
-returns c = rw (c.seconds_text.ensures, c.three_digits.ensures) refl
+returns c =
+    rw (
+      c.day_digits.ensures,
+      day_fits c.args.self.now.day c.requires.day,
+      c.time_digits.ensures,
+      c.three_digits.ensures,
+    ) refl

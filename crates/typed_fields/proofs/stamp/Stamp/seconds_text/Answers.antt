@@ -9,7 +9,5 @@ returns c =
     rw (
       c.day_digits.ensures,
       day_fits c.args.self.now.day c.requires.day,
-      c.two_digits.ensures,
-      c.two_digits-2.ensures,
-      c.two_digits-3.ensures,
+      c.time_digits.ensures,
     ) refl
