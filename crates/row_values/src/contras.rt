@@ -88,6 +88,7 @@ impl GroupLine for ContraLine {
         })
     }
 
+    #[tactic(auto, using(crate::proofs::Contents::still_kept))]
     fn write(&self, out: &mut Vec<u8>) -> Result<(), AllocError> {
         put_field(out, 375, self.broker.as_slice())?;
         put_text_if(out, 337, &self.trader)?;

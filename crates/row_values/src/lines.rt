@@ -2,6 +2,7 @@
 
 ghost use Rattle.std.specs.Prelude.{◌≡◌, ◌≤◌, ◌++◌, List, IfOk, IfSome, OnOk, length};
 ghost use Rattle.std.specs.List.{AllZip};
+ghost use Rattle.std.specs.Io.{StartsWith};
 ghost use Rattle.typed_fields.specs.Dec.{IsDec};
 ghost use Rattle.field_groups.specs.Field.{Field as ReadField, body_of};
 ghost use Rattle.message_tables.specs.CodeTables.{own_tags, seen};
@@ -145,11 +146,12 @@ pub trait GroupLine: Sized + Drop {
     ///
     /// # Errors
     ///
-    /// `AllocError` for want of memory; then nothing is said of `out`.
+    /// `AllocError` for want of memory; what stood in `out` stays, and a part may stand behind it.
     fn write(&self, out: &mut Vec<u8>) -> Result<(), AllocError>
         requires { is_readable self.now }
-        ensures { OnOk result (out.new.items
-            ≡ out.old.items ++ body_of (line_fields (cells self.now))) };
+        ensures done { OnOk result (out.new.items
+            ≡ out.old.items ++ body_of (line_fields (cells self.now))) }
+        ensures kept { StartsWith out.new.items out.old.items };
 }
 
 impl GroupLine for PartyLine {
@@ -174,6 +176,7 @@ impl GroupLine for PartyLine {
         })
     }
 
+    #[tactic(auto, using(crate::proofs::Contents::still_kept))]
     fn write(&self, out: &mut Vec<u8>) -> Result<(), AllocError> {
         put_field(out, 448, self.id.as_slice())?;
         put_field(out, 447, b"D")?;
@@ -203,6 +206,7 @@ impl GroupLine for AllocLine {
         })
     }
 
+    #[tactic(auto, using(crate::proofs::Contents::still_kept))]
     fn write(&self, out: &mut Vec<u8>) -> Result<(), AllocError> {
         put_field(out, 79, self.account.as_slice())?;
         put_if(out, 80, &self.qty)
@@ -230,6 +234,7 @@ impl GroupLine for SessionLine {
         })
     }
 
+    #[tactic(auto, using(crate::proofs::Contents::still_kept))]
     fn write(&self, out: &mut Vec<u8>) -> Result<(), AllocError> {
         put_field(out, 336, self.id.as_slice())
     }

@@ -74,9 +74,6 @@ pub enum Part<'a> {
     Contras(&'a Contras),
 }
 
-/// How many bytes the lines of an ordinary group have at most.
-const ORDINARY: usize = 256;
-
 /// Appends a field of a value.
 #[inline(never)]
 #[tactic(auto, unfolding(field_groups::specs::Field::field_bytes))]
@@ -258,8 +255,9 @@ fn put_row(out: &mut Vec<u8>, tag: u32, value: &Value<'_>) -> Result<(), AllocEr
 /// Appends the count of a group that has lines.
 fn put_count(out: &mut Vec<u8>, tag: u32, count: usize) -> Result<(), AllocError>
     requires { count ≤ 32 }
-    ensures { OnOk result (out.new.items
+    ensures done { OnOk result (out.new.items
         ≡ out.old.items ++ body_of (count_fields tag count)) }
+    ensures kept { StartsWith out.new.items out.old.items }
 {
     if count == 0 {
         Ok(())
@@ -268,28 +266,10 @@ fn put_count(out: &mut Vec<u8>, tag: u32, count: usize) -> Result<(), AllocError
     }
 }
 
-/// Appends a group, if it has lines; `out` may have a part of it after an error, and then nothing
-/// is said of it.
-fn put_lines<L: GroupLine>(
-    out: &mut Vec<u8>,
-    tag: u32,
-    lines: &GroupLines<L>,
-) -> Result<(), AllocError>
-    requires { AllByRecursion L.is_readable lines.now }
-    ensures { OnOk result (out.new.items
-        ≡ out.old.items ++ body_of (group_fields tag (map L.cells lines.now))) }
-{
-    let lines = lines.as_slice();
-    put_count(out, tag, lines.len())?;
-    for line in lines {
-        line.write(out)?;
-    }
-    Ok(())
-}
-
-/// Appends a group that has lines: all of it, or nothing.
+/// Appends a group that has lines.
 #[inline(never)]
-fn put_all_lines<L: GroupLine>(
+#[tactic(auto, using(crate::proofs::Contents::still_kept))]
+fn put_lines<L: GroupLine>(
     out: &mut Vec<u8>,
     tag: u32,
     lines: &GroupLines<L>,
@@ -299,9 +279,12 @@ fn put_all_lines<L: GroupLine>(
         ≡ out.old.items ++ body_of (group_fields tag (map L.cells lines.now))) }
     ensures kept { StartsWith out.new.items out.old.items }
 {
-    let mut group = Vec::with_capacity(*out.allocator(), ORDINARY)?;
-    put_lines(&mut group, tag, lines)?;
-    out.extend_from_slice(&group)
+    let lines = lines.as_slice();
+    put_count(out, tag, lines.len())?;
+    for line in lines {
+        line.write(out)?;
+    }
+    Ok(())
 }
 
 /// Appends a group, if it has lines.
@@ -318,7 +301,7 @@ fn put_group<L: GroupLine>(
 {
     match lines.as_slice() {
         [] => Ok(()),
-        _ => put_all_lines(out, tag, lines),
+        _ => put_lines(out, tag, lines),
     }
 }
 
