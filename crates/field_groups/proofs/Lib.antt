@@ -8,6 +8,6 @@ pub mod Whole
 pub mod Lines
 pub mod Plain
 pub mod Grouped
-pub mod TagDigits
+pub mod NumberDigits
 mod Worked
 pub mod Indexing

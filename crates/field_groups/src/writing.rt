@@ -10,86 +10,97 @@ use crate::fields::SOH;
 use itoa::Buffer;
 use std::alloc::AllocError;
 
-/// The most bytes of a tag in digits and `=`.
-const TAG_BYTES: usize = 11;
+/// The most digits of a number.
+const DIGITS: usize = 10;
 
-/// Appends a tag of one digit and `=`.
+/// The most bytes of a field besides its value: a tag, `=` and SOH.
+const AROUND: usize = DIGITS + 2;
+
+/// Appends a number of one digit.
 #[inline(always)]
-#[tactic(auto, using(crate::proofs::TagDigits::one_pushed))]
-fn push_one_digit(out: &mut Vec<u8>, tag: u32)
-    requires to { tag < 10 }
-    requires room { vec_len out.old + TAG_BYTES ≤ vec_capacity out.old }
-    ensures items { out.new.items ≡ out.old.items ++ decimal tag ++ 61 ∷ [] }
-    ensures len { vec_len out.new ≤ vec_len out.old + TAG_BYTES }
+#[tactic(auto, using(crate::proofs::NumberDigits::one_pushed))]
+fn push_one(out: &mut Vec<u8>, number: u32)
+    requires to { number < 10 }
+    requires room { vec_len out.old + DIGITS ≤ vec_capacity out.old }
+    ensures items { out.new.items ≡ out.old.items ++ decimal number }
+    ensures len { vec_len out.new ≤ vec_len out.old + DIGITS }
     ensures capacity { vec_capacity out.old ≤ vec_capacity out.new }
 {
-    out.push_reserved(b'0' + tag as u8);
-    out.push_reserved(b'=');
+    out.push_reserved(b'0' + number as u8);
 }
 
-/// Appends a tag of two digits and `=`.
+/// Appends a number of two digits.
 #[inline(always)]
-#[tactic(auto, using(crate::proofs::TagDigits::two_pushed))]
-fn push_two_digits(out: &mut Vec<u8>, tag: u32)
-    requires from { 10 ≤ tag }
-    requires to { tag < 100 }
-    requires room { vec_len out.old + TAG_BYTES ≤ vec_capacity out.old }
-    ensures items { out.new.items ≡ out.old.items ++ decimal tag ++ 61 ∷ [] }
-    ensures len { vec_len out.new ≤ vec_len out.old + TAG_BYTES }
+#[tactic(auto, using(crate::proofs::NumberDigits::two_pushed))]
+fn push_two(out: &mut Vec<u8>, number: u32)
+    requires from { 10 ≤ number }
+    requires to { number < 100 }
+    requires room { vec_len out.old + DIGITS ≤ vec_capacity out.old }
+    ensures items { out.new.items ≡ out.old.items ++ decimal number }
+    ensures len { vec_len out.new ≤ vec_len out.old + DIGITS }
     ensures capacity { vec_capacity out.old ≤ vec_capacity out.new }
 {
-    out.push_reserved(b'0' + (tag / 10) as u8);
-    out.push_reserved(b'0' + (tag % 10) as u8);
-    out.push_reserved(b'=');
+    out.push_reserved(b'0' + (number / 10) as u8);
+    out.push_reserved(b'0' + (number % 10) as u8);
 }
 
-/// Appends a tag of three digits and `=`.
+/// Appends a number of three digits.
 #[inline(always)]
-#[tactic(auto, using(crate::proofs::TagDigits::three_pushed))]
-fn push_three_digits(out: &mut Vec<u8>, tag: u32)
-    requires from { 100 ≤ tag }
-    requires to { tag < 1000 }
-    requires room { vec_len out.old + TAG_BYTES ≤ vec_capacity out.old }
-    ensures items { out.new.items ≡ out.old.items ++ decimal tag ++ 61 ∷ [] }
-    ensures len { vec_len out.new ≤ vec_len out.old + TAG_BYTES }
+#[tactic(auto, using(crate::proofs::NumberDigits::three_pushed))]
+fn push_three(out: &mut Vec<u8>, number: u32)
+    requires from { 100 ≤ number }
+    requires to { number < 1000 }
+    requires room { vec_len out.old + DIGITS ≤ vec_capacity out.old }
+    ensures items { out.new.items ≡ out.old.items ++ decimal number }
+    ensures len { vec_len out.new ≤ vec_len out.old + DIGITS }
     ensures capacity { vec_capacity out.old ≤ vec_capacity out.new }
 {
-    out.push_reserved(b'0' + (tag / 100) as u8);
-    out.push_reserved(b'0' + (tag / 10 % 10) as u8);
-    out.push_reserved(b'0' + (tag % 10) as u8);
-    out.push_reserved(b'=');
+    out.push_reserved(b'0' + (number / 100) as u8);
+    out.push_reserved(b'0' + (number / 10 % 10) as u8);
+    out.push_reserved(b'0' + (number % 10) as u8);
 }
 
-/// Appends a tag of any length and `=`.
+/// Appends a number of any length.
 #[inline(never)]
-fn push_any_digits(out: &mut Vec<u8>, tag: u32)
-    requires room { vec_len out.old + TAG_BYTES ≤ vec_capacity out.old }
-    ensures items { out.new.items ≡ out.old.items ++ decimal tag ++ 61 ∷ [] }
-    ensures len { vec_len out.new ≤ vec_len out.old + TAG_BYTES }
+fn push_any(out: &mut Vec<u8>, number: u32)
+    requires room { vec_len out.old + DIGITS ≤ vec_capacity out.old }
+    ensures items { out.new.items ≡ out.old.items ++ decimal number }
+    ensures len { vec_len out.new ≤ vec_len out.old + DIGITS }
     ensures capacity { vec_capacity out.old ≤ vec_capacity out.new }
 {
-    out.extend_from_slice(Buffer::new().format(tag).as_bytes())
+    out.extend_from_slice(Buffer::new().format(number).as_bytes())
         .unwrap();
-    out.push_reserved(b'=');
+}
+
+/// Appends a number in digits, where there is room. Those of most tags are written one by one.
+#[inline(always)]
+fn push_number(out: &mut Vec<u8>, number: u32)
+    requires room { vec_len out.old + DIGITS ≤ vec_capacity out.old }
+    ensures items { out.new.items ≡ out.old.items ++ decimal number }
+    ensures len { vec_len out.new ≤ vec_len out.old + DIGITS }
+    ensures capacity { vec_capacity out.old ≤ vec_capacity out.new }
+{
+    if number < 10 {
+        push_one(out, number)
+    } else if number < 100 {
+        push_two(out, number)
+    } else if number < 1000 {
+        push_three(out, number)
+    } else {
+        push_any(out, number)
+    }
 }
 
 /// Begins a field where there is room: its tag in digits, `=`.
 #[inline(always)]
 fn push_tag(out: &mut Vec<u8>, tag: u32)
-    requires room { vec_len out.old + TAG_BYTES ≤ vec_capacity out.old }
+    requires room { vec_len out.old + DIGITS + 1 ≤ vec_capacity out.old }
     ensures items { out.new.items ≡ out.old.items ++ decimal tag ++ 61 ∷ [] }
-    ensures len { vec_len out.new ≤ vec_len out.old + TAG_BYTES }
+    ensures len { vec_len out.new ≤ vec_len out.old + DIGITS + 1 }
     ensures capacity { vec_capacity out.old ≤ vec_capacity out.new }
 {
-    if tag < 10 {
-        push_one_digit(out, tag)
-    } else if tag < 100 {
-        push_two_digits(out, tag)
-    } else if tag < 1000 {
-        push_three_digits(out, tag)
-    } else {
-        push_any_digits(out, tag)
-    }
+    push_number(out, tag);
+    out.push_reserved(b'=');
 }
 
 /// Begins a field: its tag in digits, `=`.
@@ -97,12 +108,12 @@ fn push_tag(out: &mut Vec<u8>, tag: u32)
 /// # Errors
 ///
 /// `AllocError` for want of memory; what stood in `out` stays, and a part may stand behind it.
-#[inline(never)]
+#[inline(always)]
 pub fn put_tag(out: &mut Vec<u8>, tag: u32) -> Result<(), AllocError>
     ensures done { OnOk result (out.new.items ≡ out.old.items ++ decimal tag ++ 61 ∷ []) }
     ensures kept { StartsWith out.new.items out.old.items }
 {
-    out.reserve(TAG_BYTES)?;
+    out.reserve(DIGITS + 1)?;
     push_tag(out, tag);
     Ok(())
 }
@@ -119,7 +130,7 @@ pub fn put_field(out: &mut Vec<u8>, tag: u32, value: &[u8]) -> Result<(), AllocE
     ensures done { OnOk result (out.new.items ≡ out.old.items ++ field_bytes (tag, value.now)) }
     ensures kept { StartsWith out.new.items out.old.items }
 {
-    out.reserve(TAG_BYTES + value.len() + 1)?;
+    out.reserve(AROUND + value.len())?;
     push_tag(out, tag);
     out.extend_from_slice(value)?;
     out.push_reserved(SOH);
@@ -137,7 +148,7 @@ pub fn put_byte(out: &mut Vec<u8>, tag: u32, byte: u8) -> Result<(), AllocError>
     ensures done { OnOk result (out.new.items ≡ out.old.items ++ field_bytes (tag, byte ∷ [])) }
     ensures kept { StartsWith out.new.items out.old.items }
 {
-    out.reserve(TAG_BYTES + 2)?;
+    out.reserve(AROUND + 1)?;
     push_tag(out, tag);
     out.push_reserved(byte);
     out.push_reserved(SOH);
@@ -149,10 +160,16 @@ pub fn put_byte(out: &mut Vec<u8>, tag: u32, byte: u8) -> Result<(), AllocError>
 /// # Errors
 ///
 /// As [`put_tag`].
+#[inline(never)]
+#[tactic(auto, unfolding(crate::specs::Field::field_bytes))]
 pub fn put_number(out: &mut Vec<u8>, tag: u32, number: u32) -> Result<(), AllocError>
     ensures done { OnOk result (out.new.items
         ≡ out.old.items ++ field_bytes (tag, decimal number)) }
     ensures kept { StartsWith out.new.items out.old.items }
 {
-    put_field(out, tag, Buffer::new().format(number).as_bytes())
+    out.reserve(AROUND + DIGITS)?;
+    push_tag(out, tag);
+    push_number(out, number);
+    out.push_reserved(SOH);
+    Ok(())
 }

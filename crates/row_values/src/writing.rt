@@ -244,7 +244,7 @@ fn put_row(out: &mut Vec<u8>, tag: u32, value: &Value<'_>) -> Result<(), AllocEr
         Value::Stamp(stamp) => put_value(out, tag, *stamp),
         Value::StampIf(stamp) => put_if(out, tag, *stamp),
         Value::FlagIf(flag) => put_if(out, tag, *flag),
-        Value::Number(number) => put_value(out, tag, number),
+        Value::Number(number) => put_number(out, tag, number.value),
         Value::NumberIf(number) => put_if(out, tag, number),
         Value::Month(maturity) => put_month(out, tag, maturity),
         Value::MonthDay(maturity) => put_month_day(out, tag, maturity),

@@ -7,6 +7,7 @@ use Rattle.std.proofs.lemmas.List.{length-append}
 use Rattle.std.proofs.lemmas.Nat.{mul-le}
 use Rattle.std.proofs.Math.Nat.{pow-le-pow_right}
 use Rattle.std.specs.Int.{w128}
+use Rattle.std.specs.Prelude.{◌%◌}
 use Rattle.std.proofs.lemmas.Bool.Decides.{nat_tests}
 use Rattle.jiff_core.proofs.SignedLemmas.{back_small}
 use Rattle.typed_fields.specs.declared.dec.Dec.{Dec}
@@ -118,3 +119,19 @@ pub no_places : (old : List ℕ) (fraction : ℕ) → fraction ≡ 0
 no_places old fraction none =
     let places : ℕ → List ℕ = λ n. with_point (without_trailing_zeros (zero_padded 8 n)) in
     sym (append-nil old) ∙ ap (λ (bytes : List ℕ). old ++ bytes) (sym (ap places none ∙ no_fraction))
+
+-- a fraction of ten-thousandths has four digits, and zeros behind them
+pub four_places : (n : ℕ) → n % 10_000 ≡ 0
+    → without_trailing_zeros (zero_padded 4 (n / 10_000))
+    ≡ without_trailing_zeros (zero_padded 8 n)
+unfolding zero_padded without_trailing_zeros
+four_places n none =
+    let a : n / 10_000_000 % 10 ≡ n / 10_000 / 1000 % 10 = omega arith in
+    let b : n / 1_000_000 % 10 ≡ n / 10_000 / 100 % 10 = omega arith in
+    let c : n / 100_000 % 10 ≡ n / 10_000 / 10 % 10 = omega arith in
+    let d : n / 10_000 % 10 ≡ n / 10_000 / 1 % 10 = omega arith in
+    let e : n / 1000 % 10 ≡ 0 = omega arith in
+    let f : n / 100 % 10 ≡ 0 = omega arith in
+    let g : n / 10 % 10 ≡ 0 = omega arith in
+    let h : n / 1 % 10 ≡ 0 = omega arith in
+    rw (a, b, c, d, e, f, g, h) refl

@@ -11,7 +11,7 @@ ghost use Rattle.std.specs.Int.{is_negative};
 ghost use Rattle.std.specs.Prelude.{◌%◌, vec_capacity, vec_len};
 
 use crate::digits::{
-    are_digits, eight_digits, number, without_leading_zeros, without_trailing_zeros,
+    are_digits, eight_digits, four_digits, number, without_leading_zeros, without_trailing_zeros,
 };
 use crate::fault::FieldFault;
 use itoa::Buffer;
@@ -200,7 +200,8 @@ fn push_whole(out: &mut Vec<u8>, minus: bool, whole: u64)
 /// Appends the digits of a fraction behind a point, where there are any and room for them.
 #[inline(always)]
 fn push_fraction(out: &mut Vec<u8>, fraction: u32)
-    requires { vec_len out.old + 9 ≤ vec_capacity out.old }
+    requires small { fraction < 10 ^ 8 }
+    requires room { vec_len out.old + 9 ≤ vec_capacity out.old }
     ensures { out.new.items
         ≡ out.old.items ++ with_point (without_trailing_zeros (zero_padded 8 fraction)) }
 {
@@ -209,20 +210,34 @@ fn push_fraction(out: &mut Vec<u8>, fraction: u32)
     }
 }
 
-/// Appends the digits of a fraction without the zeros at its end, behind a point.
+/// Appends the digits of a fraction, of which most have no more than four.
 #[inline(never)]
+#[tactic(auto, using(crate::proofs::DecLemmas::four_places))]
 fn push_places(out: &mut Vec<u8>, fraction: u32)
-    requires { vec_len out.old + 9 ≤ vec_capacity out.old }
+    requires small { fraction < 10 ^ 8 }
+    requires room { vec_len out.old + 9 ≤ vec_capacity out.old }
     ensures { out.new.items
         ≡ out.old.items ++ with_point (without_trailing_zeros (zero_padded 8 fraction)) }
 {
-    let digits = eight_digits(fraction);
-    let fraction = without_trailing_zeros(&digits);
-    match fraction {
+    if fraction % 10_000 == 0 {
+        push_digits(out, &four_digits((fraction / 10_000) as u16));
+    } else {
+        push_digits(out, &eight_digits(fraction));
+    }
+}
+
+/// Appends a point and the digits behind it, without the zeros at their end.
+#[inline(always)]
+fn push_digits(out: &mut Vec<u8>, digits: &[u8])
+    requires { vec_len out.old + length digits.now < vec_capacity out.old }
+    ensures { out.new.items ≡ out.old.items ++ with_point (without_trailing_zeros digits.now) }
+{
+    let places = without_trailing_zeros(digits);
+    match places {
         [] => {}
         _ => {
             out.push_reserved(b'.');
-            out.extend_from_slice(fraction).unwrap();
+            out.extend_from_slice(places).unwrap();
         }
     }
 }
