@@ -21,4 +21,4 @@ pub use fields::{Field, Fields, SOH, Split};
 pub use group::{Group, GroupFault, MAX_LINES, Shape, read_group};
 pub use head_values::number_in;
 pub use splitting::split;
-pub use writing::{put_byte, put_field, put_number, put_tag};
+pub use writing::{AROUND, push_tag, put_byte, put_field, put_number, put_tag};

@@ -14,7 +14,7 @@ use std::alloc::AllocError;
 const DIGITS: usize = 10;
 
 /// The most bytes of a field besides its value: a tag, `=` and SOH.
-const AROUND: usize = DIGITS + 2;
+pub const AROUND: usize = DIGITS + 2;
 
 /// Appends a number of one digit.
 #[inline(always)]
@@ -91,12 +91,13 @@ fn push_number(out: &mut Vec<u8>, number: u32)
     }
 }
 
-/// Begins a field where there is room: its tag in digits, `=`.
+/// Begins a field where there is room for one with no value: its tag in digits, `=`. Room for SOH
+/// is left.
 #[inline(always)]
-fn push_tag(out: &mut Vec<u8>, tag: u32)
-    requires room { vec_len out.old + DIGITS + 1 ≤ vec_capacity out.old }
+pub fn push_tag(out: &mut Vec<u8>, tag: u32)
+    requires { vec_len out.old + AROUND ≤ vec_capacity out.old }
     ensures items { out.new.items ≡ out.old.items ++ decimal tag ++ 61 ∷ [] }
-    ensures len { vec_len out.new ≤ vec_len out.old + DIGITS + 1 }
+    ensures len { vec_len out.new < vec_len out.old + AROUND }
     ensures capacity { vec_capacity out.old ≤ vec_capacity out.new }
 {
     push_number(out, tag);
@@ -113,7 +114,7 @@ pub fn put_tag(out: &mut Vec<u8>, tag: u32) -> Result<(), AllocError>
     ensures done { OnOk result (out.new.items ≡ out.old.items ++ decimal tag ++ 61 ∷ []) }
     ensures kept { StartsWith out.new.items out.old.items }
 {
-    out.reserve(DIGITS + 1)?;
+    out.reserve(AROUND)?;
     push_tag(out, tag);
     Ok(())
 }

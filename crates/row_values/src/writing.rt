@@ -18,10 +18,10 @@ ghost use Rattle.row_values.specs.Writing.{month_day_text, part_fields, value_te
 
 use crate::contras::Contras;
 use crate::lines::{Allocs, GroupLine, Maturity, Sessions};
-use field_groups::{SOH, put_byte, put_field, put_number, put_tag};
+use field_groups::{AROUND, SOH, push_tag, put_byte, put_field, put_number, put_tag};
 use order_meaning::{Bytes, GroupLines, Lines};
 use std::alloc::AllocError;
-use typed_fields::{Day, Dec, FieldValue, Flag, MonthYear, Number, Stamp};
+use typed_fields::{Day, Dec, FieldValue, Flag, MAX_SPELLING, MonthYear, Number, Stamp};
 
 /// What a row says, if it says anything. A content is written from an array of these, so that they
 /// are small.
@@ -74,28 +74,28 @@ pub enum Part<'a> {
     Contras(&'a Contras),
 }
 
+/// What a call answers that appends: an error only for want of memory.
+type Appended = Result<(), AllocError>;
+
 /// Appends a field of a value.
 #[inline(never)]
 #[tactic(auto, unfolding(field_groups::specs::Field::field_bytes))]
-fn put_value<T: FieldValue>(out: &mut Vec<u8>, tag: u32, value: &T) -> Result<(), AllocError>
+fn put_value<T: FieldValue>(out: &mut Vec<u8>, tag: u32, value: &T) -> Appended
     requires { T.can_be value.now }
     ensures done { OnOk result (out.new.items
         ≡ out.old.items ++ field_bytes (tag, T.spelling value.now)) }
     ensures kept { StartsWith out.new.items out.old.items }
 {
-    put_tag(out, tag)?;
-    value.write(out)?;
-    out.push(SOH)?;
+    out.reserve(AROUND + MAX_SPELLING)?;
+    push_tag(out, tag);
+    value.push(out);
+    out.push_reserved(SOH);
     Ok(())
 }
 
 /// Appends a field of a value, if there is one.
 #[inline(always)]
-pub(crate) fn put_if<T: FieldValue>(
-    out: &mut Vec<u8>,
-    tag: u32,
-    value: &Option<T>,
-) -> Result<(), AllocError>
+pub(crate) fn put_if<T: FieldValue>(out: &mut Vec<u8>, tag: u32, value: &Option<T>) -> Appended
     requires { IfSome value.now T.can_be }
     ensures done { OnOk result (out.new.items
         ≡ out.old.items ++ body_of (cell_fields (Tag tag, option_map T.spelling value.now))) }
@@ -107,26 +107,9 @@ pub(crate) fn put_if<T: FieldValue>(
     }
 }
 
-/// Appends the field of a row's code, if there is one.
-#[inline(always)]
-fn put_code_if(out: &mut Vec<u8>, tag: u32, code: Option<u8>) -> Result<(), AllocError>
-    ensures done { OnOk result (out.new.items
-        ≡ out.old.items ++ body_of (cell_fields (Tag tag, option_map code_text code))) }
-    ensures kept { StartsWith out.new.items out.old.items }
-{
-    match code {
-        None => Ok(()),
-        Some(code) => put_byte(out, tag, code),
-    }
-}
-
 /// Appends the field of a text, if there is one.
 #[inline(always)]
-pub(crate) fn put_text_if(
-    out: &mut Vec<u8>,
-    tag: u32,
-    text: &Option<Bytes>,
-) -> Result<(), AllocError>
+pub(crate) fn put_text_if(out: &mut Vec<u8>, tag: u32, text: &Option<Bytes>) -> Appended
     ensures done { OnOk result (out.new.items
         ≡ out.old.items ++ body_of (cell_fields (Tag tag, text.now))) }
     ensures kept { StartsWith out.new.items out.old.items }
@@ -139,7 +122,7 @@ pub(crate) fn put_text_if(
 
 /// Appends the field of a month, if there is one.
 #[inline(always)]
-fn put_month(out: &mut Vec<u8>, tag: u32, maturity: &Option<Maturity>) -> Result<(), AllocError>
+fn put_month(out: &mut Vec<u8>, tag: u32, maturity: &Option<Maturity>) -> Appended
     requires { IfSome maturity.now IsReadableMaturity }
     ensures done { OnOk result (out.new.items
         ≡ out.old.items ++ body_of (cell_fields (Tag tag, option_map month_text maturity.now))) }
@@ -162,7 +145,7 @@ fn last_two_digits(number: u8) -> [u8; 2]
 /// Appends the field of a date.
 #[inline(never)]
 #[tactic(auto, unfolding(field_groups::specs::Field::field_bytes))]
-fn put_day(out: &mut Vec<u8>, tag: u32, month: MonthYear, day: u8) -> Result<(), AllocError>
+fn put_day(out: &mut Vec<u8>, tag: u32, month: MonthYear, day: u8) -> Appended
     requires { IsMonthYear month }
     ensures done { OnOk result (out.new.items ≡ out.old.items
         ++ field_bytes (tag, month_year_text month ++ zero_padded 2 day)) }
@@ -184,7 +167,7 @@ fn two_digits(number: u8) -> [u8; 2]
 
 /// Appends the field of a number of two digits.
 #[inline(never)]
-fn put_two_digits(out: &mut Vec<u8>, tag: u32, number: u8) -> Result<(), AllocError>
+fn put_two_digits(out: &mut Vec<u8>, tag: u32, number: u8) -> Appended
     ensures done { OnOk result (out.new.items
         ≡ out.old.items ++ field_bytes (tag, two_digit_text number)) }
     ensures kept { StartsWith out.new.items out.old.items }
@@ -194,40 +177,39 @@ fn put_two_digits(out: &mut Vec<u8>, tag: u32, number: u8) -> Result<(), AllocEr
 
 /// Appends the field of a day of a month, if there is one.
 #[inline(always)]
-fn put_month_day(out: &mut Vec<u8>, tag: u32, maturity: &Option<Maturity>) -> Result<(), AllocError>
+fn put_month_day(out: &mut Vec<u8>, tag: u32, maturity: &Option<Maturity>) -> Appended
     ensures done { OnOk result (out.new.items ≡ out.old.items
         ++ body_of (cell_fields (Tag tag, option_and_then month_day_text maturity.now))) }
     ensures kept { StartsWith out.new.items out.old.items }
 {
     match maturity {
-        None => Ok(()),
-        Some(maturity) => match maturity.day {
-            None => Ok(()),
-            Some(day) => put_two_digits(out, tag, day),
-        },
+        Some(Maturity { day: Some(day), .. }) => put_two_digits(out, tag, *day),
+        _ => Ok(()),
     }
 }
 
 /// Appends the field of a date, if there is one.
 #[inline(always)]
-fn put_date(out: &mut Vec<u8>, tag: u32, maturity: &Option<Maturity>) -> Result<(), AllocError>
+fn put_date(out: &mut Vec<u8>, tag: u32, maturity: &Option<Maturity>) -> Appended
     requires { IfSome maturity.now IsReadableMaturity }
     ensures done { OnOk result (out.new.items
         ≡ out.old.items ++ body_of (cell_fields (Tag tag, option_and_then date_text maturity.now))) }
     ensures kept { StartsWith out.new.items out.old.items }
 {
     match maturity {
-        None => Ok(()),
-        Some(maturity) => match maturity.day {
-            None => Ok(()),
-            Some(day) => put_day(out, tag, maturity.month, day),
-        },
+        Some(
+            Maturity {
+                month,
+                day: Some(day),
+            },
+        ) => put_day(out, tag, *month, *day),
+        _ => Ok(()),
     }
 }
 
 /// Appends what a row says. A row that says nothing costs a look at it and no call.
 #[inline(always)]
-fn put_row(out: &mut Vec<u8>, tag: u32, value: &Value<'_>) -> Result<(), AllocError>
+fn put_row(out: &mut Vec<u8>, tag: u32, value: &Value<'_>) -> Appended
     requires { IsValue value.now }
     ensures done { OnOk result (out.new.items
         ≡ out.old.items ++ body_of (cell_fields (Tag tag, value_text value.now))) }
@@ -237,7 +219,8 @@ fn put_row(out: &mut Vec<u8>, tag: u32, value: &Value<'_>) -> Result<(), AllocEr
         Value::Text(text) => put_field(out, tag, text.as_slice()),
         Value::TextIf(text) => put_text_if(out, tag, text),
         Value::Code(code) => put_byte(out, tag, *code),
-        Value::CodeIf(code) => put_code_if(out, tag, *code),
+        Value::CodeIf(None) => Ok(()),
+        Value::CodeIf(Some(code)) => put_byte(out, tag, *code),
         Value::Dec(dec) => put_value(out, tag, *dec),
         Value::DecIf(dec) => put_if(out, tag, *dec),
         Value::DayIf(day) => put_if(out, tag, *day),
@@ -253,7 +236,7 @@ fn put_row(out: &mut Vec<u8>, tag: u32, value: &Value<'_>) -> Result<(), AllocEr
 }
 
 /// Appends the count of a group that has lines.
-fn put_count(out: &mut Vec<u8>, tag: u32, count: usize) -> Result<(), AllocError>
+fn put_count(out: &mut Vec<u8>, tag: u32, count: usize) -> Appended
     requires { count ≤ 32 }
     ensures done { OnOk result (out.new.items
         ≡ out.old.items ++ body_of (count_fields tag count)) }
@@ -269,11 +252,7 @@ fn put_count(out: &mut Vec<u8>, tag: u32, count: usize) -> Result<(), AllocError
 /// Appends a group that has lines.
 #[inline(never)]
 #[tactic(auto, using(crate::proofs::Contents::still_kept))]
-fn put_lines<L: GroupLine>(
-    out: &mut Vec<u8>,
-    tag: u32,
-    lines: &GroupLines<L>,
-) -> Result<(), AllocError>
+fn put_lines<L: GroupLine>(out: &mut Vec<u8>, tag: u32, lines: &GroupLines<L>) -> Appended
     requires { AllByRecursion L.is_readable lines.now }
     ensures done { OnOk result (out.new.items
         ≡ out.old.items ++ body_of (group_fields tag (map L.cells lines.now))) }
@@ -289,11 +268,7 @@ fn put_lines<L: GroupLine>(
 
 /// Appends a group, if it has lines.
 #[inline(always)]
-fn put_group<L: GroupLine>(
-    out: &mut Vec<u8>,
-    tag: u32,
-    lines: &GroupLines<L>,
-) -> Result<(), AllocError>
+fn put_group<L: GroupLine>(out: &mut Vec<u8>, tag: u32, lines: &GroupLines<L>) -> Appended
     requires { AllByRecursion L.is_readable lines.now }
     ensures done { OnOk result (out.new.items
         ≡ out.old.items ++ body_of (group_fields tag (map L.cells lines.now))) }
@@ -307,7 +282,7 @@ fn put_group<L: GroupLine>(
 
 /// Appends a part of a content.
 #[inline(always)]
-fn put_part(out: &mut Vec<u8>, part: &Part<'_>) -> Result<(), AllocError>
+fn put_part(out: &mut Vec<u8>, part: &Part<'_>) -> Appended
     requires { IsPart part.now }
     ensures done { OnOk result (out.new.items ≡ out.old.items ++ body_of (part_fields part.now)) }
     ensures kept { StartsWith out.new.items out.old.items }
@@ -322,13 +297,9 @@ fn put_part(out: &mut Vec<u8>, part: &Part<'_>) -> Result<(), AllocError>
 }
 
 /// Appends the parts of a content.
-///
-/// # Errors
-///
-/// `AllocError` for want of memory; then some of the parts may stand at the end of `out`.
 #[inline(always)]
 #[tactic(auto, using(crate::proofs::Contents::still_kept))]
-fn put_parts(out: &mut Vec<u8>, parts: &[Part<'_>]) -> Result<(), AllocError>
+fn put_parts(out: &mut Vec<u8>, parts: &[Part<'_>]) -> Appended
     requires { AllByRecursion IsPart parts.now }
     ensures done { OnOk result (out.new.items
         ≡ out.old.items ++ body_of (flat_map part_fields parts.now)) }

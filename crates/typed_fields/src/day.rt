@@ -1,6 +1,7 @@
 //! Days.
 
 ghost use Rattle.std.specs.Prelude.{◌≡◌, ◌≤◌, ◌<◌, ◌++◌, take, length, IsTrue, OnOk, OnErr};
+ghost use Rattle.std.specs.Prelude.{◌+◌, vec_capacity, vec_len};
 ghost use Rattle.std.specs.Prelude.{IfOk, if◌then◌else◌};
 ghost use Rattle.typed_fields.specs.Digits.{are_digits};
 ghost use Rattle.typed_fields.specs.Day.{read_day, spells_date, day_number, day_digits, day_text};
@@ -8,6 +9,7 @@ ghost use Rattle.typed_fields.specs.Day.{IsDayNumber, IsDay};
 
 use crate::digits::{four_digits, has_pattern, number_at, two_digits};
 use crate::fault::FieldFault;
+use crate::value::MAX_SPELLING;
 use jiff::civil::Date;
 use std::alloc::AllocError;
 
@@ -81,6 +83,20 @@ impl Day {
         ensures ok { OnOk result (out.new.items ≡ out.old.items ++ day_text self.now) }
         ensures err { OnErr result (out.new.items ≡ out.old.items) }
     {
-        out.extend_from_slice(&day_digits(self.day))
+        out.reserve(MAX_SPELLING)?;
+        self.push(out);
+        Ok(())
+    }
+
+    /// Appends it where there is room for any spelling.
+    #[inline(always)]
+    pub(crate) fn push(&self, out: &mut Vec<u8>)
+        requires value { IsDay self.now }
+        requires room { vec_len out.old + MAX_SPELLING ≤ vec_capacity out.old }
+        ensures items { out.new.items ≡ out.old.items ++ day_text self.now }
+        ensures len { vec_len out.new ≤ vec_len out.old + MAX_SPELLING }
+        ensures capacity { vec_capacity out.old ≤ vec_capacity out.new }
+    {
+        out.extend_from_slice(&day_digits(self.day)).unwrap();
     }
 }

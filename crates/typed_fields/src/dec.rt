@@ -14,6 +14,7 @@ use crate::digits::{
     are_digits, eight_digits, four_digits, number, without_leading_zeros, without_trailing_zeros,
 };
 use crate::fault::FieldFault;
+use crate::value::MAX_SPELLING;
 use itoa::Buffer;
 use std::alloc::AllocError;
 
@@ -147,11 +148,23 @@ impl Dec {
         ensures ok { OnOk result (out.new.items ≡ out.old.items ++ dec_text self.now) }
         ensures err { OnErr result (out.new.items ≡ out.old.items) }
     {
-        out.reserve(MAX_BYTES)?;
+        out.reserve(MAX_SPELLING)?;
+        self.push(out);
+        Ok(())
+    }
+
+    /// Appends it where there is room for any spelling.
+    #[inline(always)]
+    pub(crate) fn push(&self, out: &mut Vec<u8>)
+        requires value { IsDec self.now }
+        requires room { vec_len out.old + MAX_SPELLING ≤ vec_capacity out.old }
+        ensures items { out.new.items ≡ out.old.items ++ dec_text self.now }
+        ensures len { vec_len out.new ≤ vec_len out.old + MAX_SPELLING }
+        ensures capacity { vec_capacity out.old ≤ vec_capacity out.new }
+    {
         let (whole, fraction) = whole_and_fraction(self.units.unsigned_abs());
         push_whole(out, self.units < 0, whole);
         push_fraction(out, fraction);
-        Ok(())
     }
 }
 
@@ -202,8 +215,10 @@ fn push_whole(out: &mut Vec<u8>, minus: bool, whole: u64)
 fn push_fraction(out: &mut Vec<u8>, fraction: u32)
     requires small { fraction < 10 ^ 8 }
     requires room { vec_len out.old + 9 ≤ vec_capacity out.old }
-    ensures { out.new.items
+    ensures items { out.new.items
         ≡ out.old.items ++ with_point (without_trailing_zeros (zero_padded 8 fraction)) }
+    ensures len { vec_len out.new ≤ vec_len out.old + 9 }
+    ensures capacity { vec_capacity out.old ≤ vec_capacity out.new }
 {
     if fraction != 0 {
         push_places(out, fraction);
@@ -216,8 +231,10 @@ fn push_fraction(out: &mut Vec<u8>, fraction: u32)
 fn push_places(out: &mut Vec<u8>, fraction: u32)
     requires small { fraction < 10 ^ 8 }
     requires room { vec_len out.old + 9 ≤ vec_capacity out.old }
-    ensures { out.new.items
+    ensures items { out.new.items
         ≡ out.old.items ++ with_point (without_trailing_zeros (zero_padded 8 fraction)) }
+    ensures len { vec_len out.new ≤ vec_len out.old + 9 }
+    ensures capacity { vec_capacity out.old ≤ vec_capacity out.new }
 {
     if fraction % 10_000 == 0 {
         push_digits(out, &four_digits((fraction / 10_000) as u16));
@@ -230,7 +247,9 @@ fn push_places(out: &mut Vec<u8>, fraction: u32)
 #[inline(always)]
 fn push_digits(out: &mut Vec<u8>, digits: &[u8])
     requires { vec_len out.old + length digits.now < vec_capacity out.old }
-    ensures { out.new.items ≡ out.old.items ++ with_point (without_trailing_zeros digits.now) }
+    ensures items { out.new.items ≡ out.old.items ++ with_point (without_trailing_zeros digits.now) }
+    ensures len { vec_len out.new ≤ vec_len out.old + 1 + length digits.now }
+    ensures capacity { vec_capacity out.old ≤ vec_capacity out.new }
 {
     let places = without_trailing_zeros(digits);
     match places {

@@ -29,4 +29,4 @@ pub use flag::Flag;
 pub use month_year::MonthYear;
 pub use number::Number;
 pub use stamp::{MAX_MILLIS, Stamp};
-pub use value::FieldValue;
+pub use value::{FieldValue, MAX_SPELLING};

@@ -1,10 +1,12 @@
 //! Months of years.
 
 ghost use Rattle.std.specs.Prelude.{◌≡◌, ◌++◌, OnOk, OnErr, IfOk};
+ghost use Rattle.std.specs.Prelude.{◌+◌, ◌≤◌, vec_capacity, vec_len};
 ghost use Rattle.typed_fields.specs.MonthYear.{read_month_year, month_year_text, IsMonthYear};
 
 use crate::digits::{four_digits, has_pattern, number_at, two_digits};
 use crate::fault::FieldFault;
+use crate::value::MAX_SPELLING;
 use std::alloc::AllocError;
 
 /// A month of a year from 0000 to 9999, as the data type month-year of FIX 4.2.
@@ -53,8 +55,22 @@ impl MonthYear {
         ensures ok { OnOk result (out.new.items ≡ out.old.items ++ month_year_text self.now) }
         ensures err { OnErr result (out.new.items ≡ out.old.items) }
     {
+        out.reserve(MAX_SPELLING)?;
+        self.push(out);
+        Ok(())
+    }
+
+    /// Appends it where there is room for any spelling.
+    #[inline(always)]
+    pub(crate) fn push(&self, out: &mut Vec<u8>)
+        requires value { IsMonthYear self.now }
+        requires room { vec_len out.old + MAX_SPELLING ≤ vec_capacity out.old }
+        ensures items { out.new.items ≡ out.old.items ++ month_year_text self.now }
+        ensures len { vec_len out.new ≤ vec_len out.old + MAX_SPELLING }
+        ensures capacity { vec_capacity out.old ≤ vec_capacity out.new }
+    {
         let [y1, y2, y3, y4] = four_digits(self.year);
         let [m1, m2] = two_digits(self.month);
-        out.extend_from_slice(&[y1, y2, y3, y4, m1, m2])
+        out.extend_from_slice(&[y1, y2, y3, y4, m1, m2]).unwrap();
     }
 }

@@ -1,10 +1,12 @@
 //! Whole numbers.
 
 ghost use Rattle.std.specs.Prelude.{◌≡◌, ◌++◌, OnOk, OnErr, IfOk};
+ghost use Rattle.std.specs.Prelude.{◌+◌, ◌≤◌, vec_capacity, vec_len};
 ghost use Rattle.typed_fields.specs.Number.{read_number, number_text, IsNumber};
 
 use crate::digits::{are_digits, number};
 use crate::fault::FieldFault;
+use crate::value::MAX_SPELLING;
 use itoa::Buffer;
 use std::alloc::AllocError;
 
@@ -59,6 +61,21 @@ impl Number {
         ensures ok { OnOk result (out.new.items ≡ out.old.items ++ number_text self.now) }
         ensures err { OnErr result (out.new.items ≡ out.old.items) }
     {
+        out.reserve(MAX_SPELLING)?;
+        self.push(out);
+        Ok(())
+    }
+
+    /// Appends it where there is room for any spelling.
+    #[inline(always)]
+    pub(crate) fn push(&self, out: &mut Vec<u8>)
+        requires value { IsNumber self.now }
+        requires room { vec_len out.old + MAX_SPELLING ≤ vec_capacity out.old }
+        ensures items { out.new.items ≡ out.old.items ++ number_text self.now }
+        ensures len { vec_len out.new ≤ vec_len out.old + MAX_SPELLING }
+        ensures capacity { vec_capacity out.old ≤ vec_capacity out.new }
+    {
         out.extend_from_slice(Buffer::new().format(self.value).as_bytes())
+            .unwrap();
     }
 }

@@ -1,6 +1,7 @@
 //! Moments.
 
 ghost use Rattle.std.specs.Prelude.{◌≡◌, ◌^◌, ◌<◌, ◌≤◌, ◌++◌, codes, take, IsTrue};
+ghost use Rattle.std.specs.Prelude.{◌+◌, vec_capacity, vec_len};
 ghost use Rattle.std.specs.Prelude.{OnOk, OnErr, IfOk, Some, ◌∷◌, unwrap_or, if◌then◌else◌};
 ghost use Rattle.typed_fields.specs.Digits.{has_pattern, zero_padded};
 ghost use Rattle.typed_fields.specs.Stamp.{read_stamp, milli_in, spells_moment, stamp_in};
@@ -11,6 +12,7 @@ ghost use Rattle.typed_fields.specs.Stamp.{stamp_at, IsStamp};
 use crate::day::{day_digits, day_number};
 use crate::digits::{has_pattern, number_at, three_digits, two_digits};
 use crate::fault::FieldFault;
+use crate::value::MAX_SPELLING;
 use std::alloc::AllocError;
 
 /// The last moment before the year 2100, in milliseconds since 1 January 1970, 00:00.
@@ -91,9 +93,23 @@ impl Stamp {
         ensures ok { OnOk result (out.new.items ≡ out.old.items ++ stamp_text self.now) }
         ensures err { OnErr result (out.new.items ≡ out.old.items) }
     {
+        out.reserve(MAX_SPELLING)?;
+        self.push(out);
+        Ok(())
+    }
+
+    /// Appends it where there is room for any spelling.
+    #[inline(always)]
+    pub(crate) fn push(&self, out: &mut Vec<u8>)
+        requires value { IsStamp self.now }
+        requires room { vec_len out.old + MAX_SPELLING ≤ vec_capacity out.old }
+        ensures items { out.new.items ≡ out.old.items ++ stamp_text self.now }
+        ensures len { vec_len out.new ≤ vec_len out.old + MAX_SPELLING }
+        ensures capacity { vec_capacity out.old ≤ vec_capacity out.new }
+    {
         match self.milli {
-            None => out.extend_from_slice(&self.seconds_text()),
-            Some(milli) => out.extend_from_slice(&self.millis_text(milli)),
+            None => out.extend_from_slice(&self.seconds_text()).unwrap(),
+            Some(milli) => out.extend_from_slice(&self.millis_text(milli)).unwrap(),
         }
     }
 

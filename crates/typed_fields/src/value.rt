@@ -1,6 +1,7 @@
 //! What all types of values have in common, so that a message's code is written once for them.
 
 ghost use Rattle.std.specs.Prelude.{◌≡◌, ◌++◌, ℕ, List, Result, IfOk, OnOk, OnErr};
+ghost use Rattle.std.specs.Prelude.{◌+◌, ◌≤◌, vec_capacity, vec_len};
 ghost use Rattle.typed_fields.specs.declared.fault.FieldFault.{FieldFault};
 ghost use Rattle.typed_fields.specs.Laws.{ReadsBack, IsPlain, IsStable};
 ghost use Rattle.typed_fields.specs.Number.{read_number, number_text, plain_number, IsNumber};
@@ -12,6 +13,9 @@ ghost use Rattle.typed_fields.specs.Dec.{read_dec, dec_text, plain_dec, IsDec};
 
 use crate::{Day, Dec, FieldFault, Flag, MonthYear, Number, Stamp};
 use std::alloc::AllocError;
+
+/// The most bytes of a canonical spelling.
+pub const MAX_SPELLING: usize = 32;
 
 /// A type of the values of fields.
 pub trait FieldValue: Sized {
@@ -46,6 +50,14 @@ pub trait FieldValue: Sized {
         ensures ok { OnOk result (out.new.items ≡ out.old.items ++ spelling self.now) }
         ensures err { OnErr result (out.new.items ≡ out.old.items) };
 
+    /// Appends the canonical spelling where there is room for any.
+    fn push(&self, out: &mut Vec<u8>)
+        requires value { can_be self.now }
+        requires room { vec_len out.old + MAX_SPELLING ≤ vec_capacity out.old }
+        ensures items { out.new.items ≡ out.old.items ++ spelling self.now }
+        ensures len { vec_len out.new ≤ vec_len out.old + MAX_SPELLING }
+        ensures capacity { vec_capacity out.old ≤ vec_capacity out.new };
+
     /// The laws of the type, for proofs. It does nothing.
     ///
     /// What is written is read as the same value. The spelling of what bytes are read as is those
@@ -73,6 +85,10 @@ impl FieldValue for Dec {
         Dec::write(self, out)
     }
 
+    fn push(&self, out: &mut Vec<u8>) {
+        Dec::push(self, out)
+    }
+
     fn laws() {}
 }
 
@@ -91,6 +107,10 @@ impl FieldValue for Number {
 
     fn write(&self, out: &mut Vec<u8>) -> Result<(), AllocError> {
         Number::write(self, out)
+    }
+
+    fn push(&self, out: &mut Vec<u8>) {
+        Number::push(self, out)
     }
 
     fn laws() {}
@@ -113,6 +133,10 @@ impl FieldValue for Flag {
         Flag::write(self, out)
     }
 
+    fn push(&self, out: &mut Vec<u8>) {
+        Flag::push(self, out)
+    }
+
     fn laws() {}
 }
 
@@ -131,6 +155,10 @@ impl FieldValue for Day {
 
     fn write(&self, out: &mut Vec<u8>) -> Result<(), AllocError> {
         Day::write(self, out)
+    }
+
+    fn push(&self, out: &mut Vec<u8>) {
+        Day::push(self, out)
     }
 
     fn laws() {}
@@ -153,6 +181,10 @@ impl FieldValue for MonthYear {
         MonthYear::write(self, out)
     }
 
+    fn push(&self, out: &mut Vec<u8>) {
+        MonthYear::push(self, out)
+    }
+
     fn laws() {}
 }
 
@@ -171,6 +203,10 @@ impl FieldValue for Stamp {
 
     fn write(&self, out: &mut Vec<u8>) -> Result<(), AllocError> {
         Stamp::write(self, out)
+    }
+
+    fn push(&self, out: &mut Vec<u8>) {
+        Stamp::push(self, out)
     }
 
     fn laws() {}
