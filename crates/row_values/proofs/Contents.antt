@@ -1,5 +1,5 @@
 -- The bytes of contents, a part and a line at a time.
-use Rattle.std.proofs.Common.{◌≡◌, ℕ, ◌+◌, ◌/◌, ◌%◌, List, [], ◌∷◌, ◌++◌, length, map, refl, sym}
+use Rattle.std.proofs.Common.{◌≡◌, ℕ, ◌+◌, List, [], ◌∷◌, ◌++◌, length, map, refl, sym}
 use Rattle.std.proofs.Common.{ap, ◌∙◌, append_assoc, arith, ◌≤◌, take}
 use Rattle.std.proofs.lemmas.List.{length-append, length-map, take-take, take_all}
 use Rattle.std.proofs.Math.Seq.{take-append_seam}
@@ -9,8 +9,6 @@ use Rattle.std.specs.Fmt.{decimal}
 use Rattle.field_groups.specs.Field.{Field, body_of, field_bytes}
 use Rattle.message_tables.specs.Tables.{Cell}
 use Rattle.message_tables.specs.Content.{line_fields, group_fields}
-use Rattle.typed_fields.specs.Digits.{zero_padded}
-use Rattle.value_kinds.specs.CodeKinds.{two_digit_text}
 use Rattle.row_values.specs.Writing.{count_fields}
 
 pub body-append : (xs ys : List Field) → body_of (xs ++ ys) ≡ body_of xs ++ body_of ys
@@ -53,14 +51,6 @@ group_done {L} cells tag old out lines now i h le same =
     ∙ append_assoc old count (written lines)
     ∙ ap (λ (bytes : List ℕ). old ++ bytes) (group_written cells tag lines)
     ∙ ap (λ (ls : List L). old ++ body_of (group_fields tag (map cells ls))) same
-
--- the last two digits of a number
-pub last_two : (n : ℕ) → two_digit_text (n % 100) ≡ zero_padded 2 n
-unfolding zero_padded
-last_two n =
-    let tens : 48 + n % 100 / 10 ≡ 48 + n / 10 % 10 = omega arith in
-    let ones : 48 + n % 100 % 10 ≡ 48 + n / 1 % 10 = omega arith in
-    λ i. tens i ∷ ones i ∷ []
 
 -- nothing is asked of the lines
 pub nothing_asked : {L : Type 0} (lines : List L) → AllByRecursion (λ _. Unit {0}) lines

@@ -234,7 +234,6 @@ impl GroupLine for SessionLine {
         })
     }
 
-    #[tactic(auto, using(crate::proofs::Contents::still_kept))]
     fn write(&self, out: &mut Vec<u8>) -> Result<(), AllocError> {
         put_field(out, 336, self.id.as_slice())
     }

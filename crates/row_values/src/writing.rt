@@ -4,14 +4,13 @@ ghost use Rattle.std.specs.Prelude.{◌≡◌, ◌≤◌, ◌++◌, ◌∷◌, [
 ghost use Rattle.std.specs.Prelude.{option_and_then};
 ghost use Rattle.std.specs.List.{AllByRecursion, flat_map};
 ghost use Rattle.std.specs.Option.{option_map};
-ghost use Rattle.std.specs.Fmt.{decimal};
 ghost use Rattle.std.specs.Io.{StartsWith};
 ghost use Rattle.typed_fields.specs.Digits.{zero_padded};
 ghost use Rattle.typed_fields.specs.MonthYear.{IsMonthYear, month_year_text};
 ghost use Rattle.field_groups.specs.Field.{body_of, field_bytes};
 ghost use Rattle.message_tables.specs.Tables.{Tag};
 ghost use Rattle.message_tables.specs.Content.{cell_fields, group_fields};
-ghost use Rattle.value_kinds.specs.CodeKinds.{code_text, two_digit_text};
+ghost use Rattle.value_kinds.specs.CodeKinds.{two_digit_text};
 ghost use Rattle.row_values.specs.Lines.{IsReadableMaturity, month_text};
 ghost use Rattle.row_values.specs.Writing.{IsPart, IsValue, count_fields, date_text};
 ghost use Rattle.row_values.specs.Writing.{month_day_text, part_fields, value_text};
@@ -134,14 +133,6 @@ fn put_month(out: &mut Vec<u8>, tag: u32, maturity: &Option<Maturity>) -> Append
     }
 }
 
-/// The last two digits of a number.
-#[tactic(auto, using(crate::proofs::Contents::last_two))]
-fn last_two_digits(number: u8) -> [u8; 2]
-    ensures { result ≡ zero_padded 2 number }
-{
-    two_digits(number % 100)
-}
-
 /// Appends the field of a date.
 #[inline(never)]
 #[tactic(auto, unfolding(field_groups::specs::Field::field_bytes))]
@@ -153,7 +144,7 @@ fn put_day(out: &mut Vec<u8>, tag: u32, month: MonthYear, day: u8) -> Appended
 {
     put_tag(out, tag)?;
     month.write(out)?;
-    out.extend_from_slice(&last_two_digits(day))?;
+    out.extend_from_slice(&typed_fields::two_digits(day))?;
     out.push(SOH)?;
     Ok(())
 }

@@ -70,7 +70,7 @@ pub(crate) fn has_pattern(pattern: &[u8], bytes: &[u8]) -> bool
 }
 
 /// The last two digits of a number.
-pub(crate) fn two_digits(number: u8) -> [u8; 2]
+pub fn two_digits(number: u8) -> [u8; 2]
     ensures { result ≡ zero_padded 2 number }
 {
     [b'0' + number / 10 % 10, b'0' + number % 10]

@@ -23,7 +23,7 @@ mod value;
 
 pub use day::Day;
 pub use dec::{Dec, point_in};
-pub use digits::are_digits;
+pub use digits::{are_digits, two_digits};
 pub use fault::FieldFault;
 pub use flag::Flag;
 pub use month_year::MonthYear;
