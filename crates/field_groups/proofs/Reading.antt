@@ -1,8 +1,11 @@
 -- The field at the front, read from its bytes.
-use Rattle.std.proofs.Common.{◌≡◌, ◌≢◌, ℕ, suc, ◌+◌, ◌-◌, ◌^◌, ◌<◌, ◌≤◌, true, List, ◌∷◌, ◌++◌}
-use Rattle.std.proofs.Common.{length, get_or, take, drop, sym, ap, ◌∙◌, arith, ⊎_elim}
+use Rattle.std.proofs.Common.{◌≡◌, ◌≢◌, ℕ, suc, ◌+◌, ◌-◌, ◌^◌, ◌<◌, ◌≤◌, Bool, true, false, List}
+use Rattle.std.proofs.Common.{◌∷◌, ◌++◌, length, get_or, take, drop, refl, sym, ap, ◌∙◌, arith}
+use Rattle.std.proofs.Common.{⊎_elim}
+use Rattle.std.specs.List.{list_all}
+use Rattle.field_groups.proofs.Digits.{count_is, count_least}
 use Rattle.std.proofs.Math.Seq.{drop-cons}
-use Rattle.std.proofs.lemmas.Bool.{cases_lt}
+use Rattle.std.proofs.lemmas.Bool.{cases_lt, eqb-true}
 use Rattle.std.specs.Prelude.{not, nat_lt, nat_le, ◌&&◌, ◌==◌}
 use Rattle.std.specs.Char.{is_ascii_digit}
 use Rattle.std.specs.Fmt.{decimal}
@@ -110,6 +113,68 @@ tag_written bytes has good =
     let tag = tag_facts bytes has good in
     (cut_at bytes (digit_count bytes) 61 (omega arith) tag.equals).1
     ∙ ap (λ (ds : List ℕ). ds ++ 61 ∷ after_tag bytes) (sym (front_tag-decimal bytes tag))
+
+-- ---- the tests of a tag, where so many digits were read from the front
+
+next_is : (bytes : List ℕ) (n : ℕ) → list_all is_ascii_digit (take n bytes) ≡ true
+    → n ≤ length bytes → get_or bytes n 0 ≡ 61 → digit_count bytes ≡ n
+next_is bytes n digits le next = count_is bytes n digits le (ap is_ascii_digit next)
+
+good_tests : (n first next : ℕ) → n ≢ 0 → n ≤ 9 → first ≢ 48 → next ≡ 61
+    → ((nat_lt 0 n && (next == 61)) ≡ true) × ((not (first == 48) && nat_le n 9) ≡ true)
+good_tests n first next some few first_is next_is =
+    (grind (arith, nat_tests), grind (arith, nat_tests))
+
+pub tag_tests : (bytes : List ℕ) (n : ℕ) → list_all is_ascii_digit (take n bytes) ≡ true
+    → n ≤ length bytes → n ≤ 9 → n ≢ 0 → get_or bytes 0 0 ≢ 48 → get_or bytes n 0 ≡ 61
+    → (has_tag bytes ≡ true) × (is_tag_good bytes ≡ true)
+unfolding has_tag is_tag_good
+tag_tests bytes n digits le few some first next =
+    let count = next_is bytes n digits le next in
+    rw count (good_tests n (get_or bytes 0 0) (get_or bytes n 0) some few first next)
+
+and_false : (b : Bool) → (b && false) ≡ false
+and_false true = refl
+and_false false = refl
+
+-- no digit stands at the front
+pub no_tag : (bytes : List ℕ) → 0 ≡ digit_count bytes → (has_tag bytes && is_tag_good bytes) ≡ false
+unfolding has_tag
+no_tag bytes none = rw (← none) refl
+
+-- a zero stands at the front
+pub zero_first : (bytes : List ℕ) → get_or bytes 0 0 ≡ 48
+    → (has_tag bytes && is_tag_good bytes) ≡ false
+unfolding is_tag_good
+zero_first bytes zero = rw zero (and_false (has_tag bytes))
+
+pub equals : (next : ℕ) → (next == 61) ≡ true → next ≡ 61
+equals next e = eqb-true next 61 e
+
+failed : (n next : ℕ) (good : Bool) → (next == 61) ≡ false
+    → ((nat_lt 0 n && (next == 61)) && good) ≡ false
+failed n next good other = grind (arith, nat_tests)
+
+too_many : (n first : ℕ) (has : Bool) → 9 < n → (has && (not (first == 48) && nat_le n 9)) ≡ false
+too_many n first has many = grind (arith, nat_tests)
+
+-- another byte stands behind the first nine digits, or behind fewer
+pub other_next : (bytes : List ℕ) (n : ℕ) → list_all is_ascii_digit (take n bytes) ≡ true
+    → n ≤ length bytes → n ≤ 9 → (n < 9 → n ≡ digit_count bytes)
+    → (get_or bytes n 0 == 61) ≡ false → (has_tag bytes && is_tag_good bytes) ≡ false
+unfolding has_tag is_tag_good
+other_next bytes n digits le few all other =
+    ⊎_elim (λ lt. too_many (digit_count bytes) (get_or bytes 0 0)
+    (nat_lt 0 (digit_count bytes) && (get_or bytes (digit_count bytes) 0 == 61))
+    (⊎_elim (λ less. absurd (omega (arith, lt, all less))) (λ nine. omega (arith, lt, nine))
+    (cases_lt n 9)))
+    (λ ge. let same : digit_count bytes ≡ n = omega (arith, ge, count_least bytes n digits le) in
+    rw same (failed n (get_or bytes n 0) _ other))
+    (cases_lt n (digit_count bytes))
+
+pub digit_count_is : (bytes : List ℕ) (n : ℕ) → list_all is_ascii_digit (take n bytes) ≡ true
+    → n ≤ length bytes → get_or bytes n 0 ≡ 61 → n ≡ digit_count bytes
+digit_count_is bytes n digits le next = sym (next_is bytes n digits le next)
 
 -- what the slice after the tag and its `=` holds
 pub rest_is : (bytes : List ℕ) (n : ℕ)

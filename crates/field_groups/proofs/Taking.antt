@@ -1,5 +1,6 @@
 -- The fields that were taken from the front of a body.
 use Rattle.std.proofs.Common.{◌≡◌, ℕ, ◌≤◌, List, [], ◌∷◌, ◌++◌, length, Option, Some, None}
+use Rattle.std.proofs.Common.{refl}
 use Rattle.std.specs.List.{last_or}
 use Rattle.field_groups.specs.Field.{Field, IsField, AreFields, body_of}
 use Rattle.field_groups.specs.Fields.{max_fields}
@@ -15,3 +16,9 @@ pub one_more : (before : Option Field) (fs : List Field) (f : Field)
     → AreFields before fs → IsField (last_or before fs) f → AreFields before (fs ++ f ∷ [])
 one_more before [] f are is = (is, tt)
 one_more before (g ∷ fs) f are is = (are.0, one_more (Some g) fs f are.1 is)
+
+-- the field that stands last is the one that was added
+pub last_pushed : (before : Option Field) (fs : List Field) (f : Field)
+    → last_or before (fs ++ f ∷ []) ≡ Some f
+last_pushed before [] f = refl
+last_pushed before (g ∷ fs) f = last_pushed (Some g) fs f

@@ -43,7 +43,6 @@ impl<'a> Fields<'a> {
     ghost use Rattle.std.specs.Prelude.{map, slice_get, IfSome};
     ghost use Rattle.std.specs.Prelude.{IfOk, OnOk, OnErr, position};
     ghost use Rattle.std.specs.Option.{option_map};
-    ghost use Rattle.std.specs.List.{last_or};
     ghost use Rattle.std.specs.Slice.Iter.{iter_rest};
 
     /// No fields yet, with room for so many.
@@ -69,6 +68,7 @@ impl<'a> Fields<'a> {
     }
 
     /// How many fields there are: at most 256.
+    #[inline(always)]
     pub fn len(&self) -> usize
         ensures value { result ≡ length self.now }
         ensures few { result ≤ 256 }
@@ -85,20 +85,15 @@ impl<'a> Fields<'a> {
 
     /// The tag and the value of the field at a place, counted from 0; `None` past the last. The
     /// value is a part of the body.
+    #[inline(always)]
     pub fn at(&self, place: usize) -> Option<Field<'a>>
         ensures { option_map (λ field. (field.0, field.1.now)) result ≡ slice_get self.now place }
     {
         self.parts.get(place).copied()
     }
 
-    /// The field that stands last; `None` where there is none.
-    pub(crate) fn last(&self) -> Option<Field<'a>>
-        ensures { option_map (λ field. (field.0, field.1.now)) result ≡ last_or None self.now }
-    {
-        self.parts.last().copied()
-    }
-
     /// The place of the first field with this tag; `None` where no field has it.
+    #[inline(always)]
     pub fn find(&self, tag: u32) -> Option<usize>
         ensures place { result ≡ position (λ field. field.0 == tag) self.now }
         ensures few { IfSome result (λ place. place < 256) }
@@ -112,6 +107,7 @@ impl<'a> Fields<'a> {
     }
 
     /// All fields, in order.
+    #[inline(always)]
     pub fn as_slice(&self) -> &[Field<'a>]
         ensures { map (λ field. (field.0, field.1.now)) result.now ≡ self.now }
     {
@@ -140,6 +136,7 @@ impl<'f, 'a> IntoIterator for &'f Fields<'a> {
 }
 
 /// Indexes a field at a place, if it is the first with its tag.
+#[inline(always)]
 fn index_field(first: &mut [u16; INDEXED], tag: u32, place: usize)
     requires whole { length first.old ≡ indexed }
     requires place { place < 256 }
@@ -152,6 +149,7 @@ fn index_field(first: &mut [u16; INDEXED], tag: u32, place: usize)
 }
 
 /// A place that is counted from 1, or 0 for none.
+#[inline(always)]
 fn counted_place(counted: u16) -> Option<usize>
     ensures { result ≡ counted_place counted }
 {

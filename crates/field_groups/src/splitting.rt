@@ -1,11 +1,14 @@
 //! The fields of a body, from the front.
 
-ghost use Rattle.std.specs.Prelude.{◌≡◌, ◌≤◌, ◌++◌, ◌∷◌, false, true, Option, None, length};
+ghost use Rattle.std.specs.Prelude.{◌≡◌, ◌<◌, ◌≤◌, ◌++◌, ◌∷◌, ◌==◌, ◌&&◌, false, true, Option};
+ghost use Rattle.std.specs.Prelude.{None, Some, length, take, slice_index, IsTrue};
 ghost use Rattle.std.specs.Prelude.{IfOk, IfErr, IfNone, IfSome, OnOk};
-ghost use Rattle.std.specs.List.{list_any};
+ghost use Rattle.std.specs.List.{list_all, list_any};
 ghost use Rattle.std.specs.Option.{option_map};
 ghost use Rattle.std.specs.Char.{is_ascii_digit};
 ghost use Rattle.std.specs.Fmt.{decimal};
+ghost use Rattle.std.specs.Str.Parse.{digits_value};
+ghost use Rattle.memchr.specs.Find.{IsFirstByte};
 ghost use Rattle.field_groups.specs.Field.{Field, IsField, field_bytes, is_soh, says};
 ghost use Rattle.field_groups.specs.HeadValues.{number_in};
 ghost use Rattle.field_groups.specs.Fields.{NoField, SplitsInto, after_tag, front_tag, has_tag};
@@ -14,7 +17,7 @@ ghost use Rattle.field_groups.specs.Fields.{is_tag_good, digit_count, has_soh, h
 use crate::data::is_data_pair;
 use crate::fault::SplitFault;
 use crate::fields::{Fields, SOH, Split};
-use crate::head_values::{number_in, value_of};
+use crate::head_values::number_in;
 use memchr::memchr;
 use std::alloc::{AllocError, Global};
 
@@ -27,6 +30,9 @@ const FIRST_ROOM: usize = 32;
 /// The most digits of a tag.
 const MAX_DIGITS: usize = 9;
 
+/// How many bytes are looked through for the end of a value one by one, before a search of all.
+const NEAR: usize = 16;
+
 /// How many digits stand at the front.
 fn digit_count(bytes: &[u8]) -> usize
     ensures value { result ≡ digit_count bytes.now }
@@ -38,9 +44,79 @@ fn digit_count(bytes: &[u8]) -> usize
         .count()
 }
 
+/// Whether a digit stands at a place.
+#[inline(always)]
+fn is_digit_at(bytes: &[u8], place: usize) -> bool
+    ensures { result ≡ is_ascii_digit (slice_index bytes.now place) }
+{
+    match bytes.get(place) {
+        Some(byte) => byte.is_ascii_digit(),
+        None => false,
+    }
+}
+
+/// Whether `=` stands at a place.
+#[inline(always)]
+fn is_equals_at(bytes: &[u8], place: usize) -> bool
+    ensures { result ≡ (slice_index bytes.now place == 61) }
+{
+    bytes.get(place) == Some(&b'=')
+}
+
+/// How many digits stand at the front, and the number that they write; of more than nine, the first
+/// nine.
+#[inline(always)]
+fn front_number(bytes: &[u8]) -> (usize, u32)
+    ensures digits { IsTrue (list_all is_ascii_digit (take result.0 bytes.now)) }
+    ensures within { result.0 ≤ length bytes.now }
+    ensures few { result.0 ≤ MAX_DIGITS }
+    ensures all { result.0 < MAX_DIGITS → result.0 ≡ digit_count bytes.now }
+    ensures value { result.1 ≡ digits_value 10 (take result.0 bytes.now) }
+{
+    let mut len = 0;
+    let mut number = 0;
+    while len < MAX_DIGITS && is_digit_at(bytes, len) {
+        number = 10 * number + u32::from(bytes[len] - b'0');
+        len += 1;
+    }
+    (len, number)
+}
+
+/// A good tag at the front, and what is left after its `=`, by one pass over its digits; `None`
+/// where there is none.
+#[inline(always)]
+fn good_tag(bytes: &[u8]) -> Option<(u32, &[u8])>
+    ensures good { IfSome result
+        (λ tag. (has_tag bytes.now ≡ true) × (is_tag_good bytes.now ≡ true)) }
+    ensures tag { IfSome result (λ tag. tag.0 ≡ front_tag bytes.now) }
+    ensures rest { IfSome result (λ tag. tag.1.now ≡ after_tag bytes.now) }
+    ensures none { IfNone result ((has_tag bytes.now && is_tag_good bytes.now) ≡ false) }
+{
+    let (len, tag) = front_number(bytes);
+    if len == 0 || bytes[0] == b'0' || !is_equals_at(bytes, len) {
+        return None;
+    }
+    Some((tag, &bytes[len + 1..]))
+}
+
+/// Why there is no good tag at the front. The field begins at this place of the body.
+#[tactic(auto, unfolding(crate::specs::Fields::has_tag, crate::specs::Fields::is_tag_good))]
+fn tag_fault(place: usize, bytes: &[u8]) -> SplitFault
+    requires { (has_tag bytes.now && is_tag_good bytes.now) ≡ false }
+    ensures { (before : Option Field) → NoField place before bytes.now result }
+{
+    let len = digit_count(bytes);
+    if len == 0 || !is_equals_at(bytes, len) {
+        SplitFault::NoTag { at: place }
+    } else {
+        SplitFault::BadTag { at: place }
+    }
+}
+
 /// The tag at the front, and what is left after its `=`. The field begins at this place of the
 /// body.
-#[tactic(auto, using(crate::proofs::Reading::tag_written, crate::proofs::Reading::tag_range), unfolding(crate::specs::Fields::has_tag, crate::specs::Fields::is_tag_good))]
+#[inline(always)]
+#[tactic(auto, using(crate::proofs::Reading::tag_written, crate::proofs::Reading::tag_range))]
 fn tag_at(place: usize, bytes: &[u8]) -> Result<(u32, &[u8]), SplitFault>
     ensures good { OnOk result ((has_tag bytes.now ≡ true) × (is_tag_good bytes.now ≡ true)) }
     ensures tag { IfOk result (λ tag. tag.0 ≡ front_tag bytes.now) }
@@ -49,23 +125,46 @@ fn tag_at(place: usize, bytes: &[u8]) -> Result<(u32, &[u8]), SplitFault>
     ensures rest { IfOk result (λ tag. tag.1.now ≡ after_tag bytes.now) }
     ensures fault { IfErr result (λ e. (before : Option Field) → NoField place before bytes.now e) }
 {
-    let len = digit_count(bytes);
-    if len == 0 || bytes.get(len) != Some(&b'=') {
-        return Err(SplitFault::NoTag { at: place });
+    match good_tag(bytes) {
+        Some(tag) => Ok(tag),
+        None => Err(tag_fault(place, bytes)),
     }
-    if bytes[0] == b'0' || len > MAX_DIGITS {
-        return Err(SplitFault::BadTag { at: place });
+}
+
+/// The place of the first SOH, where it is among the first bytes: most values are short.
+#[inline(always)]
+fn near_soh(bytes: &[u8]) -> Option<usize>
+    ensures { IfSome result (λ end. IsFirstByte is_soh bytes.now (Some end)) }
+{
+    let mut end = 0;
+    while end < NEAR && end < bytes.len() {
+        if bytes[end] == SOH {
+            return Some(end);
+        }
+        end += 1;
     }
-    Ok((value_of(&bytes[..len]) as u32, &bytes[len + 1..]))
+    None
+}
+
+/// The place of the first SOH; `None` where there is none.
+#[inline(always)]
+fn first_soh(bytes: &[u8]) -> Option<usize>
+    ensures { IsFirstByte is_soh bytes.now result }
+{
+    match near_soh(bytes) {
+        Some(end) => Some(end),
+        None => memchr(SOH, bytes),
+    }
 }
 
 /// The value before the first SOH, and what is left after that SOH; `None` where there is no SOH.
+#[inline(always)]
 fn value_at(bytes: &[u8]) -> Option<(&[u8], &[u8])>
     ensures no_soh { IfSome result (λ value. list_any is_soh value.0.now ≡ false) }
     ensures written { IfSome result (λ value. bytes.now ≡ value.0.now ++ 1 ∷ value.1.now) }
     ensures none { IfNone result (has_soh bytes.now ≡ false) }
 {
-    match memchr(SOH, bytes) {
+    match first_soh(bytes) {
         None => None,
         Some(end) => Some((&bytes[..end], &bytes[end + 1..])),
     }
@@ -87,6 +186,7 @@ fn data_at<'a>(said: &[u8], bytes: &'a [u8]) -> Option<(&'a [u8], &'a [u8])>
 
 /// The tag and the value of the field at the front, and what is left after it. The field begins at
 /// this place of the body, directly behind the field before.
+#[inline(always)]
 #[tactic(auto, unfolding(crate::specs::Field::field_bytes))]
 fn field_at<'a>(
     place: usize,
@@ -127,6 +227,7 @@ pub fn split(alloc: Global, body: &[u8]) -> Result<Split<'_>, AllocError>
     ensures { IfOk result (λ split. SplitsInto body.now split.fields split.fault) }
 {
     let mut fields = Fields::with_capacity(alloc, FIRST_ROOM)?;
+    let mut before = None;
     let mut rest = body;
     while !rest.is_empty() {
         if fields.len() == MAX_FIELDS {
@@ -135,9 +236,10 @@ pub fn split(alloc: Global, body: &[u8]) -> Result<Split<'_>, AllocError>
                 fault: Some(SplitFault::TooMany),
             });
         }
-        match field_at(body.len() - rest.len(), fields.last(), rest) {
+        match field_at(body.len() - rest.len(), before, rest) {
             Ok((tag, value, after)) => {
                 fields.push(tag, value)?;
+                before = Some((tag, value));
                 rest = after;
             }
             Err(fault) => {

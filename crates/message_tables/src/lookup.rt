@@ -84,6 +84,7 @@ impl<'a> Lookup for Line<'a> {
 }
 
 /// Whether no field has this tag.
+#[inline(always)]
 pub(crate) fn lacks(fields: &Fields<'_>, tag: u32) -> bool
     ensures { result ≡ lacks fields.now tag }
 {

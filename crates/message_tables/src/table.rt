@@ -152,6 +152,7 @@ fn all_lack(tags: &[u32], fields: &Fields<'_>) -> bool
 
 impl Need {
     /// Whether these fields have to say a row with this need.
+    #[inline(always)]
     #[tactic(auto, using(crate::proofs::Seen::condition_seen))]
     pub fn is_needed(&self, fields: &[Field<'_>]) -> bool
         ensures { result ≡ is_needed (need_of self.now) (seen fields.now) }
@@ -164,6 +165,7 @@ impl Need {
     }
 
     /// What a field with this mark is beside a row with this need.
+    #[inline(always)]
     pub fn allows(&self, mark: Mark) -> Mark
         ensures { result ≡ allowed (need_of self.now) mark }
     {

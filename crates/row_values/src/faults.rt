@@ -84,6 +84,7 @@ fn found(table: &Table<Kind>, fields: &Fields<'_>) -> Found
 }
 
 /// Whether a value is good beside its row.
+#[inline(always)]
 fn value_fits(row: &Row<Kind>, fields: &Fields<'_>, value: &[u8]) -> bool
     ensures { result ≡ fits_at judge fields.now (row_of kind_of row.now) (Some value.now) }
 {
@@ -94,6 +95,7 @@ fn value_fits(row: &Row<Kind>, fields: &Fields<'_>, value: &[u8]) -> bool
 }
 
 /// Whether the field of a row has a good value, or none is needed. The field's place is marked.
+#[inline(always)]
 fn row_fits(row: &Row<Kind>, fields: &Fields<'_>, rowed: &mut Rowed) -> bool
     ensures fits { result ≡ fits judge fields.now (row_of kind_of row.now) }
     ensures places { rowed.new
@@ -124,6 +126,7 @@ fn rows_fit(rows: &[Row<Kind>], fields: &Fields<'_>, rowed: &mut Rowed) -> bool
 }
 
 /// Whether an item fits: its row, or a group of which no field stands.
+#[inline(always)]
 fn item_fits(item: &Item<Kind>, fields: &Fields<'_>, rowed: &mut Rowed) -> bool
     ensures fits { result ≡ item_fits judge fields.now (item_of kind_of item.now) }
     ensures places { IsTrue result → rowed.new

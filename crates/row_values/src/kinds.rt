@@ -54,6 +54,7 @@ pub enum Kind {
 }
 
 /// SessionRejectReason(373) of a fault of a value.
+#[inline(always)]
 fn reason_of(fault: FieldFault) -> u8
     ensures { result ≡ reason_of fault }
 {
@@ -65,6 +66,7 @@ fn reason_of(fault: FieldFault) -> u8
 }
 
 /// What a value is that was judged by itself.
+#[inline(always)]
 fn mark_of(judged: Result<bool, FieldFault>) -> Mark
     ensures { result ≡ judged_mark judged }
 {
@@ -76,6 +78,7 @@ fn mark_of(judged: Result<bool, FieldFault>) -> Mark
 }
 
 /// What a value is to a kind whose values are judged by themselves.
+#[inline(always)]
 #[tactic(auto, using(crate::proofs::Marks::mark_judged))]
 fn judge_value(kind: &ValueKind, value: &[u8]) -> Mark
     ensures { result ≡ mark_of (verdict_of (spelling (value_kind_of kind.now) value.now)) }

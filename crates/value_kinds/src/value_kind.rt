@@ -77,6 +77,7 @@ pub enum ValueKind {
 }
 
 /// Whether bytes are one byte, which is among these.
+#[inline(always)]
 fn is_code(listed: &[u8], bytes: &[u8]) -> bool
     ensures { result ≡ is_code listed.now bytes.now }
 {
@@ -152,6 +153,7 @@ fn are_capitals(bytes: &[u8]) -> bool
 }
 
 /// A value of the profile where this holds, and else at fault.
+#[inline(always)]
 fn good_or(good: bool, fault: FieldFault) -> Result<bool, FieldFault>
     ensures { result ≡ (if good then Ok true else Err fault) }
 {
@@ -159,6 +161,7 @@ fn good_or(good: bool, fault: FieldFault) -> Result<bool, FieldFault>
 }
 
 /// A value of the profile, where it was read.
+#[inline(always)]
 fn is_read<T: Drop>(read: Result<T, FieldFault>) -> Result<bool, FieldFault>
     ensures { (text : T → List ℕ) → result ≡ judged (spelt text read) }
 {
