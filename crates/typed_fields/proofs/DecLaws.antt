@@ -226,7 +226,7 @@ no_trailing_digit (d ∷ ds) h e =
         rest (omega (arith, e, number_of_first d (y ∷ ys) bounds.0 bounds.1)) in cc)
 
 -- the parts of the units
-units-parts : (w f : List ℕ)
+pub units-parts : (w f : List ℕ)
     → are_digits f ≡ true → length f ≤ 8 → (units_of w f / 10 ^ 8 ≡ number_of w)
     × (units_of w f % 10 ^ 8 ≡ number_of f * 10 ^ (8 - length f))
 units-parts w f h places =

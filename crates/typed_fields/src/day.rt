@@ -24,6 +24,7 @@ pub struct Day {
 }
 
 /// The number of the day that `YYYYMMDD..` spells, if the calendar has it.
+#[inline(always)]
 pub(crate) fn day_number(bytes: &[u8]) -> Option<i32>
     requires long { 8 ≤ length bytes.now }
     requires digits { IsTrue (are_digits (take 8 bytes.now)) }

@@ -42,6 +42,7 @@ pub struct Dec {
 }
 
 /// Whether the bytes begin with a minus sign.
+#[inline(always)]
 fn has_minus(bytes: &[u8]) -> bool
     ensures { result ≡ has_minus bytes.now }
 {
@@ -49,6 +50,7 @@ fn has_minus(bytes: &[u8]) -> bool
 }
 
 /// What stands behind the minus sign, if there is one.
+#[inline(always)]
 fn without_minus(bytes: &[u8]) -> &[u8]
     ensures { result.now ≡ without_minus bytes.now }
 {
@@ -56,33 +58,46 @@ fn without_minus(bytes: &[u8]) -> &[u8]
 }
 
 /// The place of the first point (`.`).
+#[inline(always)]
 pub fn point_in(bytes: &[u8]) -> Option<usize>
     ensures { result ≡ position is_point bytes.now }
 {
     bytes.iter().position(|byte| *byte == b'.')
 }
 
-/// What stands before the point, or all where there is none.
-fn before_point(bytes: &[u8]) -> &[u8]
-    ensures { result.now ≡ before_first is_point bytes.now }
+/// What stands before the point, or all where there is none; and what stands behind it.
+#[inline(always)]
+fn parts(bytes: &[u8]) -> (&[u8], &[u8])
+    ensures whole { result.0.now ≡ before_first is_point bytes.now }
+    ensures fraction { result.1.now ≡ after_first is_point bytes.now }
 {
     match point_in(bytes) {
-        Some(point) => &bytes[..point],
-        None => bytes,
+        Some(point) => (&bytes[..point], &bytes[point + 1..]),
+        None => (bytes, &[]),
     }
 }
 
-/// What stands behind the point, if there is one.
-fn behind_point(bytes: &[u8]) -> &[u8]
-    ensures { result.now ≡ after_first is_point bytes.now }
+/// A power of ten.
+#[inline(always)]
+fn ten_to(power: usize) -> u64
+    requires { power ≤ 8 }
+    ensures { result ≡ 10 ^ power }
 {
-    match point_in(bytes) {
-        Some(point) => &bytes[point + 1..],
-        None => &[],
+    match power {
+        0 => 1,
+        1 => 10,
+        2 => 100,
+        3 => 1000,
+        4 => 10_000,
+        5 => 100_000,
+        6 => 1_000_000,
+        7 => 10_000_000,
+        _ => 100_000_000,
     }
 }
 
 /// The units of a whole part and a fraction.
+#[inline(always)]
 fn units_of(whole: &[u8], fraction: &[u8]) -> u128
     requires whole { IsTrue (are_digits whole.now) }
     requires fraction { IsTrue (are_digits fraction.now) }
@@ -91,11 +106,12 @@ fn units_of(whole: &[u8], fraction: &[u8]) -> u128
     ensures value { result ≡ units_of whole.now fraction.now }
     ensures bound { result < 10 ^ 23 }
 {
-    let places = fraction.len() as u32;
-    u128::from(number(whole)) * ONE + u128::from(number(fraction)) * 10u128.pow(8 - places)
+    let behind = number(fraction) * ten_to(MAX_PLACES - fraction.len());
+    u128::from(number(whole)) * ONE + u128::from(behind)
 }
 
 /// A magnitude with its sign.
+#[inline(always)]
 fn signed(minus: bool, magnitude: u128) -> i128
     requires { magnitude < 10 ^ 23 }
     ensures { result ≡ signed minus magnitude }
@@ -118,8 +134,8 @@ impl Dec {
         if value.is_empty() {
             return Err(FieldFault::Empty);
         }
-        let whole = before_point(without_minus(value));
-        let fraction = behind_point(without_minus(value));
+        let minus = has_minus(value);
+        let (whole, fraction) = parts(without_minus(value));
         if value.len() > MAX_BYTES
             || !are_digits(whole)
             || !are_digits(fraction)
@@ -133,7 +149,7 @@ impl Dec {
             return Err(FieldFault::Range);
         }
         Ok(Dec {
-            units: signed(has_minus(value), units_of(whole, fraction)),
+            units: signed(minus, units_of(whole, fraction)),
         })
     }
 

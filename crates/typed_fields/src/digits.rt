@@ -7,6 +7,7 @@ ghost use Rattle.typed_fields.specs.Digits.{has_pattern, zero_padded, without_le
 ghost use Rattle.typed_fields.specs.Digits.{without_trailing_zeros};
 
 /// Whether each byte is a digit.
+#[inline(always)]
 #[tactic(auto, unfolding(crate::specs::Digits::are_digits))]
 pub fn are_digits(bytes: &[u8]) -> bool
     ensures { result ≡ are_digits bytes.now }
@@ -15,6 +16,7 @@ pub fn are_digits(bytes: &[u8]) -> bool
 }
 
 /// The number that at most 18 digits spell.
+#[inline(always)]
 pub(crate) fn number(digits: &[u8]) -> u64
     requires digits { IsTrue (are_digits digits.now) }
     requires few { length digits.now ≤ 18 }
@@ -28,6 +30,7 @@ pub(crate) fn number(digits: &[u8]) -> u64
 }
 
 /// The number that the at most four digits from one place to another spell.
+#[inline(always)]
 pub(crate) fn number_at(bytes: &[u8], from: usize, to: usize) -> u16
     requires ordered { from ≤ to }
     requires within { to ≤ length bytes.now }
@@ -41,6 +44,7 @@ pub(crate) fn number_at(bytes: &[u8], from: usize, to: usize) -> u16
 
 /// Whether a byte has its mark in a pattern: a letter stands for any digit, and every other mark
 /// for itself.
+#[inline(always)]
 fn has_mark(mark: u8, byte: u8) -> bool
     ensures { result ≡ has_mark mark byte }
 {
@@ -52,6 +56,7 @@ fn has_mark(mark: u8, byte: u8) -> bool
 }
 
 /// Whether each byte has its mark.
+#[inline(always)]
 fn have_marks(marks: &[u8], bytes: &[u8]) -> bool
     ensures { result ≡ have_marks marks.now bytes.now }
 {
@@ -62,6 +67,7 @@ fn have_marks(marks: &[u8], bytes: &[u8]) -> bool
 }
 
 /// Whether the bytes have a pattern such as `YYYYMMDD-HH:MM:SS`.
+#[inline(always)]
 #[tactic(auto, unfolding(crate::specs::Digits::has_pattern))]
 pub(crate) fn has_pattern(pattern: &[u8], bytes: &[u8]) -> bool
     ensures { result ≡ has_pattern pattern.now bytes.now }
@@ -116,6 +122,7 @@ pub(crate) fn eight_digits(number: u32) -> [u8; 8]
 }
 
 /// Digits without the zeros in front of the first other digit.
+#[inline(always)]
 pub(crate) fn without_leading_zeros(digits: &[u8]) -> &[u8]
     ensures value { result.now ≡ without_leading_zeros digits.now }
     ensures len { length result.now ≤ length digits.now }
@@ -128,6 +135,7 @@ pub(crate) fn without_leading_zeros(digits: &[u8]) -> &[u8]
 }
 
 /// Digits without the zeros behind the last other digit.
+#[inline(always)]
 pub(crate) fn without_trailing_zeros(digits: &[u8]) -> &[u8]
     ensures value { result.now ≡ without_trailing_zeros digits.now }
     ensures len { length result.now ≤ length digits.now }

@@ -37,6 +37,7 @@ pub struct Stamp {
 }
 
 /// The moment that bytes of one of the two forms spell, if it is within the bound.
+#[inline(always)]
 fn read_moment(bytes: &[u8], milli: Option<u16>) -> Result<Stamp, FieldFault>
     requires form { IsTrue (has_pattern (codes "YYYYMMDD-HH:MM:SS") (take 17 bytes.now)) }
     requires milli { milli ≡ milli_in bytes.now }

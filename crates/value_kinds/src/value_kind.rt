@@ -76,13 +76,21 @@ pub enum ValueKind {
     DayOfMonth,
 }
 
+/// Whether a byte is among these, which are few.
+#[inline(always)]
+fn is_listed(listed: &[u8], byte: u8) -> bool
+    ensures { result ≡ list_any (λ code. code == byte) listed.now }
+{
+    listed.iter().any(|code| *code == byte)
+}
+
 /// Whether bytes are one byte, which is among these.
 #[inline(always)]
 fn is_code(listed: &[u8], bytes: &[u8]) -> bool
     ensures { result ≡ is_code listed.now bytes.now }
 {
     match bytes {
-        [byte] => listed.contains(byte),
+        [byte] => is_listed(listed, *byte),
         _ => false,
     }
 }
@@ -141,7 +149,7 @@ fn is_next(listed: &[u8], come: bool, byte: u8) -> bool
     if come {
         byte == b' '
     } else {
-        listed.contains(&byte)
+        is_listed(listed, byte)
     }
 }
 
@@ -197,6 +205,7 @@ fn judge_day(value: &[u8]) -> Result<bool, FieldFault>
 }
 
 /// Whether bytes are a number of at most 9,999.
+#[inline(always)]
 fn judge_reason(value: &[u8]) -> Result<bool, FieldFault>
     ensures { result ≡ judged
         (spelt number_text (if_in_range (λ n. nat_le n.value 9999) (read_number value.now))) }
@@ -208,6 +217,7 @@ fn judge_reason(value: &[u8]) -> Result<bool, FieldFault>
 }
 
 /// Whether bytes are a decimal number that is not negative.
+#[inline(always)]
 fn judge_qty(value: &[u8]) -> Result<bool, FieldFault>
     ensures { result ≡ judged
         (spelt dec_text (if_in_range (λ d. not (is_negative d.units)) (read_dec value.now))) }
@@ -224,6 +234,7 @@ impl ValueKind {
     /// # Errors
     ///
     /// `Empty` for no bytes, `Form` and `Range` where the bytes are no value of the kind.
+    #[inline(always)]
     #[tactic(auto, unfolding(crate::specs::ValueKind::spelling))]
     pub fn judge(&self, value: &[u8]) -> Result<bool, FieldFault>
         ensures { result ≡ judged (spelling (value_kind_of self.now) value.now) }
@@ -258,6 +269,7 @@ impl ValueKind {
 }
 
 /// Whether a value was judged to be of the profile.
+#[inline(always)]
 fn is_good(judged: Result<bool, FieldFault>) -> bool
     ensures { result ≡ is_good judged }
 {

@@ -17,18 +17,18 @@ units_of-requires-clause-fraction c =
 
 pub returns-clause-value : goal.returns-clause-value
 returns-clause-value c =
-    let whole : c.before_point-whole.result.now ≡ whole_part c.args.value.now =
-    c.before_point-whole.ensures ∙ ap (before_first is_point) c.without_minus.ensures in
-    let fraction : c.behind_point-fraction.result.now ≡ fraction_part c.args.value.now =
-    c.behind_point-fraction.ensures ∙ ap (after_first is_point) c.without_minus-2.ensures in
+    let whole : c.parts.result.0.now ≡ whole_part c.args.value.now =
+    c.parts.ensures.whole ∙ ap (before_first is_point) c.without_minus.ensures in
+    let fraction : c.parts.result.1.now ≡ fraction_part c.args.value.now =
+    c.parts.ensures.fraction ∙ ap (after_first is_point) c.without_minus.ensures in
     rw (
       c.signed.ensures,
-      signed_fits c.has_minus.result c.units_of.result c.units_of.ensures.bound,
+      signed_fits c.has_minus-minus.result c.units_of.result c.units_of.ensures.bound,
       c.units_of.ensures.value,
-      c.has_minus.ensures,
+      c.has_minus-minus.ensures,
     )
     (read_dec-found
-    c.args.value.now c.before_point-whole.result.now c.behind_point-fraction.result.now
+    c.args.value.now c.parts.result.0.now c.parts.result.1.now
     c.without_leading_zeros-whole.result.now c.without_trailing_zeros-fraction.result.now
     (sym c.is_empty.ensures ∙ c.if-is_empty.false) c.if-value-gt-MAX_BYTES.false whole fraction
     (sym c.are_digits.ensures ∙ c.if-not-are_digits.false)
@@ -40,15 +40,15 @@ returns-clause-value c =
 pub returns-clause-bound : goal.returns-clause-bound
 returns-clause-bound c =
     let whole = rw (sym c.without_leading_zeros-whole.ensures.value) at (are_digits-leading
-    c.before_point-whole.result.now (sym c.are_digits.ensures ∙ c.if-not-are_digits.false)) in
+    c.parts.result.0.now (sym c.are_digits.ensures ∙ c.if-not-are_digits.false)) in
     let fraction = rw (sym c.without_trailing_zeros-fraction.ensures.value)
-    at (are_digits-trailing c.behind_point-fraction.result.now
+    at (are_digits-trailing c.parts.result.1.now
     (sym c.are_digits-else-not-are_digits.ensures ∙ c.if-not-are_digits-2.false)) in
     rw (
       c.signed.ensures,
-      signed_fits c.has_minus.result c.units_of.result c.units_of.ensures.bound,
+      signed_fits c.has_minus-minus.result c.units_of.result c.units_of.ensures.bound,
       c.units_of.ensures.value,
     )
-    (IsDec-units_of c.has_minus.result c.without_leading_zeros-whole.result.now
+    (IsDec-units_of c.has_minus-minus.result c.without_leading_zeros-whole.result.now
     c.without_trailing_zeros-fraction.result.now whole fraction
     c.if-whole-fraction-gt-MAX_DIGITS.false c.if-fraction-gt-MAX_PLACES.false)
