@@ -72,7 +72,7 @@ fn have_marks(marks: &[u8], bytes: &[u8]) -> bool
 pub(crate) fn has_pattern(pattern: &[u8], bytes: &[u8]) -> bool
     ensures { result ≡ has_pattern pattern.now bytes.now }
 {
-    pattern.len() == bytes.len() && have_marks(pattern, bytes)
+    pattern.len() == bytes.len() && have_marks(pattern, &bytes[..pattern.len()])
 }
 
 /// The last two digits of a number.

@@ -61,6 +61,15 @@ fn read_moment(bytes: &[u8], milli: Option<u16>) -> Result<Stamp, FieldFault>
     }
 }
 
+/// Whether bytes have the form of whole seconds.
+#[inline(always)]
+fn has_seconds(bytes: &[u8]) -> bool
+    ensures { result ≡ has_pattern (codes "YYYYMMDD-HH:MM:SS") bytes.now }
+{
+    bytes.len() == 17
+        && (has_pattern(b"YYYYMMDD", &bytes[..8]) && has_pattern(b"-HH:MM:SS", &bytes[8..]))
+}
+
 impl Stamp {
     /// Reads a moment.
     ///
@@ -75,7 +84,7 @@ impl Stamp {
         if value.is_empty() {
             return Err(FieldFault::Empty);
         }
-        if has_pattern(b"YYYYMMDD-HH:MM:SS", value) {
+        if has_seconds(value) {
             return read_moment(value, None);
         }
         if has_pattern(b"YYYYMMDD-HH:MM:SS.sss", value) {

@@ -8,34 +8,34 @@ use Rattle.typed_fields.proofs.stamp.Stamp.read.Goals as goal
 pub read_moment-requires-clause-form : goal.read_moment-requires-clause-form
 read_moment-requires-clause-form c =
     has_pattern-take 17 (codes "YYYYMMDD-HH:MM:SS")
-    c.args.value.now (sym c.has_pattern.ensures ∙ c.if-has_pattern.true)
+    c.args.value.now (sym c.has_seconds.ensures ∙ c.if-has_seconds.true)
 
 pub read_moment-requires-clause-milli : goal.read_moment-requires-clause-milli
 read_moment-requires-clause-milli c =
     milli_in_none c.args.value.now (length-has_pattern (codes "YYYYMMDD-HH:MM:SS")
-    c.args.value.now (sym c.has_pattern.ensures ∙ c.if-has_pattern.true))
+    c.args.value.now (sym c.has_seconds.ensures ∙ c.if-has_seconds.true))
 
 pub number_at-requires-clause-within : goal.number_at-requires-clause-within
 number_at-requires-clause-within c =
     let shape : has_pattern (codes "YYYYMMDD-HH:MM:SS.sss") c.args.value.now ≡ true =
-    sym c.has_pattern-2.ensures ∙ c.if-has_pattern-2.true in
+    sym c.has_pattern.ensures ∙ c.if-has_pattern.true in
     omega (arith, length-has_pattern _ _ shape)
 
 pub number_at-requires-clause-digits : goal.number_at-requires-clause-digits
 number_at-requires-clause-digits c =
     digits_of_pattern (codes "YYYYMMDD-HH:MM:SS.sss")
-    c.args.value.now 18 21 (sym c.has_pattern-2.ensures ∙ c.if-has_pattern-2.true) refl
+    c.args.value.now 18 21 (sym c.has_pattern.ensures ∙ c.if-has_pattern.true) refl
 
-pub read_moment-requires-then-has_pattern-2-clause-form :
-    goal.read_moment-requires-then-has_pattern-2-clause-form
-read_moment-requires-then-has_pattern-2-clause-form c =
+pub read_moment-requires-then-has_pattern-clause-form :
+    goal.read_moment-requires-then-has_pattern-clause-form
+read_moment-requires-then-has_pattern-clause-form c =
     has_pattern-take 17 (codes "YYYYMMDD-HH:MM:SS.sss")
-    c.args.value.now (sym c.has_pattern-2.ensures ∙ c.if-has_pattern-2.true)
+    c.args.value.now (sym c.has_pattern.ensures ∙ c.if-has_pattern.true)
 
-pub read_moment-requires-then-has_pattern-2-clause-milli :
-    goal.read_moment-requires-then-has_pattern-2-clause-milli
-read_moment-requires-then-has_pattern-2-clause-milli c =
+pub read_moment-requires-then-has_pattern-clause-milli :
+    goal.read_moment-requires-then-has_pattern-clause-milli
+read_moment-requires-then-has_pattern-clause-milli c =
     milli_in_some c.args.value.now c.number_at.result
     (length-has_pattern (codes "YYYYMMDD-HH:MM:SS.sss")
-    c.args.value.now (sym c.has_pattern-2.ensures ∙ c.if-has_pattern-2.true))
+    c.args.value.now (sym c.has_pattern.ensures ∙ c.if-has_pattern.true))
     c.number_at.ensures.value
