@@ -3,12 +3,19 @@
 ghost use Rattle.std.specs.Prelude.{◌≡◌};
 ghost use Rattle.field_groups.specs.Data.{is_data_pair};
 
+/// The least tag of a field of raw bytes: Signature.
+const LEAST: u32 = 89;
+
 /// Whether the first tag is that of the length field of the second, a field of raw bytes.
-#[tactic(auto, unfolding(crate::specs::Data::is_data_pair))]
+#[inline(always)]
+#[tactic(auto, using(crate::proofs::DataTags::below), unfolding(crate::specs::Data::is_data_pair))]
 #[rattlefmt::skip]
 pub(crate) fn is_data_pair(len: u32, tag: u32) -> bool
     ensures { result ≡ is_data_pair len tag }
 {
+    if tag < LEAST {
+        return false;
+    }
     match len {
         93 => tag == 89,   // SignatureLength, Signature
         90 => tag == 91,   // SecureDataLen, SecureData

@@ -1,6 +1,6 @@
 //! The fields of a body, from the front.
 
-ghost use Rattle.std.specs.Prelude.{◌≡◌, ◌<◌, ◌≤◌, ◌++◌, ◌∷◌, ◌==◌, ◌&&◌, false, true, Option};
+ghost use Rattle.std.specs.Prelude.{◌≡◌, ◌-◌, ◌<◌, ◌≤◌, ◌++◌, ◌∷◌, ◌==◌, ◌&&◌, false, true, Option};
 ghost use Rattle.std.specs.Prelude.{None, Some, length, take, slice_index, IsTrue};
 ghost use Rattle.std.specs.Prelude.{IfOk, IfErr, IfNone, IfSome, OnOk};
 ghost use Rattle.std.specs.List.{list_all, list_any};
@@ -31,7 +31,7 @@ const FIRST_ROOM: usize = 32;
 const MAX_DIGITS: usize = 9;
 
 /// How many bytes are looked through for the end of a value one by one, before a search of all.
-const NEAR: usize = 24;
+const NEAR: usize = 32;
 
 /// How many digits stand at the front.
 fn digit_count(bytes: &[u8]) -> usize
@@ -44,14 +44,27 @@ fn digit_count(bytes: &[u8]) -> usize
         .count()
 }
 
-/// Whether a digit stands at a place.
+/// The number of a digit; `None` of any other byte.
 #[inline(always)]
-fn is_digit_at(bytes: &[u8], place: usize) -> bool
-    ensures { result ≡ is_ascii_digit (slice_index bytes.now place) }
+fn digit_of(byte: u8) -> Option<u32>
+    ensures none { IfNone result (is_ascii_digit byte ≡ false) }
+    ensures some { IfSome result (λ digit. is_ascii_digit byte ≡ true) }
+    ensures digit { IfSome result (λ digit. digit ≡ byte - 48) }
+{
+    let number = byte.wrapping_sub(b'0');
+    if number <= 9 { Some(u32::from(number)) } else { None }
+}
+
+/// The digit at a place; `None` where none stands there.
+#[inline(always)]
+fn digit_at(bytes: &[u8], place: usize) -> Option<u32>
+    ensures none { IfNone result (is_ascii_digit (slice_index bytes.now place) ≡ false) }
+    ensures some { IfSome result (λ digit. is_ascii_digit (slice_index bytes.now place) ≡ true) }
+    ensures digit { IfSome result (λ digit. digit ≡ slice_index bytes.now place - 48) }
 {
     match bytes.get(place) {
-        Some(byte) => byte.is_ascii_digit(),
-        None => false,
+        Some(byte) => digit_of(*byte),
+        None => None,
     }
 }
 
@@ -75,9 +88,14 @@ fn front_number(bytes: &[u8]) -> (usize, u32)
 {
     let mut len = 0;
     let mut number = 0;
-    while len < MAX_DIGITS && is_digit_at(bytes, len) {
-        number = 10 * number + u32::from(bytes[len] - b'0');
-        len += 1;
+    while len < MAX_DIGITS {
+        match digit_at(bytes, len) {
+            None => return (len, number),
+            Some(digit) => {
+                number = 10 * number + digit;
+                len += 1;
+            }
+        }
     }
     (len, number)
 }
@@ -136,8 +154,11 @@ fn tag_at(place: usize, bytes: &[u8]) -> Result<(u32, &[u8]), SplitFault>
 fn near_soh(bytes: &[u8]) -> Option<usize>
     ensures { IfSome result (λ end. IsFirstByte is_soh bytes.now (Some end)) }
 {
-    let near = &bytes[..bytes.len().min(NEAR)];
-    near.iter().position(|byte| *byte == SOH)
+    if bytes.len() >= NEAR {
+        memchr(SOH, &bytes[..NEAR])
+    } else {
+        bytes.iter().position(|byte| *byte == SOH)
+    }
 }
 
 /// The place of the first SOH; `None` where there is none.
