@@ -1,7 +1,7 @@
 -- The first place that passes a test.
 use Rattle.std.proofs.Common.{◌-◌, Option, option_map, length, ◌≡◌, ℕ, ◌+◌, ◌<◌, Bool, false, cond}
 use Rattle.std.proofs.Common.{List, [], ◌∷◌, take, length-take, Some, None, refl, ap, arith}
-use Rattle.std.specs.Prelude.{map, position, not, IfSome}
+use Rattle.std.specs.Prelude.{map, position, not}
 use Rattle.std.specs.List.{list_any, position_or_len, last_or, slice_get}
 use Rattle.std.proofs.lemmas.List.{get_or-take}
 use Rattle.std.proofs.lemmas.List.Elements.{All-from_get_or}
@@ -36,21 +36,6 @@ none_before test hay place found =
     let below : k < place = omega (arith, length-take place hay) in
     rw (get_or-take place hay k 0 below)
     (false_from_ne_true _ (found.0.before k (omega arith) below))))
-
--- what a search of the front finds is the first of all
-pub near : (test : ℕ → Bool) (hay : List ℕ) (n : ℕ) (o : Option ℕ)
-    → IsFirstByte test (take n hay) o → IfSome o (λ place. IsFirstByte test hay (Some place))
-near test hay n None found = tt
-near test hay n (Some place) found =
-    let here : place < n = omega (arith, found.0.high, length-take n hay) in (
-      record {
-        low = found.0.low;
-        high = omega (arith, found.0.high, length-take n hay);
-        before = λ k le lt p. found.0.before k le lt
-            (rw (get_or-take n hay k 0 (omega (arith, lt, here))) p);
-      },
-      rw (get_or-take n hay place 0 here) at found.1,
-    )
 
 last_is : {X Y : Type 0} (view : X → Y) (o : Option Y) (x : X) (xs : List X)
     → option_map view (slice_get (x ∷ xs) (length xs)) ≡ last_or o (map view (x ∷ xs))

@@ -31,7 +31,7 @@ const FIRST_ROOM: usize = 32;
 const MAX_DIGITS: usize = 9;
 
 /// How many bytes are looked through for the end of a value one by one, before a search of all.
-const NEAR: usize = 32;
+const NEAR: usize = 24;
 
 /// How many digits stand at the front.
 fn digit_count(bytes: &[u8]) -> usize
@@ -154,11 +154,8 @@ fn tag_at(place: usize, bytes: &[u8]) -> Result<(u32, &[u8]), SplitFault>
 fn near_soh(bytes: &[u8]) -> Option<usize>
     ensures { IfSome result (λ end. IsFirstByte is_soh bytes.now (Some end)) }
 {
-    if bytes.len() >= NEAR {
-        memchr(SOH, &bytes[..NEAR])
-    } else {
-        bytes.iter().position(|byte| *byte == SOH)
-    }
+    let near = &bytes[..bytes.len().min(NEAR)];
+    near.iter().position(|byte| *byte == SOH)
 }
 
 /// The place of the first SOH; `None` where there is none.

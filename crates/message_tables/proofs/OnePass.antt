@@ -278,7 +278,7 @@ no_place tag fields h = by (position (has tag) fields) refl
     by (Some place) e = absurd (let no : not true ≡ true =
         rw (is_first tag fields place e).there at h in cc)
 
-placed_none : {A : Type 0} (judge : Placed → Option A) (fs : List Field)
+pub placed_none : {A : Type 0} (judge : Placed → Option A) (fs : List Field)
     → ((i : ℕ) → i < length fs → judge (at fs i) ≡ None)
     → first_of judge (placed_from [] fs) ≡ None
 placed_none judge fs each = from (length fs) 0 (omega arith)

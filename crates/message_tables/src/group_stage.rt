@@ -1,6 +1,6 @@
 //! The faults of groups: counts, members that stand elsewhere, and too many lines.
 
-ghost use Rattle.std.specs.Prelude.{◌≡◌, ◌==◌, ◌<◌, [], length, reverse, count_by};
+ghost use Rattle.std.specs.Prelude.{◌≡◌, ◌==◌, ◌<◌, ℕ, [], None, IsTrue, length, reverse, count_by};
 ghost use Rattle.message_tables.specs.Tables.{has_tag, first_of};
 ghost use Rattle.message_tables.specs.FirstFault.{group_tags_of, group_tags_in, placed_from};
 ghost use Rattle.message_tables.specs.FirstFault.{in_groups, misplaced, misplaced_member, place_in};
@@ -153,6 +153,20 @@ impl<K> RepeatingGroup<K> {
             None
         }
     }
+
+    /// Whether the group has no fault at any place.
+    fn is_placed(&self, fields: &[Field<'_>]) -> bool
+        ensures { IsTrue result → (place : ℕ) → place < length fields.now → misplaced
+            (place_in (seen fields.now) place (seen_at fields.now place)) (own_tags self.now)
+            ≡ None }
+    {
+        for place in 0..fields.len() {
+            if let Some(_) = self.misplaced(fields, place) {
+                return false;
+            }
+        }
+        true
+    }
 }
 
 impl<K> Item<K> {
@@ -168,6 +182,34 @@ impl<K> Item<K> {
             Item::Lines(group) => group.misplaced(fields, place),
         }
     }
+}
+
+impl<K> Item<K> {
+    /// Whether the item's group, if it has one, has no fault at any place.
+    fn is_placed(&self, fields: &[Field<'_>]) -> bool
+        ensures { IsTrue result → (place : ℕ) → place < length fields.now
+            → in_groups (group_tags_of (item_of (λ k. k) self.now))
+            (place_in (seen fields.now) place (seen_at fields.now place)) ≡ None }
+    {
+        match self {
+            Item::One(_) => true,
+            Item::Party(_) => true,
+            Item::Lines(group) => group.is_placed(fields),
+        }
+    }
+}
+
+/// Whether no group of the table has a fault.
+fn are_placed<K>(table: &Table<K>, fields: &[Field<'_>]) -> bool
+    ensures { IsTrue result → first_of (in_groups (group_tags_in (table_of (λ k. k) table.now)))
+        (placed_from [] (seen fields.now)) ≡ None }
+{
+    for item in table.items {
+        if !item.is_placed(fields) {
+            return false;
+        }
+    }
+    true
 }
 
 /// The fault of a group of the table at a place.
@@ -189,6 +231,9 @@ pub(crate) fn first_misplaced<K>(table: &Table<K>, fields: &[Field<'_>]) -> Opti
     ensures { result ≡ first_of (in_groups (group_tags_in (table_of (λ k. k) table.now)))
         (placed_from [] (seen fields.now)) }
 {
+    if are_placed(table, fields) {
+        return None;
+    }
     for place in 0..fields.len() {
         if let Some(fault) = misplaced_at(table, fields, place) {
             return Some(fault);

@@ -98,7 +98,7 @@ pub(crate) fn lacks(fields: &Fields<'_>, tag: u32) -> bool
 pub(crate) fn is_among(tags: &[u32], tag: u32) -> bool
     ensures { result ≡ is_one_of tags.now tag }
 {
-    tags.contains(&tag)
+    tags.iter().any(|one| *one == tag)
 }
 
 /// The field at a place, counted from 0.
