@@ -8,7 +8,7 @@ ghost use Rattle.std.specs.Option.{option_map};
 ghost use Rattle.std.specs.Char.{is_ascii_digit};
 ghost use Rattle.std.specs.Fmt.{decimal};
 ghost use Rattle.std.specs.Str.Parse.{digits_value};
-ghost use Rattle.memchr.specs.Find.{IsFirstByte};
+ghost use Rattle.memchr.specs.Find.{IsFirstByte, Nowhere, Passes};
 ghost use Rattle.field_groups.specs.Field.{Field, IsField, field_bytes, is_soh, says};
 ghost use Rattle.field_groups.specs.HeadValues.{number_in};
 ghost use Rattle.field_groups.specs.Fields.{NoField, SplitsInto, after_tag, front_tag, has_tag};
@@ -30,8 +30,8 @@ const FIRST_ROOM: usize = 32;
 /// The most digits of a tag.
 const MAX_DIGITS: usize = 9;
 
-/// How many bytes are looked through for the end of a value one by one, before a search of all.
-const NEAR: usize = 24;
+/// How many bytes are searched at once for the end of a value.
+const CHUNK: usize = 32;
 
 /// How many digits stand at the front.
 fn digit_count(bytes: &[u8]) -> usize
@@ -52,7 +52,11 @@ fn digit_of(byte: u8) -> Option<u32>
     ensures digit { IfSome result (λ digit. digit ≡ byte - 48) }
 {
     let number = byte.wrapping_sub(b'0');
-    if number <= 9 { Some(u32::from(number)) } else { None }
+    if number <= 9 {
+        Some(u32::from(number))
+    } else {
+        None
+    }
 }
 
 /// The digit at a place; `None` where none stands there.
@@ -149,24 +153,41 @@ fn tag_at(place: usize, bytes: &[u8]) -> Result<(u32, &[u8]), SplitFault>
     }
 }
 
-/// The place of the first SOH, where it is among the first bytes: most values are short.
+/// The place of the first SOH, byte by byte.
 #[inline(always)]
-fn near_soh(bytes: &[u8]) -> Option<usize>
-    ensures { IfSome result (λ end. IsFirstByte is_soh bytes.now (Some end)) }
+fn short_soh(bytes: &[u8]) -> Option<usize>
+    ensures { IsFirstByte is_soh bytes.now result }
 {
-    let near = &bytes[..bytes.len().min(NEAR)];
-    near.iter().position(|byte| *byte == SOH)
+    bytes.iter().position(|byte| *byte == SOH)
 }
 
-/// The place of the first SOH; `None` where there is none.
+/// The place of the first SOH, which is not before this place; `None` where there is none.
+#[inline(always)]
+fn soh_from(bytes: &[u8], from: usize) -> Option<usize>
+    requires within { from ≤ length bytes.now }
+    requires before { Nowhere (Passes is_soh bytes.now) 0 from }
+    ensures { IsFirstByte is_soh bytes.now result }
+{
+    match short_soh(&bytes[from..]) {
+        None => None,
+        Some(end) => Some(from + end),
+    }
+}
+
+/// The place of the first SOH; `None` where there is none. A search of a fixed length takes few
+/// steps, and most values are shorter.
 #[inline(always)]
 fn first_soh(bytes: &[u8]) -> Option<usize>
     ensures { IsFirstByte is_soh bytes.now result }
 {
-    match near_soh(bytes) {
-        Some(end) => Some(end),
-        None => memchr(SOH, bytes),
+    let mut from = 0;
+    while bytes.len() - from >= CHUNK {
+        if let Some(end) = memchr(SOH, &bytes[from..from + CHUNK]) {
+            return Some(from + end);
+        }
+        from += CHUNK;
     }
+    soh_from(bytes, from)
 }
 
 /// The value before the first SOH, and what is left after that SOH; `None` where there is no SOH.
