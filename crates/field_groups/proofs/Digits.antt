@@ -94,7 +94,8 @@ front_digit : (ds : List ℕ) (n k : ℕ) → list_all is_ascii_digit (take n ds
     → n ≤ length ds → k < n → is_ascii_digit (get_or ds k 0) ≡ true
 front_digit ds n k h le lt =
     rw (get_or-take n ds k 0 lt) at (All-get_or (λ (c : ℕ). is_ascii_digit c ≡ true)
-    (take n ds) k 0 (omega (arith, length-take n ds)) (AllPass-from_list_all is_ascii_digit (take n ds) h))
+    (take n ds) k 0 (omega (arith, length-take n ds))
+    (AllPass-from_list_all is_ascii_digit (take n ds) h))
 
 -- digits, and behind them none
 pub count_is : (ds : List ℕ) (n : ℕ) → list_all is_ascii_digit (take n ds) ≡ true → n ≤ length ds
@@ -106,6 +107,7 @@ count_is ds n h le none =
 pub count_least : (ds : List ℕ) (n : ℕ) → list_all is_ascii_digit (take n ds) ≡ true
     → n ≤ length ds → n ≤ prefix_len is_ascii_digit ds
 count_least ds n h le =
-    ⊎_elim (λ lt. absurd (false≢true (sym (prefix_len_stops is_ascii_digit ds 0 (omega (arith, le, lt)))
+    ⊎_elim (λ lt. absurd (false≢true
+    (sym (prefix_len_stops is_ascii_digit ds 0 (omega (arith, le, lt)))
     ∙ front_digit ds n (prefix_len is_ascii_digit ds) h le lt)))
     (λ ge. ge) (cases_lt (prefix_len is_ascii_digit ds) n)

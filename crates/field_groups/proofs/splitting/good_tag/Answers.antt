@@ -5,8 +5,12 @@ use Rattle.field_groups.proofs.Reading.{tag_tests, digit_count_is, no_tag, zero_
 use Rattle.field_groups.proofs.Reading.{rest_is, equals}
 use Rattle.field_groups.proofs.splitting.good_tag.Goals as goal
 use Rattle.field_groups.proofs.splitting.good_tag.Goals.{then-len-eq0-via-then-len-eq0}
-use Rattle.field_groups.proofs.splitting.good_tag.Goals.{then-len-eq0-via-else-len-eq0+then-bytes-eq48}
-use Rattle.field_groups.proofs.splitting.good_tag.Goals.{then-len-eq0-via-else-len-eq0+else-bytes-eq48+then-not-is_equals_at}
+use Rattle.field_groups.proofs.splitting.good_tag.Goals.{
+  then-len-eq0-via-else-len-eq0+then-bytes-eq48,
+}
+use Rattle.field_groups.proofs.splitting.good_tag.Goals.{
+  then-len-eq0-via-else-len-eq0+else-bytes-eq48+then-not-is_equals_at,
+}
 
 pub returns-then-len-eq0-clause-none : goal.returns-then-len-eq0-clause-none
 returns-then-len-eq0-clause-none c =
