@@ -2,15 +2,14 @@
 -- exactly where the venue does; and OrdType and TimeInForce are codes of FIX 4.2.
 use Rattle.std.proofs.Common.{◌≡◌, ℕ, Bool, true, false, List, [], ◌∷◌, ◌++◌, codes, Option, Some}
 use Rattle.std.proofs.Common.{None, refl, sym, ap, subst, ◌∙◌, option_map, arith}
-use Rattle.std.specs.Prelude.{IfSome, Ok, not, ◌==◌, ◌||◌, ◌&&◌, if◌then◌else◌}
-use Rattle.std.specs.Str.{bytes_eq}
+use Rattle.std.specs.Prelude.{IfSome, Ok, not, ◌==◌, ◌||◌, if◌then◌else◌}
 use Rattle.std.proofs.lemmas.Bool.{eqb-true}
 use Rattle.std.proofs.lemmas.Bool.Decides.{nat_tests}
 use Rattle.field_groups.specs.Field.{Field}
-use Rattle.message_tables.specs.Tables.{Verdict, Spells, Outside, Wrong, Said, is_listed, is_one_of}
+use Rattle.message_tables.specs.Tables.{Spells, is_listed, is_one_of}
 use Rattle.message_tables.specs.Tables.{value_at}
 use Rattle.order_meaning.specs.Request.{OrderType}
-use Rattle.value_kinds.specs.ValueKind.{Code, is_code, listed_word, spelling}
+use Rattle.value_kinds.specs.ValueKind.{is_code, listed_word, spelling}
 use Rattle.value_kinds.specs.CodeKinds.{code_text}
 use Rattle.row_values.specs.Kinds.{TimeBeside, counted, is_at_close, judge, verdict_of}
 use Rattle.rows_fix42.specs.Meaning.{is_on_close, time_of}

@@ -1,7 +1,7 @@
 -- Rows that both versions say alike: what a sound report of FIX 5.0 SP2 says there, a report of FIX
 -- 4.2 may say too, over any two tables.
-use Rattle.std.proofs.Common.{◌≡◌, ℕ, List, [], ◌∷◌, map, Bool, true, false, refl, sym, subst, ◌∙◌}
-use Rattle.std.specs.Prelude.{not, ◌&&◌, ◌==◌, if◌then◌else◌}
+use Rattle.std.proofs.Common.{◌≡◌, ℕ, List, [], ◌∷◌, map, Bool, true, false, refl, sym, subst}
+use Rattle.std.specs.Prelude.{◌&&◌, ◌==◌, if◌then◌else◌}
 use Rattle.std.specs.List.{AllByRecursion, list_all}
 use Rattle.field_groups.specs.Field.{Field}
 use Rattle.message_tables.specs.Tables.{Need, Required, Optional, Lenient, Fixed, When, Row, Item}
@@ -11,7 +11,7 @@ use Rattle.row_values.specs.Kinds.{Kind, Value, Byte, DayOf, MonthBeside, TimeBe
 use Rattle.row_values.specs.Kinds.{judge}
 use Rattle.sound_messages.specs.Sound.{IsSaid, IsItem}
 use Rattle.sound_messages.proofs.ApartRows.{same_at, carried, others, RowSaid, carried_of, put_back}
-use Rattle.sound_messages.proofs.Each.{both, not_true}
+use Rattle.sound_messages.proofs.Each.{both}
 use Rattle.sound_messages.proofs.RowsSaid.{required_said, optional_said, same_value}
 
 -- DisplayQty (1138) is MaxFloor (111), and OrderCapacity (528) is Rule80A (47)

@@ -7,14 +7,12 @@ use Rattle.std.proofs.Common.{length-append}
 use Rattle.std.specs.Prelude.{IsSome, IfSome, Ok, Err, Result, unwrap_or, ◌==◌, ◌&&◌, ◌||◌}
 use Rattle.std.specs.Prelude.{if◌then◌else◌}
 use Rattle.std.specs.Char.{is_ascii_digit}
-use Rattle.std.specs.Int.{is_in_range}
 use Rattle.std.specs.Fmt.{decimal}
 use Rattle.std.specs.Result.{result_ok}
 use Rattle.std.specs.Str.{bytes_eq}
 use Rattle.std.specs.List.{AllByRecursion, list_any}
 use Rattle.std.proofs.lemmas.Bool.Decides.{nat_tests}
-use Rattle.std.proofs.lemmas.Fmt.{digits_decimal, decimal_nonempty, length-decimal-le}
-use Rattle.std.proofs.lemmas.List.{length-take-le}
+use Rattle.std.proofs.lemmas.Fmt.{digits_decimal, length-decimal-le}
 use Rattle.typed_fields.specs.declared.fault.FieldFault.{FieldFault}
 use Rattle.typed_fields.specs.declared.fault.FieldFault.TheVariants.{Range}
 use Rattle.typed_fields.specs.declared.day.Day.{Day as DayValue}
@@ -30,12 +28,12 @@ use Rattle.typed_fields.proofs.NumberLaws.{number_reads_back, month_year_reads_b
 use Rattle.typed_fields.proofs.SpellingLemmas.{judged_ok, is_digit-last, are_digits-zero_padded}
 use Rattle.typed_fields.proofs.SpellingLemmas.{number_of-zero_padded}
 use Rattle.field_groups.specs.Field.{Field, is_soh}
-use Rattle.message_tables.specs.Tables.{Verdict, Spells, Outside, Wrong, Required, Optional, When}
-use Rattle.message_tables.specs.Tables.{Said, Cell, Place, Tag, ◌>>=◌, first_of, has_tag, is_needed}
+use Rattle.message_tables.specs.Tables.{Spells, Wrong, Optional, When}
+use Rattle.message_tables.specs.Tables.{Said, Cell, Place, Tag, ◌>>=◌, first_of, has_tag}
 use Rattle.message_tables.specs.Tables.{is_place, or_else, party_in, said_at, text_in, value_at}
 use Rattle.message_tables.specs.Content.{line_fields}
 use Rattle.message_tables.proofs.Clean.{stands}
-use Rattle.value_kinds.specs.ValueKind.{Id, Text, Reason, Day, DayOfMonth, MonthYear, Spelling}
+use Rattle.value_kinds.specs.ValueKind.{Id, Text, Reason, Day, MonthYear}
 use Rattle.value_kinds.specs.ValueKind.{spelling, spelt, if_in_range, number_of_two, formed}
 use Rattle.value_kinds.specs.CodeKinds.{two_digit_text}
 use Rattle.row_values.specs.Kinds.{Value, DayOf, in_month, judge, month_at, row, verdict_of}

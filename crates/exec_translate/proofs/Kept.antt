@@ -1,8 +1,8 @@
 -- What an execution means is kept by how it is written in FIX 4.2.
 use Rattle.std.proofs.Common.{◌≡◌, ℕ, Bool, true, false, ◌==◌, ◌||◌, Some, None, refl, sym}
-use Rattle.std.proofs.Common.{if◌then◌else◌, IfSome, Option, ap, ◌∙◌, arith}
+use Rattle.std.proofs.Common.{if◌then◌else◌, IfSome, ap, ◌∙◌, arith}
 use Rattle.std.proofs.lemmas.Bool.Decides.{nat_tests}
-use Rattle.order_meaning.specs.Report.{Exec, Trade, Correct, Bust, Status, Other}
+use Rattle.order_meaning.specs.Report.{Trade, Correct, Bust, Status, Other}
 use Rattle.reports_fix42.specs.Sense.{exec_of as exec42, phase_of as phase42}
 use Rattle.reports_fix50.specs.Sense.{exec_of as exec50, phase_of as phase50}
 use Rattle.exec_translate.specs.declared.mapping.ExecCodes.{ExecCodes}

@@ -1,5 +1,5 @@
 -- What is written in FIX 4.2 row by row means what the report meant.
-use Rattle.std.proofs.Common.{◌≡◌, ℕ, Bool, true, false, if◌then◌else◌, codes, List, [], refl, ap}
+use Rattle.std.proofs.Common.{◌≡◌, ℕ, Bool, true, false, if◌then◌else◌, codes, List, refl, ap}
 use Rattle.std.proofs.Common.{sym, ◌∙◌, ◌++◌, map, Option, Some, None, option_map, unwrap_or, pos}
 use Rattle.std.proofs.Common.{lit≤, subst}
 use Rattle.std.specs.Prelude.{option_and_then}
@@ -10,7 +10,7 @@ use Rattle.typed_fields.specs.Day.{day_text}
 use Rattle.typed_fields.specs.Number.{number_text}
 use Rattle.typed_fields.specs.Stamp.{stamp_text}
 use Rattle.field_groups.specs.HeadValues.{number_in}
-use Rattle.message_tables.specs.Tables.{Said, ◌>>=◌}
+use Rattle.message_tables.specs.Tables.{◌>>=◌}
 use Rattle.order_meaning.specs.declared.Amount.{Amount}
 use Rattle.order_meaning.specs.Book.{Book}
 use Rattle.order_meaning.specs.Request.{OrderType, NeutralMaturity}
@@ -22,7 +22,6 @@ use Rattle.row_values.specs.Writing.{month_day_text}
 use Rattle.row_values.specs.declared.contras.ContraLine.{ContraLine}
 use Rattle.row_values.specs.declared.lines.Maturity.{Maturity}
 use Rattle.rows_fix42.specs.Meaning as meaning42
-use Rattle.reports_fix42.specs.Readable as readable42
 use Rattle.reports_fix50.specs.Readable as readable50
 use Rattle.reports_fix42.specs.Sense as sense42
 use Rattle.reports_fix50.specs.Sense as sense50
@@ -34,7 +33,7 @@ use Rattle.reports_fix42.specs.declared.reports.Report42.{Report42}
 use Rattle.reports_fix50.specs.declared.reports.Report50.{Report50}
 use Rattle.reports_fix42.specs.declared.reports.CancelReject42.{CancelReject42}
 use Rattle.reports_fix50.specs.declared.reports.CancelReject50.{CancelReject50}
-use Rattle.exec_translate.specs.Written.{coded, within, value_in, IsWritten, IsWrittenReject}
+use Rattle.exec_translate.specs.Written.{coded, value_in, IsWritten, IsWrittenReject}
 use Rattle.exec_translate.proofs.Books.{books_go_alike, reports_go_alike}
 use Rattle.exec_translate.proofs.Kept.{same_phase}
 use Rattle.exec_translate.proofs.Same.{same_report}

@@ -1,17 +1,12 @@
 -- What is written of a report whose values can be read has values that can be read.
 use Rattle.std.proofs.Common.{◌≡◌, ℕ, List, Option, Some, None, sym, subst, lit≤}
 use Rattle.std.specs.Prelude.{IfSome}
-use Rattle.typed_fields.specs.declared.dec.Dec.{Dec}
-use Rattle.typed_fields.specs.declared.day.Day.{Day}
-use Rattle.typed_fields.specs.declared.number.Number.{Number}
-use Rattle.typed_fields.specs.declared.stamp.Stamp.{Stamp}
 use Rattle.typed_fields.specs.Dec.{IsDec}
 use Rattle.typed_fields.specs.Day.{IsDay}
 use Rattle.typed_fields.specs.Number.{IsNumber}
 use Rattle.typed_fields.specs.Stamp.{IsStamp}
 use Rattle.row_values.specs.Contras.{AreReadableContras}
 use Rattle.row_values.specs.Lines.{IsReadableMaturity}
-use Rattle.row_values.specs.declared.contras.ContraLine.{ContraLine}
 use Rattle.row_values.specs.declared.lines.Maturity.{Maturity}
 use Rattle.reports_fix42.specs.Readable as of42
 use Rattle.reports_fix50.specs.Readable as of50
@@ -19,7 +14,7 @@ use Rattle.reports_fix42.specs.declared.reports.Report42.{Report42}
 use Rattle.reports_fix50.specs.declared.reports.Report50.{Report50}
 use Rattle.reports_fix42.specs.declared.reports.CancelReject42.{CancelReject42}
 use Rattle.reports_fix50.specs.declared.reports.CancelReject50.{CancelReject50}
-use Rattle.exec_translate.specs.Written.{dated, within, IsWritten, IsWrittenReject}
+use Rattle.exec_translate.specs.Written.{dated, IsWritten, IsWrittenReject}
 use Rattle.exec_translate.proofs.Values.{within_good}
 
 -- what equals a value that can be read can be read

@@ -1,5 +1,5 @@
 -- What is written of a sound report is read again.
-use Rattle.std.proofs.Common.{◌≡◌, List, [], true, false, Ok, refl, ap, ◌∙◌}
+use Rattle.std.proofs.Common.{◌≡◌, [], true, false, Ok, refl, ap, ◌∙◌}
 use Rattle.std.specs.List.{flat_map}
 use Rattle.message_tables.specs.Tables.{Table, Message, is_one_of}
 use Rattle.message_tables.specs.FirstFault.{message_of}

@@ -1,8 +1,8 @@
 -- The report of FIX 4.2 that is written of a report of FIX 5.0 SP2 which was read is sound.
-use Rattle.std.proofs.Common.{◌≡◌, ◌≤◌, ℕ, Bool, true, false, List, [], ◌∷◌, ◌++◌, map, codes}
-use Rattle.std.proofs.Common.{Option, Some, None, refl, sym, ap, subst, ◌∙◌, option_map, lit≤}
+use Rattle.std.proofs.Common.{◌≡◌, ◌≤◌, ℕ, Bool, true, false, List, [], ◌∷◌, map, codes}
+use Rattle.std.proofs.Common.{Option, Some, refl, sym, ap, subst, ◌∙◌, option_map, lit≤}
 use Rattle.std.proofs.Common.{option_and_then}
-use Rattle.std.specs.Prelude.{IsSome, IfSome, not, ◌==◌, ◌||◌, ◌&&◌, if◌then◌else◌}
+use Rattle.std.specs.Prelude.{IfSome, not, ◌==◌, ◌||◌, ◌&&◌, if◌then◌else◌}
 use Rattle.std.specs.List.{AllByRecursion, flat_map, list_all, list_any}
 use Rattle.typed_fields.specs.declared.number.Number.{Number as NumberValue}
 use Rattle.typed_fields.specs.Dec.{dec_text}
@@ -11,7 +11,7 @@ use Rattle.typed_fields.specs.Number.{IsNumber, number_text}
 use Rattle.typed_fields.specs.Stamp.{stamp_text}
 use Rattle.field_groups.specs.Field.{Field, is_soh}
 use Rattle.message_tables.specs.Tables.{Condition, Is, Need, Required, Optional, When, Spells, Row}
-use Rattle.message_tables.specs.Tables.{RepeatingGroup, Item, Table, Message, Cell, Said, Tag, Role}
+use Rattle.message_tables.specs.Tables.{Table, Message, Cell, Said, Tag, Role}
 use Rattle.message_tables.specs.Tables.{groups_of, is_listed, is_needed, is_one_of, lines_of}
 use Rattle.message_tables.specs.Tables.{party_in, said_at, value_at}
 use Rattle.message_tables.specs.Content.{content}
@@ -23,8 +23,6 @@ use Rattle.row_values.specs.Lines.{month_text}
 use Rattle.row_values.specs.Writing.{month_day_text}
 use Rattle.row_values.specs.declared.lines.Maturity.{Maturity}
 use Rattle.row_values.specs.Contras.{contra_cells, contras as contras50}
-use Rattle.row_values.specs.Groups.{parties}
-use Rattle.row_values.specs.declared.contras.ContraLine.{ContraLine}
 use Rattle.rows_fix50.specs.Header.{completed}
 use Rattle.rows_fix50.specs.Meaning.{id_of}
 use Rattle.reports_fix42.specs.declared.reports.Report42.{Report42}
@@ -51,7 +49,7 @@ use Rattle.exec_translate.specs.declared.mapping.ExecCodes.{ExecCodes}
 use Rattle.exec_translate.specs.Down.{IsMapped}
 use Rattle.exec_translate.specs.Written.{IsWritten, IsWrittenReject, dated, value_in, within}
 use Rattle.exec_translate.proofs.DownCodes.{AreCodes, are_codes, statuses, time_is}
-use Rattle.exec_translate.proofs.DownRows.{SaysAlike, GoDown, down_tag, items_down}
+use Rattle.exec_translate.proofs.DownRows.{SaysAlike, GoDown, items_down}
 use Rattle.exec_translate.proofs.DownValues as values
 use Rattle.exec_translate.proofs.DownValues.{IsReason, told_of, told_one, told_both}
 use Rattle.exec_translate.proofs.Readable.{report_readable}

@@ -1,17 +1,16 @@
 -- The values that FIX 4.2 spells otherwise.
-use Rattle.std.proofs.Common.{◌≡◌, ◌≤◌, ◌<◌, ◌+◌, ◌^◌, ◌/◌, ◌%◌, ℕ, Bool, true, false, List, []}
+use Rattle.std.proofs.Common.{◌≡◌, ◌≤◌, ◌<◌, ◌+◌, ◌^◌, ◌/◌, ◌%◌, ℕ, Bool, true, false, []}
 use Rattle.std.proofs.Common.{◌∷◌, ◌++◌, Option}
-use Rattle.std.proofs.Common.{Some, None, refl, ap, sym, subst, ◌∙◌, option_map, IfSome}
+use Rattle.std.proofs.Common.{Some, None, refl, ap, sym, ◌∙◌, option_map, IfSome}
 use Rattle.std.proofs.Common.{if◌then◌else◌}
-use Rattle.std.proofs.Common.{option_and_then, codes, length, take, arith, nat_le}
+use Rattle.std.proofs.Common.{option_and_then, length, arith, nat_le}
 use Rattle.std.specs.Str.Parse.{digits_value}
 use Rattle.std.specs.Fmt.{decimal}
 use Rattle.std.proofs.lemmas.Bool.Decides.{nat_tests}
 use Rattle.std.proofs.lemmas.Fmt.{digits_decimal, digits_value-decimal, decimal_nonempty}
 use Rattle.std.proofs.lemmas.Fmt.{length-decimal-le}
-use Rattle.field_groups.specs.HeadValues.{number_in, is_number}
+use Rattle.field_groups.specs.HeadValues.{number_in}
 use Rattle.message_tables.specs.Tables.{◌>>=◌}
-use Rattle.order_meaning.specs.Request.{NeutralMaturity}
 use Rattle.typed_fields.specs.declared.number.Number.{Number}
 use Rattle.typed_fields.specs.declared.month_year.MonthYear.{MonthYear}
 use Rattle.std.specs.Int.{is_in_range}
@@ -28,7 +27,7 @@ use Rattle.value_kinds.specs.ValueKind.{number_of_two}
 use Rattle.row_values.specs.declared.lines.Maturity.{Maturity}
 use Rattle.rows_fix42.specs.Meaning.{maturity_of as maturity42}
 use Rattle.rows_fix50.specs.Meaning.{maturity_of as maturity50}
-use Rattle.reports_fix50.specs.Sense.{reason_within, telling}
+use Rattle.reports_fix50.specs.Sense.{reason_within}
 use Rattle.exec_translate.specs.Written.{dated, within, value_in}
 
 -- ---- numbers

@@ -1,6 +1,6 @@
 -- Worked reports: what they mean in both versions, the mapping, and how books change by them, by
 -- computation.
-use Rattle.std.specs.Prelude.{◌≡◌, ℕ, pos, true, false, Bool, List, [], ◌∷◌, ◌++◌, map, codes, refl}
+use Rattle.std.specs.Prelude.{◌≡◌, ℕ, pos, true, false, List, [], ◌∷◌, ◌++◌, map, codes, refl}
 use Rattle.std.specs.Prelude.{Some, None, is_some, unwrap_or}
 use Rattle.std.specs.declared.option.Option.{Option}
 use Rattle.std.specs.Fmt.{digits}
@@ -10,7 +10,7 @@ use Rattle.field_groups.specs.Field.{Field}
 use Rattle.field_groups.specs.HeadValues.{number_in}
 use Rattle.typed_fields.specs.Digits.{are_digits, number_of, has_pattern, zero_padded}
 use Rattle.typed_fields.specs.Digits.{without_leading_zeros, without_trailing_zeros}
-use Rattle.message_tables.specs.Tables.{Message, first_of}
+use Rattle.message_tables.specs.Tables.{first_of}
 use Rattle.message_tables.specs.FirstFault.{first_fault, message_of}
 use Rattle.order_meaning.specs.Report.{New, filled}
 use Rattle.order_meaning.specs.Book.{Book, reported, changed, at_execution}

@@ -1,6 +1,6 @@
 -- Own: what holds of the reports of both versions: those that mean the same change a book alike,
 -- and what is written of a sound one is read again.
-use Rattle.std.specs.Prelude.{◌≡◌, List, ℕ, codes, Option, None, Result, Ok}
+use Rattle.std.specs.Prelude.{◌≡◌, List, ℕ, codes, Option, None, Ok}
 use Rattle.std.specs.Option.{option_map}
 use Rattle.message_tables.specs.Tables.{Message}
 use Rattle.order_meaning.specs.Book.{Book}

@@ -43,7 +43,8 @@ pub position-push : {X : Type 0} (p : X → Bool) (xs : List X) (y : X)
     → position p (xs ++ y ∷ []) ≡ or_last (position p xs) (p y) (length xs)
 position-push p xs y =
     rw (position_or_len_push p xs y, length_push xs y)
-    (pushed (position_or_len p xs) (length xs) (p y) _ _ _ (prefix_len-le-length (λ x. not (p x)) xs) refl refl refl)
+    (pushed (position_or_len p xs) (length xs) (p y) _ _ _
+    (prefix_len-le-length (λ x. not (p x)) xs) refl refl refl)
 
 -- no fields
 pub none_indexed : IsIndexed [] (replicate 512 0)

@@ -16,8 +16,8 @@ found_at (Some place) xs = slice_get xs place
 abbrev at_most : ℕ → ℕ → Option ℕ
 at_most n len = cond (nat_lt n len) (Some n) None
 
-later : {X : Type 0} (x : X) (xs : List X) (n : ℕ) (inner outer : Bool) → nat_lt n (length xs) ≡ inner
-    → nat_lt (suc n) (suc (length xs)) ≡ outer
+later : {X : Type 0} (x : X) (xs : List X) (n : ℕ) (inner outer : Bool)
+    → nat_lt n (length xs) ≡ inner → nat_lt (suc n) (suc (length xs)) ≡ outer
     → found_at (cond outer (Some (suc n)) None) (x ∷ xs) ≡ found_at (cond inner (Some n) None) xs
 later x xs n true true i o = refl
 later x xs n true false i o = absurd (grind (arith, nat_tests))

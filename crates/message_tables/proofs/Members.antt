@@ -9,7 +9,8 @@ use Rattle.std.proofs.lemmas.List.Sums.{take_while-cons}
 use Rattle.message_tables.specs.declared.table_fault.TableFault.{TableFault}
 use Rattle.message_tables.specs.declared.table_fault.TableFault.TheVariants as faults
 use Rattle.field_groups.specs.Field.{Field}
-use Rattle.message_tables.specs.Tables.{Row, Need, Required, RepeatingGroup, One, Lines, Table, Judge}
+use Rattle.message_tables.specs.Tables.{Row, Need, Required, RepeatingGroup, One, Lines, Table}
+use Rattle.message_tables.specs.Tables.{Judge}
 use Rattle.message_tables.specs.Tables.{Verdict, Spells, Outside, Wrong, ◌>>=◌, or_else, first_of}
 use Rattle.message_tables.specs.Tables.{value_at, has_tag, row_at, all_rows, GroupTags, tags_in}
 use Rattle.message_tables.specs.Tables.{after_tag, from_tag, is_inside, run, with_member, in_lines}

@@ -36,7 +36,8 @@ abbrev pub has : ℕ → Field → Bool
 has tag f = f.0 == tag
 
 position-cons : (tag : ℕ) (f : Field) (fs : List Field)
-    → position (has tag) (f ∷ fs) ≡ cond {A = Option ℕ} (f.0 == tag) (Some 0) (option_map suc (position (has tag) fs))
+    → position (has tag) (f ∷ fs)
+    ≡ cond {A = Option ℕ} (f.0 == tag) (Some 0) (option_map suc (position (has tag) fs))
 position-cons tag f fs = here (f.0 == tag)
   where
     later : (n : ℕ) (inner outer : Bool) → nat_lt n (length fs) ≡ inner
@@ -237,13 +238,15 @@ module _ {Kind : Type 0} (judge : Judge Kind) (fields : List Field) where
       absurd (not_there group.rows (lacks_listed fields (tags_in group).members tag
       (and_left _ _ (and_right _ _ h)) there) e)
     where
-      not_there : (rows : List (Row Kind)) → is_one_of (map (λ (r : Row Kind). r.tag) rows) tag ≡ false
+      not_there : (rows : List (Row Kind))
+          → is_one_of (map (λ (r : Row Kind). r.tag) rows) tag ≡ false
           → row_at tag rows ≡ Some row → ⊥
       not_there [] n e = absurd cc
       not_there (one ∷ rows) n e = by (one.tag == tag) (not_there rows) n e
         where
           by : (b : Bool)
-              → (is_one_of (map (λ (r : Row Kind). r.tag) rows) tag ≡ false → row_at tag rows ≡ Some row → ⊥)
+              → (is_one_of (map (λ (r : Row Kind). r.tag) rows) tag ≡ false
+              → row_at tag rows ≡ Some row → ⊥)
               → (b || is_one_of (map (λ (r : Row Kind). r.tag) rows) tag) ≡ false
               → cond b (Some one) (row_at tag rows) ≡ Some row → ⊥
           by true later n e = absurd cc
@@ -255,7 +258,8 @@ module _ {Kind : Type 0} (judge : Judge Kind) (fields : List Field) where
   items_row_fits tag [] row h there e = absurd cc
   items_row_fits tag (item ∷ items) row h there e =
       by (row_at tag (rows_of item)) refl (items_row_fits tag items row (and_right _ _ h) there)
-      (sym (find-append (λ (r : Row Kind). r.tag == tag) (rows_of item) (flat_map rows_of items)) ∙ e)
+      (sym (find-append (λ (r : Row Kind). r.tag == tag) (rows_of item) (flat_map rows_of items))
+      ∙ e)
     where
       by : (o : Option (Row Kind)) → row_at tag (rows_of item) ≡ o
           → (row_at tag (flat_map rows_of items) ≡ Some row → fits judge fields row ≡ true)

@@ -187,7 +187,8 @@ impl<K> RepeatingGroup<K> {
         }
     }
 
-    /// Whether no field is of the group: neither its count, nor a member, nor one that says nothing.
+    /// Whether no field is of the group: neither its count, nor a member, nor one that says
+    /// nothing.
     #[tactic(auto, using(crate::proofs::Seen::all_tags_seen))]
     pub fn is_absent(&self, fields: &Fields<'_>) -> bool
         ensures { result ≡ lacks_group fields.now (own_tags self.now) }

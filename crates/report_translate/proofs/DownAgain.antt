@@ -1,5 +1,5 @@
 -- What is written of a report is read again as that report, behind its header.
-use Rattle.std.proofs.Common.{◌≡◌, ℕ, List, [], ◌∷◌, ◌++◌, codes, Option, None, Bool, true, false}
+use Rattle.std.proofs.Common.{◌≡◌, ℕ, List, ◌∷◌, ◌++◌, codes, Option, None, Bool, true, false}
 use Rattle.std.proofs.Common.{Result, Ok, Err, refl, sym, ap, ◌∙◌, lit≤, arith}
 use Rattle.std.specs.Prelude.{unwrap_or}
 use Rattle.std.specs.Option.{option_map}
@@ -9,7 +9,7 @@ use Rattle.std.proofs.lemmas.Slice.Eq.{bytes_eq-Decides}
 use Rattle.field_groups.specs.Data.{is_data_tag}
 use Rattle.field_groups.specs.Field.{Field, AreFields, body_of}
 use Rattle.field_groups.specs.Fields.{SplitsInto}
-use Rattle.message_tables.specs.Tables.{Item, Table, Message, flag_of, is_one_of, value_at}
+use Rattle.message_tables.specs.Tables.{Item, Table, Message, flag_of, value_at}
 use Rattle.message_tables.specs.FirstFault.{message_of}
 use Rattle.order_meaning.specs.declared.fault.Fault.{Fault}
 use Rattle.order_meaning.specs.declared.fault.Fault.TheVariants.{NotSupported}
@@ -26,7 +26,7 @@ use Rattle.reports_fix42.specs.Reports as reports42
 use Rattle.reports_fix42.specs.Said as said42
 use Rattle.reports_fix50.specs.declared.reports.Report50.{Report50}
 use Rattle.reports_fix50.specs.declared.reports.CancelReject50.{CancelReject50}
-use Rattle.reports_fix50.specs.Message.{report_by, report_table, cancel_reject_table}
+use Rattle.reports_fix50.specs.Message.{report_table, cancel_reject_table}
 use Rattle.reports_fix50.specs.Said as said50
 use Rattle.sound_messages.specs.Sound.{IsSound}
 use Rattle.sound_messages.proofs.Each.{◌&◌}
@@ -39,7 +39,6 @@ use Rattle.translation.proofs.BehindHeader.{IsHead, front, items_behind, read_be
 use Rattle.translation.proofs.CarriedHeader.{IsOwnHead, HasHeader, head_is_own, head_value}
 use Rattle.translation.proofs.CarriedHeader.{own_said}
 use Rattle.translation.proofs.SplitAgain.{fields_again}
-use Rattle.translation.proofs.Writable.{IsType}
 use Rattle.report_translate.specs.declared.report.ClientReport.{ClientReport}
 use Rattle.report_translate.specs.declared.report.ClientReport.TheVariants as client
 use Rattle.report_translate.specs.declared.report.VenueReport.{VenueReport}

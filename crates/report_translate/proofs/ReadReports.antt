@@ -2,13 +2,12 @@
 -- its date, which is told besides.
 use Rattle.std.proofs.Common.{◌≡◌, ℕ, List, [], ◌∷◌, Some, None, Bool, true, false, refl, sym, ap}
 use Rattle.std.proofs.Common.{subst, ◌∙◌, Option}
-use Rattle.std.specs.Prelude.{Result, Ok, Err, not, unwrap_or, ◌&&◌, ◌||◌, ◌==◌}
+use Rattle.std.specs.Prelude.{Ok, not, unwrap_or, ◌&&◌, ◌||◌, ◌==◌}
 use Rattle.std.specs.Option.{option_map}
-use Rattle.std.specs.List.{AllByRecursion, flat_map, list_all}
+use Rattle.std.specs.List.{AllByRecursion, list_all}
 use Rattle.std.proofs.lemmas.Bool.{eqb-true}
 use Rattle.field_groups.specs.Field.{Field}
 use Rattle.field_groups.specs.Data.{is_data_tag}
-use Rattle.order_meaning.specs.declared.fault.Fault.{Fault}
 use Rattle.message_tables.specs.declared.table_fault.TableFault.{TableFault}
 use Rattle.message_tables.specs.Tables.{Verdict, Spells, Outside, Wrong, Need, Required, Optional}
 use Rattle.message_tables.specs.Tables.{Lenient, Fixed, When, Stands, Is, Row, Item, One, Party}
@@ -27,10 +26,10 @@ use Rattle.sound_messages.proofs.ContentValues.{GroupSaid, value_said}
 use Rattle.sound_messages.proofs.Each.{both, not_true}
 use Rattle.sound_messages.proofs.Judged50.{AreAlike, date_kept, judged_again, judged_clear}
 use Rattle.sound_messages.proofs.Judged50.{ours_kind, type_kept}
-use Rattle.sound_messages.proofs.PlainRows.{contras_apart, contras_plain, is_plain_item}
+use Rattle.sound_messages.proofs.PlainRows.{contras_apart, contras_plain}
 use Rattle.sound_messages.proofs.PlainRows.{parties_apart, parties_plain, plain_items}
 use Rattle.sound_messages.proofs.PlainRows.{plain_stables, spelled, unfixed}
-use Rattle.sound_messages.proofs.ReadSound.{IsClearField, IsStableRow, IsStableItem, IsTable}
+use Rattle.sound_messages.proofs.ReadSound.{IsClearField, IsStableRow, IsStableItem}
 use Rattle.sound_messages.proofs.ReadSound.{read_sound}
 use Rattle.sound_messages.proofs.SpelledAgain.{own_bytes}
 use Rattle.exec_translate.proofs.SoundDown.{IsRead}

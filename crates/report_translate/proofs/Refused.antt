@@ -1,5 +1,5 @@
 -- What the check of a refusal answers, by what its fields are.
-use Rattle.std.proofs.Common.{◌≡◌, ℕ, List, Option, None, Ok, sym, subst}
+use Rattle.std.proofs.Common.{◌≡◌, ℕ, List, Option, Ok, sym, subst}
 use Rattle.field_groups.specs.declared.fault.SplitFault.{SplitFault}
 use Rattle.field_groups.specs.Field.{Field}
 use Rattle.field_groups.specs.Fields.{SplitsInto}

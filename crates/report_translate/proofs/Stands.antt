@@ -1,5 +1,5 @@
 -- The report of FIX 4.2 that stands for fields, and why there is none.
-use Rattle.std.proofs.Common.{◌≡◌, ℕ, true, false, List, Option, Some, None, Result, Ok, Err, refl}
+use Rattle.std.proofs.Common.{◌≡◌, ℕ, false, List, Option, Some, None, Result, Ok, Err, refl}
 use Rattle.std.proofs.Common.{sym, ap, ◌∙◌, subst}
 use Rattle.std.specs.Prelude.{IfOk, IfErr, OnOk, is_some}
 use Rattle.std.specs.Option.{option_map}
@@ -33,7 +33,7 @@ use Rattle.report_translate.specs.declared.report.ClientReport.{ClientReport}
 use Rattle.report_translate.specs.declared.report.ClientReport.TheVariants as client
 use Rattle.report_translate.specs.declared.report.VenueReport.{VenueReport}
 use Rattle.report_translate.specs.declared.report.VenueReport.TheVariants as venue
-use Rattle.report_translate.specs.Lack.{lack_of, lacks_codes}
+use Rattle.report_translate.specs.Lack.{lacks_codes}
 use Rattle.report_translate.specs.Reading.{report_message}
 use Rattle.report_translate.specs.Said.{says50, content42}
 use Rattle.report_translate.specs.Translation.{Executes, Rejects}

@@ -13,9 +13,9 @@ use Rattle.translation.proofs.Writable.{writable}
 use Rattle.report_translate.specs.declared.report.ClientReport.{ClientReport}
 use Rattle.report_translate.specs.declared.report.VenueReport.{VenueReport}
 use Rattle.report_translate.specs.Said.{says50, says42, content42}
-use Rattle.report_translate.specs.Translation.{IsReport, IsGood, IsKnown, StandsFor, IsTranslation}
+use Rattle.report_translate.specs.Translation.{IsReport, IsKnown, StandsFor, IsTranslation}
 use Rattle.report_translate.specs.Translation.{IsRefused, IsRefusedByCheck}
-use Rattle.report_translate.specs.Writing.{AreRead, IsReportOf, Refuses, IsCheckedOf, RefusesCheck}
+use Rattle.report_translate.specs.Writing.{AreRead, IsReportOf, IsCheckedOf, RefusesCheck}
 use Rattle.report_translate.specs.Writing.{IsDownOf, RefusesDown}
 use Rattle.row_values.specs.Kinds.{judge}
 use Rattle.sound_messages.proofs.PlainFields.{clear_fields}

@@ -184,7 +184,8 @@ fn put_month_day(out: &mut Vec<u8>, tag: u32, maturity: &Option<Maturity>) -> Ap
 fn put_date(out: &mut Vec<u8>, tag: u32, maturity: &Option<Maturity>) -> Appended
     requires { IfSome maturity.now IsReadableMaturity }
     ensures done { OnOk result (out.new.items
-        ≡ out.old.items ++ body_of (cell_fields (Tag tag, option_and_then date_text maturity.now))) }
+        ≡ out.old.items
+        ++ body_of (cell_fields (Tag tag, option_and_then date_text maturity.now))) }
     ensures kept { StartsWith out.new.items out.old.items }
 {
     match maturity {

@@ -118,7 +118,8 @@ pub no_places : (old : List ℕ) (fraction : ℕ) → fraction ≡ 0
     → old ≡ old ++ with_point (without_trailing_zeros (zero_padded 8 fraction))
 no_places old fraction none =
     let places : ℕ → List ℕ = λ n. with_point (without_trailing_zeros (zero_padded 8 n)) in
-    sym (append-nil old) ∙ ap (λ (bytes : List ℕ). old ++ bytes) (sym (ap places none ∙ no_fraction))
+    sym (append-nil old)
+    ∙ ap (λ (bytes : List ℕ). old ++ bytes) (sym (ap places none ∙ no_fraction))
 
 -- a fraction of ten-thousandths has four digits, and zeros behind them
 pub four_places : (n : ℕ) → n % 10_000 ≡ 0

@@ -263,7 +263,8 @@ fn push_places(out: &mut Vec<u8>, fraction: u32)
 #[inline(always)]
 fn push_digits(out: &mut Vec<u8>, digits: &[u8])
     requires { vec_len out.old + length digits.now < vec_capacity out.old }
-    ensures items { out.new.items ≡ out.old.items ++ with_point (without_trailing_zeros digits.now) }
+    ensures items { out.new.items
+        ≡ out.old.items ++ with_point (without_trailing_zeros digits.now) }
     ensures len { vec_len out.new ≤ vec_len out.old + 1 + length digits.now }
     ensures capacity { vec_capacity out.old ≤ vec_capacity out.new }
 {

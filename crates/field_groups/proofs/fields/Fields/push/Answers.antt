@@ -7,7 +7,8 @@ use Rattle.field_groups.proofs.fields.Fields.push.Goals as goal
 pub invariant_of-self-2 : goal.invariant_of-self-2
 invariant_of-self-2 c =
     let same : c.len-place.result ≡ length c.self.inside.parts.items = c.len-place.ensures.value
-    ∙ ap (length {A = Field}) (sym c.self.view_is) ∙ length-map {B = Field} c.self.inside.parts.items _ in
+    ∙ ap (length {A = Field}) (sym c.self.view_is)
+    ∙ length-map {B = Field} c.self.inside.parts.items _ in
     rw (c.in_ok-push.ensures.items, c.index_field.ensures)
     (pushed_indexed c.self.inside.parts.items c.self.inside.first (c.args.tag, c.args.value)
     c.len-place.result c.self.invariant same (rw c.len-place.ensures.value c.requires))
