@@ -6,7 +6,7 @@ use crate::Kind;
 use crate::frame::SOH;
 
 /// `8=`, the BeginString of a kind and SOH.
-pub(crate) fn begin_string_of(kind: Kind) -> &'static [u8]
+pub fn begin_string_of(kind: Kind) -> &'static [u8]
     ensures { result.now ≡ begin_string kind }
 {
     match kind {
@@ -37,7 +37,7 @@ pub(crate) fn sum_of(bytes: &[u8]) -> u8
 }
 
 /// CheckSum(10) after these bytes, with its tag and SOH.
-pub(crate) fn trailer_of(before: &[u8]) -> [u8; 7]
+pub fn trailer_of(before: &[u8]) -> [u8; 7]
     ensures { result ≡ trailer before.now }
 {
     trailer_by(sum_of(before))

@@ -13,6 +13,7 @@ mod scan;
 mod tests;
 mod write;
 
+pub use checksum::{begin_string_of, trailer_of};
 pub use frame::{FrameError, Garble, Kind, MAX_BODY, SOH, Span};
 pub use framer::Framer;
 pub use pieces::{Next, Rest};

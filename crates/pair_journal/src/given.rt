@@ -75,7 +75,7 @@ fn is_source(took: &Took, side: Side, letter: u8) -> bool
 }
 
 /// The number and the type's letter of the message that an out of this entry translates.
-pub(crate) fn source_in(entry: &Entry, out: &Out) -> Option<(u32, u8)>
+pub fn source_in(entry: &Entry, out: &Out) -> Option<(u32, u8)>
     ensures { result ≡ source_in (record { entry = entry.now; out = out.now }) }
 {
     let took = entry.took.as_ref()?;

@@ -21,6 +21,7 @@ mod writing;
 
 pub use entry::{Entry, Out, Outs, Took};
 pub use error::JournalError;
+pub use given::source_in;
 pub use journal::Journal;
 pub use out_buf::{OUT_ROOM, OutBuf};
 pub use prepared::{Prepared, prepare};

@@ -196,4 +196,13 @@ impl Stamp {
             milli: Some((millis % 1000) as u16),
         }
     }
+
+    /// The spelling of a moment, with three digits of the second, as [`Stamp::of_millis`] has it. It
+    /// takes no memory.
+    pub fn text_of_millis(millis: u64) -> [u8; 21]
+        requires { millis ≤ MAX_MILLIS }
+        ensures { result ≡ stamp_text (stamp_at millis) }
+    {
+        Stamp::of_millis(millis).millis_text((millis % 1000) as u16)
+    }
 }
