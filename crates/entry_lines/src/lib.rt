@@ -1,0 +1,8 @@
+//! An entry of the journal as one line of text, made with no allocation.
+#![tactic(auto)]
+
+mod line;
+#[cfg(test)]
+mod tests;
+
+pub use line::{EntryLine, MAX_LINE, entry_line};
