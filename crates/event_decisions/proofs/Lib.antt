@@ -4,5 +4,5 @@ mod Picked
 mod Acts
 mod Steps
 mod Goes
-mod Continues
+pub mod Continues
 mod Makes

@@ -1,6 +1,6 @@
 -- What is sent is read as the fields of the header and of the content.
-use Rattle.std.proofs.Common.{◌≡◌, ◌≢◌, ℕ, zero, suc, ◌+◌, ◌-◌, ◌^◌, ◌<◌, ◌≤◌, ◌==◌, ◌||◌, Bool}
-use Rattle.std.specs.Prelude.{◌&&◌, not, slice_index, if◌then◌else◌}
+use Rattle.std.proofs.Common.{◌≡◌, ◌≢◌, ℕ, ◌+◌, ◌-◌, ◌^◌, ◌<◌, ◌≤◌, ◌||◌, Bool}
+use Rattle.std.specs.Prelude.{◌&&◌, slice_index, if◌then◌else◌}
 use Rattle.std.proofs.Common.{true, false, List, [], ◌∷◌, ◌++◌, length, get_or, take, Option, Some}
 use Rattle.std.proofs.Common.{None, ◌%◌}
 use Rattle.std.proofs.Common.{refl, sym, ap, subst, ◌∙◌, arith, append_assoc, append-nil}
@@ -9,7 +9,6 @@ use Rattle.std.specs.List.{list_any, list_all}
 use Rattle.std.specs.Char.{is_ascii_digit}
 use Rattle.std.specs.Fmt.{decimal, digits}
 use Rattle.std.specs.Int.{IsInRange}
-use Rattle.std.proofs.lemmas.Bool.{false_from_ne_true, not_from_false}
 use Rattle.std.proofs.lemmas.Bool.Decides.{nat_tests}
 use Rattle.std.proofs.lemmas.Fmt.{digits_decimal, length-decimal-le}
 use Rattle.std.proofs.lemmas.Grind.{flat_map-append}
@@ -18,10 +17,9 @@ use Rattle.std.proofs.lemmas.List.Folds.{list_any_none}
 use Rattle.std.proofs.Math.Seq.{get_or-append_seam}
 use Rattle.frame_grammar.specs.Frame.{IsWritable}
 use Rattle.frame_grammar.proofs.Written.{frame_is}
-use Rattle.field_groups.specs.declared.fault.SplitFault.{SplitFault}
 use Rattle.field_groups.specs.Data.{is_data_pair, is_data_tag}
-use Rattle.field_groups.specs.Field.{Field, IsField, AreFields, IsPlainField, body_of, field_bytes}
-use Rattle.field_groups.specs.Field.{is_soh, is_data, is_value}
+use Rattle.field_groups.specs.Field.{Field, IsField, AreFields, body_of, field_bytes}
+use Rattle.field_groups.specs.Field.{is_soh, is_data}
 use Rattle.field_groups.specs.Fields.{SplitsInto}
 use Rattle.field_groups.proofs.Determined.{determined}
 use Rattle.field_groups.proofs.Plain.{plain_is}
@@ -30,15 +28,15 @@ use Rattle.order_meaning.specs.declared.Side.{Side}
 use Rattle.order_meaning.specs.declared.names.Names.{Names}
 use Rattle.typed_fields.specs.declared.stamp.Stamp.{Stamp}
 use Rattle.typed_fields.specs.Digits.{zero_padded, are_digits}
-use Rattle.typed_fields.specs.Day.{day_digits, date_text, date_of}
-use Rattle.typed_fields.specs.Stamp.{stamp_text, seconds_text, milli_text, stamp_at}
+use Rattle.typed_fields.specs.Day.{day_digits, date_of}
+use Rattle.typed_fields.specs.Stamp.{stamp_text, milli_text, stamp_at}
 use Rattle.typed_fields.proofs.SpellingLemmas.{are_digits-zero_padded, length-zero_padded}
 use Rattle.session_logon.specs.Head.{our, peer}
 use Rattle.session_logon.specs.Laws.{Heading, header_fields, flag_field, stamp_field}
-use Rattle.event_decisions.specs.Body.{Reading, reading_of}
+use Rattle.event_decisions.specs.Body.{reading_of}
 use Rattle.event_decisions.proofs.Bodies.{bodies_are_read}
 use Rattle.session_frames.specs.Frames.{kind_of, heading, body_out}
-use Rattle.session_frames.specs.Laws.{IsSendable, IsReadBack, FramesAreRead}
+use Rattle.session_frames.specs.Laws.{FramesAreRead}
 
 -- ---- bytes without SOH
 

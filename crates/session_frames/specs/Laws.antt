@@ -1,5 +1,5 @@
 -- Own: what a frame that is sent shows to whoever reads it.
-use Rattle.std.specs.Prelude.{◌≡◌, ℕ, ◌+◌, ◌≤◌, Bool, false, List, [], ◌∷◌, ◌++◌, length, None}
+use Rattle.std.specs.Prelude.{◌≡◌, ℕ, ◌+◌, ◌≤◌, Bool, false, List, ◌++◌, length, None}
 use Rattle.std.specs.List.{list_any}
 use Rattle.frame_grammar.specs.Frame.{IsFrame}
 use Rattle.field_groups.specs.Field.{Field, AreFields, is_soh, body_of}
@@ -9,7 +9,7 @@ use Rattle.order_meaning.specs.declared.names.TheConstants.{MAX_NAME}
 use Rattle.session_core.specs.declared.numbers.TheConstants.{MAX_MSG_SEQ_NUM}
 use Rattle.session_logon.specs.Head.{our, peer}
 use Rattle.session_logon.specs.Laws.{header_fields}
-use Rattle.pair_journal.specs.declared.TheConstants.{MAX_TYPE, MAX_CONTENT, MAX_AT}
+use Rattle.pair_journal.specs.declared.TheConstants.{MAX_TYPE, MAX_CONTENT}
 use Rattle.event_decisions.specs.Body.{reading_of}
 use Rattle.session_frames.specs.Frames.{kind_of, heading, body_out, frame_out}
 

@@ -197,8 +197,8 @@ impl Stamp {
         }
     }
 
-    /// The spelling of a moment, with three digits of the second, as [`Stamp::of_millis`] has it. It
-    /// takes no memory.
+    /// The spelling of a moment, with three digits of the second, as [`Stamp::of_millis`] has it.
+    /// It takes no memory.
     pub fn text_of_millis(millis: u64) -> [u8; 21]
         requires { millis ≤ MAX_MILLIS }
         ensures { result ≡ stamp_text (stamp_at millis) }

@@ -1,4 +1,4 @@
-use Rattle.std.proofs.Common.{length, ℕ}
+use Rattle.std.proofs.Common.{length}
 use Rattle.gateway_config.proofs.reading.+is_one_of.Given as goal
 
 abbrev pub decreases-is_one_of : goal.decreases-is_one_of

@@ -1,9 +1,9 @@
 -- The fields are written one behind the other.
-use Rattle.std.proofs.Common.{◌≡◌, List, [], ◌∷◌, ◌++◌, ◌∙◌, ap, Some, None, append_assoc}
+use Rattle.std.proofs.Common.{List, [], ◌∷◌, ◌++◌, ◌∙◌, ap, Some, None, append_assoc}
 use Rattle.std.proofs.Common.{if◌then◌else◌}
 use Rattle.std.specs.Fmt.{decimal}
 use Rattle.field_groups.specs.Field.{Field, body_of}
-use Rattle.typed_fields.specs.Stamp.{stamp_at, stamp_text}
+use Rattle.typed_fields.specs.Stamp.{stamp_at}
 use Rattle.session_logon.specs.Head.{our, peer}
 use Rattle.session_logon.specs.Laws.{flag_field, stamp_field}
 use Rattle.session_frames.proofs.Bounds.{more_fields}
