@@ -26,3 +26,10 @@ abbrev pub IsClean : Table Kind → List Field → Option SplitFault
 IsClean table fields fault (Ok good) =
     (good.now ≡ fields) × (fault ≡ None) × (first_fault judge table fields ≡ None)
 IsClean table fields fault (Err e) = message_by (Some table) fields fault ≡ Err e
+
+-- the same beside the table of a type, where the type has one
+abbrev pub IsCleanIf : Option (Table Kind) → List Field → Option SplitFault
+    → Result (Bor (List Field)) Fault → Type 0
+IsCleanIf None fields fault (Ok good) = ⊥
+IsCleanIf None fields fault (Err e) = message_by None fields fault ≡ Err e
+IsCleanIf (Some table) fields fault result = IsClean table fields fault result

@@ -10,7 +10,7 @@ use Rattle.typed_fields.specs.Stamp.{stamp_text, IsStamp}
 use Rattle.typed_fields.specs.Flag.{flag_text}
 use Rattle.typed_fields.specs.Number.{number_text, IsNumber}
 use Rattle.field_groups.specs.Field.{Field}
-use Rattle.message_tables.specs.Tables.{Tag, Said}
+use Rattle.message_tables.specs.Tables.{Tag, Said, value_at}
 use Rattle.message_tables.specs.Content.{cell_fields, group_fields}
 use Rattle.row_values.specs.declared.lines.Maturity.{Maturity}
 use Rattle.row_values.specs.declared.writing.Value.{Value}
@@ -63,6 +63,7 @@ IsValue value = Unit {0}
 
 abbrev pub part_fields : Part → List Field
 part_fields (parts.Row tag value) = cell_fields (Tag tag, value_text value)
+part_fields (parts.Same fields tag) = cell_fields (Tag tag, value_at tag fields.now)
 part_fields (parts.Parties lines) = group_fields 453 (map party_cells lines.now)
 part_fields (parts.Allocs lines) = group_fields 78 (map alloc_cells lines.now)
 part_fields (parts.Sessions lines) = group_fields 386 (map session_cells lines.now)
@@ -70,6 +71,7 @@ part_fields (parts.Contras lines) = group_fields 382 (map contra_cells lines.now
 
 abbrev pub IsPart : Part → Type 0
 IsPart (parts.Row tag value) = IsValue value
+IsPart (parts.Same fields tag) = Unit {0}
 IsPart (parts.Parties lines) = AreReadableParties lines.now
 IsPart (parts.Allocs lines) = AreReadableAllocs lines.now
 IsPart (parts.Sessions lines) = Unit {0}

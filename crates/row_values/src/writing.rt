@@ -8,7 +8,7 @@ ghost use Rattle.std.specs.Io.{StartsWith};
 ghost use Rattle.typed_fields.specs.Digits.{zero_padded};
 ghost use Rattle.typed_fields.specs.MonthYear.{IsMonthYear, month_year_text};
 ghost use Rattle.field_groups.specs.Field.{body_of, field_bytes};
-ghost use Rattle.message_tables.specs.Tables.{Tag};
+ghost use Rattle.message_tables.specs.Tables.{Tag, value_at};
 ghost use Rattle.message_tables.specs.Content.{cell_fields, group_fields};
 ghost use Rattle.value_kinds.specs.CodeKinds.{two_digit_text};
 ghost use Rattle.row_values.specs.Lines.{IsReadableMaturity, month_text};
@@ -17,7 +17,8 @@ ghost use Rattle.row_values.specs.Writing.{month_day_text, part_fields, value_te
 
 use crate::contras::Contras;
 use crate::lines::{Allocs, GroupLine, Maturity, Sessions};
-use field_groups::{AROUND, SOH, push_tag, put_byte, put_field, put_number, put_tag};
+use field_groups::{AROUND, Fields, SOH, push_tag, put_byte, put_field, put_number, put_tag};
+use message_tables::Lookup;
 use order_meaning::{Bytes, GroupLines, Lines};
 use std::alloc::AllocError;
 use typed_fields::{Day, Dec, FieldValue, Flag, MAX_SPELLING, MonthYear, Number, Stamp};
@@ -63,6 +64,8 @@ pub enum Value<'a> {
 pub enum Part<'a> {
     /// The row of a tag.
     Row(u32, Value<'a>),
+    /// The first of these fields with a tag, as it stands, if there is one.
+    Same(&'a Fields<'a>, u32),
     /// Parties(453).
     Parties(&'a Lines),
     /// The accounts of an order, (78).
@@ -227,6 +230,19 @@ fn put_row(out: &mut Vec<u8>, tag: u32, value: &Value<'_>) -> Appended
     }
 }
 
+/// Appends the first of these fields with a tag, as it stands, if there is one.
+#[inline(always)]
+fn put_same(out: &mut Vec<u8>, fields: &Fields<'_>, tag: u32) -> Appended
+    ensures done { OnOk result (out.new.items
+        ≡ out.old.items ++ body_of (cell_fields (Tag tag, value_at tag fields.now))) }
+    ensures kept { StartsWith out.new.items out.old.items }
+{
+    match fields.value(tag) {
+        None => Ok(()),
+        Some(value) => put_field(out, tag, value),
+    }
+}
+
 /// Appends the count of a group that has lines.
 fn put_count(out: &mut Vec<u8>, tag: u32, count: usize) -> Appended
     requires { count ≤ 32 }
@@ -281,6 +297,7 @@ fn put_part(out: &mut Vec<u8>, part: &Part<'_>) -> Appended
 {
     match part {
         Part::Row(tag, value) => put_row(out, *tag, value),
+        Part::Same(fields, tag) => put_same(out, fields, *tag),
         Part::Parties(lines) => put_group(out, 453, lines),
         Part::Allocs(lines) => put_group(out, 78, lines),
         Part::Sessions(lines) => put_group(out, 386, lines),
