@@ -6,9 +6,11 @@ mod message;
 mod reading;
 mod requests;
 mod tables;
+mod term_codes;
 #[cfg(test)]
 mod tests;
 mod writing;
 
-pub use message::{read42, type42, write42};
+pub use message::{good42, read42, type42, write42};
 pub use requests::{Cancel42, Msg42, New42, Replace42, Status42};
+pub use term_codes::{OrderCodes, order_codes};

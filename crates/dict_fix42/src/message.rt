@@ -3,8 +3,8 @@
 ghost use Rattle.std.specs.Prelude.{◌≡◌, ◌++◌, ◌∷◌, [], IfOk, OnErr, OnOk, Some};
 ghost use Rattle.field_groups.specs.Field.{body_of};
 ghost use Rattle.row_values.specs.Faults.{message_by};
-ghost use Rattle.row_values.specs.Gives.{Gives};
-ghost use Rattle.dict_fix42.specs.Message.{message42};
+ghost use Rattle.row_values.specs.Gives.{Gives, IsCleanIf};
+ghost use Rattle.dict_fix42.specs.Message.{message42, table_of};
 ghost use Rattle.rows_fix42.specs.Header.{table};
 ghost use Rattle.dict_fix42.specs.Readable.{IsReadable42};
 ghost use Rattle.dict_fix42.specs.Requests.{cancel_request, new_order, replace_request};
@@ -17,7 +17,7 @@ use crate::reading::{cancel_request, new_order, replace_request, status_request}
 use crate::requests::Msg42;
 use crate::tables;
 use crate::writing::{cancel_parts, new_parts, replace_parts, status_parts};
-use field_groups::Split;
+use field_groups::{Fields, Split};
 use order_meaning::Fault;
 use row_values::{good_fields, put_content};
 use std::alloc::{AllocError, Global};
@@ -31,6 +31,29 @@ pub fn type42(msg: &Msg42) -> &'static [u8]
         Msg42::Cancel(_) => b"F",
         Msg42::Replace(_) => b"G",
         Msg42::Status(_) => b"H",
+    }
+}
+
+/// The fields of a body, where they are whole and at no fault beside the table of their type. It
+/// takes no memory.
+///
+/// # Errors
+///
+/// `NotSupported` for a type that is none of D, F, G and H. `Session` and `NoCounterpart` for the
+/// first fault, as `read42` has it.
+pub fn good42<'s, 'a>(msg_type: &[u8], split: &'s Split<'a>) -> Result<&'s Fields<'a>, Fault>
+    ensures { IsCleanIf (table_of msg_type.now) split.now.fields split.now.fault result }
+{
+    if msg_type == b"D".as_slice() {
+        good_fields(tables::new_order(), split)
+    } else if msg_type == b"F".as_slice() {
+        good_fields(tables::cancel_request(), split)
+    } else if msg_type == b"G".as_slice() {
+        good_fields(tables::replace_request(), split)
+    } else if msg_type == b"H".as_slice() {
+        good_fields(tables::status_request(), split)
+    } else {
+        Err(Fault::NotSupported)
     }
 }
 
