@@ -1,0 +1,12 @@
+pub mod Bodies
+pub mod Forms
+pub mod Justified
+pub mod Taken
+pub mod Receiver
+pub mod Sends
+pub mod Repeats
+pub mod Happens
+pub mod Standing
+pub mod Turn
+pub mod Ends
+pub mod Laws
