@@ -268,7 +268,7 @@ fn words_are_judged(rt: HostRuntime) -> Result<(), Fail> {
         "--version",
         b"",
         Status::Done,
-        b"fixgate 0.3.1\n",
+        b"fixgate 0.3.2\n",
     )?;
     ends(&rt, alloc, "--help", b"", Status::Done, HELP.as_bytes())?;
     Ok(())

@@ -1,14 +1,19 @@
 mod AgainFields
+mod Appended
+mod AsTheyStand
 mod CanonicalUp
 mod CarriedRows
 mod Carry
 mod CompletedSound
+mod FromFields
+mod GoodFields
 mod KeptSense
 mod Lacks
 mod Means
 mod OneContent
 mod Outcomes
 mod PlainOrders
+mod Read42
 mod Readable
 mod Requested
 mod SameRows
@@ -17,6 +22,7 @@ mod SenseAgain
 mod Sound42
 mod Sound50
 mod SoundUp
+mod TermsSaid
 mod Translated
 mod Worked
 mod Writable

@@ -38,7 +38,7 @@ roles (Some client) None (Some firm) = (lit≤ tt, (lit≤ tt, tt))
 roles (Some client) (Some broker) None = (lit≤ tt, (lit≤ tt, tt))
 roles (Some client) (Some broker) (Some firm) = (lit≤ tt, (lit≤ tt, (lit≤ tt, tt)))
 
-parties : (client broker firm : Option (List ℕ)) (lines : List PartyLine)
+pub parties : (client broker firm : Option (List ℕ)) (lines : List PartyLine)
     → lines ≡ parties_up client broker firm → row_lines.AreReadableParties lines
 parties client broker firm lines e = let P : List PartyLine → Type 0 =
     λ l. row_lines.AreReadableParties l in subst P (sym e) (roles client broker firm)

@@ -1,5 +1,6 @@
 -- What a translator answers of a body, by what is known of its fields.
 use Rattle.std.proofs.Common.{◌≡◌, ◌++◌, ℕ, List, Option, None, refl, sym, subst}
+use Rattle.std.specs.Prelude.{IfErr, OnOk, Result, Ok, Err}
 use Rattle.frame_grammar.specs.declared.frame.Kind.TheVariants.{Fixt11}
 use Rattle.frame_grammar.specs.Frame.{IsFrame, IsWritable, frame_of}
 use Rattle.field_groups.specs.declared.fault.SplitFault.{SplitFault}
@@ -16,7 +17,7 @@ use Rattle.translation.specs.Header.{type_of, carried, with_content}
 use Rattle.request_translate.specs.Translation.{IsRequest, News}
 use Rattle.request_translate.specs.Translation.{Cancels, Replaces, Statuses, IsGood, StandsFor}
 use Rattle.request_translate.specs.Translation.{IsTranslation, IsRefused, IsRefusedByCheck}
-use Rattle.request_translate.specs.Writing.{IsRequestOf, Refuses, IsUpOf, RefusesUp}
+use Rattle.request_translate.specs.Writing.{IsRequestOf, IsUpOf, LackNothing, Refuses, RefusesUp}
 use Rattle.dict_fix42.specs.Sense.{sense42}
 use Rattle.dict_fix50.specs.Sense.{sense50}
 use Rattle.request_translate.proofs.AgainFields.{split_again}
@@ -38,19 +39,29 @@ module _ (body : List ℕ) (fields : List Field)
   whole : stopped ≡ None → SplitsInto body fields None
   whole e = let P : Option SplitFault → Type 0 = λ s. SplitsInto body fields s in subst P e split
 
-  pub good : (request : Msg50) → IsRequestOf fields stopped request → IsGood body fields
-  good request asked = record {
-    message = asked.message;
-    split = whole asked.read.whole;
-    read = asked.read.read;
-    said = asked.written.said;
+  good : LackNothing fields stopped → IsGood body fields
+  good h = record {
+    message = h.message;
+    split = whole h.read.whole;
+    read = h.read.read;
+    said = h.said;
   }
+
+  -- what a check answers
+  pub checked : (r : Result (Unit {0}) TranslateError) → OnOk r (LackNothing fields stopped)
+      → OnOk r ((others : List Field) × IsGood body others)
+  checked (Ok done) h = (fields, good h)
+  checked (Err error) h = tt
 
   stands : (request : Msg50)
       → IsRequestOf fields stopped request → StandsFor body fields (content50 request)
   unfolding good
   stands request asked = record {
-    good = good request asked;
+    good = good (record {
+      message = asked.message;
+      read = asked.read;
+      said = asked.written.said;
+    });
     request = said50.says request;
     canonical = is_request request asked.written.canonical;
     means = asked.written.means;
@@ -123,13 +134,13 @@ module _ (body : List ℕ) (fields : List Field)
     lack = h.2;
   }
 
-  pub refused_by_check : (error : TranslateError)
+  refused_by : (error : TranslateError)
       → Refuses fields stopped error → IsRefusedByCheck body error
-  refused_by_check errors.NoMemory h = tt
-  refused_by_check errors.TooLong h = h
-  refused_by_check (errors.Faulty fault) h =
+  refused_by errors.NoMemory h = tt
+  refused_by errors.TooLong h = h
+  refused_by (errors.Faulty fault) h =
       record { fields = fields; stopped = stopped; split = split; read = h }
-  refused_by_check (errors.Lacking tag) h = record {
+  refused_by (errors.Lacking tag) h = record {
     fields =
         fields;
     message = h.0;
@@ -137,3 +148,8 @@ module _ (body : List ℕ) (fields : List Field)
     read = h.1.read;
     lack = h.2;
   }
+
+  pub refused_by_check : (r : Result (Unit {0}) TranslateError) → IfErr r (Refuses fields stopped)
+      → IfErr r (IsRefusedByCheck body)
+  refused_by_check (Ok done) h = tt
+  refused_by_check (Err error) h = refused_by error h

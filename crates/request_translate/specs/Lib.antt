@@ -1,4 +1,5 @@
 pub mod Canonical
+pub mod FromFields
 pub mod Lack
 pub mod Laws
 pub mod Plain

@@ -5,6 +5,8 @@
 #![tactic(auto)]
 
 mod cancels;
+mod checking;
+mod from_fields;
 pub mod laws;
 mod new_orders;
 mod parts;

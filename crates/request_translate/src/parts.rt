@@ -2,6 +2,7 @@
 //! alike.
 
 ghost use Rattle.std.specs.Prelude.{◌≡◌, [], map, IfOk, IfErr, MatchOption, not, true, unwrap_or};
+ghost use Rattle.std.specs.Option.{option_map};
 ghost use Rattle.request_translate.specs.Lack.{lacks_time, lacks_capacity, IsLackIn};
 ghost use Rattle.request_translate.specs.Written.{AreOnClose, AreTerms, IsTime42, coded, is_type42};
 ghost use Rattle.request_translate.specs.Written.{parties_up, type42, time42};
@@ -46,10 +47,23 @@ pub(crate) fn parties(
 ) -> Result<Lines, AllocError>
     ensures { IfOk result (λ lines. lines ≡ parties_up client.now broker.now firm.now) }
 {
+    parties_in(alloc, bytes_of(client), bytes_of(broker), bytes_of(firm))
+}
+
+/// The ids of ClientID(109), ExecBroker(76) and ClearingFirm(439) as lines of the Parties group.
+pub(crate) fn parties_in(
+    alloc: Global,
+    client: Option<&[u8]>,
+    broker: Option<&[u8]>,
+    firm: Option<&[u8]>,
+) -> Result<Lines, AllocError>
+    ensures { IfOk result (λ lines. lines ≡ parties_up (option_map (λ id. id.now) client.entry)
+        (option_map (λ id. id.now) broker.entry) (option_map (λ id. id.now) firm.entry)) }
+{
     let three = Three {
-        client: owned(alloc, bytes_of(client))?,
-        broker: owned(alloc, bytes_of(broker))?,
-        firm: owned(alloc, bytes_of(firm))?,
+        client: owned(alloc, client)?,
+        broker: owned(alloc, broker)?,
+        firm: owned(alloc, firm)?,
     };
     to_parties(alloc, &three)
 }

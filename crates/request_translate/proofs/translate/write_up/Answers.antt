@@ -1,16 +1,38 @@
-use Rattle.request_translate.proofs.Requested.{written_up, unwritten_up}
+use Rattle.std.proofs.Common.{rules, ◌≡◌, length}
+use Rattle.std.proofs.lemmas.Result.{err_from_is_err_and}
+use Rattle.dict_fix50.specs.Content.{content50}
+use Rattle.translation.proofs.Bodies.{written, unwritten}
+use Rattle.request_translate.proofs.Requested.{written_up, unwritten_up, refused_up}
 use Rattle.request_translate.proofs.translate.write_up.Goals as goal
-
-pub write_body-requires : goal.write_body-requires
-write_body-requires c = c.in_ok-request.ensures.ok.written.readable
 
 pub returns-clause-ok : goal.returns-clause-ok
 returns-clause-ok c =
-    written_up c.args.split.now.fields
-    c.args.split.now.fault c.in_ok-request.request c.write_body.new.up.items
-    c.write_body.result c.in_ok-request.ensures.ok c.write_body.ensures.ok
+    let fields = c.args.split.now.fields in
+    let put = c.in_ok-put_up.ensures.ok in
+    let head : c.len-head.result ≡ length c.write_head.new.out.items = search rules in
+    let body : c.len-body.result ≡ length c.put_up.new.out.items = search rules in
+    written_up fields c.args.split.now.fault put.request c.put_up.new.out.items
+    c.check_lengths.result put.asked
+    (written fields (content50 put.request) c.clear.new.self.items c.write_head.new.out.items
+    c.put_up.new.out.items c.clear.ensures.items c.in_ok-write_head.ensures put.bytes
+    c.len-head.result c.len-body.result head body c.check_lengths.result
+    c.check_lengths.ensures.ok)
 
 pub returns-clause-refused : goal.returns-clause-refused
 returns-clause-refused c =
-    unwritten_up c.args.split.now.fields c.args.split.now.fault c.in_ok-request.request
-    c.write_body.result c.in_ok-request.ensures.ok c.write_body.ensures.refused
+    let fields = c.args.split.now.fields in
+    let put = c.in_ok-put_up.ensures.ok in
+    let head : c.len-head.result ≡ length c.write_head.new.out.items = search rules in
+    let body : c.len-body.result ≡ length c.put_up.new.out.items = search rules in
+    unwritten_up fields c.args.split.now.fault put.request c.check_lengths.result put.asked
+    (unwritten fields (content50 put.request) c.clear.new.self.items
+    c.write_head.new.out.items c.put_up.new.out.items c.clear.ensures.items
+    c.in_ok-write_head.ensures put.bytes c.len-head.result c.len-body.result head body
+    c.check_lengths.result c.check_lengths.ensures.long)
+
+pub returns-in_err-put_up-clause-refused : goal.returns-in_err-put_up-clause-refused
+returns-in_err-put_up-clause-refused c =
+    let p = err_from_is_err_and c.from_residual-in_err-put_up.result
+    c.from_residual-in_err-put_up.ensures.1 in
+    rw (p.1, p.2) (refused_up c.args.split.now.fields c.args.split.now.fault
+    c.in_err-put_up.field-0.0 c.in_err-put_up.ensures.refused)
