@@ -1,0 +1,3 @@
+pub mod Tap
+pub mod Kept
+pub mod Totals
