@@ -120,40 +120,41 @@ module _ (answers : List Entry → (active : Bool) → Option Asked → Option W
       Holds answers names after
       (transcript_from client_side added.client) (transcript_from venue_side added.venue) [] []
 
-  -- A LIFE OF ANY LENGTH leaves a lawful journal, a transcript that it justifies, and on each side
-  -- a receiver that has taken the beginning of what was committed, each once and in order.
+  -- A LIFE OF ANY LENGTH leaves a lawful journal and a transcript that it justifies; and so, where
+  -- what is written is read as what it shows, on each side a receiver that has taken the beginning
+  -- of what was committed, each once and in order.
   abbrev pub LivesLeave : Type 0
   LivesLeave =
-      (names : Names) (window : ℕ) (read : List ℕ → Read) (message_of : Out → Message)
-      (reads : Reads) (before after : World) (moments : List ℕ) (last : ℕ) (added : Added)
-      (client_side venue_side : List Connection) → ShowsNumbers message_of →
-      AreReadAsForms read message_of names after.entries Client →
-      AreReadAsForms read message_of names after.entries Venue →
+      (names : Names) (window : ℕ) (reads : Reads) (before after : World) (moments : List ℕ)
+      (last : ℕ) (added : Added) (client_side venue_side : List Connection) →
       Holds answers names before client_side venue_side [] [] →
       last_read client_side ≡ reads.client → last_read venue_side ≡ reads.venue →
       Lives answers names window reads before moments last added after →
       Leaves answers names after.entries
       (transcript_from client_side added.client) (transcript_from venue_side added.venue)
-      × TakesInOrder read message_of Client after.entries
+      × ((read : List ℕ → Read) (message_of : Out → Message) → ShowsNumbers message_of →
+      AreReadAsForms read message_of names after.entries Client →
+      AreReadAsForms read message_of names after.entries Venue →
+      TakesInOrder read message_of Client after.entries
       (transcript_from client_side added.client)
       × TakesInOrder read message_of Venue after.entries
-      (transcript_from venue_side added.venue)
+      (transcript_from venue_side added.venue))
 
   -- A LIFE THAT AN EVENT ENDED leaves the same, over the entries that are left.
   abbrev pub LivesThatFailLeave : Type 0
   LivesThatFailLeave =
-      (names : Names) (window : ℕ) (read : List ℕ → Read) (message_of : Out → Message)
-      (reads : Reads) (before : World) (moments : List ℕ) (now : ℕ) (added : Added)
-      (entries : List Entry) (client_side venue_side : List Connection) →
-      ShowsNumbers message_of → AreReadAsForms read message_of names entries Client →
-      AreReadAsForms read message_of names entries Venue →
+      (names : Names) (window : ℕ) (reads : Reads) (before : World) (moments : List ℕ) (now : ℕ)
+      (added : Added) (entries : List Entry) (client_side venue_side : List Connection) →
       Holds answers names before client_side venue_side [] [] →
       last_read client_side ≡ reads.client → last_read venue_side ≡ reads.venue →
       LifeFails answers names window reads before moments now added entries →
       Leaves answers names entries
       (transcript_from client_side added.client) (transcript_from venue_side added.venue)
-      × TakesInOrder read message_of Client entries (transcript_from client_side added.client)
-      × TakesInOrder read message_of Venue entries (transcript_from venue_side added.venue)
+      × ((read : List ℕ → Read) (message_of : Out → Message) → ShowsNumbers message_of →
+      AreReadAsForms read message_of names entries Client →
+      AreReadAsForms read message_of names entries Venue →
+      TakesInOrder read message_of Client entries (transcript_from client_side added.client)
+      × TakesInOrder read message_of Venue entries (transcript_from venue_side added.venue))
 
   -- A LIFE BEGINS with all that holds between events, where its journal is lawful and justifies
   -- what was written and read before: so lives follow one another.

@@ -8,8 +8,7 @@ use Rattle.life_events.proofs.Lives.{life-keeps}
 use Rattle.life_events.proofs.laws.lives_leave.Goals as goal
 
 pub returns : goal.returns
-returns g c = λ names window read message_of reads before after moments last added cl vl numbers
-    client_known venue_known h rc rv life.
+returns g c = λ names window reads before after moments last added cl vl h rc rv life.
     let answers = g.A.Answering.answers in
     let held = life-keeps answers names window reads before after moments last added cl vl
     (record { holds = h; client = rc; venue = rv }) life in
@@ -17,6 +16,9 @@ returns g c = λ names window read message_of reads before after moments last ad
     let venue = transcript_from vl added.venue in
     let left = leaves answers names after client venue [] [] held in (
       left,
-      first_half read message_of names Client after.entries client client_known numbers left.client,
-      first_half read message_of names Venue after.entries venue venue_known numbers left.venue,
+      λ read message_of numbers client_known venue_known. (
+        first_half read message_of names Client after.entries client client_known numbers
+            left.client,
+        first_half read message_of names Venue after.entries venue venue_known numbers left.venue,
+      ),
     )

@@ -6,13 +6,14 @@ use Rattle.life_events.proofs.Failed.{life-fails}
 use Rattle.life_events.proofs.laws.lives_that_fail_leave.Goals as goal
 
 pub returns : goal.returns
-returns g c = λ names window read message_of reads before moments now added entries cl vl numbers
-    client_known venue_known h rc rv fails.
+returns g c = λ names window reads before moments now added entries cl vl h rc rv fails.
     let client = transcript_from cl added.client in
     let venue = transcript_from vl added.venue in
     let left = life-fails g.A.Answering.answers names window now entries reads before moments added
     cl vl (record { holds = h; client = rc; venue = rv }) fails in (
       left,
-      first_half read message_of names Client entries client client_known numbers left.client,
-      first_half read message_of names Venue entries venue venue_known numbers left.venue,
+      λ read message_of numbers client_known venue_known. (
+        first_half read message_of names Client entries client client_known numbers left.client,
+        first_half read message_of names Venue entries venue venue_known numbers left.venue,
+      ),
     )
