@@ -14,8 +14,8 @@ pub fn forms_are_taken_in_order()
     ensures { FormsAreTakenInOrder }
 {}
 
-/// Whatever of what was written on each connection arrives, a receiver takes the beginning of what
-/// was committed, each once and in order.
+/// Whatever of what was written on each connection arrives, a receiver that reads it as what it
+/// shows takes the beginning of what was committed, each once and in order.
 pub fn justified_transcripts_are_taken_in_order()
     ensures { JustifiedIsTakenInOrder }
 {}
@@ -50,8 +50,9 @@ pub fn turns_keep<A: Answering>()
     ensures venue { VenueTurnsKeep A.answers }
 {}
 
-/// A life of any length leaves a lawful journal, a transcript that it justifies, and on each side a
-/// receiver that has taken the beginning of what was committed, each once and in order.
+/// A life of any length leaves a lawful journal and a transcript that it justifies; and so, where
+/// what is written is read as what it shows, on each side a receiver that has taken the beginning
+/// of what was committed, each once and in order.
 pub fn lives_leave<A: Answering>()
     ensures { LivesLeave A.answers }
 {}
