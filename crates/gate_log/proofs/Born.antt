@@ -9,7 +9,7 @@ use Rattle.gate_log.specs.declared.TheConstants.{BIRTH_LEN}
 use Rattle.gate_log.specs.Records.{IsShut, IsUnborn, Stands}
 use Rattle.gate_log.specs.Commit.{CommitsOrNot, Commits, WithOrWithout}
 use Rattle.gate_log.specs.Steps.{EndsAt, Ends, IsTorn}
-use Rattle.gate_log.specs.Log.{StaysUnborn, BornOrNot}
+use Rattle.gate_log.specs.Log.{StaysUnborn, BornOrNot, OnlyRead}
 use Rattle.gate_log.proofs.Blocks.{Stands-unique}
 use Rattle.gate_log.proofs.CommitSteps.{ends}
 use Rattle.gate_log.proofs.Told.{if_some, at_some, to_some}
@@ -49,6 +49,14 @@ pub born_same : (told : Option (List ℕ)) (before after : List ℕ → Type 0) 
     → AreAmong after before → BornOrNot told before after birth
 born_same told before after birth among = if_some told _ (λ b e only ps stands image left.
     inl (subst (λ i. Stands i ps) (sym (only image (among image left))) stands))
+
+-- behind calls that only read, a birth is one of the disk before them
+pub born_behind : (told read : Option (List ℕ)) (before between after : List ℕ → Type 0)
+    (birth : List ℕ) → OnlyRead told read before between → BornOrNot read between after birth
+    → BornOrNot told before after birth
+born_behind told read before between after birth only_read born = if_some told _ (λ b e only.
+    at_some read _ b (only_read.same ∙ e) born
+    (λ image left. only image (only_read.images image left)))
 
 module _ (told : Option (List ℕ))
     (len : ℕ) (unborn : ForSome told (λ b. IsUnborn b × (len ≡ length b))) (birth : List ℕ) where

@@ -123,6 +123,7 @@ fn be_born<D: Disk>(alloc: Global, disk: &mut D, len: usize, birth: &[u8]) -> Re
     ensures stands { OnOk result (ForSome (D.bytes disk.new) (λ b. Stands b (birth.now ∷ []))) }
     ensures durable { OnOk result (HasOneImage (D.bytes disk.new) (D.image disk.new)) }
     ensures images { BornOrNot (D.bytes disk.old) (D.image disk.old) (D.image disk.new) birth.now }
+    ensures told { is_some (D.bytes disk.new) ≡ is_some (D.bytes disk.old) }
     ensures cause { HasFaultCause (D.faults disk.old) (D.faults disk.new) result }
     ensures only { (result ≡ Err LogError.Full) → ⊥ }
     ensures not_foreign { (at : ℕ) → (result ≡ Err (LogError.Foreign at)) → ⊥ }
@@ -147,6 +148,7 @@ fn write_birth<D: Disk>(disk: &mut D, len: usize, birth: &[u8], staged: &[u8]) -
     ensures stands { OnOk result (ForSome (D.bytes disk.new) (λ b. Stands b (birth.now ∷ []))) }
     ensures durable { OnOk result (HasOneImage (D.bytes disk.new) (D.image disk.new)) }
     ensures images { BornOrNot (D.bytes disk.old) (D.image disk.old) (D.image disk.new) birth.now }
+    ensures told { is_some (D.bytes disk.new) ≡ is_some (D.bytes disk.old) }
     ensures cause { HasCause (D.faults disk.old) (D.faults disk.new) result }
 {
     shut_first_gate(disk, len)?;
@@ -308,6 +310,7 @@ impl Log {
             OnlyReads D.bytes D.image disk.old disk.new }
         ensures older_only_reads { IfOk result (λ log. log.payloads ≢ birth.now ∷ [] →
             OnlyReads D.bytes D.image disk.old disk.new) }
+        ensures told { is_some (D.bytes disk.new) ≡ is_some (D.bytes disk.old) }
         ensures cause { HasFaultCause (D.faults disk.old) (D.faults disk.new) result }
     {
         let image = read_image(alloc, disk)?;
@@ -339,6 +342,7 @@ impl Log {
         ensures images { KeepsList (D.bytes disk.old) (D.image disk.old) (D.image disk.new)
             self.old.payloads payload.now }
         ensures full { result ≡ Err LogError.Full → disk.new ≡ disk.old }
+        ensures told { is_some (D.bytes disk.new) ≡ is_some (D.bytes disk.old) }
         ensures reads { D.reads disk.new ≡ D.reads disk.old }
         ensures cause { HasFaultCause (D.faults disk.old) (D.faults disk.new) result }
     {

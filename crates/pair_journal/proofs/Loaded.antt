@@ -1,5 +1,5 @@
 -- What a load answers, from what its log has.
-use Rattle.std.proofs.Common.{◌≡◌, ◌≢◌, inl, inr, ◌⊎◌, ℕ, List, [], ◌∷◌, map, refl, sym, ◌∙◌}
+use Rattle.std.proofs.Common.{◌≡◌, ◌≢◌, inl, inr, ◌⊎◌, ℕ, List, [], ◌∷◌, map, refl, sym, ◌∙◌, ap}
 use Rattle.std.proofs.Common.{subst, Some, IfSome, IfOk, Ok, Err}
 use Rattle.std.specs.Prelude.{Result}
 use Rattle.std.specs.Option.{ForSome}
@@ -172,3 +172,9 @@ born_or_not names told before mid after named born among = if_some told _ (λ b 
   where
     some : (x : List ℕ) (xs : List (List ℕ)) → [] ≡ x ∷ xs → ⊥
     some x xs is = absurd (cc is)
+
+-- a journal that was loaded has the names that were asked for
+pub named_so : (names : Names) (journal : JournalState) (answer : Result JournalState JournalError)
+    → HasNames names journal answer → IfOk answer (λ j. j.names ≡ names)
+named_so names journal (Ok j) has = ap (λ j. j.names) has.0 ∙ has.1
+named_so names journal (Err e) has = tt

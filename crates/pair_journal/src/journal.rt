@@ -1,7 +1,7 @@
 //! A journal: its names and its entries, and the calls that read and lengthen it.
 
 ghost use Rattle.std.specs.Prelude.{◌≡◌, ◌⊎◌, ◌≤◌, ◌<◌, ℕ, length, false, Some, Err, IfOk, IfErr};
-ghost use Rattle.std.specs.Prelude.{IfSome, OnOk, OnErr, IsOkUnless};
+ghost use Rattle.std.specs.Prelude.{IfSome, OnOk, OnErr, IsOkUnless, is_some};
 ghost use Rattle.std.specs.Option.{ForSome};
 ghost use Rattle.std.specs.List.{slice_get};
 ghost use Rattle.outside.specs.Disk.{HasOneImage};
@@ -12,7 +12,7 @@ ghost use Rattle.pair_journal.specs.declared.error.JournalError.TheVariants as e
 ghost use Rattle.pair_journal.specs.Payload.{AreNext, IsEntry};
 ghost use Rattle.pair_journal.specs.Birth.{AreNames};
 ghost use Rattle.pair_journal.specs.Numbers.{GoesOn, first_numbers, numbers_after, next_out};
-ghost use Rattle.pair_journal.specs.Journal.{JournalOf, Unborn, Born, Spells};
+ghost use Rattle.pair_journal.specs.Journal.{JournalOf, Unborn, Born, Spells, AreEntries};
 ghost use Rattle.pair_journal.specs.Given.{given, source_of};
 ghost use Rattle.pair_journal.specs.OutBuf.{Tells, IsTold};
 ghost use Rattle.pair_journal.specs.Calls.{HasDiskCause, ReadsOnly, Looks, Loads, BornOrNot};
@@ -105,6 +105,7 @@ impl Journal {
             (D.image disk.old) (D.image disk.new) names.now }
         ensures durable { OnOk result (HasOneImage (D.bytes disk.old) (D.image disk.old) →
             HasOneImage (D.bytes disk.new) (D.image disk.new)) }
+        ensures named { IfOk result (λ journal. journal.names ≡ names.now) }
         ensures whole { IfOk result (λ journal. journal.broken ≡ false) }
         ensures only_unborn_is_written { IfSome (D.bytes disk.old) (λ b.
             JournalOf b Unborn ⊎ OnlyReads D.bytes D.image disk.old disk.new) }
@@ -113,6 +114,7 @@ impl Journal {
         ensures differ_only_reads { (kept given : Names) →
             result ≡ Err (errors.NamesDiffer kept given) →
             OnlyReads D.bytes D.image disk.old disk.new }
+        ensures told { is_some (D.bytes disk.new) ≡ is_some (D.bytes disk.old) }
         ensures cause { HasDiskCause (D.faults disk.old) (D.faults disk.new) result }
     {
         let log = open_log(alloc, disk, names)?;
@@ -153,6 +155,7 @@ impl Journal {
     pub fn next(&self) -> (u32, u32, u32, u32)
         ensures next { result ≡ numbers_after first_numbers self.now.entries }
         ensures bounds { AreNext result }
+        ensures sound { AreEntries first_numbers self.now.entries }
     {
         match self.entries.last() {
             Some(entry) => entry.next,
@@ -217,6 +220,7 @@ impl Journal {
         ensures images { KeepsJournal (D.bytes disk.old) (D.image disk.old) (D.image disk.new)
             self.old prepared }
         ensures full { result ≡ Err errors.Full → disk.new ≡ disk.old }
+        ensures told { is_some (D.bytes disk.new) ≡ is_some (D.bytes disk.old) }
         ensures reads { D.reads disk.new ≡ D.reads disk.old }
         ensures cause { HasDiskCause (D.faults disk.old) (D.faults disk.new) result }
     {

@@ -1,7 +1,7 @@
 //! The payloads of a log as the names and the entries of a journal.
 
 ghost use Rattle.std.specs.Prelude.{◌≡◌, ◌≢◌, ◌⊎◌, ◌<◌, ℕ, List, [], ◌∷◌, map, drop, MatchOption};
-ghost use Rattle.std.specs.Prelude.{IfOk, IfErr, IfSome, OnOk, Err, false};
+ghost use Rattle.std.specs.Prelude.{IfOk, IfErr, IfSome, OnOk, Err, false, is_some};
 ghost use Rattle.std.specs.Option.{ForSome};
 ghost use Rattle.order_meaning.specs.declared.names.Names.{Names};
 ghost use Rattle.gate_log.specs.Records.{Stands};
@@ -69,6 +69,7 @@ pub(crate) fn open_log<D: Disk>(
     ensures older_only_reads { IfOk result (λ log. log.payloads ≢ birth_bytes names.now ∷ [] →
         OnlyReads D.bytes D.image disk.old disk.new) }
     ensures names_alike { (kept given : Names) → result ≡ Err (errors.NamesDiffer kept given) → ⊥ }
+    ensures told { is_some (D.bytes disk.new) ≡ is_some (D.bytes disk.old) }
     ensures cause { HasDiskCause (D.faults disk.old) (D.faults disk.new) result }
 {
     are_names(names);

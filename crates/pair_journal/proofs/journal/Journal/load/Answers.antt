@@ -1,6 +1,6 @@
 use Rattle.std.proofs.lemmas.Result.{err_from_is_err_and}
 use Rattle.pair_journal.proofs.Loaded.{misread, judged, stands_loaded, born_or_not}
-use Rattle.pair_journal.proofs.Loaded.{misread_older, differ_older, unborn_or_read}
+use Rattle.pair_journal.proofs.Loaded.{misread_older, differ_older, unborn_or_read, named_so}
 use Rattle.pair_journal.proofs.Walking.{stands_still, only_read_on}
 use Rattle.pair_journal.proofs.journal.Journal.load.Goals as goal
 
@@ -62,3 +62,7 @@ returns-clause-differ_only_reads g c = λ kept given is.
     c.in_ok-journal.journal c.if_named.result c.open_log.ensures.named
     c.in_ok-journal.ensures.ok c.if_named.ensures is in
     only_read_on _ _ _ _ _ _ (c.in_ok-log.ensures.older_only_reads older) c.of_log.ensures.only_read
+
+pub returns-clause-named : goal.returns-clause-named
+returns-clause-named g c =
+    named_so c.args.names.now c.in_ok-journal.journal c.if_named.result c.if_named.ensures

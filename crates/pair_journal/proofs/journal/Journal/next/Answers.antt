@@ -15,3 +15,7 @@ returns-in-Some-clause-bounds c =
     let is = entry_at first_numbers c.deref.result.now
     (length c.deref.result.now - 1) c.in-Some.entry.now are (sym c.in-Some.ensures.value) in
     is.next
+
+pub returns-in-Some-clause-sound : goal.returns-in-Some-clause-sound
+returns-in-Some-clause-sound c =
+    subst (AreEntries first_numbers) (ap (λ s. s.entries) c.self.view_is) c.self.invariant.sound
