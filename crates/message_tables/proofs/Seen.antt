@@ -2,7 +2,7 @@
 use Rattle.std.proofs.Common.{◌≡◌, ◌<◌, ◌≤◌, ◌+◌, count_by, ℕ, zero, suc, length, get_or, take}
 use Rattle.std.proofs.Common.{drop, arith, List, [], ◌∷◌, map, Option, Some, None, Bool, true}
 use Rattle.std.proofs.Common.{false, cond, eqb, refl, sym, ap, ◌∙◌}
-use Rattle.std.specs.Prelude.{◌||◌, ◌&&◌, ◌==◌}
+use Rattle.std.specs.Prelude.{◌||◌, ◌&&◌, ◌==◌, is_some}
 use Rattle.message_tables.specs.Plain.{lacks}
 use Rattle.std.specs.Option.{option_map, option_or}
 use Rattle.std.specs.List.{find, list_any, list_all, flat_map, take-map, drop-map}
@@ -104,6 +104,17 @@ module _ {K : Type 0} where
   pub row_seen : (tag : ℕ) (rows : List (CodeRow K)) → row_at tag (map (row_of (λ (k : K). k)) rows)
       ≡ option_map (row_of (λ (k : K). k)) (find (λ row. row.tag == tag) rows)
   row_seen tag rows = find-map (λ (row : Row K). row.tag == tag) (row_of (λ (k : K). k)) rows
+
+-- a tag stands where its value is found
+pub stands_by_value : (tag : ℕ) (fs : List Field) → has_tag tag fs ≡ is_some (value_at tag fs)
+stands_by_value tag [] = refl
+stands_by_value tag (f ∷ fs) = here (f.0 == tag) (stands_by_value tag fs)
+  where
+    here : (b : Bool) → has_tag tag fs ≡ is_some (value_at tag fs)
+        → (b || has_tag tag fs)
+        ≡ is_some (option_map (λ (g : Field). g.1) (cond b (Some f) (find (λ g. g.0 == tag) fs)))
+    here true e = refl
+    here false e = e
 
 pub condition_seen : (condition : List (Bor (List CodeTest))) (fs : List Field)
     → holds (map (λ tests. map test_of tests.now) condition) fs

@@ -14,7 +14,7 @@ ghost use Rattle.message_tables.specs.CodeTables.{item_of, table_of};
 
 use crate::group_lines::{line, line_end};
 use crate::group_stage::first_misplaced;
-use crate::lookup::{field_at, front, stands};
+use crate::lookup::{Line, field_at, front, stands};
 use crate::table::{Item, RepeatingGroup, Row, Table};
 use crate::table_fault::{Mark, TableFault};
 use field_groups::Field;
@@ -68,7 +68,7 @@ fn first_twice<K>(table: &Table<K>, fields: &[Field<'_>]) -> Option<TableFault>
 fn missing_row<K>(row: &Row<K>, fields: &[Field<'_>]) -> Option<TableFault>
     ensures { result ≡ missing (seen fields.now) (row_of (λ k. k) row.now) }
 {
-    if row.need.is_needed(fields) && !stands(fields, row.tag) {
+    if row.need.is_needed(&Line { fields }) && !stands(fields, row.tag) {
         Some(TableFault::Reason {
             tag: row.tag,
             reason: MISSING,

@@ -11,7 +11,7 @@ ghost use Rattle.message_tables.specs.CodeTables.{seen, test_of, need_of, row_of
 ghost use Rattle.message_tables.specs.CodeTables.{item_of, table_of};
 ghost use Rattle.message_tables.specs.Plain.{lacks, lacks_group};
 
-use crate::lookup::{is_among, lacks, stands, value};
+use crate::lookup::{Lookup, is_among, lacks};
 use crate::table_fault::Mark;
 use field_groups::{Field, Fields};
 
@@ -87,12 +87,13 @@ pub struct Table<K: 'static> {
 
 impl Test {
     /// Whether it holds of these fields.
-    pub(crate) fn passes(&self, fields: &[Field<'_>]) -> bool
-        ensures { result ≡ passes (seen fields.now) (test_of self.now) }
+    #[tactic(auto, using(crate::proofs::Seen::stands_by_value))]
+    pub(crate) fn passes<L: Lookup>(&self, fields: &L) -> bool
+        ensures { result ≡ passes (L.fields fields.now) (test_of self.now) }
     {
         match self {
-            Test::Stands(tag) => stands(fields, *tag),
-            Test::Is(tag, listed) => match value(fields, *tag) {
+            Test::Stands(tag) => fields.value(*tag).is_some(),
+            Test::Is(tag, listed) => match fields.value(*tag) {
                 Some([byte]) => is_byte(listed, *byte),
                 _ => false,
             },
@@ -108,16 +109,17 @@ fn is_byte(listed: &[u8], byte: u8) -> bool
 }
 
 /// Whether all these tests hold.
-fn all_pass(tests: &[Test], fields: &[Field<'_>]) -> bool
-    ensures { result ≡ list_all (λ test. passes (seen fields.now) (test_of test)) tests.now }
+fn all_pass<L: Lookup>(tests: &[Test], fields: &L) -> bool
+    ensures { result
+        ≡ list_all (λ test. passes (L.fields fields.now) (test_of test)) tests.now }
 {
     tests.iter().all(|test| test.passes(fields))
 }
 
 /// Whether all tests of one of these lists hold.
-fn any_holds(condition: &[&[Test]], fields: &[Field<'_>]) -> bool
-    ensures { result ≡ list_any (λ tests.
-        list_all (λ test. passes (seen fields.now) (test_of test)) tests.now) condition.now }
+fn any_holds<L: Lookup>(condition: &[&[Test]], fields: &L) -> bool
+    ensures { result ≡ list_any (λ tests. list_all
+        (λ test. passes (L.fields fields.now) (test_of test)) tests.now) condition.now }
 {
     condition.iter().any(|tests| all_pass(tests, fields))
 }
@@ -154,8 +156,8 @@ impl Need {
     /// Whether these fields have to say a row with this need.
     #[inline(always)]
     #[tactic(auto, using(crate::proofs::Seen::condition_seen))]
-    pub fn is_needed(&self, fields: &[Field<'_>]) -> bool
-        ensures { result ≡ is_needed (need_of self.now) (seen fields.now) }
+    pub fn is_needed<L: Lookup>(&self, fields: &L) -> bool
+        ensures { result ≡ is_needed (need_of self.now) (L.fields fields.now) }
     {
         match self {
             Need::Required => true,

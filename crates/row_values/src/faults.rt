@@ -102,7 +102,7 @@ fn row_fits(row: &Row<Kind>, fields: &Fields<'_>, rowed: &mut Rowed) -> bool
         ≡ with_place rowed.old (position (λ f. f.0 == row.now.tag) fields.now) }
 {
     match fields.find(row.tag) {
-        None => !row.need.is_needed(fields.as_slice()),
+        None => !row.need.is_needed(fields),
         Some(place) => {
             rowed[place] = true;
             match fields.at(place) {

@@ -1,8 +1,6 @@
 use Rattle.std.proofs.Common.{ap, ◌∙◌}
-use Rattle.std.specs.Prelude.{List, not}
-use Rattle.field_groups.specs.Field.{Field}
-use Rattle.message_tables.specs.Tables.{is_needed}
-use Rattle.message_tables.specs.CodeTables.{need_of, row_of}
+use Rattle.std.specs.Prelude.{not}
+use Rattle.message_tables.specs.CodeTables.{row_of}
 use Rattle.message_tables.proofs.OnePass.{fits_of_none, fits_of_some, not_past}
 use Rattle.row_values.specs.Kinds.{judge}
 use Rattle.row_values.specs.CodeKinds.{kind_of}
@@ -10,9 +8,7 @@ use Rattle.row_values.proofs.faults.row_fits.Goals as goal
 
 pub returns-in-None-clause-fits : goal.returns-in-None-clause-fits
 returns-in-None-clause-fits c =
-    ap not (c.is_needed.ensures
-    ∙ ap (λ (fields : List Field). is_needed (need_of c.args.row.now.need) fields)
-    c.as_slice.ensures)
+    ap not c.is_needed.ensures
     ∙ fits_of_none judge c.args.fields.now (row_of kind_of c.args.row.now) c.in-None.ensures.place
 
 pub returns-in-None-at-clause-fits : goal.returns-in-None-at-clause-fits
