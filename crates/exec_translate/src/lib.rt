@@ -15,3 +15,4 @@ mod reports;
 mod tests;
 
 pub use downward::{down_cancel_reject, down_report};
+pub use mapping::has_codes;

@@ -1,5 +1,5 @@
 -- Standard: the types of messages of FIX 5.0 SP2, volume 4, and of FIXT 1.1.
-use Rattle.std.specs.Prelude.{ℕ, List, codes, Option, Some, Result, Err}
+use Rattle.std.specs.Prelude.{ℕ, List, codes, Option, Some, None, Result, Err}
 use Rattle.std.specs.Prelude.{if◌then◌else◌}
 use Rattle.std.specs.Str.{bytes_eq}
 use Rattle.field_groups.specs.declared.fault.SplitFault.{SplitFault}
@@ -26,6 +26,12 @@ session_reject_table = table 51 session_reject
 
 abbrev pub business_reject_table : Table Kind
 business_reject_table = table 106 business_reject
+
+-- the table of a report, by its MsgType
+abbrev pub report_table_of : List ℕ → Option (Table Kind)
+report_table_of msg_type =
+    if bytes_eq msg_type (codes "8") then Some report_table else
+    (if bytes_eq msg_type (codes "9") then Some cancel_reject_table else None)
 
 -- the message of a report, of which a date says the month, too; or the first fault
 abbrev pub report_by : Table Kind → List Field → Option SplitFault → Result Message Fault

@@ -86,6 +86,10 @@ order_part m = record {
   capacity = m.capacity;
 }
 
+-- ExecType, as the fields of an execution report say it
+abbrev pub exec_type_said : List Field → Said
+exec_type_said fields = said fields 150 (Value (Known (codes "03456789ABCDEFGHIJKL")))
+
 -- each row of an execution report says what the fields say
 pub record IsReport (fields : List Field) (m : Report50) : Type 0 where
   pub resend : m.resend ≡ resend_of fields
@@ -97,8 +101,7 @@ pub record IsReport (fields : List Field) (m : Report50) : Type 0 where
   pub contras : AreContras fields m.contras
   pub exec_id : m.exec_id ≡ unwrap_or (said fields 17 (Value Id)) []
   pub ref_id : m.ref_id ≡ said fields 19 (Value Id)
-  pub exec_type : IfSome (said fields 150 (Value (Known (codes "03456789ABCDEFGHIJKL"))))
-      (λ text. text ≡ code_text m.exec_type)
+  pub exec_type : IfSome (exec_type_said fields) (λ text. text ≡ code_text m.exec_type)
   pub ord_status : IfSome (said fields 39 (Value (Known (codes "0123456789ABCDE"))))
       (λ text. text ≡ code_text m.ord_status)
   pub rej_reason : option_map number_text m.rej_reason ≡ said fields 103 (Value Reason)

@@ -14,7 +14,8 @@ mod tests;
 mod writing;
 
 pub use message::{
-    read_business_reject, read_cancel_reject, read_report, read_session_reject,
+    good_report, read_business_reject, read_cancel_reject, read_report, read_session_reject,
     write_business_reject, write_cancel_reject, write_report, write_session_reject,
 };
+pub use reading::exec_type;
 pub use reports::{CancelReject50, Report50};

@@ -2,14 +2,14 @@
 
 ghost use Rattle.std.specs.Prelude.{◌≡◌, ◌++◌, IfOk, None, OnErr, OnOk};
 ghost use Rattle.field_groups.specs.Field.{body_of};
-ghost use Rattle.row_values.specs.Gives.{Gives};
+ghost use Rattle.row_values.specs.Gives.{Gives, IsCleanIf};
 ghost use Rattle.refusal_parts.specs.Once.{refusal_by};
 ghost use Rattle.refusal_parts.specs.Readable.{IsReadableRefusal};
 ghost use Rattle.refusal_parts.specs.Said.{business_reject_says, session_reject_says};
 ghost use Rattle.reports_fix50.specs.Content.{business_reject_content, cancel_reject_content};
 ghost use Rattle.reports_fix50.specs.Content.{report_content, session_reject_content};
 ghost use Rattle.reports_fix50.specs.Message.{business_reject_table, cancel_reject_table};
-ghost use Rattle.reports_fix50.specs.Message.{report_by, report_table};
+ghost use Rattle.reports_fix50.specs.Message.{report_by, report_table, report_table_of};
 ghost use Rattle.reports_fix50.specs.Message.{session_reject_table};
 ghost use Rattle.reports_fix50.specs.Readable.{IsReadableCancelReject, IsReadableReport};
 ghost use Rattle.reports_fix50.specs.Said.{cancel_reject_says, report_says};
@@ -19,11 +19,30 @@ use crate::reading::{cancel_reject, execution_report};
 use crate::reports::{CancelReject50, Report50};
 use crate::tables;
 use crate::writing::{cancel_reject_parts, report_parts};
-use field_groups::Split;
+use field_groups::{Fields, Split};
 use order_meaning::{Fault, Refusal};
 use refusal_parts::{business_reject, business_reject_parts, session_reject, session_reject_parts};
 use row_values::{good_fields, put_content};
 use std::alloc::{AllocError, Global};
+
+/// The fields of the body of a report, where they are whole and at no fault beside the table of
+/// their type. It takes no memory.
+///
+/// # Errors
+///
+/// `NotSupported` for a type that is neither 8 nor 9. `Session` and `NoCounterpart` for the first
+/// fault, as `read_report` and `read_cancel_reject` have it.
+pub fn good_report<'s, 'a>(msg_type: &[u8], split: &'s Split<'a>) -> Result<&'s Fields<'a>, Fault>
+    ensures { IsCleanIf (report_table_of msg_type.now) split.now.fields split.now.fault result }
+{
+    if msg_type == b"8".as_slice() {
+        good_fields(tables::execution_report(), split)
+    } else if msg_type == b"9".as_slice() {
+        good_fields(tables::cancel_reject(), split)
+    } else {
+        Err(Fault::NotSupported)
+    }
+}
 
 /// Reads Execution Report (8), by the fields of its body.
 ///

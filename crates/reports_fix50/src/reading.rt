@@ -3,11 +3,12 @@
 //! The texts of a report are copied first, in the one step that can fail; then each row of the
 //! table is a line of the literal.
 
-ghost use Rattle.std.specs.Prelude.{◌≡◌, IfOk};
+ghost use Rattle.std.specs.Prelude.{◌≡◌, IfOk, IfSome};
+ghost use Rattle.value_kinds.specs.CodeKinds.{code_text};
 ghost use Rattle.reports_fix50.specs.Readable.{IsReadableCancelReject, IsReadableReport};
 ghost use Rattle.reports_fix50.specs.Reading.{AreGroups, IsCancelReject, IsOrderPart};
 ghost use Rattle.reports_fix50.specs.Reading.{IsReadableOrderPart, IsReport, cancel_reject_texts};
-ghost use Rattle.reports_fix50.specs.Reading.{report_texts};
+ghost use Rattle.reports_fix50.specs.Reading.{exec_type_said, report_texts};
 
 use crate::groups::Groups;
 use crate::order_part::{OrderPart, order_part};
@@ -30,6 +31,13 @@ const ORD_STATUS: ValueKind = Known(ORD_STATUSES);
 
 /// What CxlRejResponseTo(434) may be.
 const RESPONSE_TO: ValueKind = Known(b"12");
+
+/// ExecType(150) of an execution report, as its fields say it; 0 where they say none.
+pub fn exec_type(fields: &Fields<'_>) -> u8
+    ensures { IfSome (exec_type_said fields.now) (λ text. text ≡ code_text result) }
+{
+    code(fields, 150, &EXEC_TYPE).unwrap_or(0)
+}
 
 /// The texts of an execution report besides those of its order.
 fn texts_of_report(alloc: Global, fields: &Fields<'_>) -> Result<[Option<Bytes>; 8], AllocError>
@@ -85,7 +93,7 @@ fn report_of(
         contras: groups.contras,
         exec_id: or_empty(alloc, exec_id),
         ref_id,
-        exec_type: code(fields, 150, &EXEC_TYPE).unwrap_or(0),
+        exec_type: exec_type(fields),
         ord_status: code(fields, 39, &ORD_STATUS).unwrap_or(0),
         rej_reason: reason(fields, 103),
         restate_reason: reason(fields, 378),
