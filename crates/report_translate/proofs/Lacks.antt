@@ -12,8 +12,8 @@ use Rattle.reports_fix50.specs.declared.reports.CancelReject50.{CancelReject50}
 use Rattle.reports_fix50.specs.Said.{report_says, cancel_reject_says}
 use Rattle.reports_fix50.specs.Sense.{report50}
 use Rattle.exec_translate.specs.Down.{codes_of}
-use Rattle.exec_translate.specs.Mapping.{mapped, is_event, is_fill}
-use Rattle.report_translate.specs.Lack.{has_codes, lacks_codes, lacks_original, lack_of}
+use Rattle.exec_translate.specs.Mapping.{has_codes, mapped, is_event, is_fill}
+use Rattle.report_translate.specs.Lack.{lacks_codes, lacks_original, lack_of}
 
 some_if : {A : Type 0} (test : Bool) (x y : A) (o p : Option A) → is_some o ≡ is_some p
     → is_some (if test then Some x else o) ≡ is_some (if test then Some y else p)

@@ -1,5 +1,6 @@
 pub mod Lacks
 pub mod OfType
+pub mod GoodFields
 pub mod Stands
 pub mod ReadReports
 pub mod DownAgain

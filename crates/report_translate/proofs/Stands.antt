@@ -38,8 +38,7 @@ use Rattle.report_translate.specs.Reading.{report_message}
 use Rattle.report_translate.specs.Said.{says50, content42}
 use Rattle.report_translate.specs.Translation.{Executes, Rejects}
 use Rattle.report_translate.specs.Writing.{Means, IsUnsaid, LacksCodes, AreRead, IsMisread}
-use Rattle.report_translate.specs.Writing.{IsReportOf, Refuses, IsCheckedOf, RefusesCheck, IsDownOf}
-use Rattle.report_translate.specs.Writing.{RefusesDown}
+use Rattle.report_translate.specs.Writing.{IsReportOf, Refuses, IsDownOf, RefusesDown}
 use Rattle.report_translate.proofs.Lacks.{without_codes, with_codes, lack_of_codes, lack_of_nothing}
 use Rattle.report_translate.proofs.Lacks.{without_original, with_original, same_sense}
 use Rattle.report_translate.proofs.Lacks.{nothing_known}
@@ -145,20 +144,12 @@ module _ (v w : VenueReport) (is : v ≡ w) where
   pub unsaid_in : (error : TranslateError) → IsUnsaid w error → IsUnsaid v error
   unsaid_in error h = let P : VenueReport → Type 0 = λ x. IsUnsaid x error in subst P (sym is) h
 
-  pub codes_in : lacks_codes (says50 w) ≡ false → lacks_codes (says50 v) ≡ false
-  codes_in h = ap (λ (x : VenueReport). lacks_codes (says50 x)) is ∙ h
-
-  pub lacks_in : (error : TranslateError)
-      → LacksCodes (says50 w) error → LacksCodes (says50 v) error
-  lacks_in error h =
-      let P : VenueReport → Type 0 = λ x. LacksCodes (says50 x) error in subst P (sym is) h
-
 -- ---- the fields of a body
 
 module _ (fields : List Field) (stopped : Option SplitFault) where
   are_read : (venue : VenueReport)
       → report_message (type_of fields) fields stopped ≡ Ok (says50 venue)
-      → AreRead fields stopped venue
+      → AreRead fields stopped (says50 venue)
   are_read venue e =
       let none = whole (type_of fields) fields stopped (says50 venue) e in
       let P : Option SplitFault → Type 0 =
@@ -186,29 +177,6 @@ module _ (fields : List Field) (stopped : Option SplitFault) where
   misread_down errors.TooLong h = absurd h
   misread_down (errors.Lacking tag) h = absurd h
   misread_down (errors.Faulty fault) h = h
-
-  -- where lengths are not judged
-  pub checked : (venue : VenueReport) (r : Result (Unit {0}) TranslateError)
-      → report_message (type_of fields) fields stopped ≡ Ok (says50 venue)
-      → OnOk r (lacks_codes (says50 venue) ≡ false) → OnOk r (IsCheckedOf fields stopped)
-  checked venue (Ok done) e h = record { venue = venue; read = are_read venue e; codes = h }
-  checked venue (Err error) e h = tt
-
-  pub unchecked : (venue : VenueReport) (r : Result (Unit {0}) TranslateError)
-      → report_message (type_of fields) fields stopped ≡ Ok (says50 venue)
-      → IfErr r (LacksCodes (says50 venue)) → IfErr r (RefusesCheck fields stopped)
-  unchecked venue (Ok done) e h = tt
-  unchecked venue (Err errors.NoMemory) e h = tt
-  unchecked venue (Err (errors.Lacking tag)) e h = (h.0, venue, are_read venue e, h.1)
-  unchecked venue (Err (errors.Faulty fault)) e h = absurd h
-  unchecked venue (Err errors.TooLong) e h = absurd h
-
-  pub misread_check : (error : TranslateError)
-      → IsMisread fields stopped error → RefusesCheck fields stopped error
-  misread_check errors.NoMemory h = h
-  misread_check errors.TooLong h = absurd h
-  misread_check (errors.Lacking tag) h = absurd h
-  misread_check (errors.Faulty fault) h = h
 
   -- what was written for a report
   pub written_down : (report : ClientReport) (down : List ℕ) (r : Result (Unit {0}) TranslateError)

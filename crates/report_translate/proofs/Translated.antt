@@ -6,12 +6,12 @@ use Rattle.frame_grammar.specs.Frame.{IsFrame, IsWritable, frame_of}
 use Rattle.field_groups.specs.declared.fault.SplitFault.{SplitFault}
 use Rattle.field_groups.specs.Field.{Field}
 use Rattle.field_groups.specs.Fields.{SplitsInto}
+use Rattle.message_tables.specs.Tables.{Message}
 use Rattle.translation.specs.declared.error.TranslateError.{TranslateError}
 use Rattle.translation.specs.declared.error.TranslateError.TheVariants as errors
 use Rattle.translation.specs.Header.{type_of, carried, with_content}
 use Rattle.translation.proofs.Writable.{writable}
 use Rattle.report_translate.specs.declared.report.ClientReport.{ClientReport}
-use Rattle.report_translate.specs.declared.report.VenueReport.{VenueReport}
 use Rattle.report_translate.specs.Said.{says50, says42, content42}
 use Rattle.report_translate.specs.Translation.{IsReport, IsKnown, StandsFor, IsTranslation}
 use Rattle.report_translate.specs.Translation.{IsRefused, IsRefusedByCheck}
@@ -25,16 +25,16 @@ use Rattle.report_translate.proofs.OfType.{type_is}
 
 module _ (body : List ℕ) (fields : List Field)
     (stopped : Option SplitFault) (split : SplitsInto body fields stopped) where
-  report : (venue : VenueReport) → AreRead fields stopped venue → IsReport body fields
-  report venue read =
+  report : (message : Message) → AreRead fields stopped message → IsReport body fields
+  report message read =
       let P : Option SplitFault → Type 0 = λ s. SplitsInto body fields s in
-      record { message = says50 venue; split = subst P read.whole split; read = read.read }
+      record { message = message; split = subst P read.whole split; read = read.read }
 
   stands : (client : ClientReport)
       → IsReportOf fields stopped client → StandsFor body fields (content42 client)
   unfolding report
   stands client of = record {
-    good = record { report = report of.venue of.read; said = of.written.said };
+    good = record { report = report (says50 of.venue) of.read; said = of.written.said };
     client = says42 client;
     report = of.written.written;
     means = of.written.means;
@@ -88,12 +88,12 @@ module _ (body : List ℕ) (fields : List Field)
   refused (errors.Faulty fault) h =
       record { fields = fields; stopped = stopped; split = split; read = h }
   refused (errors.Lacking tag) h =
-      record { fields = fields; report = report h.0 h.1; lack = h.2 }
+      record { fields = fields; report = report (says50 h.0) h.1; lack = h.2 }
 
   pub known : (r : Result (Unit {0}) TranslateError) → OnOk r (IsCheckedOf fields stopped)
       → OnOk r ((fields : List Field) × IsKnown body fields)
   unfolding report
-  known (Ok done) h = (fields, record { report = report h.venue h.read; said = h.codes })
+  known (Ok done) h = (fields, record { report = report h.message h.read; said = h.codes })
   known (Err error) h = tt
 
   by_check : (error : TranslateError)
@@ -108,7 +108,7 @@ module _ (body : List ℕ) (fields : List Field)
     record {
       fields = fields;
       report = report h.1 h.2;
-      lack = lack_of_codes (says50 h.1) h.3;
+      lack = lack_of_codes h.1 h.3;
     },
   )
 

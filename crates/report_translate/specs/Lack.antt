@@ -1,16 +1,11 @@
 -- Own: what a report of FIX 5.0 SP2 says that FIX 4.2 cannot say; by the mapping, and by
 -- OrigClOrdID (41), which an Order Cancel Reject of FIX 4.2 requires.
-use Rattle.std.specs.Prelude.{ℕ, false, Bool, not, ◌&&◌, ◌==◌, Option, Some, None, is_some}
+use Rattle.std.specs.Prelude.{ℕ, Bool, not, ◌&&◌, ◌==◌, Option, Some, None, is_some}
 use Rattle.std.specs.Prelude.{if◌then◌else◌}
 use Rattle.message_tables.specs.Tables.{Tag, Message, said_at, code_in}
-use Rattle.exec_translate.specs.Mapping.{mapped}
+use Rattle.exec_translate.specs.Mapping.{has_codes}
 
--- the mapping has codes of FIX 4.2 for an ExecType (150), whatever the OrdStatus (39), here 0; of
--- those of FIX 5.0 SP2 it has none for J and K
-abbrev pub has_codes : ℕ → Bool
-has_codes exec_type = is_some (mapped exec_type 48 false)
-
--- an execution report whose ExecType has no counterpart
+-- an execution report whose ExecType (150) has no counterpart
 abbrev pub lacks_codes : Message → Bool
 lacks_codes m = (m.letter == 56) && not (has_codes (code_in m.cells 150))
 

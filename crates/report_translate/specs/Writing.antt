@@ -1,8 +1,9 @@
 -- Inside: what is known on the way from a body to its translation.
-use Rattle.std.specs.Prelude.{◌≡◌, ℕ, true, false, List, Option, Some, None, Result, Ok, Err}
+use Rattle.std.specs.Prelude.{◌≡◌, ℕ, Bool, true, false, not, unwrap_or, List, Option, Some, None}
+use Rattle.std.specs.Prelude.{Result, Ok, Err}
 use Rattle.field_groups.specs.declared.fault.SplitFault.{SplitFault}
 use Rattle.field_groups.specs.Field.{Field}
-use Rattle.message_tables.specs.Tables.{Message}
+use Rattle.message_tables.specs.Tables.{Message, ◌>>=◌, code_of}
 use Rattle.order_meaning.specs.Book.{Book}
 use Rattle.order_meaning.specs.declared.fault.Fault.{Fault}
 use Rattle.order_meaning.specs.declared.refusal.Refusal.{Refusal}
@@ -14,9 +15,11 @@ use Rattle.reports_fix42.specs.Step.{step42}
 use Rattle.reports_fix50.specs.declared.reports.Report50.{Report50}
 use Rattle.reports_fix50.specs.declared.reports.CancelReject50.{CancelReject50}
 use Rattle.reports_fix50.specs.Readable as readable50
+use Rattle.reports_fix50.specs.Reading.{exec_type_said}
 use Rattle.reports_fix50.specs.Sense.{report50}
 use Rattle.reports_fix50.specs.Step.{step50}
 use Rattle.exec_translate.specs.Down.{IsMapped}
+use Rattle.exec_translate.specs.Mapping.{has_codes}
 use Rattle.exec_translate.specs.Written as rows
 use Rattle.translation.specs.declared.error.TranslateError.{TranslateError}
 use Rattle.translation.specs.declared.error.TranslateError.TheVariants as errors
@@ -70,11 +73,11 @@ LacksCodes m errors.NoMemory = Unit {0}
 LacksCodes m (errors.Lacking tag) = (tag ≡ 150) × (lacks_codes m ≡ true)
 LacksCodes m error = ⊥
 
--- fields of a whole body are read as this report
+-- fields of a whole body are read as this message
 pub record AreRead
-    (fields : List Field) (stopped : Option SplitFault) (venue : VenueReport) : Type 0 where
+    (fields : List Field) (stopped : Option SplitFault) (message : Message) : Type 0 where
   pub whole : stopped ≡ None
-  pub read : report_message (type_of fields) fields None ≡ Ok (says50 venue)
+  pub read : report_message (type_of fields) fields None ≡ Ok message
 
 -- why they are not read
 abbrev pub IsMisread : List Field → Option SplitFault → TranslateError → Type 0
@@ -87,26 +90,34 @@ IsMisread fields stopped error = ⊥
 pub record IsReportOf
     (fields : List Field) (stopped : Option SplitFault) (client : ClientReport) : Type 0 where
   pub venue : VenueReport
-  pub read : AreRead fields stopped venue
+  pub read : AreRead fields stopped (says50 venue)
   pub written : Means venue client
 
 -- why there is none
 abbrev pub Refuses : List Field → Option SplitFault → TranslateError → Type 0
 Refuses fields stopped (errors.Lacking tag) = (venue : VenueReport)
-    × AreRead fields stopped venue × (lack_of (says50 venue) ≡ Some tag)
+    × AreRead fields stopped (says50 venue) × (lack_of (says50 venue) ≡ Some tag)
 Refuses fields stopped error = IsMisread fields stopped error
 
 -- fields that are a report that has codes of FIX 4.2
 pub record IsCheckedOf (fields : List Field) (stopped : Option SplitFault) : Type 0 where
-  pub venue : VenueReport
-  pub read : AreRead fields stopped venue
-  pub codes : lacks_codes (says50 venue) ≡ false
+  pub message : Message
+  pub read : AreRead fields stopped message
+  pub codes : lacks_codes message ≡ false
 
 -- why they are none
 abbrev pub RefusesCheck : List Field → Option SplitFault → TranslateError → Type 0
-RefusesCheck fields stopped (errors.Lacking tag) = (tag ≡ 150) × (venue : VenueReport)
-    × AreRead fields stopped venue × (lacks_codes (says50 venue) ≡ true)
+RefusesCheck fields stopped (errors.Lacking tag) = (tag ≡ 150) × (message : Message)
+    × AreRead fields stopped message × (lacks_codes message ≡ true)
 RefusesCheck fields stopped error = IsMisread fields stopped error
+
+-- whether an execution report of these fields lacks codes of FIX 4.2
+abbrev pub lacks_at : List Field → Bool
+lacks_at fields = not (has_codes (unwrap_or (exec_type_said fields >>= code_of) 0))
+
+abbrev pub LacksAt : List Field → TranslateError → Type 0
+LacksAt fields (errors.Lacking tag) = (tag ≡ 150) × (lacks_at fields ≡ true)
+LacksAt fields error = ⊥
 
 -- a body that stands for the fields of a body
 pub record IsDownOf

@@ -5,6 +5,7 @@
 //! version, by the tables of the two versions, which name no translator.
 #![tactic(auto)]
 
+mod checking;
 pub mod laws;
 mod refusals;
 mod report;

@@ -1,6 +1,6 @@
 //! The report of FIX 4.2 that stands for the fields of a body.
 
-ghost use Rattle.std.specs.Prelude.{◌≡◌, ◌++◌, false, IfOk, IfErr, OnOk, Ok};
+ghost use Rattle.std.specs.Prelude.{◌≡◌, ◌++◌, IfOk, IfErr, OnOk, Ok};
 ghost use Rattle.field_groups.specs.Field.{body_of};
 ghost use Rattle.row_values.specs.Gives.{Gives};
 ghost use Rattle.reports_fix50.specs.Message.{cancel_reject_table, report_by, report_table};
@@ -8,11 +8,9 @@ ghost use Rattle.reports_fix50.specs.Readable.{IsReadableCancelReject, IsReadabl
 ghost use Rattle.reports_fix50.specs.Said.{report_says};
 ghost use Rattle.report_translate.specs.declared.report.ClientReport.TheVariants as client;
 ghost use Rattle.report_translate.specs.declared.report.VenueReport.TheVariants as venue;
-ghost use Rattle.report_translate.specs.Lack.{lacks_codes};
 ghost use Rattle.report_translate.specs.Reading.{report_message};
 ghost use Rattle.report_translate.specs.Said.{IsReadable42, IsReadable50, content42, says50};
-ghost use Rattle.report_translate.specs.Writing.{IsCheckedOf, IsMisread, IsReportOf, IsUnsaid};
-ghost use Rattle.report_translate.specs.Writing.{LacksCodes, Means, Refuses, RefusesCheck};
+ghost use Rattle.report_translate.specs.Writing.{IsMisread, IsReportOf, IsUnsaid, Means, Refuses};
 ghost use Rattle.translation.specs.Header.{type_of};
 ghost use Rattle.translation.specs.Writing.{IsWritten, IsUnwritten};
 
@@ -101,7 +99,6 @@ fn execution(alloc: Global, msg: &Report50) -> Result<Report42, TranslateError>
     requires { IsReadableReport msg.now }
     ensures ok { IfOk result (λ r. Means (venue.Execution msg.now) (client.Execution r)) }
     ensures refused { IfErr result (IsUnsaid (venue.Execution msg.now)) }
-    ensures codes { IfErr result (LacksCodes (report_says msg.now)) }
 {
     match down_report(alloc, msg) {
         Ok(report) => Ok(report),
@@ -142,30 +139,6 @@ pub(crate) fn down(alloc: Global, split: &Split<'_>) -> Result<ClientReport, Tra
 {
     let report = read(alloc, split)?;
     written(alloc, &report)
-}
-
-/// Whether a report has codes of FIX 4.2.
-fn check_codes(alloc: Global, report: &VenueReport) -> Result<(), TranslateError>
-    requires { IsReadable50 report.now }
-    ensures ok { OnOk result (lacks_codes (says50 report.now) ≡ false) }
-    ensures refused { IfErr result (LacksCodes (says50 report.now)) }
-{
-    match report {
-        VenueReport::Execution(msg) => {
-            execution(alloc, msg)?;
-            Ok(())
-        }
-        VenueReport::CancelReject(_) => Ok(()),
-    }
-}
-
-/// Whether the fields of a body are a report that has codes of FIX 4.2.
-pub(crate) fn check(alloc: Global, split: &Split<'_>) -> Result<(), TranslateError>
-    ensures ok { OnOk result (IsCheckedOf split.now.fields split.now.fault) }
-    ensures refused { IfErr result (RefusesCheck split.now.fields split.now.fault) }
-{
-    let report = read(alloc, split)?;
-    check_codes(alloc, &report)
 }
 
 /// Appends the content of a report.

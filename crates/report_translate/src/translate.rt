@@ -6,7 +6,8 @@ ghost use Rattle.report_translate.specs.Translation.{IsKnown, IsTranslation, IsR
 ghost use Rattle.report_translate.specs.Translation.{IsRefusedByCheck};
 ghost use Rattle.report_translate.specs.Writing.{IsDownOf, RefusesDown};
 
-use crate::report::{check, down, write_body};
+use crate::checking::check_fields;
+use crate::report::{down, write_body};
 use field_groups::{Split, split};
 use frame_grammar::{FrameError, Kind, write_frame};
 use std::alloc::Global;
@@ -78,6 +79,6 @@ impl ReportTranslator {
         ensures refused { IfErr result (IsRefusedByCheck body.now) }
     {
         let split = split(self.alloc, body)?;
-        check(self.alloc, &split)
+        check_fields(&split)
     }
 }

@@ -6,9 +6,12 @@ use Rattle.field_groups.specs.declared.fault.SplitFault.{SplitFault}
 use Rattle.field_groups.specs.Field.{AreFields, Field, body_of}
 use Rattle.dict_fix50.specs.Content.{content50}
 use Rattle.dict_fix50.specs.declared.requests.Msg50.{Msg50}
+use Rattle.dict_fix42.specs.Message.{table_of}
+use Rattle.translation.specs.Header.{type_of}
+use Rattle.translation.specs.Judged.{AreGood}
 use Rattle.translation.specs.declared.error.TranslateError.{TranslateError}
 use Rattle.request_translate.specs.FromFields.{Appends}
-use Rattle.request_translate.specs.Writing.{AreGood, IsRequestOf}
+use Rattle.request_translate.specs.Writing.{IsRequestOf}
 use Rattle.request_translate.proofs.GoodFields.{of_good, refuses_if}
 
 module _ (fields : List Field) (stopped : Option SplitFault) (request : Msg50)
@@ -36,7 +39,7 @@ grows fields stopped before after h =
 
 -- of fields that were judged
 module _ (fields good : List Field) (stopped : Option SplitFault)
-    (are : AreGood fields stopped good) where
+    (are : AreGood (table_of (type_of fields)) fields stopped good) where
   pub appends_of : (before after : List ℕ) → Appends good None before after
       → Appends fields stopped before after
   appends_of before after h =

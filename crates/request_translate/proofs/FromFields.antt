@@ -28,8 +28,9 @@ use Rattle.dict_fix50.specs.Said as said50
 use Rattle.dict_fix42.specs.declared.requests.Msg42.TheVariants as messages42
 use Rattle.dict_fix50.specs.declared.requests.Msg50.TheVariants as messages50
 use Rattle.translation.specs.Header.{type_of}
+use Rattle.translation.specs.Judged.{AreGoodBy}
 use Rattle.request_translate.specs.Written.{IsNew, IsCancel, IsReplace, IsStatus, parties_up}
-use Rattle.request_translate.specs.Writing.{AreGoodBy, IsRequestOf}
+use Rattle.request_translate.specs.Writing.{IsRequestOf}
 use Rattle.request_translate.specs.declared.from_fields.Order.{Order}
 use Rattle.request_translate.specs.FromFields.{IsOrderOf, id_if, security_types, zero}
 use Rattle.request_translate.specs.FromFields.{new50, cancel50, replace50, status50}

@@ -9,7 +9,6 @@ use Rattle.field_groups.specs.Field.{Field}
 use Rattle.value_kinds.specs.ValueKind.{Code}
 use Rattle.message_tables.specs.FirstFault.{first_fault, message_in}
 use Rattle.message_tables.specs.Tables.{Table}
-use Rattle.row_values.specs.Faults.{message_by}
 use Rattle.row_values.specs.Gives.{IsCleanIf}
 use Rattle.row_values.specs.Kinds.{Kind, Value, judge}
 use Rattle.row_values.proofs.ByTable.{says}
@@ -22,11 +21,13 @@ use Rattle.order_meaning.specs.declared.fault.Fault.{Fault}
 use Rattle.order_meaning.specs.declared.fault.Fault.TheVariants as faults
 use Rattle.translation.specs.Errors.{error_of_fault}
 use Rattle.translation.specs.Header.{type_of}
+use Rattle.translation.specs.Judged.{AreGood, AreGoodBy}
 use Rattle.translation.specs.declared.error.TranslateError.{TranslateError}
 use Rattle.translation.specs.declared.error.TranslateError.TheVariants as errors
+use Rattle.translation.proofs.Judged.{clean_is, fault_by}
 use Rattle.request_translate.specs.Lack.{lack_if}
-use Rattle.request_translate.specs.Writing.{AreGood, AreGoodBy, AreRead, IsLackAt, LackNothing}
-use Rattle.request_translate.specs.Writing.{Refuses, lack_at, type_said}
+use Rattle.request_translate.specs.Writing.{AreRead, IsLackAt, LackNothing, Refuses, lack_at}
+use Rattle.request_translate.specs.Writing.{type_said}
 
 -- ---- the table of a type
 
@@ -124,20 +125,23 @@ module _ (fields : List Field) where
 
 -- ---- fields that were judged
 
-pub of_good : (fields good : List Field) (stopped : Option SplitFault) → AreGood fields stopped good
+pub of_good : (fields good : List Field) (stopped : Option SplitFault)
+    → AreGood (table_of (type_of fields)) fields stopped good
     → AreGoodBy (table_of (type_of good)) good
 of_good fields good stopped are = let P : List Field → Type 0 =
     λ f. AreGoodBy (table_of (type_of f)) f in subst P (sym are.same) are.none
 
 pub lack_nothing_of : (fields good : List Field) (stopped : Option SplitFault)
-    → AreGood fields stopped good → LackNothing good None → LackNothing fields stopped
+    → AreGood (table_of (type_of fields)) fields stopped good → LackNothing good None
+    → LackNothing fields stopped
 lack_nothing_of fields good stopped are h =
     let P : List Field → Type 0 = λ f. LackNothing f None in
     let Q : Option SplitFault → Type 0 = λ s. LackNothing fields s in
     subst Q (sym are.whole) (subst P are.same h)
 
 pub refuses_of : (fields good : List Field) (stopped : Option SplitFault) (error : TranslateError)
-    → AreGood fields stopped good → Refuses good None error → Refuses fields stopped error
+    → AreGood (table_of (type_of fields)) fields stopped good → Refuses good None error
+    → Refuses fields stopped error
 refuses_of fields good stopped error are h =
     let P : List Field → Type 0 = λ f. Refuses f None error in
     let Q : Option SplitFault → Type 0 = λ s. Refuses fields s error in
@@ -145,24 +149,10 @@ refuses_of fields good stopped error are h =
 
 -- ---- fields as they are judged
 
-clean_by : (table : Option (Table Kind)) (fields : List Field) (stopped : Option SplitFault)
-    (good : Bor (List Field)) → IsCleanIf table fields stopped (Ok good)
-    → (good.now ≡ fields) × (stopped ≡ None) × AreGoodBy table fields
-clean_by None fields stopped good h = absurd h
-clean_by (Some table) fields stopped good h = h
-
-pub clean_is : (fields : List Field) (stopped : Option SplitFault) (good : Bor (List Field))
+pub good_is : (fields : List Field) (stopped : Option SplitFault) (good : Bor (List Field))
     → IsCleanIf (table_of (type_of fields)) fields stopped (Ok good)
-    → AreGood fields stopped good.now
-clean_is fields stopped good h =
-    let are = clean_by (table_of (type_of fields)) fields stopped good h in
-    record { same = are.0; whole = are.1; none = are.2 }
-
-fault_by : (table : Option (Table Kind)) (fields : List Field) (stopped : Option SplitFault)
-    (fault : Fault) → IsCleanIf table fields stopped (Err fault)
-    → message_by table fields stopped ≡ Err fault
-fault_by None fields stopped fault h = h
-fault_by (Some table) fields stopped fault h = h
+    → AreGood (table_of (type_of fields)) fields stopped good.now
+good_is fields stopped good h = clean_is fields stopped (table_of (type_of fields)) good h
 
 fault_of : (fields : List Field) (stopped : Option SplitFault) (fault : Fault)
     → message42 (type_of fields) fields stopped ≡ Err fault
@@ -177,7 +167,7 @@ pub fault_is : (fields : List Field) (stopped : Option SplitFault) (fault : Faul
     → Refuses fields stopped (error_of_fault fault)
 unfolding message42
 fault_is fields stopped fault h =
-    fault_of fields stopped fault (fault_by (table_of (type_of fields)) fields stopped fault h)
+    fault_of fields stopped fault (fault_by fields stopped (table_of (type_of fields)) fault h)
 
 -- ---- what a check of the terms tells
 
@@ -224,18 +214,20 @@ module _ (fields : List Field) (msg_type : List ℕ) (same : msg_type ≡ type_o
 -- ---- of fields that were judged
 
 pub lack_nothing_if : (fields good : List Field) (stopped : Option SplitFault)
-    (r : Result (Unit {0}) TranslateError) → AreGood fields stopped good
+    (r : Result (Unit {0}) TranslateError)
+    → AreGood (table_of (type_of fields)) fields stopped good
     → OnOk r (LackNothing good None) → OnOk r (LackNothing fields stopped)
 lack_nothing_if fields good stopped (Ok done) are h = lack_nothing_of fields good stopped are h
 lack_nothing_if fields good stopped (Err error) are h = tt
 
 pub refuses_if : (fields good : List Field) (stopped : Option SplitFault)
-    (r : Result (Unit {0}) TranslateError) → AreGood fields stopped good
+    (r : Result (Unit {0}) TranslateError)
+    → AreGood (table_of (type_of fields)) fields stopped good
     → IfErr r (Refuses good None) → IfErr r (Refuses fields stopped)
 refuses_if fields good stopped (Ok done) are h = tt
 refuses_if fields good stopped (Err error) are h = refuses_of fields good stopped error are h
 
-pub ruleset judged = (clean_is, fault_is)
+pub ruleset judged = (good_is, fault_is)
 
 pub ruleset of_judged = (of_good, lack_nothing_if, refuses_if)
 

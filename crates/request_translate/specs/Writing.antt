@@ -5,9 +5,8 @@ use Rattle.field_groups.specs.declared.fault.SplitFault.{SplitFault}
 use Rattle.field_groups.specs.Field.{Field}
 use Rattle.value_kinds.specs.CodeKinds.{code_text}
 use Rattle.value_kinds.specs.ValueKind.{Code, OneByte}
-use Rattle.message_tables.specs.FirstFault.{first_fault}
-use Rattle.message_tables.specs.Tables.{Message, Said, Table, ◌>>=◌, code_of}
-use Rattle.dict_fix42.specs.Message.{message42, table_of}
+use Rattle.message_tables.specs.Tables.{Message, Said, ◌>>=◌, code_of}
+use Rattle.dict_fix42.specs.Message.{message42}
 use Rattle.dict_fix42.specs.Sense.{request42}
 use Rattle.dict_fix50.specs.Content.{content50}
 use Rattle.dict_fix50.specs.Said as said50
@@ -18,7 +17,7 @@ use Rattle.translation.specs.declared.error.TranslateError.TheVariants as errors
 use Rattle.translation.specs.Header.{type_of}
 use Rattle.translation.specs.Writing.{IsWritten, IsUnwritten}
 use Rattle.request_translate.specs.Canonical.{IsCanonical50}
-use Rattle.row_values.specs.Kinds.{Kind, Value, judge, said}
+use Rattle.row_values.specs.Kinds.{Value, said}
 use Rattle.rows_fix42.specs.Meaning as meaning42
 use Rattle.request_translate.specs.declared.parts.Terms.{Terms}
 use Rattle.request_translate.specs.Lack.{lack_if, lack_in}
@@ -76,18 +75,6 @@ RefusesUp fields stopped errors.TooLong = IsLongOf fields stopped
 RefusesUp fields stopped error = Refuses fields stopped error
 
 -- ---- by the fields alone
-
--- fields at no fault beside a table
-abbrev pub AreGoodBy : Option (Table Kind) → List Field → Type 0
-AreGoodBy None fields = ⊥
-AreGoodBy (Some table) fields = first_fault judge table fields ≡ None
-
--- the fields of a whole body at no fault beside the table of their type
-pub record AreGood (fields : List Field) (stopped : Option SplitFault) (good : List Field) : Type 0
-  where
-    pub same : good ≡ fields
-    pub whole : stopped ≡ None
-    pub none : AreGoodBy (table_of (type_of fields)) fields
 
 -- OrdType, TimeInForce and Rule80A, as the fields of an order say them
 abbrev pub type_said : List Field → Said

@@ -3,9 +3,10 @@
 
 ghost use Rattle.std.specs.Prelude.{◌≡◌, IfErr, IfOk, IsSome, None, OnOk};
 ghost use Rattle.dict_fix42.specs.Message.{table_of};
-ghost use Rattle.request_translate.specs.Writing.{AreGood, AreGoodBy, AreTermsOf, IsLackAt};
+ghost use Rattle.request_translate.specs.Writing.{AreTermsOf, IsLackAt};
 ghost use Rattle.request_translate.specs.Writing.{LackNothing, Refuses, lack_at, type_said};
 ghost use Rattle.translation.specs.Header.{type_of};
+ghost use Rattle.translation.specs.Judged.{AreGood, AreGoodBy};
 
 use crate::parts::{Terms, order_terms};
 use dict_fix42::{good42, order_codes};
@@ -15,7 +16,8 @@ use translation::{TranslateError, faulty, lacking, msg_type};
 /// The fields of a body, where they are whole and at no fault beside the table of their type.
 #[tactic(auto, using(crate::proofs::GoodFields::judged))]
 pub(crate) fn good<'s, 'a>(split: &'s Split<'a>) -> Result<&'s Fields<'a>, TranslateError>
-    ensures ok { IfOk result (λ good. AreGood split.now.fields split.now.fault good.now) }
+    ensures ok { IfOk result (λ good. AreGood (table_of (type_of split.now.fields))
+        split.now.fields split.now.fault good.now) }
     ensures refused { IfErr result (Refuses split.now.fields split.now.fault) }
 {
     match good42(msg_type(&split.fields), split) {

@@ -1,3 +1,4 @@
 pub mod Header
 pub mod Errors
+pub mod Judged
 pub mod Writing

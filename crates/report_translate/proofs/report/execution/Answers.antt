@@ -6,11 +6,6 @@ returns-in-Ok-clause-ok c =
     executed c.args.msg.now c.in-Ok.report c.in-Ok.ensures.sense c.in-Ok.ensures.codes
     c.in-Ok.ensures.readable c.in-Ok.ensures.book c.requires c.in-Ok.ensures.written
 
-pub returns-in-Err-clause-codes : goal.returns-in-Err-clause-codes
-returns-in-Err-clause-codes c =
-    without_execution c.args.msg.now c.in-Err.lack c.lacking.result c.lacking.ensures
-    c.in-Err.ensures.lack
-
 pub returns-in-Err-clause-refused : goal.returns-in-Err-clause-refused
 returns-in-Err-clause-refused c =
     unsaid c.args.msg.now c.lacking.result

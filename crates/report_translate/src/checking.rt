@@ -1,0 +1,64 @@
+//! Judging the fields of a report of FIX 5.0 SP2: their first fault, and whether FIX 4.2 has codes
+//! for what they tell. It takes no memory.
+
+ghost use Rattle.std.specs.Prelude.{◌≡◌, IfErr, IfOk, IsSome, None, OnOk, false};
+ghost use Rattle.reports_fix50.specs.Message.{report_table_of};
+ghost use Rattle.reports_fix50.specs.Reading.{exec_type_said};
+ghost use Rattle.report_translate.specs.Writing.{IsCheckedOf, LacksAt, RefusesCheck, lacks_at};
+ghost use Rattle.translation.specs.Header.{type_of};
+ghost use Rattle.translation.specs.Judged.{AreGood, AreGoodBy};
+
+use exec_translate::has_codes;
+use field_groups::{Fields, Split};
+use reports_fix50::{exec_type, good_report};
+use translation::{TranslateError, faulty, msg_type};
+
+/// The fields of a body, where they are whole and a report at no fault.
+#[tactic(auto, using(crate::proofs::GoodFields::judged))]
+fn good<'s, 'a>(split: &'s Split<'a>) -> Result<&'s Fields<'a>, TranslateError>
+    ensures ok { IfOk result (λ good. AreGood (report_table_of (type_of split.now.fields))
+        split.now.fields split.now.fault good.now) }
+    ensures refused { IfErr result (RefusesCheck split.now.fields split.now.fault) }
+{
+    match good_report(msg_type(&split.fields), split) {
+        Ok(fields) => Ok(fields),
+        Err(fault) => Err(faulty(fault)),
+    }
+}
+
+/// Whether FIX 4.2 has codes for the ExecType(150) of an execution report.
+#[tactic(auto, using(crate::proofs::GoodFields::of_codes))]
+fn check_codes(fields: &Fields<'_>) -> Result<(), TranslateError>
+    requires { IsSome (exec_type_said fields.now) }
+    ensures ok { OnOk result (lacks_at fields.now ≡ false) }
+    ensures lack { IfErr result (LacksAt fields.now) }
+{
+    if has_codes(exec_type(fields)) {
+        Ok(())
+    } else {
+        Err(TranslateError::Lacking(150))
+    }
+}
+
+/// Whether a report at no fault has codes of FIX 4.2. Only an execution report (8) can lack them.
+#[tactic(auto, using(crate::proofs::GoodFields::by_type))]
+fn check_good(fields: &Fields<'_>) -> Result<(), TranslateError>
+    requires { AreGoodBy (report_table_of (type_of fields.now)) fields.now }
+    ensures ok { OnOk result (IsCheckedOf fields.now None) }
+    ensures refused { IfErr result (RefusesCheck fields.now None) }
+{
+    if msg_type(fields) == b"8".as_slice() {
+        check_codes(fields)
+    } else {
+        Ok(())
+    }
+}
+
+/// Whether the fields of a body are a report at no fault that has codes of FIX 4.2.
+#[tactic(auto, using(crate::proofs::GoodFields::of_judged))]
+pub(crate) fn check_fields(split: &Split<'_>) -> Result<(), TranslateError>
+    ensures ok { OnOk result (IsCheckedOf split.now.fields split.now.fault) }
+    ensures refused { IfErr result (RefusesCheck split.now.fields split.now.fault) }
+{
+    check_good(good(split)?)
+}
