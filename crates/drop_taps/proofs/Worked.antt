@@ -39,7 +39,8 @@ refused : all_counted (entry (codes "D") (out Client (codes "j") ∷ [])) (entri
 refused = refl
 
 both_rejected : all_counted (entry (codes "D")
-    (out Client (codes "3") ∷ out Venue (codes "3") ∷ out Client (codes "5") ∷ [])) (entries_alone 0)
+    (out Client (codes "3") ∷ out Venue (codes "3") ∷ out Client (codes "5") ∷ []))
+    (entries_alone 0)
     ≡ record { entries = 1; requests = 0; reports = 0; refusals = 2 }
 both_rejected = refl
 
