@@ -1,5 +1,6 @@
 -- What a refusal says is fields that end at their SOH.
-use Rattle.std.proofs.Common.{◌≡◌, ℕ, ◌<◌, ◌^◌, Bool, true, false, List, [], ◌∷◌, ◌++◌, take, drop}
+use Rattle.std.proofs.Common.{◌≡◌, ℕ, ◌<◌, ◌≤◌, ◌^◌, Bool, true, false, List, [], ◌∷◌, ◌++◌, take}
+use Rattle.std.proofs.Common.{drop, length, length-append}
 use Rattle.std.proofs.Common.{codes, Option, Some, None, IfSome, refl, sym, ap, subst, ◌∙◌}
 use Rattle.std.proofs.Common.{arith, lit<}
 use Rattle.std.specs.Prelude.{nat_le, ◌==◌, All}
@@ -106,6 +107,23 @@ four_fields b c d e hb hc hd he =
     All-append IsRefusalField (b ++ c ++ d) e (All-append IsRefusalField (b ++ c) d
     (All-append IsRefusalField b c hb hc) hd) he
 
+one_field : (tag : ℕ) (value : Option (List ℕ)) → length (field_if tag value) ≤ 1
+one_field tag None = omega arith
+one_field tag (Some value) = omega arith
+
+four_few : (b c d e : List Field) → length b ≤ 1 → length c ≤ 1 → length d ≤ 1 → length e ≤ 1
+    → length (b ++ c ++ d ++ e) ≤ 4
+four_few b c d e hb hc hd he = omega (
+  arith,
+  hb,
+  hc,
+  hd,
+  he,
+  length-append (b ++ c ++ d) e,
+  length-append (b ++ c) d,
+  length-append b c,
+)
+
 named : (number : ℕ) (more : List Field) → number < 2 ^ 32 → All IsRefusalField more →
     All IsRefusalField ((45, decimal number) ∷ more)
 named number more word rest =
@@ -131,6 +149,10 @@ unfolding reject
 of_reject number msg_type tag reason text word plain which why saying = record {
   more = number_if 371 tag ++ field_if 372 (Some
       (ref_msg_type msg_type)) ++ number_if 373 reason ++ field_if 58 text;
+  few = four_few (number_if 371 tag) (field_if 372 (Some (ref_msg_type msg_type)))
+      (number_if 373 reason) (field_if 58 text) (one_field 371 (option_map decimal tag))
+      (one_field 372 (Some (ref_msg_type msg_type))) (one_field 373 (option_map decimal reason))
+      (one_field 58 text);
   written = refl;
   fields = named number (number_if 371 tag ++ field_if 372 (Some
       (ref_msg_type msg_type)) ++ number_if 373 reason ++ field_if 58 text) word
@@ -150,6 +172,9 @@ unfolding business_reject
 of_business number msg_type id reason text word plain what why saying = record {
   more = field_if 372 (Some
       (ref_msg_type msg_type)) ++ field_if 379 id ++ number_if 380 reason ++ field_if 58 text;
+  few = four_few (field_if 372 (Some (ref_msg_type msg_type))) (field_if 379 id)
+      (number_if 380 reason) (field_if 58 text) (one_field 372 (Some (ref_msg_type msg_type)))
+      (one_field 379 id) (one_field 380 (option_map decimal reason)) (one_field 58 text);
   written = refl;
   fields = named number (field_if 372 (Some
       (ref_msg_type msg_type)) ++ field_if 379 id ++ number_if 380 reason ++ field_if 58 text) word

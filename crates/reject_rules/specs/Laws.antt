@@ -64,9 +64,10 @@ pub record IsRefusalField (f : Field) : Type 0 where
   pub listed : list_any (λ tag. tag == f.0) refusal_tags ≡ true
   pub no_soh : HasNoSoh f.1
 
--- what is said is such fields as they are written, of which the first is RefSeqNum(45) with this
--- number
+-- what is said is at most five such fields as they are written, of which the first is RefSeqNum(45)
+-- with this number
 pub record IsOf (number : ℕ) (said : Said) : Type 0 where
   pub more : List Field
+  pub few : length more ≤ 4
   pub written : said.content ≡ body_of ((REF_SEQ_NUM, decimal number) ∷ more)
   pub fields : All IsRefusalField ((REF_SEQ_NUM, decimal number) ∷ more)
