@@ -1,0 +1,19 @@
+-- What is said of a message that does not go on fits an entry.
+use Rattle.std.proofs.Common.{Result, Ok, Err, arith}
+use Rattle.std.specs.Prelude.{IfOk}
+use Rattle.session_core.specs.declared.said.Said.{Said}
+use Rattle.reject_rules.specs.Laws.{IsShort}
+use Rattle.message_answers.specs.Seen.{IsFit}
+
+short_fits : (said : Said) → IsShort said → IsFit said
+short_fits said short = record {
+  typed = omega (arith, short.letter);
+  short = omega (arith, short.letter);
+  bounded = omega (arith, short.short);
+}
+
+-- where there is memory
+pub fits_by : {E : Type 0} (P : Said → Type 0) (result : Result Said E)
+    → ((said : Said) → P said → IsShort said) → IfOk result P → IfOk result IsFit
+fits_by P (Ok said) short is = short_fits said (short said is)
+fits_by P (Err error) short is = tt

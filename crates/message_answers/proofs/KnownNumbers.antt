@@ -1,0 +1,243 @@
+-- The numbers, the letters and the original orders that are known of a journal.
+use Rattle.std.proofs.Common.{◌≡◌, ◌≤◌, ℕ, ◌==◌, ◌&&◌, ◌||◌, not, Bool, true, false, List, [], ◌∷◌}
+use Rattle.std.proofs.Common.{◌++◌, codes, Option, Some, None, Result, Ok, Err, IfSome, refl, sym}
+use Rattle.std.proofs.Common.{subst, option_map, option_and_then, if◌then◌else◌}
+use Rattle.std.specs.Prelude.{find}
+use Rattle.std.specs.List.{AllByRecursion, list_all, list_any}
+use Rattle.std.specs.Option.{option_to_list}
+use Rattle.std.specs.Result.{result_ok}
+use Rattle.std.proofs.lemmas.Bool.{eqb-true}
+use Rattle.field_groups.specs.Field.{is_soh}
+use Rattle.message_tables.specs.Tables.{Message, Tag, ◌>>=◌, first_of, is_one_of, said_at}
+use Rattle.order_meaning.specs.declared.Side.{Side}
+use Rattle.order_meaning.specs.declared.Side.TheVariants.{Client, Venue}
+use Rattle.order_meaning.specs.declared.fault.Fault.{Fault}
+use Rattle.order_meaning.specs.declared.refusal.Refusal.{Refusal}
+use Rattle.order_chains.specs.Chains.{has_id, item_with, number_of, orig_of}
+use Rattle.order_chains.specs.declared.item.ChainItem.{ChainItem}
+use Rattle.pair_journal.specs.declared.TheConstants.{MAX_NUMBER}
+use Rattle.pair_journal.specs.declared.entry.Took.{Took}
+use Rattle.pair_journal.specs.declared.entry.Out.{Out}
+use Rattle.pair_journal.specs.declared.entry.Entry.{Entry}
+use Rattle.pair_journal.specs.Given.{Given, given, has_letter, is_source, letter_of, letters_to}
+use Rattle.pair_journal.specs.Given.{numbered, source_in, source_of}
+use Rattle.pair_journal.specs.Numbers.{is_side, outs_to}
+use Rattle.row_values.specs.Kinds.{judge}
+use Rattle.sound_messages.proofs.Each.{each_joined, not_true}
+use Rattle.sound_messages.proofs.PlainFields.{clear_fields}
+use Rattle.event_decisions.specs.Body.{first_value, reading_of}
+use Rattle.event_decisions.proofs.Bodies.{bodies_are_read}
+use Rattle.message_answers.specs.Chains.{chains_after, chains_of, if_new, item_in, item_of, joining}
+use Rattle.message_answers.specs.Chains.{joining_letter, new_item}
+use Rattle.message_answers.specs.Known.{known_of, named, named_by_id}
+use Rattle.message_answers.specs.Laws.{AreNumbered, IsNumbered}
+use Rattle.message_answers.specs.Message.{message_of}
+use Rattle.message_answers.proofs.Forwards.{first_is}
+use Rattle.message_answers.proofs.Letters.{among}
+use Rattle.message_answers.proofs.ReadShapes.{original_is, shape}
+use Rattle.message_answers.proofs.SaidTexts.{IsShortId}
+
+-- a number that a message may have, and a letter that does not end a field
+pub record IsGoodSource (at : ℕ × ℕ) : Type 0 where
+  pub number : at.0 ≤ MAX_NUMBER
+  pub letter : is_soh at.1 ≡ false
+
+-- ---- the source of an out
+
+mid_of : (a b c : Bool) → (a && b && c) ≡ true → b ≡ true
+mid_of true true c h = refl
+mid_of true false c h = absurd cc
+mid_of false b c h = absurd cc
+
+clear_letter : (letters : List ℕ) (letter : ℕ) → list_all (λ l. not (is_soh l)) letters ≡ true
+    → list_any (λ l. letter == l) letters ≡ true → is_soh letter ≡ false
+clear_letter [] letter all is = absurd cc
+clear_letter (l ∷ ls) letter all is =
+    by (letter == l) (is_soh l) refl refl (λ rest later. clear_letter ls letter rest later) all is
+  where
+    by : (same soh : Bool) → (letter == l) ≡ same → is_soh l ≡ soh
+        → (list_all (λ l. not (is_soh l)) ls ≡ true
+        → list_any (λ l. letter == l) ls ≡ true → is_soh letter ≡ false)
+        → (not soh && list_all (λ l. not (is_soh l)) ls) ≡ true
+        → (same || list_any (λ l. letter == l) ls) ≡ true → is_soh letter ≡ false
+    by same true e s later all is = absurd cc
+    by true false e s later all is =
+        subst (λ (x : ℕ). is_soh x ≡ false) (sym (eqb-true letter l e)) s
+    by false false e s later all is = later all is
+
+letters_clear : (side : Side) (letter : ℕ) → list_any (λ b. letter == b) (letters_to side) ≡ true
+    → is_soh letter ≡ false
+letters_clear Client letter is = clear_letter (codes "89") letter refl is
+letters_clear Venue letter is = clear_letter (codes "DFGH") letter refl is
+
+out_good : (entry : Entry) (out : Out) → IsNumbered entry
+    → IfSome (source_in (record { entry = entry; out = out })) IsGoodSource
+out_good entry out are = by entry.took (letter_of out.msg_type) are
+  where
+    by_source : (took : Took) (letter : ℕ) (b : Bool) → is_source took out.side letter ≡ b
+        → took.number ≤ MAX_NUMBER
+        → IfSome (if b then Some (took.number, letter) else None) IsGoodSource
+    by_source took letter true e few = record {
+      number = few;
+      letter = letters_clear out.side letter (mid_of (not (is_side out.side took.side))
+          (list_any (λ b. letter == b) (letters_to out.side)) (has_letter letter took.raw) e);
+    }
+    by_source took letter false e few = tt
+
+    by : (took : Option Took) (letter : Option ℕ) → IfSome took (λ t. t.number ≤ MAX_NUMBER)
+        → IfSome (elim took [
+          | None ↦ None
+          | Some took ↦ elim letter [
+            | None ↦ None
+            | Some letter ↦
+                if is_source took out.side letter then Some (took.number, letter) else None
+          ]
+        ]) IsGoodSource
+    by None letter few = tt
+    by (Some took) None few = tt
+    by (Some took) (Some letter) few =
+        by_source took letter (is_source took out.side letter) refl few
+
+-- the out of an entry, where one was found; the first that was found; and what it translates
+abbrev given_of : Entry → Option Out → Option Given
+given_of entry o = elim o [
+  | None ↦ None
+  | Some out ↦ Some (record { entry = entry; out = out })
+]
+
+abbrev given_next : Option Given → Option Given → Option Given
+given_next rest one = elim one [
+  | None ↦ rest
+  | Some x ↦ Some x
+]
+
+abbrev source_at : Option Given → Option (ℕ × ℕ)
+source_at one = elim one [
+  | None ↦ None
+  | Some x ↦ source_in x
+]
+
+source_good : (side : Side) (number : ℕ) (entries : List Entry) → AreNumbered entries
+    → IfSome (source_of side number entries) IsGoodSource
+source_good side number [] are = tt
+source_good side number (entry ∷ entries) are =
+    by (numbered number (outs_to side entry.outs)) (source_good side number entries are.1)
+  where
+    by : (o : Option Out) → IfSome (source_of side number entries) IsGoodSource
+        → IfSome (source_at (given_next (given side number entries) (given_of entry o)))
+        IsGoodSource
+    by None rest = rest
+    by (Some out) rest = out_good entry out are.0
+
+-- ---- the chains
+
+pub record IsGoodItem (item : ChainItem) : Type 0 where
+  pub source : IsGoodSource (item.number, item.letter)
+  pub original : IfSome item.orig IsShortId
+
+original_good : (raw : List ℕ) (m : Message) → message_of Client raw ≡ Ok m
+    → IfSome (said_at m.cells (Tag 41)) IsShortId
+original_good raw m reads =
+    let fields = (reading_of raw).fields in
+    let split = (reading_of raw).fault in
+    original_is Client fields split (message_of Client raw) m reads
+    (clear_fields judge None fields (bodies_are_read raw).good) refl
+    (shape (first_value fields) fields split Client)
+
+item_good : (entry : Entry) → IsNumbered entry → IfSome (item_in entry) IsGoodItem
+item_good entry are = by entry.took refl are
+  where
+    by_read : (took : Took) (letter : ℕ) (read : Result Message Fault)
+        → message_of Client took.raw ≡ read → is_soh letter ≡ false → took.number ≤ MAX_NUMBER
+        → IfSome (result_ok read >>= (λ m. Some (item_of took letter m))) IsGoodItem
+    by_read took letter (Ok m) reads clear few = record {
+      source = record { number = few; letter = clear };
+      original = original_good took.raw m reads;
+    }
+    by_read took letter (Err fault) reads clear few = tt
+
+    by_letter : (took : Took) → entry.took ≡ Some took → took.number ≤ MAX_NUMBER
+        → (letter : Option ℕ) → first_of (joining_letter entry) entry.outs ≡ letter
+        → IfSome (letter >>= (λ letter. result_ok (message_of Client took.raw)
+        >>= (λ m. Some (item_of took letter m)))) IsGoodItem
+    by_letter took is few None front = tt
+    by_letter took is few (Some letter) front =
+        let found = first_is entry took is entry.outs letter front in
+        by_read took letter (message_of Client took.raw) refl
+        (not_true (is_soh letter)
+        (among (λ l. not (is_soh l)) joining letter refl found.joins)) few
+
+    by : (took : Option Took) → entry.took ≡ took → IfSome took (λ t. t.number ≤ MAX_NUMBER)
+        → IfSome (took >>= (λ took. first_of (joining_letter entry) entry.outs >>= (λ letter.
+        result_ok (message_of Client took.raw) >>= (λ m. Some (item_of took letter m)))))
+        IsGoodItem
+    by None is few = tt
+    by (Some took) is few =
+        by_letter took is few (first_of (joining_letter entry) entry.outs) refl
+
+new_good : (items : List ChainItem) (item : Option ChainItem) → IfSome item IsGoodItem
+    → AllByRecursion IsGoodItem (option_to_list (if_new items item))
+new_good items None good = tt
+new_good items (Some item) good = by (has_id items item.id)
+  where
+    by : (b : Bool)
+        → AllByRecursion IsGoodItem (option_to_list (if b then None else Some item))
+    by true = tt
+    by false = (good, tt)
+
+chains_good : (items : List ChainItem) (entries : List Entry) → AreNumbered entries
+    → AllByRecursion IsGoodItem items → AllByRecursion IsGoodItem (chains_after items entries)
+chains_good items [] are good = good
+chains_good items (entry ∷ entries) are good =
+    chains_good (items ++ option_to_list (new_item items entry)) entries are.1
+    (each_joined IsGoodItem items (option_to_list (new_item items entry)) good
+    (new_good items (item_in entry) (item_good entry are.0)))
+
+find_good : (test : ChainItem → Bool) (items : List ChainItem) → AllByRecursion IsGoodItem items
+    → IfSome (find test items) IsGoodItem
+find_good test [] good = tt
+find_good test (item ∷ items) good = by (test item) refl (find_good test items good.1)
+  where
+    by : (b : Bool) → test item ≡ b → IfSome (find test items) IsGoodItem
+        → IfSome (find test (item ∷ items)) IsGoodItem
+    by true e rest = rw e good.0
+    by false e rest = rw e rest
+
+module _ (before : List Entry) (are : AreNumbered before) where
+  kept_good : (id : List ℕ) → IfSome (item_with (chains_of before) id) IsGoodItem
+  kept_good id = find_good _ (chains_of before) (chains_good [] before are tt)
+
+  number_good : (id : List ℕ) → IfSome (number_of (chains_of before) id) IsGoodSource
+  number_good id = by (item_with (chains_of before) id) (kept_good id)
+    where
+      by : (o : Option ChainItem) → IfSome o IsGoodItem
+          → IfSome (option_map (λ item. (item.number, item.letter)) o) IsGoodSource
+      by None good = tt
+      by (Some item) good = good.source
+
+  -- THE ORIGINAL ORDER that the chains know
+  pub orig_good : (id : List ℕ) → IfSome (orig_of (chains_of before) id) IsShortId
+  orig_good id = by (item_with (chains_of before) id) (kept_good id)
+    where
+      by : (o : Option ChainItem) → IfSome o IsGoodItem
+          → IfSome (option_and_then (λ item. item.orig) o) IsShortId
+      by None good = tt
+      by (Some item) good = good.original
+
+  -- WHAT A REFUSAL NAMES
+  pub named_good : (side : Side) (r : Refusal)
+      → IfSome (named (known_of before) side r) IsGoodSource
+  named_good side r = by r.number
+    where
+      by_id : (side : Side) (id : Option (List ℕ))
+          → IfSome (named_by_id (known_of before) side id) IsGoodSource
+      by_id Client id = tt
+      by_id Venue None = tt
+      by_id Venue (Some id) = number_good id
+
+      by : (number : Option ℕ) → IfSome (elim number [
+        | Some number ↦ source_of side number before
+        | None ↦ named_by_id (known_of before) side r.id
+      ]) IsGoodSource
+      by None = by_id side r.id
+      by (Some number) = source_good side number before are

@@ -1,0 +1,20 @@
+use Rattle.message_answers.proofs.Answered.{faulty}
+use Rattle.message_answers.proofs.Joins.{refused_joins}
+use Rattle.message_answers.proofs.Requested.{sound, tells}
+use Rattle.message_answers.proofs.requests.requested.Goals as goal
+
+pub in_turn-requires-clause-sound : goal.in_turn-requires-clause-sound
+in_turn-requires-clause-sound c =
+    sound c.args.asked.now c.in-Ok.request c.read_is_sound.ensures c.requires.split
+    c.in-Ok.ensures.says
+
+pub returns-in-Err-clause-answer : goal.returns-in-Err-clause-answer
+returns-in-Err-clause-answer c =
+    faulty c.args.known.now c.args.asked.now c.requires.split c.in-Err.fault c.refused.result
+    (tells c.args.known.now c.args.asked.now c.requires.split c.requires.side c.requires.other
+    c.in-Err.fault c.in-Err.ensures.says) c.refused.ensures.refused
+
+pub returns-in-Err-clause-item : goal.returns-in-Err-clause-item
+returns-in-Err-clause-item c =
+    refused_joins c.args.known.now c.args.asked.now c.in-Err.fault c.refused.result
+    c.refused.ensures.refused
