@@ -1,0 +1,7 @@
+mod Fits
+mod Echoes
+mod Planned
+mod Concluded
+mod Asked
+mod Reacted
+mod Grown
