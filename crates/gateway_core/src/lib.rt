@@ -13,8 +13,6 @@ mod outs;
 mod plan;
 mod planning;
 mod sessions;
-#[cfg(test)]
-mod tests;
 
 pub use event_decisions::Event;
 pub use gateway_config::Config;

@@ -14,8 +14,6 @@ mod reading;
 mod reports;
 mod requests;
 mod saying;
-#[cfg(test)]
-mod tests;
 
 pub use answer::{Answer, answer_to};
 pub use asking::{Asked, Known, Words};

@@ -5,8 +5,8 @@ ghost use Rattle.std.specs.Prelude.{◌≡◌, true, IfOk};
 ghost use Rattle.frame_grammar.specs.Frame.{IsBody};
 ghost use Rattle.gateway_core.specs.State.{IsNew};
 
-use crate::{Config, Core, Event, Plan, PlanError};
 use frame_grammar::MAX_BODY;
+use gateway_core::{Config, Core, Event, Plan, PlanError};
 use order_chains::ChainItem;
 use order_meaning::Side::{self, Client, Venue};
 use order_meaning::{Name, Names};

@@ -5,15 +5,14 @@ ghost use Rattle.std.specs.Prelude.{◌≡◌, true};
 ghost use Rattle.field_groups.specs.Fields.{SplitsInto};
 ghost use Rattle.frame_grammar.specs.Frame.{IsBody};
 
-use crate::answer::forwarded;
-use crate::{Answer, Asked, Known, answer_to, chains_of};
 use field_groups::{Split, split};
 use frame_grammar::MAX_BODY;
+use message_answers::{Answer, Asked, Known, answer_to, chains_of};
 use order_chains::Chains;
 use order_meaning::Side::{self, Client, Venue};
 use order_meaning::{Name, Names};
 use outside::MemDisk;
-use pair_journal::{Journal, MAX_CONTENT};
+use pair_journal::Journal;
 use std::alloc::{AllocError, Global};
 use std::process::Abort;
 use std::test::Fail;
@@ -472,21 +471,6 @@ fn answered(
     text_of(alloc, &answer)
 }
 
-/// Where an order of the client goes on with this content, as a text.
-fn order_with(
-    alloc: Global,
-    body: &[u8],
-    split: &Split<'_>,
-    content: &[u8],
-) -> Result<Vec<u8>, AllocError>
-    requires body { IsBody body.now }
-    requires split { SplitsInto body.now split.now.fields split.now.fault }
-{
-    let asked = Asked::new(Client, 8, body, split);
-    let answer = forwarded(alloc, &asked, b"D", false, content, None)?;
-    text_of(alloc, &answer)
-}
-
 /// The answers to these messages, each behind the same journal.
 fn all_answered(rt: &impl Abort, alloc: Global, rows: &[Row]) -> Result<(), Fail> {
     let (journal, chains) = loaded(rt, alloc)?;
@@ -561,27 +545,5 @@ fn a_text_is_told_in_part(rt: HostRuntime) -> Result<(), Fail> {
         let text = answered(&rt, alloc, &known, Venue, &body)?;
         assert_eq!(rt; text.as_slice(), expected.as_slice(), "{length}");
     }
-    Ok(())
-}
-
-#[test]
-fn a_content_has_a_limit(rt: HostRuntime) -> Result<(), Fail> {
-    let alloc = rt.alloc();
-    let body = body_of(alloc, Client, 8, b"D", b"11=A5|", ORDER)?;
-    if !is_body(&body) {
-        return Err("no body".into());
-    }
-    let split = split(alloc, &body)?;
-    let long = vec![in alloc; b'x'; MAX_CONTENT + 1]?;
-    let text = order_with(alloc, &body, &split, &long)?;
-    assert_eq!(rt;
-        text.as_slice(),
-        b"C j 45=8|372=D|380=0|58=tag 9 has no counterpart|".as_slice()
-    );
-    let Some(short) = long.as_slice().get(1..) else {
-        return Err("no content".into());
-    };
-    let text = order_with(alloc, &body, &split, short)?;
-    assert_eq!(rt; text.len(), MAX_CONTENT + 4);
     Ok(())
 }
