@@ -1,0 +1,3 @@
+pub mod Sendings
+mod Repeating
+mod Placing

@@ -1,0 +1,123 @@
+//! What one event does on one wire.
+
+ghost use Rattle.std.specs.Prelude.{◌≡◌, ◌≤◌, ◌-◌, map, if◌then◌else◌, Some, IfOk, IfSome, OnErr};
+ghost use Rattle.std.specs.Prelude.{IsOkUnless, true};
+ghost use Rattle.std.specs.Option.{ForSome};
+ghost use Rattle.gate_log.specs.Log.{OnlyReads};
+ghost use Rattle.pair_journal.specs.declared.error.JournalError.TheVariants as errors;
+ghost use Rattle.pair_journal.specs.Calls.{HasDiskCause};
+ghost use Rattle.pair_journal.specs.Journal.{JournalOf, Born, AreEntries};
+ghost use Rattle.pair_journal.specs.Numbers.{is_side, first_numbers};
+ghost use Rattle.life_events.specs.Forms.{form_frame};
+ghost use Rattle.life_events.specs.Repeats.{repeated_to};
+ghost use Rattle.life_events.specs.Happens.{firsts};
+ghost use Rattle.wire_sends.specs.Sent.{Agrees, Sent, PartSent, Hung, hung_side, AreSendable};
+ghost use Rattle.wire_sends.specs.Again.{repeat_in, IsGiven};
+
+use crate::repeats::{Again, repeat_outs};
+use crate::sends::{is_side, send_outs};
+use order_meaning::{Names, Side};
+use outside::Disk;
+use pair_journal::{Entry, Journal, JournalError, MAX_AT, OutBuf};
+use session_frames::FrameBuf;
+use wires::Wire;
+
+/// Sends again what is asked for, where it is of this side, and answers whether the connection
+/// still stands. `resend` is of whom, and the first and the last number.
+///
+/// # Errors
+///
+/// `DiskFault` alone, and only where the disk's count of faults rose. Then a part of it was sent.
+pub fn repeat_on<D: Disk, W: Wire>(
+    journal: &Journal,
+    disk: &mut D,
+    buf: &mut OutBuf,
+    wire: &mut W,
+    up: bool,
+    frame: &mut FrameBuf,
+    names: &Names,
+    side: Side,
+    resend: Option<(Side, u32, u32)>,
+    now: u64,
+) -> Result<bool, JournalError>
+    requires agrees { Agrees (W.recorded wire.old) up }
+    requires stands { ForSome (D.bytes disk.old) (λ b.
+        JournalOf b (Born journal.now.names journal.now.entries)) }
+    requires sound { AreEntries first_numbers journal.now.entries }
+    requires given { IsGiven journal.now.entries resend }
+    requires moment { now ≤ MAX_AT }
+    ensures agrees { IfOk result (Agrees (W.recorded wire.new)) }
+    ensures sent { IfOk result (Sent (W.recorded wire.old) (W.recorded wire.new) up
+        (map (form_frame names.now side)
+        (repeated_to side journal.now.entries now (repeat_in resend)))) }
+    ensures part { OnErr result (PartSent (W.recorded wire.old) (W.recorded wire.new) up
+        (map (form_frame names.now side)
+        (repeated_to side journal.now.entries now (repeat_in resend)))) }
+    ensures only_read { OnlyReads D.bytes D.image disk.old disk.new }
+    ensures cause { HasDiskCause (D.faults disk.old) (D.faults disk.new) result }
+    ensures only { IsOkUnless result errors.DiskFault }
+    ensures polls { W.polls wire.new ≡ W.polls wire.old }
+{
+    match resend {
+        Some((of, from, to)) if is_side(side, of) => {
+            let again = Again {
+                side,
+                from,
+                to,
+                now,
+            };
+            repeat_outs(journal, disk, buf, wire, up, frame, names, again)
+        }
+        _ => Ok(up),
+    }
+}
+
+/// Sends an entry's outs to a side, where they are to be sent, and answers whether the connection
+/// still stands.
+pub fn outs_on<W: Wire>(
+    wire: &mut W,
+    up: bool,
+    frame: &mut FrameBuf,
+    names: &Names,
+    side: Side,
+    sent: bool,
+    entry: &Option<Entry>,
+) -> bool
+    requires agrees { Agrees (W.recorded wire.old) up }
+    requires outs { IfSome entry.now (λ e. AreSendable e.outs) }
+    requires moment { IfSome entry.now (λ e. e.at ≤ MAX_AT) }
+    ensures agrees { Agrees (W.recorded wire.new) result }
+    ensures sent { Sent (W.recorded wire.old) (W.recorded wire.new) up
+        (map (form_frame names.now side) (firsts side sent entry.now)) result }
+    ensures polls { W.polls wire.new ≡ W.polls wire.old }
+{
+    match entry {
+        Some(entry) if sent => send_outs(
+            wire,
+            up,
+            frame,
+            names,
+            side,
+            entry.outs.as_slice(),
+            entry.at,
+        ),
+        _ => up,
+    }
+}
+
+/// Hangs up where this side is to be hung up, and answers whether the connection still stands.
+pub fn hang_up_on<W: Wire>(wire: &mut W, up: bool, side: Side, hang_up: Option<Side>) -> bool
+    requires { Agrees (W.recorded wire.old) up }
+    ensures agrees { Agrees (W.recorded wire.new) result }
+    ensures hung { Hung (W.recorded wire.old) (W.recorded wire.new) up (hung_side side hang_up)
+        result }
+    ensures polls { W.polls wire.new ≡ W.polls wire.old }
+{
+    match hang_up {
+        Some(of) if is_side(side, of) => {
+            wire.hang_up();
+            false
+        }
+        _ => up,
+    }
+}
