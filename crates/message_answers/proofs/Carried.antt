@@ -24,7 +24,7 @@ none_filled (NotCanceled reject) =
     ap (λ (id : Option (List ℕ)). NotCanceled (record reject { orig_id = id }))
     (known_is reject.orig_id)
 
-unfilled : (report : Option Report) → option_map (filled None) report ≡ report
+pub unfilled : (report : Option Report) → option_map (filled None) report ≡ report
 unfilled None = refl
 unfilled (Some report) = ap (λ (r : Report). Some r) (none_filled report)
 

@@ -4,7 +4,7 @@ mod Refusals
 mod Bounded
 mod Told
 mod Fits
-mod Letters
+pub mod Letters
 mod Typed
 mod Answered
 mod Joins
@@ -12,11 +12,11 @@ mod Requested
 mod ExecTypes
 mod Reported
 mod Forwards
-mod Carried
+pub mod Carried
 mod Application
 mod FaultWords
-mod SaidTexts
-mod ReadShapes
-mod KnownNumbers
-mod SentFields
+pub mod SaidTexts
+pub mod ReadShapes
+pub mod KnownNumbers
+pub mod SentFields
 mod GivenOut

@@ -38,7 +38,7 @@ use Rattle.message_answers.proofs.SaidTexts.{told_well}
 -- a table of the client: of a request, or of a report, which is not supported
 pub record IsClientTable (t : Table Kind) : Type 0 where
   good : list_all has_good_tags t.items ≡ true
-  letter : is_one_of (codes "DFGH89") t.letter ≡ true
+  pub letter : is_one_of (codes "DFGH89") t.letter ≡ true
   original : (fields : List Field) → AreClear fields
       → IfSome (said_at (message_in judge t fields).cells (Tag 41)) IsShortId
 
@@ -48,7 +48,7 @@ pub record IsVenueTable (t : Table Kind) : Type 0 where
 
 pub record IsRefusalTable (t : Table Kind) : Type 0 where
   good : list_all has_good_tags t.items ≡ true
-  letter : is_one_of (codes "3j") t.letter ≡ true
+  pub letter : is_one_of (codes "3j") t.letter ≡ true
   original : (fields : List Field) → said_at (message_in judge t fields).cells (Tag 41) ≡ None
   well : (fields : List Field) → AreClear fields
       → IsToldWell (refusal_in (message_in judge t fields))
@@ -213,12 +213,12 @@ abbrev pub types : List ℕ
 types = codes "DFGH893j"
 
 -- it was read at no fault
-record IsRead (t : Table Kind) (fields : List Field) (split : Option SplitFault) (m : Message)
+pub record IsRead (t : Table Kind) (fields : List Field) (split : Option SplitFault) (m : Message)
     : Type 0 where
-  whole : split ≡ None
-  is : m ≡ message_in judge t fields
+  pub whole : split ≡ None
+  pub is : m ≡ message_in judge t fields
 
-read_by : (t : Table Kind) (fields : List Field) (split : Option SplitFault) (m : Message)
+pub read_by : (t : Table Kind) (fields : List Field) (split : Option SplitFault) (m : Message)
     → message_by (Some t) fields split ≡ Ok m → IsRead t fields split m
 unfolding message_of
 read_by t fields (Some fault) m is = absurd cc
@@ -231,12 +231,12 @@ read_by t fields None m is = by (first_fault judge t fields) is
     by (Some f) is = absurd cc
 
 -- what was changed of it afterwards
-once_ok : (r : Result Message Fault) (m : Message) → once_by r ≡ Ok m
+pub once_ok : (r : Result Message Fault) (m : Message) → once_by r ≡ Ok m
     → (x : Message) × (r ≡ Ok x) × (once x ≡ m)
 once_ok (Ok x) m is = let same : once x ≡ m = cc in (x, refl, same)
 once_ok (Err e) m is = absurd cc
 
-completed_ok : (r : Result Message Fault) (m : Message) → completed_by r ≡ Ok m
+pub completed_ok : (r : Result Message Fault) (m : Message) → completed_by r ≡ Ok m
     → (x : Message) × (r ≡ Ok x) × (completed x ≡ m)
 completed_ok (Ok x) m is = let same : completed x ≡ m = cc in (x, refl, same)
 completed_ok (Err e) m is = absurd cc
@@ -277,17 +277,17 @@ module _ (side : Side) (fields : List Field) (split : Option SplitFault) (r : Re
           by (inl is) = ap (λ (x : Table Kind). is_one_of (codes "89") x.letter) is
           by (inr is) = ap (λ (x : Table Kind). is_one_of (codes "89") x.letter) is
 
-      client_read : (t : Table Kind) → r ≡ message_by (Some t) fields split
+      pub client_read : (t : Table Kind) → r ≡ message_by (Some t) fields split
           → IsRead t fields split m
       client_read t e = read_by t fields split m (sym e ∙ reads)
 
-      once_read : (t : Table Kind) → r ≡ once_by (message_by (Some t) fields split)
+      pub once_read : (t : Table Kind) → r ≡ once_by (message_by (Some t) fields split)
           → (m ≡ once (message_in judge t fields))
       once_read t e =
           let p = once_ok (message_by (Some t) fields split) m (sym e ∙ reads) in
           sym p.2 ∙ ap once (read_by t fields split p.0 p.1).is
 
-      venue_read : (t : Table Kind) → r ≡ completed_by (message_by (Some t) fields split)
+      pub venue_read : (t : Table Kind) → r ≡ completed_by (message_by (Some t) fields split)
           → m ≡ completed (message_in judge t fields)
       venue_read t e =
           let p = completed_ok (message_by (Some t) fields split) m (sym e ∙ reads) in

@@ -103,17 +103,24 @@ whole t fields (Some fault) m is = absurd cc
 
 module _ (fields : List Field) (split : Option SplitFault) (clear : AreClear fields) (m : Message)
   where
-    -- AN EXECUTION REPORT that goes on
+    -- AN EXECUTION REPORT that goes on is sound
+    pub report_good : (written : List Field) → (is : IsReported m written)
+        → completed_by (message_by (Some reports50.report_table) fields split) ≡ Ok m
+        → IsSound judge reports42.execution_report_table (said42.report_says is.client)
+    report_good written is reads =
+        let read = report_read fields clear (said50.report_says is.venue)
+        (whole reports50.report_table fields split m reads ∙ ap (λ (x : Message). Ok x) is.said) in
+        report_sound is.venue is.client read.read is.told is.rows is.codes
+
+    -- and its content can be sent
     pub report_given : (written : List Field) → (is : IsReported m written)
         → completed_by (message_by (Some reports50.report_table) fields split) ≡ Ok m
         → AreGiven written
     unfolding is_data_tag times
     report_given written is reads =
-        let read = report_read fields clear (said50.report_says is.venue)
-        (whole reports50.report_table fields split m reads ∙ ap (λ (x : Message). Ok x) is.said) in
         subst AreGiven (sym is.content)
         (sound_given reports42.execution_report_table (said42.report_says is.client) refl (lit≤ tt)
-        refl (report_sound is.venue is.client read.read is.told is.rows is.codes))
+        refl (report_good written is reads))
 
     -- ---- a cancel reject
 
@@ -191,18 +198,25 @@ module _ (fields : List Field) (split : Option SplitFault) (clear : AreClear fie
         }) refl
     sound_reject v r None good read told rows None is original = absurd cc
 
-    -- A CANCEL REJECT that goes on, where this is known of the order
+    -- A CANCEL REJECT that goes on is sound, where this is known of the order
+    pub reject_good : (known : Option (List ℕ)) (written : List Field) → IfSome known IsShortId
+        → (is : IsNotCanceled known m written)
+        → completed_by (message_by (Some reports50.cancel_reject_table) fields split) ≡ Ok m
+        → IsSound judge reports42.cancel_reject_table (said42.cancel_reject_says is.client)
+    reject_good known written good is reads =
+        let read = reject_read fields clear (said50.cancel_reject_says is.venue)
+        (whole reports50.cancel_reject_table fields split m reads
+        ∙ ap (λ (x : Message). Ok x) is.said) in
+        sound_reject is.venue is.client known good read.read is.told is.rows is.venue.orig_id refl
+        is.order
+
+    -- and its content can be sent
     pub reject_given : (known : Option (List ℕ)) (written : List Field) → IfSome known IsShortId
         → (is : IsNotCanceled known m written)
         → completed_by (message_by (Some reports50.cancel_reject_table) fields split) ≡ Ok m
         → AreGiven written
     unfolding is_data_tag times
     reject_given known written good is reads =
-        let read = reject_read fields clear (said50.cancel_reject_says is.venue)
-        (whole reports50.cancel_reject_table fields split m reads
-        ∙ ap (λ (x : Message). Ok x) is.said) in
         subst AreGiven (sym is.content)
         (sound_given reports42.cancel_reject_table (said42.cancel_reject_says is.client) refl
-        (lit≤ tt) refl
-        (sound_reject is.venue is.client known good read.read is.told is.rows is.venue.orig_id refl
-        is.order))
+        (lit≤ tt) refl (reject_good known written good is reads))

@@ -1,0 +1,12 @@
+mod Worked
+mod Types
+mod Ids
+mod Numbers
+mod Refusals
+mod Contents
+mod Answered
+mod On
+mod Requests
+mod Reports
+mod Texts
+mod Session
