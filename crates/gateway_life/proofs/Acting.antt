@@ -1,0 +1,316 @@
+-- What an event does on the wires, part after part.
+use Rattle.std.proofs.Common.{◌≡◌, ℕ, Bool, true, false, List, [], ◌++◌, refl, sym, ◌∙◌, ap}
+use Rattle.std.proofs.Common.{subst, append_assoc, Some, None, inl, inr, Ok, Err}
+use Rattle.std.specs.Prelude.{map, ◌&&◌, Result, OnErr, IfErr, IsErrAnd}
+use Rattle.std.specs.declared.option.Option.{Option}
+use Rattle.std.specs.Option.{option_to_list, ForSome}
+use Rattle.std.proofs.lemmas.List.{map-append}
+use Rattle.order_meaning.specs.declared.Side.{Side}
+use Rattle.order_meaning.specs.declared.Side.TheVariants.{Client, Venue}
+use Rattle.order_meaning.specs.declared.names.Names.{Names}
+use Rattle.session_core.specs.declared.session.Session.{Session}
+use Rattle.session_core.specs.Table as session
+use Rattle.pair_journal.specs.declared.error.JournalError.{JournalError}
+use Rattle.pair_journal.specs.declared.error.JournalError.TheVariants as errors
+use Rattle.pair_journal.specs.declared.entry.Entry.{Entry}
+use Rattle.pair_journal.specs.Numbers.{numbers_after, first_numbers}
+use Rattle.pair_journal.specs.Journal.{JournalOf, Born, AreEntries}
+use Rattle.event_decisions.specs.Event.{Event}
+use Rattle.event_decisions.specs.Decide.{Sessions, AreSides, numbers_of, Decision, Decides}
+use Rattle.message_answers.specs.Answer.{Answers}
+use Rattle.message_answers.specs.Chains.{chains_of}
+use Rattle.gateway_core.specs.State.{sessions_in}
+use Rattle.gateway_config.specs.declared.config.Config.{Config}
+use Rattle.wires.specs.Wire.{WireCall}
+use Rattle.life_events.specs.Forms.{Form}
+use Rattle.life_events.specs.Sends.{Sends, Part, hang_up_if}
+use Rattle.life_events.specs.Happens.{World, nothing, pieces_to, hangs}
+use Rattle.life_events.specs.Happens.{standing, both_standing}
+use Rattle.gateway_life.specs.declared.end.LifeEnd.{LifeEnd}
+use Rattle.gateway_life.specs.declared.end.LifeEnd.TheVariants as ends
+use Rattle.gateway_life.specs.Ended.{end_of}
+use Rattle.wire_sends.specs.Sent.{Agrees, Sent, PartSent, Hung}
+use Rattle.gateway_life.specs.Acted.{Acted}
+use Rattle.gateway_life.specs.State.{GateState}
+use Rattle.gateway_life.specs.Ready.{LeavesOf, IsReady, Ready}
+use Rattle.gateway_life.specs.Stepped.{Records, records, Grew, Stepped, MayStand, FailsBy, Broken}
+use Rattle.gateway_life.specs.Stepped.{IsWhy}
+use Rattle.wire_sends.proofs.Sendings.{sent_append, sent_none, grows_append, grows_none}
+use Rattle.wire_sends.proofs.Sendings.{sends_none}
+
+pub on_err : {T E P : Type 0} (r : Result T E) → P → OnErr r P
+on_err (Ok x) p = tt
+on_err (Err e) p = p
+
+pub acted : (a b c d : Option (List WireCall)) (up mid still after hang_up : Bool)
+    (frame : Form → List ℕ) (xs ys : List Form) → Sent a b up (map frame xs) mid
+    → Sent b c mid (map frame ys) still → Hung c d still hang_up after
+    → Acted a d up (map frame (xs ++ ys)) hang_up after
+acted a b c d up mid still after hang_up frame xs ys first second hung =
+    let sent : Sent a c up (map frame xs ++ map frame ys) still =
+    sent_append a b c up mid still (map frame xs) (map frame ys) first second in
+    record {
+      calls = sent.calls ++ hang_up_if (still && hang_up);
+      grows = grows_append a c d sent.calls (hang_up_if (still && hang_up)) sent.grows hung.grows;
+      acts = record {
+        sent = sent.calls;
+        still = still;
+        sends = subst (λ l. Sends up l sent.calls still) (sym (map-append frame xs ys)) sent.sends;
+        all = refl;
+        ends = hung.ends;
+      };
+    }
+
+pub part_front : (a b : Option (List WireCall)) (up : Bool) (frame : Form → List ℕ)
+    (xs ys : List Form) → PartSent a b up (map frame xs) → PartSent a b up (map frame (xs ++ ys))
+part_front a b up frame xs ys part = record {
+  front = part.front;
+  rest = part.rest ++ map frame ys;
+  joined = sym (append_assoc part.front part.rest (map frame ys))
+      ∙ ap (λ l. l ++ map frame ys) part.joined ∙ sym (map-append frame xs ys);
+  after = part.after;
+  sent = part.sent;
+}
+
+pub part_whole : (a b : Option (List WireCall)) (up mid : Bool) (frame : Form → List ℕ)
+    (xs ys : List Form) → Sent a b up (map frame xs) mid
+    → PartSent a b up (map frame (xs ++ ys))
+part_whole a b up mid frame xs ys sent = record {
+  front = map frame xs;
+  rest = map frame ys;
+  joined = sym (map-append frame xs ys);
+  after = mid;
+  sent = sent;
+}
+
+pub part_none : (a : Option (List WireCall)) (up : Bool) (pieces : List (List ℕ))
+    → PartSent a a up pieces
+part_none a up pieces =
+    record { front = []; rest = pieces; joined = refl; after = up; sent = sent_none a up }
+
+-- ---- sessions without a connection
+
+standing_same : (up : Bool) (s : Session)
+    → ((standing up s).side ≡ s.side) × ((standing up s).numbers ≡ s.numbers)
+standing_same true s = (refl, refl)
+standing_same false s = (refl, refl)
+
+pub both_sides : (client_up venue_up : Bool) (s : Sessions) → AreSides s
+    → AreSides (both_standing client_up venue_up s)
+both_sides client_up venue_up s sides = record {
+  client = (standing_same client_up s.client).0 ∙ sides.client;
+  venue = (standing_same venue_up s.venue).0 ∙ sides.venue;
+}
+
+pub both_numbers : (client_up venue_up : Bool) (s : Sessions)
+    → numbers_of (both_standing client_up venue_up s) ≡ numbers_of s
+both_numbers client_up venue_up s =
+    let c = (standing_same client_up s.client).1 in
+    let v = (standing_same venue_up s.venue).1 in
+    λ i. ((c i).next_in, (c i).next_out, (v i).next_in, (v i).next_out)
+
+-- ---- an event, whole or not
+
+abbrev part_of : (a b : Option (List WireCall)) (up : Bool) (pieces : List (List ℕ))
+    (sent : PartSent a b up pieces) → Part up pieces sent.sent.calls
+part_of a b up pieces sent = record {
+  front = sent.front;
+  rest = sent.rest;
+  joined = sent.joined;
+  after = sent.after;
+  sends = sent.sent.sends;
+}
+
+pub stepped : (config : Config) (before after : World) (event : Event) (now : ℕ) (d : Decision)
+    (names : Names) (entries : List Entry) (cu vu : Bool) (c0 c1 v0 v1 : Option (List WireCall))
+    → names ≡ config.names → cu ≡ before.client_up → vu ≡ before.venue_up
+    → entries ≡ before.entries ++ option_to_list d.entry → after.entries ≡ entries
+    → Decides Answers config.names config.window before.entries before.sessions event now (Ok d)
+    → after.sessions ≡ both_standing after.client_up after.venue_up d.sessions
+    → Acted c0 c1 cu (pieces_to names Client entries event now d) (hangs Client d) after.client_up
+    → Acted v0 v1 vu (pieces_to names Venue entries event now d) (hangs Venue d) after.venue_up
+    → Stepped config before event now after (records c0 v0) (records c1 v1)
+stepped config before after event now d names entries cu vu c0 c1 v0 v1 sn sc sv se sa decides
+    sessions client' venue' =
+    let moved : (side : Side) → pieces_to names side entries event now d
+    ≡ pieces_to config.names side after.entries event now d =
+    λ side. ap (λ n. pieces_to n side entries event now d) sn
+    ∙ ap (λ l. pieces_to config.names side l event now d) (sym sa) in
+    let client : Acted c0 c1 before.client_up
+    (pieces_to config.names Client after.entries event now d) (hangs Client d) after.client_up =
+    subst (λ u. Acted c0 c1 u (pieces_to config.names Client after.entries event now d)
+    (hangs Client d) after.client_up) sc
+    (subst (λ l. Acted c0 c1 cu l (hangs Client d) after.client_up) (moved Client) client') in
+    let venue : Acted v0 v1 before.venue_up
+    (pieces_to config.names Venue after.entries event now d) (hangs Venue d) after.venue_up =
+    subst (λ u. Acted v0 v1 u (pieces_to config.names Venue after.entries event now d)
+    (hangs Venue d) after.venue_up) sv
+    (subst (λ l. Acted v0 v1 vu l (hangs Venue d) after.venue_up) (moved Venue) venue') in
+    record {
+      added = record { client = client.calls; venue = venue.calls };
+      grew = record { client = client.grows; venue = venue.grows };
+      happens = record {
+        decision = d;
+        decides = decides;
+        entries = sa ∙ se;
+        client = client.acts;
+        venue = venue.acts;
+        sessions = sessions;
+      };
+    }
+
+-- nothing was added yet
+grew_none : (r : Records) → Grew r r nothing
+grew_none r = record { client = grows_none r.client; venue = grows_none r.venue }
+
+pub broken_none : (end : LifeEnd) (config : Config) (before : World) (event : Event) (now : ℕ)
+    (r : Records) (found : List Entry) → IsWhy end config before event now
+    → MayStand end config before event now found → Broken end config before event now r r found
+broken_none end config before event now r found why may =
+    record { why = why; added = nothing; grew = grew_none r; fails = at end may }
+  where
+    at : (e : LifeEnd) → MayStand e config before event now found
+        → FailsBy e config before event now nothing found
+    at ends.DiskFault (inl same) = inl (same, refl)
+    at ends.DiskFault (inr made) = inr (record {
+      decision = made.0;
+      decides = made.1;
+      is = made.2;
+      client = record {
+        front = [];
+        rest = pieces_to config.names Client found event now made.0;
+        joined = refl;
+        after = before.client_up;
+        sends = sends_none before.client_up;
+      };
+      venue = record {
+        front = [];
+        rest = pieces_to config.names Venue found event now made.0;
+        joined = refl;
+        after = before.venue_up;
+        sends = sends_none before.venue_up;
+      };
+    })
+    at ends.Done same = (same, refl)
+    at (ends.JournalRefused place) same = (same, refl)
+    at (ends.NamesDiffer kept given) same = (same, refl)
+    at ends.JournalFull same = (same, refl)
+    at (ends.NumbersSpent side) same = (same, refl)
+    at ends.NoMemory same = (same, refl)
+
+-- a part was sent, and the entry stands
+pub broken_parts : (told : Option (List ℕ)) (before' after' : List ℕ → Type 0) (config : Config)
+    (before : World) (event : Event) (now : ℕ) (d : Decision) (names : Names)
+    (entries : List Entry) (cu vu : Bool) (c0 c1 v0 v1 : Option (List WireCall))
+    → names ≡ config.names → cu ≡ before.client_up → vu ≡ before.venue_up
+    → entries ≡ before.entries ++ option_to_list d.entry
+    → Decides Answers config.names config.window before.entries before.sessions event now (Ok d)
+    → ((bytes : List ℕ) → after' bytes → before' bytes)
+    → PartSent c0 c1 cu (pieces_to names Client entries event now d)
+    → PartSent v0 v1 vu (pieces_to names Venue entries event now d)
+    → (image0 : List ℕ → Type 0)
+    → LeavesOf told image0 before' config.names (λ found. found ≡ entries)
+    → LeavesOf told image0 after' config.names
+    (Broken ends.DiskFault config before event now (records c0 v0) (records c1 v1))
+broken_parts told before' after' config before event now d names entries cu vu c0 c1 v0 v1 sn sc
+    sv se decides among client' venue' image0 only = at told only
+  where
+    client : PartSent c0 c1 before.client_up (pieces_to config.names Client entries event now d)
+    client = subst (λ n. PartSent c0 c1 before.client_up
+        (pieces_to n Client entries event now d)) sn
+        (subst (λ u. PartSent c0 c1 u (pieces_to names Client entries event now d)) sc client')
+
+    venue : PartSent v0 v1 before.venue_up (pieces_to config.names Venue entries event now d)
+    venue = subst (λ n. PartSent v0 v1 before.venue_up
+        (pieces_to n Venue entries event now d)) sn
+        (subst (λ u. PartSent v0 v1 u (pieces_to names Venue entries event now d)) sv venue')
+
+    broken : (found : List Entry) → found ≡ entries
+        → Broken ends.DiskFault config before event now (records c0 v0) (records c1 v1) found
+    broken found is =
+        subst (Broken ends.DiskFault config before event now (records c0 v0) (records c1 v1))
+        (sym is) (record {
+          why = tt;
+          added = record { client = client.sent.calls; venue = venue.sent.calls };
+          grew = record { client = client.sent.grows; venue = venue.sent.grows };
+          fails = inr (record {
+            decision = d;
+            decides = decides;
+            is = se;
+            client = part_of c0 c1 before.client_up
+                (pieces_to config.names Client entries event now d) client;
+            venue = part_of v0 v1 before.venue_up
+                (pieces_to config.names Venue entries event now d) venue;
+          });
+        })
+
+    at : (t : Option (List ℕ)) → LeavesOf t image0 before' config.names (λ found. found ≡ entries)
+        → LeavesOf t image0 after' config.names
+        (Broken ends.DiskFault config before event now (records c0 v0) (records c1 v1))
+    at None h = tt
+    at (Some b) h = λ left bytes here.
+        let found = h left bytes (among bytes here) in (
+          found.0,
+          found.1,
+          broken found.0 found.2,
+        )
+
+-- ---- a gate that has acted
+
+pub ready_acted : (old new : GateState) (t0 t1 : Option (List ℕ))
+    (c1 v1 : Option (List WireCall)) → IsReady old t0 → t1 ≡ t0
+    → new.journal ≡ old.journal → new.core.config ≡ old.core.config
+    → new.core.chains ≡ old.core.chains
+    → sessions_in new.core ≡ both_standing new.client_up new.venue_up (sessions_in old.core)
+    → Agrees c1 new.client_up → Agrees v1 new.venue_up → Ready new t1 c1 v1
+ready_acted old new t0 t1 c1 v1 ready told journal config chains sessions client venue = record {
+  ready = record {
+    names = ap (λ j. j.names) journal ∙ ready.names ∙ ap (λ k. k.names) (sym config);
+    whole = ap (λ j. j.broken) journal ∙ ready.whole;
+    sound = subst (λ j. AreEntries first_numbers j.entries) (sym journal) ready.sound;
+    chains = chains ∙ ready.chains ∙ ap (λ j. chains_of j.entries) (sym journal);
+    sides = subst AreSides (sym sessions)
+        (both_sides new.client_up new.venue_up (sessions_in old.core) ready.sides);
+    numbers = ap numbers_of sessions
+        ∙ both_numbers new.client_up new.venue_up (sessions_in old.core) ∙ ready.numbers
+        ∙ ap (λ j. numbers_after first_numbers j.entries) (sym journal);
+    stands = subst (λ t. ForSome t (λ b. JournalOf b (Born new.journal.names new.journal.entries)))
+        (sym told) (subst (λ j. ForSome t0 (λ b. JournalOf b (Born j.names j.entries)))
+        (sym journal) ready.stands);
+  };
+  client = client;
+  venue = venue;
+}
+
+pub all_broken : (told : Option (List ℕ)) (image0 image : List ℕ → Type 0) (end : LifeEnd)
+    (config : Config) (before : World) (event : Event) (now : ℕ) (r : Records)
+    → IsWhy end config before event now
+    → LeavesOf told image0 image config.names (MayStand end config before event now)
+    → LeavesOf told image0 image config.names (Broken end config before event now r r)
+all_broken None image0 image end config before event now r why may = tt
+all_broken (Some b) image0 image end config before event now r why may = λ only bytes left.
+    let found = may only bytes left in
+    (found.0, found.1, broken_none end config before event now r found.0 why found.2)
+
+-- ---- an event that ended the life, by its answer
+
+pub made_ends : {T : Type 0} (r : Result T LifeEnd) (error : LifeEnd) (told : Option (List ℕ))
+    (i0 i1 : List ℕ → Type 0) (config : Config) (before : World) (event : Event) (now : ℕ)
+    (r0 : Records) → IsErrAnd r (λ e. e ≡ error) → IsWhy error config before event now
+    → LeavesOf told i0 i1 config.names (MayStand error config before event now)
+    → IfErr r (λ end. LeavesOf told i0 i1 config.names (Broken end config before event now r0 r0))
+made_ends (Ok value) error told i0 i1 config before event now r0 is why may = tt
+made_ends (Err end) error told i0 i1 config before event now r0 is why may =
+    subst (λ (e : LifeEnd). LeavesOf told i0 i1 config.names
+    (Broken e config before event now r0 r0)) (sym is)
+    (all_broken told i0 i1 error config before event now r0 why may)
+
+pub act_ends : {T : Type 0} (r : Result T LifeEnd) (error : JournalError) (told : Option (List ℕ))
+    (i0 i1 : List ℕ → Type 0) (config : Config) (before : World) (event : Event) (now : ℕ)
+    (r0 r1 : Records) → IsErrAnd r (λ e. e ≡ end_of error) → error ≡ errors.DiskFault
+    → LeavesOf told i0 i1 config.names (Broken ends.DiskFault config before event now r0 r1)
+    → IfErr r (λ end. LeavesOf told i0 i1 config.names (Broken end config before event now r0 r1))
+act_ends (Ok value) error told i0 i1 config before event now r0 r1 is fault left = tt
+act_ends (Err end) error told i0 i1 config before event now r0 r1 is fault left =
+    subst (λ (e : LifeEnd). LeavesOf told i0 i1 config.names
+    (Broken e config before event now r0 r1)) (sym (is ∙ ap end_of fault)) left

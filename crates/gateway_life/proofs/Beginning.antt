@@ -1,0 +1,129 @@
+-- How a life begins.
+use Rattle.std.proofs.Common.{◌≡◌, ◌⊎◌, ℕ, false, List, [], refl, sym, subst, Some, None}
+use Rattle.std.proofs.Common.{inl}
+use Rattle.std.proofs.Common.{Ok, Err}
+use Rattle.std.specs.Prelude.{Result, IfSome, IfErr, IsErrAnd}
+use Rattle.std.specs.declared.option.Option.{Option}
+use Rattle.std.specs.Option.{ForSome}
+use Rattle.outside.specs.Disk.{HasOneImage, AreAmong}
+use Rattle.order_meaning.specs.declared.names.Names.{Names}
+use Rattle.pair_journal.specs.declared.error.JournalError.{JournalError}
+use Rattle.pair_journal.specs.declared.error.JournalError.TheVariants as errors
+use Rattle.pair_journal.specs.declared.entry.Entry.{Entry}
+use Rattle.pair_journal.specs.Calls.{Loads, BornOrNot, ReadsOnly}
+use Rattle.pair_journal.specs.Journal.{JournalOf, Unborn, Born, AreEntries}
+use Rattle.pair_journal.specs.Numbers.{first_numbers}
+use Rattle.pair_journal.specs.State.{JournalState}
+use Rattle.gateway_config.specs.declared.config.Config.{Config}
+use Rattle.gateway_core.specs.State.{CoreState, loaded}
+use Rattle.gateway_life.specs.declared.end.LifeEnd.{LifeEnd}
+use Rattle.gateway_life.specs.Ended.{end_of}
+use Rattle.gateway_life.specs.Stepped.{IsNotDone}
+use Rattle.gateway_life.specs.Ready.{IsReady}
+use Rattle.gateway_life.specs.Rounds.{Begins}
+
+-- an error of the journal
+pub begins_err : {T : Type 0} (entries : T → List Entry) (names : Names) (told : Option (List ℕ))
+    (now : Option (List ℕ)) (error : JournalError)
+    → IfSome told (λ b. Loads names b (Err error) now)
+    → IfSome told (λ b. Begins entries names b (Err (end_of error)))
+begins_err entries names None now error h = tt
+begins_err entries names (Some b) now errors.DiskFault h = tt
+begins_err entries names (Some b) now (errors.Refused at) h = h.0
+begins_err entries names (Some b) now (errors.NamesDiffer kept given) h = (h.0, h.1, h.2, h.3)
+begins_err entries names (Some b) now errors.Full h = absurd h
+begins_err entries names (Some b) now errors.NoMemory h = tt
+
+-- an error of the core
+pub begins_core : {T V : Type 0} (entries : T → List Entry) (names : Names)
+    (told : Option (List ℕ)) (r : Result V JournalError) (error : JournalError)
+    → r ≡ Err error → ReadsOnly r
+    → IfSome told (λ b. Begins entries names b (Err (end_of error)))
+begins_core entries names None r error is only = tt
+begins_core {T} {V} entries names (Some b) r error is only =
+    at error (subst (ReadsOnly {T = V}) is only)
+  where
+    at : (e : JournalError) → ReadsOnly {T = V} (Err e)
+        → Begins entries names b (Err (end_of e))
+    at errors.DiskFault h = tt
+    at (errors.Refused place) h = absurd h
+    at (errors.NamesDiffer kept given) h = absurd h
+    at errors.Full h = absurd h
+    at errors.NoMemory h = tt
+
+pub begins_ok : {T : Type 0} (entries : T → List Entry) (names : Names) (told : Option (List ℕ))
+    (now : Option (List ℕ)) (journal : JournalState) (made : T) → entries made ≡ journal.entries
+    → IfSome told (λ b. Loads names b (Ok journal) now)
+    → IfSome told (λ b. Begins entries names b (Ok made))
+begins_ok entries names None now journal made same h = tt
+begins_ok entries names (Some b) now journal made same h =
+    subst (λ l. JournalOf b (Born names l) ⊎ (JournalOf b Unborn × (l ≡ []))) (sym same) h.1
+
+pub not_done : (error : JournalError) → IsNotDone (end_of error)
+not_done errors.DiskFault = tt
+not_done (errors.Refused at) = tt
+not_done (errors.NamesDiffer kept given) = tt
+not_done errors.Full = tt
+not_done errors.NoMemory = tt
+
+-- a disk that was left alone, or was only read behind
+pub born_same : (told : Option (List ℕ)) (image : List ℕ → Type 0) (names : Names)
+    → BornOrNot told image image names
+born_same None image names = tt
+born_same (Some b) image names = λ only c left. (
+  λ unborn. inl (subst (λ (d : List ℕ). JournalOf d Unborn) (sym (only c left)) unborn),
+  λ kept entries born.
+      subst (λ (d : List ℕ). JournalOf d (Born kept entries)) (sym (only c left)) born,
+)
+
+pub born_read : (told : Option (List ℕ)) (i0 i1 i2 : List ℕ → Type 0) (names : Names)
+    → AreAmong i2 i1 → BornOrNot told i0 i1 names → BornOrNot told i0 i2 names
+born_read None i0 i1 i2 names among h = tt
+born_read (Some b) i0 i1 i2 names among h = λ only c left. h only c (among c left)
+
+pub one_read : (t1 t2 : Option (List ℕ)) (i1 i2 : List ℕ → Type 0) → t2 ≡ t1 → AreAmong i2 i1
+    → HasOneImage t1 i1 → HasOneImage t2 i2
+one_read t1 t2 i1 i2 same among one =
+    subst (λ t. HasOneImage t i2) (sym same) (at t1 one)
+  where
+    at : (t : Option (List ℕ)) → HasOneImage t i1 → HasOneImage t i2
+    at None h = tt
+    at (Some b) h = λ c left. h c (among c left)
+
+-- a core that was loaded
+pub ready_loaded : (journal : JournalState) (core : CoreState) (config : Config)
+    (told told' : Option (List ℕ)) → journal.names ≡ config.names → journal.broken ≡ false
+    → AreEntries first_numbers journal.entries → core ≡ loaded config journal.entries
+    → ForSome told (λ b. JournalOf b (Born journal.names journal.entries)) → told' ≡ told
+    → IsReady (record { journal = journal; core = core; client_up = false; venue_up = false }) told'
+ready_loaded journal core config told told' names whole sound is stands same =
+    subst (λ (k : CoreState). IsReady (record {
+      journal = journal;
+      core = k;
+      client_up = false;
+      venue_up = false;
+    }) told') (sym is) (record {
+      names = names;
+      whole = whole;
+      sound = sound;
+      chains = refl;
+      sides = record { client = refl; venue = refl };
+      numbers = refl;
+      stands = subst (λ t. ForSome t (λ b. JournalOf b (Born journal.names journal.entries)))
+          (sym same) stands;
+    })
+
+-- ---- the same of an answer that `?` made
+
+pub begins_of : {T : Type 0} (entries : T → List Entry) (names : Names) (told : Option (List ℕ))
+    (end : LifeEnd) (r : Result T LifeEnd) → IsErrAnd r (λ e. e ≡ end)
+    → IfSome told (λ b. Begins entries names b (Err end))
+    → IfSome told (λ b. Begins entries names b r)
+begins_of entries names told end (Ok value) is begins = absurd is
+begins_of entries names told end (Err e) is begins =
+    subst (λ (x : LifeEnd). IfSome told (λ b. Begins entries names b (Err x))) (sym is) begins
+
+pub only_of : {T : Type 0} (r : Result T LifeEnd) (end : LifeEnd) → IsErrAnd r (λ e. e ≡ end)
+    → IsNotDone end → IfErr r IsNotDone
+only_of (Ok value) end is only = tt
+only_of (Err e) end is only = subst IsNotDone (sym is) only

@@ -1,0 +1,444 @@
+-- What an event decides and commits, and what a commit that fails leaves.
+use Rattle.std.proofs.Common.{◌≡◌, ℕ, ◌+◌, ◌-◌, ◌≤◌, Bool, true, false, List, [], ◌∷◌, ◌++◌}
+use Rattle.std.proofs.Common.{take, length-append, length, refl, sym, ◌∙◌, ap, subst, arith}
+use Rattle.std.proofs.Common.{append-nil, Some, None, inl}
+use Rattle.std.proofs.Common.{inr, ◌⊎◌, IfSome, Ok, Err}
+use Rattle.std.specs.Prelude.{Result, IfErr, if◌then◌else◌, is_some}
+use Rattle.std.specs.declared.option.Option.{Option}
+use Rattle.std.specs.Option.{option_to_list, ForSome}
+use Rattle.outside.specs.Disk.{HasOneImage}
+use Rattle.outside.specs.declared.disk.TheConstants.{MAX_DISK}
+use Rattle.gate_log.specs.Records.{blocks}
+use Rattle.order_meaning.specs.declared.Side.{Side}
+use Rattle.order_meaning.specs.declared.Side.TheVariants.{Client, Venue}
+use Rattle.order_meaning.specs.declared.names.Names.{Names}
+use Rattle.order_chains.specs.declared.item.ChainItem.{ChainItem}
+use Rattle.pair_journal.specs.declared.TheConstants.{MAX_NEXT}
+use Rattle.pair_journal.specs.declared.error.JournalError.{JournalError}
+use Rattle.pair_journal.specs.declared.error.JournalError.TheVariants as errors
+use Rattle.pair_journal.specs.declared.entry.Out.{Out}
+use Rattle.pair_journal.specs.declared.entry.Entry.{Entry}
+use Rattle.pair_journal.specs.Payload.{Next, AreNext, IsEntry, AreOuts, entry_bytes}
+use Rattle.pair_journal.specs.Numbers.{next_out, outs_to, Numbered, OutsGoOn, GoesOn, is_side}
+use Rattle.pair_journal.specs.Numbers.{numbers_after, first_numbers}
+use Rattle.pair_journal.specs.Journal.{JournalOf, Born, AreEntries}
+use Rattle.pair_journal.specs.Given.{source_of}
+use Rattle.pair_journal.specs.State.{JournalState}
+use Rattle.pair_journal.specs.Calls.{Commits, KeepsJournal, payloads_of}
+use Rattle.event_decisions.specs.Event.{Event}
+use Rattle.event_decisions.specs.Decide.{Sessions, AreSides, numbers_of, Decision, Decides, Repeat}
+use Rattle.event_decisions.specs.Laws.{Continues, DecisionsContinue}
+use Rattle.message_answers.specs.Answer.{Answers}
+use Rattle.message_answers.specs.Chains.{chains_of}
+use Rattle.gateway_config.specs.declared.config.Config.{Config}
+use Rattle.gateway_core.specs.declared.plan.Plan.{Plan}
+use Rattle.gateway_core.specs.State.{CoreState, Stand, sessions_in, decision_of}
+use Rattle.life_events.specs.Happens.{World}
+use Rattle.gateway_life.specs.declared.end.LifeEnd.{LifeEnd}
+use Rattle.gateway_life.specs.declared.end.LifeEnd.TheVariants as ends
+use Rattle.gateway_life.specs.Ended.{end_of}
+use Rattle.wire_sends.specs.Sent.{AreSendable}
+use Rattle.wire_sends.specs.Again.{IsGiven, repeat_in}
+use Rattle.gateway_life.specs.State.{GateState}
+use Rattle.gateway_life.specs.Ready.{LeavesOf, IsReady, world_of}
+use Rattle.gateway_life.specs.Stepped.{MayStand, IsWhy}
+use Rattle.gateway_life.specs.Committed.{OldOrNew, IsFull}
+
+-- ---- an entry more
+
+numbers_push : (before : Next) (xs : List Entry) (e : Entry)
+    → numbers_after before (xs ++ e ∷ []) ≡ e.next
+numbers_push before [] e = refl
+numbers_push before (x ∷ xs) e = numbers_push x.next xs e
+
+are_push : (before : Next) (xs : List Entry) (e : Entry) → AreEntries before xs → IsEntry e
+    → GoesOn (numbers_after before xs) e → AreEntries before (xs ++ e ∷ [])
+are_push before [] e are is goes = (is, goes, tt)
+are_push before (x ∷ xs) e are is goes = (are.0, are.1, are_push x.next xs e are.2 is goes)
+
+pub entries_more : (xs : List Entry) (entry : Option Entry) → AreEntries first_numbers xs
+    → IfSome entry IsEntry → IfSome entry (GoesOn (numbers_after first_numbers xs))
+    → AreEntries first_numbers (xs ++ option_to_list entry)
+entries_more xs None are is goes =
+    subst (AreEntries first_numbers) (sym (append-nil xs)) are
+entries_more xs (Some e) are is goes = are_push first_numbers xs e are is goes
+
+next_bounded : (before : Next) (xs : List Entry) → AreNext before → AreEntries before xs
+    → AreNext (numbers_after before xs)
+next_bounded before [] next are = next
+next_bounded before (x ∷ xs) next are = next_bounded x.next xs are.0.next are.2
+
+first_bounded : AreNext first_numbers
+first_bounded = (
+  (omega arith, omega arith),
+  (omega arith, omega arith),
+  (omega arith, omega arith),
+  (omega arith, omega arith),
+)
+
+pub numbers_bounded : (xs : List Entry) → AreEntries first_numbers xs
+    → AreNext (numbers_after first_numbers xs)
+numbers_bounded xs are = next_bounded first_numbers xs first_bounded are
+
+-- ---- what a decision leads to
+
+pub record Goes (xs : List Entry) (d : Decision) : Type 0 where
+  pub goes_on : IfSome d.entry (GoesOn (numbers_after first_numbers xs))
+  pub sides : AreSides d.sessions
+  pub numbers :
+      numbers_of d.sessions ≡ numbers_after first_numbers (xs ++ option_to_list d.entry)
+
+pub goes : (xs : List Entry) (s : Sessions) (event : Event) (d : Decision) → Continues s event d
+    → numbers_of s ≡ numbers_after first_numbers xs → Goes xs d
+goes xs s event d continues numbers = record {
+  goes_on = at d.entry refl;
+  sides = continues.sides;
+  numbers = next d.entry refl;
+}
+  where
+    at : (o : Option Entry) → d.entry ≡ o → IfSome o (GoesOn (numbers_after first_numbers xs))
+    at None is = tt
+    at (Some e) is = subst (λ n. GoesOn n e) numbers (continues.goes_on e is)
+
+    next : (o : Option Entry) → d.entry ≡ o
+        → numbers_of d.sessions ≡ numbers_after first_numbers (xs ++ option_to_list o)
+    next None is = continues.same is ∙ numbers
+        ∙ ap (numbers_after first_numbers) (sym (append-nil xs))
+    next (Some e) is = sym (continues.next e is) ∙ sym (numbers_push first_numbers xs e)
+
+pub decided : DecisionsContinue → (config : Config) (xs : List Entry) (s : Sessions)
+    (event : Event) (now : ℕ) (d : Decision) → AreSides s
+    → Decides Answers config.names config.window xs s event now (Ok d) → Continues s event d
+decided law config xs s event now d sides decides =
+    law config.names config.window s event now decides.words d sides decides.decided
+
+-- each out has a number from 1 on
+sendable : (c v : ℕ) (outs : List Out) → 1 ≤ c → 1 ≤ v → Numbered c (outs_to Client outs)
+    → Numbered v (outs_to Venue outs) → AreOuts outs → AreSendable outs
+sendable c v [] low low' client venue are = tt
+sendable c v (o ∷ outs) low low' client venue are =
+    at (λ n m l k h g. sendable n m outs l k h g are.1) o.side refl
+  where
+    at : ((n m : ℕ) → 1 ≤ n → 1 ≤ m → Numbered n (outs_to Client outs)
+        → Numbered m (outs_to Venue outs) → AreSendable outs)
+        → (s : Side) → o.side ≡ s → AreSendable (o ∷ outs)
+    at more Client is =
+        let mine = subst (λ t. Numbered c (if is_side Client t then o ∷ outs_to Client outs
+        else outs_to Client outs)) is client in
+        let others = subst (λ t. Numbered v (if is_side Venue t then o ∷ outs_to Venue outs
+        else outs_to Venue outs)) is venue in (
+          record { bounds = are.0; number = omega (arith, mine.0, low) },
+          more (c + 1) v (omega arith) low' mine.1 others,
+        )
+    at more Venue is =
+        let others = subst (λ t. Numbered c (if is_side Client t then o ∷ outs_to Client outs
+        else outs_to Client outs)) is client in
+        let mine = subst (λ t. Numbered v (if is_side Venue t then o ∷ outs_to Venue outs
+        else outs_to Venue outs)) is venue in (
+          record { bounds = are.0; number = omega (arith, mine.0, low') },
+          more c (v + 1) low (omega arith) others mine.1,
+        )
+
+pub entry_sendable : (xs : List Entry) (entry : Option Entry) → AreEntries first_numbers xs
+    → IfSome entry IsEntry → IfSome entry (GoesOn (numbers_after first_numbers xs))
+    → IfSome entry (λ e. AreSendable e.outs)
+entry_sendable xs None are is goes = tt
+entry_sendable xs (Some e) are is goes =
+    let next = numbers_bounded xs are in
+    sendable (numbers_after first_numbers xs).1 (numbers_after first_numbers xs).3 e.outs
+    next.1.0 next.3.0 goes.client_out.numbered goes.venue_out.numbered is.outs
+
+-- ---- what is sent again was given out
+
+next_more : (side : Side) (xs : List Entry) (entry : Option Entry)
+    → IfSome entry (GoesOn (numbers_after first_numbers xs))
+    → next_out side (numbers_after first_numbers xs)
+    ≤ next_out side (numbers_after first_numbers (xs ++ option_to_list entry))
+next_more side xs None goes =
+    let same = ap (λ l. next_out side (numbers_after first_numbers l)) (append-nil xs) in
+    omega (arith, same)
+next_more side xs (Some e) goes =
+    let same = ap (next_out side) (numbers_push first_numbers xs e) in
+    omega (arith, same, (on side).next)
+  where
+    on : (t : Side) → OutsGoOn t (numbers_after first_numbers xs) e
+    on Client = goes.client_out
+    on Venue = goes.venue_out
+
+next_bound : (side : Side) (next : Next) → AreNext next → next_out side next ≤ MAX_NEXT
+next_bound Client next are = are.1.1
+next_bound Venue next are = are.3.1
+
+pub given_more : (xs : List Entry) (s : Sessions) (event : Event) (d : Decision)
+    (resend : Option (Side × ℕ × ℕ)) → Continues s event d → d.repeat ≡ repeat_in resend
+    → numbers_of s ≡ numbers_after first_numbers xs → AreEntries first_numbers xs
+    → IfSome d.entry (GoesOn (numbers_after first_numbers xs))
+    → IsGiven (xs ++ option_to_list d.entry) resend
+given_more xs s event d None continues is numbers are goes = tt
+given_more xs s event d (Some r) continues is numbers are goes =
+    let again : Repeat = record { side = r.0; from = r.1; to = r.2 } in
+    let to = continues.to again is in
+    let same = ap (next_out r.0) numbers in
+    let more = next_more r.0 xs d.entry goes in
+    let most = next_bound r.0 (numbers_after first_numbers xs) (numbers_bounded xs are) in
+    (continues.from again is, omega (arith, to, same, more), omega (arith, to, same, most))
+
+-- ---- images
+
+-- a disk that was left alone
+pub left_alone : (told : Option (List ℕ)) (image : List ℕ → Type 0) (names names' : Names)
+    (xs : List Entry) (P : List Entry → Type 0) → names ≡ names'
+    → ForSome told (λ b. JournalOf b (Born names xs)) → P xs → LeavesOf told image image names' P
+left_alone None image names names' xs P same stands p = tt
+left_alone (Some b) image names names' xs P same stands p = λ only bytes left. (
+  xs,
+  subst (λ c. JournalOf c (Born names' xs)) (sym (only bytes left))
+      (subst (λ n. JournalOf b (Born n xs)) same (stands b refl)),
+  p,
+)
+
+pub as_before : (end : LifeEnd) (config : Config) (before : World) (event : Event) (now : ℕ)
+    → MayStand end config before event now before.entries
+as_before ends.DiskFault config before event now = inl refl
+as_before ends.Done config before event now = refl
+as_before (ends.JournalRefused at) config before event now = refl
+as_before (ends.NamesDiffer kept given) config before event now = refl
+as_before ends.JournalFull config before event now = refl
+as_before (ends.NumbersSpent side) config before event now = refl
+as_before ends.NoMemory config before event now = refl
+
+-- what a commit that failed left
+pub may_stand : (error : JournalError) (config : Config) (before : World) (event : Event) (now : ℕ)
+    (d : Decision) (xs : List Entry)
+    → Decides Answers config.names config.window before.entries before.sessions event now (Ok d)
+    → OldOrNew error before.entries d.entry xs
+    → MayStand (end_of error) config before event now xs
+may_stand errors.DiskFault config before event now d xs decides (inl same) = inl same
+may_stand errors.DiskFault config before event now d xs decides (inr is) = inr (d, decides, is)
+may_stand (errors.Refused at) config before event now d xs decides is = is
+may_stand (errors.NamesDiffer kept given) config before event now d xs decides is = is
+may_stand errors.Full config before event now d xs decides is = is
+may_stand errors.NoMemory config before event now d xs decides is = is
+
+pub leaves_map : (told : Option (List ℕ)) (before after : List ℕ → Type 0) (names names' : Names)
+    (P Q : List Entry → Type 0) → names ≡ names' → ((xs : List Entry) → P xs → Q xs)
+    → LeavesOf told before after names P → LeavesOf told before after names' Q
+leaves_map None before after names names' P Q same to h = tt
+leaves_map (Some b) before after names names' P Q same to h = λ only bytes left.
+    let found = h only bytes left in
+    (found.0, subst (λ n. JournalOf bytes (Born n found.0)) same found.1, to found.0 found.2)
+
+-- ---- a commit that fails
+
+pub commit_left : (told : Option (List ℕ)) (before after : List ℕ → Type 0)
+    (journal new : JournalState) (entry : Entry) (result : Result Entry JournalError)
+    → Commits entry journal new result → KeepsJournal told before after journal entry
+    → (result ≡ Err errors.Full
+    → LeavesOf told before after journal.names (λ xs. xs ≡ journal.entries))
+    → IfErr result (λ error. LeavesOf told before after journal.names
+    (OldOrNew error journal.entries (Some entry)))
+commit_left told before after journal new entry (Ok answer) commits keeps full = tt
+commit_left told before after journal new entry (Err errors.DiskFault) commits keeps full =
+    at told keeps
+  where
+    found : (bytes : List ℕ) → JournalOf bytes (Born journal.names journal.entries)
+        ⊎ JournalOf bytes (Born journal.names (journal.entries ++ entry ∷ []))
+        → (xs : List Entry) × JournalOf bytes (Born journal.names xs)
+        × OldOrNew errors.DiskFault journal.entries (Some entry) xs
+    found bytes (inl old) = (journal.entries, old, inl refl)
+    found bytes (inr more) = (journal.entries ++ entry ∷ [], more, inr refl)
+
+    at : (t : Option (List ℕ)) → KeepsJournal t before after journal entry
+        → LeavesOf t before after journal.names
+        (OldOrNew errors.DiskFault journal.entries (Some entry))
+    at None h = tt
+    at (Some b) h = λ only bytes left. found bytes (h only bytes left)
+commit_left told before after journal new entry (Err errors.Full) commits keeps full = full refl
+commit_left told before after journal new entry (Err (errors.Refused place)) commits keeps full =
+    absurd commits
+commit_left told before after journal new entry (Err (errors.NamesDiffer kept given)) commits keeps
+    full = absurd commits
+commit_left told before after journal new entry (Err errors.NoMemory) commits keeps full =
+    absurd commits
+
+pub commit_why : (journal new : JournalState) (entry : Entry) (error : JournalError)
+    → Commits entry journal new (Err error) → IsFull journal (Some entry) error
+commit_why journal new entry errors.DiskFault commits = tt
+commit_why journal new entry errors.Full commits = (entry, refl, commits.0)
+commit_why journal new entry (errors.Refused at) commits = absurd commits
+commit_why journal new entry (errors.NamesDiffer kept given) commits = absurd commits
+commit_why journal new entry errors.NoMemory commits = absurd commits
+
+-- ---- a plan
+
+pub stand_of : (core : CoreState) (xs ys : List Entry) → core.chains ≡ chains_of xs → ys ≡ xs
+    → Stand core ys xs
+stand_of core xs ys chains same = record {
+  chains = sym chains;
+  sources = λ side number. ap (source_of side number) (sym same);
+}
+
+pub continues_by : DecisionsContinue → (core : CoreState) (xs : List Entry) (event : Event)
+    (now : ℕ) (plan : Plan) → AreSides (sessions_in core)
+    → Decides Answers core.config.names core.config.window xs (sessions_in core) event now
+    (Ok (decision_of plan)) → Continues (sessions_in core) event (decision_of plan)
+continues_by law core xs event now plan sides decides =
+    decided law core.config xs (sessions_in core) event now (decision_of plan) sides decides
+
+pub goes_by : DecisionsContinue → (core : CoreState) (xs : List Entry) (event : Event) (now : ℕ)
+    (plan : Plan) → AreSides (sessions_in core)
+    → numbers_of (sessions_in core) ≡ numbers_after first_numbers xs
+    → Decides Answers core.config.names core.config.window xs (sessions_in core) event now
+    (Ok (decision_of plan)) → Goes xs (decision_of plan)
+goes_by law core xs event now plan sides numbers decides =
+    goes xs (sessions_in core) event (decision_of plan)
+    (continues_by law core xs event now plan sides decides) numbers
+
+-- a disk whose one image stands for these entries, after some calls
+pub left_after : (t0 t1 : Option (List ℕ)) (i0 i1 : List ℕ → Type 0) (names names' : Names)
+    (xs : List Entry) → is_some t1 ≡ is_some t0 → (HasOneImage t0 i0 → HasOneImage t1 i1)
+    → ForSome t1 (λ b. JournalOf b (Born names xs)) → names ≡ names'
+    → LeavesOf t0 i0 i1 names' (λ found. found ≡ xs)
+left_after None t1 i0 i1 names names' xs told one stands same = tt
+left_after (Some b) None i0 i1 names names' xs told one stands same = absurd (cc told)
+left_after (Some b) (Some c) i0 i1 names names' xs told one stands same = λ only bytes left. (
+  xs,
+  subst (λ d. JournalOf d (Born names' xs)) (sym (one only bytes left))
+      (subst (λ n. JournalOf c (Born n xs)) same (stands c refl)),
+  refl,
+)
+
+-- ---- a commit that was refused
+
+take_front : {A : Type 0} (xs ys : List A) → take (length xs) (xs ++ ys) ≡ xs
+take_front [] ys = refl
+take_front (x ∷ xs) ys = ap (λ l. x ∷ l) (take_front xs ys)
+
+-- what was held is taken out again
+pub undone_chains : (chains : List ChainItem) (item : Option ChainItem)
+    → (if is_some item
+    then take (length (chains ++ option_to_list item) - 1) (chains ++ option_to_list item)
+    else chains ++ option_to_list item) ≡ chains
+undone_chains chains None = append-nil chains
+undone_chains chains (Some item) =
+    let size : length (chains ++ item ∷ []) - 1 ≡ length chains =
+    omega (arith, length-append chains (item ∷ [])) in
+    ap (λ n. take n (chains ++ item ∷ [])) size ∙ take_front chains (item ∷ [])
+
+pub held_some : (chains : List ChainItem) (item : Option ChainItem) → is_some item ≡ true
+    → 1 ≤ length (chains ++ option_to_list item)
+held_some chains None is = absurd (cc is)
+held_some chains (Some item) is = omega (arith, length-append chains (item ∷ []))
+
+pub why_of : (error : JournalError) (config : Config) (before : World) (event : Event) (now : ℕ)
+    (d : Decision) (journal : JournalState) → journal.names ≡ config.names
+    → journal.entries ≡ before.entries
+    → Decides Answers config.names config.window before.entries before.sessions event now (Ok d)
+    → IsFull journal d.entry error → IsWhy (end_of error) config before event now
+why_of errors.DiskFault config before event now d journal names entries decides why = tt
+why_of errors.Full config before event now d journal names entries decides why = (
+  d,
+  why.0,
+  decides,
+  why.1,
+  subst (λ l. MAX_DISK ≤ length (blocks (payloads_of config.names l)) + 5
+      + length (entry_bytes why.0)) entries
+      (subst (λ n. MAX_DISK ≤ length (blocks (payloads_of n journal.entries)) + 5
+      + length (entry_bytes why.0)) names why.2),
+)
+why_of (errors.Refused at) config before event now d journal names entries decides why =
+    absurd why
+why_of (errors.NamesDiffer kept given) config before event now d journal names entries decides
+    why = absurd why
+why_of errors.NoMemory config before event now d journal names entries decides why = absurd why
+
+-- the chains and the sessions after an event that was refused
+pub undone : (old held new : CoreState) (item : Option ChainItem) (flag : Bool)
+    → flag ≡ is_some item → held ≡ record old { chains = old.chains ++ option_to_list item }
+    → new ≡ record held {
+      chains = if flag then take (length held.chains - 1) held.chains
+          else held.chains;
+    }
+    → (sessions_in new ≡ sessions_in old) × (new.chains ≡ old.chains)
+undone old held new item flag is_flag is_held is_new = (
+  ap sessions_in is_new ∙ ap sessions_in is_held,
+  ap (λ (k : CoreState). k.chains) is_new
+      ∙ ap (λ (l : List ChainItem). if flag then take (length l - 1) l else l)
+      (ap (λ (k : CoreState). k.chains) is_held)
+      ∙ ap (λ b. if b then take (length (old.chains ++ option_to_list item) - 1)
+      (old.chains ++ option_to_list item) else old.chains ++ option_to_list item) is_flag
+      ∙ undone_chains old.chains item,
+)
+
+pub world_same : (old new : GateState) → new.journal.entries ≡ old.journal.entries
+    → sessions_in new.core ≡ sessions_in old.core → new.client_up ≡ old.client_up
+    → new.venue_up ≡ old.venue_up → world_of new ≡ world_of old
+world_same old new entries sessions client venue = λ i. record {
+  entries = entries i;
+  sessions = sessions i;
+  client_up = client i;
+  venue_up = venue i;
+}
+
+-- nothing was written
+pub alone_left : {T : Type 0} (r : Result T LifeEnd) (told : Option (List ℕ))
+    (image : List ℕ → Type 0) (names names' : Names) (config : Config) (before : World)
+    (event : Event) (now : ℕ) → names ≡ names'
+    → ForSome told (λ b. JournalOf b (Born names before.entries))
+    → IfErr r (λ end. LeavesOf told image image names' (MayStand end config before event now))
+alone_left (Ok value) told image names names' config before event now same stands = tt
+alone_left (Err end) told image names names' config before event now same stands =
+    left_alone told image names names' before.entries (MayStand end config before event now) same
+    stands (as_before end config before event now)
+
+-- what a commit that was refused left, by what it answered
+pub refused_left : (told : Option (List ℕ)) (i0 i1 : List ℕ → Type 0) (names names' : Names)
+    (error : JournalError) (end : LifeEnd) (config : Config) (before : World) (event : Event)
+    (now : ℕ) (d : Decision) (xs : List Entry) → end ≡ end_of error → names ≡ names'
+    → xs ≡ before.entries
+    → Decides Answers config.names config.window before.entries before.sessions event now (Ok d)
+    → LeavesOf told i0 i1 names (OldOrNew error xs d.entry)
+    → LeavesOf told i0 i1 names' (MayStand end config before event now)
+refused_left told i0 i1 names names' error end config before event now d xs is same entries decides
+    left =
+    leaves_map told i0 i1 names names' (OldOrNew error xs d.entry)
+    (MayStand end config before event now) same
+    (λ found old. subst (λ e. MayStand e config before event now found) (sym is)
+    (may_stand error config before event now d found decides
+    (subst (λ l. OldOrNew error l d.entry found) entries old))) left
+
+pub refused_why : (error : JournalError) (end : LifeEnd) (config : Config) (before : World)
+    (event : Event) (now : ℕ) (d : Decision) (journal : JournalState) → end ≡ end_of error
+    → journal.names ≡ config.names → journal.entries ≡ before.entries
+    → Decides Answers config.names config.window before.entries before.sessions event now (Ok d)
+    → IsFull journal d.entry error → IsWhy end config before event now
+refused_why error end config before event now d journal is names entries decides full =
+    subst (λ e. IsWhy e config before event now) (sym is)
+    (why_of error config before event now d journal names entries decides full)
+
+-- a gate that has decided
+pub ready_decided : (old : GateState) (t0 t1 : Option (List ℕ)) (journal : JournalState)
+    (held core : CoreState) (plan : Plan) (cu vu : Bool) → IsReady old t0
+    → journal.names ≡ old.journal.names → journal.broken ≡ false
+    → journal.entries ≡ old.journal.entries ++ option_to_list plan.entry
+    → IfSome plan.entry IsEntry → Goes old.journal.entries (decision_of plan)
+    → held ≡ record old.core { chains = old.core.chains ++ option_to_list plan.item }
+    → core ≡ record held { client = plan.client; venue = plan.venue }
+    → chains_of (old.journal.entries ++ option_to_list plan.entry)
+    ≡ old.core.chains ++ option_to_list plan.item
+    → ForSome t1 (λ b. JournalOf b (Born journal.names journal.entries))
+    → IsReady (record { journal = journal; core = core; client_up = cu; venue_up = vu }) t1
+ready_decided old t0 t1 journal held core plan cu vu ready names whole entries bounds goes is_held
+    is_core grows stands = record {
+      names = names ∙ ready.names ∙ ap (λ (k : CoreState). k.config.names) (sym is_held)
+          ∙ ap (λ (k : CoreState). k.config.names) (sym is_core);
+      whole = whole;
+      sound = subst (AreEntries first_numbers) (sym entries)
+          (entries_more old.journal.entries plan.entry ready.sound bounds goes.goes_on);
+      chains = ap (λ (k : CoreState). k.chains) is_core ∙ ap (λ (k : CoreState). k.chains) is_held
+          ∙ sym grows ∙ ap chains_of (sym entries);
+      sides = subst AreSides (sym (ap sessions_in is_core)) goes.sides;
+      numbers = ap (λ (k : CoreState). numbers_of (sessions_in k)) is_core ∙ goes.numbers
+          ∙ ap (numbers_after first_numbers) (sym entries);
+      stands = stands;
+    }

@@ -1,0 +1,13 @@
+mod Standing
+mod Deciding
+mod Acting
+mod Cutting
+mod Turning
+mod Failing
+mod Polling
+mod Rounding
+mod Living
+mod Joining
+mod Beginning
+mod GivenOut
+mod Leaving

@@ -1,0 +1,465 @@
+-- What a whole life leaves, from what its parts say.
+use Rattle.std.proofs.Common.{◌≡◌, ◌⊎◌, ℕ, ◌≤◌, true, false, List, [], ◌∷◌, ◌++◌, length}
+use Rattle.std.proofs.Common.{refl}
+use Rattle.std.proofs.Common.{sym, ◌∙◌, ap, subst, append_assoc, Some, None, inl, inr, Ok, Err}
+use Rattle.std.proofs.Common.{arith}
+use Rattle.std.proofs.Common.{zero, suc, ◌+◌, ◌-◌, length-append}
+use Rattle.std.specs.Prelude.{map, is_some, IfSome, fold, Result, OnOk, IfErr}
+use Rattle.std.specs.Prelude.{IsErrAnd}
+use Rattle.std.specs.declared.option.Option.{Option}
+use Rattle.std.specs.Option.{ForSome}
+use Rattle.outside.specs.Causes.{next_count}
+use Rattle.outside.specs.Disk.{Only, HasOneImage}
+use Rattle.order_meaning.specs.declared.names.Names.{Names}
+use Rattle.pair_journal.specs.declared.entry.Entry.{Entry}
+use Rattle.pair_journal.specs.Calls.{BornOrNot}
+use Rattle.pair_journal.specs.Journal.{JournalOf, Unborn, Born, Refused}
+use Rattle.pair_journal.specs.Laws.{HasOneReading}
+use Rattle.message_answers.specs.Answer.{Answers}
+use Rattle.gateway_config.specs.declared.config.Config.{Config}
+use Rattle.wires.specs.Told.{GrowsBy}
+use Rattle.wires.specs.Wire.{WireCall, HangUpGrows, is_within, within_after}
+use Rattle.life_events.specs.Sends.{hang_up_if}
+use Rattle.life_events.specs.Happens.{World}
+use Rattle.life_events.specs.Turn.{Reads, Lives}
+use Rattle.life_events.specs.Ends.{LifeFails}
+use Rattle.gateway_life.specs.declared.end.LifeEnd.{LifeEnd}
+use Rattle.gateway_life.specs.declared.end.LifeEnd.TheVariants as ends
+use Rattle.gateway_life.specs.State.{LifeState}
+use Rattle.gateway_life.specs.Ready.{LeavesOf, world_of}
+use Rattle.gateway_life.specs.Stepped.{Records, records, IsOfEvent, HasCauseOf}
+use Rattle.gateway_life.specs.Life.{Done, begun, moment_of, LivesToEnd, EndsBefore, hung_up, Ends}
+use Rattle.gateway_life.specs.Life.{IsJournal, LastEnds, counted_on}
+use Rattle.gateway_life.specs.Rounds.{StoodFor, AreTold, LifeDone, LifeBroken, BeginsWith}
+use Rattle.gateway_life.specs.Rounds.{Begins, IsUnbegun, LifeWhole, LifeStopped}
+use Rattle.wire_sends.proofs.Sendings.{fold-append, grows_none}
+
+-- ---- what is told
+
+cancel : {A : Type 0} (xs ys zs : List A) → xs ++ ys ≡ xs ++ zs → ys ≡ zs
+cancel [] ys zs is = is
+cancel (x ∷ xs) ys zs is = cancel xs ys zs (cc is)
+
+-- what was added to a list that is told is this
+pub told_added : {A : Type 0} (a b : Option (List A)) (more xs ys did : List A) → GrowsBy a b more
+    → a ≡ Some xs → b ≡ Some ys → ys ≡ xs ++ did → did ≡ more
+told_added None b more xs ys did grows is_a is_b is = absurd (cc is_a)
+told_added (Some a) None more xs ys did grows is_a is_b is = absurd (cc is_b)
+told_added (Some a) (Some b) more xs ys did grows is_a is_b is =
+    let first : a ≡ xs = cc is_a in
+    let last : b ≡ ys = cc is_b in
+    cancel xs did more (sym is ∙ sym last ∙ grows ∙ ap (λ l. l ++ more) first)
+
+-- the same, where the wire was hung up behind it
+pub hung_added : (a m b : Option (List WireCall)) (more xs ys did : List WireCall)
+    → GrowsBy a m more → HangUpGrows m b → ForSome a (λ calls. is_within calls ≡ false)
+    → a ≡ Some xs → b ≡ Some ys → ys ≡ xs ++ did → did ≡ hung_up more
+hung_added None m b more xs ys did grows hung down is_a is_b is = absurd (cc is_a)
+hung_added (Some a) None b more xs ys did grows hung down is_a is_b is = absurd (cc (hung, is_b))
+hung_added (Some a) (Some m) None more xs ys did grows hung down is_a is_b is = absurd (cc is_b)
+hung_added (Some a) (Some m) (Some b) more xs ys did grows hung down is_a is_b is =
+    let first : a ≡ xs = cc is_a in
+    let last : b ≡ ys = cc is_b in
+    let within : is_within m ≡ is_within more =
+    ap is_within grows ∙ fold-append false a more
+    ∙ ap (λ u. fold within_after u more) (down a refl) in
+    cancel xs did (hung_up more) (sym is ∙ sym last ∙ hung
+    ∙ ap (λ u. m ++ hang_up_if u) within ∙ ap (λ l. l ++ hang_up_if (is_within more)) grows
+    ∙ append_assoc a more (hang_up_if (is_within more))
+    ∙ ap (λ l. l ++ hung_up more) first)
+
+-- a wire that tells its record in the end told it before
+pub hung_told : (m b : Option (List WireCall)) (ys : List WireCall) → HangUpGrows m b
+    → b ≡ Some ys → is_some m ≡ true
+hung_told None b ys hung is = absurd (cc (hung, is))
+hung_told (Some m) b ys hung is = refl
+
+-- ---- parts one after another
+
+-- what is left is said of the disk as it was before
+pub leaves_from : (t0 t1 : Option (List ℕ)) (i0 i1 i2 : List ℕ → Type 0) (names names' : Names)
+    (P Q : List Entry → Type 0) → is_some t1 ≡ is_some t0 → (HasOneImage t0 i0 → HasOneImage t1 i1)
+    → names' ≡ names → ((xs : List Entry) → P xs → Q xs) → LeavesOf t1 i1 i2 names' P
+    → LeavesOf t0 i0 i2 names Q
+leaves_from None t1 i0 i1 i2 names names' P Q told one same to h = tt
+leaves_from (Some b) None i0 i1 i2 names names' P Q told one same to h = absurd (cc told)
+leaves_from (Some b) (Some c) i0 i1 i2 names names' P Q told one same to h = λ only bytes left.
+    let found = h (one only) bytes left in
+    (found.0, subst (λ n. JournalOf bytes (Born n found.0)) same found.1, to found.0 found.2)
+
+pub cause_from : {T : Type 0} (r : Result T LifeEnd) (before mid now : ℕ) → mid ≡ before
+    → HasCauseOf mid now r → HasCauseOf before now r
+cause_from r before mid now same h = subst (λ n. HasCauseOf n now r) same h
+
+pub counted_step : (left count : ℕ) → 1 ≤ left
+    → counted_on left count ≡ counted_on (left - 1) (next_count count)
+counted_step zero count some = absurd (omega (arith, some))
+counted_step (suc left) count some =
+    ap (λ n. counted_on n (next_count count)) (let one : left ≡ suc left - 1 = omega arith in one)
+
+pub counted_more : (left count new all first : ℕ) → 1 ≤ left → new ≡ next_count count
+    → counted_on left count ≡ counted_on all first
+    → counted_on (left - 1) new ≡ counted_on all first
+counted_more left count new all first some is same =
+    ap (counted_on (left - 1)) is ∙ sym (counted_step left count some) ∙ same
+
+pub counted_none : (left count : ℕ) → left ≡ 0 → counted_on left count ≡ count
+counted_none zero count none = refl
+counted_none (suc left) count none = absurd (omega (arith, none))
+
+pub one_more : (given : List ℕ) (m left all : ℕ) → length given + left ≡ all → 1 ≤ left
+    → length (given ++ m ∷ []) + (left - 1) ≡ all
+one_more given m left all is some = omega (arith, length-append given (m ∷ []), is, some)
+
+-- ---- how a life begins
+
+module _ (one : (image : List ℕ) → HasOneReading image) where
+  same_journal : (names : Names) (bytes : List ℕ) (xs ys : List Entry) → IsJournal names xs bytes
+      → IsJournal names ys bytes → xs ≡ ys
+  same_journal names bytes xs ys (inl a) (inl b) =
+      cc (one bytes (Born names xs) (Born names ys) a b)
+  same_journal names bytes xs ys (inl a) (inr b) =
+      absurd (cc (one bytes (Born names xs) Unborn a b.0))
+  same_journal names bytes xs ys (inr a) (inl b) =
+      absurd (cc (one bytes Unborn (Born names ys) a.0 b))
+  same_journal names bytes xs ys (inr a) (inr b) = a.1 ∙ sym b.1
+
+  not_refused : (names : Names) (bytes : List ℕ) (xs : List Entry) (at : ℕ)
+      → IsJournal names xs bytes → JournalOf bytes (Refused at) → ⊥
+  not_refused names bytes xs at (inl a) r = absurd (cc (one bytes (Born names xs) (Refused at) a r))
+  not_refused names bytes xs at (inr a) r = absurd (cc (one bytes Unborn (Refused at) a.0 r))
+
+  same_names : (names kept : Names) (bytes : List ℕ) (xs ys : List Entry) → IsJournal names xs bytes
+      → JournalOf bytes (Born kept ys) → kept ≡ names
+  same_names names kept bytes xs ys (inl a) k = cc (one bytes (Born kept ys) (Born names xs) k a)
+  same_names names kept bytes xs ys (inr a) k = absurd (cc (one bytes (Born kept ys) Unborn k a.0))
+
+  -- an image of a disk on which no life began
+  unbegun_image : (names : Names) (bytes image : List ℕ) (before : List Entry)
+      → IsJournal names before bytes
+      → (JournalOf bytes Unborn → JournalOf image Unborn ⊎ JournalOf image (Born names []))
+      → ((kept : Names) (entries : List Entry)
+      → JournalOf bytes (Born kept entries) → JournalOf image (Born kept entries))
+      → IsJournal names before image
+  unbegun_image names bytes image before (inl born) unborn kept = inl (kept names before born)
+  unbegun_image names bytes image before (inr none) unborn kept = at (unborn none.0)
+    where
+      at : JournalOf image Unborn ⊎ JournalOf image (Born names []) → IsJournal names before image
+      at (inl u) = inr (u, none.1)
+      at (inr b) = inl (subst (λ l. JournalOf image (Born names l)) (sym none.1) b)
+
+  -- ---- how it ends
+
+  module _ (config : Config) (rounds : ℕ) (bytes image : List ℕ) (before : List Entry)
+      (journal : IsJournal config.names before bytes) (did : Done)
+      (rc0 rc1 rv0 rv1 : Option (List WireCall)) (km0 km1 : Option (List ℕ))
+      (c0 c1 v0 v1 : List WireCall) (k0 k1 : List ℕ)
+      (ec0 : rc0 ≡ Some c0) (ec1 : rc1 ≡ Some c1) (ev0 : rv0 ≡ Some v0) (ev1 : rv1 ≡ Some v1)
+      (ek0 : km0 ≡ Some k0) (ek1 : km1 ≡ Some k1) (dc : c1 ≡ c0 ++ did.client)
+      (dv : v1 ≡ v0 ++ did.venue) (dk : k1 ≡ k0 ++ did.moments) where
+    -- no connection stands when a life begins, so its framers stand for whatever was read
+    stood_none : (xs : List Entry) (old : LifeState) (reads : Reads)
+        → BeginsWith config (Some bytes) xs old → StoodFor old reads
+    stood_none xs old reads begins = record {
+      client = λ up. absurd (cc (ap (λ (w : World). w.client_up) begins.world, up));
+      venue = λ up. absurd (cc (ap (λ (w : World). w.venue_up) begins.world, up));
+    }
+
+    world_is : (xs : List Entry) (old : LifeState) → BeginsWith config (Some bytes) xs old
+        → world_of old.gate ≡ begun config before
+    world_is xs old begins = begins.world
+        ∙ ap (begun config) (same_journal config.names bytes xs before begins.journal journal)
+
+    pub ends_done : (old : LifeState) (xs entries : List Entry) (given : List ℕ) (last : ℕ)
+        → BeginsWith config (Some bytes) xs old → length given ≡ rounds
+        → GrowsBy km0 km1 (given ++ last ∷ [])
+        → LifeDone config old given last (records rc0 rv0) (records rc1 rv1) entries
+        → LivesToEnd config before rounds did entries
+    ends_done old xs entries given last begins each moments life =
+        let told : AreTold (records rc1 rv1) =
+        record { client = ap is_some ec1; venue = ap is_some ev1 } in
+        record {
+          given = given;
+          last = last;
+          moments = told_added km0 km1 (given ++ last ∷ []) k0 k1 did.moments moments ek0 ek1 dk;
+          each = each;
+          added = life.added;
+          after = life.after;
+          lives = λ reads. subst (λ (w : World). Lives Answers config.names config.window reads w
+              (map moment_of given) (moment_of last) life.added life.after)
+              (world_is xs old begins)
+              (life.lives told reads (stood_none xs old reads begins));
+          client = told_added rc0 rc1 life.added.client c0 c1 did.client life.grew.client ec0 ec1
+              dc;
+          venue = told_added rv0 rv1 life.added.venue v0 v1 did.venue life.grew.venue ev0 ev1 dv;
+          left = life.left;
+        }
+
+    pub ends_before : (end : LifeEnd) (rcm rvm : Option (List WireCall)) (old : LifeState)
+        (xs entries : List Entry) (given : List ℕ) (last : ℕ)
+        → ForSome rc0 (λ calls. is_within calls ≡ false)
+        → ForSome rv0 (λ calls. is_within calls ≡ false)
+        → HangUpGrows rcm rc1 → HangUpGrows rvm rv1
+        → BeginsWith config (Some bytes) xs old → length given ≤ rounds
+        → GrowsBy km0 km1 (given ++ last ∷ [])
+        → LifeBroken end config old given last (records rc0 rv0) (records rcm rvm) entries
+        → EndsBefore end config before rounds did entries
+    ends_before end rcm rvm old xs entries given last cd vd ch vh begins most moments life =
+        let told : AreTold (records rcm rvm) =
+        record { client = hung_told rcm rc1 c1 ch ec1; venue = hung_told rvm rv1 v1 vh ev1 } in
+        let ended : (reads : Reads)
+        → (fails : LifeFails Answers config.names config.window reads (begun config before)
+        (map moment_of given) (moment_of last) life.added entries)
+        × LastEnds end config fails.read fails.mid (moment_of last) fails.rest entries fails.fails =
+        λ reads. subst (λ (w : World).
+        (fails : LifeFails Answers config.names config.window reads w
+        (map moment_of given) (moment_of last) life.added entries)
+        × LastEnds end config fails.read fails.mid (moment_of last) fails.rest entries fails.fails)
+        (world_is xs old begins)
+        (life.ends told reads (stood_none xs old reads begins)) in
+        record {
+          given = given;
+          last = last;
+          moments = told_added km0 km1 (given ++ last ∷ []) k0 k1 did.moments moments ek0 ek1 dk;
+          most = most;
+          added = life.added;
+          fails = λ reads. (ended reads).0;
+          why = λ reads. (ended reads).1;
+          client = hung_added rc0 rcm rc1 life.added.client c0 c1 did.client life.grew.client ch cd
+              ec0 ec1 dc;
+          venue = hung_added rv0 rvm rv1 life.added.venue v0 v1 did.venue life.grew.venue vh vd
+              ev0 ev1 dv;
+        }
+
+    -- an event ended it
+    pub ends_broken : (end : LifeEnd) → IsOfEvent end
+        → (entries : List Entry) → JournalOf image (Born config.names entries)
+        → EndsBefore end config before rounds did entries → Ends end config before rounds did image
+    ends_broken ends.Done of entries left ended = absurd of
+    ends_broken (ends.JournalRefused at) of entries left ended = absurd of
+    ends_broken (ends.NamesDiffer kept given) of entries left ended = absurd of
+    ends_broken ends.DiskFault of entries left ended = (entries, inl left, inr ended)
+    ends_broken ends.JournalFull of entries left ended = (entries, inl left, inr ended)
+    ends_broken (ends.NumbersSpent side) of entries left ended = (entries, inl left, inr ended)
+    ends_broken ends.NoMemory of entries left ended = (entries, inl left, inr ended)
+
+    unbegun_did : (rcm rvm : Option (List WireCall)) (kmm : Option (List ℕ))
+        → ForSome rc0 (λ calls. is_within calls ≡ false)
+        → ForSome rv0 (λ calls. is_within calls ≡ false)
+        → HangUpGrows rcm rc1 → HangUpGrows rvm rv1 → rcm ≡ rc0 → rvm ≡ rv0 → km1 ≡ km0
+        → (did.client ≡ []) × (did.venue ≡ []) × (did.moments ≡ [])
+    unbegun_did rcm rvm kmm cd vd ch vh sc sv sk = (
+      hung_added rc0 rcm rc1 [] c0 c1 did.client
+          (subst (λ r. GrowsBy rc0 r []) (sym sc) (grows_none rc0)) ch cd ec0 ec1 dc,
+      hung_added rv0 rvm rv1 [] v0 v1 did.venue
+          (subst (λ r. GrowsBy rv0 r []) (sym sv) (grows_none rv0)) vh vd ev0 ev1 dv,
+      told_added km0 km1 [] k0 k1 did.moments
+          (subst (λ r. GrowsBy km0 r []) (sym sk) (grows_none km0)) ek0 ek1 dk,
+    )
+
+    -- it did not begin
+    pub ends_unbegun : (end : LifeEnd) (rcm rvm : Option (List WireCall))
+        (image0 image1 : List ℕ → Type 0)
+        → ForSome rc0 (λ calls. is_within calls ≡ false)
+        → ForSome rv0 (λ calls. is_within calls ≡ false)
+        → HangUpGrows rcm rc1 → HangUpGrows rvm rv1
+        → IsUnbegun end config.names (Some bytes) image0 image1 (records rc0 rv0)
+        (records rcm rvm) km0 km1
+        → Only bytes image0 → image1 image → Ends end config before rounds did image
+    ends_unbegun end rcm rvm image0 image1 cd vd ch vh un only here =
+        at end un.begins
+      where
+        nothing_did : (did.client ≡ []) × (did.venue ≡ []) × (did.moments ≡ [])
+        nothing_did = unbegun_did rcm rvm km1 cd vd ch vh (ap (λ (r : Records). r.client) un.wires)
+            (ap (λ (r : Records). r.venue) un.wires) un.clock
+
+        left : IsJournal config.names before image
+        left = let found = un.images only image here in
+            unbegun_image config.names bytes image before journal found.0 found.1
+
+        at : (e : LifeEnd) → Begins {T = LifeState} (λ life. life.gate.journal.entries) config.names
+            bytes (Err e)
+            → Ends e config before rounds did image
+        at ends.Done begins = absurd begins
+        at (ends.JournalRefused place) begins =
+            absurd (not_refused config.names bytes before place journal begins)
+        at (ends.NamesDiffer kept given) begins =
+            absurd (begins.1 (same_names config.names kept bytes before begins.2 journal begins.3))
+        at ends.DiskFault begins = (
+          before,
+          left,
+          inl (
+            record {
+              client = nothing_did.0;
+              venue = nothing_did.1;
+              moments = nothing_did.2;
+            },
+            refl,
+          ),
+        )
+        at ends.JournalFull begins = absurd begins
+        at (ends.NumbersSpent side) begins = absurd begins
+        at ends.NoMemory begins = (
+          before,
+          left,
+          inl (
+            record {
+              client = nothing_did.0;
+              venue = nothing_did.1;
+              moments = nothing_did.2;
+            },
+            refl,
+          ),
+        )
+
+-- ---- the answer of a life
+
+image_of : (told : Option (List ℕ)) (left : List ℕ → Type 0) (P : List ℕ → Type 0)
+    (image : List ℕ) → is_some told ≡ true → ForSome told P → HasOneImage told left → left image
+    → P image
+image_of None left P image is stands one here = absurd (cc is)
+image_of (Some b) left P image is stands one here =
+    subst P (sym (one image here)) (stands b refl)
+
+module _ (one : (image : List ℕ) → HasOneReading image) where
+  -- what a whole life says of each image
+  abbrev pub EndsOf : LifeEnd → Config → ℕ → Option (List ℕ) → (i0 i1 : List ℕ → Type 0)
+      → (rc0 rc1 rv0 rv1 : Option (List WireCall)) → (km0 km1 : Option (List ℕ)) → Type 0
+  EndsOf end config rounds told i0 i1 rc0 rc1 rv0 rv1 km0 km1 = IfSome told (λ bytes.
+      Only bytes i0 → (before : List Entry) → IsJournal config.names before bytes →
+      (c0 c1 v0 v1 : List WireCall) → (k0 k1 : List ℕ) → (did : Done) →
+      rc0 ≡ Some c0 → rc1 ≡ Some c1 → rv0 ≡ Some v0 → rv1 ≡ Some v1 →
+      km0 ≡ Some k0 → km1 ≡ Some k1 →
+      c1 ≡ c0 ++ did.client → v1 ≡ v0 ++ did.venue → k1 ≡ k0 ++ did.moments →
+      (image : List ℕ) → i1 image → Ends end config before rounds did image)
+
+  pub live_done : (config : Config) (rounds : ℕ) (t0 t1 : Option (List ℕ))
+      (i0 i1 : List ℕ → Type 0) (rc0 rc1 rv0 rv1 : Option (List WireCall))
+      (km0 km1 : Option (List ℕ)) → is_some t1 ≡ is_some t0
+      → (HasOneImage t0 i0 → HasOneImage t1 i1)
+      → LifeWhole config rounds t0 t1 (records rc0 rv0) (records rc1 rv1) km0 km1
+      → EndsOf ends.Done config rounds t0 i0 i1 rc0 rc1 rv0 rv1 km0 km1
+  live_done config rounds None t1 i0 i1 rc0 rc1 rv0 rv1 km0 km1 told same life = tt
+  live_done config rounds (Some b) t1 i0 i1 rc0 rc1 rv0 rv1 km0 km1 told same life =
+      λ only before journal c0 c1 v0 v1 k0 k1 did ec0 ec1 ev0 ev1 ek0 ek1 dc dv dk image here. (
+        life.entries,
+        image_of t1 i1 (λ c. JournalOf c (Born config.names life.entries)) image told life.stands
+            (same only) here,
+        ends_done one config rounds b image before journal did rc0 rc1 rv0 rv1 km0 km1 c0 c1 v0 v1
+            k0 k1 ec0 ec1 ev0 ev1 ek0 ek1 dc dv dk life.old life.before life.entries life.given
+            life.last life.begins life.each life.moments life.done,
+      )
+
+  pub live_ended : (end : LifeEnd) (config : Config) (rounds : ℕ) (told : Option (List ℕ))
+      (i0 i1 : List ℕ → Type 0) (rc0 rcm rc1 rv0 rvm rv1 : Option (List WireCall))
+      (km0 km1 : Option (List ℕ)) → ForSome rc0 (λ calls. is_within calls ≡ false)
+      → ForSome rv0 (λ calls. is_within calls ≡ false) → HangUpGrows rcm rc1 → HangUpGrows rvm rv1
+      → IsUnbegun end config.names told i0 i1 (records rc0 rv0) (records rcm rvm) km0 km1
+      ⊎ LifeStopped end config rounds told i0 i1 (records rc0 rv0) (records rcm rvm) km0 km1
+      → EndsOf end config rounds told i0 i1 rc0 rc1 rv0 rv1 km0 km1
+  live_ended end config rounds None i0 i1 rc0 rcm rc1 rv0 rvm rv1 km0 km1 cd vd ch vh how = tt
+  live_ended end config rounds (Some b) i0 i1 rc0 rcm rc1 rv0 rvm rv1 km0 km1 cd vd ch vh (inl un) =
+      λ only before journal c0 c1 v0 v1 k0 k1 did ec0 ec1 ev0 ev1 ek0 ek1 dc dv dk image here.
+      ends_unbegun one config rounds b image before journal did rc0 rc1 rv0 rv1 km0 km1 c0 c1 v0 v1
+      k0 k1 ec0 ec1 ev0 ev1 ek0 ek1 dc dv dk end rcm rvm i0 i1 cd vd ch vh un only here
+  live_ended end config rounds (Some b) i0 i1 rc0 rcm rc1 rv0 rvm rv1 km0 km1 cd vd ch vh
+      (inr stopped) =
+      λ only before journal c0 c1 v0 v1 k0 k1 did ec0 ec1 ev0 ev1 ek0 ek1 dc dv dk image here.
+      let found = stopped.left only image here in
+      ends_broken one config rounds b image before journal did rc0 rc1 rv0 rv1 km0 km1 c0 c1 v0 v1
+      k0 k1 ec0 ec1 ev0 ev1 ek0 ek1 dc dv dk end stopped.of_event found.0 found.1
+      (ends_before one config rounds b image before journal did rc0 rc1 rv0 rv1 km0 km1 c0 c1 v0 v1
+      k0 k1 ec0 ec1 ev0 ev1 ek0 ek1 dc dv dk end rcm rvm stopped.old stopped.entries found.0
+      stopped.given stopped.last cd vd ch vh stopped.begins stopped.most stopped.moments found.2)
+
+-- a life that did not begin
+pub lived_unbegun : {T : Type 0} (r : Result T LifeEnd) (error : LifeEnd) (names : Names)
+    (told : Option (List ℕ)) (i0 i1 : List ℕ → Type 0) (r0 : Records) (k0 : Option (List ℕ))
+    (Q : LifeEnd → Type 0) → IsErrAnd r (λ e. e ≡ error)
+    → IfSome told (λ b. Begins {T = LifeState} (λ life. life.gate.journal.entries) names b
+    (Err error)) → BornOrNot told i0 i1 names
+    → IfErr r (λ end. IsUnbegun end names told i0 i1 r0 r0 k0 k0 ⊎ Q end)
+lived_unbegun (Ok value) error names told i0 i1 r0 k0 Q is begins images = tt
+lived_unbegun (Err end) error names told i0 i1 r0 k0 Q is begins images = inl (record {
+  wires = refl;
+  clock = refl;
+  begins = subst (λ (e : LifeEnd). IfSome told (λ b.
+      Begins {T = LifeState} (λ life. life.gate.journal.entries) names b (Err e))) (sym is) begins;
+  images = images;
+})
+
+pub lived_whole : {T : Type 0} (r : Result T LifeEnd) (config config' : Config) (rounds : ℕ)
+    (t0 t2 : Option (List ℕ)) (old new : LifeState) (r0 r1 : Records)
+    (k0 k1 : Option (List ℕ)) → config' ≡ config
+    → world_of old.gate ≡ begun config old.gate.journal.entries
+    → IfSome t0 (λ b. Begins {T = LifeState} (λ life. life.gate.journal.entries) config.names b
+    (Ok old))
+    → OnOk r (ForSome t2 (λ b. JournalOf b (Born config'.names new.gate.journal.entries)))
+    → OnOk r ((given : List ℕ) × (last : ℕ) × (length given ≡ rounds)
+    × GrowsBy k0 k1 (given ++ last ∷ [])
+    × LifeDone config' old given last r0 r1 new.gate.journal.entries)
+    → OnOk r (LifeWhole config rounds t0 t2 r0 r1 k0 k1)
+lived_whole (Err end) config config' rounds t0 t2 old new r0 r1 k0 k1 same world begins stands
+    done = tt
+lived_whole (Ok value) config config' rounds t0 t2 old new r0 r1 k0 k1 same world begins stands
+    done = record {
+      before = old.gate.journal.entries;
+      old = old;
+      begins = record { world = world; journal = begins };
+      entries = new.gate.journal.entries;
+      stands = subst (λ (k : Config).
+          ForSome t2 (λ b. JournalOf b (Born k.names new.gate.journal.entries))) same stands;
+      given = done.0;
+      last = done.1;
+      each = done.2;
+      moments = done.3;
+      done = subst (λ (k : Config). LifeDone k old done.0 done.1 r0 r1 new.gate.journal.entries)
+          same done.4;
+    }
+
+pub lived_stopped : {T : Type 0} (r : Result T LifeEnd) (config config' : Config) (rounds : ℕ)
+    (t0 t1 : Option (List ℕ)) (i0 i1 i2 : List ℕ → Type 0) (old : LifeState) (r0 r1 : Records)
+    (k0 k1 : Option (List ℕ)) (Q : LifeEnd → Type 0) → config' ≡ config
+    → world_of old.gate ≡ begun config old.gate.journal.entries
+    → IfSome t0 (λ b. Begins {T = LifeState} (λ life. life.gate.journal.entries) config.names b
+    (Ok old)) → is_some t1 ≡ is_some t0 → (HasOneImage t0 i0 → HasOneImage t1 i1)
+    → IfErr r IsOfEvent → IfErr r (λ end. (given : List ℕ) × (last : ℕ) × (length given ≤ rounds)
+    × GrowsBy k0 k1 (given ++ last ∷ [])
+    × LeavesOf t1 i1 i2 config'.names (LifeBroken end config' old given last r0 r1))
+    → IfErr r (λ end. Q end ⊎ LifeStopped end config rounds t0 i0 i2 r0 r1 k0 k1)
+lived_stopped (Ok value) config config' rounds t0 t1 i0 i1 i2 old r0 r1 k0 k1 Q same world begins
+    told one of_event ends = tt
+lived_stopped (Err end) config config' rounds t0 t1 i0 i1 i2 old r0 r1 k0 k1 Q same world begins
+    told one of_event ends = inr (record {
+      of_event = of_event;
+      entries = old.gate.journal.entries;
+      old = old;
+      begins = record { world = world; journal = begins };
+      given = ends.0;
+      last = ends.1;
+      most = ends.2;
+      moments = ends.3;
+      left = leaves_from t0 t1 i0 i1 i2 config.names config'.names
+          (LifeBroken end config' old ends.0 ends.1 r0 r1)
+          (LifeBroken end config old ends.0 ends.1 r0 r1) told one
+          (ap (λ (k : Config). k.names) same)
+          (λ xs broken. subst (λ (k : Config). LifeBroken end k old ends.0 ends.1 r0 r1 xs) same
+          broken) ends.4;
+    })
+
+-- an event does not refuse a journal
+pub not_of_event : {T : Type 0} (r : Result T LifeEnd) (at : ℕ) → IfErr r IsOfEvent
+    → r ≡ Err (ends.JournalRefused at) → ⊥
+not_of_event r at only is = subst (λ k. IfErr k IsOfEvent) is only
+
+pub begin_refused : {T : Type 0} (r : Result T LifeEnd) (error : LifeEnd) (names : Names)
+    (told : Option (List ℕ)) (at : ℕ) → IsErrAnd r (λ e. e ≡ error)
+    → IfSome told (λ b. Begins {T = LifeState} (λ life. life.gate.journal.entries) names b
+    (Err error)) → r ≡ Err (ends.JournalRefused at)
+    → IfSome told (λ b. JournalOf b (Refused at))
+begin_refused (Ok value) error names told at is begins same = absurd is
+begin_refused (Err end) error names told at is begins same =
+    let found : end ≡ ends.JournalRefused at = cc same in
+    subst (λ (e : LifeEnd). IfSome told (λ b.
+    Begins {T = LifeState} (λ life. life.gate.journal.entries) names b (Err e)))
+    (sym is ∙ found) begins

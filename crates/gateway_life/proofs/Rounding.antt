@@ -1,0 +1,443 @@
+-- Turns, rounds and lives, from what each added to the records.
+use Rattle.std.proofs.Common.{◌≡◌, ℕ, Bool, true, false, List, [], ◌∷◌, ◌++◌, refl, sym, ◌∙◌}
+use Rattle.std.proofs.Common.{ap, subst, inl, inr, Some, None}
+use Rattle.std.specs.Prelude.{map, is_some, if◌then◌else◌}
+use Rattle.std.specs.declared.option.Option.{Option}
+use Rattle.std.proofs.lemmas.List.{map-append}
+use Rattle.frame_grammar.specs.Held.{Held}
+use Rattle.order_meaning.specs.declared.Side.{Side}
+use Rattle.order_meaning.specs.declared.Side.TheVariants.{Client, Venue}
+use Rattle.pair_journal.specs.declared.entry.Entry.{Entry}
+use Rattle.event_decisions.specs.Event.{Event, Tick}
+use Rattle.message_answers.specs.Answer.{Answers}
+use Rattle.gateway_config.specs.declared.config.Config.{Config}
+use Rattle.wires.specs.Told.{GrowsBy}
+use Rattle.wires.specs.Wire as wire
+use Rattle.wires.specs.Wire.{WireCall, Came, may_come}
+use Rattle.life_events.specs.Sends.{Sends, Acts}
+use Rattle.life_events.specs.Happens.{World, Added, nothing, up_on}
+use Rattle.life_events.specs.Turn.{both, on_side, with_up, up_after, read_after, events_of}
+use Rattle.life_events.specs.Turn.{Reads, counts, HappensIf, HappensOrNot, AllHappen, Turn, Round}
+use Rattle.life_events.specs.Turn.{Rounds}
+use Rattle.life_events.specs.Ends.{TurnFails, LifeFails}
+use Rattle.gateway_life.specs.declared.end.LifeEnd.{LifeEnd}
+use Rattle.gateway_life.specs.State.{LifeState}
+use Rattle.gateway_life.specs.Ready.{world_of}
+use Rattle.gateway_life.specs.Stepped.{Records, Grew, AllStepped, Failed}
+use Rattle.gateway_life.specs.Turned.{StandsWhole, IfBytes, UnlessOpened, Turned, TurnBroken}
+use Rattle.gateway_life.specs.Turned.{record_on}
+use Rattle.gateway_life.specs.Life.{OneEnds, LastEnds, moment_of}
+use Rattle.gateway_life.specs.Rounds.{StoodFor, AreTold, RoundDone, RoundEnds, RoundBroken}
+use Rattle.gateway_life.specs.Rounds.{RoundsDone, LifeDone, LifeBroken, ends_of}
+use Rattle.gateway_life.proofs.Turning.{grew_append, grew_none, both_end, both_three}
+use Rattle.gateway_life.proofs.Failing.{FailsFor, failed_fails, failed_grew}
+
+-- ---- a connection that stands has stood
+
+sends_down : (pieces : List (List ℕ)) (calls : List WireCall) (after : Bool)
+    → Sends false pieces calls after → after ≡ false
+sends_down [] calls after sends = sends.1
+sends_down (piece ∷ pieces) calls after sends = sends.1
+
+hung_down : (hangs still after : Bool) → still ≡ false
+    → after ≡ (if hangs then false else still) → after ≡ false
+hung_down true still after down is = is
+hung_down false still after down is = is ∙ down
+
+stood : (up : Bool) (pieces : List (List ℕ)) (hangs : Bool) (calls : List WireCall)
+    (after : Bool) → Acts up pieces hangs calls after → after ≡ true → up ≡ true
+stood true pieces hangs calls after acts is = refl
+stood false pieces hangs calls after acts is =
+    let down = hung_down hangs acts.still after (sends_down pieces acts.sent acts.still acts.sends)
+    acts.ends in
+    absurd (cc (sym down ∙ is))
+
+module _ (config : Config) where
+  one_stood : (side : Side) (w x : World) (event : Event) (now : ℕ) (a : Added)
+      → HappensOrNot Answers config.names config.window w event now a x
+      → up_on side x ≡ true → up_on side w ≡ true
+  one_stood side w x event now a one is = at (counts w event) one
+    where
+      on : (s : Side) (h : HappensIf Answers config.names config.window true w event now a x)
+          → up_on s x ≡ true → up_on s w ≡ true
+      on Client h up = stood _ _ _ _ _ h.client up
+      on Venue h up = stood _ _ _ _ _ h.venue up
+
+      at : (b : Bool) → HappensIf Answers config.names config.window b w event now a x
+          → up_on side w ≡ true
+      at true h = on side h is
+      at false h = ap (up_on side) (sym h.1) ∙ is
+
+  all_stood : (side : Side) (w x : World) (events : List Event) (now : ℕ) (a : Added)
+      → AllHappen Answers config.names config.window w events now a x
+      → up_on side x ≡ true → up_on side w ≡ true
+  all_stood side w x [] now a all is = ap (up_on side) (sym all.1) ∙ is
+  all_stood side w x (event ∷ events) now a all is =
+      one_stood side w all.1 event now all.0 all.3
+      (all_stood side all.1 x events now all.2 all.4 is)
+
+-- ---- what may come
+
+if_bytes : (came : Came) (up : Bool) (P : Type 0) → may_come up came ≡ true → (up ≡ true → P)
+    → IfBytes came P
+if_bytes wire.Nothing up P may to = tt
+if_bytes wire.Opened up P may to = tt
+if_bytes (wire.Bytes []) up P may to = absurd (cc may)
+if_bytes (wire.Bytes (byte ∷ bytes)) up P may to = to may
+if_bytes wire.Closed up P may to = tt
+if_bytes wire.Broken up P may to = tt
+
+unless_opened : (came : Came) (up : Bool) (P : Type 0) → up_after up came ≡ true → (up ≡ true → P)
+    → UnlessOpened came P
+unless_opened wire.Nothing up P still to = to still
+unless_opened wire.Opened up P still to = tt
+unless_opened (wire.Bytes bytes) up P still to = to still
+unless_opened wire.Closed up P still to = absurd (cc still)
+unless_opened wire.Broken up P still to = absurd (cc still)
+
+up_with : (side : Side) (b : Bool) (w : World) → up_on side (with_up side b w) ≡ b
+up_with Client b w = refl
+up_with Venue b w = refl
+
+told_back : {A : Type 0} (old new : Option (List A)) (more : List A) → GrowsBy old new more
+    → is_some new ≡ true → is_some old ≡ true
+told_back None new more grows told = absurd (cc (sym (ap is_some grows) ∙ told))
+told_back (Some old) new more grows told = refl
+
+pub are_told_back : (r0 r1 : Records) (a : Added) → Grew r0 r1 a → AreTold r1 → AreTold r0
+are_told_back r0 r1 a grew told = record {
+  client = told_back r0.client r1.client a.client grew.client told.client;
+  venue = told_back r0.venue r1.venue a.venue grew.venue told.venue;
+}
+
+-- ---- a side's turn
+
+module _ (config : Config) where
+  -- a turn, whole, for what was read on a connection that stands
+  turn_of : (side : Side) (old next : Held) (w x : World) (now : ℕ) (r0 r1 : Records)
+      (t : Turned side old next config w now x r0 r1) (read : List ℕ)
+      → is_some (record_on side r0) ≡ true → (up_on side w ≡ true → StandsWhole old read)
+      → Turn Answers config.names config.window side read w now
+      (both (on_side side (wire.Poll t.came ∷ [])) t.rest) x
+  turn_of side old next w x now r0 r1 t read told whole = record {
+    came = t.came;
+    bodies = t.bodies;
+    new = t.new read (if_bytes t.came (up_on side w) (StandsWhole old read) (t.may told) whole);
+    rest = t.rest;
+    events = t.events;
+    all = refl;
+  }
+
+  -- and its framer stands for what was read then
+  turn_stood : (side : Side) (old next : Held) (w x : World) (now : ℕ) (r0 r1 : Records)
+      (t : Turned side old next config w now x r0 r1) (read : List ℕ)
+      → (up_on side w ≡ true → StandsWhole old read) → up_on side x ≡ true
+      → StandsWhole next (read_after read t.came)
+  turn_stood side old next w x now r0 r1 t read whole up =
+      let polled = up_after (up_on side w) t.came in
+      let still = sym (up_with side polled w)
+      ∙ all_stood config side (with_up side polled w) x _ now t.rest t.events up in
+      t.stands read (unless_opened t.came (up_on side w) (StandsWhole old read) still whole)
+
+  other_client : (old next : Held) (w x : World) (now : ℕ) (r0 r1 : Records)
+      (t : Turned Client old next config w now x r0 r1) → x.venue_up ≡ true → w.venue_up ≡ true
+  other_client old next w x now r0 r1 t up =
+      all_stood config Venue (with_up Client (up_after w.client_up t.came) w) x _ now t.rest
+      t.events up
+
+  other_venue : (old next : Held) (w x : World) (now : ℕ) (r0 r1 : Records)
+      (t : Turned Venue old next config w now x r0 r1) → x.client_up ≡ true → w.client_up ≡ true
+  other_venue old next w x now r0 r1 t up =
+      all_stood config Client (with_up Venue (up_after w.venue_up t.came) w) x _ now t.rest
+      t.events up
+
+  -- ---- a round
+
+  pub round_done : (old new : LifeState) (mid : World) (now : ℕ) (r0 r1 r2 : Records)
+      → Turned Client old.client new.client config (world_of old.gate) now mid r0 r1
+      → Turned Venue old.venue new.venue config mid now (world_of new.gate) r1 r2
+      → RoundDone config old new now r0 r2
+  unfolding turn_of
+  round_done old new mid now r0 r1 r2 c v = record {
+    added = both (both (on_side Client (wire.Poll c.came ∷ [])) c.rest)
+        (both (on_side Venue (wire.Poll v.came ∷ [])) v.rest);
+    grew = grew_append r0 r1 r2 _ _ c.grew v.grew;
+    round = λ told reads whole.
+        let told1 = are_told_back r1 r2 _ v.grew told in
+        let told0 = are_told_back r0 r1 _ c.grew told1 in
+        let reads' : Reads = record {
+          client = read_after reads.client c.came;
+          venue = read_after reads.venue v.came;
+        } in
+        let venue_whole : mid.venue_up ≡ true → StandsWhole old.venue reads.venue =
+        λ up. whole.venue (other_client _ _ _ _ _ _ _ c up) in (
+          reads',
+          record {
+            mid = mid;
+            client_added = both (on_side Client (wire.Poll c.came ∷ [])) c.rest;
+            venue_added = both (on_side Venue (wire.Poll v.came ∷ [])) v.rest;
+            client = turn_of Client old.client new.client (world_of old.gate) mid now r0 r1 c
+                reads.client told0.client whole.client;
+            venue = turn_of Venue old.venue new.venue mid (world_of new.gate) now r1 r2 v
+                reads.venue told1.venue venue_whole;
+            all = refl;
+            read = refl;
+            client_may = c.may told0.client;
+            venue_may = v.may told1.venue;
+          },
+          record {
+            client = λ up. turn_stood Client old.client new.client (world_of old.gate) mid now r0 r1
+                c reads.client whole.client (other_venue _ _ _ _ _ _ _ v up);
+            venue = λ up. turn_stood Venue old.venue new.venue mid (world_of new.gate) now r1 r2 v
+                reads.venue venue_whole up;
+          },
+        );
+  }
+
+  -- a turn in which an event ended the life
+  turn_fails : (end : LifeEnd) (side : Side) (old : Held) (w : World) (now : ℕ) (r0 r1 : Records)
+      (entries : List Entry) (t : TurnBroken end side old config w now r0 r1 entries)
+      (read : List ℕ) → is_some (record_on side r0) ≡ true
+      → (up_on side w ≡ true → StandsWhole old read)
+      → (fails : TurnFails Answers config.names config.window side read w now
+      (both (on_side side (wire.Poll t.came ∷ []))
+      (both t.failed.all.added t.failed.broken.added)) entries)
+      × OneEnds end config (with_up side (up_after (up_on side w) fails.came) w)
+      (events_of side fails.came fails.bodies ++ Tick side ∷ []) now fails.rest entries fails.events
+  turn_fails end side old w now r0 r1 entries t read told whole =
+      let found = t.new read
+      (if_bytes t.came (up_on side w) (StandsWhole old read) (t.may told) whole) in
+      let polled = with_up side (up_after (up_on side w) t.came) w in
+      let failed : FailsFor config end polled (events_of side t.came found.0 ++ Tick side ∷ []) now
+      (both t.failed.all.added t.failed.broken.added) entries =
+      subst (λ (es : List Event). FailsFor config end polled es now
+      (both t.failed.all.added t.failed.broken.added) entries) (sym found.3)
+      (failed_fails config end polled t.first found.1 now t.between r1 entries t.failed) in (
+        record {
+          came = t.came;
+          may = t.may told;
+          bodies = found.0;
+          new = found.2;
+          rest = both t.failed.all.added t.failed.broken.added;
+          events = failed.0;
+          all = refl;
+        },
+        failed.1,
+      )
+
+  turn_fails_grew : (end : LifeEnd) (side : Side) (old : Held) (w : World) (now : ℕ)
+      (r0 r1 : Records) (entries : List Entry)
+      (t : TurnBroken end side old config w now r0 r1 entries)
+      → Grew r0 r1 (both (on_side side (wire.Poll t.came ∷ []))
+      (both t.failed.all.added t.failed.broken.added))
+  turn_fails_grew end side old w now r0 r1 entries t =
+      grew_append r0 t.between r1 (on_side side (wire.Poll t.came ∷ []))
+      (both t.failed.all.added t.failed.broken.added) t.polled
+      (failed_grew config end (with_up side (up_after (up_on side w) t.came) w) t.first now
+      t.between r1 entries t.failed)
+
+  pub round_client : (end : LifeEnd) (old : LifeState) (now : ℕ) (r0 r1 : Records)
+      (entries : List Entry)
+      → TurnBroken end Client old.client config (world_of old.gate) now r0 r1 entries
+      → RoundBroken end config old now r0 r1 entries
+  round_client end old now r0 r1 entries t =
+      let grew = turn_fails_grew end Client old.client (world_of old.gate) now r0 r1 entries t in
+      record {
+        added = both (on_side Client (wire.Poll t.came ∷ []))
+            (both t.failed.all.added t.failed.broken.added);
+        grew = grew;
+        ends = λ told reads whole.
+            let told0 = are_told_back r0 r1 _ grew told in
+            let fails = turn_fails end Client old.client (world_of old.gate) now r0 r1 entries t
+            reads.client told0.client whole.client in
+            inl (fails.0, fails.1);
+      }
+
+  pub round_venue : (end : LifeEnd) (old : LifeState) (next : Held) (mid : World) (now : ℕ)
+      (r0 r1 r2 : Records) (entries : List Entry)
+      → Turned Client old.client next config (world_of old.gate) now mid r0 r1
+      → TurnBroken end Venue old.venue config mid now r1 r2 entries
+      → RoundBroken end config old now r0 r2 entries
+  unfolding turn_of
+  round_venue end old next mid now r0 r1 r2 entries c t =
+      let grew = turn_fails_grew end Venue old.venue mid now r1 r2 entries t in
+      let client_added = both (on_side Client (wire.Poll c.came ∷ [])) c.rest in
+      let venue_added = both (on_side Venue (wire.Poll t.came ∷ []))
+      (both t.failed.all.added t.failed.broken.added) in
+      record {
+        added = both client_added venue_added;
+        grew = grew_append r0 r1 r2 client_added venue_added c.grew grew;
+        ends = λ told reads whole.
+            let told1 = are_told_back r1 r2 venue_added grew told in
+            let told0 = are_told_back r0 r1 client_added c.grew told1 in
+            let venue_whole : mid.venue_up ≡ true → StandsWhole old.venue reads.venue =
+            λ up. whole.venue (other_client _ _ _ _ _ _ _ c up) in
+            let fails = turn_fails end Venue old.venue mid now r1 r2 entries t
+            reads.venue told1.venue venue_whole in
+            inr (
+              record {
+                mid = mid;
+                first = client_added;
+                rest = venue_added;
+                client = turn_of Client old.client next (world_of old.gate) mid now r0 r1 c
+                    reads.client told0.client whole.client;
+                client_may = c.may told0.client;
+                venue = fails.0;
+                all = refl;
+              },
+              fails.1,
+            );
+      }
+
+  -- ---- rounds one after another
+
+  rounds_push : (moments : List ℕ) (now : ℕ) (reads mid_reads reads' : Reads) (w m x : World)
+      (a b : Added) → Rounds Answers config.names config.window reads w moments a mid_reads m
+      → Round Answers config.names config.window mid_reads m now b reads' x
+      → Rounds Answers config.names config.window reads w (moments ++ now ∷ []) (both a b) reads' x
+  rounds_push [] now reads mid_reads reads' w m x a b all one =
+      let here : Round Answers config.names config.window reads w now b reads' x =
+      subst (λ (r : Reads). Round Answers config.names config.window r w now b reads' x) all.1
+      (subst (λ (y : World). Round Answers config.names config.window mid_reads y now b reads' x)
+      all.2 one) in (
+        b,
+        x,
+        reads',
+        nothing,
+        here,
+        (refl, refl, refl),
+        ap (λ (y : Added). both y b) all.0 ∙ both_end b,
+      )
+  rounds_push (moment ∷ moments) now reads mid_reads reads' w m x a b all one = (
+    all.0,
+    all.1,
+    all.2,
+    both all.3 b,
+    all.4,
+    rounds_push moments now all.2 mid_reads reads' all.1 m x all.3 b all.5 one,
+    ap (λ (y : Added). both y b) all.6 ∙ both_three all.0 all.3 b,
+  )
+
+  pub rounds_none : (life : LifeState) (r : Records) → RoundsDone config life life [] r r
+  rounds_none life r = record {
+    added = nothing;
+    grew = grew_none r;
+    rounds = λ told reads whole. (reads, (refl, refl, refl), whole);
+  }
+
+  pub rounds_more : (old mid new : LifeState) (given : List ℕ) (m : ℕ) (r0 r1 r2 : Records)
+      → RoundsDone config old mid given r0 r1 → RoundDone config mid new (moment_of m) r1 r2
+      → RoundsDone config old new (given ++ m ∷ []) r0 r2
+  rounds_more old mid new given m r0 r1 r2 first one = record {
+    added = both first.added one.added;
+    grew = grew_append r0 r1 r2 first.added one.added first.grew one.grew;
+    rounds = λ told reads whole.
+        let before = first.rounds (are_told_back r1 r2 one.added one.grew told) reads whole in
+        let here = one.round told before.0 before.2 in (
+          here.0,
+          subst (λ (l : List ℕ). Rounds Answers config.names config.window reads (world_of old.gate)
+              l (both first.added one.added) here.0 (world_of new.gate))
+              (sym (map-append moment_of given (m ∷ [])))
+              (rounds_push (map moment_of given) (moment_of m) reads before.0 here.0
+              (world_of old.gate) (world_of mid.gate) (world_of new.gate) first.added one.added
+              before.1 here.1),
+          here.2,
+        );
+  }
+
+  -- ---- a life
+
+  pub life_done : (old mid : LifeState) (given : List ℕ) (last : ℕ) (x : World)
+      (r0 r1 r2 : Records) → RoundsDone config old mid given r0 r1
+      → AllStepped config (world_of mid.gate) ends_of (moment_of last) x r1 r2
+      → LifeDone config old given last r0 r2 x.entries
+  life_done old mid given last x r0 r1 r2 first ends = record {
+    added = both first.added ends.added;
+    grew = grew_append r0 r1 r2 first.added ends.added first.grew ends.grew;
+    after = x;
+    left = refl;
+    lives = λ told reads whole.
+        let before = first.rounds (are_told_back r1 r2 ends.added ends.grew told) reads whole in
+        record {
+          mid = world_of mid.gate;
+          read = before.0;
+          first = first.added;
+          rest = ends.added;
+          rounds = before.1;
+          ends = ends.happen;
+          all = refl;
+        };
+  }
+
+  pub life_round : (end : LifeEnd) (old mid : LifeState) (given : List ℕ) (last : ℕ)
+      (r0 r1 r2 : Records) (entries : List Entry) → RoundsDone config old mid given r0 r1
+      → RoundBroken end config mid (moment_of last) r1 r2 entries
+      → LifeBroken end config old given last r0 r2 entries
+  life_round end old mid given last r0 r1 r2 entries first broken = record {
+    added = both first.added broken.added;
+    grew = grew_append r0 r1 r2 first.added broken.added first.grew broken.grew;
+    ends = λ told reads whole.
+        let before = first.rounds (are_told_back r1 r2 broken.added broken.grew told) reads whole in
+        at reads before.0 before.1 (broken.ends told before.0 before.2);
+  }
+    where
+      at : (reads reads' : Reads)
+          → Rounds Answers config.names config.window reads (world_of old.gate)
+          (map moment_of given) first.added reads' (world_of mid.gate)
+          → RoundEnds end config reads' (world_of mid.gate) (moment_of last) broken.added entries
+          → (fails : LifeFails Answers config.names config.window reads (world_of old.gate)
+          (map moment_of given) (moment_of last) (both first.added broken.added) entries)
+          × LastEnds end config fails.read fails.mid (moment_of last) fails.rest entries fails.fails
+      at reads reads' rounds (inl client) = (
+        record {
+          mid = world_of mid.gate;
+          read = reads';
+          first = first.added;
+          rest = broken.added;
+          rounds = rounds;
+          fails = inl client.0;
+          all = refl;
+        },
+        client.1,
+      )
+      at reads reads' rounds (inr venue) = (
+        record {
+          mid = world_of mid.gate;
+          read = reads';
+          first = first.added;
+          rest = broken.added;
+          rounds = rounds;
+          fails = inr (inl venue.0);
+          all = refl;
+        },
+        venue.1,
+      )
+
+  pub life_end : (end : LifeEnd) (old mid : LifeState) (given : List ℕ) (last : ℕ)
+      (r0 r1 r2 : Records) (entries : List Entry) → RoundsDone config old mid given r0 r1
+      → Failed end config (world_of mid.gate) ends_of (moment_of last) r1 r2 entries
+      → LifeBroken end config old given last r0 r2 entries
+  life_end end old mid given last r0 r1 r2 entries first failed =
+      let added = both failed.all.added failed.broken.added in
+      let grew = failed_grew config end (world_of mid.gate) ends_of (moment_of last) r1 r2 entries
+      failed in
+      let fails : FailsFor config end (world_of mid.gate) ends_of (moment_of last) added entries =
+      failed_fails config end (world_of mid.gate) ends_of [] (moment_of last) r1 r2 entries
+      failed in
+      record {
+        added = both first.added added;
+        grew = grew_append r0 r1 r2 first.added added first.grew grew;
+        ends = λ told reads whole.
+            let before = first.rounds (are_told_back r1 r2 added grew told) reads whole in (
+              record {
+                mid = world_of mid.gate;
+                read = before.0;
+                first = first.added;
+                rest = added;
+                rounds = before.1;
+                fails = inr (inr fails.0);
+                all = refl;
+              },
+              fails.1,
+            );
+      }

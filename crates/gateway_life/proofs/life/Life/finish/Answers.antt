@@ -1,0 +1,36 @@
+use Rattle.gateway_life.specs.State.{seen}
+use Rattle.gateway_life.specs.Ready.{world_of}
+use Rattle.gateway_life.proofs.Joining.{finish_ok, finish_client, finish_venue}
+use Rattle.gateway_life.proofs.Polling.{durable_on}
+use Rattle.gateway_life.proofs.life.Life.finish.Goals as goal
+
+pub returns-in_err-event-clause-ends : goal.returns-in_err-event-clause-ends
+returns-in_err-event-clause-ends g c =
+    let at = c.moment-now.ensures.given in
+    rw (← c.self.view_is) (finish_client c.from_residual.result c.in_err-event.field-0.0
+    c.self.inside.gate.core.config (world_of (seen c.self.inside.gate)) c.moment-now.result at.0 _ _
+    (g.D.Disk.bytes c.args.disk.now) _ _ _ _ c.from_residual.ensures.1 at.1 at.2
+    c.in_err-event.ensures.ends)
+
+pub returns-clause-finish : goal.returns-clause-finish
+returns-clause-finish g c =
+    let at = c.moment-now.ensures.given in
+    rw (← c.self.view_is) (finish_ok c.event-2.result c.self.inside.gate.core.config
+    c.event.new.self.core.config
+    (world_of (seen c.self.inside.gate)) (world_of (seen c.event.new.self))
+    (world_of (seen c.event-2.new.self)) c.moment-now.result at.0 _ _ _ _ _
+    c.event.ensures.config at.1 at.2 c.in_ok-event.ensures.happens c.event-2.ensures.happens)
+
+pub returns-clause-ends : goal.returns-clause-ends
+returns-clause-ends g c =
+    let at = c.moment-now.ensures.given in
+    rw (← c.self.view_is) (finish_venue c.event-2.result c.self.inside.gate.core.config
+    c.event.new.self.core.config
+    (world_of (seen c.self.inside.gate)) (world_of (seen c.event.new.self)) c.moment-now.result at.0
+    _ _ (g.D.Disk.bytes c.args.disk.now) (g.D.Disk.bytes c.event.new.disk) _ _ _ _ _ _
+    c.event.ensures.config at.1 at.2 c.event.ensures.told c.in_ok-event.ensures.durable
+    c.in_ok-event.ensures.happens c.event-2.ensures.ends)
+
+pub returns-clause-durable : goal.returns-clause-durable
+returns-clause-durable g c =
+    durable_on c.event-2.result _ _ _ c.in_ok-event.ensures.durable c.event-2.ensures.durable

@@ -1,0 +1,53 @@
+use Rattle.gateway_life.specs.State.{seen}
+use Rattle.gateway_life.specs.Ready.{world_of}
+use Rattle.gateway_life.proofs.Joining.{round_ok, client_ends, venue_ends}
+use Rattle.gateway_life.proofs.Polling.{durable_on}
+use Rattle.gateway_life.proofs.life.Life.round.Goals as goal
+
+pub returns-in_err-client_turn-clause-ends : goal.returns-in_err-client_turn-clause-ends
+returns-in_err-client_turn-clause-ends g c =
+    let at = c.moment-now.ensures.given in
+    rw (← c.self.view_is) (client_ends c.from_residual.result c.in_err-client_turn.field-0.0
+    c.self.inside.gate.core.config (record {
+      gate = seen c.self.inside.gate;
+      client = c.self.inside.client;
+      venue = c.self.inside.venue;
+    }) c.moment-now.result at.0 _ _
+    (g.D.Disk.bytes c.args.disk.now) _ _ _ _ c.from_residual.ensures.1 at.1 at.2
+    c.in_err-client_turn.ensures.ends)
+
+pub returns-clause-round : goal.returns-clause-round
+returns-clause-round g c =
+    let at = c.moment-now.ensures.given in
+    rw (← c.self.view_is) (round_ok c.venue_turn.result c.self.inside.gate.core.config
+    c.client_turn.new.gate.core.config (record {
+      gate = seen c.self.inside.gate;
+      client = c.self.inside.client;
+      venue = c.self.inside.venue;
+    }) (record {
+      gate = seen c.venue_turn.new.gate;
+      client = c.client_turn.new.framer;
+      venue = c.venue_turn.new.framer;
+    }) (world_of (seen c.client_turn.new.gate)) c.moment-now.result at.0 _ _ _ _ _
+    c.client_turn.ensures.config at.1 at.2 c.in_ok-client_turn.ensures.turn
+    c.venue_turn.ensures.turn)
+
+pub returns-clause-ends : goal.returns-clause-ends
+returns-clause-ends g c =
+    let at = c.moment-now.ensures.given in
+    rw (← c.self.view_is) (venue_ends c.venue_turn.result c.self.inside.gate.core.config
+    c.client_turn.new.gate.core.config (record {
+      gate = seen c.self.inside.gate;
+      client = c.self.inside.client;
+      venue = c.self.inside.venue;
+    }) c.client_turn.new.framer
+    (world_of (seen c.client_turn.new.gate)) c.moment-now.result at.0 _ _
+    (g.D.Disk.bytes c.args.disk.now) (g.D.Disk.bytes c.client_turn.new.disk) _ _ _ _ _ _
+    c.client_turn.ensures.config at.1 at.2 c.client_turn.ensures.told
+    c.in_ok-client_turn.ensures.durable c.in_ok-client_turn.ensures.turn
+    c.venue_turn.ensures.ends)
+
+pub returns-clause-durable : goal.returns-clause-durable
+returns-clause-durable g c =
+    durable_on c.venue_turn.result _ _ _ c.in_ok-client_turn.ensures.durable
+    c.venue_turn.ensures.durable

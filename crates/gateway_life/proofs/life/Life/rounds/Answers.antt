@@ -1,0 +1,75 @@
+use Rattle.std.proofs.Common.{◌+◌, ◌∙◌, [], ◌∷◌, ◌++◌, refl, sym, subst}
+use Rattle.std.proofs.Common.{arith}
+use Rattle.gateway_config.specs.declared.config.Config.{Config}
+use Rattle.gateway_life.specs.Stepped.{records}
+use Rattle.gateway_life.specs.Life.{moment_of}
+use Rattle.gateway_life.specs.Rounds.{RoundDone}
+use Rattle.wire_sends.proofs.Sendings.{grows_none, grows_append}
+use Rattle.gateway_life.proofs.Joining.{rounds_end}
+use Rattle.gateway_life.proofs.Rounding.{rounds_none, rounds_more}
+use Rattle.gateway_life.proofs.Living.{one_more, counted_more, counted_none}
+use Rattle.gateway_life.proofs.life.Life.rounds.Goals as goal
+
+pub rounds-init : goal.rounds-init
+rounds-init g c = record {
+  config = refl;
+  live = c.requires.live;
+  done = ([], omega arith, grows_none _, rounds_none c.args.self.now.gate.core.config _ _);
+  told = refl;
+  durable = λ one. one;
+  faults = refl;
+  client_polls = refl;
+  venue_polls = refl;
+}
+
+pub rounds-preserved : goal.rounds-preserved
+rounds-preserved g c =
+    let inv = c.rounds.invariant in
+    let done = inv.done in
+    let one = c.in_ok-round.ensures in
+    let m = one.round.0 in
+    let config = c.args.self.now.gate.core.config in
+    let r1 = records (g.C.Wire.recorded c.rounds.client) (g.V.Wire.recorded c.rounds.venue) in
+    let r2 = records (g.C.Wire.recorded c.round.new.client) (g.V.Wire.recorded c.round.new.venue) in
+    record {
+      config = one.config ∙ inv.config;
+      live = one.live;
+      done = (
+        done.0 ++ m ∷ [],
+        one_more done.0 m c.rounds.left c.args.rounds done.1 (omega arith),
+        grows_append _ _ _ done.0 (m ∷ []) done.2 one.round.1,
+        rounds_more config c.args.self.now c.rounds.self c.round.new.self done.0 m _ r1 r2 done.3
+            (subst (λ (k : Config). RoundDone k c.rounds.self c.round.new.self (moment_of m) r1 r2)
+            inv.config one.round.2),
+      );
+      told = one.told ∙ inv.told;
+      durable = λ h. one.durable (inv.durable h);
+      faults = one.cause ∙ inv.faults;
+      client_polls = counted_more c.rounds.left _ _ c.args.rounds _ (omega arith) one.client_polls
+          inv.client_polls;
+      venue_polls = counted_more c.rounds.left _ _ c.args.rounds _ (omega arith) one.venue_polls
+          inv.venue_polls;
+    }
+
+pub returns-in_err-round-clause-ends : goal.returns-in_err-round-clause-ends
+returns-in_err-round-clause-ends g c =
+    let inv = c.rounds.invariant in
+    let done = inv.done in
+    let broken = c.in_err-round.ensures.ends in
+    rounds_end c.from_residual.result c.in_err-round.field-0.0 c.args.self.now.gate.core.config
+    c.rounds.self.gate.core.config c.args.self.now c.rounds.self done.0 broken.0 c.rounds.left
+    c.args.rounds _ _ _ _ _ _ _ _ _ _ _ c.from_residual.ensures.1 inv.config done.1 done.2 done.3
+    inv.told inv.durable broken.1 broken.2
+
+pub returns-clause-done : goal.returns-clause-done
+returns-clause-done g c =
+    let done = c.rounds.invariant.done in
+    (done.0, omega (arith, done.1), done.2, done.3)
+
+pub returns-clause-client_polls : goal.returns-clause-client_polls
+returns-clause-client_polls g c =
+    sym (counted_none c.rounds.left _ (omega arith)) ∙ c.rounds.invariant.client_polls
+
+pub returns-clause-venue_polls : goal.returns-clause-venue_polls
+returns-clause-venue_polls g c =
+    sym (counted_none c.rounds.left _ (omega arith)) ∙ c.rounds.invariant.venue_polls

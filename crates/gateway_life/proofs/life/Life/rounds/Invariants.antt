@@ -1,0 +1,31 @@
+use Rattle.std.proofs.Common.{◌≡◌, ℕ, List, ◌+◌, length}
+use Rattle.std.specs.Prelude.{is_some}
+use Rattle.outside.specs.Disk.{HasOneImage}
+use Rattle.wires.specs.Told.{GrowsBy}
+use Rattle.gateway_life.specs.Stepped.{records}
+use Rattle.gateway_life.specs.Life.{counted_on}
+use Rattle.gateway_life.specs.Rounds.{IsLive, RoundsDone}
+use Rattle.gateway_life.proofs.life.Life.rounds.Given as goal
+
+abbrev pub decreases-rounds : goal.decreases-rounds
+decreases-rounds g l = l.left
+
+abbrev pub invariant-rounds : goal.invariant-rounds
+invariant-rounds g l = record {
+  config : l.self.gate.core.config ≡ l.initial.self.gate.core.config;
+  live : IsLive l.self (g.D.Disk.bytes l.disk) (g.C.Wire.recorded l.client)
+      (g.V.Wire.recorded l.venue);
+  done : (given : List ℕ) × (length given + l.left ≡ l.rounds)
+      × GrowsBy (g.K.Clock.moments l.initial.clock) (g.K.Clock.moments l.clock) given
+      × RoundsDone l.initial.self.gate.core.config l.initial.self l.self given
+      (records (g.C.Wire.recorded l.initial.client) (g.V.Wire.recorded l.initial.venue))
+      (records (g.C.Wire.recorded l.client) (g.V.Wire.recorded l.venue));
+  told : is_some (g.D.Disk.bytes l.disk) ≡ is_some (g.D.Disk.bytes l.initial.disk);
+  durable : HasOneImage (g.D.Disk.bytes l.initial.disk) (g.D.Disk.image l.initial.disk)
+      → HasOneImage (g.D.Disk.bytes l.disk) (g.D.Disk.image l.disk);
+  faults : g.D.Disk.faults l.disk ≡ g.D.Disk.faults l.initial.disk;
+  client_polls : counted_on l.left (g.C.Wire.polls l.client)
+      ≡ counted_on l.rounds (g.C.Wire.polls l.initial.client);
+  venue_polls : counted_on l.left (g.V.Wire.polls l.venue)
+      ≡ counted_on l.rounds (g.V.Wire.polls l.initial.venue);
+}

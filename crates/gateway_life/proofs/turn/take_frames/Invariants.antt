@@ -1,0 +1,33 @@
+use Rattle.std.proofs.Common.{◌≡◌, ℕ, List}
+use Rattle.std.specs.Prelude.{is_some}
+use Rattle.outside.specs.Disk.{HasOneImage}
+use Rattle.frame_grammar.specs.Cut.{Piece}
+use Rattle.frame_grammar.specs.Framer.{StandsFor}
+use Rattle.frame_grammar.specs.Held.{pending}
+use Rattle.gateway_life.specs.State.{seen}
+use Rattle.gateway_life.specs.Ready.{Ready, world_of}
+use Rattle.gateway_life.specs.Stepped.{records}
+use Rattle.gateway_life.specs.Turned.{Taken}
+use Rattle.gateway_life.proofs.turn.take_frames.Given as goal
+
+abbrev pub decreases-frames : goal.decreases-frames
+decreases-frames g l = pending l.framer
+
+abbrev pub invariant-frames : goal.invariant-frames
+invariant-frames g l = record {
+  config : l.gate.core.config ≡ l.initial.gate.core.config;
+  ready : Ready (seen l.gate) (g.D.Disk.bytes l.disk) (g.C.Wire.recorded l.client)
+      (g.V.Wire.recorded l.venue);
+  kind : l.framer.kind ≡ l.initial.framer.kind;
+  stands : (stream : List ℕ) × (answered : List Piece) × StandsFor l.framer stream answered;
+  taken : Taken l.initial.framer l.framer l.initial.gate.core.config
+      (world_of (seen l.initial.gate)) l.side l.now (world_of (seen l.gate))
+      (records (g.C.Wire.recorded l.initial.client) (g.V.Wire.recorded l.initial.venue))
+      (records (g.C.Wire.recorded l.client) (g.V.Wire.recorded l.venue));
+  told : is_some (g.D.Disk.bytes l.disk) ≡ is_some (g.D.Disk.bytes l.initial.disk);
+  durable : HasOneImage (g.D.Disk.bytes l.initial.disk) (g.D.Disk.image l.initial.disk)
+      → HasOneImage (g.D.Disk.bytes l.disk) (g.D.Disk.image l.disk);
+  faults : g.D.Disk.faults l.disk ≡ g.D.Disk.faults l.initial.disk;
+  client_polls : g.C.Wire.polls l.client ≡ g.C.Wire.polls l.initial.client;
+  venue_polls : g.V.Wire.polls l.venue ≡ g.V.Wire.polls l.initial.venue;
+}

@@ -1,0 +1,10 @@
+pub mod Ended
+pub mod Acted
+pub mod State
+pub mod Ready
+pub mod Stepped
+pub mod Committed
+pub mod Turned
+pub mod Life
+pub mod Rounds
+pub mod Laws

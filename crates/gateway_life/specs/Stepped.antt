@@ -1,0 +1,131 @@
+-- Inside: events of a life, by what they added to the records of the wires.
+use Rattle.std.specs.Prelude.{◌≡◌, ◌⊎◌, ℕ, ◌+◌, ◌≤◌, List, ◌∷◌, ◌++◌, length, Some}
+use Rattle.std.specs.Prelude.{Result, Ok, Err, true}
+use Rattle.std.specs.declared.option.Option.{Option}
+use Rattle.std.specs.Option.{option_to_list}
+use Rattle.outside.specs.Causes.{Rose}
+use Rattle.outside.specs.declared.disk.TheConstants.{MAX_DISK}
+use Rattle.gate_log.specs.Records.{blocks}
+use Rattle.pair_journal.specs.declared.entry.Entry.{Entry}
+use Rattle.pair_journal.specs.Payload.{entry_bytes}
+use Rattle.pair_journal.specs.Calls.{payloads_of}
+use Rattle.event_decisions.specs.Event.{Event}
+use Rattle.event_decisions.specs.Decide.{Decision, Decides}
+use Rattle.message_answers.specs.Answer.{Answers}
+use Rattle.gateway_config.specs.declared.config.Config.{Config}
+use Rattle.wires.specs.Told.{GrowsBy}
+use Rattle.wires.specs.Wire.{WireCall}
+use Rattle.life_events.specs.Happens.{World, Added, nothing, Happens, Fails}
+use Rattle.life_events.specs.Turn.{HappensOrNot, AllHappen, counts}
+use Rattle.gateway_life.specs.declared.end.LifeEnd.{LifeEnd}
+use Rattle.gateway_life.specs.declared.end.LifeEnd.TheVariants as ends
+
+-- the records of both wires
+pub record Records : Type 0 where
+  pub client : Option (List WireCall)
+  pub venue : Option (List WireCall)
+
+abbrev pub records : Option (List WireCall) → Option (List WireCall) → Records
+records client venue = record { client = client; venue = venue }
+
+-- both grew by these
+pub record Grew (old new : Records) (added : Added) : Type 0 where
+  pub client : GrowsBy old.client new.client added.client
+  pub venue : GrowsBy old.venue new.venue added.venue
+
+-- one event, whole
+pub record Stepped (config : Config) (before : World) (event : Event) (now : ℕ) (after : World)
+    (old new : Records) : Type 0 where
+  pub added : Added
+  pub grew : Grew old new added
+  pub happens : Happens Answers config.names config.window before event now added after
+
+-- the same of an event that counts or not
+pub record SteppedOrNot (config : Config) (before : World) (event : Event) (now : ℕ)
+    (after : World) (old new : Records) : Type 0 where
+  pub added : Added
+  pub grew : Grew old new added
+  pub happens : HappensOrNot Answers config.names config.window before event now added after
+
+-- events one after another
+pub record AllStepped (config : Config) (before : World) (events : List Event) (now : ℕ)
+    (after : World) (old new : Records) : Type 0 where
+  pub added : Added
+  pub grew : Grew old new added
+  pub happen : AllHappen Answers config.names config.window before events now added after
+
+-- ---- an event that ended the life
+
+-- nothing of it stands, or its entry does
+abbrev pub MayStand : LifeEnd → Config → World → Event → ℕ → List Entry → Type 0
+MayStand ends.DiskFault config before event now entries =
+    (entries ≡ before.entries)
+    ⊎ ((d : Decision)
+    × Decides Answers config.names config.window before.entries before.sessions event now (Ok d)
+    × (entries ≡ before.entries ++ option_to_list d.entry))
+MayStand end config before event now entries = entries ≡ before.entries
+
+-- how an event fails by what ended the life: only a disk fault may leave its entry
+abbrev pub FailsBy : LifeEnd → Config → World → Event → ℕ → Added → List Entry → Type 0
+FailsBy ends.DiskFault config before event now added entries =
+    Fails Answers config.names config.window before event now added entries
+FailsBy end config before event now added entries =
+    (entries ≡ before.entries) × (added ≡ nothing)
+
+-- why an event ended a life: its record had no room; a number was spent; the disk or memory, of
+-- which nothing is said here
+abbrev pub IsWhy : LifeEnd → Config → World → Event → ℕ → Type 0
+IsWhy ends.JournalFull config before event now =
+    (d : Decision) × (entry : Entry)
+    × Decides Answers config.names config.window before.entries before.sessions event now (Ok d)
+    × (d.entry ≡ Some entry)
+    × (MAX_DISK ≤ length (blocks (payloads_of config.names before.entries)) + 5
+    + length (entry_bytes entry))
+IsWhy (ends.NumbersSpent side) config before event now =
+    Decides Answers config.names config.window before.entries before.sessions event now (Err side)
+IsWhy ends.DiskFault config before event now = Unit {0}
+IsWhy ends.NoMemory config before event now = Unit {0}
+IsWhy end config before event now = ⊥
+
+-- an event may end a life so
+abbrev pub IsOfEvent : LifeEnd → Type 0
+IsOfEvent ends.Done = ⊥
+IsOfEvent (ends.JournalRefused at) = ⊥
+IsOfEvent (ends.NamesDiffer kept given) = ⊥
+IsOfEvent end = Unit {0}
+
+-- a life that did not begin, or that an event ended, is not done
+abbrev pub IsNotDone : LifeEnd → Type 0
+IsNotDone ends.Done = ⊥
+IsNotDone end = Unit {0}
+
+pub record Broken (end : LifeEnd) (config : Config) (before : World) (event : Event) (now : ℕ)
+    (old new : Records) (entries : List Entry) : Type 0 where
+  pub why : IsWhy end config before event now
+  pub added : Added
+  pub grew : Grew old new added
+  pub fails : FailsBy end config before event now added entries
+
+-- the same of an event that counted
+pub record BrokenIf (end : LifeEnd) (config : Config) (before : World) (event : Event) (now : ℕ)
+    (old new : Records) (entries : List Entry) : Type 0 where
+  pub counted : counts before event ≡ true
+  pub broken : Broken end config before event now old new entries
+
+-- of these events the first happened, one counted and ended the life, and no more did
+pub record Failed (end : LifeEnd) (config : Config) (before : World) (events : List Event) (now : ℕ)
+    (old new : Records) (entries : List Entry) : Type 0 where
+  pub first : List Event
+  pub last : Event
+  pub rest : List Event
+  pub split : events ≡ first ++ last ∷ rest
+  pub mid : World
+  pub between : Records
+  pub all : AllStepped config before first now mid old between
+  pub counted : counts mid last ≡ true
+  pub broken : Broken end config mid last now between new entries
+
+-- a disk fault comes only where the count of faults rose, and else the count stands still
+abbrev pub HasCauseOf : {T : Type 0} → ℕ → ℕ → Result T LifeEnd → Type 0
+HasCauseOf before now (Err ends.DiskFault) = (before ≤ now) × Rose before now
+HasCauseOf before now answer = now ≡ before

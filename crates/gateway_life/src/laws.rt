@@ -1,0 +1,35 @@
+//! What holds of every life. Each law is a contract: its function does nothing else.
+
+ghost use Rattle.gateway_life.specs.Laws.{LivesLeave, LivesThatEndLeave, EndsLeave};
+
+use event_decisions::laws::bodies_are_read;
+use life_events::{Answering, laws as lives};
+use message_answers::laws::answers_are_given_out;
+
+/// What answers the messages of a life: the answer of message_answers.
+#[derive(Clone, Copy, Debug)]
+pub struct Messages;
+
+impl Answering for Messages {
+    ghost use Rattle.message_answers.specs.Answer.{Answers};
+
+    ghost answers = { Answers };
+}
+
+/// A life leaves a lawful journal, which justifies all that was written and read, and on each side
+/// a receiver that took the beginning of what was committed to it, each message once and in order.
+/// Each message of such a journal can be sent: what a session says, and each answer.
+pub fn lives_leave()
+    ensures ended { LivesLeave }
+    ensures broken { LivesThatEndLeave }
+    ensures ends { EndsLeave }
+{
+    bodies_are_read();
+    answers_are_given_out();
+    lives::lives_begin::<Messages>();
+    lives::stops_leave::<Messages>();
+    lives::justified_transcripts_are_taken_in_order();
+    lives::what_is_sent_is_read();
+    lives::lives_leave::<Messages>();
+    lives::lives_that_fail_leave::<Messages>();
+}

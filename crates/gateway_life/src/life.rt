@@ -1,0 +1,384 @@
+//! A whole life, and its parts.
+
+ghost use Rattle.std.specs.Prelude.{◌≡◌, ◌⊎◌, ◌≤◌, ◌++◌, ℕ, List, false, Some, Err, IfOk, IfErr};
+ghost use Rattle.std.specs.Prelude.{IfSome, OnOk, None, is_some, [], ◌∷◌, length};
+ghost use Rattle.std.specs.Option.{ForSome};
+ghost use Rattle.outside.specs.Causes.{next_count};
+ghost use Rattle.outside.specs.Disk.{HasOneImage, Only};
+ghost use Rattle.wires.specs.Told.{GrowsBy};
+ghost use Rattle.wires.specs.Wire.{WireCall, is_within};
+ghost use Rattle.pair_journal.specs.declared.entry.Entry.{Entry};
+ghost use Rattle.pair_journal.specs.Calls.{BornOrNot};
+ghost use Rattle.pair_journal.specs.Journal.{JournalOf, Born, Refused};
+ghost use Rattle.wire_sends.specs.Sent.{Agrees};
+ghost use Rattle.gateway_life.specs.Stepped.{HasCauseOf, AllStepped, Failed, records};
+ghost use Rattle.gateway_life.specs.Life.{Done, IsJournal, Ends, ended, counted_on, begun};
+ghost use Rattle.gateway_life.specs.Life.{moment_of};
+ghost use Rattle.gateway_life.specs.Ready.{LeavesOf, world_of};
+ghost use Rattle.gateway_life.specs.Rounds.{IsLive, RoundDone, RoundBroken, ends_of, Begins};
+ghost use Rattle.gateway_life.specs.Rounds.{RoundsDone, LifeDone, LifeBroken, LifeWhole};
+ghost use Rattle.gateway_life.specs.Rounds.{LifeStopped};
+ghost use Rattle.gateway_life.specs.Stepped.{IsOfEvent, IsNotDone};
+ghost use Rattle.gateway_life.specs.Rounds.{IsUnbegun};
+
+use crate::LifeEnd;
+use crate::gate::Gate;
+use crate::turn::{client_turn, venue_turn};
+use drop_taps::Tap;
+use event_decisions::Event;
+use frame_grammar::{Framer, Kind};
+use gateway_config::Config;
+use order_meaning::Side;
+use outside::Disk;
+use pair_journal::MAX_AT;
+use pair_journal::laws::an_image_has_one_reading;
+use std::alloc::Global;
+use std::marker::Model;
+use wires::{Clock, Wire};
+
+/// The most bytes that a poll takes.
+pub const POLL_LEN: usize = 4_096;
+
+/// One life of the gateway, between its rounds.
+#[derive(Drop)]
+pub struct Life {
+    gate: Gate,
+    client: Framer,
+    venue: Framer,
+}
+
+impl Model for Life {
+    ghost use Rattle.gateway_life.specs.State.{LifeState, seen};
+
+    ghost Value = { LifeState };
+
+    ghost view = { λ l. record { gate = seen l.gate; client = l.client; venue = l.venue } };
+}
+
+// The present moment; one that no timestamp has counts as the last that has one.
+fn moment<K: Clock>(clock: &mut K) -> u64
+    ensures bound { result ≤ MAX_AT }
+    ensures given { (m : ℕ) × (result ≡ moment_of m)
+        × GrowsBy (K.moments clock.old) (K.moments clock.new) (m ∷ []) }
+{
+    clock.now().min(MAX_AT)
+}
+
+impl Life {
+    /// A life over the journal on a disk: both sessions are down, with its next numbers, and no
+    /// connection stands. An unborn disk becomes a journal without entries.
+    ///
+    /// # Errors
+    ///
+    /// `JournalRefused` exactly where the bytes are refused at that place, `NamesDiffer` exactly
+    /// where they are a journal of other names than the configuration's, `DiskFault` only where the
+    /// disk's count of faults rose, `NoMemory` for want of memory.
+    pub fn begin<D: Disk>(alloc: Global, config: &Config, disk: &mut D) -> Result<Life, LifeEnd>
+        ensures live { IfOk result (λ life. IsLive life (D.bytes disk.new) None None) }
+        ensures begun { IfOk result (λ life.
+            world_of life.gate ≡ begun config.now life.gate.journal.entries) }
+        ensures config { IfOk result (λ life. life.gate.core.config ≡ config.now) }
+        ensures begins { IfSome (D.bytes disk.old) (λ b.
+            Begins (λ life. life.gate.journal.entries) config.now.names b result) }
+        ensures durable { OnOk result (HasOneImage (D.bytes disk.old) (D.image disk.old) →
+            HasOneImage (D.bytes disk.new) (D.image disk.new)) }
+        ensures images { BornOrNot (D.bytes disk.old) (D.image disk.old) (D.image disk.new)
+            config.now.names }
+        ensures only { IfErr result IsNotDone }
+        ensures told { is_some (D.bytes disk.new) ≡ is_some (D.bytes disk.old) }
+        ensures cause { HasCauseOf (D.faults disk.old) (D.faults disk.new) result }
+    {
+        let client = Framer::new(alloc, Kind::Fix42)?;
+        let venue = Framer::new(alloc, Kind::Fixt11)?;
+        let gate = Gate::new(alloc, config, disk)?;
+        Ok(Life {
+            gate,
+            client,
+            venue,
+        })
+    }
+
+    /// A round: the clock is read once, the client is polled, what came is dealt with, and then its
+    /// tick; and the same of the venue.
+    ///
+    /// # Errors
+    ///
+    /// `JournalFull` exactly where a record would end past the last byte of a disk, `NumbersSpent`
+    /// exactly where an event would take a number of that side past 999,999,999, `DiskFault` only
+    /// where the disk's count of faults rose, `NoMemory` for want of memory. Then the life has
+    /// ended, and no call is made on it any more.
+    pub fn round<D: Disk, C: Wire, V: Wire, K: Clock>(
+        &mut self,
+        disk: &mut D,
+        client: &mut C,
+        venue: &mut V,
+        clock: &mut K,
+        taps: &mut Vec<Box<dyn Tap>>,
+    ) -> Result<(), LifeEnd>
+        requires live { IsLive self.old (D.bytes disk.old)
+            (C.recorded client.old) (V.recorded venue.old) }
+        ensures config { self.new.gate.core.config ≡ self.old.gate.core.config }
+        ensures live { OnOk result (IsLive self.new (D.bytes disk.new)
+            (C.recorded client.new) (V.recorded venue.new)) }
+        ensures round { OnOk result ((m : ℕ)
+            × GrowsBy (K.moments clock.old) (K.moments clock.new) (m ∷ [])
+            × RoundDone self.old.gate.core.config self.old self.new (moment_of m)
+            (records (C.recorded client.old) (V.recorded venue.old))
+            (records (C.recorded client.new) (V.recorded venue.new))) }
+        ensures ends { IfErr result (λ end. (m : ℕ)
+            × GrowsBy (K.moments clock.old) (K.moments clock.new) (m ∷ [])
+            × LeavesOf (D.bytes disk.old) (D.image disk.old) (D.image disk.new)
+            self.old.gate.core.config.names (RoundBroken end self.old.gate.core.config self.old
+            (moment_of m) (records (C.recorded client.old) (V.recorded venue.old))
+            (records (C.recorded client.new) (V.recorded venue.new)))) }
+        ensures client_polls { OnOk result
+            (C.polls client.new ≡ next_count (C.polls client.old)) }
+        ensures venue_polls { OnOk result (V.polls venue.new ≡ next_count (V.polls venue.old)) }
+        ensures durable { OnOk result (HasOneImage (D.bytes disk.old) (D.image disk.old) →
+            HasOneImage (D.bytes disk.new) (D.image disk.new)) }
+        ensures only { IfErr result IsOfEvent }
+        ensures told { is_some (D.bytes disk.new) ≡ is_some (D.bytes disk.old) }
+        ensures cause { HasCauseOf (D.faults disk.old) (D.faults disk.new) result }
+    {
+        let now = moment(clock);
+        client_turn(
+            &mut self.gate,
+            disk,
+            client,
+            venue,
+            taps,
+            &mut self.client,
+            now,
+        )?;
+        venue_turn(
+            &mut self.gate,
+            disk,
+            client,
+            venue,
+            taps,
+            &mut self.venue,
+            now,
+        )
+    }
+
+    /// The end: the clock is read once, Logout is said on each active side, the client's first, and
+    /// both connections are hung up.
+    ///
+    /// # Errors
+    ///
+    /// As those of [`Life::round`].
+    pub fn finish<D: Disk, C: Wire, V: Wire, K: Clock>(
+        &mut self,
+        disk: &mut D,
+        client: &mut C,
+        venue: &mut V,
+        clock: &mut K,
+        taps: &mut Vec<Box<dyn Tap>>,
+    ) -> Result<(), LifeEnd>
+        requires live { IsLive self.old (D.bytes disk.old)
+            (C.recorded client.old) (V.recorded venue.old) }
+        ensures config { self.new.gate.core.config ≡ self.old.gate.core.config }
+        ensures live { OnOk result (IsLive self.new (D.bytes disk.new)
+            (C.recorded client.new) (V.recorded venue.new)) }
+        ensures finish { OnOk result ((m : ℕ)
+            × GrowsBy (K.moments clock.old) (K.moments clock.new) (m ∷ [])
+            × AllStepped self.old.gate.core.config (world_of self.old.gate) ends_of (moment_of m)
+            (world_of self.new.gate) (records (C.recorded client.old) (V.recorded venue.old))
+            (records (C.recorded client.new) (V.recorded venue.new))) }
+        ensures ends { IfErr result (λ end. (m : ℕ)
+            × GrowsBy (K.moments clock.old) (K.moments clock.new) (m ∷ [])
+            × LeavesOf (D.bytes disk.old) (D.image disk.old) (D.image disk.new)
+            self.old.gate.core.config.names (Failed end self.old.gate.core.config
+            (world_of self.old.gate) ends_of (moment_of m)
+            (records (C.recorded client.old) (V.recorded venue.old))
+            (records (C.recorded client.new) (V.recorded venue.new)))) }
+        ensures client_polls { C.polls client.new ≡ C.polls client.old }
+        ensures venue_polls { V.polls venue.new ≡ V.polls venue.old }
+        ensures durable { OnOk result (HasOneImage (D.bytes disk.old) (D.image disk.old) →
+            HasOneImage (D.bytes disk.new) (D.image disk.new)) }
+        ensures only { IfErr result IsOfEvent }
+        ensures told { is_some (D.bytes disk.new) ≡ is_some (D.bytes disk.old) }
+        ensures cause { HasCauseOf (D.faults disk.old) (D.faults disk.new) result }
+    {
+        let now = moment(clock);
+        self.gate
+            .event(disk, client, venue, taps, &Event::End(Side::Client), now)?;
+        self.gate
+            .event(disk, client, venue, taps, &Event::End(Side::Venue), now)
+    }
+
+    // So many rounds.
+    fn rounds<D: Disk, C: Wire, V: Wire, K: Clock>(
+        &mut self,
+        disk: &mut D,
+        client: &mut C,
+        venue: &mut V,
+        clock: &mut K,
+        taps: &mut Vec<Box<dyn Tap>>,
+        rounds: u64,
+    ) -> Result<(), LifeEnd>
+        requires live { IsLive self.old (D.bytes disk.old)
+            (C.recorded client.old) (V.recorded venue.old) }
+        ensures config { self.new.gate.core.config ≡ self.old.gate.core.config }
+        ensures live { OnOk result (IsLive self.new (D.bytes disk.new)
+            (C.recorded client.new) (V.recorded venue.new)) }
+        ensures done { OnOk result ((given : List ℕ) × (length given ≡ rounds)
+            × GrowsBy (K.moments clock.old) (K.moments clock.new) given
+            × RoundsDone self.old.gate.core.config self.old self.new given
+            (records (C.recorded client.old) (V.recorded venue.old))
+            (records (C.recorded client.new) (V.recorded venue.new))) }
+        ensures ends { IfErr result (λ end. (given : List ℕ) × (last : ℕ)
+            × (length given ≤ rounds)
+            × GrowsBy (K.moments clock.old) (K.moments clock.new) (given ++ last ∷ [])
+            × LeavesOf (D.bytes disk.old) (D.image disk.old) (D.image disk.new)
+            self.old.gate.core.config.names (LifeBroken end self.old.gate.core.config self.old
+            given last (records (C.recorded client.old) (V.recorded venue.old))
+            (records (C.recorded client.new) (V.recorded venue.new)))) }
+        ensures client_polls { OnOk result
+            (C.polls client.new ≡ counted_on rounds (C.polls client.old)) }
+        ensures venue_polls { OnOk result
+            (V.polls venue.new ≡ counted_on rounds (V.polls venue.old)) }
+        ensures durable { OnOk result (HasOneImage (D.bytes disk.old) (D.image disk.old) →
+            HasOneImage (D.bytes disk.new) (D.image disk.new)) }
+        ensures only { IfErr result IsOfEvent }
+        ensures told { is_some (D.bytes disk.new) ≡ is_some (D.bytes disk.old) }
+        ensures cause { HasCauseOf (D.faults disk.old) (D.faults disk.new) result }
+    {
+        let mut left = rounds;
+        'rounds: while left > 0 {
+            self.round(disk, client, venue, clock, taps)?;
+            left -= 1;
+        }
+        Ok(())
+    }
+
+    // So many rounds, and then the end.
+    fn whole<D: Disk, C: Wire, V: Wire, K: Clock>(
+        &mut self,
+        disk: &mut D,
+        client: &mut C,
+        venue: &mut V,
+        clock: &mut K,
+        taps: &mut Vec<Box<dyn Tap>>,
+        rounds: u64,
+    ) -> Result<(), LifeEnd>
+        requires live { IsLive self.old (D.bytes disk.old)
+            (C.recorded client.old) (V.recorded venue.old) }
+        ensures stands { OnOk result (ForSome (D.bytes disk.new) (λ b. JournalOf b
+            (Born self.old.gate.core.config.names self.new.gate.journal.entries))) }
+        ensures done { OnOk result ((given : List ℕ) × (last : ℕ) × (length given ≡ rounds)
+            × GrowsBy (K.moments clock.old) (K.moments clock.new) (given ++ last ∷ [])
+            × LifeDone self.old.gate.core.config self.old given last
+            (records (C.recorded client.old) (V.recorded venue.old))
+            (records (C.recorded client.new) (V.recorded venue.new))
+            self.new.gate.journal.entries) }
+        ensures ends { IfErr result (λ end. (given : List ℕ) × (last : ℕ)
+            × (length given ≤ rounds)
+            × GrowsBy (K.moments clock.old) (K.moments clock.new) (given ++ last ∷ [])
+            × LeavesOf (D.bytes disk.old) (D.image disk.old) (D.image disk.new)
+            self.old.gate.core.config.names (LifeBroken end self.old.gate.core.config self.old
+            given last (records (C.recorded client.old) (V.recorded venue.old))
+            (records (C.recorded client.new) (V.recorded venue.new)))) }
+        ensures client_polls { OnOk result
+            (C.polls client.new ≡ counted_on rounds (C.polls client.old)) }
+        ensures venue_polls { OnOk result
+            (V.polls venue.new ≡ counted_on rounds (V.polls venue.old)) }
+        ensures durable { OnOk result (HasOneImage (D.bytes disk.old) (D.image disk.old) →
+            HasOneImage (D.bytes disk.new) (D.image disk.new)) }
+        ensures only { IfErr result IsOfEvent }
+        ensures told { is_some (D.bytes disk.new) ≡ is_some (D.bytes disk.old) }
+        ensures cause { HasCauseOf (D.faults disk.old) (D.faults disk.new) result }
+    {
+        self.rounds(disk, client, venue, clock, taps, rounds)?;
+        self.finish(disk, client, venue, clock, taps)
+    }
+}
+
+// A life up to its end. Where an event ended it, the wires are as that event left them; where it
+// did not begin, nothing was done on them.
+fn lived<D: Disk, C: Wire, V: Wire, K: Clock>(
+    alloc: Global,
+    config: &Config,
+    disk: &mut D,
+    client: &mut C,
+    venue: &mut V,
+    clock: &mut K,
+    taps: &mut Vec<Box<dyn Tap>>,
+    rounds: u64,
+) -> Result<(), LifeEnd>
+    requires client { Agrees (C.recorded client.old) false }
+    requires venue { Agrees (V.recorded venue.old) false }
+    ensures done { OnOk result (LifeWhole config.now rounds (D.bytes disk.old) (D.bytes disk.new)
+        (records (C.recorded client.old) (V.recorded venue.old))
+        (records (C.recorded client.new) (V.recorded venue.new))
+        (K.moments clock.old) (K.moments clock.new)) }
+    ensures ends { IfErr result (λ end.
+        IsUnbegun end config.now.names (D.bytes disk.old) (D.image disk.old) (D.image disk.new)
+        (records (C.recorded client.old) (V.recorded venue.old))
+        (records (C.recorded client.new) (V.recorded venue.new))
+        (K.moments clock.old) (K.moments clock.new)
+        ⊎ LifeStopped end config.now rounds (D.bytes disk.old) (D.image disk.old)
+        (D.image disk.new) (records (C.recorded client.old) (V.recorded venue.old))
+        (records (C.recorded client.new) (V.recorded venue.new))
+        (K.moments clock.old) (K.moments clock.new)) }
+    ensures client_polls { OnOk result
+        (C.polls client.new ≡ counted_on rounds (C.polls client.old)) }
+    ensures venue_polls { OnOk result (V.polls venue.new ≡ counted_on rounds (V.polls venue.old)) }
+    ensures durable { OnOk result (HasOneImage (D.bytes disk.old) (D.image disk.old) →
+        HasOneImage (D.bytes disk.new) (D.image disk.new)) }
+    ensures only { IfErr result IsNotDone }
+    ensures refused { (at : ℕ) → result ≡ Err (LifeEnd.JournalRefused at) →
+        IfSome (D.bytes disk.old) (λ bytes. JournalOf bytes (Refused at)) }
+    ensures told { is_some (D.bytes disk.new) ≡ is_some (D.bytes disk.old) }
+    ensures cause { HasCauseOf (D.faults disk.old) (D.faults disk.new) result }
+{
+    let mut life = Life::begin(alloc, config, disk)?;
+    life.whole(disk, client, venue, clock, taps, rounds)
+}
+
+/// A life of so many rounds, from its beginning to its end. Where it ends before, both wires are
+/// hung up, and nothing more is committed or sent.
+pub fn live<D: Disk, C: Wire, V: Wire, K: Clock>(
+    alloc: Global,
+    config: &Config,
+    disk: &mut D,
+    client: &mut C,
+    venue: &mut V,
+    clock: &mut K,
+    taps: &mut Vec<Box<dyn Tap>>,
+    rounds: u64,
+) -> LifeEnd
+    requires client { ForSome (C.recorded client.old) (λ calls. is_within calls ≡ false) }
+    requires venue { ForSome (V.recorded venue.old) (λ calls. is_within calls ≡ false) }
+    // Where all tell what was done: each image that the disk may leave is a journal that goes on
+    // from the one at entry by the events of this life, and what was done on the wires is what
+    // these events call for.
+    ensures ends { IfSome (D.bytes disk.old) (λ bytes. Only bytes (D.image disk.old) →
+        (before : List Entry) → IsJournal config.now.names before bytes →
+        (c0 c1 v0 v1 : List WireCall) → (k0 k1 : List ℕ) → (did : Done) →
+        C.recorded client.old ≡ Some c0 → C.recorded client.new ≡ Some c1 →
+        V.recorded venue.old ≡ Some v0 → V.recorded venue.new ≡ Some v1 →
+        K.moments clock.old ≡ Some k0 → K.moments clock.new ≡ Some k1 →
+        c1 ≡ c0 ++ did.client → v1 ≡ v0 ++ did.venue → k1 ≡ k0 ++ did.moments →
+        (image : List ℕ) → D.image disk.new image →
+        Ends result config.now before rounds did image) }
+    // What is no journal, or one of other names, is refused, and nothing is done.
+    ensures refused { (at : ℕ) → result ≡ LifeEnd.JournalRefused at →
+        IfSome (D.bytes disk.old) (λ bytes. JournalOf bytes (Refused at)) }
+    // Each wire was polled once a round.
+    ensures client_polls { result ≡ LifeEnd.Done →
+        C.polls client.new ≡ counted_on rounds (C.polls client.old) }
+    ensures venue_polls { result ≡ LifeEnd.Done →
+        V.polls venue.new ≡ counted_on rounds (V.polls venue.old) }
+    ensures cause { HasCauseOf (D.faults disk.old) (D.faults disk.new) (ended result) }
+{
+    an_image_has_one_reading();
+    match lived(alloc, config, disk, client, venue, clock, taps, rounds) {
+        Ok(()) => LifeEnd::Done,
+        Err(end) => {
+            client.hang_up();
+            venue.hang_up();
+            end
+        }
+    }
+}

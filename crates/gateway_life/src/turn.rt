@@ -1,0 +1,362 @@
+//! A side's turn in a round: its poll, what came, and its tick.
+
+ghost use Rattle.std.specs.Prelude.{◌≡◌, ◌≤◌, ◌<◌, [], ◌∷◌, length, is_some, true, IfOk, IfErr};
+ghost use Rattle.std.specs.Prelude.{OnOk};
+ghost use Rattle.outside.specs.Causes.{next_count};
+ghost use Rattle.outside.specs.Disk.{HasOneImage};
+ghost use Rattle.std.specs.Prelude.{ℕ, List};
+ghost use Rattle.frame_grammar.specs.Cut.{Piece};
+ghost use Rattle.frame_grammar.specs.Frame.{IsBody};
+ghost use Rattle.frame_grammar.specs.Framer.{StandsFor};
+ghost use Rattle.frame_grammar.specs.Held.{room};
+ghost use Rattle.frame_grammar.specs.declared.framer.TheConstants.{LEAST_ROOM};
+ghost use Rattle.event_decisions.specs.Event.{Frame};
+ghost use Rattle.wires.specs.Told.{GrowsBy};
+ghost use Rattle.wires.specs.Wire.{Poll, Fits, came_of, may_come};
+ghost use Rattle.life_events.specs.Happens.{up_on};
+ghost use Rattle.life_events.specs.Turn.{up_after};
+ghost use Rattle.wire_sends.specs.Sent.{Agrees};
+ghost use Rattle.gateway_life.specs.Ready.{Ready, world_of, LeavesOf};
+ghost use Rattle.gateway_life.specs.State.{seen};
+ghost use Rattle.gateway_life.specs.Stepped.{SteppedOrNot, BrokenIf, HasCauseOf, records};
+ghost use Rattle.gateway_life.specs.Turned.{IsDrained, TakenAll, TakenPart, Arrived, ArrivedPart};
+ghost use Rattle.gateway_life.specs.Turned.{Turned, TurnBroken};
+ghost use Rattle.gateway_life.specs.Stepped.{IsOfEvent};
+
+use crate::LifeEnd;
+use crate::gate::Gate;
+use crate::life::POLL_LEN;
+use drop_taps::Tap;
+use event_decisions::Event;
+use frame_grammar::{Framer, Next};
+use order_meaning::Side;
+use outside::{Disk, Failed};
+use pair_journal::MAX_AT;
+use wires::{Arrival, Wire};
+
+// Whether a connection stands on a side.
+fn is_up(gate: &Gate, side: Side) -> bool
+    ensures { result ≡ up_on side (world_of (seen gate.now)) }
+{
+    match side {
+        Side::Client => gate.client_up,
+        Side::Venue => gate.venue_up,
+    }
+}
+
+// Deals with a frame, while its connection stands.
+fn frame_event<D: Disk, C: Wire, V: Wire>(
+    gate: &mut Gate,
+    disk: &mut D,
+    client: &mut C,
+    venue: &mut V,
+    taps: &mut Vec<Box<dyn Tap>>,
+    side: Side,
+    body: &[u8],
+    now: u64,
+) -> Result<(), LifeEnd>
+    requires ready { Ready (seen gate.old) (D.bytes disk.old)
+        (C.recorded client.old) (V.recorded venue.old) }
+    requires moment { now ≤ MAX_AT }
+    requires body { IsBody body.now }
+    ensures config { gate.new.core.config ≡ gate.old.core.config }
+    ensures ready { OnOk result (Ready (seen gate.new) (D.bytes disk.new)
+        (C.recorded client.new) (V.recorded venue.new)) }
+    ensures happens { OnOk result (SteppedOrNot gate.old.core.config (world_of (seen gate.old))
+        (Frame side body.now) now (world_of (seen gate.new))
+        (records (C.recorded client.old) (V.recorded venue.old))
+        (records (C.recorded client.new) (V.recorded venue.new))) }
+    ensures durable { OnOk result (HasOneImage (D.bytes disk.old) (D.image disk.old) →
+        HasOneImage (D.bytes disk.new) (D.image disk.new)) }
+    ensures ends { IfErr result (λ end. LeavesOf (D.bytes disk.old) (D.image disk.old)
+        (D.image disk.new) gate.old.core.config.names (BrokenIf end gate.old.core.config
+        (world_of (seen gate.old)) (Frame side body.now) now
+        (records (C.recorded client.old) (V.recorded venue.old))
+        (records (C.recorded client.new) (V.recorded venue.new)))) }
+    ensures only { IfErr result IsOfEvent }
+    ensures told { is_some (D.bytes disk.new) ≡ is_some (D.bytes disk.old) }
+    ensures cause { HasCauseOf (D.faults disk.old) (D.faults disk.new) result }
+    ensures client_polls { C.polls client.new ≡ C.polls client.old }
+    ensures venue_polls { V.polls venue.new ≡ V.polls venue.old }
+{
+    if !is_up(gate, side) {
+        return Ok(());
+    }
+    gate.event(disk, client, venue, taps, &Event::Frame(side, body), now)
+}
+
+// Deals with each whole frame that came, in order.
+fn take_frames<D: Disk, C: Wire, V: Wire>(
+    gate: &mut Gate,
+    disk: &mut D,
+    client: &mut C,
+    venue: &mut V,
+    taps: &mut Vec<Box<dyn Tap>>,
+    framer: &mut Framer,
+    side: Side,
+    now: u64,
+) -> Result<(), LifeEnd>
+    requires ready { Ready (seen gate.old) (D.bytes disk.old)
+        (C.recorded client.old) (V.recorded venue.old) }
+    requires moment { now ≤ MAX_AT }
+    requires stands { (stream : List ℕ) × (answered : List Piece)
+        × StandsFor framer.old stream answered }
+    ensures config { gate.new.core.config ≡ gate.old.core.config }
+    ensures ready { OnOk result (Ready (seen gate.new) (D.bytes disk.new)
+        (C.recorded client.new) (V.recorded venue.new)) }
+    ensures kind { framer.new.kind ≡ framer.old.kind }
+    ensures stands { OnOk result ((stream : List ℕ) × (answered : List Piece)
+        × StandsFor framer.new stream answered) }
+    ensures room { OnOk result (LEAST_ROOM ≤ room framer.new) }
+    ensures taken { OnOk result (TakenAll framer.old framer.new gate.old.core.config
+        (world_of (seen gate.old)) side now (world_of (seen gate.new))
+        (records (C.recorded client.old) (V.recorded venue.old))
+        (records (C.recorded client.new) (V.recorded venue.new))) }
+    ensures durable { OnOk result (HasOneImage (D.bytes disk.old) (D.image disk.old) →
+        HasOneImage (D.bytes disk.new) (D.image disk.new)) }
+    ensures ends { IfErr result (λ end. LeavesOf (D.bytes disk.old) (D.image disk.old)
+        (D.image disk.new) gate.old.core.config.names (TakenPart end framer.old
+        gate.old.core.config (world_of (seen gate.old)) side now
+        (records (C.recorded client.old) (V.recorded venue.old))
+        (records (C.recorded client.new) (V.recorded venue.new)))) }
+    ensures only { IfErr result IsOfEvent }
+    ensures told { is_some (D.bytes disk.new) ≡ is_some (D.bytes disk.old) }
+    ensures cause { HasCauseOf (D.faults disk.old) (D.faults disk.new) result }
+    ensures client_polls { C.polls client.new ≡ C.polls client.old }
+    ensures venue_polls { V.polls venue.new ≡ V.polls venue.old }
+{
+    'frames: loop {
+        match framer.next() {
+            Next::More => return Ok(()),
+            Next::Garbled { .. } => {}
+            Next::Frame { body, .. } => frame_event(
+                gate,
+                disk,
+                client,
+                venue,
+                taps,
+                side,
+                framer.part(body),
+                now,
+            )?,
+        }
+    }
+}
+
+// Deals with what a poll of a side found. The gate knows already whether the connection stands.
+fn arrived<D: Disk, C: Wire, V: Wire>(
+    gate: &mut Gate,
+    disk: &mut D,
+    client: &mut C,
+    venue: &mut V,
+    taps: &mut Vec<Box<dyn Tap>>,
+    framer: &mut Framer,
+    side: Side,
+    found: Result<Arrival, Failed>,
+    buf: &[u8],
+    now: u64,
+) -> Result<(), LifeEnd>
+    requires ready { Ready (seen gate.old) (D.bytes disk.old)
+        (C.recorded client.old) (V.recorded venue.old) }
+    requires moment { now ≤ MAX_AT }
+    requires fits { IfOk found (λ arrived. Fits arrived buf.now) }
+    requires short { length buf.now ≤ LEAST_ROOM }
+    requires drained { IsDrained side framer.old }
+    ensures config { gate.new.core.config ≡ gate.old.core.config }
+    ensures ready { OnOk result (Ready (seen gate.new) (D.bytes disk.new)
+        (C.recorded client.new) (V.recorded venue.new)) }
+    ensures drained { OnOk result (IsDrained side framer.new) }
+    ensures arrived { OnOk result (Arrived framer.old framer.new (came_of found buf.now)
+        gate.old.core.config (world_of (seen gate.old)) side now (world_of (seen gate.new))
+        (records (C.recorded client.old) (V.recorded venue.old))
+        (records (C.recorded client.new) (V.recorded venue.new))) }
+    ensures durable { OnOk result (HasOneImage (D.bytes disk.old) (D.image disk.old) →
+        HasOneImage (D.bytes disk.new) (D.image disk.new)) }
+    ensures ends { IfErr result (λ end. LeavesOf (D.bytes disk.old) (D.image disk.old)
+        (D.image disk.new) gate.old.core.config.names (ArrivedPart end framer.old
+        (came_of found buf.now) gate.old.core.config (world_of (seen gate.old)) side now
+        (records (C.recorded client.old) (V.recorded venue.old))
+        (records (C.recorded client.new) (V.recorded venue.new)))) }
+    ensures only { IfErr result IsOfEvent }
+    ensures told { is_some (D.bytes disk.new) ≡ is_some (D.bytes disk.old) }
+    ensures cause { HasCauseOf (D.faults disk.old) (D.faults disk.new) result }
+    ensures client_polls { C.polls client.new ≡ C.polls client.old }
+    ensures venue_polls { V.polls venue.new ≡ V.polls venue.old }
+{
+    let arrival = match found {
+        Ok(arrival) => arrival,
+        Err(_) => return gate.event(disk, client, venue, taps, &Event::Closed(side), now),
+    };
+    match arrival {
+        Arrival::Nothing => Ok(()),
+        Arrival::Opened => {
+            framer.restart();
+            gate.event(disk, client, venue, taps, &Event::Opened(side), now)
+        }
+        Arrival::Bytes(count) => {
+            framer.feed(&buf[..count]);
+            take_frames(gate, disk, client, venue, taps, framer, side, now)
+        }
+        Arrival::Closed => gate.event(disk, client, venue, taps, &Event::Closed(side), now),
+    }
+}
+
+// Whether a connection stands after a poll.
+fn up_after(up: bool, found: Result<Arrival, Failed>) -> bool
+    ensures { (buf : List ℕ) → result ≡ up_after up (came_of found buf) }
+{
+    match found {
+        Ok(arrival) => match arrival {
+            Arrival::Opened => true,
+            Arrival::Closed => false,
+            Arrival::Nothing | Arrival::Bytes(_) => up,
+        },
+        Err(_) => false,
+    }
+}
+
+// Looks for what is new from the client.
+fn poll_client<C: Wire>(gate: &mut Gate, client: &mut C, buf: &mut [u8]) -> Result<Arrival, Failed>
+    requires room { 0 < length buf.old }
+    requires agrees { Agrees (C.recorded client.old) gate.old.client_up }
+    ensures fits { IfOk result (λ arrived. Fits arrived buf.new) }
+    ensures same { (gate.new.journal ≡ gate.old.journal) × (gate.new.core ≡ gate.old.core) }
+    ensures up { gate.new.client_up
+        ≡ up_after gate.old.client_up (came_of result buf.new) }
+    ensures other { gate.new.venue_up ≡ gate.old.venue_up }
+    ensures grows { GrowsBy (C.recorded client.old) (C.recorded client.new)
+        (Poll (came_of result buf.new) ∷ []) }
+    ensures may { is_some (C.recorded client.old) ≡ true →
+        may_come gate.old.client_up (came_of result buf.new) ≡ true }
+    ensures agrees { Agrees (C.recorded client.new) gate.new.client_up }
+    ensures polled { C.polls client.new ≡ next_count (C.polls client.old) }
+{
+    let found = client.poll(buf);
+    gate.client_up = up_after(gate.client_up, found);
+    found
+}
+
+// Looks for what is new from the venue.
+fn poll_venue<V: Wire>(gate: &mut Gate, venue: &mut V, buf: &mut [u8]) -> Result<Arrival, Failed>
+    requires room { 0 < length buf.old }
+    requires agrees { Agrees (V.recorded venue.old) gate.old.venue_up }
+    ensures fits { IfOk result (λ arrived. Fits arrived buf.new) }
+    ensures same { (gate.new.journal ≡ gate.old.journal) × (gate.new.core ≡ gate.old.core) }
+    ensures up { gate.new.venue_up
+        ≡ up_after gate.old.venue_up (came_of result buf.new) }
+    ensures other { gate.new.client_up ≡ gate.old.client_up }
+    ensures grows { GrowsBy (V.recorded venue.old) (V.recorded venue.new)
+        (Poll (came_of result buf.new) ∷ []) }
+    ensures may { is_some (V.recorded venue.old) ≡ true →
+        may_come gate.old.venue_up (came_of result buf.new) ≡ true }
+    ensures agrees { Agrees (V.recorded venue.new) gate.new.venue_up }
+    ensures polled { V.polls venue.new ≡ next_count (V.polls venue.old) }
+{
+    let found = venue.poll(buf);
+    gate.venue_up = up_after(gate.venue_up, found);
+    found
+}
+
+/// The client's turn.
+pub(crate) fn client_turn<D: Disk, C: Wire, V: Wire>(
+    gate: &mut Gate,
+    disk: &mut D,
+    client: &mut C,
+    venue: &mut V,
+    taps: &mut Vec<Box<dyn Tap>>,
+    framer: &mut Framer,
+    now: u64,
+) -> Result<(), LifeEnd>
+    requires ready { Ready (seen gate.old) (D.bytes disk.old)
+        (C.recorded client.old) (V.recorded venue.old) }
+    requires moment { now ≤ MAX_AT }
+    requires drained { IsDrained Side.Client framer.old }
+    ensures config { gate.new.core.config ≡ gate.old.core.config }
+    ensures ready { OnOk result (Ready (seen gate.new) (D.bytes disk.new)
+        (C.recorded client.new) (V.recorded venue.new)) }
+    ensures drained { OnOk result (IsDrained Side.Client framer.new) }
+    ensures turn { OnOk result (Turned Side.Client framer.old framer.new gate.old.core.config
+        (world_of (seen gate.old)) now (world_of (seen gate.new))
+        (records (C.recorded client.old) (V.recorded venue.old))
+        (records (C.recorded client.new) (V.recorded venue.new))) }
+    ensures durable { OnOk result (HasOneImage (D.bytes disk.old) (D.image disk.old) →
+        HasOneImage (D.bytes disk.new) (D.image disk.new)) }
+    ensures ends { IfErr result (λ end. LeavesOf (D.bytes disk.old) (D.image disk.old)
+        (D.image disk.new) gate.old.core.config.names (TurnBroken end Side.Client
+        framer.old gate.old.core.config (world_of (seen gate.old)) now
+        (records (C.recorded client.old) (V.recorded venue.old))
+        (records (C.recorded client.new) (V.recorded venue.new)))) }
+    ensures only { IfErr result IsOfEvent }
+    ensures told { is_some (D.bytes disk.new) ≡ is_some (D.bytes disk.old) }
+    ensures cause { HasCauseOf (D.faults disk.old) (D.faults disk.new) result }
+    ensures polled { C.polls client.new ≡ next_count (C.polls client.old) }
+    ensures polls { V.polls venue.new ≡ V.polls venue.old }
+{
+    let mut buf = [0u8; POLL_LEN];
+    let found = poll_client(gate, client, &mut buf);
+    arrived(
+        gate,
+        disk,
+        client,
+        venue,
+        taps,
+        framer,
+        Side::Client,
+        found,
+        &buf,
+        now,
+    )?;
+    gate.event(disk, client, venue, taps, &Event::Tick(Side::Client), now)
+}
+
+/// The venue's turn.
+pub(crate) fn venue_turn<D: Disk, C: Wire, V: Wire>(
+    gate: &mut Gate,
+    disk: &mut D,
+    client: &mut C,
+    venue: &mut V,
+    taps: &mut Vec<Box<dyn Tap>>,
+    framer: &mut Framer,
+    now: u64,
+) -> Result<(), LifeEnd>
+    requires ready { Ready (seen gate.old) (D.bytes disk.old)
+        (C.recorded client.old) (V.recorded venue.old) }
+    requires moment { now ≤ MAX_AT }
+    requires drained { IsDrained Side.Venue framer.old }
+    ensures config { gate.new.core.config ≡ gate.old.core.config }
+    ensures ready { OnOk result (Ready (seen gate.new) (D.bytes disk.new)
+        (C.recorded client.new) (V.recorded venue.new)) }
+    ensures drained { OnOk result (IsDrained Side.Venue framer.new) }
+    ensures turn { OnOk result (Turned Side.Venue framer.old framer.new gate.old.core.config
+        (world_of (seen gate.old)) now (world_of (seen gate.new))
+        (records (C.recorded client.old) (V.recorded venue.old))
+        (records (C.recorded client.new) (V.recorded venue.new))) }
+    ensures durable { OnOk result (HasOneImage (D.bytes disk.old) (D.image disk.old) →
+        HasOneImage (D.bytes disk.new) (D.image disk.new)) }
+    ensures ends { IfErr result (λ end. LeavesOf (D.bytes disk.old) (D.image disk.old)
+        (D.image disk.new) gate.old.core.config.names (TurnBroken end Side.Venue
+        framer.old gate.old.core.config (world_of (seen gate.old)) now
+        (records (C.recorded client.old) (V.recorded venue.old))
+        (records (C.recorded client.new) (V.recorded venue.new)))) }
+    ensures only { IfErr result IsOfEvent }
+    ensures told { is_some (D.bytes disk.new) ≡ is_some (D.bytes disk.old) }
+    ensures cause { HasCauseOf (D.faults disk.old) (D.faults disk.new) result }
+    ensures polled { V.polls venue.new ≡ next_count (V.polls venue.old) }
+    ensures polls { C.polls client.new ≡ C.polls client.old }
+{
+    let mut buf = [0u8; POLL_LEN];
+    let found = poll_venue(gate, venue, &mut buf);
+    arrived(
+        gate,
+        disk,
+        client,
+        venue,
+        taps,
+        framer,
+        Side::Venue,
+        found,
+        &buf,
+        now,
+    )?;
+    gate.event(disk, client, venue, taps, &Event::Tick(Side::Venue), now)
+}
