@@ -7,8 +7,6 @@ mod reading;
 mod requests;
 mod tables;
 mod term_codes;
-#[cfg(test)]
-mod tests;
 mod writing;
 
 pub use message::{good42, read42, type42, write42};

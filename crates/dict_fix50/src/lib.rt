@@ -7,8 +7,6 @@ mod message;
 mod reading;
 mod requests;
 mod tables;
-#[cfg(test)]
-mod tests;
 mod values;
 mod writing;
 

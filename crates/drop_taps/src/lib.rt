@@ -16,6 +16,3 @@ pub use line_tap::LineTap;
 pub use tap::{Seen, Tap, TapFailed};
 pub use taps::clear;
 pub use totals_tap::TotalsTap;
-
-#[cfg(test)]
-mod tests;

@@ -11,8 +11,6 @@ mod mapping;
 mod parts;
 mod reasons;
 mod reports;
-#[cfg(test)]
-mod tests;
 
 pub use downward::{down_cancel_reject, down_report};
 pub use mapping::has_codes;

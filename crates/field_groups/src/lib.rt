@@ -12,8 +12,6 @@ mod group;
 mod head_values;
 pub mod laws;
 mod splitting;
-#[cfg(test)]
-mod tests;
 mod writing;
 
 pub use fault::SplitFault;

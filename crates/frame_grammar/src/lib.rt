@@ -9,8 +9,6 @@ mod framer;
 pub mod laws;
 mod pieces;
 mod scan;
-#[cfg(test)]
-mod tests;
 mod write;
 
 pub use checksum::{begin_string_of, trailer_of};

@@ -11,8 +11,6 @@ mod error;
 pub mod laws;
 mod log;
 mod scan;
-#[cfg(test)]
-mod tests;
 
 pub use bytes::{extend_reserved, u32_front};
 pub use error::LogError;

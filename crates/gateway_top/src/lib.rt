@@ -10,8 +10,6 @@ mod program;
 mod status;
 mod stream;
 mod task;
-#[cfg(test)]
-mod tests;
 
 pub use program::run;
 pub use status::{End, Status, code};

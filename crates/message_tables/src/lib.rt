@@ -9,8 +9,6 @@ mod lookup;
 mod stages;
 mod table;
 mod table_fault;
-#[cfg(test)]
-mod tests;
 
 pub use group_lines::{line, line_end};
 pub use lookup::{Line, Lookup, field_at, stands, value};

@@ -21,6 +21,3 @@ pub use mem_disk::{DiskCall, Image, MemDisk};
 pub use mem_sink::MemSink;
 pub use mem_source::{MemSource, fill};
 pub use stream::{Failed, Sink, Source};
-
-#[cfg(test)]
-mod tests;

@@ -15,8 +15,6 @@ mod numbers;
 mod out_buf;
 mod prepared;
 mod reading;
-#[cfg(test)]
-mod tests;
 mod writing;
 
 pub use entry::{Entry, Out, Outs, Took};

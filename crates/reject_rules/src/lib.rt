@@ -12,8 +12,6 @@ mod reasons;
 mod refusals;
 mod renumbering;
 mod tag;
-#[cfg(test)]
-mod tests;
 mod text;
 
 pub use refusals::{away, refusal, used};

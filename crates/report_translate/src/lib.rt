@@ -9,8 +9,6 @@ mod checking;
 pub mod laws;
 mod refusals;
 mod report;
-#[cfg(test)]
-mod tests;
 mod translate;
 
 pub use refusals::check_refusal;

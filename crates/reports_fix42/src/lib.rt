@@ -8,8 +8,6 @@ mod message;
 mod reading;
 mod reports;
 mod tables;
-#[cfg(test)]
-mod tests;
 mod writing;
 
 pub use message::{

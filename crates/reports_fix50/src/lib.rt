@@ -9,8 +9,6 @@ mod order_part;
 mod reading;
 mod reports;
 mod tables;
-#[cfg(test)]
-mod tests;
 mod writing;
 
 pub use message::{

@@ -12,8 +12,6 @@ mod new_orders;
 mod parts;
 mod replaces;
 mod statuses;
-#[cfg(test)]
-mod tests;
 mod translate;
 mod upward;
 

@@ -8,8 +8,6 @@ mod faults;
 mod kinds;
 mod lines;
 mod maturity;
-#[cfg(test)]
-mod tests;
 mod values;
 mod writing;
 

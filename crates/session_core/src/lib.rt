@@ -17,8 +17,6 @@ pub mod reason;
 mod said;
 mod session;
 pub mod tag;
-#[cfg(test)]
-mod tests;
 mod tick;
 
 pub use act::{Act, Admin, Why};

@@ -5,8 +5,6 @@
 mod frames;
 pub mod laws;
 mod room;
-#[cfg(test)]
-mod tests;
 
 pub use frames::{FrameBuf, fill_out, frame_out};
 pub use room::FRAME_ROOM;

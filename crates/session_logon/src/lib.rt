@@ -15,8 +15,6 @@ mod header;
 pub mod laws;
 mod logon;
 mod reasons;
-#[cfg(test)]
-mod tests;
 
 pub use content::say;
 pub use head::read_head;

@@ -17,8 +17,6 @@ pub mod laws;
 mod month_year;
 mod number;
 mod stamp;
-#[cfg(test)]
-mod tests;
 mod value;
 
 pub use day::Day;

@@ -2,8 +2,6 @@
 //! kind: judged, or read.
 #![tactic(auto)]
 
-#[cfg(test)]
-mod tests;
 mod value_kind;
 
 pub use value_kind::{MAX_REASON, ValueKind, code, day, day_of_month, has_day, month_year, text};

@@ -1,0 +1,118 @@
+//! What the rows before have made: a journal, and a core behind it.
+
+use crate::answers::{answer, chained};
+use crate::entries::{put_birth, put_entry};
+use crate::plans::{active, closed, frame, held, numbers, opened, restarted};
+use crate::texts::side_of;
+use crate::words::{behind, word};
+use gateway_core::Core;
+use order_meaning::Side;
+use pair_journal::Journal;
+use std::alloc::{AllocError, Global};
+
+/// The records of a journal, and the journal and the core that were loaded from them.
+#[derive(Drop)]
+pub(crate) struct World {
+    image: Vec<u8>,
+    loaded: Option<(Journal, Core)>,
+}
+
+// A call on a core about a side.
+fn side_answer(
+    alloc: Global,
+    core: &mut Core,
+    journal: &Journal,
+    call: &str,
+    side: Side,
+    text: &str,
+) -> Result<String, AllocError> {
+    if call == "opened" {
+        opened(alloc, core, journal, side)
+    } else if call == "closed" {
+        closed(alloc, core, journal, side)
+    } else if call == "frame" {
+        frame(alloc, core, journal, side, text)
+    } else if call == "held" {
+        held(alloc, core, journal, side, text)
+    } else {
+        format!(in alloc; "no such call")
+    }
+}
+
+// A call on a core.
+fn core_answer(
+    alloc: Global,
+    core: &mut Core,
+    journal: &Journal,
+    call: &str,
+    given: &str,
+) -> Result<String, AllocError> {
+    if call == "active" {
+        return active(alloc, core, given);
+    }
+    match side_of(word(given, 0)) {
+        Some(side) => side_answer(alloc, core, journal, call, side, behind(given, 1)),
+        None => numbers(alloc, core),
+    }
+}
+
+impl World {
+    pub(crate) fn new(alloc: Global) -> World {
+        World {
+            image: Vec::new(alloc),
+            loaded: None,
+        }
+    }
+
+    // Begins a journal.
+    fn begin(&mut self, alloc: Global) -> Result<String, AllocError> {
+        self.image.clear();
+        put_birth(alloc, &mut self.image)?;
+        Ok(String::new(alloc))
+    }
+
+    // Puts an entry behind the journal.
+    fn put(&mut self, alloc: Global, given: &str) -> Result<String, AllocError> {
+        put_entry(alloc, &mut self.image, given)?;
+        Ok(String::new(alloc))
+    }
+
+    // Loads the core behind the journal, and answers its next numbers.
+    fn restart(&mut self, alloc: Global) -> Result<String, AllocError> {
+        self.loaded = restarted(alloc, &self.image)?;
+        match &self.loaded {
+            Some((_, core)) => numbers(alloc, core),
+            None => format!(in alloc; "no core"),
+        }
+    }
+
+    // A call on the core.
+    fn planned(&mut self, alloc: Global, call: &str, given: &str) -> Result<String, AllocError> {
+        match &mut self.loaded {
+            Some((journal, core)) => core_answer(alloc, core, journal, call, given),
+            None => format!(in alloc; "no core"),
+        }
+    }
+
+    /// The answer to a row.
+    pub(crate) fn answer(
+        &mut self,
+        alloc: Global,
+        call: &str,
+        given: &str,
+    ) -> Result<String, AllocError> {
+        if call == "journal" {
+            self.begin(alloc)
+        } else if call == "entry" {
+            self.put(alloc, given)
+        } else if call == "answer" {
+            answer(alloc, &self.image, given)
+        } else if call == "number-of" || call == "orig-of" {
+            chained(alloc, &self.image, call, given)
+        } else if call == "restart" {
+            self.restart(alloc)
+        } else {
+            self.planned(alloc, call, given)
+        }
+    }
+}

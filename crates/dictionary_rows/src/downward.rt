@@ -1,0 +1,121 @@
+//! Reports of the venue as the client gets them.
+
+ghost use Rattle.reports_fix50.specs.Readable.{IsReadableReport, IsReadableCancelReject};
+
+use crate::wires::wire;
+use crate::words::{fault_words, first_word, found_words, lack_words};
+use exec_translate::{down_cancel_reject, down_report};
+use field_groups::split;
+use report_translate::{ReportTranslator, TranslateError};
+use reports_fix42::{write_cancel_reject, write_report};
+use reports_fix50::{CancelReject50, Report50, read_cancel_reject, read_report};
+use std::alloc::{AllocError, Global};
+
+/// What is written of the client's report of a report, or what FIX 4.2 lacks.
+fn report_down(alloc: Global, venue: &Report50) -> Result<Vec<u8>, AllocError>
+    requires { IsReadableReport venue.now }
+{
+    let client = match down_report(alloc, venue) {
+        Ok(client) => client,
+        Err(lack) => return lack_words(alloc, &lack),
+    };
+    let mut out = Vec::new(alloc);
+    write_report(&client, &mut out)?;
+    Ok(out)
+}
+
+/// What is written of the client's report of the report that is read, or what is found of it.
+pub(crate) fn report(alloc: Global, given: &str) -> Result<Vec<u8>, AllocError> {
+    let body = wire(alloc, given)?;
+    let split = split(alloc, &body)?;
+    match read_report(alloc, &split) {
+        Ok(venue) => report_down(alloc, &venue),
+        Err(fault) => fault_words(alloc, &fault),
+    }
+}
+
+/// What is written of the client's cancel reject of a cancel reject whose original id is known or
+/// not, or what FIX 4.2 lacks.
+fn cancel_reject_down(
+    alloc: Global,
+    venue: &CancelReject50,
+    original: Option<&[u8]>,
+) -> Result<Vec<u8>, AllocError>
+    requires { IsReadableCancelReject venue.now }
+{
+    let client = match down_cancel_reject(alloc, venue, original) {
+        Ok(client) => client,
+        Err(lack) => return lack_words(alloc, &lack),
+    };
+    let mut out = Vec::new(alloc);
+    write_cancel_reject(&client, &mut out)?;
+    Ok(out)
+}
+
+/// The original id that a word says; `-` says none.
+fn original(word: &str) -> Option<&[u8]> {
+    if word == "-" {
+        return None;
+    }
+    Some(word.as_bytes())
+}
+
+/// What is written of the client's cancel reject of the one that is read, or what is found of it.
+pub(crate) fn cancel_reject(alloc: Global, given: &str) -> Result<Vec<u8>, AllocError> {
+    let (word, text) = first_word(given);
+    let body = wire(alloc, text)?;
+    let split = split(alloc, &body)?;
+    match read_cancel_reject(alloc, &split) {
+        Ok(venue) => cancel_reject_down(alloc, &venue, original(word)),
+        Err(fault) => fault_words(alloc, &fault),
+    }
+}
+
+/// What a translator that has translated a body makes of it again, behind a `+`: the frame, or what
+/// is found of the body where nothing is written.
+fn frame_again(alloc: Global, body: &[u8]) -> Result<Vec<u8>, AllocError> {
+    let mut translator = ReportTranslator::new(alloc);
+    let mut out = Vec::new(alloc);
+    let _ = translator.translate(body, &mut out); // the second time is looked at
+    out.clear();
+    out.push(b'+')?;
+    let found = translator.translate(body, &mut out);
+    if found.is_err() && out.len() == 1 {
+        return found_words(alloc, &found);
+    }
+    Ok(out)
+}
+
+/// What a check of a body finds.
+fn checked(alloc: Global, body: &[u8]) -> Result<Vec<u8>, AllocError> {
+    let found = ReportTranslator::new(alloc).check(body);
+    found_words(alloc, &found)
+}
+
+/// What a check of a body finds, a comma and what a translation makes of it.
+pub(crate) fn frame(alloc: Global, given: &str) -> Result<Vec<u8>, AllocError> {
+    let body = wire(alloc, given)?;
+    let mut answer = checked(alloc, &body)?;
+    answer.extend_from_slice(b", ")?;
+    answer.extend_from_slice(&frame_again(alloc, &body)?)?;
+    Ok(answer)
+}
+
+/// What a translation of a body finds; `ok` where it writes something.
+fn translated(alloc: Global, body: &[u8]) -> Result<(), TranslateError> {
+    let mut out = Vec::new(alloc);
+    let found = ReportTranslator::new(alloc).translate(body, &mut out);
+    if found.is_ok() == out.is_empty() {
+        return Err(TranslateError::NoMemory);
+    }
+    found
+}
+
+/// What a check of a body finds, a comma and what a translation finds.
+pub(crate) fn length(alloc: Global, given: &str) -> Result<Vec<u8>, AllocError> {
+    let body = wire(alloc, given)?;
+    let mut answer = checked(alloc, &body)?;
+    answer.extend_from_slice(b", ")?;
+    answer.extend_from_slice(&found_words(alloc, &translated(alloc, &body))?)?;
+    Ok(answer)
+}

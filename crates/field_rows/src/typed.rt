@@ -1,0 +1,155 @@
+//! Values of fields.
+
+use crate::row::show;
+use std::alloc::{AllocError, Global};
+use typed_fields::{
+    Day, Dec, FieldFault, FieldValue, Flag, MAX_MILLIS, MonthYear, Number, Stamp, are_digits,
+    point_in,
+};
+
+/// Appends the canonical spelling of a value.
+fn spell<T: FieldValue>(out: &mut String, alloc: Global, value: &T) -> Result<(), AllocError>
+    requires { T.can_be value.now }
+{
+    let mut text = Vec::new(alloc);
+    value.write(&mut text)?;
+    show(out, &text)
+}
+
+/// Appends a fault.
+fn tell(out: &mut String, fault: FieldFault) -> Result<(), AllocError> {
+    write!(out, "{fault:?}")
+}
+
+fn dec(out: &mut String, alloc: Global, given: &[u8]) -> Result<(), AllocError> {
+    match Dec::read(given) {
+        Ok(dec) => {
+            let units = dec.units;
+            write!(out, "{units} ")?;
+            spell(out, alloc, &dec)
+        }
+        Err(fault) => tell(out, fault),
+    }
+}
+
+fn number(out: &mut String, alloc: Global, given: &[u8]) -> Result<(), AllocError> {
+    match Number::read(given) {
+        Ok(number) => {
+            let value = number.value;
+            write!(out, "{value} ")?;
+            spell(out, alloc, &number)
+        }
+        Err(fault) => tell(out, fault),
+    }
+}
+
+fn flag(out: &mut String, alloc: Global, given: &[u8]) -> Result<(), AllocError> {
+    match Flag::read(given) {
+        Ok(flag) => {
+            let yes = flag.yes;
+            write!(out, "{yes} ")?;
+            spell(out, alloc, &flag)
+        }
+        Err(fault) => tell(out, fault),
+    }
+}
+
+fn month_year(out: &mut String, alloc: Global, given: &[u8]) -> Result<(), AllocError> {
+    match MonthYear::read(given) {
+        Ok(month) => {
+            let (year, number) = (month.year, month.month);
+            write!(out, "{year} {number} ")?;
+            spell(out, alloc, &month)
+        }
+        Err(fault) => tell(out, fault),
+    }
+}
+
+fn day(out: &mut String, alloc: Global, given: &[u8]) -> Result<(), AllocError> {
+    match Day::read(given) {
+        Ok(day) => {
+            let number = day.day;
+            write!(out, "{number} ")?;
+            spell(out, alloc, &day)
+        }
+        Err(fault) => tell(out, fault),
+    }
+}
+
+fn stamp(out: &mut String, alloc: Global, given: &[u8]) -> Result<(), AllocError> {
+    match Stamp::read(given) {
+        Ok(stamp) => {
+            let (hour, minute, second, milli) = (
+                stamp.hour,
+                stamp.minute,
+                stamp.second,
+                stamp.milli,
+            );
+            write!(out, "{hour} {minute} {second} {milli:?} ")?;
+            spell(out, alloc, &stamp)
+        }
+        Err(fault) => tell(out, fault),
+    }
+}
+
+/// The number of digits.
+fn u64_in(given: &[u8]) -> Option<u64> {
+    std::str::from_utf8(given).ok()?.parse::<u64>().ok()
+}
+
+/// The stamp of a moment, and the moment of that stamp.
+fn of_millis(out: &mut String, alloc: Global, given: &[u8]) -> Result<(), AllocError> {
+    let millis = u64_in(given).unwrap_or(u64::MAX);
+    if millis > MAX_MILLIS {
+        return Ok(());
+    }
+    let stamp = Stamp::of_millis(millis);
+    spell(out, alloc, &stamp)?;
+    let millis = stamp.millis();
+    write!(out, " {millis}")
+}
+
+/// The moment of a stamp.
+fn millis(out: &mut String, given: &[u8]) -> Result<(), AllocError> {
+    match Stamp::read(given) {
+        Ok(stamp) => {
+            let millis = stamp.millis();
+            write!(out, "{millis}")
+        }
+        Err(fault) => tell(out, fault),
+    }
+}
+
+/// Whether bytes are digits.
+fn digits(out: &mut String, given: &[u8]) -> Result<(), AllocError> {
+    let answer = are_digits(given);
+    write!(out, "{answer}")
+}
+
+/// The place of a point.
+fn point(out: &mut String, given: &[u8]) -> Result<(), AllocError> {
+    let place = point_in(given);
+    write!(out, "{place:?}")
+}
+
+/// Appends the answer to a call of this crate.
+pub(crate) fn answer(
+    out: &mut String,
+    alloc: Global,
+    call: &str,
+    given: &[u8],
+) -> Result<(), AllocError> {
+    match call {
+        "Dec" => dec(out, alloc, given),
+        "Number" => number(out, alloc, given),
+        "Flag" => flag(out, alloc, given),
+        "MonthYear" => month_year(out, alloc, given),
+        "Day" => day(out, alloc, given),
+        "Stamp" => stamp(out, alloc, given),
+        "Stamp::of_millis" => of_millis(out, alloc, given),
+        "Stamp::millis" => millis(out, given),
+        "are_digits" => digits(out, given),
+        "point_in" => point(out, given),
+        _ => Ok(()),
+    }
+}

@@ -1,0 +1,16 @@
+//! The tests of the outside, of the log of records, of the journal and of what is shown of its
+//! entries. They stand on the public calls alone.
+#![tactic(auto)]
+
+#[cfg(test)]
+mod disks;
+#[cfg(test)]
+mod entries;
+#[cfg(test)]
+mod journals;
+#[cfg(test)]
+mod lines;
+#[cfg(test)]
+mod logs;
+#[cfg(test)]
+mod taps;

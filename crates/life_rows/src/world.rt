@@ -1,0 +1,344 @@
+//! What the rows before have made: scripts, the bytes of a disk, and the wires after a life.
+
+use crate::disks::{config, counted, disk, pick};
+use crate::lives::{quiet, tapped};
+use crate::peers::Peer;
+use crate::scripts::{Plan, Poll, stream, written};
+use crate::wire_calls::{clock_text, quiet_text, wire_answer, wire_of};
+use crate::words::{behind, number, shown, word};
+use gateway_config::Config;
+use gateway_life::LifeEnd;
+use outside::{Image, MemDisk};
+use std::alloc::{AllocError, Global};
+use wires::MemWire;
+
+/// What a life left: its disk, the client's wire and the venue's.
+#[derive(Drop)]
+struct Left {
+    end: LifeEnd,
+    disk: MemDisk,
+    client: MemWire,
+    venue: MemWire,
+}
+
+/// The scripts, the bytes that the next life's disk begins with, what the last life left, and a wire
+/// of its own.
+#[derive(Drop)]
+pub(crate) struct World {
+    polls: Vec<Poll>,
+    image: Vec<u8>,
+    left: Option<Left>,
+    wire: Option<MemWire>,
+}
+
+// The plans of the words behind `client-script venue-script rounds disk`: which calls fail.
+fn plans(alloc: Global, polls: &[Poll], given: &str) -> Result<(Plan, Plan), AllocError> {
+    let client = Plan::new(alloc, polls, word(given, 0), word(given, 4))?;
+    let venue = Plan::new(alloc, polls, word(given, 1), word(given, 5))?;
+    Ok((client, venue))
+}
+
+fn rounds(given: &str) -> u64 {
+    number(word(given, 2)).unwrap_or(0)
+}
+
+// A life over these bytes of a disk.
+fn lived(
+    alloc: Global,
+    polls: &[Poll],
+    image: &[u8],
+    config: &Config,
+    given: &str,
+) -> Result<Left, AllocError> {
+    let plans = plans(alloc, polls, given)?;
+    let mut disk = disk(alloc, image, word(given, 3))?;
+    let (end, client, venue) = quiet(alloc, config, &mut disk, plans, rounds(given))?;
+    Ok(Left {
+        end,
+        disk,
+        client,
+        venue,
+    })
+}
+
+// The same with three taps, of which one fails at the call that the last word says, and what they
+// counted.
+fn watched(
+    alloc: Global,
+    polls: &[Poll],
+    image: &[u8],
+    config: &Config,
+    given: &str,
+) -> Result<(Left, String), AllocError> {
+    let plans = plans(alloc, polls, given)?;
+    let call = number(word(given, 6)).unwrap_or(0);
+    let mut disk = disk(alloc, image, word(given, 3))?;
+    let (lived, words) = tapped(alloc, config, &mut disk, plans, rounds(given), call)?;
+    let (end, client, venue) = lived;
+    let left = Left {
+        end,
+        disk,
+        client,
+        venue,
+    };
+    Ok((left, words))
+}
+
+// Whether these bytes were written on a wire: what was written where not.
+fn told(alloc: Global, wire: &MemWire, expected: &[u8]) -> Result<String, AllocError> {
+    let written = written(alloc, wire)?;
+    if written.as_slice() == expected {
+        return format!(in alloc; "yes");
+    }
+    shown(alloc, &written)
+}
+
+// The words of a life of which one call fails.
+fn failing_words(alloc: Global, device: &str, call: &str) -> Result<String, AllocError> {
+    let (disk, client, venue) = if device == "disk" {
+        (call, "-", "-")
+    } else if device == "client" {
+        ("-", call, "-")
+    } else {
+        ("-", "-", call)
+    };
+    format!(in alloc; "day-client day-venue 9 {disk} {client} {venue}")
+}
+
+/// The words of the life behind it.
+const SECOND: &str = "second-client second-venue 8 - - -";
+
+// How a life ended of which a call of this device was to fail. Of a disk it is left open, since it
+// may make fewer calls.
+fn end_words(alloc: Global, device: &str, end: LifeEnd) -> Result<String, AllocError> {
+    if device == "disk" {
+        return format!(in alloc; "-");
+    }
+    format!(in alloc; "{end:?}")
+}
+
+// How two lives ended, and what the peers took in both.
+fn verdict(
+    alloc: Global,
+    device: &str,
+    ends: (LifeEnd, LifeEnd),
+    venue: &Peer,
+    client: &Peer,
+) -> Result<String, AllocError> {
+    let (first, second) = ends;
+    let first = end_words(alloc, device, first)?;
+    format!(in alloc;
+        "{first} {second:?} venue{} client{}",
+        venue.taken(),
+        client.taken()
+    )
+}
+
+impl World {
+    pub(crate) fn new(alloc: Global) -> World {
+        World {
+            polls: Vec::new(alloc),
+            image: Vec::new(alloc),
+            left: None,
+            wire: None,
+        }
+    }
+
+    // Puts a poll behind a script.
+    fn put(&mut self, alloc: Global, given: &str) -> Result<String, AllocError> {
+        self.polls
+            .push(Poll::new(alloc, word(given, 0), behind(given, 1))?)?;
+        Ok(String::new(alloc))
+    }
+
+    // A life over the present bytes.
+    fn live(&self, alloc: Global, config: &Config, given: &str) -> Result<Left, AllocError> {
+        lived(alloc, &self.polls, &self.image, config, given)
+    }
+
+    // The same, which is kept: how it ended.
+    fn life(&mut self, alloc: Global, given: &str) -> Result<String, AllocError> {
+        let Some(config) = config() else {
+            return format!(in alloc; "no names");
+        };
+        let left = self.live(alloc, &config, given)?;
+        let end = left.end;
+        self.left = Some(left);
+        format!(in alloc; "{end:?}")
+    }
+
+    // The same with taps: what they counted too.
+    fn tapped(&mut self, alloc: Global, given: &str) -> Result<String, AllocError> {
+        let Some(config) = config() else {
+            return format!(in alloc; "no names");
+        };
+        let (left, words) = watched(alloc, &self.polls, &self.image, &config, given)?;
+        let end = left.end;
+        self.left = Some(left);
+        format!(in alloc; "{end:?} {words}")
+    }
+
+    // The next life begins with what a crash leaves of the last one's disk.
+    fn crash(&mut self, pick: Image) -> Result<(), AllocError> {
+        if let Some(left) = &self.left {
+            self.image = left.disk.image(pick)?;
+        }
+        Ok(())
+    }
+
+    // Whether the last life wrote the bytes of a name to a side.
+    fn told(&self, alloc: Global, given: &str) -> Result<String, AllocError> {
+        let expected = stream(alloc, &self.polls, word(given, 1))?;
+        match &self.left {
+            Some(left) if word(given, 0) == "client" => told(alloc, &left.client, &expected),
+            Some(left) => told(alloc, &left.venue, &expected),
+            None => format!(in alloc; "no life"),
+        }
+    }
+
+    // How many connections the last life had with each side.
+    fn connections(&self, alloc: Global) -> Result<String, AllocError> {
+        match &self.left {
+            Some(left) => {
+                let client = left.client.connections().len();
+                let venue = left.venue.connections().len();
+                format!(in alloc; "{client} {venue}")
+            }
+            None => format!(in alloc; "no life"),
+        }
+    }
+
+    // The peers take what the last life wrote.
+    fn taken(&self, alloc: Global, client: &mut Peer, venue: &mut Peer) -> Result<(), AllocError> {
+        if let Some(left) = &self.left {
+            client.take_all(alloc, &left.client)?;
+            venue.take_all(alloc, &left.venue)?;
+        }
+        Ok(())
+    }
+
+    // The second of two lives, with what the peers took in the first.
+    fn second(
+        &mut self,
+        alloc: Global,
+        config: &Config,
+        client: &mut Peer,
+        venue: &mut Peer,
+    ) -> Result<LifeEnd, AllocError> {
+        self.crash(Image::New)?;
+        let left = self.live(alloc, config, SECOND)?;
+        let end = left.end;
+        self.left = Some(left);
+        self.taken(alloc, client, venue)?;
+        self.image.clear();
+        Ok(end)
+    }
+
+    // The first of two lives, over an empty disk.
+    fn first(
+        &mut self,
+        alloc: Global,
+        config: &Config,
+        given: &str,
+    ) -> Result<LifeEnd, AllocError> {
+        self.image.clear();
+        let words = failing_words(alloc, word(given, 0), word(given, 1))?;
+        let left = self.live(alloc, config, &words)?;
+        let end = left.end;
+        self.left = Some(left);
+        Ok(end)
+    }
+
+    // A life of which one call fails, and a second life, in which both peers say all again and ask
+    // for all.
+    fn two_lives(
+        &mut self,
+        alloc: Global,
+        config: &Config,
+        given: &str,
+    ) -> Result<String, AllocError> {
+        let first = self.first(alloc, config, given)?;
+        let mut client = Peer::new(alloc);
+        let mut venue = Peer::new(alloc);
+        self.taken(alloc, &mut client, &mut venue)?;
+        let second = self.second(alloc, config, &mut client, &mut venue)?;
+        verdict(alloc, word(given, 0), (first, second), &venue, &client)
+    }
+
+    fn fails(&mut self, alloc: Global, given: &str) -> Result<String, AllocError> {
+        match config() {
+            Some(config) => self.two_lives(alloc, &config, given),
+            None => format!(in alloc; "no names"),
+        }
+    }
+
+    // The answer to a row of one life.
+    fn life_answer(
+        &mut self,
+        alloc: Global,
+        call: &str,
+        given: &str,
+    ) -> Result<String, AllocError> {
+        if call == "life" {
+            self.life(alloc, given)
+        } else if call == "tapped" {
+            self.tapped(alloc, given)
+        } else if call == "told" {
+            self.told(alloc, given)
+        } else if call == "connections" {
+            self.connections(alloc)
+        } else if call == "journal" {
+            counted(alloc, &self.image)
+        } else {
+            self.wire_answer(alloc, call, given)
+        }
+    }
+
+    // Begins a wire.
+    fn begin_wire(&mut self, alloc: Global, given: &str) -> Result<String, AllocError> {
+        self.wire = Some(wire_of(alloc, &self.polls, given)?);
+        Ok(String::new(alloc))
+    }
+
+    // The answer to a row of a wire.
+    fn wire_answer(
+        &mut self,
+        alloc: Global,
+        call: &str,
+        given: &str,
+    ) -> Result<String, AllocError> {
+        if call == "wire" {
+            return self.begin_wire(alloc, given);
+        } else if call == "clock" {
+            return clock_text(alloc, given);
+        } else if call == "quiet" {
+            return quiet_text(alloc);
+        }
+        match &mut self.wire {
+            Some(wire) => wire_answer(alloc, wire, call, given),
+            None => format!(in alloc; "no wire"),
+        }
+    }
+
+    /// The answer to a row.
+    pub(crate) fn answer(
+        &mut self,
+        alloc: Global,
+        call: &str,
+        given: &str,
+    ) -> Result<String, AllocError> {
+        if call == "poll" {
+            self.put(alloc, given)
+        } else if call == "empty" {
+            self.image.clear();
+            Ok(String::new(alloc))
+        } else if call == "crash" {
+            self.crash(pick(word(given, 0)))?;
+            Ok(String::new(alloc))
+        } else if call == "fails" {
+            self.fails(alloc, given)
+        } else {
+            self.life_answer(alloc, call, given)
+        }
+    }
+}

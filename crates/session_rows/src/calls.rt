@@ -1,0 +1,40 @@
+//! The calls of rows.
+
+use crate::words::bytes_of;
+use crate::{frames, logons, sessions};
+use std::alloc::{AllocError, Global};
+
+// The answers that are bytes.
+fn frame_answer(alloc: Global, call: &str, given: &str) -> Result<Vec<u8>, AllocError> {
+    if call == "frame" {
+        frames::frame(alloc, given)
+    } else if call == "long" {
+        frames::long_frame(alloc, given)
+    } else {
+        frames::gap_fill(alloc, given)
+    }
+}
+
+// The answers that are texts.
+fn text_answer(alloc: Global, call: &str, given: &str) -> Result<String, AllocError> {
+    if call == "head" {
+        logons::head(alloc, given)
+    } else if call == "check-logon" {
+        logons::checked(alloc, given)
+    } else if call == "say" {
+        logons::said(alloc, given)
+    } else if call == "fields" {
+        logons::counted(alloc, given)
+    } else {
+        sessions::answer(alloc, call, given)
+    }
+}
+
+/// The answer to a call of which this is given, with SOH where a text has `|`.
+pub(crate) fn answer(alloc: Global, call: &str, given: &str) -> Result<Vec<u8>, AllocError> {
+    if call == "frame" || call == "long" || call == "fill" {
+        return frame_answer(alloc, call, given);
+    }
+    let text = text_answer(alloc, call, given)?;
+    bytes_of(alloc, &text)
+}

@@ -1,0 +1,146 @@
+//! Frames of messages and of gap fills.
+
+use crate::logons::{names, type_and_fields};
+use crate::sessions::side;
+use crate::words::{behind, bytes_of, is_yes, moment, number, word};
+use order_meaning::{Names, Side};
+use pair_journal::{MAX_AT, MAX_CONTENT, MAX_TYPE};
+use session_core::MAX_MSG_SEQ_NUM;
+use session_frames::{FRAME_ROOM, FrameBuf, fill_out, frame_out};
+use std::alloc::{AllocError, Global};
+
+/// Who writes, the number, the moments of the first time and of now, whether PossResend(97) is set,
+/// and whether the message is sent again.
+#[derive(Clone, Copy)]
+struct Sending {
+    side: Side,
+    number: u32,
+    first: u64,
+    now: u64,
+    resend: bool,
+    again: bool,
+}
+
+fn read_sending(text: &str) -> Option<Sending> {
+    Some(Sending {
+        side: side(word(text, 0))?,
+        number: number(word(text, 1))?,
+        first: moment(word(text, 2))?,
+        now: moment(word(text, 3))?,
+        resend: is_yes(word(text, 4)),
+        again: is_yes(word(text, 5)),
+    })
+}
+
+// Writes the frame of a message, whose numbers and lengths are within their bounds.
+fn send(names: &Names, sending: &Sending, msg_type: &[u8], content: &[u8], buf: &mut FrameBuf) {
+    let numbered = 1 <= sending.number && sending.number <= MAX_MSG_SEQ_NUM;
+    let typed = !msg_type.is_empty() && msg_type.len() <= MAX_TYPE;
+    let timed = sending.first <= MAX_AT && sending.now <= MAX_AT;
+    if numbered && typed && timed && content.len() <= MAX_CONTENT {
+        frame_out(
+            names,
+            sending.side,
+            sending.number,
+            msg_type,
+            content,
+            sending.resend,
+            sending.first,
+            sending.now,
+            sending.again,
+            buf,
+        );
+    }
+}
+
+// A copy of the frame in a buffer; nothing where it takes more room than a frame may.
+fn copied(alloc: Global, buf: &FrameBuf) -> Result<Vec<u8>, AllocError> {
+    if buf.bytes().len() > FRAME_ROOM {
+        return Ok(Vec::new(alloc));
+    }
+    Vec::from_slice(alloc, buf.bytes())
+}
+
+fn sent(
+    alloc: Global,
+    names: &Names,
+    sending: &Sending,
+    msg_type: &str,
+    content: &[u8],
+) -> Result<Vec<u8>, AllocError> {
+    let mut buf = FrameBuf::new(alloc)?;
+    send(names, sending, msg_type.as_bytes(), content, &mut buf);
+    copied(alloc, &buf)
+}
+
+fn frame_of(
+    alloc: Global,
+    names: &Names,
+    sending: &Sending,
+    text: &str,
+) -> Result<Vec<u8>, AllocError> {
+    let Some((msg_type, fields)) = type_and_fields(text) else {
+        return Vec::from_slice(alloc, b"no type");
+    };
+    let content = bytes_of(alloc, fields)?;
+    sent(alloc, names, sending, msg_type, &content)
+}
+
+fn frame_between(alloc: Global, names: Option<Names>, given: &str) -> Result<Vec<u8>, AllocError> {
+    match (names, read_sending(given)) {
+        (Some(names), Some(sending)) => frame_of(alloc, &names, &sending, behind(given, 6)),
+        _ => Vec::from_slice(alloc, b"no message to send"),
+    }
+}
+
+// Names of which each is another.
+fn four_names() -> Option<Names> {
+    names(b"GATE", b"CLNT", b"GATE5", b"VENU")
+}
+
+/// The frame of a message: given are the side, the number, the moment of the first time and that of
+/// now, PossResend(97), whether it is sent again, and its type and content.
+pub(crate) fn frame(alloc: Global, given: &str) -> Result<Vec<u8>, AllocError> {
+    frame_between(alloc, four_names(), given)
+}
+
+/// The same between names that are as long as a name may be.
+pub(crate) fn long_frame(alloc: Global, given: &str) -> Result<Vec<u8>, AllocError> {
+    frame_between(
+        alloc,
+        names(b"GATE", b"CLNT", &[b'O'; 35], &[b'P'; 35]),
+        given,
+    )
+}
+
+// Writes the frame of a gap fill, whose numbers and moments are within their bounds.
+fn fill(names: &Names, sending: &Sending, to: u32, buf: &mut FrameBuf) {
+    let from = sending.number;
+    let timed = sending.first <= MAX_AT && sending.now <= MAX_AT;
+    if from >= 1 && from <= to && to <= MAX_MSG_SEQ_NUM && timed {
+        fill_out(
+            names,
+            sending.side,
+            from,
+            to,
+            sending.first,
+            sending.now,
+            buf,
+        );
+    }
+}
+
+fn filled(alloc: Global, names: &Names, sending: &Sending, to: u32) -> Result<Vec<u8>, AllocError> {
+    let mut buf = FrameBuf::new(alloc)?;
+    fill(names, sending, to, &mut buf);
+    copied(alloc, &buf)
+}
+
+/// The frame of a gap fill: given are the side, the first number, the moment of the first time and
+/// that of now, and the last number.
+pub(crate) fn gap_fill(alloc: Global, given: &str) -> Result<Vec<u8>, AllocError> {
+    match (four_names(), read_sending(given), number(word(given, 4))) {
+        (Some(names), Some(sending), Some(to)) => filled(alloc, &names, &sending, to),
+        _ => Vec::from_slice(alloc, b"no gap to fill"),
+    }
+}

@@ -1,0 +1,216 @@
+//! What is read of a message, and what is said. Its type is that of the field 35 which a text
+//! begins with.
+
+use crate::sessions::side;
+use crate::words::{behind, bytes_of, is_yes, moment, number, shown, word};
+use field_groups::split;
+use order_meaning::Side;
+use session_core::{Admin, Head, Why};
+use session_logon::{Name, Names, Said42, check_logon, read_head, say};
+use std::alloc::{AllocError, Global};
+
+/// The names of both sessions, which differ but for the gateway's own.
+pub(crate) fn names(our: &[u8], peer: &[u8], venue_our: &[u8], venue_peer: &[u8]) -> Option<Names> {
+    Some(Names {
+        client_our: Name::new(our)?,
+        client_peer: Name::new(peer)?,
+        venue_our: Name::new(venue_our)?,
+        venue_peer: Name::new(venue_peer)?,
+    })
+}
+
+/// The type of a text that begins with the field 35, and what is behind that.
+pub(crate) fn type_and_fields(text: &str) -> Option<(&str, &str)> {
+    text.strip_prefix("35=")?.split_once('|')
+}
+
+// A message with these fields, as it is read.
+fn read(
+    alloc: Global,
+    side: Side,
+    window: u32,
+    now: u64,
+    msg_type: &str,
+    body: &[u8],
+) -> Result<Option<Head>, AllocError> {
+    let split = split(alloc, body)?;
+    let Some(names) = names(b"GATE", b"CLNT", b"GATE", b"VENU") else {
+        return Ok(None);
+    };
+    Ok(Some(read_head(side, &names, window, msg_type.as_bytes(), &split, now)))
+}
+
+fn head_words(alloc: Global, head: &Head) -> Result<String, AllocError> {
+    let Head {
+        number,
+        dup,
+        comp,
+        time,
+        what,
+    } = *head;
+    format!(in alloc; "{number:?} {dup} {comp:?} {time:?} {what:?}")
+}
+
+fn head_read(
+    alloc: Global,
+    side: Side,
+    window: u32,
+    now: u64,
+    text: &str,
+) -> Result<String, AllocError> {
+    let body = bytes_of(alloc, text)?;
+    let Some((msg_type, _)) = type_and_fields(text) else {
+        return format!(in alloc; "no type");
+    };
+    match read(alloc, side, window, now, msg_type, &body)? {
+        Some(head) => head_words(alloc, &head),
+        None => format!(in alloc; "no names"),
+    }
+}
+
+/// The head of a message: given are the side, the window in seconds, the moment and the body.
+pub(crate) fn head(alloc: Global, given: &str) -> Result<String, AllocError> {
+    match (
+        side(word(given, 0)),
+        number(word(given, 1)),
+        moment(word(given, 2)),
+    ) {
+        (Some(side), Some(window), Some(now)) => {
+            head_read(alloc, side, window, now, behind(given, 3))
+        }
+        _ => format!(in alloc; "no side, window and moment"),
+    }
+}
+
+/// What a Logon says: given are the side and the fields.
+pub(crate) fn checked(alloc: Global, given: &str) -> Result<String, AllocError> {
+    let fields = bytes_of(alloc, behind(given, 1))?;
+    let split = split(alloc, &fields)?;
+    match side(word(given, 0)) {
+        Some(side) => format!(in alloc; "{:?}", check_logon(side, &split.fields)),
+        None => format!(in alloc; "no side"),
+    }
+}
+
+/// How many fields a body has, and whether it has a fault.
+pub(crate) fn counted(alloc: Global, text: &str) -> Result<String, AllocError> {
+    let body = bytes_of(alloc, text)?;
+    let split = split(alloc, &body)?;
+    format!(in alloc; "{} {}", split.fields.len(), split.fault.is_some())
+}
+
+// Why a Logout is sent: a name and up to two numbers.
+fn why(name: &str, a: u32, b: u32) -> Option<Why> {
+    if name == "TooLow" {
+        Some(Why::TooLow {
+            expected: a,
+            got: b,
+        })
+    } else if name == "NoNumber" {
+        Some(Why::NoNumber)
+    } else if name == "Logon" {
+        Some(Why::Logon(a))
+    } else if name == "CompId" {
+        Some(Why::CompId)
+    } else if name == "Clock" {
+        Some(Why::Clock)
+    } else if name == "Answer" {
+        Some(Why::Answer)
+    } else if name == "End" {
+        Some(Why::End)
+    } else {
+        None
+    }
+}
+
+fn rejected(text: &str) -> Option<Admin> {
+    Some(Admin::Reject {
+        tag: number(word(text, 1))?,
+        reason: word(text, 2).parse::<u8>().ok()?,
+    })
+}
+
+fn logged_out(text: &str) -> Option<Admin> {
+    let a = number(word(text, 2)).unwrap_or(0);
+    let b = number(word(text, 3)).unwrap_or(0);
+    Some(Admin::Logout(why(word(text, 1), a, b)?))
+}
+
+// The message of these words.
+fn admin(text: &str) -> Option<Admin> {
+    let name = word(text, 0);
+    if name == "Logon" {
+        Some(Admin::Logon {
+            reset: is_yes(word(text, 1)),
+        })
+    } else if name == "Logout" {
+        logged_out(text)
+    } else if name == "Heartbeat" {
+        Some(Admin::Heartbeat {
+            echo: is_yes(word(text, 1)),
+        })
+    } else if name == "TestRequest" {
+        Some(Admin::TestRequest)
+    } else if name == "ResendRequest" {
+        Some(Admin::ResendRequest {
+            from: number(word(text, 1))?,
+        })
+    } else {
+        rejected(text)
+    }
+}
+
+// A message as its type, `|` and its content; `+` before it where a gap fill stands for it.
+fn said_words(alloc: Global, said: &Said42) -> Result<String, AllocError> {
+    let admin = if said.admin { "+" } else { "" };
+    let msg_type = shown(alloc, said.msg_type.as_slice())?;
+    let content = shown(alloc, said.content.as_slice())?;
+    format!(in alloc; "{admin}{msg_type}|{content}")
+}
+
+/// What HeartBtInt(108) is, the message's own number, and the number and the type that it answers.
+#[derive(Clone, Copy)]
+struct About<'a> {
+    heart: u32,
+    next_out: u32,
+    number: u32,
+    msg_type: &'a str,
+}
+
+fn read_about(text: &str) -> Option<About<'_>> {
+    Some(About {
+        heart: number(word(text, 0))?,
+        next_out: number(word(text, 1))?,
+        number: number(word(text, 2))?,
+        msg_type: word(text, 3),
+    })
+}
+
+fn said_of(
+    alloc: Global,
+    side: Side,
+    admin: &Admin,
+    about: &About<'_>,
+) -> Result<String, AllocError> {
+    let said = say(
+        alloc,
+        side,
+        admin,
+        about.heart,
+        about.next_out,
+        about.number,
+        about.msg_type.as_bytes(),
+        b"ping",
+    )?;
+    said_words(alloc, &said)
+}
+
+/// What is said: given are the side, HeartBtInt(108), the message's own number, the number and the
+/// type that it answers, and the message.
+pub(crate) fn said(alloc: Global, given: &str) -> Result<String, AllocError> {
+    let about = read_about(behind(given, 1));
+    match (side(word(given, 0)), about, admin(behind(given, 5))) {
+        (Some(side), Some(about), Some(admin)) => said_of(alloc, side, &admin, &about),
+        _ => format!(in alloc; "no message to say"),
+    }
+}

@@ -1,0 +1,261 @@
+//! Sessions and messages as words, and what a session does.
+//!
+//! A session is written `side link next_in next_out heart seen said tested top since`, with `-` for
+//! what there is not; a message `number dup comp time kind a b`, where the kind and its one or two
+//! numbers come last.
+
+ghost use Rattle.std.specs.Prelude.{IfSome};
+ghost use Rattle.session_core.specs.Head.{HasNumbers};
+ghost use Rattle.session_core.specs.Numbers.{IsMsgSeqNum};
+
+use crate::words::{behind, is_yes, moment, number, word};
+use order_meaning::Side;
+use session_core::{
+    ALL_USED, Ask, Head, LinkState, MAX_MSG_SEQ_NUM, Numbers, Session, Spent, Step, What,
+};
+use std::alloc::{AllocError, Global};
+
+/// The side of a word.
+pub(crate) fn side(word: &str) -> Option<Side> {
+    if word == "Client" {
+        Some(Side::Client)
+    } else if word == "Venue" {
+        Some(Side::Venue)
+    } else {
+        None
+    }
+}
+
+fn link(word: &str) -> Option<LinkState> {
+    if word == "Down" {
+        Some(LinkState::Down)
+    } else if word == "Wait" {
+        Some(LinkState::Wait)
+    } else if word == "Asked" {
+        Some(LinkState::Asked)
+    } else if word == "Active" {
+        Some(LinkState::Active)
+    } else {
+        None
+    }
+}
+
+fn numbers(next_in: u32, next_out: u32) -> Option<Numbers> {
+    if next_in == 0 || next_in > ALL_USED || next_out == 0 || next_out > ALL_USED {
+        return None;
+    }
+    Some(Numbers { next_in, next_out })
+}
+
+fn ask(top: &str, since: &str) -> Option<Ask> {
+    Some(Ask {
+        top: number(top)?,
+        since: moment(since)?,
+    })
+}
+
+/// The session of ten words.
+pub(crate) fn session(text: &str) -> Option<Session> {
+    let next_in = number(word(text, 2))?;
+    let next_out = number(word(text, 3))?;
+    Some(Session {
+        side: side(word(text, 0))?,
+        link: link(word(text, 1))?,
+        numbers: numbers(next_in, next_out)?,
+        heart: number(word(text, 4))?,
+        seen: moment(word(text, 5))?,
+        said: moment(word(text, 6))?,
+        tested: moment(word(text, 7)),
+        ask: ask(word(text, 8), word(text, 9)),
+    })
+}
+
+fn reason(number: u32) -> u8 {
+    u8::try_from(number).unwrap_or(0)
+}
+
+// A kind whose first number is bounded.
+fn numbered_kind(name: &str, a: u32, b: u32) -> Option<What>
+    ensures { IfSome result (λ what. HasNumbers what) }
+{
+    if a == 0 || a > ALL_USED {
+        None
+    } else if name == "GapFill" {
+        Some(What::GapFill { to: a })
+    } else if name == "Reset" {
+        Some(What::Reset { to: a })
+    } else if name == "ResendRequest" && a <= MAX_MSG_SEQ_NUM {
+        Some(What::ResendRequest { from: a, to: b })
+    } else {
+        None
+    }
+}
+
+fn faulty_kind(name: &str, tag: u32, reason: u8) -> Option<What>
+    ensures { IfSome result (λ what. HasNumbers what) }
+{
+    if name == "BadLogon" {
+        Some(What::BadLogon { tag })
+    } else if name == "FaultyReset" {
+        Some(What::FaultyReset { tag, reason })
+    } else if name == "Faulty" {
+        Some(What::Faulty { tag, reason })
+    } else {
+        None
+    }
+}
+
+fn plain_kind(name: &str, heart: u32, reset: bool) -> Option<What>
+    ensures { IfSome result (λ what. HasNumbers what) }
+{
+    if name == "Logon" {
+        Some(What::Logon { heart, reset })
+    } else if name == "Heartbeat" {
+        Some(What::Heartbeat)
+    } else if name == "TestRequest" {
+        Some(What::TestRequest)
+    } else if name == "Reject" {
+        Some(What::Reject)
+    } else if name == "Logout" {
+        Some(What::Logout)
+    } else if name == "App" {
+        Some(What::App)
+    } else {
+        None
+    }
+}
+
+// The kind of a name and of up to two numbers.
+fn kind(name: &str, a: u32, b: u32) -> Option<What>
+    ensures { IfSome result (λ what. HasNumbers what) }
+{
+    if let Some(what) = plain_kind(name, a, b == 1) {
+        return Some(what);
+    }
+    if let Some(what) = faulty_kind(name, a, reason(b)) {
+        return Some(what);
+    }
+    numbered_kind(name, a, b)
+}
+
+fn message_number(word: &str) -> Option<u32>
+    ensures { IfSome result (λ n. IsMsgSeqNum n) }
+{
+    let number = number(word)?;
+    if number == 0 || number > MAX_MSG_SEQ_NUM {
+        return None;
+    }
+    Some(number)
+}
+
+// The message of these words.
+fn head(text: &str) -> Option<Head> {
+    let a = number(word(text, 5)).unwrap_or(0);
+    let b = number(word(text, 6)).unwrap_or(0);
+    let what = kind(word(text, 4), a, b)?;
+    Some(Head {
+        number: message_number(word(text, 0)),
+        dup: is_yes(word(text, 1)),
+        comp: number(word(text, 2)),
+        time: number(word(text, 3)).map(reason),
+        what,
+    })
+}
+
+// A moment as a word.
+fn moment_word(alloc: Global, moment: Option<u64>) -> Result<String, AllocError> {
+    match moment {
+        Some(moment) => format!(in alloc; "{moment}"),
+        None => format!(in alloc; "-"),
+    }
+}
+
+fn ask_words(alloc: Global, ask: Option<Ask>) -> Result<String, AllocError> {
+    match ask {
+        Some(Ask { top, since }) => format!(in alloc; "{top} {since}"),
+        None => format!(in alloc; "- -"),
+    }
+}
+
+/// The words of a session.
+pub(crate) fn session_words(alloc: Global, session: &Session) -> Result<String, AllocError> {
+    let Numbers { next_in, next_out } = session.numbers;
+    let first = format!(in alloc;
+        "{:?} {:?} {next_in} {next_out}",
+        session.side, session.link
+    )?;
+    let tested = moment_word(alloc, session.tested)?;
+    let ask = ask_words(alloc, session.ask)?;
+    let (heart, seen, said) = (session.heart, session.seen, session.said);
+    format!(in alloc; "{first} {heart} {seen} {said} {tested} {ask}")
+}
+
+// The acts and the session after them.
+fn step_words(alloc: Global, step: &Step) -> Result<String, AllocError> {
+    let session = session_words(alloc, &step.next)?;
+    format!(in alloc; "{:?} {session}", step.acts)
+}
+
+fn stepped(alloc: Global, step: Result<Step, Spent>) -> Result<String, AllocError> {
+    match step {
+        Ok(step) => step_words(alloc, &step),
+        Err(Spent) => format!(in alloc; "Spent"),
+    }
+}
+
+/// What a session does as the message of these words comes.
+pub(crate) fn heard(
+    alloc: Global,
+    session: &Session,
+    now: u64,
+    text: &str,
+) -> Result<String, AllocError> {
+    match head(text) {
+        Some(head) => stepped(alloc, session.on_message(&head, now)),
+        None => format!(in alloc; "no message"),
+    }
+}
+
+// The number of a message that is given out, and the session after it.
+fn given(alloc: Global, session: &Session, now: u64) -> Result<String, AllocError> {
+    match session.give(now) {
+        Ok((number, after)) => format!(in alloc; "{number} {}", session_words(alloc, &after)?),
+        Err(Spent) => format!(in alloc; "Spent"),
+    }
+}
+
+// A call on a session at a moment.
+fn called(
+    alloc: Global,
+    call: &str,
+    session: &Session,
+    now: u64,
+    text: &str,
+) -> Result<String, AllocError> {
+    if call == "message" {
+        heard(alloc, session, now, text)
+    } else if call == "tick" {
+        stepped(alloc, session.on_tick(now))
+    } else if call == "open" {
+        stepped(alloc, session.on_open(now))
+    } else if call == "end" {
+        stepped(alloc, session.on_end(now))
+    } else if call == "give" {
+        given(alloc, session, now)
+    } else if call == "closed" {
+        session_words(alloc, &session.on_closed())
+    } else if call == "new" {
+        let new = Session::new(session.side, session.numbers, session.heart);
+        session_words(alloc, &new)
+    } else {
+        format!(in alloc; "no such call")
+    }
+}
+
+/// The answer of a session to a call, of which the moment, the session and the message are given.
+pub(crate) fn answer(alloc: Global, call: &str, given: &str) -> Result<String, AllocError> {
+    match (moment(word(given, 0)), session(behind(given, 1))) {
+        (Some(now), Some(session)) => called(alloc, call, &session, now, behind(given, 11)),
+        _ => format!(in alloc; "no session"),
+    }
+}
