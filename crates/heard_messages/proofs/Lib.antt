@@ -1,9 +1,9 @@
 mod Worked
-mod Types
+pub mod Types
 mod Ids
 mod Numbers
 mod Refusals
-mod Contents
+pub mod Contents
 mod Answered
 mod On
 mod Requests

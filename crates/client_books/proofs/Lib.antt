@@ -1,0 +1,4 @@
+mod Worked
+mod Quiet
+mod Told
+mod Followed
