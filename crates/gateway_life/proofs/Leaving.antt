@@ -1,6 +1,7 @@
 -- What a life leaves, by the laws of lives.
 use Rattle.std.proofs.Common.{◌≡◌, ◌⊎◌, ℕ, Bool, true, false, List, [], ◌∷◌, ◌++◌, map, refl, sym}
 use Rattle.std.proofs.Common.{◌∙◌, ap, subst, inl, inr}
+use Rattle.order_meaning.specs.declared.Side.{Side}
 use Rattle.order_meaning.specs.declared.Side.TheVariants.{Client, Venue}
 use Rattle.order_meaning.specs.declared.names.Names.{Names}
 use Rattle.pair_journal.specs.declared.entry.Entry.{Entry}
@@ -15,15 +16,19 @@ use Rattle.gateway_core.specs.State.{loaded, sessions_in}
 use Rattle.wires.specs.Wire.{WireCall, Connection, is_within}
 use Rattle.life_events.specs.Sends.{hang_up_if}
 use Rattle.life_events.specs.Justified.{IsJustified, transcript_from, Leaves}
-use Rattle.life_events.specs.Receiver.{read_body, message_of_out}
-use Rattle.life_events.specs.Standing.{Holds}
+use Rattle.life_events.specs.Receiver.{read_body, message_of_out, AreSent}
+use Rattle.life_events.specs.Forms.{all_placed}
+use Rattle.life_events.specs.Standing.{Holds, NumberedFrom}
 use Rattle.life_events.specs.Turn.{Reads, last_read}
 use Rattle.life_events.specs.Laws as lives
 use Rattle.gateway_life.specs.declared.end.LifeEnd.{LifeEnd}
 use Rattle.gateway_life.specs.declared.end.LifeEnd.TheVariants as ends
 use Rattle.gateway_life.specs.Life.{begun, hung_up, moment_of, Done, IsJournal, Ends, EndsBefore}
 use Rattle.gateway_life.specs.Life.{DoesNotBegin}
-use Rattle.gateway_life.specs.Laws.{IsLeft, LivesLeave, LivesThatEndLeave, AreShown, AreTaken}
+use Rattle.client_books.specs.Laws.{BooksFollow}
+use Rattle.client_books.specs.Books.{book_of_taken}
+use Rattle.gateway_life.specs.Laws.{IsLeft, IsTaken, LeavesImage, GoesOnFrom}
+use Rattle.gateway_life.specs.Laws.{LivesLeave, LivesThatEndLeave}
 use Rattle.gateway_life.proofs.GivenOut.{are_sent}
 
 rest_of : Config → List Entry → Sessions
@@ -61,8 +66,8 @@ sound_of names entries image (inl born) = born.2.sound
 sound_of names entries image (inr none) = subst (AreEntries first_numbers) (sym none.1) tt
 
 module _ (begin : lives.LivesBegin Answers) (in_order : lives.JustifiedIsTakenInOrder)
-    (read_back : lives.WhatIsSentIsRead) (bodies : BodiesAreRead)
-    (given_out : AnswersAreGivenOut) where
+    (read_back : lives.WhatIsSentIsRead) (fills : lives.RepeatsFillGaps) (books : BooksFollow)
+    (bodies : BodiesAreRead) (given_out : AnswersAreGivenOut) where
   holds : (config : Config) (entries : List Entry) (client venue : List Connection)
       → IsLawful Answers config.names entries → IsJustified config.names entries Client client
       → IsJustified config.names entries Venue venue
@@ -73,24 +78,39 @@ module _ (begin : lives.LivesBegin Answers) (in_order : lives.JustifiedIsTakenIn
       (rest_sides config entries) (rest_numbers config entries) jc jv
 
   -- what is left is taken in order
+  taken : (names : Names) (side : Side) (entries : List Entry) (connections : List Connection)
+      → AreSent names side entries → NumberedFrom 1 (all_placed side entries)
+      → IsJustified names entries side connections → IsTaken names side entries connections
+  taken names side entries connections sent numbered justified =
+      let read = read_back names side entries sent numbered in
+      record {
+        read = read;
+        took = in_order read_body message_of_out names side entries connections read (λ out. refl)
+            justified;
+        gaps = λ from to now some apart low.
+            fills read_body message_of_out side entries from to now (λ out. refl) numbered some
+            apart low;
+      }
+
   left : (config : Config) (entries : List Entry) (client venue : List Connection)
       → Leaves Answers config.names entries client venue → IsLeft config entries client venue
   left config entries client venue leaves =
+      let names = config.names in
       let between = holds config entries client venue leaves.lawful leaves.client leaves.venue in
       record {
         leaves = leaves;
         took = λ shown sound.
-            let client_sent = are_sent bodies given_out config.names shown Client entries
-            leaves.lawful sound (between.in_order Client) in
-            let venue_sent = are_sent bodies given_out config.names shown Venue entries
-            leaves.lawful sound (between.in_order Venue) in
+            let client_takes = taken names Client entries client
+            (are_sent bodies given_out names shown Client entries leaves.lawful sound
+            (between.in_order Client)) (between.in_order Client) leaves.client in
             record {
-              client_took = in_order read_body message_of_out config.names Client entries client
-                  (read_back config.names Client entries client_sent (between.in_order Client))
-                  (λ out. refl) leaves.client;
-              venue_took = in_order read_body message_of_out config.names Venue entries venue
-                  (read_back config.names Venue entries venue_sent (between.in_order Venue))
-                  (λ out. refl) leaves.venue;
+              client = client_takes;
+              venue = taken names Venue entries venue
+                  (are_sent bodies given_out names shown Venue entries leaves.lawful sound
+                  (between.in_order Venue)) (between.in_order Venue) leaves.venue;
+              book = λ fronts arrive book.
+                  ap (book_of_taken book) (client_takes.took fronts arrive)
+                  ∙ books names entries leaves.lawful sound _ book;
             };
       }
 
@@ -128,10 +148,7 @@ module _ (begin : lives.LivesBegin Answers) (in_order : lives.JustifiedIsTakenIn
 
   module _ (lives_leave : lives.LivesLeave Answers) (lives_fail : lives.LivesThatFailLeave Answers)
       (config : Config) (before : List Entry) (client venue : List Connection) (rounds : ℕ)
-      (did : Done) (image : List ℕ) (shown : AreShown config.names)
-      (lawful : IsLawful Answers config.names before)
-      (jc : IsJustified config.names before Client client)
-      (jv : IsJustified config.names before Venue venue) where
+      (did : Done) (image : List ℕ) (from : GoesOnFrom config.names before client venue) where
     abbrev client_after : List Connection
     client_after = transcript_from client did.client
 
@@ -139,25 +156,23 @@ module _ (begin : lives.LivesBegin Answers) (in_order : lives.JustifiedIsTakenIn
     venue_after = transcript_from venue did.venue
 
     abbrev Stays : Type 0
-    Stays = (entries : List Entry) × IsJournal config.names entries image
-        × Leaves Answers config.names entries client_after venue_after
-        × AreTaken entries client_after venue_after
+    Stays = LeavesImage config.names image client_after venue_after
 
     stays : (entries : List Entry) → IsJournal config.names entries image
         → IsLeft config entries client_after venue_after → Stays
-    stays entries journal is = (
-      entries,
-      journal,
-      is.leaves,
-      is.took shown (sound_of config.names entries image journal),
-    )
+    stays entries journal is = record {
+      entries = entries;
+      journal = journal;
+      leaves = is.leaves;
+      taken = is.took from.shown (sound_of config.names entries image journal);
+    }
 
     -- nothing was done
     unbegun : (entries : List Entry) → DoesNotBegin did → entries ≡ before
         → IsLeft config entries client_after venue_after
     unbegun entries none same =
         let leaves : Leaves Answers config.names before client venue =
-        record { lawful = lawful; client = jc; venue = jv } in
+        record { lawful = from.lawful; client = from.client; venue = from.venue } in
         left config entries client_after venue_after
         (subst (λ l. Leaves Answers config.names l client_after venue_after) (sym same)
         (subst (λ l. Leaves Answers config.names before l venue_after)
@@ -177,15 +192,16 @@ module _ (begin : lives.LivesBegin Answers) (in_order : lives.JustifiedIsTakenIn
             → Stays
         by (inl none) = stays is.0 is.1 (unbegun is.0 none.0 none.1)
         by (inr life) = stays is.0 is.1
-            (broken_leave lives_fail end config before is.0 client venue rounds did lawful jc jv
-            life)
+            (broken_leave lives_fail end config before is.0 client venue rounds did from.lawful
+            from.client from.venue life)
 
     pub ends_leave : (end : LifeEnd) → Ends end config before rounds did image → Stays
     ends_leave ends.Done is = stays is.0 (inl is.1)
-        (ended_leave lives_leave config before is.0 client venue rounds did lawful jc jv is.2)
+        (ended_leave lives_leave config before is.0 client venue rounds did from.lawful from.client
+        from.venue is.2)
     ends_leave (ends.JournalRefused at) is = absurd is
     ends_leave (ends.NamesDiffer kept given) is = absurd is
     ends_leave ends.DiskFault is = stopped ends.DiskFault is
-    ends_leave ends.JournalFull is = stopped ends.JournalFull is
-    ends_leave (ends.NumbersSpent side) is = stopped (ends.NumbersSpent side) is
+    ends_leave ends.JournalFull is = stopped ends.JournalFull (is.0, is.1, inr is.2)
+    ends_leave (ends.NumbersSpent side) is = stopped (ends.NumbersSpent side) (is.0, is.1, inr is.2)
     ends_leave ends.NoMemory is = stopped ends.NoMemory is

@@ -11,3 +11,6 @@ mod Joining
 mod Beginning
 mod GivenOut
 mod Leaving
+mod Shown
+mod Watching
+mod TapsShown

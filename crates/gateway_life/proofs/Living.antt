@@ -18,9 +18,10 @@ use Rattle.pair_journal.specs.Laws.{HasOneReading}
 use Rattle.message_answers.specs.Answer.{Answers}
 use Rattle.gateway_config.specs.declared.config.Config.{Config}
 use Rattle.wires.specs.Told.{GrowsBy}
-use Rattle.wires.specs.Wire.{WireCall, HangUpGrows, is_within, within_after}
+use Rattle.wires.specs.Wire.{WireCall, Connection, HangUpGrows, is_within, within_after}
 use Rattle.life_events.specs.Sends.{hang_up_if}
 use Rattle.life_events.specs.Happens.{World}
+use Rattle.life_events.specs.Justified.{transcript_from}
 use Rattle.life_events.specs.Turn.{Reads, Lives}
 use Rattle.life_events.specs.Ends.{LifeFails}
 use Rattle.gateway_life.specs.declared.end.LifeEnd.{LifeEnd}
@@ -29,7 +30,9 @@ use Rattle.gateway_life.specs.State.{LifeState}
 use Rattle.gateway_life.specs.Ready.{LeavesOf, world_of}
 use Rattle.gateway_life.specs.Stepped.{Records, records, IsOfEvent, HasCauseOf}
 use Rattle.gateway_life.specs.Life.{Done, begun, moment_of, LivesToEnd, EndsBefore, hung_up, Ends}
-use Rattle.gateway_life.specs.Life.{IsJournal, LastEnds, counted_on}
+use Rattle.gateway_life.specs.Life.{IsJournal, LastEnds, counted_on, IsAnswered, IsIdle}
+use Rattle.gateway_life.specs.Life.{IsIdleIfRefused, Did}
+use Rattle.gateway_life.specs.Laws.{GoesOnFrom, LeavesImage, EndsLeave}
 use Rattle.gateway_life.specs.Rounds.{StoodFor, AreTold, LifeDone, LifeBroken, BeginsWith}
 use Rattle.gateway_life.specs.Rounds.{Begins, IsUnbegun, LifeWhole, LifeStopped}
 use Rattle.wire_sends.proofs.Sendings.{fold-append, grows_none}
@@ -114,8 +117,8 @@ one_more given m left all is some = omega (arith, length-append given (m ∷ [])
 -- ---- how a life begins
 
 module _ (one : (image : List ℕ) → HasOneReading image) where
-  same_journal : (names : Names) (bytes : List ℕ) (xs ys : List Entry) → IsJournal names xs bytes
-      → IsJournal names ys bytes → xs ≡ ys
+  pub same_journal : (names : Names) (bytes : List ℕ) (xs ys : List Entry)
+      → IsJournal names xs bytes → IsJournal names ys bytes → xs ≡ ys
   same_journal names bytes xs ys (inl a) (inl b) =
       cc (one bytes (Born names xs) (Born names ys) a b)
   same_journal names bytes xs ys (inl a) (inr b) =
@@ -135,7 +138,7 @@ module _ (one : (image : List ℕ) → HasOneReading image) where
   same_names names kept bytes xs ys (inr a) k = absurd (cc (one bytes (Born kept ys) Unborn k a.0))
 
   -- an image of a disk on which no life began
-  unbegun_image : (names : Names) (bytes image : List ℕ) (before : List Entry)
+  pub unbegun_image : (names : Names) (bytes image : List ℕ) (before : List Entry)
       → IsJournal names before bytes
       → (JournalOf bytes Unborn → JournalOf image Unborn ⊎ JournalOf image (Born names []))
       → ((kept : Names) (entries : List Entry)
@@ -239,8 +242,8 @@ module _ (one : (image : List ℕ) → HasOneReading image) where
     ends_broken (ends.JournalRefused at) of entries left ended = absurd of
     ends_broken (ends.NamesDiffer kept given) of entries left ended = absurd of
     ends_broken ends.DiskFault of entries left ended = (entries, inl left, inr ended)
-    ends_broken ends.JournalFull of entries left ended = (entries, inl left, inr ended)
-    ends_broken (ends.NumbersSpent side) of entries left ended = (entries, inl left, inr ended)
+    ends_broken ends.JournalFull of entries left ended = (entries, inl left, ended)
+    ends_broken (ends.NumbersSpent side) of entries left ended = (entries, inl left, ended)
     ends_broken ends.NoMemory of entries left ended = (entries, inl left, inr ended)
 
     unbegun_did : (rcm rvm : Option (List WireCall)) (kmm : Option (List ℕ))
@@ -314,25 +317,44 @@ module _ (one : (image : List ℕ) → HasOneReading image) where
 
 -- ---- the answer of a life
 
-image_of : (told : Option (List ℕ)) (left : List ℕ → Type 0) (P : List ℕ → Type 0)
+pub image_of : (told : Option (List ℕ)) (left : List ℕ → Type 0) (P : List ℕ → Type 0)
     (image : List ℕ) → is_some told ≡ true → ForSome told P → HasOneImage told left → left image
     → P image
 image_of None left P image is stands one here = absurd (cc is)
 image_of (Some b) left P image is stands one here =
     subst P (sym (one image here)) (stands b refl)
 
-module _ (one : (image : List ℕ) → HasOneReading image) where
-  -- what a whole life says of each image
-  abbrev pub EndsOf : LifeEnd → Config → ℕ → Option (List ℕ) → (i0 i1 : List ℕ → Type 0)
-      → (rc0 rc1 rv0 rv1 : Option (List WireCall)) → (km0 km1 : Option (List ℕ)) → Type 0
-  EndsOf end config rounds told i0 i1 rc0 rc1 rv0 rv1 km0 km1 = IfSome told (λ bytes.
-      Only bytes i0 → (before : List Entry) → IsJournal config.names before bytes →
-      (c0 c1 v0 v1 : List WireCall) → (k0 k1 : List ℕ) → (did : Done) →
-      rc0 ≡ Some c0 → rc1 ≡ Some c1 → rv0 ≡ Some v0 → rv1 ≡ Some v1 →
-      km0 ≡ Some k0 → km1 ≡ Some k1 →
-      c1 ≡ c0 ++ did.client → v1 ≡ v0 ++ did.venue → k1 ≡ k0 ++ did.moments →
-      (image : List ℕ) → i1 image → Ends end config before rounds did image)
+-- what a whole life says of each image
+abbrev pub EndsOf : LifeEnd → Config → ℕ → Option (List ℕ) → (i0 i1 : List ℕ → Type 0)
+    → (rc0 rc1 rv0 rv1 : Option (List WireCall)) → (km0 km1 : Option (List ℕ)) → Type 0
+EndsOf end config rounds told i0 i1 rc0 rc1 rv0 rv1 km0 km1 = IfSome told (λ bytes.
+    Only bytes i0 → (before : List Entry) → IsJournal config.names before bytes → (did : Done) →
+    Did rc0 rc1 rv0 rv1 km0 km1 did → (image : List ℕ) → i1 image →
+    Ends end config before rounds did image)
 
+-- and what each image is, where the journal at entry justified what was done before
+abbrev pub LeavesOfAll : Config → Option (List ℕ) → (i0 i1 : List ℕ → Type 0)
+    → (rc0 rc1 rv0 rv1 : Option (List WireCall)) → (km0 km1 : Option (List ℕ)) → Type 0
+LeavesOfAll config told i0 i1 rc0 rc1 rv0 rv1 km0 km1 = IfSome told (λ bytes.
+    Only bytes i0 → (before : List Entry) → IsJournal config.names before bytes →
+    (client_side venue_side : List Connection) →
+    GoesOnFrom config.names before client_side venue_side → (did : Done) →
+    Did rc0 rc1 rv0 rv1 km0 km1 did → (image : List ℕ) → i1 image →
+    LeavesImage config.names image (transcript_from client_side did.client)
+    (transcript_from venue_side did.venue))
+
+pub leaves_by : EndsLeave → (end : LifeEnd) (config : Config) (rounds : ℕ)
+    (told : Option (List ℕ)) (i0 i1 : List ℕ → Type 0)
+    (rc0 rc1 rv0 rv1 : Option (List WireCall)) (km0 km1 : Option (List ℕ))
+    → EndsOf end config rounds told i0 i1 rc0 rc1 rv0 rv1 km0 km1
+    → LeavesOfAll config told i0 i1 rc0 rc1 rv0 rv1 km0 km1
+leaves_by leave end config rounds None i0 i1 rc0 rc1 rv0 rv1 km0 km1 ends = tt
+leaves_by leave end config rounds (Some b) i0 i1 rc0 rc1 rv0 rv1 km0 km1 ends =
+    λ only before journal client_side venue_side from did d image here.
+    leave end config before client_side venue_side rounds did image from
+    (ends only before journal did d image here)
+
+module _ (one : (image : List ℕ) → HasOneReading image) where
   pub live_done : (config : Config) (rounds : ℕ) (t0 t1 : Option (List ℕ))
       (i0 i1 : List ℕ → Type 0) (rc0 rc1 rv0 rv1 : Option (List WireCall))
       (km0 km1 : Option (List ℕ)) → is_some t1 ≡ is_some t0
@@ -341,13 +363,15 @@ module _ (one : (image : List ℕ) → HasOneReading image) where
       → EndsOf ends.Done config rounds t0 i0 i1 rc0 rc1 rv0 rv1 km0 km1
   live_done config rounds None t1 i0 i1 rc0 rc1 rv0 rv1 km0 km1 told same life = tt
   live_done config rounds (Some b) t1 i0 i1 rc0 rc1 rv0 rv1 km0 km1 told same life =
-      λ only before journal c0 c1 v0 v1 k0 k1 did ec0 ec1 ev0 ev1 ek0 ek1 dc dv dk image here. (
+      λ only before journal did d image here. (
         life.entries,
         image_of t1 i1 (λ c. JournalOf c (Born config.names life.entries)) image told life.stands
             (same only) here,
-        ends_done one config rounds b image before journal did rc0 rc1 rv0 rv1 km0 km1 c0 c1 v0 v1
-            k0 k1 ec0 ec1 ev0 ev1 ek0 ek1 dc dv dk life.old life.before life.entries life.given
-            life.last life.begins life.each life.moments life.done,
+        ends_done one config rounds b image before journal did rc0 rc1 rv0 rv1 km0 km1 d.client.0
+            (d.client.0 ++ did.client) d.venue.0 (d.venue.0 ++ did.venue) d.clock.0
+            (d.clock.0 ++ did.moments) d.client.1 d.client.2 d.venue.1 d.venue.2 d.clock.1
+            d.clock.2 refl refl refl life.old life.before life.entries life.given life.last
+            life.begins life.each life.moments life.done,
       )
 
   pub live_ended : (end : LifeEnd) (config : Config) (rounds : ℕ) (told : Option (List ℕ))
@@ -359,18 +383,26 @@ module _ (one : (image : List ℕ) → HasOneReading image) where
       → EndsOf end config rounds told i0 i1 rc0 rc1 rv0 rv1 km0 km1
   live_ended end config rounds None i0 i1 rc0 rcm rc1 rv0 rvm rv1 km0 km1 cd vd ch vh how = tt
   live_ended end config rounds (Some b) i0 i1 rc0 rcm rc1 rv0 rvm rv1 km0 km1 cd vd ch vh (inl un) =
-      λ only before journal c0 c1 v0 v1 k0 k1 did ec0 ec1 ev0 ev1 ek0 ek1 dc dv dk image here.
-      ends_unbegun one config rounds b image before journal did rc0 rc1 rv0 rv1 km0 km1 c0 c1 v0 v1
-      k0 k1 ec0 ec1 ev0 ev1 ek0 ek1 dc dv dk end rcm rvm i0 i1 cd vd ch vh un only here
+      λ only before journal did d image here.
+      ends_unbegun one config rounds b image before journal did rc0 rc1 rv0 rv1 km0 km1 d.client.0
+      (d.client.0 ++ did.client) d.venue.0 (d.venue.0 ++ did.venue) d.clock.0
+      (d.clock.0 ++ did.moments) d.client.1 d.client.2 d.venue.1 d.venue.2 d.clock.1 d.clock.2
+      refl refl refl end rcm rvm i0 i1 cd vd ch vh un only here
   live_ended end config rounds (Some b) i0 i1 rc0 rcm rc1 rv0 rvm rv1 km0 km1 cd vd ch vh
       (inr stopped) =
-      λ only before journal c0 c1 v0 v1 k0 k1 did ec0 ec1 ev0 ev1 ek0 ek1 dc dv dk image here.
+      λ only before journal did d image here.
       let found = stopped.left only image here in
-      ends_broken one config rounds b image before journal did rc0 rc1 rv0 rv1 km0 km1 c0 c1 v0 v1
-      k0 k1 ec0 ec1 ev0 ev1 ek0 ek1 dc dv dk end stopped.of_event found.0 found.1
-      (ends_before one config rounds b image before journal did rc0 rc1 rv0 rv1 km0 km1 c0 c1 v0 v1
-      k0 k1 ec0 ec1 ev0 ev1 ek0 ek1 dc dv dk end rcm rvm stopped.old stopped.entries found.0
-      stopped.given stopped.last cd vd ch vh stopped.begins stopped.most stopped.moments found.2)
+      let c0 = d.client.0 in
+      let v0 = d.venue.0 in
+      let k0 = d.clock.0 in
+      ends_broken one config rounds b image before journal did rc0 rc1 rv0 rv1 km0 km1 c0
+      (c0 ++ did.client) v0 (v0 ++ did.venue) k0 (k0 ++ did.moments) d.client.1 d.client.2
+      d.venue.1 d.venue.2 d.clock.1 d.clock.2 refl refl refl end stopped.of_event found.0 found.1
+      (ends_before one config rounds b image before journal did rc0 rc1 rv0 rv1 km0 km1 c0
+      (c0 ++ did.client) v0 (v0 ++ did.venue) k0 (k0 ++ did.moments) d.client.1 d.client.2
+      d.venue.1 d.venue.2 d.clock.1 d.clock.2 refl refl refl end rcm rvm stopped.old
+      stopped.entries found.0 stopped.given stopped.last cd vd ch vh stopped.begins stopped.most
+      stopped.moments found.2)
 
 -- a life that did not begin
 pub lived_unbegun : {T : Type 0} (r : Result T LifeEnd) (error : LifeEnd) (names : Names)
@@ -447,19 +479,89 @@ lived_stopped (Err end) config config' rounds t0 t1 i0 i1 i2 old r0 r1 k0 k1 Q s
           broken) ends.4;
     })
 
--- an event does not refuse a journal
-pub not_of_event : {T : Type 0} (r : Result T LifeEnd) (at : ℕ) → IfErr r IsOfEvent
-    → r ≡ Err (ends.JournalRefused at) → ⊥
-not_of_event r at only is = subst (λ k. IfErr k IsOfEvent) is only
+-- ---- what is answered of a disk
 
-pub begin_refused : {T : Type 0} (r : Result T LifeEnd) (error : LifeEnd) (names : Names)
-    (told : Option (List ℕ)) (at : ℕ) → IsErrAnd r (λ e. e ≡ error)
-    → IfSome told (λ b. Begins {T = LifeState} (λ life. life.gate.journal.entries) names b
-    (Err error)) → r ≡ Err (ends.JournalRefused at)
-    → IfSome told (λ b. JournalOf b (Refused at))
-begin_refused (Ok value) error names told at is begins same = absurd is
-begin_refused (Err end) error names told at is begins same =
-    let found : end ≡ ends.JournalRefused at = cc same in
-    subst (λ (e : LifeEnd). IfSome told (λ b.
-    Begins {T = LifeState} (λ life. life.gate.journal.entries) names b (Err e)))
-    (sym is ∙ found) begins
+pub answered_done : (names : Names) (told : Option (List ℕ)) (entries : List Entry)
+    → IfSome told (IsJournal names entries) → IfSome told (IsAnswered ends.Done names)
+answered_done names None entries h = tt
+answered_done names (Some bytes) entries h = (entries, h)
+
+by_begin : (end : LifeEnd) (names : Names) (bytes : List ℕ)
+    → Begins {T = LifeState} (λ life. life.gate.journal.entries) names bytes (Err end)
+    → IsAnswered end names bytes
+by_begin ends.Done names bytes h = absurd h
+by_begin (ends.JournalRefused at) names bytes h = h
+by_begin (ends.NamesDiffer kept given) names bytes h = h
+by_begin ends.DiskFault names bytes h = tt
+by_begin ends.JournalFull names bytes h = absurd h
+by_begin (ends.NumbersSpent side) names bytes h = absurd h
+by_begin ends.NoMemory names bytes h = tt
+
+by_event : (end : LifeEnd) (names : Names) (bytes : List ℕ) (entries : List Entry) → IsOfEvent end
+    → IsJournal names entries bytes → IsAnswered end names bytes
+by_event ends.Done names bytes entries of h = absurd of
+by_event (ends.JournalRefused at) names bytes entries of h = absurd of
+by_event (ends.NamesDiffer kept given) names bytes entries of h = absurd of
+by_event ends.DiskFault names bytes entries of h = tt
+by_event ends.JournalFull names bytes entries of h = (entries, h)
+by_event (ends.NumbersSpent side) names bytes entries of h = (entries, h)
+by_event ends.NoMemory names bytes entries of h = tt
+
+pub answered_ended : (end : LifeEnd) (config : Config) (rounds : ℕ) (told : Option (List ℕ))
+    (i0 i1 : List ℕ → Type 0) (r0 r1 : Records) (k0 k1 : Option (List ℕ))
+    → IsUnbegun end config.names told i0 i1 r0 r1 k0 k1
+    ⊎ LifeStopped end config rounds told i0 i1 r0 r1 k0 k1
+    → IfSome told (IsAnswered end config.names)
+answered_ended end config rounds None i0 i1 r0 r1 k0 k1 how = tt
+answered_ended end config rounds (Some bytes) i0 i1 r0 r1 k0 k1 (inl un) =
+    by_begin end config.names bytes un.begins
+answered_ended end config rounds (Some bytes) i0 i1 r0 r1 k0 k1 (inr stopped) =
+    by_event end config.names bytes stopped.entries stopped.of_event stopped.begins.journal
+
+-- ---- nothing is done over a disk that is refused
+
+-- a hang up where no connection stands adds nothing
+hung_none : (a m b : Option (List WireCall)) → ForSome a (λ calls. is_within calls ≡ false)
+    → HangUpGrows m b → m ≡ a → GrowsBy a b []
+hung_none None m b down hung same =
+    subst (λ (r : Option (List WireCall)). HangUpGrows r b) same hung
+hung_none (Some a) m b down hung same =
+    subst (λ u. GrowsBy (Some a) b (hang_up_if u)) (down a refl)
+    (subst (λ (r : Option (List WireCall)). HangUpGrows r b) same hung)
+
+pub idle_ended : (end : LifeEnd) (config : Config) (rounds : ℕ) (told : Option (List ℕ))
+    (i0 i1 : List ℕ → Type 0) (rc0 rcm rc1 rv0 rvm rv1 : Option (List WireCall))
+    (km0 km1 : Option (List ℕ)) → ForSome rc0 (λ calls. is_within calls ≡ false)
+    → ForSome rv0 (λ calls. is_within calls ≡ false) → HangUpGrows rcm rc1 → HangUpGrows rvm rv1
+    → IsUnbegun end config.names told i0 i1 (records rc0 rv0) (records rcm rvm) km0 km1
+    ⊎ LifeStopped end config rounds told i0 i1 (records rc0 rv0) (records rcm rvm) km0 km1
+    → IsIdleIfRefused end rc0 rc1 rv0 rv1 km0 km1
+idle_ended end config rounds told i0 i1 rc0 rcm rc1 rv0 rvm rv1 km0 km1 cd vd ch vh (inl un) =
+    at end
+  where
+    idle : IsIdle rc0 rc1 rv0 rv1 km0 km1
+    idle = record {
+      client = hung_none rc0 rcm rc1 cd ch (ap (λ (r : Records). r.client) un.wires);
+      venue = hung_none rv0 rvm rv1 vd vh (ap (λ (r : Records). r.venue) un.wires);
+      clock = un.clock;
+    }
+
+    at : (e : LifeEnd) → IsIdleIfRefused e rc0 rc1 rv0 rv1 km0 km1
+    at ends.Done = tt
+    at (ends.JournalRefused place) = idle
+    at (ends.NamesDiffer kept given) = idle
+    at ends.DiskFault = tt
+    at ends.JournalFull = tt
+    at (ends.NumbersSpent side) = tt
+    at ends.NoMemory = tt
+idle_ended end config rounds told i0 i1 rc0 rcm rc1 rv0 rvm rv1 km0 km1 cd vd ch vh (inr stopped) =
+    at end stopped.of_event
+  where
+    at : (e : LifeEnd) → IsOfEvent e → IsIdleIfRefused e rc0 rc1 rv0 rv1 km0 km1
+    at ends.Done of = tt
+    at (ends.JournalRefused place) of = absurd of
+    at (ends.NamesDiffer kept given) of = absurd of
+    at ends.DiskFault of = tt
+    at ends.JournalFull of = tt
+    at (ends.NumbersSpent side) of = tt
+    at ends.NoMemory of = tt

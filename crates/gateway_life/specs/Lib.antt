@@ -8,3 +8,4 @@ pub mod Turned
 pub mod Life
 pub mod Rounds
 pub mod Laws
+pub mod Watched

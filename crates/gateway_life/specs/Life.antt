@@ -1,17 +1,19 @@
 -- Own: one life over the records of its wires and of its clock; docs/DEFINITIONS.md, "A life".
-use Rattle.std.specs.Prelude.{◌≡◌, ◌⊎◌, ℕ, zero, suc, ◌≤◌, false, List, [], ◌∷◌, ◌++◌, map, length}
-use Rattle.std.specs.Prelude.{min, Result, Ok, Err, ⊤}
+use Rattle.std.specs.Prelude.{◌≡◌, ◌≢◌, ◌⊎◌, ℕ, zero, suc, ◌≤◌, false, List, [], ◌∷◌, ◌++◌, map}
+use Rattle.std.specs.Prelude.{length, min, Some, Result, Ok, Err, ⊤}
+use Rattle.std.specs.declared.option.Option.{Option}
 use mathlib.Core.Logic.{inl, inr}
 use Rattle.order_meaning.specs.declared.names.Names.{Names}
 use Rattle.pair_journal.specs.declared.TheConstants.{MAX_AT}
 use Rattle.pair_journal.specs.declared.entry.Entry.{Entry}
-use Rattle.pair_journal.specs.Journal.{JournalOf, Unborn, Born}
+use Rattle.pair_journal.specs.Journal.{JournalOf, Unborn, Born, Refused}
 use Rattle.outside.specs.Causes.{next_count}
 use Rattle.order_meaning.specs.declared.Side.TheVariants.{Client, Venue}
 use Rattle.event_decisions.specs.Event.{Event, End}
 use Rattle.message_answers.specs.Answer.{Answers}
 use Rattle.gateway_config.specs.declared.config.Config.{Config}
 use Rattle.gateway_core.specs.State.{loaded, sessions_in}
+use Rattle.wires.specs.Told.{GrowsBy}
 use Rattle.wires.specs.Wire.{WireCall, is_within}
 use Rattle.life_events.specs.Sends.{hang_up_if}
 use Rattle.life_events.specs.Happens.{World, Added}
@@ -116,17 +118,65 @@ abbrev pub IsJournal : Names → List Entry → List ℕ → Type 0
 IsJournal names entries image =
     JournalOf image (Born names entries) ⊎ (JournalOf image Unborn × (entries ≡ []))
 
+-- an image that an event left which ended the life
+abbrev pub EventEnds : LifeEnd → Config → List Entry → (rounds : ℕ) → Done → List ℕ → Type 0
+EventEnds end config before rounds did image = (entries : List Entry)
+    × IsJournal config.names entries image × EndsBefore end config before rounds did entries
+
 -- HOW A LIFE ENDS by its answer, of one image that the disk may leave: over a journal of the
--- configuration's names with these entries, or over an unborn disk.
+-- configuration's names with these entries, or over an unborn disk. Only a disk fault or want of
+-- memory may come before it begins.
 abbrev pub Ends : LifeEnd → Config → List Entry → (rounds : ℕ) → Done → List ℕ → Type 0
 Ends ends.Done config before rounds did image = (entries : List Entry)
     × JournalOf image (Born config.names entries)
     × LivesToEnd config before rounds did entries
 Ends (ends.JournalRefused at) config before rounds did image = ⊥
 Ends (ends.NamesDiffer kept given) config before rounds did image = ⊥
+Ends ends.JournalFull config before rounds did image =
+    EventEnds ends.JournalFull config before rounds did image
+Ends (ends.NumbersSpent side) config before rounds did image =
+    EventEnds (ends.NumbersSpent side) config before rounds did image
 Ends end config before rounds did image = (entries : List Entry)
     × IsJournal config.names entries image
     × ((DoesNotBegin did × (entries ≡ before)) ⊎ EndsBefore end config before rounds did entries)
+
+-- WHAT IS ANSWERED OF A DISK by its bytes: refused where they are no journal, or one of other
+-- names; else a life began over a journal of these names, or over an unborn disk. A disk fault and
+-- want of memory say nothing of them.
+abbrev pub IsAnswered : LifeEnd → Names → List ℕ → Type 0
+IsAnswered (ends.JournalRefused at) names bytes = JournalOf bytes (Refused at)
+IsAnswered (ends.NamesDiffer kept given) names bytes = (given ≡ names) × (kept ≢ names)
+    × (others : List Entry) × JournalOf bytes (Born kept others)
+IsAnswered ends.DiskFault names bytes = Unit {0}
+IsAnswered ends.NoMemory names bytes = Unit {0}
+IsAnswered end names bytes = (entries : List Entry) × IsJournal names entries bytes
+
+-- these were added to a list that is told
+abbrev pub Adds : {A : Type 0} → Option (List A) → Option (List A) → List A → Type 0
+Adds {A} old new more = (before : List A) × (old ≡ Some before) × (new ≡ Some (before ++ more))
+
+-- what a life did, where both wires and the clock tell it
+pub record Did (client0 client1 venue0 venue1 : Option (List WireCall))
+    (clock0 clock1 : Option (List ℕ)) (did : Done) : Type 0 where
+  pub client : Adds client0 client1 did.client
+  pub venue : Adds venue0 venue1 did.venue
+  pub clock : Adds clock0 clock1 did.moments
+
+-- nothing was done on either wire, and the clock was not read
+pub record IsIdle (client0 client1 venue0 venue1 : Option (List WireCall))
+    (clock0 clock1 : Option (List ℕ)) : Type 0 where
+  pub client : GrowsBy client0 client1 []
+  pub venue : GrowsBy venue0 venue1 []
+  pub clock : clock1 ≡ clock0
+
+-- the same where the disk was refused
+abbrev pub IsIdleIfRefused : LifeEnd → (client0 client1 venue0 venue1 : Option (List WireCall))
+    → (clock0 clock1 : Option (List ℕ)) → Type 0
+IsIdleIfRefused (ends.JournalRefused at) client0 client1 venue0 venue1 clock0 clock1 =
+    IsIdle client0 client1 venue0 venue1 clock0 clock1
+IsIdleIfRefused (ends.NamesDiffer kept given) client0 client1 venue0 venue1 clock0 clock1 =
+    IsIdle client0 client1 venue0 venue1 clock0 clock1
+IsIdleIfRefused end client0 client1 venue0 venue1 clock0 clock1 = Unit {0}
 
 -- the answer of a whole life as that of its parts
 abbrev pub ended : LifeEnd → Result ⊤ LifeEnd

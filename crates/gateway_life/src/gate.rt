@@ -25,6 +25,7 @@ ghost use Rattle.gateway_life.specs.Ready.{IsReady, Ready, world_of, made_of, Le
 ghost use Rattle.gateway_life.specs.Stepped.{Stepped, MayStand, Broken, IsWhy, HasCauseOf, records};
 ghost use Rattle.gateway_life.specs.Committed.{OldOrNew, IsFull};
 ghost use Rattle.gateway_life.specs.Rounds.{Begins};
+ghost use Rattle.gateway_life.specs.Watched.{Watched, WereCommitted, state_by};
 ghost use Rattle.gateway_life.specs.Stepped.{IsOfEvent, IsNotDone};
 
 use crate::LifeEnd;
@@ -388,6 +389,12 @@ impl Gate {
             (records (C.recorded client.new) (V.recorded venue.new)))) }
         ensures why { IfErr result (λ end. IsWhy end self.old.core.config (world_of (seen self.old))
             (event_of event.now) now) }
+        ensures taps { Watched (state_by has_failed entries tally counts_all)
+            taps.old.items taps.new.items self.old.journal.entries
+            self.new.journal.entries }
+        ensures kept { IfErr result (λ end. LeavesOf (D.bytes disk.old) (D.image disk.old)
+            (D.image disk.new) self.old.core.config.names
+            (WereCommitted end self.new.journal.entries)) }
         ensures only { IfErr result IsOfEvent }
         ensures told { is_some (D.bytes disk.new) ≡ is_some (D.bytes disk.old) }
         ensures cause { HasCauseOf (D.faults disk.old) (D.faults disk.new) result }
@@ -395,9 +402,7 @@ impl Gate {
         ensures venue_polls { V.polls venue.new ≡ V.polls venue.old }
     {
         let made = self.decide(disk, event, now)?;
-        if let Some(entry) = &made.entry {
-            show(taps, entry);
-        }
+        show(taps, &made.entry);
         let names = self.journal.names();
         self.act(disk, client, venue, &names, event, &made, now)?;
         Ok(())

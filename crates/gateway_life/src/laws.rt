@@ -1,7 +1,9 @@
 //! What holds of every life. Each law is a contract: its function does nothing else.
 
 ghost use Rattle.gateway_life.specs.Laws.{LivesLeave, LivesThatEndLeave, EndsLeave};
+ghost use Rattle.gateway_life.specs.Laws.{FirstLivesGoOn, NextLivesGoOn, ReadNamesAreShown};
 
+use client_books::laws::client_books_follow;
 use event_decisions::laws::bodies_are_read;
 use life_events::{Answering, laws as lives};
 use message_answers::laws::answers_are_given_out;
@@ -17,8 +19,10 @@ impl Answering for Messages {
 }
 
 /// A life leaves a lawful journal, which justifies all that was written and read, and on each side
-/// a receiver that took the beginning of what was committed to it, each message once and in order.
-/// Each message of such a journal can be sent: what a session says, and each answer.
+/// a receiver that took the beginning of what was committed to it, each message once and in order,
+/// and whose gaps are filled by what is sent again. The client's book of orders is that of the
+/// venue's reports. Each message of such a journal can be sent: what a session says, and each
+/// answer.
 pub fn lives_leave()
     ensures ended { LivesLeave }
     ensures broken { LivesThatEndLeave }
@@ -28,8 +32,22 @@ pub fn lives_leave()
     answers_are_given_out();
     lives::lives_begin::<Messages>();
     lives::stops_leave::<Messages>();
+    client_books_follow();
     lives::justified_transcripts_are_taken_in_order();
+    lives::repeats_fill_gaps();
     lives::what_is_sent_is_read();
     lives::lives_leave::<Messages>();
     lives::lives_that_fail_leave::<Messages>();
 }
+
+/// The names of a configuration that was read are printable, so a header can show them.
+pub fn read_names_are_shown()
+    ensures { ReadNamesAreShown }
+{}
+
+/// Lives follow one another: the first goes on from a journal without entries and nothing that was
+/// written or read, and each other from what the one before it left.
+pub fn lives_follow()
+    ensures first { FirstLivesGoOn }
+    ensures next { NextLivesGoOn }
+{}

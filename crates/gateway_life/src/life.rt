@@ -1,28 +1,32 @@
 //! A whole life, and its parts.
 
-ghost use Rattle.std.specs.Prelude.{◌≡◌, ◌⊎◌, ◌≤◌, ◌++◌, ℕ, List, false, Some, Err, IfOk, IfErr};
+ghost use Rattle.std.specs.Prelude.{◌≡◌, ◌⊎◌, ◌≤◌, ◌++◌, ℕ, List, false, Some, IfOk, IfErr};
 ghost use Rattle.std.specs.Prelude.{IfSome, OnOk, None, is_some, [], ◌∷◌, length};
 ghost use Rattle.std.specs.Option.{ForSome};
 ghost use Rattle.outside.specs.Causes.{next_count};
 ghost use Rattle.outside.specs.Disk.{HasOneImage, Only};
 ghost use Rattle.wires.specs.Told.{GrowsBy};
-ghost use Rattle.wires.specs.Wire.{WireCall, is_within};
+ghost use Rattle.wires.specs.Wire.{Connection, is_within};
+ghost use Rattle.life_events.specs.Justified.{transcript_from};
 ghost use Rattle.pair_journal.specs.declared.entry.Entry.{Entry};
 ghost use Rattle.pair_journal.specs.Calls.{BornOrNot};
-ghost use Rattle.pair_journal.specs.Journal.{JournalOf, Born, Refused};
+ghost use Rattle.pair_journal.specs.Journal.{JournalOf, Born};
 ghost use Rattle.wire_sends.specs.Sent.{Agrees};
 ghost use Rattle.gateway_life.specs.Stepped.{HasCauseOf, AllStepped, Failed, records};
 ghost use Rattle.gateway_life.specs.Life.{Done, IsJournal, Ends, ended, counted_on, begun};
-ghost use Rattle.gateway_life.specs.Life.{moment_of};
+ghost use Rattle.gateway_life.specs.Life.{moment_of, IsAnswered, IsIdleIfRefused, Did};
+ghost use Rattle.gateway_life.specs.Laws.{GoesOnFrom, LeavesImage};
 ghost use Rattle.gateway_life.specs.Ready.{LeavesOf, world_of};
 ghost use Rattle.gateway_life.specs.Rounds.{IsLive, RoundDone, RoundBroken, ends_of, Begins};
 ghost use Rattle.gateway_life.specs.Rounds.{RoundsDone, LifeDone, LifeBroken, LifeWhole};
 ghost use Rattle.gateway_life.specs.Rounds.{LifeStopped};
 ghost use Rattle.gateway_life.specs.Stepped.{IsOfEvent, IsNotDone};
+ghost use Rattle.gateway_life.specs.Watched.{Watched, WereCommitted, TapsSaw, end_in, state_by};
 ghost use Rattle.gateway_life.specs.Rounds.{IsUnbegun};
 
 use crate::LifeEnd;
 use crate::gate::Gate;
+use crate::laws::lives_leave;
 use crate::turn::{client_turn, venue_turn};
 use drop_taps::Tap;
 use event_decisions::Event;
@@ -136,6 +140,12 @@ impl Life {
         ensures venue_polls { OnOk result (V.polls venue.new ≡ next_count (V.polls venue.old)) }
         ensures durable { OnOk result (HasOneImage (D.bytes disk.old) (D.image disk.old) →
             HasOneImage (D.bytes disk.new) (D.image disk.new)) }
+        ensures taps { Watched (state_by has_failed entries tally counts_all)
+            taps.old.items taps.new.items self.old.gate.journal.entries
+            self.new.gate.journal.entries }
+        ensures kept { IfErr result (λ end. LeavesOf (D.bytes disk.old) (D.image disk.old)
+            (D.image disk.new) self.old.gate.core.config.names
+            (WereCommitted end self.new.gate.journal.entries)) }
         ensures only { IfErr result IsOfEvent }
         ensures told { is_some (D.bytes disk.new) ≡ is_some (D.bytes disk.old) }
         ensures cause { HasCauseOf (D.faults disk.old) (D.faults disk.new) result }
@@ -196,6 +206,12 @@ impl Life {
         ensures venue_polls { V.polls venue.new ≡ V.polls venue.old }
         ensures durable { OnOk result (HasOneImage (D.bytes disk.old) (D.image disk.old) →
             HasOneImage (D.bytes disk.new) (D.image disk.new)) }
+        ensures taps { Watched (state_by has_failed entries tally counts_all)
+            taps.old.items taps.new.items self.old.gate.journal.entries
+            self.new.gate.journal.entries }
+        ensures kept { IfErr result (λ end. LeavesOf (D.bytes disk.old) (D.image disk.old)
+            (D.image disk.new) self.old.gate.core.config.names
+            (WereCommitted end self.new.gate.journal.entries)) }
         ensures only { IfErr result IsOfEvent }
         ensures told { is_some (D.bytes disk.new) ≡ is_some (D.bytes disk.old) }
         ensures cause { HasCauseOf (D.faults disk.old) (D.faults disk.new) result }
@@ -240,6 +256,12 @@ impl Life {
             (V.polls venue.new ≡ counted_on rounds (V.polls venue.old)) }
         ensures durable { OnOk result (HasOneImage (D.bytes disk.old) (D.image disk.old) →
             HasOneImage (D.bytes disk.new) (D.image disk.new)) }
+        ensures taps { Watched (state_by has_failed entries tally counts_all)
+            taps.old.items taps.new.items self.old.gate.journal.entries
+            self.new.gate.journal.entries }
+        ensures kept { IfErr result (λ end. LeavesOf (D.bytes disk.old) (D.image disk.old)
+            (D.image disk.new) self.old.gate.core.config.names
+            (WereCommitted end self.new.gate.journal.entries)) }
         ensures only { IfErr result IsOfEvent }
         ensures told { is_some (D.bytes disk.new) ≡ is_some (D.bytes disk.old) }
         ensures cause { HasCauseOf (D.faults disk.old) (D.faults disk.new) result }
@@ -285,6 +307,12 @@ impl Life {
             (V.polls venue.new ≡ counted_on rounds (V.polls venue.old)) }
         ensures durable { OnOk result (HasOneImage (D.bytes disk.old) (D.image disk.old) →
             HasOneImage (D.bytes disk.new) (D.image disk.new)) }
+        ensures taps { Watched (state_by has_failed entries tally counts_all)
+            taps.old.items taps.new.items self.old.gate.journal.entries
+            self.new.gate.journal.entries }
+        ensures kept { IfErr result (λ end. LeavesOf (D.bytes disk.old) (D.image disk.old)
+            (D.image disk.new) self.old.gate.core.config.names
+            (WereCommitted end self.new.gate.journal.entries)) }
         ensures only { IfErr result IsOfEvent }
         ensures told { is_some (D.bytes disk.new) ≡ is_some (D.bytes disk.old) }
         ensures cause { HasCauseOf (D.faults disk.old) (D.faults disk.new) result }
@@ -326,12 +354,14 @@ fn lived<D: Disk, C: Wire, V: Wire, K: Clock>(
     ensures venue_polls { OnOk result (V.polls venue.new ≡ counted_on rounds (V.polls venue.old)) }
     ensures durable { OnOk result (HasOneImage (D.bytes disk.old) (D.image disk.old) →
         HasOneImage (D.bytes disk.new) (D.image disk.new)) }
+    ensures taps { TapsSaw (state_by has_failed entries tally counts_all) taps.old.items
+        taps.new.items config.now.names (D.bytes disk.old) (D.image disk.old)
+        (D.image disk.new) (end_in result) }
     ensures only { IfErr result IsNotDone }
-    ensures refused { (at : ℕ) → result ≡ Err (LifeEnd.JournalRefused at) →
-        IfSome (D.bytes disk.old) (λ bytes. JournalOf bytes (Refused at)) }
     ensures told { is_some (D.bytes disk.new) ≡ is_some (D.bytes disk.old) }
     ensures cause { HasCauseOf (D.faults disk.old) (D.faults disk.new) result }
 {
+    an_image_has_one_reading();
     let mut life = Life::begin(alloc, config, disk)?;
     life.whole(disk, client, venue, clock, taps, rounds)
 }
@@ -354,17 +384,34 @@ pub fn live<D: Disk, C: Wire, V: Wire, K: Clock>(
     // from the one at entry by the events of this life, and what was done on the wires is what
     // these events call for.
     ensures ends { IfSome (D.bytes disk.old) (λ bytes. Only bytes (D.image disk.old) →
-        (before : List Entry) → IsJournal config.now.names before bytes →
-        (c0 c1 v0 v1 : List WireCall) → (k0 k1 : List ℕ) → (did : Done) →
-        C.recorded client.old ≡ Some c0 → C.recorded client.new ≡ Some c1 →
-        V.recorded venue.old ≡ Some v0 → V.recorded venue.new ≡ Some v1 →
-        K.moments clock.old ≡ Some k0 → K.moments clock.new ≡ Some k1 →
-        c1 ≡ c0 ++ did.client → v1 ≡ v0 ++ did.venue → k1 ≡ k0 ++ did.moments →
+        (before : List Entry) → IsJournal config.now.names before bytes → (did : Done) →
+        Did (C.recorded client.old) (C.recorded client.new) (V.recorded venue.old)
+        (V.recorded venue.new) (K.moments clock.old) (K.moments clock.new) did →
         (image : List ℕ) → D.image disk.new image →
         Ends result config.now before rounds did image) }
+    // Where the journal at entry is lawful and justifies what was written and read before, so is
+    // each image, with what was written and read in this life; and whatever of it arrives, each
+    // side takes the beginning of what was committed to it, each message once and in order, and
+    // the client's book of orders is that of the venue's reports.
+    ensures leaves { IfSome (D.bytes disk.old) (λ bytes. Only bytes (D.image disk.old) →
+        (before : List Entry) → IsJournal config.now.names before bytes →
+        (client_side venue_side : List Connection) →
+        GoesOnFrom config.now.names before client_side venue_side → (did : Done) →
+        Did (C.recorded client.old) (C.recorded client.new) (V.recorded venue.old)
+        (V.recorded venue.new) (K.moments clock.old) (K.moments clock.new) did →
+        (image : List ℕ) → D.image disk.new image →
+        LeavesImage config.now.names image (transcript_from client_side did.client)
+        (transcript_from venue_side did.venue)) }
     // What is no journal, or one of other names, is refused, and nothing is done.
-    ensures refused { (at : ℕ) → result ≡ LifeEnd.JournalRefused at →
-        IfSome (D.bytes disk.old) (λ bytes. JournalOf bytes (Refused at)) }
+    ensures begins { IfSome (D.bytes disk.old) (IsAnswered result config.now.names) }
+    ensures idle { IsIdleIfRefused result (C.recorded client.old) (C.recorded client.new)
+        (V.recorded venue.old) (V.recorded venue.new)
+        (K.moments clock.old) (K.moments clock.new) }
+    // Each tap saw the entries that this life committed, in order, and no others: each image is the
+    // journal at entry and then what was shown. Only a disk fault may leave one more, not shown.
+    ensures taps { TapsSaw (state_by has_failed entries tally counts_all) taps.old.items
+        taps.new.items config.now.names (D.bytes disk.old) (D.image disk.old)
+        (D.image disk.new) result }
     // Each wire was polled once a round.
     ensures client_polls { result ≡ LifeEnd.Done →
         C.polls client.new ≡ counted_on rounds (C.polls client.old) }
@@ -373,6 +420,7 @@ pub fn live<D: Disk, C: Wire, V: Wire, K: Clock>(
     ensures cause { HasCauseOf (D.faults disk.old) (D.faults disk.new) (ended result) }
 {
     an_image_has_one_reading();
+    lives_leave();
     match lived(alloc, config, disk, client, venue, clock, taps, rounds) {
         Ok(()) => LifeEnd::Done,
         Err(end) => {

@@ -22,6 +22,7 @@ ghost use Rattle.gateway_life.specs.Stepped.{SteppedOrNot, BrokenIf, HasCauseOf,
 ghost use Rattle.gateway_life.specs.Turned.{IsDrained, TakenAll, TakenPart, Arrived, ArrivedPart};
 ghost use Rattle.gateway_life.specs.Turned.{Turned, TurnBroken};
 ghost use Rattle.gateway_life.specs.Stepped.{IsOfEvent};
+ghost use Rattle.gateway_life.specs.Watched.{Watched, WereCommitted, state_by};
 
 use crate::LifeEnd;
 use crate::gate::Gate;
@@ -73,6 +74,12 @@ fn frame_event<D: Disk, C: Wire, V: Wire>(
         (world_of (seen gate.old)) (Frame side body.now) now
         (records (C.recorded client.old) (V.recorded venue.old))
         (records (C.recorded client.new) (V.recorded venue.new)))) }
+    ensures taps { Watched (state_by has_failed entries tally counts_all)
+        taps.old.items taps.new.items gate.old.journal.entries
+        gate.new.journal.entries }
+    ensures kept { IfErr result (λ end. LeavesOf (D.bytes disk.old) (D.image disk.old)
+        (D.image disk.new) gate.old.core.config.names
+        (WereCommitted end gate.new.journal.entries)) }
     ensures only { IfErr result IsOfEvent }
     ensures told { is_some (D.bytes disk.new) ≡ is_some (D.bytes disk.old) }
     ensures cause { HasCauseOf (D.faults disk.old) (D.faults disk.new) result }
@@ -119,6 +126,12 @@ fn take_frames<D: Disk, C: Wire, V: Wire>(
         gate.old.core.config (world_of (seen gate.old)) side now
         (records (C.recorded client.old) (V.recorded venue.old))
         (records (C.recorded client.new) (V.recorded venue.new)))) }
+    ensures taps { Watched (state_by has_failed entries tally counts_all)
+        taps.old.items taps.new.items gate.old.journal.entries
+        gate.new.journal.entries }
+    ensures kept { IfErr result (λ end. LeavesOf (D.bytes disk.old) (D.image disk.old)
+        (D.image disk.new) gate.old.core.config.names
+        (WereCommitted end gate.new.journal.entries)) }
     ensures only { IfErr result IsOfEvent }
     ensures told { is_some (D.bytes disk.new) ≡ is_some (D.bytes disk.old) }
     ensures cause { HasCauseOf (D.faults disk.old) (D.faults disk.new) result }
@@ -177,6 +190,12 @@ fn arrived<D: Disk, C: Wire, V: Wire>(
         (came_of found buf.now) gate.old.core.config (world_of (seen gate.old)) side now
         (records (C.recorded client.old) (V.recorded venue.old))
         (records (C.recorded client.new) (V.recorded venue.new)))) }
+    ensures taps { Watched (state_by has_failed entries tally counts_all)
+        taps.old.items taps.new.items gate.old.journal.entries
+        gate.new.journal.entries }
+    ensures kept { IfErr result (λ end. LeavesOf (D.bytes disk.old) (D.image disk.old)
+        (D.image disk.new) gate.old.core.config.names
+        (WereCommitted end gate.new.journal.entries)) }
     ensures only { IfErr result IsOfEvent }
     ensures told { is_some (D.bytes disk.new) ≡ is_some (D.bytes disk.old) }
     ensures cause { HasCauseOf (D.faults disk.old) (D.faults disk.new) result }
@@ -286,6 +305,12 @@ pub(crate) fn client_turn<D: Disk, C: Wire, V: Wire>(
         framer.old gate.old.core.config (world_of (seen gate.old)) now
         (records (C.recorded client.old) (V.recorded venue.old))
         (records (C.recorded client.new) (V.recorded venue.new)))) }
+    ensures taps { Watched (state_by has_failed entries tally counts_all)
+        taps.old.items taps.new.items gate.old.journal.entries
+        gate.new.journal.entries }
+    ensures kept { IfErr result (λ end. LeavesOf (D.bytes disk.old) (D.image disk.old)
+        (D.image disk.new) gate.old.core.config.names
+        (WereCommitted end gate.new.journal.entries)) }
     ensures only { IfErr result IsOfEvent }
     ensures told { is_some (D.bytes disk.new) ≡ is_some (D.bytes disk.old) }
     ensures cause { HasCauseOf (D.faults disk.old) (D.faults disk.new) result }
@@ -338,6 +363,12 @@ pub(crate) fn venue_turn<D: Disk, C: Wire, V: Wire>(
         framer.old gate.old.core.config (world_of (seen gate.old)) now
         (records (C.recorded client.old) (V.recorded venue.old))
         (records (C.recorded client.new) (V.recorded venue.new)))) }
+    ensures taps { Watched (state_by has_failed entries tally counts_all)
+        taps.old.items taps.new.items gate.old.journal.entries
+        gate.new.journal.entries }
+    ensures kept { IfErr result (λ end. LeavesOf (D.bytes disk.old) (D.image disk.old)
+        (D.image disk.new) gate.old.core.config.names
+        (WereCommitted end gate.new.journal.entries)) }
     ensures only { IfErr result IsOfEvent }
     ensures told { is_some (D.bytes disk.new) ≡ is_some (D.bytes disk.old) }
     ensures cause { HasCauseOf (D.faults disk.old) (D.faults disk.new) result }

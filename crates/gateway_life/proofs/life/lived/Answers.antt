@@ -1,5 +1,7 @@
-use Rattle.gateway_life.proofs.Living.{lived_unbegun, lived_whole, lived_stopped, begin_refused}
-use Rattle.gateway_life.proofs.Living.{not_of_event}
+use Rattle.std.proofs.Common.{ap}
+use Rattle.gateway_config.specs.declared.config.Config.{Config}
+use Rattle.gateway_life.proofs.Living.{lived_unbegun, lived_whole, lived_stopped}
+use Rattle.gateway_life.proofs.TapsShown.{taps_unbegun, taps_whole}
 use Rattle.gateway_life.proofs.life.lived.Goals as goal
 
 pub returns-in_err-life-clause-ends : goal.returns-in_err-life-clause-ends
@@ -7,11 +9,6 @@ returns-in_err-life-clause-ends g c =
     lived_unbegun c.from_residual.result c.in_err-life.field-0.0 c.args.config.now.names
     (g.D.Disk.bytes c.args.disk.now) _ _ _ _ _ c.from_residual.ensures.1
     c.in_err-life.ensures.begins c.begin.ensures.images
-
-pub returns-in_err-life-clause-refused : goal.returns-in_err-life-clause-refused
-returns-in_err-life-clause-refused g c = λ at is.
-    begin_refused c.from_residual.result c.in_err-life.field-0.0 c.args.config.now.names
-    (g.D.Disk.bytes c.args.disk.now) at c.from_residual.ensures.1 c.in_err-life.ensures.begins is
 
 pub returns-clause-done : goal.returns-clause-done
 returns-clause-done g c =
@@ -27,6 +24,17 @@ returns-clause-ends g c =
     _ _ _ c.in_ok-life.ensures.config c.in_ok-life.ensures.begun c.in_ok-life.ensures.begins
     c.begin.ensures.told c.in_ok-life.ensures.durable c.whole.ensures.only c.whole.ensures.ends
 
-pub returns-clause-refused : goal.returns-clause-refused
-returns-clause-refused g c = λ at is.
-    absurd (not_of_event c.whole.result at c.whole.ensures.only is)
+pub returns-in_err-life-clause-taps : goal.returns-in_err-life-clause-taps
+returns-in_err-life-clause-taps g c =
+    taps_unbegun c.an_image_has_one_reading.ensures _ c.from_residual.result c.args.taps.now.items
+    c.args.config.now.names (g.D.Disk.bytes c.args.disk.now) _ _ c.begin.ensures.images
+
+pub returns-clause-taps : goal.returns-clause-taps
+returns-clause-taps g c =
+    taps_whole c.an_image_has_one_reading.ensures _ c.whole.result _ _ c.args.config.now.names
+    c.in_ok-life.life.gate.core.config.names (g.D.Disk.bytes c.args.disk.now)
+    (g.D.Disk.bytes c.begin.new.disk) (g.D.Disk.bytes c.whole.new.disk) _ _ _ c.in_ok-life.life
+    c.whole.new.self (ap (λ (k : Config). k.names) c.in_ok-life.ensures.config)
+    c.in_ok-life.ensures.begins c.begin.ensures.told c.in_ok-life.ensures.durable
+    c.whole.ensures.told c.whole.ensures.durable c.whole.ensures.stands c.whole.ensures.kept
+    c.whole.ensures.only c.whole.ensures.taps

@@ -12,6 +12,7 @@ use Rattle.gateway_life.proofs.Polling.{part_broken, part_closed, part_opened, f
 use Rattle.gateway_life.proofs.Polling.{found_bytes}
 use Rattle.gateway_life.proofs.Polling.{part_bytes}
 use Rattle.gateway_life.proofs.Turning.{arrived_as, arrived_nothing}
+use Rattle.gateway_life.proofs.Watching.{watched_none}
 use Rattle.gateway_life.proofs.turn.arrived.Goals as goal
 
 pub returns-in-Err-clause-arrived : goal.returns-in-Err-clause-arrived
@@ -157,3 +158,7 @@ returns-in-Bytes-clause-ends g c =
     refl (λ one. one) refl
     (λ end xs. part_bytes config c.args.side c.args.framer.now c.feed.new.self w c.args.now r0 r1
     came bytes is c.requires.drained.kind feed end xs kind) c.take_frames.ensures.ends
+
+pub returns-in-Nothing-clause-taps : goal.returns-in-Nothing-clause-taps
+returns-in-Nothing-clause-taps g c = watched_none _ c.args.taps.now.items
+    c.args.gate.now.journal.entries c.args.gate.now.journal.entries refl

@@ -12,7 +12,9 @@ use Rattle.gateway_life.specs.Turned.{Arrived, ArrivedPart, Turned, TurnBroken}
 use Rattle.wire_sends.proofs.Sendings.{grows_none}
 use Rattle.gateway_life.proofs.Polling.{err_leaves, last_leaves, ok_map, world_client, turned}
 use Rattle.gateway_life.proofs.Polling.{turn_part}
+use Rattle.pair_journal.specs.State.{JournalState}
 use Rattle.gateway_life.proofs.Polling.{turn_tick}
+use Rattle.gateway_life.proofs.Watching.{watched_from, watched_append, kept_err, kept_last}
 use Rattle.gateway_life.proofs.turn.client_turn.Goals as goal
 
 pub returns-in_err-arrived-clause-ends : goal.returns-in_err-arrived-clause-ends
@@ -111,3 +113,30 @@ returns-clause-ends g c =
     poll.ensures.may grew is end c.args.framer.now c.arrived.new.framer x r2 r3 xs found
     (subst (λ (k : Config). Broken end k x (Tick Client) c.args.now r2 r3 xs)
     (c.arrived.ensures.config ∙ at) broken)) c.event.ensures.ends
+
+pub returns-in_err-arrived-clause-taps : goal.returns-in_err-arrived-clause-taps
+returns-in_err-arrived-clause-taps g c =
+    watched_from _ _ _ c.args.gate.now.journal.entries _ _
+    (ap (λ (j : JournalState). j.entries) c.poll_client-found.ensures.same.0)
+    c.in_err-arrived.ensures.taps
+
+pub returns-in_err-arrived-clause-kept : goal.returns-in_err-arrived-clause-kept
+returns-in_err-arrived-clause-kept g c =
+    kept_err c.from_residual.result c.in_err-arrived.field-0.0 _ (g.D.Disk.bytes c.args.disk.now)
+    _ _ _ _ _ c.arrived.new.gate.journal.entries c.from_residual.ensures.1 refl (λ one. one)
+    (ap (λ (k : CoreState). k.config.names) c.poll_client-found.ensures.same.1)
+    c.in_err-arrived.ensures.kept
+
+pub returns-clause-taps : goal.returns-clause-taps
+returns-clause-taps g c =
+    watched_append _ _ _ _ c.args.gate.now.journal.entries _ _
+    (watched_from _ _ _ c.args.gate.now.journal.entries _ _
+    (ap (λ (j : JournalState). j.entries) c.poll_client-found.ensures.same.0)
+    c.in_ok-arrived.ensures.taps) c.event.ensures.taps
+
+pub returns-clause-kept : goal.returns-clause-kept
+returns-clause-kept g c =
+    kept_last c.event.result (g.D.Disk.bytes c.args.disk.now) (g.D.Disk.bytes c.arrived.new.disk)
+    _ _ _ _ _ c.event.new.self.journal.entries c.arrived.ensures.told
+    c.in_ok-arrived.ensures.durable (ap (λ (k : Config). k.names) (c.arrived.ensures.config
+    ∙ ap (λ (k : CoreState). k.config) c.poll_client-found.ensures.same.1)) c.event.ensures.kept

@@ -5,6 +5,7 @@ use Rattle.event_decisions.specs.Event.{Frame}
 use Rattle.gateway_life.specs.Stepped.{records, Broken, BrokenIf}
 use Rattle.gateway_life.proofs.Turning.{not_counted, counted}
 use Rattle.gateway_life.proofs.Polling.{last_leaves}
+use Rattle.gateway_life.proofs.Watching.{watched_none}
 use Rattle.gateway_life.proofs.turn.frame_event.Goals as goal
 
 pub returns-then-not-is_up-clause-happens : goal.returns-then-not-is_up-clause-happens
@@ -25,3 +26,7 @@ returns-clause-ends g c =
       counted = sym c.is_up.ensures ∙ c.if-not-is_up.false;
       broken = broken;
     }) c.event.ensures.ends
+
+pub returns-then-not-is_up-clause-taps : goal.returns-then-not-is_up-clause-taps
+returns-then-not-is_up-clause-taps g c = watched_none _ c.args.taps.now.items
+    c.args.gate.now.journal.entries c.args.gate.now.journal.entries refl

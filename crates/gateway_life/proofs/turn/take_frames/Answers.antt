@@ -11,6 +11,7 @@ use Rattle.gateway_life.specs.Turned.{TakenPart}
 use Rattle.gateway_life.proofs.Cutting.{framed}
 use Rattle.gateway_life.proofs.Turning.{taken_none, taken_more, taken_same, taken_all, taken_part}
 use Rattle.gateway_life.proofs.Polling.{err_leaves}
+use Rattle.gateway_life.proofs.Watching.{watched_none, watched_append, kept_err}
 use Rattle.gateway_life.proofs.turn.take_frames.Goals as goal
 
 pub frames-init : goal.frames-init
@@ -25,6 +26,7 @@ frames-init g c = record {
   faults = refl;
   client_polls = refl;
   venue_polls = refl;
+  taps = watched_none _ c.args.taps.now.items c.args.gate.now.journal.entries _ refl;
 }
 
 pub returns-in-More-clause-stands : goal.returns-in-More-clause-stands
@@ -56,6 +58,7 @@ frames-preserved-in-Garbled g c =
       faults = inv.faults;
       client_polls = inv.client_polls;
       venue_polls = inv.venue_polls;
+      taps = inv.taps;
     }
 
 pub frame_event-requires-clause-body : goal.frame_event-requires-clause-body
@@ -94,6 +97,7 @@ frames-preserved g c =
       faults = dealt.cause ∙ inv.faults;
       client_polls = dealt.client_polls ∙ inv.client_polls;
       venue_polls = dealt.venue_polls ∙ inv.venue_polls;
+      taps = watched_append _ _ _ _ _ _ _ inv.taps dealt.taps;
     }
 
 pub returns-in_err-frame_event-in-Frame-clause-ends :
@@ -124,3 +128,17 @@ returns-in_err-frame_event-in-Frame-clause-ends g c =
     )) (c.next.ensures.kind ∙ inv.kind)
     (subst (λ (k : Config). BrokenIf error k m (Frame c.args.side body) c.args.now r1 r2 xs)
     inv.config broken)) c.in_err-frame_event-in-Frame.ensures.ends
+
+pub returns-in_err-frame_event-in-Frame-clause-taps :
+    goal.returns-in_err-frame_event-in-Frame-clause-taps
+returns-in_err-frame_event-in-Frame-clause-taps g c =
+    watched_append _ _ _ _ _ _ _ c.frames.invariant.taps
+    c.in_err-frame_event-in-Frame.ensures.taps
+
+pub returns-in_err-frame_event-in-Frame-clause-kept :
+    goal.returns-in_err-frame_event-in-Frame-clause-kept
+returns-in_err-frame_event-in-Frame-clause-kept g c =
+    let inv = c.frames.invariant in
+    kept_err c.from_residual.result c.in_err-frame_event-in-Frame.field-0.0 _ _ _ _ _ _ _
+    c.frame_event.new.gate.journal.entries c.from_residual.ensures.1 inv.told inv.durable
+    (ap (λ (k : Config). k.names) inv.config) c.in_err-frame_event-in-Frame.ensures.kept

@@ -7,6 +7,7 @@ use Rattle.frame_grammar.specs.Held.{pending}
 use Rattle.gateway_life.specs.State.{seen}
 use Rattle.gateway_life.specs.Ready.{Ready, world_of}
 use Rattle.gateway_life.specs.Stepped.{records}
+use Rattle.gateway_life.specs.Watched.{Watched, state_by}
 use Rattle.gateway_life.specs.Turned.{Taken}
 use Rattle.gateway_life.proofs.turn.take_frames.Given as goal
 
@@ -30,4 +31,9 @@ invariant-frames g l = record {
   faults : g.D.Disk.faults l.disk ≡ g.D.Disk.faults l.initial.disk;
   client_polls : g.C.Wire.polls l.client ≡ g.C.Wire.polls l.initial.client;
   venue_polls : g.V.Wire.polls l.venue ≡ g.V.Wire.polls l.initial.venue;
+  taps : Watched (state_by (λ tap. (goal.Tap-dyn g (tap.vtable, tap.value)).has_failed tap.value)
+      (λ tap. (goal.Tap-dyn g (tap.vtable, tap.value)).entries tap.value)
+      (λ tap. (goal.Tap-dyn g (tap.vtable, tap.value)).tally tap.value)
+      (λ tap. (goal.Tap-dyn g (tap.vtable, tap.value)).counts_all tap.value))
+      l.initial.taps.items l.taps.items l.initial.gate.journal.entries l.gate.journal.entries;
 }

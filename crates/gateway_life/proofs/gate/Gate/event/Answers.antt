@@ -1,12 +1,15 @@
 use Rattle.std.proofs.Common.{◌∙◌, ap}
+use Rattle.std.specs.Option.{option_to_list}
 use Rattle.event_decisions.specs.Event.{event_of}
 use Rattle.pair_journal.specs.State.{JournalState}
+use Rattle.life_events.specs.Happens.{World}
 use Rattle.gateway_life.specs.State.{seen}
 use Rattle.gateway_life.specs.Ready.{world_of, made_of}
 use Rattle.gateway_life.specs.Stepped.{records}
 use Rattle.gateway_life.proofs.Acting.{stepped, broken_parts, made_ends}
 use Rattle.gateway_life.proofs.Acting.{act_ends}
 use Rattle.gateway_life.proofs.Deciding.{left_after}
+use Rattle.gateway_life.proofs.Watching.{watched_none, made_kept, act_kept}
 use Rattle.gateway_life.proofs.gate.Gate.event.Goals as goal
 
 pub returns-clause-happens : goal.returns-clause-happens
@@ -50,3 +53,44 @@ returns-in_err-act-clause-ends g c =
     (left_after (g.D.Disk.bytes c.args.disk.now) (g.D.Disk.bytes c.decide.new.disk) _ _
     c.decide.new.self.journal.names config.names c.decide.new.self.journal.entries made.told
     made.durable made.ready.stands named))
+
+pub returns-clause-taps : goal.returns-clause-taps
+returns-clause-taps g c = record {
+  more = option_to_list c.in_ok-made.made.entry;
+  goes_on = ap (λ (j : JournalState). j.entries) c.act.ensures.journal
+      ∙ c.in_ok-made.ensures.entries;
+  seen = c.show.ensures;
+}
+
+pub returns-in_err-act-clause-taps : goal.returns-in_err-act-clause-taps
+returns-in_err-act-clause-taps g c = record {
+  more = option_to_list c.in_ok-made.made.entry;
+  goes_on = ap (λ (j : JournalState). j.entries) c.act.ensures.journal
+      ∙ c.in_ok-made.ensures.entries;
+  seen = c.show.ensures;
+}
+
+pub returns-in_err-made-clause-taps : goal.returns-in_err-made-clause-taps
+returns-in_err-made-clause-taps g c = watched_none _ c.args.taps.now.items
+    c.args.self.now.journal.entries c.decide.new.self.journal.entries
+    (ap (λ (w : World). w.entries) c.in_err-made.ensures.refused.0)
+
+pub returns-in_err-made-clause-kept : goal.returns-in_err-made-clause-kept
+returns-in_err-made-clause-kept g c =
+    made_kept c.from_residual.result c.in_err-made.field-0.0 (g.D.Disk.bytes c.args.disk.now) _ _
+    c.args.self.now.core.config (world_of (seen c.args.self.now)) (event_of c.args.event.now)
+    c.args.now c.decide.new.self.journal.entries c.from_residual.ensures.1
+    (ap (λ (w : World). w.entries) c.in_err-made.ensures.refused.0) c.in_err-made.ensures.images
+
+pub returns-in_err-act-clause-kept : goal.returns-in_err-act-clause-kept
+returns-in_err-act-clause-kept g c =
+    let made = c.in_ok-made.ensures in
+    let config = c.args.self.now.core.config in
+    act_kept c.from_residual-in_err-act.result (g.D.Disk.bytes c.args.disk.now)
+    (g.D.Disk.image c.args.disk.now) (g.D.Disk.image c.decide.new.disk)
+    (g.D.Disk.image c.act.new.disk) config.names c.decide.new.self.journal.entries
+    c.act.new.self.journal.entries
+    (ap (λ (j : JournalState). j.entries) c.act.ensures.journal) c.act.ensures.only_read.images
+    (left_after (g.D.Disk.bytes c.args.disk.now) (g.D.Disk.bytes c.decide.new.disk) _ _
+    c.decide.new.self.journal.names config.names c.decide.new.self.journal.entries made.told
+    made.durable made.ready.stands (made.ready.names ∙ ap (λ k. k.names) made.config))

@@ -1,7 +1,10 @@
+use Rattle.std.proofs.Common.{ap, refl}
+use Rattle.gateway_config.specs.declared.config.Config.{Config}
 use Rattle.gateway_life.specs.State.{seen}
 use Rattle.gateway_life.specs.Ready.{world_of}
 use Rattle.gateway_life.proofs.Joining.{finish_ok, finish_client, finish_venue}
 use Rattle.gateway_life.proofs.Polling.{durable_on}
+use Rattle.gateway_life.proofs.Watching.{watched_append, kept_err, kept_last}
 use Rattle.gateway_life.proofs.life.Life.finish.Goals as goal
 
 pub returns-in_err-event-clause-ends : goal.returns-in_err-event-clause-ends
@@ -30,6 +33,26 @@ returns-clause-ends g c =
     _ _ (g.D.Disk.bytes c.args.disk.now) (g.D.Disk.bytes c.event.new.disk) _ _ _ _ _ _
     c.event.ensures.config at.1 at.2 c.event.ensures.told c.in_ok-event.ensures.durable
     c.in_ok-event.ensures.happens c.event-2.ensures.ends)
+
+pub returns-in_err-event-clause-taps : goal.returns-in_err-event-clause-taps
+returns-in_err-event-clause-taps g c = rw (← c.self.view_is) c.in_err-event.ensures.taps
+
+pub returns-in_err-event-clause-kept : goal.returns-in_err-event-clause-kept
+returns-in_err-event-clause-kept g c =
+    rw (← c.self.view_is) (kept_err c.from_residual.result c.in_err-event.field-0.0 _
+    (g.D.Disk.bytes c.args.disk.now) _ _ _ _ _ _ c.from_residual.ensures.1 refl (λ one. one) refl
+    c.in_err-event.ensures.kept)
+
+pub returns-clause-taps : goal.returns-clause-taps
+returns-clause-taps g c =
+    rw (← c.self.view_is) (watched_append _ _ _ _ c.self.inside.gate.journal.entries _ _
+    c.event.ensures.taps c.event-2.ensures.taps)
+
+pub returns-clause-kept : goal.returns-clause-kept
+returns-clause-kept g c =
+    rw (← c.self.view_is) (kept_last c.event-2.result (g.D.Disk.bytes c.args.disk.now)
+    (g.D.Disk.bytes c.event.new.disk) _ _ _ _ _ _ c.event.ensures.told c.in_ok-event.ensures.durable
+    (ap (λ (k : Config). k.names) c.event.ensures.config) c.event-2.ensures.kept)
 
 pub returns-clause-durable : goal.returns-clause-durable
 returns-clause-durable g c =

@@ -1,7 +1,10 @@
+use Rattle.std.proofs.Common.{ap, refl}
+use Rattle.gateway_config.specs.declared.config.Config.{Config}
 use Rattle.gateway_life.specs.State.{seen}
 use Rattle.gateway_life.specs.Ready.{world_of}
 use Rattle.gateway_life.proofs.Joining.{round_ok, client_ends, venue_ends}
 use Rattle.gateway_life.proofs.Polling.{durable_on}
+use Rattle.gateway_life.proofs.Watching.{watched_append, kept_err, kept_last}
 use Rattle.gateway_life.proofs.life.Life.round.Goals as goal
 
 pub returns-in_err-client_turn-clause-ends : goal.returns-in_err-client_turn-clause-ends
@@ -46,6 +49,28 @@ returns-clause-ends g c =
     c.client_turn.ensures.config at.1 at.2 c.client_turn.ensures.told
     c.in_ok-client_turn.ensures.durable c.in_ok-client_turn.ensures.turn
     c.venue_turn.ensures.ends)
+
+pub returns-in_err-client_turn-clause-taps : goal.returns-in_err-client_turn-clause-taps
+returns-in_err-client_turn-clause-taps g c =
+    rw (← c.self.view_is) c.in_err-client_turn.ensures.taps
+
+pub returns-in_err-client_turn-clause-kept : goal.returns-in_err-client_turn-clause-kept
+returns-in_err-client_turn-clause-kept g c =
+    rw (← c.self.view_is) (kept_err c.from_residual.result c.in_err-client_turn.field-0.0 _
+    (g.D.Disk.bytes c.args.disk.now) _ _ _ _ _ _ c.from_residual.ensures.1 refl (λ one. one) refl
+    c.in_err-client_turn.ensures.kept)
+
+pub returns-clause-taps : goal.returns-clause-taps
+returns-clause-taps g c =
+    rw (← c.self.view_is) (watched_append _ _ _ _ c.self.inside.gate.journal.entries _ _
+    c.client_turn.ensures.taps c.venue_turn.ensures.taps)
+
+pub returns-clause-kept : goal.returns-clause-kept
+returns-clause-kept g c =
+    rw (← c.self.view_is) (kept_last c.venue_turn.result (g.D.Disk.bytes c.args.disk.now)
+    (g.D.Disk.bytes c.client_turn.new.disk) _ _ _ _ _ _ c.client_turn.ensures.told
+    c.in_ok-client_turn.ensures.durable
+    (ap (λ (k : Config). k.names) c.client_turn.ensures.config) c.venue_turn.ensures.kept)
 
 pub returns-clause-durable : goal.returns-clause-durable
 returns-clause-durable g c =

@@ -1,4 +1,4 @@
-use Rattle.std.proofs.Common.{◌+◌, ◌∙◌, [], ◌∷◌, ◌++◌, refl, sym, subst}
+use Rattle.std.proofs.Common.{◌+◌, ◌∙◌, [], ◌∷◌, ◌++◌, refl, sym, ap, subst}
 use Rattle.std.proofs.Common.{arith}
 use Rattle.gateway_config.specs.declared.config.Config.{Config}
 use Rattle.gateway_life.specs.Stepped.{records}
@@ -8,6 +8,7 @@ use Rattle.wire_sends.proofs.Sendings.{grows_none, grows_append}
 use Rattle.gateway_life.proofs.Joining.{rounds_end}
 use Rattle.gateway_life.proofs.Rounding.{rounds_none, rounds_more}
 use Rattle.gateway_life.proofs.Living.{one_more, counted_more, counted_none}
+use Rattle.gateway_life.proofs.Watching.{watched_none, watched_append, kept_err}
 use Rattle.gateway_life.proofs.life.Life.rounds.Goals as goal
 
 pub rounds-init : goal.rounds-init
@@ -20,6 +21,7 @@ rounds-init g c = record {
   faults = refl;
   client_polls = refl;
   venue_polls = refl;
+  taps = watched_none _ c.args.taps.now.items c.args.self.now.gate.journal.entries _ refl;
 }
 
 pub rounds-preserved : goal.rounds-preserved
@@ -49,6 +51,7 @@ rounds-preserved g c =
           inv.client_polls;
       venue_polls = counted_more c.rounds.left _ _ c.args.rounds _ (omega arith) one.venue_polls
           inv.venue_polls;
+      taps = watched_append _ _ _ _ _ _ _ inv.taps one.taps;
     }
 
 pub returns-in_err-round-clause-ends : goal.returns-in_err-round-clause-ends
@@ -73,3 +76,14 @@ returns-clause-client_polls g c =
 pub returns-clause-venue_polls : goal.returns-clause-venue_polls
 returns-clause-venue_polls g c =
     sym (counted_none c.rounds.left _ (omega arith)) ∙ c.rounds.invariant.venue_polls
+
+pub returns-in_err-round-clause-taps : goal.returns-in_err-round-clause-taps
+returns-in_err-round-clause-taps g c =
+    watched_append _ _ _ _ _ _ _ c.rounds.invariant.taps c.in_err-round.ensures.taps
+
+pub returns-in_err-round-clause-kept : goal.returns-in_err-round-clause-kept
+returns-in_err-round-clause-kept g c =
+    let inv = c.rounds.invariant in
+    kept_err c.from_residual.result c.in_err-round.field-0.0 _ _ _ _ _ _ _ _
+    c.from_residual.ensures.1 inv.told inv.durable (ap (λ (k : Config). k.names) inv.config)
+    c.in_err-round.ensures.kept

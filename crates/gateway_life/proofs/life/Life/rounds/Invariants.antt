@@ -3,6 +3,7 @@ use Rattle.std.specs.Prelude.{is_some}
 use Rattle.outside.specs.Disk.{HasOneImage}
 use Rattle.wires.specs.Told.{GrowsBy}
 use Rattle.gateway_life.specs.Stepped.{records}
+use Rattle.gateway_life.specs.Watched.{Watched, state_by}
 use Rattle.gateway_life.specs.Life.{counted_on}
 use Rattle.gateway_life.specs.Rounds.{IsLive, RoundsDone}
 use Rattle.gateway_life.proofs.life.Life.rounds.Given as goal
@@ -28,4 +29,10 @@ invariant-rounds g l = record {
       ≡ counted_on l.rounds (g.C.Wire.polls l.initial.client);
   venue_polls : counted_on l.left (g.V.Wire.polls l.venue)
       ≡ counted_on l.rounds (g.V.Wire.polls l.initial.venue);
+  taps : Watched (state_by (λ tap. (goal.Tap-dyn g (tap.vtable, tap.value)).has_failed tap.value)
+      (λ tap. (goal.Tap-dyn g (tap.vtable, tap.value)).entries tap.value)
+      (λ tap. (goal.Tap-dyn g (tap.vtable, tap.value)).tally tap.value)
+      (λ tap. (goal.Tap-dyn g (tap.vtable, tap.value)).counts_all tap.value))
+      l.initial.taps.items l.taps.items l.initial.self.gate.journal.entries
+      l.self.gate.journal.entries;
 }

@@ -1,5 +1,7 @@
-use Rattle.std.proofs.Common.{◌∙◌}
+use Rattle.std.proofs.Common.{◌∙◌, ap, refl}
+use Rattle.gateway_config.specs.declared.config.Config.{Config}
 use Rattle.gateway_life.proofs.Joining.{end_done, end_ends, stands_live}
+use Rattle.gateway_life.proofs.Watching.{watched_append, kept_err, kept_last}
 use Rattle.gateway_life.proofs.life.Life.whole.Goals as goal
 
 pub returns-clause-done : goal.returns-clause-done
@@ -16,6 +18,26 @@ returns-clause-ends g c =
     c.args.self.now c.rounds.new.self done.0 c.args.rounds _ _ _ _ _ _ _ _ _ _ _
     c.rounds.ensures.config done.1 done.2 done.3 c.in_ok-rounds.ensures.told
     c.in_ok-rounds.ensures.durable c.finish.ensures.ends
+
+pub returns-in_err-rounds-clause-taps : goal.returns-in_err-rounds-clause-taps
+returns-in_err-rounds-clause-taps g c = c.in_err-rounds.ensures.taps
+
+pub returns-in_err-rounds-clause-kept : goal.returns-in_err-rounds-clause-kept
+returns-in_err-rounds-clause-kept g c =
+    kept_err c.from_residual.result c.in_err-rounds.field-0.0 _
+    (g.D.Disk.bytes c.args.disk.now) _ _ _ _ _ _ c.from_residual.ensures.1 refl (λ one. one) refl
+    c.in_err-rounds.ensures.kept
+
+pub returns-clause-taps : goal.returns-clause-taps
+returns-clause-taps g c =
+    watched_append _ _ _ _ c.args.self.now.gate.journal.entries _ _ c.rounds.ensures.taps
+    c.finish.ensures.taps
+
+pub returns-clause-kept : goal.returns-clause-kept
+returns-clause-kept g c =
+    kept_last c.finish.result (g.D.Disk.bytes c.args.disk.now) (g.D.Disk.bytes c.rounds.new.disk)
+    _ _ _ _ _ _ c.rounds.ensures.told c.in_ok-rounds.ensures.durable
+    (ap (λ (k : Config). k.names) c.rounds.ensures.config) c.finish.ensures.kept
 
 pub returns-clause-stands : goal.returns-clause-stands
 returns-clause-stands g c =

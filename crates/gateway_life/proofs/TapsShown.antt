@@ -1,0 +1,125 @@
+-- What the taps saw of a whole life.
+use Rattle.std.proofs.Common.{◌≡◌, ℕ, List, [], ◌++◌, sym, ◌∙◌, ap, subst, append-nil}
+use Rattle.std.proofs.Common.{refl, Some, None, Ok, Err, inl}
+use Rattle.std.specs.Prelude.{Result, OnOk, IfErr, IfSome, is_some}
+use Rattle.std.specs.declared.option.Option.{Option}
+use Rattle.std.specs.Option.{ForSome}
+use Rattle.outside.specs.Disk.{Only, HasOneImage}
+use Rattle.order_meaning.specs.declared.names.Names.{Names}
+use Rattle.pair_journal.specs.declared.entry.Entry.{Entry}
+use Rattle.pair_journal.specs.Calls.{BornOrNot}
+use Rattle.pair_journal.specs.Journal.{JournalOf, Born}
+use Rattle.pair_journal.specs.Laws.{HasOneReading}
+use Rattle.gateway_life.specs.declared.end.LifeEnd.{LifeEnd}
+use Rattle.gateway_life.specs.declared.end.LifeEnd.TheVariants as ends
+use Rattle.gateway_life.specs.State.{LifeState}
+use Rattle.gateway_life.specs.Ready.{LeavesOf}
+use Rattle.gateway_life.specs.Stepped.{IsOfEvent}
+use Rattle.gateway_life.specs.Life.{IsJournal}
+use Rattle.gateway_life.specs.Rounds.{Begins}
+use Rattle.gateway_life.specs.Watched.{TapState, Watched, WereCommitted, NoneIfRefused, end_in}
+use Rattle.gateway_life.specs.Watched.{TapsSaw}
+use Rattle.gateway_life.proofs.Watching.{seen_none, were_same}
+use Rattle.gateway_life.proofs.Living.{unbegun_image, same_journal, image_of, leaves_from}
+
+none_shown : (end : LifeEnd) → NoneIfRefused end []
+none_shown ends.Done = tt
+none_shown ends.DiskFault = tt
+none_shown (ends.JournalRefused at) = refl
+none_shown (ends.NamesDiffer kept given) = refl
+none_shown ends.JournalFull = tt
+none_shown (ends.NumbersSpent side) = tt
+none_shown ends.NoMemory = tt
+
+not_refused : (end : LifeEnd) (more : List Entry) → IsOfEvent end → NoneIfRefused end more
+not_refused ends.Done more of = tt
+not_refused ends.DiskFault more of = tt
+not_refused (ends.JournalRefused at) more of = absurd of
+not_refused (ends.NamesDiffer kept given) more of = absurd of
+not_refused ends.JournalFull more of = tt
+not_refused (ends.NumbersSpent side) more of = tt
+not_refused ends.NoMemory more of = tt
+
+whole_shown : {V : Type 0} (r : Result V LifeEnd) (more : List Entry) → IfErr r IsOfEvent
+    → NoneIfRefused (end_in r) more
+whole_shown (Ok value) more of = tt
+whole_shown (Err end) more of = not_refused end more of
+
+module _ (one : (image : List ℕ) → HasOneReading image) {T : Type 0} (state : T → TapState) where
+  -- a life that did not begin
+  pub taps_unbegun : {V : Type 0} (r : Result V LifeEnd) (taps : List T) (names : Names)
+      (told : Option (List ℕ)) (i0 i1 : List ℕ → Type 0) → BornOrNot told i0 i1 names
+      → TapsSaw state taps taps names told i0 i1 (end_in r)
+  taps_unbegun r taps names told i0 i1 images = record {
+    more = [];
+    seen = seen_none state taps;
+    idle = none_shown (end_in r);
+    left = at told images;
+  }
+    where
+      at : (t : Option (List ℕ)) → BornOrNot t i0 i1 names → IfSome t (λ bytes. Only bytes i0 →
+          (before : List Entry) → IsJournal names before bytes → (image : List ℕ) → i1 image
+          → (found : List Entry) × IsJournal names found image
+          × WereCommitted (end_in r) (before ++ []) found)
+      at None h = tt
+      at (Some b) h = λ only before journal image here.
+          let found = h only image here in (
+            before,
+            unbegun_image one names b image before journal found.0 found.1,
+            were_same (end_in r) (before ++ []) before (sym (append-nil before)),
+          )
+
+  -- one that did
+  pub taps_whole : {V : Type 0} (r : Result V LifeEnd) (olds news : List T) (names names' : Names)
+      (t0 t1 t2 : Option (List ℕ)) (i0 i1 i2 : List ℕ → Type 0) (old new : LifeState)
+      → names' ≡ names
+      → IfSome t0 (λ b. Begins {T = LifeState} (λ life. life.gate.journal.entries) names b (Ok old))
+      → is_some t1 ≡ is_some t0 → (HasOneImage t0 i0 → HasOneImage t1 i1)
+      → is_some t2 ≡ is_some t1 → OnOk r (HasOneImage t1 i1 → HasOneImage t2 i2)
+      → OnOk r (ForSome t2 (λ b. JournalOf b (Born names' new.gate.journal.entries)))
+      → IfErr r (λ end. LeavesOf t1 i1 i2 names' (WereCommitted end new.gate.journal.entries))
+      → IfErr r IsOfEvent
+      → Watched state olds news old.gate.journal.entries new.gate.journal.entries
+      → TapsSaw state olds news names t0 i0 i2 (end_in r)
+  taps_whole r olds news names names' None t1 t2 i0 i1 i2 old new same begins told kept told' kept'
+      stands left of watched = record {
+        more = watched.more;
+        seen = watched.seen;
+        idle = whole_shown r watched.more of;
+        left = tt;
+      }
+  taps_whole {V} r olds news names names' (Some b) t1 t2 i0 i1 i2 old new same begins told kept
+      told' kept' stands left of watched = record {
+        more = watched.more;
+        seen = watched.seen;
+        idle = whole_shown r watched.more of;
+        left = at r kept' stands left;
+      }
+    where
+      grown : (before : List Entry) → IsJournal names before b
+          → new.gate.journal.entries ≡ before ++ watched.more
+      grown before journal = watched.goes_on ∙ ap (λ l. l ++ watched.more)
+          (same_journal one names b old.gate.journal.entries before begins journal)
+
+      at : (q : Result V LifeEnd) → OnOk q (HasOneImage t1 i1 → HasOneImage t2 i2)
+          → OnOk q (ForSome t2 (λ c. JournalOf c (Born names' new.gate.journal.entries)))
+          → IfErr q (λ end. LeavesOf t1 i1 i2 names' (WereCommitted end new.gate.journal.entries))
+          → Only b i0 → (before : List Entry) → IsJournal names before b → (image : List ℕ)
+          → i2 image → (found : List Entry) × IsJournal names found image
+          × WereCommitted (end_in q) (before ++ watched.more) found
+      at (Ok value) durable here left = λ only before journal image at_exit. (
+        new.gate.journal.entries,
+        inl (subst (λ n. JournalOf image (Born n new.gate.journal.entries)) same
+            (image_of t2 i2 (λ c. JournalOf c (Born names' new.gate.journal.entries)) image
+            (told' ∙ told) here (durable (kept only)) at_exit)),
+        grown before journal,
+      )
+      at (Err end) durable here left = λ only before journal image at_exit.
+          let found = leaves_from (Some b) t1 i0 i1 i2 names names'
+          (WereCommitted end new.gate.journal.entries)
+          (WereCommitted end new.gate.journal.entries) told kept same (λ xs h. h) left only image
+          at_exit in (
+            found.0,
+            inl found.1,
+            subst (λ l. WereCommitted end l found.0) (grown before journal) found.2,
+          )

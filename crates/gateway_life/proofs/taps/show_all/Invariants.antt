@@ -1,0 +1,12 @@
+use Rattle.std.proofs.Common.{[], ◌∷◌}
+use Rattle.gateway_life.specs.Watched.{state_by}
+use Rattle.gateway_life.proofs.Watching.{SeenUpTo}
+use Rattle.gateway_life.proofs.taps.show_all.Given as goal
+
+abbrev pub invariant-loop-tap : goal.invariant-loop-tap
+invariant-loop-tap g l =
+    SeenUpTo (state_by (λ tap. (goal.Tap-dyn g (tap.vtable, tap.value)).has_failed tap.value)
+    (λ tap. (goal.Tap-dyn g (tap.vtable, tap.value)).entries tap.value)
+    (λ tap. (goal.Tap-dyn g (tap.vtable, tap.value)).tally tap.value)
+    (λ tap. (goal.Tap-dyn g (tap.vtable, tap.value)).counts_all tap.value))
+    l.tap-index l.initial.tap-items l.tap-items (l.entry ∷ [])
