@@ -1,0 +1,8 @@
+//! What a journal on a disk says, as lines: one for each entry.
+#![tactic(auto)]
+
+mod journal_lines;
+#[cfg(test)]
+mod tests;
+
+pub use journal_lines::{ShowError, show};
