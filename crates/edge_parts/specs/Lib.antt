@@ -1,0 +1,6 @@
+pub mod BackOff
+pub mod LogonMark
+pub mod Notice
+pub mod Order
+pub mod Outbox
+pub mod Tally

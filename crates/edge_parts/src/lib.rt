@@ -1,0 +1,36 @@
+//! What the gateway's edge to the system is made of, as far as it has no socket and no file: what
+//! waits for a peer, when the venue is tried again, whether a Logon has come, the lines for the
+//! operator, and a peer as a wire.
+//!
+//! Proved is, whatever the system answers:
+//!
+//! - over every writer that tells its bytes, what went out and what waits are together just what
+//!   was sent, in order, and what waits is at most [`ROOM`] bytes;
+//! - a wire gives an opening between two connections alone, and bytes and an end within one alone;
+//! - when the venue is tried again, what counts as an active session there, and the text of each
+//!   line.
+#![tactic(auto)]
+
+mod back_off;
+mod clocks;
+mod counted;
+mod fault;
+mod journal;
+mod logon_mark;
+mod notice;
+mod outbox;
+mod pace;
+mod shared;
+#[cfg(test)]
+mod tests;
+
+pub use back_off::BackOff;
+pub use clocks::{moment, ticks};
+pub use counted::{Counted, Peer};
+pub use fault::Fault;
+pub use journal::{Denial, Refusal, Tally, fill, folder, stop_path};
+pub use logon_mark::LogonMark;
+pub use notice::{Ending, Lost, Missed, NextTry, Notice, PeerName, RefusedNth, line};
+pub use outbox::{Outbox, ROOM};
+pub use pace::Pace;
+pub use shared::{Shared, WAIT, wait_after};

@@ -1,0 +1,1 @@
+//! What the edge does with the system's sockets, files and clock is tried by `tests/serve`.
