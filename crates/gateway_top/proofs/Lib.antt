@@ -1,4 +1,6 @@
 pub mod Answered
 pub mod Catching
 pub mod Midway
+pub mod Rounds
+pub mod Serving
 mod Worked

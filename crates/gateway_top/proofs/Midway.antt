@@ -20,11 +20,14 @@ use Rattle.gateway_top.specs.declared.task.Task.TheVariants.{CheckClient, CheckV
 use Rattle.gateway_top.specs.declared.status.Status.{Status}
 use Rattle.gateway_top.specs.declared.status.Status.TheVariants.{Done, Refused, Usage, InputFault}
 use Rattle.gateway_top.specs.declared.status.Status.TheVariants.{OutputFault, NoMemory}
-use Rattle.gateway_top.specs.declared.status.Status.TheVariants.{InputTooLong}
+use Rattle.gateway_top.specs.declared.status.Status.TheVariants.{InputTooLong, ConfigRefused}
+use Rattle.gateway_top.specs.declared.status.Status.TheVariants.{DiskFault, JournalRefused}
+use Rattle.gateway_top.specs.declared.status.Status.TheVariants.{NamesDiffer, JournalFull}
+use Rattle.gateway_top.specs.declared.status.Status.TheVariants.{NumbersSpent}
 use Rattle.gateway_top.specs.Judge.{JudgesAll, end_said, unfinished}
 use Rattle.gateway_top.specs.Task.{has_ended, kind_of, stops, first_of}
 use Rattle.gateway_top.specs.Pass.{CaughtUp, Advances, Ends}
-use Rattle.gateway_top.specs.declared.stream.TheConstants.{MAX_INPUT}
+use Rattle.whole_input.specs.declared.reading.TheConstants.{MAX_INPUT}
 use Rattle.gateway_top.specs.Program.{Waits, Stopped, Finished, Said, Ran}
 
 pub record Midway (task : Task) (input_old input out_old out : Option (List ℕ))
@@ -264,6 +267,12 @@ module _ (task : Task) where
       ran_to_end Usage put never = never
       ran_to_end InputFault put never = absurd never
       ran_to_end InputTooLong put never = absurd never
+      ran_to_end (ConfigRefused key) put never = absurd never
+      ran_to_end DiskFault put never = absurd never
+      ran_to_end (JournalRefused at) put never = absurd never
+      ran_to_end (NamesDiffer kept given) put never = absurd never
+      ran_to_end JournalFull put never = absurd never
+      ran_to_end (NumbersSpent side) put never = absurd never
 
     -- nothing more was there to take
     pub consumed_all : (later : Option (List ℕ)) (piece : List ℕ)

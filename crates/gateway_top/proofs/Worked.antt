@@ -4,7 +4,7 @@ use Rattle.std.specs.Fmt.{digits}
 use Rattle.std.specs.Prelude.{true, false, Some, None}
 use Rattle.frame_grammar.specs.declared.frame.Garble.TheVariants.{TooLong}
 use Rattle.gateway_top.specs.declared.status.Status.TheVariants.{Done, Refused, Usage, InputTooLong}
-use Rattle.gateway_top.specs.declared.stream.TheConstants.{MAX_INPUT, MAX_READ}
+use Rattle.whole_input.specs.declared.reading.TheConstants.{MAX_INPUT, MAX_READ}
 use Rattle.gateway_top.specs.MsgType.{type_in}
 use Rattle.gateway_top.specs.Finding.{is_session, is_refusal}
 use Rattle.gateway_top.specs.Line.{LF, finding_words, no_counterpart, cause_name}

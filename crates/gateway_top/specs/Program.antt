@@ -1,7 +1,7 @@
 -- Own: what a run of the program did, by the status with which it ended; docs/DECISIONS.md,
 -- "Commands".
 use Rattle.std.specs.Prelude.{◌≡◌, ℕ, ◌+◌, ◌≤◌, Bool, true, false, List, [], ◌++◌, length, take}
-use Rattle.std.specs.Prelude.{◌⊎◌, Some, None}
+use Rattle.std.specs.Prelude.{◌⊎◌, Some, None, Result, IfSome, ⊤}
 use Rattle.std.specs.declared.option.Option.{Option}
 use Rattle.std.specs.Io.KnownBytes.{Appends, Consumes, IsAtEnd}
 use Rattle.outside.specs.Bytes.{AppendsFront}
@@ -10,9 +10,17 @@ use Rattle.frame_grammar.specs.Cut.{Piece, ComeFirst, Cut}
 use Rattle.frame_grammar.specs.Framer.{place_after, EndsIn}
 use Rattle.gateway_top.specs.Judge.{JudgesAll, end_said, unfinished}
 use Rattle.gateway_top.specs.Task.{kind_of, stops, has_ended, first_of}
-use Rattle.gateway_top.specs.declared.stream.TheConstants.{MAX_INPUT, MAX_READ}
+use Rattle.whole_input.specs.declared.reading.TheConstants.{MAX_INPUT, MAX_READ}
+use Rattle.gateway_config.specs.declared.config.Config.{Config}
+use Rattle.gateway_life.specs.declared.end.LifeEnd.{LifeEnd}
+use Rattle.gateway_serve.specs.declared.error.ServeError.{ServeError}
+use Rattle.gateway_serve.specs.Serve.{Served}
+use Rattle.journal_show.specs.declared.journal_lines.ShowError.{ShowError}
+use Rattle.journal_show.specs.JournalLines.{Shows}
 use Rattle.gateway_top.specs.declared.command.Command.{Command}
 use Rattle.gateway_top.specs.declared.command.Command.TheVariants.{Help, Version, Stream}
+use Rattle.gateway_top.specs.declared.command.Command.TheVariants.{Serve, Show}
+use Rattle.gateway_top.specs.Status.{served_status, shown_status}
 use Rattle.gateway_top.specs.declared.task.Task.{Task}
 use Rattle.gateway_top.specs.declared.status.Status.{Status}
 use Rattle.gateway_top.specs.declared.status.Status.TheVariants.{Done, Refused, Usage, InputFault}
@@ -75,7 +83,6 @@ Ran task (Refused at) taken left old new =
     (length taken ≤ MAX_INPUT) × ((said : List ℕ) ×
     (Stopped task taken at said ⊎ (IsAtEnd left × Finished task taken (Some at) said))
     × Appends old new said)
-Ran task Usage taken left old new = ⊥
 -- one byte more than an input may have was taken, and is not judged
 Ran task InputTooLong taken left old new =
     (length taken ≡ MAX_INPUT + 1) × ((refused : Option ℕ) × (said : List ℕ) ×
@@ -90,6 +97,7 @@ Ran task OutputFault taken left old new =
 Ran task NoMemory taken left old new =
     (length taken ≤ MAX_INPUT) × ((n : ℕ) × (refused : Option ℕ) × (said : List ℕ) ×
     Waits task (take n taken) refused said × Appends old new said)
+Ran task status taken left old new = ⊥
 
 -- At this status of a command that writes a text and reads no input, the sink went from old to new.
 abbrev pub Wrote : Status → List ℕ → Option (List ℕ) → Option (List ℕ) → Type 0
@@ -97,20 +105,42 @@ Wrote Done text old new = Appends old new text
 Wrote OutputFault text old new = AppendsFront old new text
 Wrote status text old new = ⊥
 
--- What a command did at a status: what it took of the input, and what it put.
+-- What a command that writes a text, or does a task, did at a status: what it took of the input,
+-- and what it put. The other two have clauses of their own.
 abbrev pub Does : List ℕ → List ℕ → Command → Status →
     Option (List ℕ) → Option (List ℕ) → Option (List ℕ) → Option (List ℕ) → Type 0
 Does help version Help status left_old left old new = Wrote status help old new
 Does help version Version status left_old left old new = Wrote status version old new
 Does help version (Stream task) status left_old left old new =
     (taken : List ℕ) × Consumes left_old left taken × Ran task status taken left old new
+Does help version command status left_old left old new = Unit {0}
 
--- a command that reads no input leaves its source as it was
-abbrev pub Leaves : {A : Type 0} → Command → A → A → Type 0
-Leaves (Stream task) old new = Unit {0}
-Leaves command old new = new ≡ old
-
--- a task is done only once its source has told that the input ended
+-- what is read to the end of its input is done only once its source has told that end
 abbrev pub ReadsToEnd : Command → Status → Bool → Type 0
 ReadsToEnd (Stream task) Done ended = ended ≡ true
+ReadsToEnd (Serve rounds) Done ended = ended ≡ true
 ReadsToEnd command status ended = Unit {0}
+
+-- ---- serve
+
+-- this holds of the rounds that are to be served
+abbrev pub IfServe : Option Command → (ℕ → Type 0) → Type 0
+IfServe (Some (Serve rounds)) holds = holds rounds
+IfServe command holds = Unit {0}
+
+-- THE GATEWAY SERVED, by the status: what was taken of the input, and what is left; and the life
+-- with the configuration that was read, where it began.
+abbrev pub ServedBy : Status → List ℕ → Option (List ℕ) → (Config → LifeEnd → Type 0) → Type 0
+ServedBy status taken left lived = (answer : Result LifeEnd ServeError)
+    × (status ≡ served_status answer) × Served taken left answer lived
+
+-- ---- show
+
+abbrev pub IfShow : Option Command → Type 0 → Type 0
+IfShow (Some Show) holds = holds
+IfShow command holds = Unit {0}
+
+-- THE JOURNAL WAS SHOWN, by the status, where its disk tells what it holds.
+abbrev pub ShownBy : Status → Option (List ℕ) → Option (List ℕ) → Option (List ℕ) → Type 0
+ShownBy status told old new = (answer : Result ⊤ ShowError)
+    × (status ≡ shown_status answer) × IfSome told (λ bytes. Shows bytes answer old new)

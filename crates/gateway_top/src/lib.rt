@@ -1,5 +1,5 @@
-//! The top call of the gateway: [`run`] is all that the program `fixgate` does with its words, its
-//! input and its output, and [`End`] is how it ends.
+//! The top call of the gateway: [`run`] is all that the program `fixgate` does with its words and
+//! the outside, and [`End`] is how it ends.
 #![tactic(auto)]
 
 mod command;

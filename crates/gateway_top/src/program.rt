@@ -1,26 +1,43 @@
 //! The one call that the program makes.
 
-ghost use Rattle.std.specs.Prelude.{◌≢◌, ◌≡◌, ◌↔◌, map, false, None, MatchOption};
+ghost use Rattle.std.specs.Prelude.{◌≢◌, ◌≡◌, ◌↔◌, map, false, None, MatchOption, List, ℕ};
+ghost use Rattle.std.specs.Option.{ForSome};
 ghost use Rattle.std.specs.String.{string_bytes};
+ghost use Rattle.std.specs.Io.KnownBytes.{Consumes};
 ghost use Rattle.outside.specs.Causes.{Rose};
-ghost use Rattle.gateway_top.specs.Command.{command_of};
-ghost use Rattle.gateway_top.specs.Program.{Wrote, Does, Leaves, ReadsToEnd};
+ghost use Rattle.gate_log.specs.Log.{OnlyReads};
+ghost use Rattle.wires.specs.Wire.{is_within};
+ghost use Rattle.gateway_life.specs.Watched.{TapsSaw, state_by};
+ghost use Rattle.gateway_serve.specs.Serve.{Lived};
+ghost use Rattle.gateway_top.specs.Command.{command_of, calls_input, calls_output, calls_disk};
+ghost use Rattle.gateway_top.specs.Command.{calls_wires};
+ghost use Rattle.gateway_top.specs.Program.{Wrote, Does, ReadsToEnd, IfServe, ServedBy, IfShow};
+ghost use Rattle.gateway_top.specs.Program.{ShownBy};
+ghost use Rattle.gateway_top.specs.Status.{served_status, shown_status};
 
 use crate::Status;
 use crate::command::{Command, read_command};
 use crate::pass::put_text;
 use crate::stream::run_stream;
-use outside::{Sink, Source};
+use drop_taps::Tap;
+use gateway_life::LifeEnd;
+use gateway_serve::{ServeError, serve};
+use journal_show::{ShowError, show};
+use outside::{Disk, Sink, Source};
 use std::alloc::Global;
+use wires::{Clock, Wire};
 
 /// What `--help` prints.
 const HELP: &str = "\
 fixgate is a gateway from a trading client of FIX 4.2 to a venue of FIX 5.0 SP2
-over FIXT 1.1. So far it translates order requests upward and reports downward,
-and checks streams of both sides.
+over FIXT 1.1: it serves both sessions, translates and checks streams of
+messages, and shows its journal.
 
-Usage: fixgate COMMAND
+Usage: fixgate [OPTIONS] COMMAND
 
+  serve ROUNDS    reads a configuration from standard input and serves both
+                  sessions for so many rounds, 1 to 1,000,000,000
+  show            prints a line for each entry of the journal
   translate up    reads FIX 4.2 order requests from standard input and writes
                   them to standard output as the venue takes them; ends at the
                   first piece of the input that it refuses
@@ -31,6 +48,12 @@ Usage: fixgate COMMAND
   check venue     the same of a stream of FIXT 1.1 and of each report
   --help          prints this text
   --version       prints the version
+
+Options, before the command, each at most once:
+
+  --journal PATH     the file of the journal, which is in memory without it
+  --listen ADDRESS   where the client connects, an IP address and a port
+  --connect ADDRESS  where the venue is; it goes together with --listen
 
 Order requests are New Order - Single(D), Order Cancel Request(F), Order
 Cancel/Replace Request(G) and Order Status Request(H); reports are Execution
@@ -44,15 +67,20 @@ Exit status:
    1  refused: a piece of the input is garbled, unfinished, at fault, too long,
       not supported or has no counterpart; its place is printed
    2  usage: the words are none of the above
+   3  the configuration: its first key that is missing or wrong is printed
    4  the input failed
    5  the output failed
+   6  the disk of the journal failed
+   7  the journal is refused, or has other names than the configuration
+   8  the journal is full
+   9  the numbers of a session are spent
   11  out of memory
   12  the input has more than 67,108,864 bytes
 On any status but 0 a line with the reason goes to standard error.
 ";
 
 /// What `--version` prints.
-const VERSION: &str = "fixgate 0.3.2\n";
+const VERSION: &str = "fixgate 0.4.0\n";
 
 /// Writes a text.
 fn write_text<O: Sink>(out: &mut O, text: &str) -> Status
@@ -67,43 +95,123 @@ fn write_text<O: Sink>(out: &mut O, text: &str) -> Status
     }
 }
 
-/// Does what the words of the command line ask for: reads `input`, which has not told its end,
-/// writes to `out`, and says how that ended. No read follows the end of the input.
+/// The status of what `serve` answers.
+fn of_serve(answer: Result<LifeEnd, ServeError>) -> Status
+    ensures { result ≡ served_status answer }
+{
+    match answer {
+        Ok(end) => Status::from(end),
+        Err(error) => Status::from(error),
+    }
+}
+
+/// The status of what `show` answers.
+fn of_show(answer: Result<(), ShowError>) -> Status
+    ensures { result ≡ shown_status answer }
+{
+    match answer {
+        Ok(()) => Status::Done,
+        Err(error) => Status::from(error),
+    }
+}
+
+/// Does what the words of the command line ask for with the outside that it is given: the input,
+/// which has not told its end, the output, the disk of the journal, the wires to both peers,
+/// neither within a connection, the clock and the taps. It says how that ended. No read follows the
+/// end of the input.
 ///
-/// The clauses on the content of the input and the output hold where the source and the sink tell
-/// it. [`Status::Usage`] comes exactly where the words are none of the forms, and then nothing was
-/// read or put. [`Status::InputFault`] and [`Status::OutputFault`] come exactly where the source or
-/// the sink counted a fault in this call, but for a count that stands at its last value. Each other
-/// status says of the input what it is named for, and what was put.
-pub fn run<I: Source, O: Sink>(
+/// The clauses on content hold where those that are called tell it. [`Status::Usage`] comes exactly
+/// where the words are none of the forms. [`Status::InputFault`], [`Status::OutputFault`] and
+/// [`Status::DiskFault`] come exactly where the source, the sink or the disk counted a fault in
+/// this call, but for a count that stands at its last value. Each other status says of the input,
+/// or of the disk, what it is named for, and what was put or lived. What a command does not call is
+/// as it was.
+pub fn run<I: Source, O: Sink, D: Disk, C: Wire, V: Wire, K: Clock>(
     alloc: Global,
     words: &[String],
     input: &mut I,
     out: &mut O,
+    disk: &mut D,
+    client: &mut C,
+    venue: &mut V,
+    clock: &mut K,
+    taps: &mut Vec<Box<dyn Tap>>,
 ) -> Status
-    requires { I.ended input.old ≡ false }
+    requires input { I.ended input.old ≡ false }
+    requires client { ForSome (C.recorded client.old) (λ calls. is_within calls ≡ false) }
+    requires venue { ForSome (V.recorded venue.old) (λ calls. is_within calls ≡ false) }
     ensures usage { (result ≡ Status.Usage) ↔ (command_of (map string_bytes words.now) ≡ None) }
-    ensures unused { result ≡ Status.Usage → (input.new ≡ input.old) × (out.new ≡ out.old) }
 
-    // What the command read and put, by the status.
+    // What a command that writes a text, or does a task, read and put, by the status.
     ensures does { MatchOption (command_of (map string_bytes words.now)) (Unit {0})
         (λ command. Does HELP.now VERSION.now command result
         (I.left input.old) (I.left input.new) (O.bytes out.old) (O.bytes out.new)) }
-    ensures leaves { MatchOption (command_of (map string_bytes words.now)) (Unit {0})
-        (λ command. Leaves command input.old input.new) }
     ensures to_the_end { MatchOption (command_of (map string_bytes words.now)) (Unit {0})
         (λ command. ReadsToEnd command result (I.ended input.new)) }
+
+    // What `serve` read, and the life with the configuration that it is read as.
+    ensures serves { IfServe (command_of (map string_bytes words.now)) (λ rounds.
+        (taken : List ℕ) × Consumes (I.left input.old) (I.left input.new) taken
+        × ServedBy result taken (I.left input.new) (λ config end. Lived end config rounds
+        (D.image disk.old) (D.image disk.new)
+        (record {
+          bytes = D.bytes disk.old;
+          client = C.recorded client.old;
+          venue = V.recorded venue.old;
+          moments = K.moments clock.old;
+          client_polls = C.polls client.old;
+          venue_polls = V.polls venue.old;
+        })
+        (record {
+          bytes = D.bytes disk.new;
+          client = C.recorded client.new;
+          venue = V.recorded venue.new;
+          moments = K.moments clock.new;
+          client_polls = C.polls client.new;
+          venue_polls = V.polls venue.new;
+        })
+        × TapsSaw (state_by has_failed entries tally counts_all) taps.old.items taps.new.items
+        config.names (D.bytes disk.old) (D.image disk.old) (D.image disk.new) end)) }
+
+    // What `show` put of the journal, which it only read.
+    ensures shows { IfShow (command_of (map string_bytes words.now))
+        (ShownBy result (D.bytes disk.old) (O.bytes out.old) (O.bytes out.new)) }
+    ensures only_reads { IfShow (command_of (map string_bytes words.now))
+        (OnlyReads D.bytes D.image disk.old disk.new) }
+
+    // What a command does not call is as it was.
+    ensures input_alone { calls_input (command_of (map string_bytes words.now)) ≡ false
+        → input.new ≡ input.old }
+    ensures output_alone { calls_output (command_of (map string_bytes words.now)) ≡ false
+        → out.new ≡ out.old }
+    ensures disk_alone { calls_disk (command_of (map string_bytes words.now)) ≡ false
+        → disk.new ≡ disk.old }
+    ensures client_alone { calls_wires (command_of (map string_bytes words.now)) ≡ false
+        → client.new ≡ client.old }
+    ensures venue_alone { calls_wires (command_of (map string_bytes words.now)) ≡ false
+        → venue.new ≡ venue.old }
+    ensures clock_alone { calls_wires (command_of (map string_bytes words.now)) ≡ false
+        → clock.new ≡ clock.old }
+    ensures taps_alone { calls_wires (command_of (map string_bytes words.now)) ≡ false
+        → taps.new ≡ taps.old }
 
     ensures input_fault { result ≡ Status.InputFault
         → Rose (I.faults input.old) (I.faults input.new) }
     ensures output_fault { result ≡ Status.OutputFault
         → Rose (O.faults out.old) (O.faults out.new) }
+    ensures disk_fault { result ≡ Status.DiskFault
+        → Rose (D.faults disk.old) (D.faults disk.new) }
     // A fault that was counted is told.
     ensures input_still { result ≢ Status.InputFault → I.faults input.new ≡ I.faults input.old }
     ensures output_still { result ≢ Status.OutputFault → O.faults out.new ≡ O.faults out.old }
+    ensures disk_still { result ≢ Status.DiskFault → D.faults disk.new ≡ D.faults disk.old }
 {
     match read_command(words) {
         Some(Command::Stream(task)) => run_stream(alloc, task, input, out),
+        Some(Command::Serve(rounds)) => of_serve(serve(
+            alloc, rounds, input, disk, client, venue, clock, taps,
+        )),
+        Some(Command::Show) => of_show(show(alloc, disk, out)),
         Some(Command::Help) => write_text(out, HELP),
         Some(Command::Version) => write_text(out, VERSION),
         None => Status::Usage,

@@ -1,8 +1,14 @@
 //! How a run of the program ended.
 
 ghost use Rattle.std.specs.Prelude.{◌≡◌};
-ghost use Rattle.gateway_top.specs.Status.{code_of, end_of};
+ghost use Rattle.gateway_top.specs.Status.{code_of, end_of, status_of_life, status_of_error};
+ghost use Rattle.gateway_top.specs.Status.{status_of_show, key_name};
 
+use gateway_config::ConfigKey;
+use gateway_life::LifeEnd;
+use gateway_serve::ServeError;
+use journal_show::ShowError;
+use order_meaning::{Names, Side};
 use std::fmt;
 use std::marker::Model;
 
@@ -15,14 +21,42 @@ pub enum Status {
     Refused { at: u64 },
     /// The words are none of the forms of the command line.
     Usage,
+    /// This key of the configuration is the first that is missing or wrong.
+    ConfigRefused { key: ConfigKey },
     /// The input failed.
     InputFault,
     /// The output failed.
     OutputFault,
+    /// The disk failed.
+    DiskFault,
+    /// The disk holds no journal: it is refused at this place, that of a gate byte or a record.
+    JournalRefused { at: u64 },
+    /// The disk holds a journal of other names: those kept, and those of the configuration.
+    NamesDiffer { kept: Names, given: Names },
+    /// A record would end past 1,073,741,824 bytes of the journal.
+    JournalFull,
+    /// A message would take a number of this side past 999,999,999.
+    NumbersSpent { side: Side },
     /// Memory was refused.
     NoMemory,
     /// The input has more than 67,108,864 bytes.
     InputTooLong,
+}
+
+/// The name of a key, as it is printed.
+fn key_name(key: ConfigKey) -> &'static str
+    ensures { result.now ≡ key_name key }
+{
+    match key {
+        ConfigKey::NotToml => "NotToml",
+        ConfigKey::ClientOur => "ClientOur",
+        ConfigKey::ClientPeer => "ClientPeer",
+        ConfigKey::VenueOur => "VenueOur",
+        ConfigKey::VenuePeer => "VenuePeer",
+        ConfigKey::VenueHeart => "VenueHeart",
+        ConfigKey::Window => "Window",
+        ConfigKey::Unknown => "Unknown",
+    }
 }
 
 impl fmt::Display for Status {
@@ -36,10 +70,59 @@ impl fmt::Display for Status {
             Status::Done => write!(f, "done"),
             Status::Refused { at } => write!(f, "refused at {at}"),
             Status::Usage => write!(f, "usage"),
+            Status::ConfigRefused { key } => write!(f, "configuration {}", key_name(key)),
             Status::InputFault => write!(f, "input fault"),
             Status::OutputFault => write!(f, "output fault"),
+            Status::DiskFault => write!(f, "disk fault"),
+            Status::JournalRefused { at } => write!(f, "journal refused at {at}"),
+            Status::NamesDiffer { .. } => write!(f, "journal has other names"),
+            Status::JournalFull => write!(f, "journal full"),
+            Status::NumbersSpent { side: Side::Client } => write!(f, "numbers spent client"),
+            Status::NumbersSpent { side: Side::Venue } => write!(f, "numbers spent venue"),
             Status::NoMemory => write!(f, "out of memory"),
             Status::InputTooLong => write!(f, "input too long"),
+        }
+    }
+}
+
+impl From<LifeEnd> for Status {
+    ghost from_gives = { λ end status. status ≡ status_of_life end };
+
+    fn from(end: LifeEnd) -> Status {
+        match end {
+            LifeEnd::Done => Status::Done,
+            LifeEnd::DiskFault => Status::DiskFault,
+            LifeEnd::JournalRefused { at } => Status::JournalRefused { at },
+            LifeEnd::NamesDiffer { kept, given } => Status::NamesDiffer { kept, given },
+            LifeEnd::JournalFull => Status::JournalFull,
+            LifeEnd::NumbersSpent { side } => Status::NumbersSpent { side },
+            LifeEnd::NoMemory => Status::NoMemory,
+        }
+    }
+}
+
+impl From<ServeError> for Status {
+    ghost from_gives = { λ error status. status ≡ status_of_error error };
+
+    fn from(error: ServeError) -> Status {
+        match error {
+            ServeError::InputFault => Status::InputFault,
+            ServeError::InputTooLong => Status::InputTooLong,
+            ServeError::ConfigRefused { key } => Status::ConfigRefused { key },
+            ServeError::NoMemory => Status::NoMemory,
+        }
+    }
+}
+
+impl From<ShowError> for Status {
+    ghost from_gives = { λ error status. status ≡ status_of_show error };
+
+    fn from(error: ShowError) -> Status {
+        match error {
+            ShowError::DiskFault => Status::DiskFault,
+            ShowError::JournalRefused { at } => Status::JournalRefused { at },
+            ShowError::OutputFault => Status::OutputFault,
+            ShowError::NoMemory => Status::NoMemory,
         }
     }
 }
@@ -52,8 +135,13 @@ pub fn code(status: &Status) -> u8
         Status::Done => 0,
         Status::Refused { .. } => 1,
         Status::Usage => 2,
+        Status::ConfigRefused { .. } => 3,
         Status::InputFault => 4,
         Status::OutputFault => 5,
+        Status::DiskFault => 6,
+        Status::JournalRefused { .. } | Status::NamesDiffer { .. } => 7,
+        Status::JournalFull => 8,
+        Status::NumbersSpent { .. } => 9,
         Status::NoMemory => 11,
         Status::InputTooLong => 12,
     }

@@ -1,9 +1,8 @@
 //! A task does all of its input, read by read.
 
-ghost use Rattle.std.specs.Prelude.{◌≡◌, ◌≢◌, ◌≤◌, ◌==◌, false, true, ℕ, List, take, length, OnErr};
-ghost use Rattle.std.specs.Prelude.{IfOk};
-ghost use Rattle.std.specs.Io.KnownBytes.{Consumes, Keeps, IsAtEnd};
-ghost use Rattle.outside.specs.Causes.{HasCause, Rose};
+ghost use Rattle.std.specs.Prelude.{◌≡◌, ◌≢◌, false, true, ℕ, List};
+ghost use Rattle.std.specs.Io.KnownBytes.{Consumes};
+ghost use Rattle.outside.specs.Causes.{Rose};
 ghost use Rattle.gateway_top.specs.Program.{Ran};
 
 use crate::Status;
@@ -11,28 +10,7 @@ use crate::pass::{Pass, Stop};
 use crate::task::Task;
 use outside::{Failed, Sink, Source};
 use std::alloc::Global;
-
-/// The most bytes that an input may have.
-pub const MAX_INPUT: usize = 67_108_864;
-
-/// The most bytes that are read at a time.
-pub const MAX_READ: usize = 4096;
-
-/// Reads at most so many bytes into the front of a buffer.
-fn read_some<I: Source>(input: &mut I, buf: &mut [u8], most: usize) -> Result<usize, Failed>
-    requires some { 1 ≤ most }
-    requires within { most ≤ length buf.old }
-    requires going { I.ended input.old ≡ false }
-    ensures bound { IfOk result (λ count. count ≤ most) }
-    ensures bytes { IfOk result (λ count. Consumes (I.left input.old) (I.left input.new)
-        (take count buf.new)) }
-    ensures end { IfOk result (λ count. count ≡ 0 → IsAtEnd (I.left input.new)) }
-    ensures ended { IfOk result (λ count. I.ended input.new ≡ (count == 0)) }
-    ensures err { OnErr result (Keeps (I.left input.old) (I.left input.new)) }
-    ensures cause { HasCause (I.faults input.old) (I.faults input.new) result }
-{
-    input.read(&mut buf[..most])
-}
+use whole_input::{MAX_INPUT, MAX_READ, read_some};
 
 /// Does a task with all of the input.
 pub(crate) fn run_stream<I: Source, O: Sink>(

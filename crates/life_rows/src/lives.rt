@@ -1,68 +1,100 @@
-//! Lives, with taps and without.
+//! Lives that the command `serve` lives, with taps and without, and what `show` shows of one.
 
 use crate::scripts::Plan;
+use crate::words::lines;
 use drop_taps::{KeepTap, Tap, TotalsTap, clear};
-use gateway_config::Config;
-use gateway_life::{LifeEnd, live};
-use outside::MemDisk;
+use gateway_top::{Status, run};
+use outside::{MemDisk, MemSink, MemSource};
 use std::alloc::{AllocError, Global};
-use wires::{ListClock, MemWire};
+use wires::{ListClock, MemWire, QuietWire};
 
 /// 2024-01-02 10:00:00.
 const NOW: u64 = 1_704_189_600_000;
 
-/// How a life ended, and the client's wire and the venue's after it.
-pub(crate) type Lived = (LifeEnd, MemWire, MemWire);
+/// The configuration of each life.
+const CONFIGURATION: &str =
+    "[client]\nour = \"GATE\"\npeer = \"CLNT\"\n[venue]\nour = \"GATE\"\npeer = \"VENU\"\n";
 
-// A life of so many rounds, whose entries these taps see.
-fn wired(
-    alloc: Global,
-    config: &Config,
-    disk: &mut MemDisk,
-    plans: (Plan, Plan),
-    clock: &mut ListClock,
-    taps: &mut Vec<Box<dyn Tap>>,
-    rounds: u64,
-) -> Lived {
-    let (client, venue) = plans;
-    let mut client = MemWire::new(alloc, client.script, client.fail);
-    let mut venue = MemWire::new(alloc, venue.script, venue.fail);
-    let end = live(
-        alloc,
-        config,
-        disk,
-        &mut client,
-        &mut venue,
-        clock,
-        taps,
-        rounds,
-    );
-    (end, client, venue)
+/// How a life ended, and the client's wire and the venue's after it.
+pub(crate) type Lived = (Status, MemWire, MemWire);
+
+// The words of a command.
+fn words(alloc: Global, command: &str) -> Result<Vec<String>, AllocError> {
+    let mut words = Vec::new(alloc);
+    for word in command.split(' ') {
+        words.push(String::from_str(alloc, word)?)?;
+    }
+    Ok(words)
 }
 
-// The same at one moment.
+// A life of so many rounds, whose entries these taps see.
 fn timed(
     alloc: Global,
-    config: &Config,
     disk: &mut MemDisk,
     plans: (Plan, Plan),
     taps: &mut Vec<Box<dyn Tap>>,
     rounds: u64,
 ) -> Result<Lived, AllocError> {
+    let command = format!(in alloc; "serve {rounds}")?;
+    let words = words(alloc, &command)?;
+    let text = Vec::from_slice(alloc, CONFIGURATION.as_bytes())?;
+    let mut input = MemSource::new(text, Vec::new(alloc));
+    let mut out = MemSink::new(alloc, Vec::new(alloc));
+    let (client, venue) = plans;
+    let mut client = MemWire::new(alloc, client.script, client.fail);
+    let mut venue = MemWire::new(alloc, venue.script, venue.fail);
     let mut clock = ListClock::new(vec![in alloc; NOW]?);
-    Ok(wired(alloc, config, disk, plans, &mut clock, taps, rounds))
+    let status = run(
+        alloc,
+        &words,
+        &mut input,
+        &mut out,
+        disk,
+        &mut client,
+        &mut venue,
+        &mut clock,
+        taps,
+    );
+    Ok((status, client, venue))
+}
+
+/// How `show` ends over a disk, and what it shows: ` ~ ` and a line each, or the last alone.
+pub(crate) fn shows(
+    alloc: Global,
+    disk: &mut MemDisk,
+    is_last: bool,
+) -> Result<String, AllocError> {
+    let words = words(alloc, "show")?;
+    let mut input = MemSource::new(Vec::new(alloc), Vec::new(alloc));
+    let mut out = MemSink::new(alloc, Vec::new(alloc));
+    let mut client = QuietWire::new();
+    let mut venue = QuietWire::new();
+    let mut clock = ListClock::new(Vec::new(alloc));
+    let mut taps: Vec<Box<dyn Tap>> = Vec::new(alloc);
+    let status = run(
+        alloc,
+        &words,
+        &mut input,
+        &mut out,
+        disk,
+        &mut client,
+        &mut venue,
+        &mut clock,
+        &mut taps,
+    );
+    let text = lines(alloc, out.bytes(), is_last)?;
+    format!(in alloc; "{status:?}{text}")
 }
 
 /// A life of so many rounds, without taps.
 pub(crate) fn quiet(
     alloc: Global,
-    config: &Config,
     disk: &mut MemDisk,
     plans: (Plan, Plan),
     rounds: u64,
 ) -> Result<Lived, AllocError> {
     let mut taps: Vec<Box<dyn Tap>> = Vec::new(alloc);
-    timed(alloc, config, disk, plans, &mut taps, rounds)
+    timed(alloc, disk, plans, &mut taps, rounds)
 }
 
 // What a tap counted: entries, requests, reports and refusals, and whether it failed.
@@ -89,7 +121,6 @@ fn taps_words(alloc: Global, taps: &[Box<dyn Tap>]) -> Result<String, AllocError
 /// that failed are cleared away.
 pub(crate) fn tapped(
     alloc: Global,
-    config: &Config,
     disk: &mut MemDisk,
     plans: (Plan, Plan),
     rounds: u64,
@@ -99,7 +130,7 @@ pub(crate) fn tapped(
     taps.push(Box::new(alloc, KeepTap::new(alloc, Vec::new(alloc)))?)?;
     taps.push(Box::new(alloc, KeepTap::new(alloc, vec![in alloc; call]?))?)?;
     taps.push(Box::new(alloc, TotalsTap::new())?)?;
-    let lived = timed(alloc, config, disk, plans, &mut taps, rounds)?;
+    let lived = timed(alloc, disk, plans, &mut taps, rounds)?;
     let words = taps_words(alloc, &taps)?;
     clear(&mut taps);
     let text = format!(in alloc; "{words}{} left", taps.len())?;

@@ -42,6 +42,20 @@ pub(crate) fn shown(alloc: Global, bytes: &[u8]) -> Result<String, AllocError> {
     Ok(text)
 }
 
+/// Lines as a text, with ` ~ ` before each; or the last alone.
+pub(crate) fn lines(alloc: Global, bytes: &[u8], is_last: bool) -> Result<String, AllocError> {
+    let text = shown(alloc, bytes)?;
+    let mut lines = String::new(alloc);
+    for line in text.lines() {
+        if is_last {
+            lines.clear();
+        }
+        lines.push_str(" ~ ")?;
+        lines.push_str(line)?;
+    }
+    Ok(lines)
+}
+
 /// The calls of the rows.
 const CALLS: [&str; 17] = [
     "poll",
@@ -51,7 +65,7 @@ const CALLS: [&str; 17] = [
     "tapped",
     "told",
     "connections",
-    "journal",
+    "show",
     "fails",
     "wire",
     "gives",

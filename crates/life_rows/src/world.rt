@@ -1,13 +1,12 @@
 //! What the rows before have made: scripts, the bytes of a disk, and the wires after a life.
 
-use crate::disks::{config, counted, disk, pick};
-use crate::lives::{quiet, tapped};
+use crate::disks::{disk, pick};
+use crate::lives::{quiet, shows, tapped};
 use crate::peers::Peer;
 use crate::scripts::{Plan, Poll, stream, written};
 use crate::wire_calls::{clock_text, quiet_text, wire_answer, wire_of};
 use crate::words::{behind, number, shown, word};
-use gateway_config::Config;
-use gateway_life::LifeEnd;
+use gateway_top::Status;
 use outside::{Image, MemDisk};
 use std::alloc::{AllocError, Global};
 use wires::MemWire;
@@ -15,14 +14,14 @@ use wires::MemWire;
 /// What a life left: its disk, the client's wire and the venue's.
 #[derive(Drop)]
 struct Left {
-    end: LifeEnd,
+    end: Status,
     disk: MemDisk,
     client: MemWire,
     venue: MemWire,
 }
 
-/// The scripts, the bytes that the next life's disk begins with, what the last life left, and a wire
-/// of its own.
+/// The scripts, the bytes that the next life's disk begins with, what the last life left, and a
+/// wire of its own.
 #[derive(Drop)]
 pub(crate) struct World {
     polls: Vec<Poll>,
@@ -43,16 +42,10 @@ fn rounds(given: &str) -> u64 {
 }
 
 // A life over these bytes of a disk.
-fn lived(
-    alloc: Global,
-    polls: &[Poll],
-    image: &[u8],
-    config: &Config,
-    given: &str,
-) -> Result<Left, AllocError> {
+fn lived(alloc: Global, polls: &[Poll], image: &[u8], given: &str) -> Result<Left, AllocError> {
     let plans = plans(alloc, polls, given)?;
     let mut disk = disk(alloc, image, word(given, 3))?;
-    let (end, client, venue) = quiet(alloc, config, &mut disk, plans, rounds(given))?;
+    let (end, client, venue) = quiet(alloc, &mut disk, plans, rounds(given))?;
     Ok(Left {
         end,
         disk,
@@ -67,13 +60,12 @@ fn watched(
     alloc: Global,
     polls: &[Poll],
     image: &[u8],
-    config: &Config,
     given: &str,
 ) -> Result<(Left, String), AllocError> {
     let plans = plans(alloc, polls, given)?;
     let call = number(word(given, 6)).unwrap_or(0);
     let mut disk = disk(alloc, image, word(given, 3))?;
-    let (lived, words) = tapped(alloc, config, &mut disk, plans, rounds(given), call)?;
+    let (lived, words) = tapped(alloc, &mut disk, plans, rounds(given), call)?;
     let (end, client, venue) = lived;
     let left = Left {
         end,
@@ -110,7 +102,7 @@ const SECOND: &str = "second-client second-venue 8 - - -";
 
 // How a life ended of which a call of this device was to fail. Of a disk it is left open, since it
 // may make fewer calls.
-fn end_words(alloc: Global, device: &str, end: LifeEnd) -> Result<String, AllocError> {
+fn end_words(alloc: Global, device: &str, end: Status) -> Result<String, AllocError> {
     if device == "disk" {
         return format!(in alloc; "-");
     }
@@ -121,7 +113,7 @@ fn end_words(alloc: Global, device: &str, end: LifeEnd) -> Result<String, AllocE
 fn verdict(
     alloc: Global,
     device: &str,
-    ends: (LifeEnd, LifeEnd),
+    ends: (Status, Status),
     venue: &Peer,
     client: &Peer,
 ) -> Result<String, AllocError> {
@@ -152,16 +144,13 @@ impl World {
     }
 
     // A life over the present bytes.
-    fn live(&self, alloc: Global, config: &Config, given: &str) -> Result<Left, AllocError> {
-        lived(alloc, &self.polls, &self.image, config, given)
+    fn live(&self, alloc: Global, given: &str) -> Result<Left, AllocError> {
+        lived(alloc, &self.polls, &self.image, given)
     }
 
     // The same, which is kept: how it ended.
     fn life(&mut self, alloc: Global, given: &str) -> Result<String, AllocError> {
-        let Some(config) = config() else {
-            return format!(in alloc; "no names");
-        };
-        let left = self.live(alloc, &config, given)?;
+        let left = self.live(alloc, given)?;
         let end = left.end;
         self.left = Some(left);
         format!(in alloc; "{end:?}")
@@ -169,10 +158,7 @@ impl World {
 
     // The same with taps: what they counted too.
     fn tapped(&mut self, alloc: Global, given: &str) -> Result<String, AllocError> {
-        let Some(config) = config() else {
-            return format!(in alloc; "no names");
-        };
-        let (left, words) = watched(alloc, &self.polls, &self.image, &config, given)?;
+        let (left, words) = watched(alloc, &self.polls, &self.image, given)?;
         let end = left.end;
         self.left = Some(left);
         format!(in alloc; "{end:?} {words}")
@@ -221,12 +207,11 @@ impl World {
     fn second(
         &mut self,
         alloc: Global,
-        config: &Config,
         client: &mut Peer,
         venue: &mut Peer,
-    ) -> Result<LifeEnd, AllocError> {
+    ) -> Result<Status, AllocError> {
         self.crash(Image::New)?;
-        let left = self.live(alloc, config, SECOND)?;
+        let left = self.live(alloc, SECOND)?;
         let end = left.end;
         self.left = Some(left);
         self.taken(alloc, client, venue)?;
@@ -235,15 +220,10 @@ impl World {
     }
 
     // The first of two lives, over an empty disk.
-    fn first(
-        &mut self,
-        alloc: Global,
-        config: &Config,
-        given: &str,
-    ) -> Result<LifeEnd, AllocError> {
+    fn first(&mut self, alloc: Global, given: &str) -> Result<Status, AllocError> {
         self.image.clear();
         let words = failing_words(alloc, word(given, 0), word(given, 1))?;
-        let left = self.live(alloc, config, &words)?;
+        let left = self.live(alloc, &words)?;
         let end = left.end;
         self.left = Some(left);
         Ok(end)
@@ -251,25 +231,13 @@ impl World {
 
     // A life of which one call fails, and a second life, in which both peers say all again and ask
     // for all.
-    fn two_lives(
-        &mut self,
-        alloc: Global,
-        config: &Config,
-        given: &str,
-    ) -> Result<String, AllocError> {
-        let first = self.first(alloc, config, given)?;
+    fn two_lives(&mut self, alloc: Global, given: &str) -> Result<String, AllocError> {
+        let first = self.first(alloc, given)?;
         let mut client = Peer::new(alloc);
         let mut venue = Peer::new(alloc);
         self.taken(alloc, &mut client, &mut venue)?;
-        let second = self.second(alloc, config, &mut client, &mut venue)?;
+        let second = self.second(alloc, &mut client, &mut venue)?;
         verdict(alloc, word(given, 0), (first, second), &venue, &client)
-    }
-
-    fn fails(&mut self, alloc: Global, given: &str) -> Result<String, AllocError> {
-        match config() {
-            Some(config) => self.two_lives(alloc, &config, given),
-            None => format!(in alloc; "no names"),
-        }
     }
 
     // The answer to a row of one life.
@@ -287,8 +255,8 @@ impl World {
             self.told(alloc, given)
         } else if call == "connections" {
             self.connections(alloc)
-        } else if call == "journal" {
-            counted(alloc, &self.image)
+        } else if call == "show" {
+            shows(alloc, &mut disk(alloc, &self.image, "-")?, given == "last")
         } else {
             self.wire_answer(alloc, call, given)
         }
@@ -336,7 +304,7 @@ impl World {
             self.crash(pick(word(given, 0)))?;
             Ok(String::new(alloc))
         } else if call == "fails" {
-            self.fails(alloc, given)
+            self.two_lives(alloc, given)
         } else {
             self.life_answer(alloc, call, given)
         }

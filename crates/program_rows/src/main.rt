@@ -5,14 +5,16 @@
 
 mod rows;
 mod runs;
-mod wires;
+mod texts;
 
+use gateway_config::ConfigKey;
 use gateway_top::{End, Status, code};
+use order_meaning::Side;
 use rows::{Row, row_of};
 use runs::{answer, help};
 use std::alloc::{AllocError, Global};
 use std::io;
-use wires::{shown, wire};
+use texts::{shown, wire};
 
 /// What a row gives in place of what is expected; none where it is as expected.
 fn another(alloc: Global, row: &Row<'_>) -> Result<Option<String>, AllocError> {
@@ -24,13 +26,20 @@ fn another(alloc: Global, row: &Row<'_>) -> Result<Option<String>, AllocError> {
     Ok(Some(shown(alloc, &answer)?))
 }
 
-/// One of each status.
-const STATUSES: [Status; 7] = [
+/// One of each status but that of other names, which a row shows.
+const STATUSES: [Status; 12] = [
     Status::Done,
     Status::Refused { at: 143 },
     Status::Usage,
+    Status::ConfigRefused {
+        key: ConfigKey::VenueHeart,
+    },
     Status::InputFault,
     Status::OutputFault,
+    Status::DiskFault,
+    Status::JournalRefused { at: 161 },
+    Status::JournalFull,
+    Status::NumbersSpent { side: Side::Venue },
     Status::NoMemory,
     Status::InputTooLong,
 ];

@@ -1,10 +1,23 @@
 //! Runs of the program.
 
+ghost use Rattle.std.specs.Prelude.{◌≡◌, false};
+
 use crate::rows::{Row, number_behind};
-use crate::wires::{shown, wire};
+use crate::texts::{shown, wire};
+use drop_taps::Tap;
 use gateway_top::{Status, run};
-use outside::{MemSink, MemSource};
+use outside::{MemDisk, MemSink, MemSource};
 use std::alloc::{AllocError, Global};
+use wires::{ListClock, QuietWire};
+
+/// A disk on which a journal was born, of GATE and CLNT, and of GATE and VENU: so many zeros stand
+/// behind each text.
+const BORN: [(&[u8], usize); 4] = [
+    (b"\x01\0\0\0\x9bFIXGATEWAY1\x04GATE", 31),
+    (b"\x04CLNT", 31),
+    (b"\x04GATE", 31),
+    (b"\x04VENU", 32),
+];
 
 /// The words of a command line behind the program's name.
 fn words_of(alloc: Global, command: &str) -> Result<Vec<String>, AllocError> {
@@ -24,16 +37,45 @@ fn failing(alloc: Global, fault: &str, kind: &str) -> Result<Vec<u64>, AllocErro
     Ok(calls)
 }
 
-/// A run over an input whose calls fail as listed.
+/// What stands on the disk before the run: nothing, so many zeros, or a journal that was born.
+fn content(alloc: Global, fault: &str) -> Result<Vec<u8>, AllocError> {
+    let mut bytes = Vec::new(alloc);
+    let zeros = number_behind(fault, "over").unwrap_or(0);
+    bytes.extend_from_slice(&vec![in alloc; 0; zeros as usize]?)?;
+    if fault.split(' ').any(|word| word == "born") {
+        for (text, zeros) in &BORN {
+            bytes.extend_from_slice(text)?;
+            bytes.extend_from_slice(&vec![in alloc; 0; *zeros]?)?;
+        }
+    }
+    Ok(bytes)
+}
+
+/// A run over an input and a disk whose calls fail as listed, with wires on which nothing comes.
 fn ran(
     alloc: Global,
     words: &[String],
-    input: Vec<u8>,
-    reads: Vec<u64>,
+    source: &mut MemSource,
     sink: &mut MemSink,
-) -> Status {
-    let mut source = MemSource::new(input, reads);
-    run(alloc, words, &mut source, sink)
+    disk: &mut MemDisk,
+) -> Status
+    requires { source.old.ended ≡ false }
+{
+    let mut client = QuietWire::new();
+    let mut venue = QuietWire::new();
+    let mut clock = ListClock::new(Vec::new(alloc));
+    let mut taps: Vec<Box<dyn Tap>> = Vec::new(alloc);
+    run(
+        alloc,
+        words,
+        source,
+        sink,
+        disk,
+        &mut client,
+        &mut venue,
+        &mut clock,
+        &mut taps,
+    )
 }
 
 /// A status, and ` : ` and what was put where something was.
@@ -51,16 +93,20 @@ fn ended(alloc: Global, status: &Status, put: &[u8]) -> Result<Vec<u8>, AllocErr
 pub(crate) fn answer(alloc: Global, row: &Row<'_>) -> Result<Vec<u8>, AllocError> {
     let words = words_of(alloc, row.command)?;
     let input = wire(alloc, row.input)?;
-    let reads = failing(alloc, row.fault, "read")?;
+    let mut source = MemSource::new(input, failing(alloc, row.fault, "read")?);
     let mut sink = MemSink::new(alloc, failing(alloc, row.fault, "write")?);
-    let status = ran(alloc, &words, input, reads, &mut sink);
+    let on_disk = content(alloc, row.fault)?;
+    let mut disk = MemDisk::new(alloc, on_disk, failing(alloc, row.fault, "disk")?);
+    let status = ran(alloc, &words, &mut source, &mut sink, &mut disk);
     ended(alloc, &status, sink.bytes())
 }
 
 /// What `--help` puts.
 pub(crate) fn help(alloc: Global) -> Result<String, AllocError> {
     let words = words_of(alloc, "fixgate --help")?;
+    let mut source = MemSource::new(Vec::new(alloc), Vec::new(alloc));
     let mut sink = MemSink::new(alloc, Vec::new(alloc));
-    let _ = ran(alloc, &words, Vec::new(alloc), Vec::new(alloc), &mut sink);
+    let mut disk = MemDisk::new(alloc, Vec::new(alloc), Vec::new(alloc));
+    let _ = ran(alloc, &words, &mut source, &mut sink, &mut disk);
     shown(alloc, sink.bytes())
 }

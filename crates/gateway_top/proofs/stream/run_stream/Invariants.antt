@@ -1,7 +1,7 @@
 use Rattle.std.proofs.Common.{◌≡◌, ◌-◌, ◌≤◌, length, false}
 use Rattle.frame_grammar.specs.Held.{room}
 use Rattle.gateway_top.specs.Task.{kind_of}
-use Rattle.gateway_top.specs.declared.stream.TheConstants.{MAX_INPUT, MAX_READ}
+use Rattle.whole_input.specs.declared.reading.TheConstants.{MAX_INPUT, MAX_READ}
 use Rattle.gateway_top.proofs.Midway.{Midway}
 use Rattle.gateway_top.proofs.stream.run_stream.Given as goal
 

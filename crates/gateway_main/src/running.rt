@@ -1,0 +1,223 @@
+//! The outside of a run, by the options: the disk of the journal, both wires and the clock.
+
+ghost use Rattle.std.specs.Prelude.{◌≡◌, false};
+ghost use Rattle.std.specs.Option.{ForSome};
+ghost use Rattle.wires.specs.Wire.{is_within};
+
+use crate::options::Options;
+use drop_taps::Tap;
+use edge_parts::{Shared, stop_path};
+use gateway_edge::{Addresses, Edge, JournalFile, StopFile, System};
+use gateway_top::{Status, run};
+use outside::{Disk, MemDisk, Sink, Source};
+use std::fmt;
+use std::fs::File;
+use std::io::Write;
+use std::rt::Files;
+use wires::{Clock, ListClock, QuietWire, Wire};
+
+// Prints a line to standard error. Nothing is left to say where that fails too.
+fn tell<W: Write + Copy, T: fmt::Display + Drop>(mut lines: W, what: T) {
+    let _ = writeln!(lines, "{what}");
+}
+
+// A run between two peers at these addresses. Behind it the peers are given what was said last, and
+// a stop file that asked for the end is removed.
+fn run_between<
+    R: System + Files + Copy + Drop,
+    W: Write + Copy + Drop,
+    I: Source,
+    O: Sink,
+    D: Disk,
+>(
+    rt: R,
+    lines: W,
+    words: &[String],
+    input: &mut I,
+    out: &mut O,
+    taps: &mut Vec<Box<dyn Tap>>,
+    disk: &mut D,
+    addresses: Addresses,
+    stop_path: &str,
+) -> Status
+    requires { I.ended input.old ≡ false }
+{
+    let shared = Shared::new();
+    let Ok(path) = String::from_str(rt.alloc(), stop_path) else {
+        return Status::NoMemory;
+    };
+    let stop = StopFile::new(&path);
+    let Ok(mut edge) = Edge::new(&rt, &shared, addresses, stop, lines) else {
+        return Status::NoMemory;
+    };
+    let mut client = edge.client;
+    let mut venue = edge.venue;
+    let mut clock = edge.clock;
+    let status = run(
+        rt.alloc(),
+        words,
+        input,
+        out,
+        disk,
+        &mut client,
+        &mut venue,
+        &mut clock,
+        taps,
+    );
+    edge.client = client;
+    edge.venue = venue;
+    edge.clock = clock;
+    edge.part();
+    if shared.is_ending() {
+        if let Err(error) = stop.remove(&rt) {
+            tell(lines, error);
+        }
+    }
+    status
+}
+
+// A run with wires on which nothing comes.
+fn run_alone<R: System, I: Source, O: Sink, D: Disk>(
+    rt: &R,
+    words: &[String],
+    input: &mut I,
+    out: &mut O,
+    taps: &mut Vec<Box<dyn Tap>>,
+    disk: &mut D,
+) -> Status
+    requires { I.ended input.old ≡ false }
+{
+    let mut client = QuietWire::new();
+    let mut venue = QuietWire::new();
+    let mut clock = ListClock::new(Vec::new(rt.alloc()));
+    run(
+        rt.alloc(),
+        words,
+        input,
+        out,
+        disk,
+        &mut client,
+        &mut venue,
+        &mut clock,
+        taps,
+    )
+}
+
+// A run over a journal in memory. A fault of its disk is want of memory.
+fn run_in_memory<R: System + Files + Copy + Drop, W: Write + Copy + Drop, I: Source, O: Sink>(
+    rt: R,
+    lines: W,
+    options: &Options<'_>,
+    input: &mut I,
+    out: &mut O,
+    taps: &mut Vec<Box<dyn Tap>>,
+) -> Status
+    requires { I.ended input.old ≡ false }
+{
+    let alloc = rt.alloc();
+    let mut disk = MemDisk::new(alloc, Vec::new(alloc), Vec::new(alloc));
+    let status = match options.addresses {
+        Some(addresses) => {
+            run_between(
+                rt,
+                lines,
+                options.words,
+                input,
+                out,
+                taps,
+                &mut disk,
+                addresses,
+                "",
+            )
+        }
+        None => run_alone(&rt, options.words, input, out, taps, &mut disk),
+    };
+    if disk.refused() && status == Status::DiskFault {
+        return Status::NoMemory;
+    }
+    status
+}
+
+// Whether a stop file lies at this path, of which a line is printed.
+fn stop_lies<R: Files, W: Write + Copy>(rt: &R, lines: W, path: &str) -> bool {
+    match StopFile::new(path).refusal(rt) {
+        Some(refusal) => {
+            tell(lines, refusal);
+            true
+        }
+        None => false,
+    }
+}
+
+// A run over the journal at this path. A gateway between two peers does not start where a stop file
+// lies beside it.
+fn run_with_journal<
+    R: System + Files<File = File> + Copy + Drop,
+    W: Write + Copy + Drop,
+    I: Source,
+    O: Sink,
+>(
+    rt: R,
+    lines: W,
+    options: &Options<'_>,
+    input: &mut I,
+    out: &mut O,
+    taps: &mut Vec<Box<dyn Tap>>,
+    journal: &str,
+) -> Status
+    requires { I.ended input.old ≡ false }
+{
+    let alloc = rt.alloc();
+    let (Ok(path), Ok(stop)) = (String::from_str(alloc, journal), stop_path(alloc, journal)) else {
+        return Status::NoMemory;
+    };
+    let mut disk = JournalFile::new(&rt, &path);
+    let status = match options.addresses {
+        Some(addresses) => {
+            if stop_lies(&rt, lines, &stop) {
+                return Status::DiskFault;
+            }
+            run_between(
+                rt,
+                lines,
+                options.words,
+                input,
+                out,
+                taps,
+                &mut disk,
+                addresses,
+                &stop,
+            )
+        }
+        None => run_alone(&rt, options.words, input, out, taps, &mut disk),
+    };
+    if status == Status::DiskFault {
+        if let Ok(Some(reason)) = disk.refusal(alloc) {
+            tell(lines, reason);
+        }
+    }
+    status
+}
+
+/// Does what the words of the command line ask for, behind their options, with the system's files,
+/// sockets and clock. Lines for the operator go to `lines`, which is standard error.
+pub(crate) fn run_words<
+    R: System + Files<File = File> + Copy + Drop,
+    W: Write + Copy + Drop,
+    I: Source,
+    O: Sink,
+>(
+    rt: R,
+    lines: W,
+    options: &Options<'_>,
+    input: &mut I,
+    out: &mut O,
+    taps: &mut Vec<Box<dyn Tap>>,
+) -> Status
+    requires { I.ended input.old ≡ false }
+{
+    match options.journal {
+        Some(path) => run_with_journal(rt, lines, options, input, out, taps, path),
+        None => run_in_memory(rt, lines, options, input, out, taps),
+    }
+}
