@@ -11,3 +11,6 @@ pub mod DownValues
 pub mod DownRows
 pub mod SoundDown
 mod ReportsAgain
+pub mod Bounds
+pub mod SaidReports
+pub mod FromFields

@@ -1,4 +1,5 @@
 pub mod Mapping
 pub mod Down
 pub mod Written
+pub mod FromFields
 pub mod Laws

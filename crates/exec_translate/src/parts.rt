@@ -3,6 +3,7 @@
 
 ghost use Rattle.std.specs.Prelude.{◌≡◌, ◌++◌, ◌==◌, ◌||◌, take, IfOk, IfSome, OnOk};
 ghost use Rattle.std.specs.Prelude.{codes, if◌then◌else◌, true, None};
+ghost use Rattle.std.specs.Option.{option_map};
 ghost use Rattle.typed_fields.specs.Number.{IsNumber};
 ghost use Rattle.message_tables.specs.Tables.{is_one_of};
 ghost use Rattle.rows_fix42.specs.Meaning.{is_on_close};
@@ -10,6 +11,7 @@ ghost use Rattle.rows_fix50.specs.Meaning.{terms_of as terms50};
 ghost use Rattle.reports_fix50.specs.Sense.{most_before_reasons, reason_told, telling};
 ghost use Rattle.exec_translate.specs.Written.{coded, dated, terms42, told_text, value_in};
 ghost use Rattle.exec_translate.specs.Written.{within};
+ghost use Rattle.exec_translate.specs.FromFields.{if_told};
 
 use crate::reasons::{LAST_CXL_REASON, LAST_REJ_REASON, LAST_RESTATE_REASON};
 use field_groups::put_tag;
@@ -143,22 +145,41 @@ fn front(text: &[u8]) -> &[u8]
 }
 
 /// A text, and behind it what it tells besides, which begins with a space.
-fn telling(alloc: Global, text: &Option<Bytes>, told: &[u8]) -> Result<Option<Bytes>, AllocError>
-    ensures { IfOk result (λ written. written ≡ telling text.now told.now) }
+fn telling(alloc: Global, text: Option<&[u8]>, told: &[u8]) -> Result<Option<Bytes>, AllocError>
+    ensures { IfOk result (λ written.
+        written ≡ telling (option_map (λ t. t.now) text.entry) told.now) }
 {
     match (told, text) {
-        ([], text) => owned(alloc, bytes_of(text)),
+        ([], text) => owned(alloc, text),
         ([_, rest @ ..], None) => Ok(Some(Bytes::copy(alloc, rest)?)),
         (told, Some(text)) => {
-            let mut bytes = Bytes::copy(alloc, front(text.as_slice()))?;
+            let mut bytes = Bytes::copy(alloc, front(text))?;
             bytes.extend_from_slice(told)?;
             Ok(Some(bytes))
         }
     }
 }
 
-/// The text of an execution report, which tells the reasons that FIX 4.2 lacks, OrdRejReason(103)
-/// before ExecRestatementReason(378).
+/// The reasons of an execution report that FIX 4.2 lacks, OrdRejReason(103) before
+/// ExecRestatementReason(378).
+fn told_of_report(
+    alloc: Global,
+    rej_reason: Option<Number>,
+    restate_reason: Option<Number>,
+) -> Result<Vec<u8>, AllocError>
+    requires rej_reason { IfSome rej_reason IsNumber }
+    requires restate_reason { IfSome restate_reason IsNumber }
+    ensures { IfOk result (λ told. told.items
+        ≡ reason_told 103 LAST_REJ_REASON (value_in rej_reason)
+        ++ reason_told 378 LAST_RESTATE_REASON (value_in restate_reason)) }
+{
+    let mut told = Vec::new(alloc);
+    push_reason(&mut told, 103, LAST_REJ_REASON, rej_reason)?;
+    push_reason(&mut told, 378, LAST_RESTATE_REASON, restate_reason)?;
+    Ok(told)
+}
+
+/// The text of an execution report, which tells the reasons that FIX 4.2 lacks.
 pub(crate) fn report_text(
     alloc: Global,
     text: &Option<Bytes>,
@@ -171,10 +192,8 @@ pub(crate) fn report_text(
         (reason_told 103 LAST_REJ_REASON (value_in rej_reason)
         ++ reason_told 378 LAST_RESTATE_REASON (value_in restate_reason))) }
 {
-    let mut told = Vec::new(alloc);
-    push_reason(&mut told, 103, LAST_REJ_REASON, rej_reason)?;
-    push_reason(&mut told, 378, LAST_RESTATE_REASON, restate_reason)?;
-    telling(alloc, text, &told)
+    let told = told_of_report(alloc, rej_reason, restate_reason)?;
+    telling(alloc, bytes_of(text), &told)
 }
 
 /// The text of a cancel reject, which tells a CxlRejReason(102) that FIX 4.2 lacks.
@@ -189,5 +208,48 @@ pub(crate) fn reject_text(
 {
     let mut told = Vec::new(alloc);
     push_reason(&mut told, 102, LAST_CXL_REASON, cxl_reason)?;
-    telling(alloc, text, &told)
+    telling(alloc, bytes_of(text), &told)
+}
+
+/// The text that tells something at its end, if it tells something.
+fn if_told(alloc: Global, text: Option<&[u8]>, told: &[u8]) -> Result<Option<Bytes>, AllocError>
+    ensures { IfOk result (λ written.
+        written ≡ if_told (option_map (λ t. t.now) text.entry) told.now) }
+{
+    match told {
+        [] => Ok(None),
+        told => telling(alloc, text, told),
+    }
+}
+
+/// The text of an execution report, if it tells reasons that FIX 4.2 lacks.
+pub(crate) fn report_told(
+    alloc: Global,
+    text: Option<&[u8]>,
+    rej_reason: Option<Number>,
+    restate_reason: Option<Number>,
+) -> Result<Option<Bytes>, AllocError>
+    requires rej_reason { IfSome rej_reason IsNumber }
+    requires restate_reason { IfSome restate_reason IsNumber }
+    ensures { IfOk result (λ written. written ≡ if_told (option_map (λ t. t.now) text.entry)
+        (reason_told 103 LAST_REJ_REASON (value_in rej_reason)
+        ++ reason_told 378 LAST_RESTATE_REASON (value_in restate_reason))) }
+{
+    let told = told_of_report(alloc, rej_reason, restate_reason)?;
+    if_told(alloc, text, &told)
+}
+
+/// The text of a cancel reject, if it tells a CxlRejReason(102) that FIX 4.2 lacks.
+pub(crate) fn reject_told(
+    alloc: Global,
+    text: Option<&[u8]>,
+    cxl_reason: Option<Number>,
+) -> Result<Option<Bytes>, AllocError>
+    requires { IfSome cxl_reason IsNumber }
+    ensures { IfOk result (λ written. written ≡ if_told (option_map (λ t. t.now) text.entry)
+        (reason_told 102 LAST_CXL_REASON (value_in cxl_reason))) }
+{
+    let mut told = Vec::new(alloc);
+    push_reason(&mut told, 102, LAST_CXL_REASON, cxl_reason)?;
+    if_told(alloc, text, &told)
 }

@@ -39,10 +39,10 @@ use Rattle.translation.proofs.BehindHeader.{IsHead, front, items_behind, read_be
 use Rattle.translation.proofs.CarriedHeader.{IsOwnHead, HasHeader, head_is_own, head_value}
 use Rattle.translation.proofs.CarriedHeader.{own_said}
 use Rattle.translation.proofs.SplitAgain.{fields_again}
-use Rattle.report_translate.specs.declared.report.ClientReport.{ClientReport}
-use Rattle.report_translate.specs.declared.report.ClientReport.TheVariants as client
-use Rattle.report_translate.specs.declared.report.VenueReport.{VenueReport}
-use Rattle.report_translate.specs.declared.report.VenueReport.TheVariants as venue
+use Rattle.report_translate.specs.ClientReport.{ClientReport}
+use Rattle.report_translate.specs.ClientReport as client
+use Rattle.report_translate.specs.VenueReport.{VenueReport}
+use Rattle.report_translate.specs.VenueReport as venue
 use Rattle.report_translate.specs.Reading.{report_message}
 use Rattle.report_translate.specs.Said.{says50, says42, content42}
 use Rattle.report_translate.specs.Writing.{AreWritten, IsExecutionOf, IsRejectOf}

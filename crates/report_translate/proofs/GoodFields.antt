@@ -5,6 +5,7 @@ use Rattle.std.specs.Prelude.{IsSome, IfSome, IfErr, OnOk, Result, Ok, Err, unwr
 use Rattle.std.specs.Prelude.{if◌then◌else◌}
 use Rattle.std.specs.Borrow.{Bor}
 use Rattle.std.specs.Str.{bytes_eq}
+use Rattle.std.proofs.lemmas.Slice.Eq.{bytes_eq-Decides}
 use Rattle.field_groups.specs.declared.fault.SplitFault.{SplitFault}
 use Rattle.field_groups.specs.Field.{Field}
 use Rattle.value_kinds.specs.CodeKinds.{code_text}
@@ -85,13 +86,15 @@ module _ (msg_type : List ℕ) (fields : List Field) where
 -- ---- the codes of FIX 4.2
 
 module _ (fields : List Field) where
-  codes_of_report : lacks_codes (completed (message_in judge report_table fields)) ≡ lacks_at fields
+  pub codes_of_report : lacks_codes (completed (message_in judge report_table fields))
+      ≡ lacks_at fields
   codes_of_report = refl
 
-  codes_of_reject : lacks_codes (completed (message_in judge cancel_reject_table fields)) ≡ false
+  pub codes_of_reject : lacks_codes (completed (message_in judge cancel_reject_table fields))
+      ≡ false
   codes_of_reject = refl
 
-  type_said : first_fault judge report_table fields ≡ None → IsSome (exec_type_said fields)
+  pub type_said : first_fault judge report_table fields ≡ None → IsSome (exec_type_said fields)
   type_said none =
       says report_table fields none 11 150 (Value (Known (codes "03456789ABCDEFGHIJKL"))) refl refl
 
@@ -168,6 +171,20 @@ module _ (fields : List Field) (msg_type : List ℕ) (same : msg_type ≡ type_o
       let P : List ℕ → Type 0 = λ m. report_message m fields None ≡ Ok message in
       record { whole = refl; read = subst P same is }
 
+  -- the table of an execution report, and of a cancel reject
+  pub is_eight : is_8 msg_type fields ≡ true → type_of fields ≡ codes "8"
+  is_eight test = sym same ∙ (bytes_eq-Decides msg_type (codes "8")).0 test
+
+  pub clean_8 : is_8 msg_type fields ≡ true → first_fault judge report_table fields ≡ None
+  clean_8 test = good_8 msg_type fields test good_by
+
+  pub is_nine : is_8 msg_type fields ≡ false → type_of fields ≡ codes "9"
+  is_nine test = sym same ∙ (bytes_eq-Decides msg_type (codes "9")).0
+      (good_9 msg_type fields test good_by).0
+
+  pub clean_9 : is_8 msg_type fields ≡ false → first_fault judge cancel_reject_table fields ≡ None
+  clean_9 test = (good_9 msg_type fields test good_by).1
+
   module _ (test : is_8 msg_type fields ≡ true) where
     are_8 : AreRead fields None (completed (message_in judge report_table fields))
     are_8 = are_read (completed (message_in judge report_table fields))
@@ -207,6 +224,8 @@ module _ (fields : List Field) (msg_type : List ℕ) (same : msg_type ≡ type_o
   }
 
 pub ruleset by_type = (says_type, checked, refused, rejects)
+
+pub ruleset tables = (is_eight, clean_8, is_nine, clean_9)
 
 -- ---- fields that were judged
 

@@ -21,7 +21,7 @@ some_if true x y o p same = refl
 some_if false x y o p same = same
 
 -- whether an ExecType has codes is the same beside each OrdStatus
-codes_alike : (exec_type ord_status : ℕ) (fill : Bool)
+pub codes_alike : (exec_type ord_status : ℕ) (fill : Bool)
     → is_some (mapped exec_type ord_status fill) ≡ has_codes exec_type
 codes_alike exec_type ord_status fill =
     some_if (exec_type == 70) _ _ _ _
@@ -32,9 +32,6 @@ codes_alike exec_type ord_status fill =
 
 same_codes : (m : Report50) → is_some (codes_of m) ≡ has_codes m.exec_type
 same_codes m = codes_alike m.exec_type m.ord_status (is_fill m.ord_status m.leaves.units)
-
-pub without_codes : (m : Report50) → codes_of m ≡ None → lacks_codes (report_says m) ≡ true
-without_codes m none = ap not (sym (same_codes m) ∙ ap is_some none)
 
 pub with_codes : (m : Report50)
     → is_some (codes_of m) ≡ true → lacks_codes (report_says m) ≡ false
@@ -50,10 +47,6 @@ lack_of_nothing m codes original = rw (codes, original) refl
 
 abbrev lack_by : Option (List ℕ) → Option ℕ
 lack_by original = if not (is_some original) then Some 41 else None
-
-pub without_original : (m : CancelReject50)
-    → m.orig_id ≡ None → lack_of (cancel_reject_says m) ≡ Some 41
-without_original m none = ap lack_by none
 
 -- a cancel reject that is written says its order
 original_in : Option Report → Option (List ℕ)

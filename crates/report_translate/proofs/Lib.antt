@@ -2,6 +2,7 @@ pub mod Lacks
 pub mod OfType
 pub mod GoodFields
 pub mod Stands
+pub mod Appended
 pub mod ReadReports
 pub mod DownAgain
 pub mod Translated

@@ -1,6 +1,6 @@
 -- Reports and refusals, by their types.
 use Rattle.std.proofs.Common.{◌≡◌, ℕ, Bool, true, false, List, codes, Option, Some, None}
-use Rattle.std.proofs.Common.{Result, Ok, Err, refl, sym, ap, ◌∙◌, subst, arith}
+use Rattle.std.proofs.Common.{Result, Ok, Err, refl, sym, ap, ◌∙◌, arith}
 use Rattle.std.specs.Str.{bytes_eq}
 use Rattle.std.proofs.lemmas.Slice.Eq.{bytes_eq-Decides}
 use Rattle.field_groups.specs.declared.fault.SplitFault.{SplitFault}
@@ -13,7 +13,7 @@ use Rattle.order_meaning.specs.declared.fault.Fault.TheVariants as faults
 use Rattle.order_meaning.specs.declared.refusal.Refusal.{Refusal}
 use Rattle.row_values.specs.Kinds.{Kind}
 use Rattle.row_values.specs.Faults.{of_split}
-use Rattle.row_values.specs.Gives.{Gives, Tells}
+use Rattle.row_values.specs.Gives.{Gives}
 use Rattle.refusal_parts.specs.Once.{refusal_by}
 use Rattle.reports_fix42.specs.Message.{message42 as any42}
 use Rattle.reports_fix42.specs.Message.{session_reject_table as session_reject_table42}
@@ -22,14 +22,9 @@ use Rattle.reports_fix50.specs.Message.{report_by, report_table, cancel_reject_t
 use Rattle.reports_fix50.specs.Message.{message50 as any50}
 use Rattle.reports_fix50.specs.Message.{session_reject_table as session_reject_table50}
 use Rattle.reports_fix50.specs.Message.{business_reject_table as business_reject_table50}
-use Rattle.translation.specs.declared.error.TranslateError.{TranslateError}
-use Rattle.translation.specs.Errors.{error_of_fault}
-use Rattle.translation.specs.Header.{type_of}
 use Rattle.translation.proofs.Writable.{IsType, is_byte}
-use Rattle.report_translate.specs.declared.report.VenueReport.{VenueReport}
 use Rattle.report_translate.specs.Reading.{report_message, refusal_message}
-use Rattle.report_translate.specs.Said.{says50}
-use Rattle.report_translate.specs.Writing.{IsMisread, IsReadAs}
+use Rattle.report_translate.specs.Writing.{IsReadAs}
 
 module _ (msg_type : List ℕ) (fields : List Field) (stopped : Option SplitFault) where
   is_type : (known : List ℕ) → bytes_eq msg_type known ≡ true → msg_type ≡ known
@@ -182,38 +177,6 @@ module _ (msg_type : List ℕ) (fields : List Field) (stopped : Option SplitFaul
   unfolding any50
   business50 says r test gives =
       read_as says r (refusal_by business_reject_table50 fields stopped) _ gives (j50 test)
-
-  -- an answer that says what the table says
-  pub gives_eight : (r : Result VenueReport Fault) → bytes_eq msg_type (codes "8") ≡ true
-      → Gives says50 r (report_by report_table fields stopped)
-      → Gives says50 r (report_message msg_type fields stopped)
-  gives_eight r test gives =
-      let P : Result Message Fault → Type 0 = λ m. Gives says50 r m in
-      subst P (sym (eight test)) gives
-
-  pub gives_nine : (r : Result VenueReport Fault) → bytes_eq msg_type (codes "9") ≡ true
-      → Gives says50 r (report_by cancel_reject_table fields stopped)
-      → Gives says50 r (report_message msg_type fields stopped)
-  gives_nine r test gives =
-      let P : Result Message Fault → Type 0 = λ m. Gives says50 r m in
-      subst P (sym (nine test)) gives
-
--- a fault, as the error that it is
-pub misread : (fields : List Field) (stopped : Option SplitFault) (fault : Fault)
-    (error : TranslateError) → error ≡ error_of_fault fault
-    → Tells fault (report_message (type_of fields) fields stopped) → IsMisread fields stopped error
-misread fields stopped fault error same told =
-    let P : TranslateError → Type 0 = λ e. IsMisread fields stopped e in
-    subst P (sym same) (by fault told)
-  where
-    by : (fault : Fault) → Tells fault (report_message (type_of fields) fields stopped)
-        → IsMisread fields stopped (error_of_fault fault)
-    by faults.NoMemory told = tt
-    by faults.NotSupported told = told
-    by (faults.Session tag reason) told = told
-    by (faults.NoCounterpart tag) told = told
-
-pub ruleset by_type = (gives_eight, gives_nine, no_report)
 
 pub ruleset refusals42 = (session42, business42, no_refusal)
 

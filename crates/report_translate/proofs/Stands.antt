@@ -1,12 +1,10 @@
 -- The report of FIX 4.2 that stands for fields, and why there is none.
-use Rattle.std.proofs.Common.{◌≡◌, ℕ, false, List, Option, Some, None, Result, Ok, Err, refl}
-use Rattle.std.proofs.Common.{sym, ap, ◌∙◌, subst}
-use Rattle.std.specs.Prelude.{IfOk, IfErr, OnOk, is_some}
+use Rattle.std.proofs.Common.{◌≡◌, ℕ, List, Option, Some, None, Result, Ok, Err, refl}
+use Rattle.std.proofs.Common.{sym, ap, ◌∙◌}
+use Rattle.std.specs.Prelude.{IfErr, OnOk, is_some}
 use Rattle.std.specs.Option.{option_map}
 use Rattle.field_groups.specs.declared.fault.SplitFault.{SplitFault}
 use Rattle.field_groups.specs.Field.{Field}
-use Rattle.order_meaning.specs.declared.fault.Lack.{Lack}
-use Rattle.order_meaning.specs.declared.fault.Lack.TheVariants as lacks
 use Rattle.order_meaning.specs.Book.{Book}
 use Rattle.order_meaning.specs.Report.{filled, or_known}
 use Rattle.reports_fix42.specs.declared.reports.Report42.{Report42}
@@ -21,28 +19,21 @@ use Rattle.reports_fix50.specs.Readable as readable50
 use Rattle.reports_fix50.specs.Said as said50
 use Rattle.reports_fix50.specs.Sense.{report50}
 use Rattle.reports_fix50.specs.Step.{step50}
-use Rattle.exec_translate.specs.Down as lack_of_down
-use Rattle.exec_translate.specs.Down.{IsMapped, LacksOriginal}
+use Rattle.exec_translate.specs.Down.{IsMapped}
 use Rattle.exec_translate.specs.Written as rows
 use Rattle.translation.specs.declared.error.TranslateError.{TranslateError}
 use Rattle.translation.specs.declared.error.TranslateError.TheVariants as errors
-use Rattle.translation.specs.Errors.{error_of_lack}
-use Rattle.translation.specs.Header.{type_of}
 use Rattle.translation.specs.Writing.{IsWritten, IsUnwritten}
-use Rattle.report_translate.specs.declared.report.ClientReport.{ClientReport}
-use Rattle.report_translate.specs.declared.report.ClientReport.TheVariants as client
-use Rattle.report_translate.specs.declared.report.VenueReport.{VenueReport}
-use Rattle.report_translate.specs.declared.report.VenueReport.TheVariants as venue
-use Rattle.report_translate.specs.Lack.{lacks_codes}
-use Rattle.report_translate.specs.Reading.{report_message}
-use Rattle.report_translate.specs.Said.{says50, content42}
+use Rattle.report_translate.specs.ClientReport.{ClientReport}
+use Rattle.report_translate.specs.ClientReport as client
+use Rattle.report_translate.specs.VenueReport as venue
+use Rattle.report_translate.specs.Said.{content42}
 use Rattle.report_translate.specs.Translation.{Executes, Rejects}
-use Rattle.report_translate.specs.Writing.{Means, IsUnsaid, LacksCodes, AreRead, IsMisread}
+use Rattle.report_translate.specs.Writing.{Means}
 use Rattle.report_translate.specs.Writing.{IsReportOf, Refuses, IsDownOf, RefusesDown}
-use Rattle.report_translate.proofs.Lacks.{without_codes, with_codes, lack_of_codes, lack_of_nothing}
-use Rattle.report_translate.proofs.Lacks.{without_original, with_original, same_sense}
+use Rattle.report_translate.proofs.Lacks.{with_codes, lack_of_nothing}
+use Rattle.report_translate.proofs.Lacks.{with_original, same_sense}
 use Rattle.report_translate.proofs.Lacks.{nothing_known}
-use Rattle.report_translate.proofs.OfType.{whole}
 
 -- ---- one report
 
@@ -103,81 +94,9 @@ rejected m r same status readable books told written original = record {
   books = books;
 }
 
-pub without_execution : (m : Report50) (lack : Lack) (error : TranslateError)
-    → error ≡ error_of_lack lack → lack_of_down.LacksCodes m lack
-    → LacksCodes (said50.report_says m) error
-without_execution m lack error same why =
-    let P : TranslateError → Type 0 = λ e. LacksCodes (said50.report_says m) e in
-    subst P (sym same) (by lack why)
-  where
-    by : (lack : Lack) → lack_of_down.LacksCodes m lack
-        → LacksCodes (said50.report_says m) (error_of_lack lack)
-    by lacks.NoMemory h = tt
-    by (lacks.Tag tag) h = (h.0, without_codes m h.1)
-
-pub without_reject : (m : CancelReject50) (lack : Lack) (error : TranslateError)
-    → error ≡ error_of_lack lack → LacksOriginal m.orig_id None lack
-    → IsUnsaid (venue.CancelReject m) error
-without_reject m lack error same why =
-    let P : TranslateError → Type 0 = λ e. IsUnsaid (venue.CancelReject m) e in
-    subst P (sym same) (by lack why)
-  where
-    by : (lack : Lack) → LacksOriginal m.orig_id None lack
-        → IsUnsaid (venue.CancelReject m) (error_of_lack lack)
-    by lacks.NoMemory h = tt
-    by (lacks.Tag tag) h = without_original m h.1 ∙ ap Some (sym h.0)
-
-pub unsaid : (m : Report50) (error : TranslateError)
-    → LacksCodes (said50.report_says m) error → IsUnsaid (venue.Execution m) error
-unsaid m errors.NoMemory h = tt
-unsaid m (errors.Lacking tag) h =
-    lack_of_codes (said50.report_says m) h.1 ∙ ap Some (sym h.0)
-unsaid m (errors.Faulty fault) h = absurd h
-unsaid m errors.TooLong h = absurd h
-
--- ---- either report
-
-module _ (v w : VenueReport) (is : v ≡ w) where
-  pub means_in : (r : ClientReport) → Means w r → Means v r
-  means_in r h = let P : VenueReport → Type 0 = λ x. Means x r in subst P (sym is) h
-
-  pub unsaid_in : (error : TranslateError) → IsUnsaid w error → IsUnsaid v error
-  unsaid_in error h = let P : VenueReport → Type 0 = λ x. IsUnsaid x error in subst P (sym is) h
-
 -- ---- the fields of a body
 
 module _ (fields : List Field) (stopped : Option SplitFault) where
-  are_read : (venue : VenueReport)
-      → report_message (type_of fields) fields stopped ≡ Ok (says50 venue)
-      → AreRead fields stopped (says50 venue)
-  are_read venue e =
-      let none = whole (type_of fields) fields stopped (says50 venue) e in
-      let P : Option SplitFault → Type 0 =
-      λ s. report_message (type_of fields) fields s ≡ Ok (says50 venue) in
-      record { whole = none; read = subst P none e }
-
-  pub told : (venue : VenueReport) (r : Result ClientReport TranslateError)
-      → report_message (type_of fields) fields stopped ≡ Ok (says50 venue)
-      → IfOk r (Means venue) → IfOk r (IsReportOf fields stopped)
-  told venue (Ok report) e h = record { venue = venue; read = are_read venue e; written = h }
-  told venue (Err error) e h = tt
-
-  pub untold : (venue : VenueReport) (r : Result ClientReport TranslateError)
-      → report_message (type_of fields) fields stopped ≡ Ok (says50 venue)
-      → IfErr r (IsUnsaid venue) → IfErr r (Refuses fields stopped)
-  untold venue (Ok report) e h = tt
-  untold venue (Err errors.NoMemory) e h = tt
-  untold venue (Err (errors.Lacking tag)) e h = (venue, are_read venue e, h)
-  untold venue (Err (errors.Faulty fault)) e h = absurd h
-  untold venue (Err errors.TooLong) e h = absurd h
-
-  pub misread_down : (error : TranslateError)
-      → IsMisread fields stopped error → Refuses fields stopped error
-  misread_down errors.NoMemory h = h
-  misread_down errors.TooLong h = absurd h
-  misread_down (errors.Lacking tag) h = absurd h
-  misread_down (errors.Faulty fault) h = h
-
   -- what was written for a report
   pub written_down : (report : ClientReport) (down : List ℕ) (r : Result (Unit {0}) TranslateError)
       → IsReportOf fields stopped report → OnOk r (IsWritten fields (content42 report) down)

@@ -11,7 +11,7 @@ use Rattle.translation.specs.declared.error.TranslateError.{TranslateError}
 use Rattle.translation.specs.declared.error.TranslateError.TheVariants as errors
 use Rattle.translation.specs.Header.{type_of, carried, with_content}
 use Rattle.translation.proofs.Writable.{writable}
-use Rattle.report_translate.specs.declared.report.ClientReport.{ClientReport}
+use Rattle.report_translate.specs.ClientReport.{ClientReport}
 use Rattle.report_translate.specs.Said.{says50, says42, content42}
 use Rattle.report_translate.specs.Translation.{IsReport, IsKnown, StandsFor, IsTranslation}
 use Rattle.report_translate.specs.Translation.{IsRefused, IsRefusedByCheck}
@@ -88,7 +88,7 @@ module _ (body : List ℕ) (fields : List Field)
   refused (errors.Faulty fault) h =
       record { fields = fields; stopped = stopped; split = split; read = h }
   refused (errors.Lacking tag) h =
-      record { fields = fields; report = report (says50 h.0) h.1; lack = h.2 }
+      record { fields = fields; report = report h.0 h.1; lack = h.2 }
 
   pub known : (r : Result (Unit {0}) TranslateError) → OnOk r (IsCheckedOf fields stopped)
       → OnOk r ((fields : List Field) × IsKnown body fields)

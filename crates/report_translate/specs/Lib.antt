@@ -2,6 +2,8 @@ pub mod Reading
 pub mod Lack
 pub mod Translation
 pub mod Refusals
+pub mod VenueReport
+pub mod ClientReport
 pub mod Said
 pub mod Writing
 pub mod Laws

@@ -7,10 +7,10 @@ use Rattle.reports_fix42.specs.Readable as readable42
 use Rattle.reports_fix42.specs.Said as said42
 use Rattle.reports_fix50.specs.Readable as readable50
 use Rattle.reports_fix50.specs.Said as said50
-use Rattle.report_translate.specs.declared.report.ClientReport.{ClientReport}
-use Rattle.report_translate.specs.declared.report.ClientReport.TheVariants as client
-use Rattle.report_translate.specs.declared.report.VenueReport.{VenueReport}
-use Rattle.report_translate.specs.declared.report.VenueReport.TheVariants as venue
+use Rattle.report_translate.specs.ClientReport.{ClientReport}
+use Rattle.report_translate.specs.ClientReport as client
+use Rattle.report_translate.specs.VenueReport.{VenueReport}
+use Rattle.report_translate.specs.VenueReport as venue
 
 abbrev pub says50 : VenueReport → Message
 says50 (venue.Execution m) = said50.report_says m

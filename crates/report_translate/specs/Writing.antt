@@ -1,8 +1,9 @@
 -- Inside: what is known on the way from a body to its translation.
-use Rattle.std.specs.Prelude.{◌≡◌, ℕ, Bool, true, false, not, unwrap_or, List, Option, Some, None}
+use Rattle.std.specs.Prelude.{◌≡◌, ◌++◌, ℕ, Bool, true, false, not, unwrap_or, List, Option, Some}
+use Rattle.std.specs.Prelude.{None}
 use Rattle.std.specs.Prelude.{Result, Ok, Err}
 use Rattle.field_groups.specs.declared.fault.SplitFault.{SplitFault}
-use Rattle.field_groups.specs.Field.{Field}
+use Rattle.field_groups.specs.Field.{Field, body_of}
 use Rattle.message_tables.specs.Tables.{Message, ◌>>=◌, code_of}
 use Rattle.order_meaning.specs.Book.{Book}
 use Rattle.order_meaning.specs.declared.fault.Fault.{Fault}
@@ -25,10 +26,10 @@ use Rattle.translation.specs.declared.error.TranslateError.{TranslateError}
 use Rattle.translation.specs.declared.error.TranslateError.TheVariants as errors
 use Rattle.translation.specs.Header.{type_of}
 use Rattle.translation.specs.Writing.{IsWritten, IsUnwritten}
-use Rattle.report_translate.specs.declared.report.ClientReport.{ClientReport}
-use Rattle.report_translate.specs.declared.report.ClientReport.TheVariants as client
-use Rattle.report_translate.specs.declared.report.VenueReport.{VenueReport}
-use Rattle.report_translate.specs.declared.report.VenueReport.TheVariants as venue
+use Rattle.report_translate.specs.ClientReport.{ClientReport}
+use Rattle.report_translate.specs.ClientReport as client
+use Rattle.report_translate.specs.VenueReport.{VenueReport}
+use Rattle.report_translate.specs.VenueReport as venue
 use Rattle.report_translate.specs.Lack.{lack_of, lacks_codes}
 use Rattle.report_translate.specs.Reading.{report_message}
 use Rattle.report_translate.specs.Said.{says50, says42, IsReadable42, content42}
@@ -61,18 +62,6 @@ pub record Means (venue : VenueReport) (client : ClientReport) : Type 0 where
   pub means : report42 (says42 client) ≡ report50 (says50 venue)
   pub books : (book : Book) → step42 book (says42 client) ≡ step50 book (says50 venue)
 
--- why there is none
-abbrev pub IsUnsaid : VenueReport → TranslateError → Type 0
-IsUnsaid venue errors.NoMemory = Unit {0}
-IsUnsaid venue (errors.Lacking tag) = lack_of (says50 venue) ≡ Some tag
-IsUnsaid venue error = ⊥
-
--- why a message has no codes of FIX 4.2
-abbrev pub LacksCodes : Message → TranslateError → Type 0
-LacksCodes m errors.NoMemory = Unit {0}
-LacksCodes m (errors.Lacking tag) = (tag ≡ 150) × (lacks_codes m ≡ true)
-LacksCodes m error = ⊥
-
 -- fields of a whole body are read as this message
 pub record AreRead
     (fields : List Field) (stopped : Option SplitFault) (message : Message) : Type 0 where
@@ -95,9 +84,16 @@ pub record IsReportOf
 
 -- why there is none
 abbrev pub Refuses : List Field → Option SplitFault → TranslateError → Type 0
-Refuses fields stopped (errors.Lacking tag) = (venue : VenueReport)
-    × AreRead fields stopped (says50 venue) × (lack_of (says50 venue) ≡ Some tag)
+Refuses fields stopped (errors.Lacking tag) = (message : Message)
+    × AreRead fields stopped message × (lack_of message ≡ Some tag)
 Refuses fields stopped error = IsMisread fields stopped error
+
+-- the content of a report that means what these fields mean is appended
+pub record Appends (fields : List Field) (stopped : Option SplitFault) (before after : List ℕ)
+    : Type 0 where
+  pub client : ClientReport
+  pub told : IsReportOf fields stopped client
+  pub bytes : after ≡ before ++ body_of (content42 client)
 
 -- fields that are a report that has codes of FIX 4.2
 pub record IsCheckedOf (fields : List Field) (stopped : Option SplitFault) : Type 0 where

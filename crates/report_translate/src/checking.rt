@@ -15,7 +15,7 @@ use translation::{TranslateError, faulty, msg_type};
 
 /// The fields of a body, where they are whole and a report at no fault.
 #[tactic(auto, using(crate::proofs::GoodFields::judged))]
-fn good<'s, 'a>(split: &'s Split<'a>) -> Result<&'s Fields<'a>, TranslateError>
+pub(crate) fn good<'s, 'a>(split: &'s Split<'a>) -> Result<&'s Fields<'a>, TranslateError>
     ensures ok { IfOk result (λ good. AreGood (report_table_of (type_of split.now.fields))
         split.now.fields split.now.fault good.now) }
     ensures refused { IfErr result (RefusesCheck split.now.fields split.now.fault) }

@@ -1,27 +1,16 @@
 //! Translating the body of a report of FIX 5.0 SP2 to FIX 4.2.
 
-ghost use Rattle.std.specs.Prelude.{◌≡◌, ◌++◌, ℕ, List, IfErr, OnOk, OnErr, None};
-ghost use Rattle.field_groups.specs.Field.{Field, AreFields};
+ghost use Rattle.std.specs.Prelude.{◌≡◌, ◌++◌, ℕ, List, IfErr, OnOk, OnErr};
+ghost use Rattle.field_groups.specs.Field.{Field};
 ghost use Rattle.report_translate.specs.Translation.{IsKnown, IsTranslation, IsRefused};
 ghost use Rattle.report_translate.specs.Translation.{IsRefusedByCheck};
-ghost use Rattle.report_translate.specs.Writing.{IsDownOf, RefusesDown};
 
 use crate::checking::check_fields;
-use crate::report::{down, write_body};
-use field_groups::{Split, split};
+use crate::report::write_down;
+use field_groups::split;
 use frame_grammar::{FrameError, Kind, write_frame};
 use std::alloc::Global;
 use translation::TranslateError;
-
-/// Writes to `body`, in place of what it has, the body that stands for the fields of a body.
-fn write_down(alloc: Global, split: &Split<'_>, body: &mut Vec<u8>) -> Result<(), TranslateError>
-    requires { AreFields None split.now.fields }
-    ensures ok { OnOk result (IsDownOf split.now.fields split.now.fault body.new.items) }
-    ensures refused { IfErr result (RefusesDown split.now.fields split.now.fault) }
-{
-    let report = down(alloc, split)?;
-    write_body(&split.fields, &report, body)
-}
 
 /// Translates bodies of reports. It keeps the memory for one body from each call to the next.
 #[derive(Debug, Drop)]

@@ -1,4 +1,5 @@
 pub mod ApartRows
+pub mod AsTheyStand
 pub mod Completed
 pub mod ContentAgain
 pub mod ContentValues

@@ -1,0 +1,14 @@
+use Rattle.std.specs.List.{flat_map}
+use Rattle.row_values.specs.Writing.{part_fields}
+use Rattle.exec_translate.proofs.FromFields.{appends_reject_if, reject_text_at}
+use Rattle.exec_translate.proofs.from_fields.put_read_reject.Goals as goal
+
+pub text_part-text-requires : goal.text_part-text-requires
+text_part-text-requires c = reject_text_at c.args.fields.now c.requires.good
+
+pub returns : goal.returns
+returns c =
+    appends_reject_if c.args.fields.now c.args.reject.now c.requires.good c.requires.reject
+    c.requires.original c.put_content.result (flat_map part_fields c.reject_parts.result)
+    c.args.out.now.items c.put_content.new.out.items c.reject_parts.ensures.content
+    c.put_content.ensures.ok

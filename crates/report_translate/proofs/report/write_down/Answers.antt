@@ -1,0 +1,38 @@
+use Rattle.std.proofs.Common.{rules, ◌≡◌, length}
+use Rattle.std.proofs.lemmas.Result.{err_from_is_err_and}
+use Rattle.report_translate.specs.Said.{content42}
+use Rattle.translation.proofs.Bodies.{written, unwritten}
+use Rattle.report_translate.proofs.Stands.{written_down, unwritten_down, refused_down}
+use Rattle.report_translate.proofs.report.write_down.Goals as goal
+
+pub returns-clause-ok : goal.returns-clause-ok
+returns-clause-ok c =
+    let fields = c.args.split.now.fields in
+    let put = c.in_ok-put_down.ensures.ok in
+    let head : c.len-head.result ≡ length c.write_head.new.out.items = search rules in
+    let whole : c.len-whole.result ≡ length c.put_down.new.out.items = search rules in
+    written_down fields c.args.split.now.fault put.client c.put_down.new.out.items
+    c.check_lengths.result put.told
+    (written fields (content42 put.client) c.clear.new.self.items c.write_head.new.out.items
+    c.put_down.new.out.items c.clear.ensures.items c.in_ok-write_head.ensures put.bytes
+    c.len-head.result c.len-whole.result head whole c.check_lengths.result
+    c.check_lengths.ensures.ok)
+
+pub returns-clause-refused : goal.returns-clause-refused
+returns-clause-refused c =
+    let fields = c.args.split.now.fields in
+    let put = c.in_ok-put_down.ensures.ok in
+    let head : c.len-head.result ≡ length c.write_head.new.out.items = search rules in
+    let whole : c.len-whole.result ≡ length c.put_down.new.out.items = search rules in
+    unwritten_down fields c.args.split.now.fault put.client c.check_lengths.result put.told
+    (unwritten fields (content42 put.client) c.clear.new.self.items c.write_head.new.out.items
+    c.put_down.new.out.items c.clear.ensures.items c.in_ok-write_head.ensures put.bytes
+    c.len-head.result c.len-whole.result head whole c.check_lengths.result
+    c.check_lengths.ensures.long)
+
+pub returns-in_err-put_down-clause-refused : goal.returns-in_err-put_down-clause-refused
+returns-in_err-put_down-clause-refused c =
+    let p = err_from_is_err_and c.from_residual-in_err-put_down.result
+    c.from_residual-in_err-put_down.ensures.1 in
+    rw (p.1, p.2) (refused_down c.args.split.now.fields c.args.split.now.fault
+    c.in_err-put_down.field-0.0 c.in_err-put_down.ensures.refused)
