@@ -1,0 +1,6 @@
+pub mod EventLines
+pub mod Grammar
+pub mod Parts
+pub mod Steps
+pub mod Whole
+pub mod Worked

@@ -1,0 +1,102 @@
+//! How a capture is read.
+
+ghost use Rattle.std.specs.Prelude.{◌≡◌, IfOk, IfErr};
+ghost use Rattle.capture_text.specs.declared.reading.CaptureFault.TheVariants as faults;
+ghost use Rattle.capture_text.specs.Header.{IsHeader, Faults};
+ghost use Rattle.capture_text.specs.Life.{LivesSay};
+ghost use Rattle.capture_text.specs.Reading.{Reads};
+
+use crate::header::{TITLE, read_names};
+use crate::life::read_life;
+use crate::lines::{next_number, split_line};
+use crate::{Capture, Lives};
+use order_meaning::Names;
+use std::alloc::{AllocError, Global};
+use thiserror::Error;
+
+/// Why a text was not read as a capture.
+#[derive(Clone, Copy, Debug, Error, PartialEq, Eq)]
+pub enum CaptureFault {
+    /// The first line outside the grammar, which counts from 1 and stays at 2^32 - 1.
+    #[error("capture line {0}")]
+    Line(u32),
+    /// Want of memory, which says nothing of the text.
+    #[error("out of memory")]
+    NoMemory,
+}
+
+impl From<AllocError> for CaptureFault {
+    ghost from_gives = { λ _ e. e ≡ faults.NoMemory };
+
+    fn from(_e: AllocError) -> CaptureFault {
+        CaptureFault::NoMemory
+    }
+}
+
+/// The first two lines, and what stands behind them.
+#[tactic(auto, using(crate::proofs::Whole::first_is_none, crate::proofs::Whole::no_first, crate::proofs::Whole::second_is_none, crate::proofs::Whole::no_second))]
+fn read_header(text: &[u8]) -> Result<(Names, u32, &[u8]), CaptureFault>
+    ensures ok { IfOk result (λ read. IsHeader text.now read.0 read.1 read.2.now) }
+    ensures err { IfErr result (Faults text.now) }
+{
+    let Some((title, behind)) = split_line(text) else {
+        return Err(CaptureFault::Line(1));
+    };
+    if title != TITLE {
+        return Err(CaptureFault::Line(1));
+    }
+    let Some((line, rest)) = split_line(behind) else {
+        return Err(CaptureFault::Line(2));
+    };
+    match read_names(line) {
+        Some((names, heart)) => Ok((names, heart, rest)),
+        None => Err(CaptureFault::Line(2)),
+    }
+}
+
+/// The lives behind the first two lines.
+fn read_lives(alloc: Global, text: &[u8]) -> Result<Lives, CaptureFault>
+    ensures { LivesSay text.now result }
+{
+    let mut lives = Lives::new(alloc);
+    let mut rest = text;
+    let mut number = 2;
+    loop {
+        let Some((line, after)) = split_line(rest) else {
+            break;
+        };
+        number = next_number(number);
+        if line != b"life".as_slice() {
+            return Err(CaptureFault::Line(number));
+        }
+        let (life, behind, last) = read_life(alloc, after, number)?;
+        lives.push(life)?;
+        rest = behind;
+        number = last;
+    }
+    if !rest.is_empty() || lives.as_slice().is_empty() {
+        return Err(CaptureFault::Line(next_number(number)));
+    }
+    Ok(lives)
+}
+
+/// Reads a capture: the line `fixgate capture 1`; `names A B C D H` with the four CompIDs, each of
+/// 1 to 35 bytes from 33 to 126, and HeartBtInt(108) of 0 to 3,600 seconds; and at least one life,
+/// which is a line `life`, a line for each [`Event`](crate::Event) and a line `end`. LF ends each
+/// line. Bytes may come of a side that is open, and a side closes where it is open and opens where
+/// it is not. Numbers have no zero in front.
+///
+/// # Errors
+/// `Line` exactly where this is the first line with which no capture goes on; a text that ends too
+/// early has it behind its last line. `NoMemory` for want of memory.
+pub fn read_capture(alloc: Global, text: &[u8]) -> Result<Capture, CaptureFault>
+    ensures { Reads text.now result }
+{
+    let header = read_header(text)?;
+    let lives = read_lives(alloc, header.2)?;
+    Ok(Capture {
+        names: header.0,
+        heart: header.1,
+        lives,
+    })
+}
