@@ -1,5 +1,5 @@
 -- The lines of events, told apart.
-use Rattle.std.proofs.Common.{◌≡◌, ◌≢◌, ℕ, List, [], ◌∷◌, ◌++◌, map, All, None}
+use Rattle.std.proofs.Common.{◌≡◌, ◌≢◌, ℕ, List, ◌++◌, map, All, None, refl}
 use Rattle.std.specs.Prelude.{codes}
 use Rattle.order_meaning.specs.declared.Side.{Side}
 use Rattle.order_meaning.specs.declared.Side.TheVariants.{Client, Venue}
@@ -7,54 +7,55 @@ use Rattle.frame_grammar.specs.Frame.{IsBody, frame_of}
 use Rattle.capture_text.specs.declared.capture.Event.TheVariants as event
 use Rattle.capture_text.specs.Capture.{written, letter, kind_of, IsByte, IsRound}
 use Rattle.capture_text.specs.Line.{LineSays}
+use Rattle.capture_text.proofs.Bytes.{differ, behind}
 
 -- a text that writes no round is the line of no event behind a letter and a blank
 pub no_text : (side : Side) (text : List ℕ)
     → ((bytes : List ℕ) → All IsByte bytes → IsRound bytes → text ≢ map written bytes)
     → LineSays (letter side ++ codes " " ++ text) None
-no_text Client text none (event.At ms) bounded is = absurd (cc is)
-no_text Client text none event.Tick bounded is = absurd (cc is)
-no_text Client text none (event.Opened Client) bounded is = absurd (cc is)
-no_text Client text none (event.Opened Venue) bounded is = absurd (cc is)
-no_text Client text none (event.Closed Client) bounded is = absurd (cc is)
-no_text Client text none (event.Closed Venue) bounded is = absurd (cc is)
-no_text Client text none (event.Text Client bytes) (are, round) is = none bytes are round (cc is)
-no_text Client text none (event.Text Venue bytes) bounded is = absurd (cc is)
-no_text Client text none (event.Frame Client body) bounded is = absurd (cc is)
-no_text Client text none (event.Frame Venue body) bounded is = absurd (cc is)
-no_text Venue text none (event.At ms) bounded is = absurd (cc is)
-no_text Venue text none event.Tick bounded is = absurd (cc is)
-no_text Venue text none (event.Opened Client) bounded is = absurd (cc is)
-no_text Venue text none (event.Opened Venue) bounded is = absurd (cc is)
-no_text Venue text none (event.Closed Client) bounded is = absurd (cc is)
-no_text Venue text none (event.Closed Venue) bounded is = absurd (cc is)
-no_text Venue text none (event.Text Client bytes) bounded is = absurd (cc is)
-no_text Venue text none (event.Text Venue bytes) (are, round) is = none bytes are round (cc is)
-no_text Venue text none (event.Frame Client body) bounded is = absurd (cc is)
-no_text Venue text none (event.Frame Venue body) bounded is = absurd (cc is)
+no_text Client text none (event.At ms) bounded is = differ 0 is refl
+no_text Client text none event.Tick bounded is = differ 0 is refl
+no_text Client text none (event.Opened Client) bounded is = differ 1 is refl
+no_text Client text none (event.Opened Venue) bounded is = differ 0 is refl
+no_text Client text none (event.Closed Client) bounded is = differ 1 is refl
+no_text Client text none (event.Closed Venue) bounded is = differ 0 is refl
+no_text Client text none (event.Text Client bytes) (are, round) is = none bytes are round (behind 2 is)
+no_text Client text none (event.Text Venue bytes) bounded is = differ 0 is refl
+no_text Client text none (event.Frame Client body) bounded is = differ 1 is refl
+no_text Client text none (event.Frame Venue body) bounded is = differ 0 is refl
+no_text Venue text none (event.At ms) bounded is = differ 0 is refl
+no_text Venue text none event.Tick bounded is = differ 0 is refl
+no_text Venue text none (event.Opened Client) bounded is = differ 0 is refl
+no_text Venue text none (event.Opened Venue) bounded is = differ 1 is refl
+no_text Venue text none (event.Closed Client) bounded is = differ 0 is refl
+no_text Venue text none (event.Closed Venue) bounded is = differ 1 is refl
+no_text Venue text none (event.Text Client bytes) bounded is = differ 0 is refl
+no_text Venue text none (event.Text Venue bytes) (are, round) is = none bytes are round (behind 2 is)
+no_text Venue text none (event.Frame Client body) bounded is = differ 0 is refl
+no_text Venue text none (event.Frame Venue body) bounded is = differ 1 is refl
 
 -- a text that writes no body of a round is the line of no event behind a letter, `f` and a blank
 pub no_frame : (side : Side) (text : List ℕ)
     → ((body : List ℕ) → All IsByte body → IsBody body → IsRound (frame_of (kind_of side) body)
     → text ≢ map written body)
     → LineSays (letter side ++ codes "f " ++ text) None
-no_frame Client text none (event.At ms) bounded is = absurd (cc is)
-no_frame Client text none event.Tick bounded is = absurd (cc is)
-no_frame Client text none (event.Opened Client) bounded is = absurd (cc is)
-no_frame Client text none (event.Opened Venue) bounded is = absurd (cc is)
-no_frame Client text none (event.Closed Client) bounded is = absurd (cc is)
-no_frame Client text none (event.Closed Venue) bounded is = absurd (cc is)
-no_frame Client text none (event.Text Client bytes) bounded is = absurd (cc is)
-no_frame Client text none (event.Text Venue bytes) bounded is = absurd (cc is)
-no_frame Client text none (event.Frame Client body) (are, sound, round) is = none body are sound round (cc is)
-no_frame Client text none (event.Frame Venue body) bounded is = absurd (cc is)
-no_frame Venue text none (event.At ms) bounded is = absurd (cc is)
-no_frame Venue text none event.Tick bounded is = absurd (cc is)
-no_frame Venue text none (event.Opened Client) bounded is = absurd (cc is)
-no_frame Venue text none (event.Opened Venue) bounded is = absurd (cc is)
-no_frame Venue text none (event.Closed Client) bounded is = absurd (cc is)
-no_frame Venue text none (event.Closed Venue) bounded is = absurd (cc is)
-no_frame Venue text none (event.Text Client bytes) bounded is = absurd (cc is)
-no_frame Venue text none (event.Text Venue bytes) bounded is = absurd (cc is)
-no_frame Venue text none (event.Frame Client body) bounded is = absurd (cc is)
-no_frame Venue text none (event.Frame Venue body) (are, sound, round) is = none body are sound round (cc is)
+no_frame Client text none (event.At ms) bounded is = differ 0 is refl
+no_frame Client text none event.Tick bounded is = differ 0 is refl
+no_frame Client text none (event.Opened Client) bounded is = differ 1 is refl
+no_frame Client text none (event.Opened Venue) bounded is = differ 0 is refl
+no_frame Client text none (event.Closed Client) bounded is = differ 1 is refl
+no_frame Client text none (event.Closed Venue) bounded is = differ 0 is refl
+no_frame Client text none (event.Text Client bytes) bounded is = differ 1 is refl
+no_frame Client text none (event.Text Venue bytes) bounded is = differ 0 is refl
+no_frame Client text none (event.Frame Client body) (are, sound, round) is = none body are sound round (behind 3 is)
+no_frame Client text none (event.Frame Venue body) bounded is = differ 0 is refl
+no_frame Venue text none (event.At ms) bounded is = differ 0 is refl
+no_frame Venue text none event.Tick bounded is = differ 0 is refl
+no_frame Venue text none (event.Opened Client) bounded is = differ 0 is refl
+no_frame Venue text none (event.Opened Venue) bounded is = differ 1 is refl
+no_frame Venue text none (event.Closed Client) bounded is = differ 0 is refl
+no_frame Venue text none (event.Closed Venue) bounded is = differ 1 is refl
+no_frame Venue text none (event.Text Client bytes) bounded is = differ 0 is refl
+no_frame Venue text none (event.Text Venue bytes) bounded is = differ 1 is refl
+no_frame Venue text none (event.Frame Client body) bounded is = differ 0 is refl
+no_frame Venue text none (event.Frame Venue body) (are, sound, round) is = none body are sound round (behind 3 is)

@@ -14,6 +14,7 @@ use Rattle.capture_text.specs.declared.capture.Event.TheVariants as event
 use Rattle.capture_text.specs.Capture.{letter, line_of, life_lines, is_open, MayStand}
 use Rattle.capture_text.specs.Capture.{AreEvents}
 use Rattle.capture_text.specs.Life.{behind, Begun, Follows}
+use Rattle.capture_text.proofs.Bytes.{differ}
 
 abbrev pub Lines : Type 0
 Lines = List (List ℕ)
@@ -23,16 +24,16 @@ end = codes "end"
 
 -- the line of an event does not end a life
 pub not_end : (e : Event) → line_of e ≡ end → ⊥
-not_end (event.At ms) is = absurd (cc is)
-not_end event.Tick is = absurd (cc is)
-not_end (event.Opened Client) is = absurd (cc is)
-not_end (event.Opened Venue) is = absurd (cc is)
-not_end (event.Closed Client) is = absurd (cc is)
-not_end (event.Closed Venue) is = absurd (cc is)
-not_end (event.Text Client bytes) is = absurd (cc is)
-not_end (event.Text Venue bytes) is = absurd (cc is)
-not_end (event.Frame Client body) is = absurd (cc is)
-not_end (event.Frame Venue body) is = absurd (cc is)
+not_end (event.At ms) is = differ 0 is refl
+not_end event.Tick is = differ 0 is refl
+not_end (event.Opened Client) is = differ 0 is refl
+not_end (event.Opened Venue) is = differ 0 is refl
+not_end (event.Closed Client) is = differ 0 is refl
+not_end (event.Closed Venue) is = differ 0 is refl
+not_end (event.Text Client bytes) is = differ 0 is refl
+not_end (event.Text Venue bytes) is = differ 0 is refl
+not_end (event.Frame Client body) is = differ 0 is refl
+not_end (event.Frame Venue body) is = differ 0 is refl
 
 -- what the first line and the others of two equal lists are
 tail_same : (x y : List ℕ) (xs ys : Lines) → x ∷ xs ≡ y ∷ ys → (x ≡ y) × (xs ≡ ys)
@@ -57,12 +58,12 @@ pub behind_lives : (lives all : List (List Event)) (more : Lines)
 behind_lives [] all more sound is = (all, sound, is)
 behind_lives (life ∷ lives) [] more sound is = absurd (cc is)
 behind_lives (life ∷ lives) (top ∷ all) more sound is =
-    behind_lives lives all more (All-tail (AreEvents []) top all sound) (ends_once top life (flat_map life_lines all)
-    (flat_map life_lines lives ++ more)
-    ((tail_same (codes "life") (codes "life") _ _ (straight top (flat_map life_lines all)
-    ∙ is ∙ ap (λ (ls : Lines). ls ++ more) (sym (straight life (flat_map life_lines lives)))
-    ∙ append_assoc (codes "life" ∷ map line_of life ++ end ∷ []) (flat_map life_lines lives) more
-    ∙ sym (straight life (flat_map life_lines lives ++ more)))).1))
+    behind_lives lives all more (All-tail (AreEvents []) top all sound)
+    (ends_once top life (flat_map life_lines all) (flat_map life_lines lives ++ more)
+    (tail_same (codes "life") (codes "life") _ _ (straight top (flat_map life_lines all)
+    ∙ is
+    ∙ append_assoc (life_lines life) (flat_map life_lines lives) more
+    ∙ sym (straight life (flat_map life_lines lives ++ more)))).1)
   where
     straight : (events : List Event) (rest : Lines)
         → codes "life" ∷ map line_of events ++ end ∷ rest ≡ life_lines events ++ rest
@@ -81,8 +82,10 @@ same_stands before other (event.At ms) same may = may
 same_stands before other event.Tick same may = may
 same_stands before other (event.Opened side) same may = sym (same side) ∙ may
 same_stands before other (event.Closed side) same may = sym (same side) ∙ may
-same_stands before other (event.Text side bytes) same (is, may) = (sym (same side) ∙ is, may)
-same_stands before other (event.Frame side body) same (is, may) = (sym (same side) ∙ is, may)
+same_stands before other (event.Text side bytes) same (is, are, round) =
+    (sym (same side) ∙ is, are, round)
+same_stands before other (event.Frame side body) same (is, are, sound, round) =
+    (sym (same side) ∙ is, are, sound, round)
 
 -- what a line does to a side
 abbrev effect : Side → List ℕ → Bool → Bool

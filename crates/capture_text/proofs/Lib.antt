@@ -1,3 +1,4 @@
+pub mod Bytes
 pub mod EventLines
 pub mod Grammar
 pub mod Parts

@@ -1,8 +1,9 @@
 -- How a text is cut into its lines.
-use Rattle.std.proofs.Common.{◌≡◌, ℕ, ◌+◌, ◌<◌, ◌≤◌, Bool, true, false, List, [], ◌∷◌, length, take, drop}
+use Rattle.std.proofs.Common.{◌≡◌, ℕ, ◌+◌, ◌-◌, ◌<◌, not, ◌≤◌, Bool, true, false, List, [], ◌∷◌, length, take, drop}
 use Rattle.std.proofs.Common.{refl, sym, ◌∙◌, ap, subst, Some, None, cond, ◌==◌, All, nat_lt, arith}
 use Rattle.std.specs.List.{position, position_or_len, slice_split, count_by}
 use Rattle.std.proofs.lemmas.Bool.{ltb-true, ltb-false}
+use Rattle.std.proofs.lemmas.List.{take_rest}
 use Rattle.std.proofs.lemmas.List.Elements.{All-cons, All-nil}
 use Rattle.std.proofs.lemmas.List.Splits.{slice_split_first, length-slice_split}
 use Rattle.std.proofs.lemmas.List.Splits.{slice_split_none}
@@ -11,10 +12,15 @@ use Rattle.capture_text.specs.Reading.{parts}
 abbrev is_lf : ℕ → Bool
 is_lf byte = byte == 10
 
+-- what stands behind a line, as the code has it
+abbrev pub behind_of : ℕ → List ℕ → List ℕ
+behind_of i text = take (length text - (i + 1)) (drop (i + 1) text)
+
 -- the first line ends at the first LF
 pub cut_at : (text : List ℕ) (i : ℕ) → position (λ byte. byte == 10) text ≡ Some i
-    → parts text ≡ take i text ∷ parts (drop (i + 1) text)
-cut_at text i is = by_test (nat_lt (position_or_len is_lf text) (length text)) refl is
+    → parts text ≡ take i text ∷ parts (behind_of i text)
+cut_at text i is = rw (take_rest text (i + 1))
+    (by_test (nat_lt (position_or_len is_lf text) (length text)) refl is)
   where
     same : (x y : ℕ) → Some x ≡ Some y → x ≡ y
     same x y is = cc is
@@ -44,7 +50,7 @@ all_others [] none = All-nil (λ byte. is_lf byte ≡ false)
 all_others (byte ∷ text) none = by_test (is_lf byte) refl none (all_others text)
   where
     by_test : (test : Bool) → is_lf byte ≡ test
-        → length (byte ∷ text) ≤ cond test 0 (1 + position_or_len is_lf text)
+        → length (byte ∷ text) ≤ cond (not test) (1 + position_or_len is_lf text) 0
         → (length text ≤ position_or_len is_lf text → All (λ b. is_lf b ≡ false) text)
         → All (λ b. is_lf b ≡ false) (byte ∷ text)
     by_test true is none rest = absurd (omega (arith, none))

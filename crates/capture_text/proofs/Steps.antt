@@ -120,7 +120,7 @@ pub between_none : (text : List ℕ) → Between text [] text 2
 between_none text = record { sound = All-nil (AreEvents []); lines = refl; place = refl }
 
 lives_more : (lives : List (List Event)) (life : List Event) (more : Lines)
-    → flat_map life_lines lives ++ codes "life" ∷ map line_of life ++ codes "end" ∷ more
+    → flat_map life_lines lives ++ (codes "life" ∷ map line_of life ++ codes "end" ∷ more)
     ≡ flat_map life_lines (lives ++ life ∷ []) ++ more
 lives_more lives life more =
     ap (λ (ls : Lines). flat_map life_lines lives ++ codes "life" ∷ ls)
@@ -132,17 +132,21 @@ lives_more lives life more =
     )
 
 -- how many lines a life more makes
+length_life : (life : List Event) → length (life_lines life) ≡ length life + 2
+length_life life =
+    let ends : length (map line_of life ++ codes "end" ∷ []) ≡ length (map line_of life) + 1
+        = length-append (map line_of life) (codes "end" ∷ []) in
+    let events : length (map line_of life) ≡ length life = length-map life line_of in
+    omega (arith, ends, events)
+
 length_more : (lives : List (List Event)) (life : List Event)
     → length (flat_map life_lines (lives ++ life ∷ []))
     ≡ length (flat_map life_lines lives) + length life + 2
 length_more lives life =
     ap (λ (ls : Lines). length ls) (flat_map-append life_lines lives (life ∷ []))
     ∙ length-append (flat_map life_lines lives) (life_lines life ++ [])
-    ∙ ap (λ n. length (flat_map life_lines lives) + n) (
-    ap (λ (ls : Lines). length ls) (append-nil (life_lines life))
-    ∙ ap (λ n. n + 1) (length-append (map line_of life) (codes "end" ∷ [])
-    ∙ ap (λ n. n + 1) (length-map line_of life))
-    )
+    ∙ ap (λ n. length (flat_map life_lines lives) + n)
+        (ap (λ (ls : Lines). length ls) (append-nil (life_lines life)) ∙ length_life life)
     ∙ omega arith
 
 pub between_more : (text rest line after behind : List ℕ) (number last : ℕ)
@@ -191,9 +195,11 @@ no_event lives events part (next ∷ after) (other, follows) =
 length_within : (lives : List (List Event)) (events : List Event)
     → length (within lives events) ≡ length (flat_map life_lines lives) + length events + 1
 length_within lives events =
-    length-append (flat_map life_lines lives) (codes "life" ∷ map line_of events)
-    ∙ ap (λ n. length (flat_map life_lines lives) + (n + 1)) (length-map line_of events)
-    ∙ omega arith
+    let all : length (within lives events)
+        ≡ length (flat_map life_lines lives) + length (codes "life" ∷ map line_of events)
+        = length-append (flat_map life_lines lives) (codes "life" ∷ map line_of events) in
+    let same : length (map line_of events) ≡ length events = length-map events line_of in
+    omega (arith, all, same)
 
 -- a life that is broken
 pub between_broken : (text rest line after : List ℕ) (number last : ℕ) (lives : List (List Event))

@@ -83,35 +83,11 @@ is_outside text rest names heart number header none = record {
   outside = outside_in names heart none.before none.part none.after none.outside;
 }
 
-pub reads_all : (text rest : List ℕ) (names : Names) (heart : ℕ)
-    (result : Result (List (List Event)) CaptureFault)
-    → IsHeader text names heart rest → LivesSay rest result
-    → ((lives : List (List Event)) → result ≡ Ok lives
-    → Reads text (Ok (capture_of names heart lives)))
-    × ((fault : CaptureFault) → result ≡ Err fault → Reads text (Err fault))
-reads_all text rest names heart (Ok lives) header says = (
-  λ these is. subst (λ (ls : List (List Event)). IsTextOf text (capture_of names heart ls))
-      (same_ok lives these is) (is_text text rest names heart lives header says),
-  λ fault is. absurd (cc is),
-)
-  where
-    same_ok : (x y : List (List Event)) → Ok x ≡ Ok y → x ≡ y
-    same_ok x y is = cc is
-reads_all text rest names heart (Err (Line number)) header says = (
-  λ these is. absurd (cc is),
-  λ fault is. subst (λ (f : CaptureFault). Reads text (Err f)) (same_err (Line number) fault is)
-      (is_outside text rest names heart number header says),
-)
-  where
-    same_err : (x y : CaptureFault) → Err x ≡ Err y → x ≡ y
-    same_err x y is = cc is
-reads_all text rest names heart (Err NoMemory) header says = (
-  λ these is. absurd (cc is),
-  λ fault is. subst (λ (f : CaptureFault). Reads text (Err f)) (same_err NoMemory fault is) tt,
-)
-  where
-    same_err : (x y : CaptureFault) → Err x ≡ Err y → x ≡ y
-    same_err x y is = cc is
+pub lives_fault : (text rest : List ℕ) (names : Names) (heart : ℕ) (fault : CaptureFault)
+    → IsHeader text names heart rest → LivesSay rest (Err fault) → Reads text (Err fault)
+lives_fault text rest names heart (Line number) header none =
+    is_outside text rest names heart number header none
+lives_fault text rest names heart NoMemory header none = tt
 
 pub reads_fault : (text : List ℕ) (fault : CaptureFault) → Faults text fault
     → Reads text (Err fault)
@@ -128,7 +104,7 @@ short_name byte low high = record {
       (All-nil (λ b. (33 ≤ b) × (b ≤ 126)));
 }
 
-some_names : Names
+abbrev some_names : Names
 some_names = record {
   client_our = 65 ∷ [];
   client_peer = 65 ∷ [];

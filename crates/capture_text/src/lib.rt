@@ -8,6 +8,7 @@ mod line;
 mod lines;
 mod number;
 mod reading;
+mod trial;
 #[cfg(test)]
 mod tests;
 
