@@ -1,11 +1,35 @@
 -- Inside: what the reader of the second line answers.
-use Rattle.std.specs.Prelude.{◌≡◌, ◌≢◌, ◌≤◌, ℕ, List, ◌∷◌, Some, None}
+use Rattle.std.specs.Prelude.{◌≡◌, ◌≢◌, ◌≤◌, ◌==◌, ℕ, List, ◌∷◌, codes, Some, None}
+use Rattle.std.specs.List.{slice_split}
+use Rattle.std.specs.Fmt.{decimal}
 use Rattle.std.specs.declared.option.Option.{Option}
 use Rattle.order_meaning.specs.declared.names.Names.{Names}
 use Rattle.capture_text.specs.declared.reading.CaptureFault.{CaptureFault}
 use Rattle.capture_text.specs.declared.reading.CaptureFault.TheVariants.{Line, NoMemory}
 use Rattle.capture_text.specs.Capture.{title, names_line, IsName}
 use Rattle.capture_text.specs.Reading.{parts, FirstOutside}
+
+-- a text, cut at each such byte
+abbrev pub cuts : ℕ → List ℕ → List (List ℕ)
+cuts byte text = slice_split (λ b. b == byte) text
+
+-- parts of a line that are not `names` and five words or more
+abbrev pub IsShort : List (List ℕ) → Type 0
+IsShort words = (a b c d e : List ℕ) (more : List (List ℕ))
+    → words ≢ codes "names" ∷ a ∷ b ∷ c ∷ d ∷ e ∷ more
+
+abbrev pub written_names : List ℕ → List ℕ → List ℕ → List ℕ → Names
+written_names client_our client_peer venue_our venue_peer = record {
+  client_our = client_our;
+  client_peer = client_peer;
+  venue_our = venue_our;
+  venue_peer = venue_peer;
+}
+
+-- the seconds that a text writes
+abbrev pub HeartSays : List ℕ → Option ℕ → Type 0
+HeartSays text (Some heart) = (heart ≤ 3600) × (text ≡ decimal heart)
+HeartSays text None = (heart : ℕ) → heart ≤ 3600 → text ≢ decimal heart
 
 pub record AreNames (names : Names) : Type 0 where
   pub client_our : IsName names.client_our

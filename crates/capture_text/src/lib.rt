@@ -8,7 +8,6 @@ mod line;
 mod lines;
 mod number;
 mod reading;
-mod trial;
 #[cfg(test)]
 mod tests;
 

@@ -10,11 +10,11 @@ pub(crate) fn number(digits: &[u8]) -> Option<u64>
     ensures some { IfSome result (λ n. digits.now ≡ decimal n) }
     ensures none { IsNone result → (n : ℕ) → n < 2 ^ 64 → digits.now ≢ decimal n }
 {
-    let text = std::str::from_utf8(digits).ok()?;
-    let value: u64 = text.parse().ok()?;
-    if Buffer::new().format(value).as_bytes() == digits {
-        Some(value)
-    } else {
-        None
+    let Ok(text) = std::str::from_utf8(digits) else {
+        return None;
+    };
+    match text.parse::<u64>() {
+        Ok(value) if Buffer::new().format(value).as_bytes() == digits => Some(value),
+        _ => None,
     }
 }

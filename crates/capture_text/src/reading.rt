@@ -92,11 +92,11 @@ fn read_lives(alloc: Global, text: &[u8]) -> Result<Lives, CaptureFault>
 pub fn read_capture(alloc: Global, text: &[u8]) -> Result<Capture, CaptureFault>
     ensures { Reads text.now result }
 {
-    let header = read_header(text)?;
-    let lives = read_lives(alloc, header.2)?;
+    let (names, heart, rest) = read_header(text)?;
+    let lives = read_lives(alloc, rest)?;
     Ok(Capture {
-        names: header.0,
-        heart: header.1,
+        names,
+        heart,
         lives,
     })
 }

@@ -5,9 +5,9 @@ use Rattle.capture_text.proofs.life.read_life.Given as goal
 
 abbrev pub invariant-loop-line : goal.invariant-loop-line
 invariant-loop-line l = record {
-  passed : Passed l.fn.text.now l.fn.before l.life l.rest.now l.number;
+  passed : Passed l.fn.text l.fn.before l.life l.rest l.number;
   sides : AreOpen l.sides (behind [] l.life);
 }
 
 abbrev pub decreases-loop-line : goal.decreases-loop-line
-decreases-loop-line l = length l.rest.now
+decreases-loop-line l = length l.rest

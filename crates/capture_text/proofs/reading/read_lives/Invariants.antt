@@ -4,8 +4,8 @@ use Rattle.capture_text.proofs.reading.read_lives.Given as goal
 
 abbrev pub invariant-loop-line : goal.invariant-loop-line
 invariant-loop-line l = record {
-  between : Between l.fn.text.now l.lives l.rest.now l.number;
+  between : Between l.fn.text l.lives l.rest l.number;
 }
 
 abbrev pub decreases-loop-line : goal.decreases-loop-line
-decreases-loop-line l = length l.rest.now
+decreases-loop-line l = length l.rest
