@@ -6,3 +6,4 @@ pub mod Parts
 pub mod Steps
 pub mod Whole
 pub mod Worked
+pub mod Written

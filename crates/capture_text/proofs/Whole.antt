@@ -1,6 +1,6 @@
 -- From the header and the lives of a text to the whole of it.
 use Rattle.std.proofs.Common.{◌≡◌, ◌≢◌, ℕ, ◌+◌, ◌≤◌, List, [], ◌∷◌, ◌++◌, length, All, refl, sym}
-use Rattle.std.proofs.Common.{◌∙◌, ap, subst, Ok, Err, None, arith}
+use Rattle.std.proofs.Common.{◌∙◌, ap, subst, Ok, Err, Some, None, arith}
 use Rattle.std.specs.List.{flat_map}
 use Rattle.std.proofs.lemmas.List.Elements.{All-cons, All-nil}
 use Rattle.std.specs.declared.result.Result.{Result}
@@ -195,14 +195,24 @@ second_is_none text part after split other = record {
   outside = outside_second part after other;
 }
 
-pub no_second : (text : List ℕ) (part : List ℕ)
-    → parts text ≡ title ∷ part ∷ [] → FirstOutside text 2
-no_second text part split = record {
+pub no_second : (text line behind : List ℕ)
+    → parts text ≡ line ∷ parts behind → line ≡ title → parts behind ≡ behind ∷ []
+    → FirstOutside text 2
+no_second text line behind split is end = record {
   before = title ∷ [];
-  part = part;
+  part = behind;
   after = [];
-  split = split;
+  split = split ∙ ap (λ (l : List ℕ). l ∷ parts behind) is ∙ ap (λ (ls : Lines). title ∷ ls) end;
   place = refl;
   begins = begins_title;
   outside = λ capture sound is. absurd (cc (same_tail _ _ _ _ is).1);
+}
+
+pub is_header : (text line rest : List ℕ) (names : Names) (heart : ℕ)
+    → parts text ≡ title ∷ line ∷ parts rest → NamesLine line (Some (names, heart))
+    → IsHeader text names heart rest
+is_header text line rest names heart split (named, short, is) = record {
+  named = named;
+  short = short;
+  lines = split ∙ ap (λ (l : List ℕ). title ∷ l ∷ parts rest) is;
 }

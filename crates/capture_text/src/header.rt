@@ -92,7 +92,6 @@ fn names_of(words: &Words<'_>) -> Option<Names>
 }
 
 /// The names and HeartBtInt(108) of the second line, `names A B C D H`.
-#[tactic(auto, using(crate::proofs::NamesLine::no_words, crate::proofs::NamesLine::no_names, crate::proofs::NamesLine::no_heart, crate::proofs::NamesLine::is_line))]
 pub(crate) fn read_names(line: &[u8]) -> Option<(Names, u32)>
     ensures { NamesLine line.now result }
 {

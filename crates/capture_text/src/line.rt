@@ -1,8 +1,8 @@
 //! The lines of events.
 
-ghost use Rattle.std.specs.Prelude.{◌≡◌, ◌↔◌, ◌++◌, codes, IfOk, IsTrue};
+ghost use Rattle.std.specs.Prelude.{◌≡◌, ◌↔◌, ◌<◌, ◌≤◌, ◌++◌, codes, IfOk, IfSome, IsNone, IsTrue};
 ghost use Rattle.frame_grammar.specs.Frame.{IsBody, frame_of};
-ghost use Rattle.capture_text.specs.Capture.{letter, kind_of, IsRound};
+ghost use Rattle.capture_text.specs.Capture.{written, letter, kind_of, IsByte, IsRound};
 ghost use Rattle.capture_text.specs.Line.{Writes, LineSays};
 
 use crate::Event;
@@ -14,18 +14,29 @@ use std::alloc::{AllocError, Global};
 /// The most bytes of a round.
 const MAX_ROUND: usize = 4096;
 
-/// The bytes that a text of a line writes, with SOH for `|`; none where the text has other bytes
-/// than 32 to 126.
+/// The byte that one of a line writes, which is SOH for `|`; none but for those from 32 to 126.
+fn byte_of(byte: u8) -> Option<u8>
+    ensures some { IfSome result (λ b. (byte ≡ written b) × IsByte b) }
+    ensures none { IsNone result → 32 ≤ byte → 126 < byte }
+{
+    match byte {
+        b'|' => Some(SOH),
+        32..=126 => Some(byte),
+        _ => None,
+    }
+}
+
+/// The bytes that a text of a line writes; none where it has a byte that writes none.
+#[tactic(auto, using(crate::proofs::Written::taken_more))]
 fn bytes_of(alloc: Global, text: &[u8]) -> Result<Option<Bytes>, AllocError>
     ensures { IfOk result (Writes text.now) }
 {
     let mut bytes = Bytes::new(alloc);
     for byte in text {
-        match *byte {
-            b'|' => bytes.extend_from_slice(&[SOH])?,
-            32..=126 => bytes.extend_from_slice(&[*byte])?,
-            _ => return Ok(None),
-        }
+        let Some(byte) = byte_of(*byte) else {
+            return Ok(None);
+        };
+        bytes.extend_from_slice(&[byte])?;
     }
     Ok(Some(bytes))
 }

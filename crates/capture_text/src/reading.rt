@@ -1,16 +1,16 @@
 //! How a capture is read.
 
-ghost use Rattle.std.specs.Prelude.{◌≡◌, IfOk, IfErr};
+ghost use Rattle.std.specs.Prelude.{◌≡◌, ◌∷◌, IfOk, IfErr};
 ghost use Rattle.capture_text.specs.declared.reading.CaptureFault.TheVariants as faults;
-ghost use Rattle.capture_text.specs.Header.{IsHeader, Faults};
+ghost use Rattle.capture_text.specs.Capture.{title};
+ghost use Rattle.capture_text.specs.Header.{Faults};
 ghost use Rattle.capture_text.specs.Life.{LivesSay};
-ghost use Rattle.capture_text.specs.Reading.{Reads};
+ghost use Rattle.capture_text.specs.Reading.{parts, Reads};
 
 use crate::header::{TITLE, read_names};
 use crate::life::read_life;
 use crate::lines::{next_number, split_line};
 use crate::{Capture, Lives};
-use order_meaning::Names;
 use std::alloc::{AllocError, Global};
 use thiserror::Error;
 
@@ -33,23 +33,21 @@ impl From<AllocError> for CaptureFault {
     }
 }
 
-/// The first two lines, and what stands behind them.
-#[tactic(auto, using(crate::proofs::Whole::first_is_none, crate::proofs::Whole::no_first, crate::proofs::Whole::second_is_none, crate::proofs::Whole::no_second))]
-fn read_header(text: &[u8]) -> Result<(Names, u32, &[u8]), CaptureFault>
-    ensures ok { IfOk result (λ read. IsHeader text.now read.0 read.1 read.2.now) }
+/// The second line, behind the title, and what stands behind it.
+#[tactic(auto, using(crate::proofs::Whole::no_first, crate::proofs::Whole::first_is_none, crate::proofs::Whole::no_second))]
+fn read_title(text: &[u8]) -> Result<(&[u8], &[u8]), CaptureFault>
+    ensures ok { IfOk result (λ cut.
+        parts text.now ≡ title ∷ cut.0.now ∷ parts cut.1.now) }
     ensures err { IfErr result (Faults text.now) }
 {
-    let Some((title, behind)) = split_line(text) else {
+    let Some((line, behind)) = split_line(text) else {
         return Err(CaptureFault::Line(1));
     };
-    if title != TITLE {
+    if line != TITLE {
         return Err(CaptureFault::Line(1));
     }
-    let Some((line, rest)) = split_line(behind) else {
-        return Err(CaptureFault::Line(2));
-    };
-    match read_names(line) {
-        Some((names, heart)) => Ok((names, heart, rest)),
+    match split_line(behind) {
+        Some(cut) => Ok(cut),
         None => Err(CaptureFault::Line(2)),
     }
 }
@@ -92,7 +90,10 @@ fn read_lives(alloc: Global, text: &[u8]) -> Result<Lives, CaptureFault>
 pub fn read_capture(alloc: Global, text: &[u8]) -> Result<Capture, CaptureFault>
     ensures { Reads text.now result }
 {
-    let (names, heart, rest) = read_header(text)?;
+    let (line, rest) = read_title(text)?;
+    let Some((names, heart)) = read_names(line) else {
+        return Err(CaptureFault::Line(2));
+    };
     let lives = read_lives(alloc, rest)?;
     Ok(Capture {
         names,
