@@ -3,6 +3,7 @@ pub mod EventLines
 pub mod Grammar
 pub mod NamesLine
 pub mod Parts
+pub mod Standing
 pub mod Steps
 pub mod Whole
 pub mod Worked

@@ -1,7 +1,7 @@
 -- What the bytes of a line are.
 use Rattle.std.proofs.Common.{◌≡◌, ◌≢◌, ◌==◌, ℕ, ◌+◌, ◌<◌, ◌≤◌, Bool, true, false, List, [], ◌∷◌, ◌++◌, map}
-use Rattle.std.proofs.Common.{length, get_or, take, All, refl, sym, ◌∙◌, ap, Some, subst, arith, inl, inr, if◌then◌else◌}
-use Rattle.std.proofs.lemmas.Bool.{eqb-true}
+use Rattle.std.proofs.Common.{length, get_or, take, drop, All, refl, sym, ◌∙◌, ap, Some, subst, arith, inl, inr, if◌then◌else◌}
+use Rattle.std.proofs.lemmas.Bool.{ne_eqb}
 use Rattle.std.proofs.lemmas.List.Elements.{All-append, All-cons, All-get_or, All-head, All-nil, All-tail}
 use Rattle.std.proofs.lemmas.List.{map-append, take_more}
 use Rattle.std.proofs.Math.Seq.{take-length}
@@ -59,3 +59,31 @@ taken_more text bytes i byte within says is taken = record {
 pub taken_all : (text bytes : List ℕ) → Taken text (length text) bytes
     → Writes text (Some bytes)
 taken_all text bytes taken = (sym (take-length text) ∙ taken.same, taken.are)
+
+as_it_is : (byte : ℕ) → 32 ≤ byte → written byte ≡ byte
+as_it_is byte low = ap (λ (test : Bool). if test then 124 else byte)
+    (ne_eqb byte 1 (λ is. absurd (omega (arith, is, low))))
+
+bar_apart : (byte : ℕ) → byte ≢ 124 → written byte ≡ 124 → 32 ≤ byte → ⊥
+bar_apart byte other is low = other (sym (as_it_is byte low) ∙ is)
+
+-- two bytes that are written alike are one
+one_byte : (x y : ℕ) → IsByte x → IsByte y → written x ≡ written y → x ≡ y
+one_byte x y (inl is) (inl also) same = is ∙ sym also
+one_byte x y (inl is) (inr (low, high, other)) same =
+    absurd (bar_apart y other (sym (subst (λ b. written b ≡ written y) is same)) low)
+one_byte x y (inr (low, high, other)) (inl is) same =
+    absurd (bar_apart x other (subst (λ b. written x ≡ written b) is same) low)
+one_byte x y (inr (low, high, other)) (inr (low_y, high_y, other_y)) same =
+    sym (as_it_is x low) ∙ same ∙ as_it_is y low_y
+
+pub written_once : (xs ys : List ℕ) → All IsByte xs → All IsByte ys
+    → map written xs ≡ map written ys → xs ≡ ys
+written_once [] [] are all same = refl
+written_once [] (y ∷ ys) are all same = absurd (cc same)
+written_once (x ∷ xs) [] are all same = absurd (cc same)
+written_once (x ∷ xs) (y ∷ ys) are all same = λ i.
+    one_byte x y (All-head IsByte x xs are) (All-head IsByte y ys all)
+        (ap (λ (l : List ℕ). get_or l 0 0) same) i
+    ∷ written_once xs ys (All-tail IsByte x xs are) (All-tail IsByte y ys all)
+        (ap (λ (l : List ℕ). drop 1 l) same) i

@@ -72,14 +72,18 @@ impl Open {
 }
 
 /// The event of a line, where it may come.
+#[tactic(auto, using(crate::proofs::Standing::no_event_follows, crate::proofs::Standing::none_follows, crate::proofs::Standing::event_follows))]
 fn event_of(alloc: Global, sides: Open, line: &[u8]) -> Result<Option<Event>, AllocError>
     ensures { (before : List Event) → AreOpen sides before →
         IfOk result (Follows line.now before) }
 {
-    match read_event(alloc, line)? {
-        Some(event) if sides.may_stand(&event) => Ok(Some(event)),
-        _ => Ok(None),
+    let Some(event) = read_event(alloc, line)? else {
+        return Ok(None);
+    };
+    if !sides.may_stand(&event) {
+        return Ok(None);
     }
+    Ok(Some(event))
 }
 
 /// The events of a life up to its `end`, what stands behind it, and the number of its last line.

@@ -96,12 +96,13 @@ fn text_of(alloc: Global, side: Side, text: &[u8]) -> Result<Option<Event>, Allo
 fn frame_of(alloc: Global, side: Side, text: &[u8]) -> Result<Option<Event>, AllocError>
     ensures { IfOk result (LineSays (letter side ++ codes "f " ++ text.now)) }
 {
-    match bytes_of(alloc, text)? {
-        Some(body) if is_round_of(alloc, side, body.as_slice())? => {
-            Ok(Some(Event::Frame(side, body)))
-        }
-        _ => Ok(None),
+    let Some(body) = bytes_of(alloc, text)? else {
+        return Ok(None);
+    };
+    if !is_round_of(alloc, side, body.as_slice())? {
+        return Ok(None);
     }
+    Ok(Some(Event::Frame(side, body)))
 }
 
 /// What stands behind the letter of a side.
