@@ -254,3 +254,8 @@ between_whole text rest number lives between is empty some = record {
   lines = between.lines ∙ ap (λ (ls : Lines). flat_map life_lines lives ++ ls)
       (is ∙ ap (λ (part : List ℕ). part ∷ []) empty);
 }
+
+pub ruleset lives_pass = (passed_none, passed_more, passed_end, passed_broken, passed_short)
+
+pub ruleset all_lives_pass =
+  (between_none, between_more, between_other, between_broken, between_short, between_whole)

@@ -216,3 +216,5 @@ is_header text line rest names heart split (named, short, is) = record {
   short = short;
   lines = split ∙ ap (λ (l : List ℕ). title ∷ l ∷ parts rest) is;
 }
+
+pub ruleset whole_text = (is_header, is_text, lives_fault, reads_fault, second_is_none)

@@ -87,6 +87,7 @@ fn event_of(alloc: Global, sides: Open, line: &[u8]) -> Result<Option<Event>, Al
 }
 
 /// The events of a life up to its `end`, what stands behind it, and the number of its last line.
+#[tactic(auto, using(crate::proofs::Steps::lives_pass))]
 pub(crate) fn read_life<'a>(
     alloc: Global,
     text: &'a [u8],

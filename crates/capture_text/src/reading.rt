@@ -53,6 +53,7 @@ fn read_title(text: &[u8]) -> Result<(&[u8], &[u8]), CaptureFault>
 }
 
 /// The lives behind the first two lines.
+#[tactic(auto, using(crate::proofs::Steps::all_lives_pass))]
 fn read_lives(alloc: Global, text: &[u8]) -> Result<Lives, CaptureFault>
     ensures { LivesSay text.now result }
 {
@@ -87,6 +88,7 @@ fn read_lives(alloc: Global, text: &[u8]) -> Result<Lives, CaptureFault>
 /// # Errors
 /// `Line` exactly where this is the first line with which no capture goes on; a text that ends too
 /// early has it behind its last line. `NoMemory` for want of memory.
+#[tactic(auto, using(crate::proofs::Whole::whole_text))]
 pub fn read_capture(alloc: Global, text: &[u8]) -> Result<Capture, CaptureFault>
     ensures { Reads text.now result }
 {
