@@ -1,6 +1,10 @@
 -- The lines of a life and of lives that were passed, one more at a time.
 use Rattle.std.proofs.Common.{◌≡◌, ◌≢◌, ◌⊎◌, inl, inr, ℕ, ◌+◌, ◌-◌, ◌^◌, ◌≤◌, min, List, [], ◌∷◌, ◌++◌, map}
-use Rattle.std.proofs.Common.{length, All, refl, sym, ◌∙◌, ap, subst, append_assoc, append-nil, None}
+use Rattle.std.proofs.Common.{length, All, refl, sym, ◌∙◌, ap, subst, append_assoc, append-nil, Ok, Err, Some, None}
+use Rattle.std.proofs.Common.{◌==◌, true, false}
+use Rattle.std.specs.Result.{IsErr, IsErrAnd}
+use Rattle.std.specs.declared.result.Result.{Result}
+use Rattle.std.proofs.lemmas.Bool.{eqb-true}
 use Rattle.std.proofs.Common.{arith}
 use Rattle.std.specs.Prelude.{codes}
 use Rattle.std.specs.List.{flat_map}
@@ -10,8 +14,11 @@ use Rattle.std.proofs.lemmas.Grind.{flat_map-append}
 use Rattle.capture_text.specs.declared.capture.Event.{Event}
 use Rattle.capture_text.specs.Capture.{line_of, life_lines, MayStand, AreEvents}
 use Rattle.capture_text.specs.Reading.{parts}
-use Rattle.capture_text.specs.Life.{behind, counted, Follows, Breaks, IsLife, IsBroken}
-use Rattle.capture_text.specs.Life.{AreLives, AreNone, IsNoLine}
+use Rattle.capture_text.specs.declared.life.Open.{Open}
+use Rattle.capture_text.specs.Life.{behind, counted, AreOpen, Follows, Breaks, IsLife, IsBroken}
+use Rattle.capture_text.specs.Life.{AreLives, AreNone, Breaking, IsNoLine, LivesSay}
+use Rattle.capture_text.specs.declared.reading.CaptureFault.{CaptureFault}
+use Rattle.capture_text.specs.declared.reading.CaptureFault.TheVariants.{Line, NoMemory}
 use Rattle.capture_text.proofs.Parts.{some_part}
 use Rattle.capture_text.proofs.Grammar.{Lines, within, begun_between, begun_within, outside_between}
 use Rattle.capture_text.proofs.Grammar.{outside_within, not_whole}
@@ -107,6 +114,22 @@ passed_short text rest part before number life passed is = record {
   place = omega (arith, passed.place);
   breaks = tt;
 }
+
+pub lives_on : (text rest line after : List ℕ) (before number new : ℕ) (life longer : List Event)
+    (e : Event)
+    → Passed text before life rest number → parts rest ≡ line ∷ parts after
+    → Follows line (behind [] life) (Some e) → longer ≡ life ++ e ∷ [] → new ≡ next number
+    → Passed text before longer after new
+lives_on text rest line after before number new life longer e passed is (says, may) longer_is new_is =
+    subst (λ (l : List Event). Passed text before l after new) (sym longer_is)
+    (subst (λ n. Passed text before (life ++ e ∷ []) after n) (sym new_is)
+    (passed_more text rest line after before number life e passed is says may))
+
+pub stay_open : (sides : Open) (life longer : List Event) (e : Event)
+    → AreOpen sides (e ∷ behind [] life) → longer ≡ life ++ e ∷ []
+    → AreOpen sides (behind [] longer)
+stay_open sides life longer e are is = subst (AreOpen sides)
+    (sym (ap (λ (l : List Event). behind [] l) is ∙ behind_more [] life e)) are
 
 -- ---- between lives
 
@@ -254,6 +277,62 @@ between_whole text rest number lives between is empty some = record {
   lines = between.lines ∙ ap (λ (ls : Lines). flat_map life_lines lives ++ ls)
       (is ∙ ap (λ (part : List ℕ). part ∷ []) empty);
 }
+
+-- a life that is broken, by its fault
+pub broken_life : (text rest line after : List ℕ) (number new : ℕ) (lives : List (List Event))
+    (fault : CaptureFault)
+    → Between text lives rest number → parts rest ≡ line ∷ parts after → line ≡ codes "life"
+    → new ≡ next number → Breaking after new fault → LivesSay text (Err fault)
+broken_life text rest line after number new lives (Line last) between is begins new_is broken =
+    between_broken text rest line after number last lives between is begins
+    (subst (λ n. IsBroken after n last) new_is broken)
+broken_life text rest line after number new lives NoMemory between is begins new_is broken = tt
+
+pub one_life_on : (text rest line after behind : List ℕ) (number new last : ℕ)
+    (lives longer : List (List Event)) (life : List Event)
+    → Between text lives rest number → parts rest ≡ line ∷ parts after → line ≡ codes "life"
+    → new ≡ next number → IsLife after new life behind last → longer ≡ lives ++ life ∷ []
+    → Between text longer behind last
+one_life_on text rest line after behind number new last lives longer life between is begins new_is
+    one longer_is =
+    subst (λ (ls : List (List Event)). Between text ls behind last) (sym longer_is)
+    (between_more text rest line after behind number last lives life between is begins
+    (subst (λ n. IsLife after n life behind last) new_is one))
+
+pub says_fault : (text : List ℕ) (fault : CaptureFault)
+    (result : Result (List (List Event)) CaptureFault)
+    → IsErr result → IsErrAnd result (λ e. e ≡ fault) → LivesSay text (Err fault)
+    → LivesSay text result
+says_fault text fault (Ok lives) is also says = absurd (cc is)
+says_fault text fault (Err other) is also says =
+    subst (λ (f : CaptureFault). LivesSay text (Err f)) (sym also) says
+
+not_empty : (text : List ℕ) → (length text == 0) ≡ false → text ≢ []
+not_empty [] is same = absurd (cc is)
+not_empty (byte ∷ text) is same = absurd (cc same)
+
+no_lives : (lives : List (List Event)) → (length lives == 0) ≡ true → lives ≡ []
+no_lives [] is = refl
+no_lives (life ∷ lives) is = absurd (eqb-nonzero is)
+  where
+    eqb-nonzero : (length (life ∷ lives) == 0) ≡ true → ⊥
+    eqb-nonzero is = absurd (omega (arith, eqb-true (length (life ∷ lives)) 0 is))
+
+-- the text ends, but no line ends it
+pub ends_short : (text rest : List ℕ) (number new : ℕ) (lives : List (List Event))
+    → Between text lives rest number → parts rest ≡ rest ∷ [] → new ≡ next number
+    → (length rest == 0) ≡ false → AreNone text new
+ends_short text rest number new lives between is new_is more =
+    subst (AreNone text) (sym new_is)
+    (between_short text rest number lives between is (inl (not_empty rest more)))
+
+-- the text ends without a life
+pub ends_none : (text rest : List ℕ) (number new : ℕ) (lives : List (List Event))
+    → Between text lives rest number → parts rest ≡ rest ∷ [] → new ≡ next number
+    → (length lives == 0) ≡ true → AreNone text new
+ends_none text rest number new lives between is new_is none =
+    subst (AreNone text) (sym new_is)
+    (between_short text rest number lives between is (inr (no_lives lives none)))
 
 pub ruleset lives_pass = (passed_none, passed_more, passed_end, passed_broken, passed_short)
 
