@@ -68,5 +68,7 @@ pub no_round : (side : Side) (text body : List ℕ) → Writes text (Some body)
     → LineSays (letter side ++ codes "f " ++ text) None
 no_round side text body (is, are) none = no_frame side text (λ these all sound round same.
     let one : these ≡ body = written_once these body all are (sym same ∙ is) in
-    none (subst IsBody one sound,
-    subst (λ (b : List ℕ). IsRound (frame_of (kind_of side) b)) one round))
+    none (
+      subst IsBody one sound,
+      subst (λ (b : List ℕ). IsRound (frame_of (kind_of side) b)) one round,
+    ))

@@ -1,8 +1,8 @@
 -- The words of the second line.
-use Rattle.std.proofs.Common.{◌≡◌, ◌≢◌, ◌==◌, ◌%◌, ℕ, ◌+◌, ◌<◌, ◌≤◌, ◌^◌, List, [], ◌∷◌, ◌++◌}
-use Rattle.std.proofs.Common.{length, get_or, drop, All, refl, sym, ◌∙◌, ap, subst, arith, false}
+use Rattle.std.proofs.Common.{◌≡◌, ◌==◌, ◌%◌, ℕ, ◌+◌, ◌<◌, ◌≤◌, ◌^◌, List, [], ◌∷◌}
+use Rattle.std.proofs.Common.{get_or, drop, All, refl, sym, ◌∙◌, ap, subst, arith, false}
 use Rattle.std.proofs.Common.{Some, None, decimal, codes}
-use Rattle.std.specs.List.{join_with_byte, slice_split}
+use Rattle.std.specs.List.{join_with_byte}
 use Rattle.std.proofs.lemmas.Bool.{ne_eqb}
 use Rattle.std.proofs.lemmas.Fmt.{decimal_by_steps}
 use Rattle.std.proofs.lemmas.List.Elements.{All-append, All-cons, All-from_get_or, All-get_or}
@@ -30,7 +30,7 @@ word_of_digits : (n : ℕ) → n < 2 ^ 64 → IsWord (decimal n)
 word_of_digits n fits = decimal_by_steps (λ m ds. IsWord ds)
     (λ m small. All-cons other (48 + m) [] (is_other (48 + m) (omega arith)) (All-nil other))
     (λ m ds large rest. All-append other ds ((48 + m % 10) ∷ []) rest
-        (All-cons other (48 + m % 10) [] (is_other (48 + m % 10) (omega arith)) (All-nil other)))
+    (All-cons other (48 + m % 10) [] (is_other (48 + m % 10) (omega arith)) (All-nil other)))
     n fits
 
 word_of_name : (name : List ℕ) → IsName name → IsWord name
@@ -44,9 +44,9 @@ cut_joined word [] are =
     slice_split_none (λ b. b == 32) word (All-head IsWord word [] are)
 cut_joined word (next ∷ words) are =
     slice_split_at (λ b. b == 32) word 32 (join_with_byte 32 (next ∷ words))
-        (All-head IsWord word (next ∷ words) are) refl
+    (All-head IsWord word (next ∷ words) are) refl
     ∙ ap (λ (ws : Words). word ∷ ws)
-        (cut_joined next words (All-tail IsWord word (next ∷ words) are))
+    (cut_joined next words (All-tail IsWord word (next ∷ words) are))
 
 abbrev words : Names → ℕ → Words
 words names heart = codes "names"
@@ -101,7 +101,7 @@ pub no_names : (line a b c d e : List ℕ)
     → (AreNames (written_names a b c d) → ⊥) → NamesLine line None
 no_names line a b c d e cut none = λ names heart are small is.
     let same : codes "names" ∷ a ∷ b ∷ c ∷ d ∷ cuts 32 e ≡ words names heart
-        = same_words line _ names heart are small cut is in
+    = same_words line _ names heart are small cut is in
     none (record {
       client_our = subst IsName (sym (ap (λ (ws : Words). get_or ws 1 []) same)) are.client_our;
       client_peer = subst IsName (sym (ap (λ (ws : Words). get_or ws 2 []) same)) are.client_peer;
@@ -114,7 +114,7 @@ pub no_heart : (line a b c d e : List ℕ)
     → HeartSays e None → NamesLine line None
 no_heart line a b c d e cut none = λ names heart are small is.
     let same : codes "names" ∷ a ∷ b ∷ c ∷ d ∷ cuts 32 e ≡ words names heart
-        = same_words line _ names heart are small cut is in
+    = same_words line _ names heart are small cut is in
     none heart small (sym (join_with_byte-slice_split 32 e)
     ∙ ap (λ (ws : Words). join_with_byte 32 (drop 5 ws)) same)
 
@@ -122,9 +122,12 @@ pub is_line : (line a b c d e : List ℕ) (heart : ℕ)
     → cuts 32 line ≡ codes "names" ∷ a ∷ b ∷ c ∷ d ∷ cuts 32 e
     → AreNames (written_names a b c d) → HeartSays e (Some heart)
     → NamesLine line (Some (written_names a b c d, heart))
-is_line line a b c d e heart cut are (small, is) = (are, small,
-    sym (join_with_byte-slice_split 32 line)
-    ∙ ap (λ (ws : Words). join_with_byte 32 ws) (cut
-    ∙ ap (λ (ws : Words). codes "names" ∷ a ∷ b ∷ c ∷ d ∷ ws)
-    (ap (λ (l : List ℕ). cuts 32 l) is ∙ slice_split_none (λ byte. byte == 32) (decimal heart)
-    (word_of_digits heart (omega (arith, small))))))
+is_line line a b c d e heart cut are (small, is) = (
+  are,
+  small,
+  sym (join_with_byte-slice_split 32 line)
+      ∙ ap (λ (ws : Words). join_with_byte 32 ws) (cut
+      ∙ ap (λ (ws : Words). codes "names" ∷ a ∷ b ∷ c ∷ d ∷ ws)
+      (ap (λ (l : List ℕ). cuts 32 l) is ∙ slice_split_none (λ byte. byte == 32) (decimal heart)
+      (word_of_digits heart (omega (arith, small))))),
+)

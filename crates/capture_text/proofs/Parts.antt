@@ -1,8 +1,8 @@
 -- How a text is cut.
-use Rattle.std.proofs.Common.{◌≡◌, ℕ, ◌+◌, ◌-◌, ◌<◌, not, ◌≤◌, Bool, true, false, List, []}
-use Rattle.std.proofs.Common.{◌∷◌, length, take, drop, refl, sym, ◌∙◌, ap, subst, Some, None}
+use Rattle.std.proofs.Common.{◌≡◌, ℕ, ◌+◌, ◌-◌, not, ◌≤◌, Bool, true, false, List, []}
+use Rattle.std.proofs.Common.{◌∷◌, length, take, drop, refl, ap, subst, Some, None}
 use Rattle.std.proofs.Common.{cond, ◌==◌, All, nat_lt, arith}
-use Rattle.std.specs.List.{position, position_or_len, slice_split, count_by}
+use Rattle.std.specs.List.{position, position_or_len, count_by}
 use Rattle.std.proofs.lemmas.Bool.{ltb-true, ltb-false}
 use Rattle.std.proofs.lemmas.List.{take_rest}
 use Rattle.std.proofs.lemmas.List.Elements.{All-cons, All-nil}
@@ -74,4 +74,4 @@ no_cut byte text is =
     by_test true less is = absurd (cc is)
     by_test false less is = slice_split_none (λ b. b == byte) text
         (all_others byte text
-            (ltb-false (position_or_len (λ b. b == byte) text) (length text) less))
+        (ltb-false (position_or_len (λ b. b == byte) text) (length text) less))

@@ -1,5 +1,5 @@
 -- Whether an event may stand is read off its line.
-use Rattle.std.proofs.Common.{◌≡◌, ◌≢◌, ◌==◌, ℕ, Bool, true, false, not, List, get_or, refl, sym}
+use Rattle.std.proofs.Common.{◌≡◌, ◌==◌, ℕ, Bool, true, false, not, List, get_or, refl, sym}
 use Rattle.std.proofs.Common.{◌∙◌, ap, Some, None, if◌then◌else◌}
 use Rattle.order_meaning.specs.declared.Side.TheVariants.{Client, Venue}
 use Rattle.capture_text.specs.declared.capture.Event.{Event}

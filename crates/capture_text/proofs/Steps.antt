@@ -158,7 +158,7 @@ lives_more lives life more =
 length_life : (life : List Event) → length (life_lines life) ≡ length life + 2
 length_life life =
     let ends : length (map line_of life ++ codes "end" ∷ []) ≡ length (map line_of life) + 1
-        = length-append (map line_of life) (codes "end" ∷ []) in
+    = length-append (map line_of life) (codes "end" ∷ []) in
     let events : length (map line_of life) ≡ length life = length-map life line_of in
     omega (arith, ends, events)
 
@@ -169,7 +169,7 @@ length_more lives life =
     ap (λ (ls : Lines). length ls) (flat_map-append life_lines lives (life ∷ []))
     ∙ length-append (flat_map life_lines lives) (life_lines life ++ [])
     ∙ ap (λ n. length (flat_map life_lines lives) + n)
-        (ap (λ (ls : Lines). length ls) (append-nil (life_lines life)) ∙ length_life life)
+    (ap (λ (ls : Lines). length ls) (append-nil (life_lines life)) ∙ length_life life)
     ∙ omega arith
 
 pub between_more : (text rest line after behind : List ℕ) (number last : ℕ)
@@ -219,8 +219,8 @@ length_within : (lives : List (List Event)) (events : List Event)
     → length (within lives events) ≡ length (flat_map life_lines lives) + length events + 1
 length_within lives events =
     let all : length (within lives events)
-        ≡ length (flat_map life_lines lives) + length (codes "life" ∷ map line_of events)
-        = length-append (flat_map life_lines lives) (codes "life" ∷ map line_of events) in
+    ≡ length (flat_map life_lines lives) + length (codes "life" ∷ map line_of events)
+    = length-append (flat_map life_lines lives) (codes "life" ∷ map line_of events) in
     let same : length (map line_of events) ≡ length events = length-map events line_of in
     omega (arith, all, same)
 
@@ -337,4 +337,4 @@ ends_none text rest number new lives between is new_is none =
 pub ruleset lives_pass = (passed_none, passed_more, passed_end, passed_broken, passed_short)
 
 pub ruleset all_lives_pass =
-  (between_none, between_more, between_other, between_broken, between_short, between_whole)
+    (between_none, between_more, between_other, between_broken, between_short, between_whole)

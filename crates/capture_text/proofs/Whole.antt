@@ -1,9 +1,8 @@
 -- From the header and the lives of a text to the whole of it.
-use Rattle.std.proofs.Common.{◌≡◌, ◌≢◌, ℕ, ◌+◌, ◌≤◌, List, [], ◌∷◌, ◌++◌, length, All, refl, sym}
-use Rattle.std.proofs.Common.{◌∙◌, ap, subst, Ok, Err, Some, None, arith}
+use Rattle.std.proofs.Common.{◌≡◌, ◌≢◌, ℕ, ◌≤◌, List, [], ◌∷◌, ◌++◌, length, All, refl, sym}
+use Rattle.std.proofs.Common.{◌∙◌, ap, Err, Some, None, arith}
 use Rattle.std.specs.List.{flat_map}
 use Rattle.std.proofs.lemmas.List.Elements.{All-cons, All-nil}
-use Rattle.std.specs.declared.result.Result.{Result}
 use Rattle.order_meaning.specs.declared.names.Names.{Names}
 use Rattle.capture_text.specs.declared.capture.Event.{Event}
 use Rattle.capture_text.specs.declared.capture.Capture.{Capture}

@@ -3,7 +3,6 @@ use Rattle.std.proofs.Common.{◌≡◌, [], ◌∷◌, ◌++◌, refl, true, fa
 use Rattle.std.specs.Prelude.{codes}
 use Rattle.std.specs.Fmt.{digits}
 use Rattle.order_meaning.specs.declared.Side.TheVariants.{Client, Venue}
-use Rattle.capture_text.specs.declared.capture.Event.{Event}
 use Rattle.capture_text.specs.declared.capture.Event.TheVariants as event
 use Rattle.capture_text.specs.declared.capture.Capture.{Capture}
 use Rattle.capture_text.specs.Capture.{lines_of, is_open}

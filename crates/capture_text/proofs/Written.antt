@@ -32,7 +32,7 @@ pub no_bytes : (text bytes : List ℕ) (i : ℕ) → i < length text
     → text ≢ map written bytes
 no_bytes text bytes i within other are is =
     let printed : IsPrinted (get_or text i 0) = All-get_or IsPrinted text i 0 within
-        (subst (All IsPrinted) (sym is) (are_printed bytes are)) in
+    (subst (All IsPrinted) (sym is) (are_printed bytes are)) in
     absurd (omega (arith, other printed.0, printed.1))
 
 -- the bytes of the first of a text
@@ -84,6 +84,6 @@ written_once [] (y ∷ ys) are all same = absurd (cc same)
 written_once (x ∷ xs) [] are all same = absurd (cc same)
 written_once (x ∷ xs) (y ∷ ys) are all same = λ i.
     one_byte x y (All-head IsByte x xs are) (All-head IsByte y ys all)
-        (ap (λ (l : List ℕ). get_or l 0 0) same) i
+    (ap (λ (l : List ℕ). get_or l 0 0) same) i
     ∷ written_once xs ys (All-tail IsByte x xs are) (All-tail IsByte y ys all)
-        (ap (λ (l : List ℕ). drop 1 l) same) i
+    (ap (λ (l : List ℕ). drop 1 l) same) i

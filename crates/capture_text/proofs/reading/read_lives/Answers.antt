@@ -17,23 +17,25 @@ returns-in_err-life c =
 pub loop-line-preserved : goal.loop-line-preserved
 loop-line-preserved c =
     let begins : c.in-Some.line.now ≡ codes "life" = search rules in
-    record { between = one_life_on c.args.text.now c.loop-line.rest.now c.in-Some.line.now
-      c.in-Some.after.now c.in_ok-life.behind.now c.loop-line.number c.next_number-number.result
-      c.in_ok-life.last c.loop-line.lives c.push.new.self c.in_ok-life.life
-      c.loop-line.invariant.between c.in-Some.ensures.some begins c.next_number-number.ensures
-      c.in_ok-life.ensures.ok c.in_ok-push.ensures.ok }
+    record {
+      between = one_life_on c.args.text.now c.loop-line.rest.now c.in-Some.line.now
+          c.in-Some.after.now c.in_ok-life.behind.now c.loop-line.number c.next_number-number.result
+          c.in_ok-life.last c.loop-line.lives c.push.new.self c.in_ok-life.life
+          c.loop-line.invariant.between c.in-Some.ensures.some begins c.next_number-number.ensures
+          c.in_ok-life.ensures.ok c.in_ok-push.ensures.ok;
+    }
 
 pub returns-then-not-is_empty : goal.returns-then-not-is_empty
 returns-then-not-is_empty c =
     elim c.then-not-is_empty.branch [
       | then-not-is_empty-via-then-not-is_empty w ↦
-        ends_short c.args.text.now c.loop-line.rest.now c.loop-line.number c.next_number.result
-        c.loop-line.lives c.loop-line.invariant.between (c.in_default.ensures.none refl)
-        c.next_number.ensures (sym c.is_empty.ensures ∙ w.if-not-is_empty.true)
+          ends_short c.args.text.now c.loop-line.rest.now c.loop-line.number c.next_number.result
+          c.loop-line.lives c.loop-line.invariant.between (c.in_default.ensures.none refl)
+          c.next_number.ensures (sym c.is_empty.ensures ∙ w.if-not-is_empty.true)
       | then-not-is_empty-via-else-not-is_empty+then-is_empty w ↦
-        ends_none c.args.text.now c.loop-line.rest.now c.loop-line.number c.next_number.result
-        c.loop-line.lives c.loop-line.invariant.between (c.in_default.ensures.none refl)
-        c.next_number.ensures
-        (ap (λ (ls : List (List Event)). length ls == 0) (sym w.as_slice-else-not-is_empty.ensures)
-        ∙ sym w.is_empty-else-not-is_empty.ensures ∙ w.if-is_empty.true)
+          ends_none c.args.text.now c.loop-line.rest.now c.loop-line.number c.next_number.result
+          c.loop-line.lives c.loop-line.invariant.between (c.in_default.ensures.none refl)
+          c.next_number.ensures
+          (ap (λ (ls : List (List Event)). length ls == 0) (sym w.as_slice-else-not-is_empty.ensures)
+          ∙ sym w.is_empty-else-not-is_empty.ensures ∙ w.if-is_empty.true)
     ]
