@@ -21,7 +21,8 @@ no_text Client text none (event.Opened Client) bounded is = differ 1 is refl
 no_text Client text none (event.Opened Venue) bounded is = differ 0 is refl
 no_text Client text none (event.Closed Client) bounded is = differ 1 is refl
 no_text Client text none (event.Closed Venue) bounded is = differ 0 is refl
-no_text Client text none (event.Text Client bytes) (are, round) is = none bytes are round (behind 2 is)
+no_text Client text none (event.Text Client bytes) (are, round) is =
+    none bytes are round (behind 2 is)
 no_text Client text none (event.Text Venue bytes) bounded is = differ 0 is refl
 no_text Client text none (event.Frame Client body) bounded is = differ 1 is refl
 no_text Client text none (event.Frame Venue body) bounded is = differ 0 is refl
@@ -32,7 +33,8 @@ no_text Venue text none (event.Opened Venue) bounded is = differ 1 is refl
 no_text Venue text none (event.Closed Client) bounded is = differ 0 is refl
 no_text Venue text none (event.Closed Venue) bounded is = differ 1 is refl
 no_text Venue text none (event.Text Client bytes) bounded is = differ 0 is refl
-no_text Venue text none (event.Text Venue bytes) (are, round) is = none bytes are round (behind 2 is)
+no_text Venue text none (event.Text Venue bytes) (are, round) is =
+    none bytes are round (behind 2 is)
 no_text Venue text none (event.Frame Client body) bounded is = differ 0 is refl
 no_text Venue text none (event.Frame Venue body) bounded is = differ 1 is refl
 
@@ -49,7 +51,8 @@ no_frame Client text none (event.Closed Client) bounded is = differ 1 is refl
 no_frame Client text none (event.Closed Venue) bounded is = differ 0 is refl
 no_frame Client text none (event.Text Client bytes) bounded is = differ 1 is refl
 no_frame Client text none (event.Text Venue bytes) bounded is = differ 0 is refl
-no_frame Client text none (event.Frame Client body) (are, sound, round) is = none body are sound round (behind 3 is)
+no_frame Client text none (event.Frame Client body) (are, sound, round) is =
+    none body are sound round (behind 3 is)
 no_frame Client text none (event.Frame Venue body) bounded is = differ 0 is refl
 no_frame Venue text none (event.At ms) bounded is = differ 0 is refl
 no_frame Venue text none event.Tick bounded is = differ 0 is refl
@@ -60,7 +63,8 @@ no_frame Venue text none (event.Closed Venue) bounded is = differ 1 is refl
 no_frame Venue text none (event.Text Client bytes) bounded is = differ 0 is refl
 no_frame Venue text none (event.Text Venue bytes) bounded is = differ 1 is refl
 no_frame Venue text none (event.Frame Client body) bounded is = differ 0 is refl
-no_frame Venue text none (event.Frame Venue body) (are, sound, round) is = none body are sound round (behind 3 is)
+no_frame Venue text none (event.Frame Venue body) (are, sound, round) is =
+    none body are sound round (behind 3 is)
 
 -- a body that is written is that of no round
 pub no_round : (side : Side) (text body : List ℕ) → Writes text (Some body)

@@ -68,7 +68,8 @@ behind_lives (life ∷ lives) (top ∷ all) more sound is =
     straight : (events : List Event) (rest : Lines)
         → codes "life" ∷ map line_of events ++ end ∷ rest ≡ life_lines events ++ rest
     straight events rest =
-        ap (λ (ls : Lines). codes "life" ∷ ls) (sym (append_assoc (map line_of events) (end ∷ []) rest))
+        ap (λ (ls : Lines). codes "life" ∷ ls)
+        (sym (append_assoc (map line_of events) (end ∷ []) rest))
 
 -- ---- which sides are open is read off the lines
 
@@ -208,7 +209,8 @@ pub outside_within : (lives : List (List Event)) (events : List Event) (part : L
     → part ≢ end → Follows part (behind [] events) None
     → Begun (within lives events ++ part ∷ []) → ⊥
 outside_within lives events part other follows begun =
-    let left = behind_lives lives begun.lives (codes "life" ∷ map line_of events ++ part ∷ begun.rest)
+    let left = behind_lives lives begun.lives
+    (codes "life" ∷ map line_of events ++ part ∷ begun.rest)
     begun.sound (begun.split
     ∙ append_assoc (within lives events) (part ∷ []) begun.rest
     ∙ append_assoc (flat_map life_lines lives) (codes "life" ∷ map line_of events)

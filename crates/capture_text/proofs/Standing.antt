@@ -73,3 +73,5 @@ none_follows line before e (says, bounded) other = λ o may is.
 pub event_follows : (line : List ℕ) (before : List Event) (e : Event)
     → LineSays line (Some e) → MayStand before e → Follows line before (Some e)
 event_follows line before e (says, bounded) may = (says, may)
+
+pub ruleset what_follows = (no_event_follows, none_follows, event_follows)

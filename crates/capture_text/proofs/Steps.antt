@@ -1,6 +1,7 @@
 -- The lines of a life and of lives that were passed, one more at a time.
-use Rattle.std.proofs.Common.{◌≡◌, ◌≢◌, ◌⊎◌, inl, inr, ℕ, ◌+◌, ◌-◌, ◌^◌, ◌≤◌, min, List, [], ◌∷◌, ◌++◌, map}
-use Rattle.std.proofs.Common.{length, All, refl, sym, ◌∙◌, ap, subst, append_assoc, append-nil, Ok, Err, Some, None}
+use Rattle.std.proofs.Common.{◌≡◌, ◌≢◌, ◌⊎◌, inl, inr, ℕ, ◌+◌, ◌-◌, ◌^◌, ◌≤◌, min, List, []}
+use Rattle.std.proofs.Common.{◌∷◌, ◌++◌, map, length, All, refl, sym, ◌∙◌, ap, subst}
+use Rattle.std.proofs.Common.{append_assoc, append-nil, Ok, Err, Some, None}
 use Rattle.std.proofs.Common.{◌==◌, true, false}
 use Rattle.std.specs.Result.{IsErr, IsErrAnd}
 use Rattle.std.specs.declared.result.Result.{Result}
@@ -62,7 +63,8 @@ passed_none text before fits = record {
   place = omega (arith, fits);
 }
 
-pub passed_more : (text rest line after : List ℕ) (before number : ℕ) (life : List Event) (e : Event)
+pub passed_more : (text rest line after : List ℕ) (before number : ℕ) (life : List Event)
+    (e : Event)
     → Passed text before life rest number → parts rest ≡ line ∷ parts after
     → line ≡ line_of e → MayStand (behind [] life) e
     → Passed text before (life ++ e ∷ []) after (next number)
@@ -120,7 +122,8 @@ pub lives_on : (text rest line after : List ℕ) (before number new : ℕ) (life
     → Passed text before life rest number → parts rest ≡ line ∷ parts after
     → Follows line (behind [] life) (Some e) → longer ≡ life ++ e ∷ [] → new ≡ next number
     → Passed text before longer after new
-lives_on text rest line after before number new life longer e passed is (says, may) longer_is new_is =
+lives_on text rest line after before number new life longer e passed is (says, may) longer_is
+    new_is =
     subst (λ (l : List Event). Passed text before l after new) (sym longer_is)
     (subst (λ n. Passed text before (life ++ e ∷ []) after n) (sym new_is)
     (passed_more text rest line after before number life e passed is says may))
@@ -211,7 +214,8 @@ between_other text rest line after number lives between is other = record {
 
 no_event : (lives : List (List Event)) (events : List Event) (part : List ℕ) (after : Lines)
     → Breaks events part after → IsNoLine (within lives events) part after
-no_event lives events part [] breaks = λ all sound some is. absurd (not_whole lives events all sound is)
+no_event lives events part [] breaks = λ all sound some is.
+    absurd (not_whole lives events all sound is)
 no_event lives events part (next ∷ after) (other, follows) =
     outside_within lives events part other follows
 

@@ -216,4 +216,6 @@ is_header text line rest names heart split (named, short, is) = record {
   lines = split ∙ ap (λ (l : List ℕ). title ∷ l ∷ parts rest) is;
 }
 
+pub ruleset title_lines = (no_first, first_is_none, no_second)
+
 pub ruleset whole_text = (is_header, is_text, lives_fault, reads_fault, second_is_none)

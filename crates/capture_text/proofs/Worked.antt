@@ -17,7 +17,8 @@ capture = record {
     venue_peer = codes "VENU";
   };
   heart = 30;
-  lives = (event.At 1704189600000 ∷ event.Opened Client ∷ event.Text Client (codes "8=FIX" ++ 1 ∷ [])
+  lives = (event.At 1704189600000 ∷ event.Opened Client
+      ∷ event.Text Client (codes "8=FIX" ++ 1 ∷ [])
       ∷ event.Opened Venue ∷ event.Frame Venue (codes "35=0" ++ 1 ∷ []) ∷ event.Closed Client
       ∷ event.Tick ∷ []) ∷ [] ∷ [];
 }
@@ -40,7 +41,8 @@ open_again : is_open Client
     (event.Tick ∷ event.Opened Client ∷ event.Closed Client ∷ event.Opened Venue ∷ []) ≡ true
 open_again = refl
 
-closed : is_open Client (event.Opened Venue ∷ event.Closed Client ∷ event.Opened Client ∷ []) ≡ false
+closed : is_open Client
+    (event.Opened Venue ∷ event.Closed Client ∷ event.Opened Client ∷ []) ≡ false
 closed = refl
 
 not_yet : is_open Venue (event.Opened Client ∷ []) ≡ false

@@ -72,7 +72,7 @@ impl Open {
 }
 
 /// The event of a line, where it may come.
-#[tactic(auto, using(crate::proofs::Standing::no_event_follows, crate::proofs::Standing::none_follows, crate::proofs::Standing::event_follows))]
+#[tactic(auto, using(crate::proofs::Standing::what_follows))]
 fn event_of(alloc: Global, sides: Open, line: &[u8]) -> Result<Option<Event>, AllocError>
     ensures { (before : List Event) → AreOpen sides before →
         IfOk result (Follows line.now before) }

@@ -34,7 +34,7 @@ impl From<AllocError> for CaptureFault {
 }
 
 /// The second line, behind the title, and what stands behind it.
-#[tactic(auto, using(crate::proofs::Whole::no_first, crate::proofs::Whole::first_is_none, crate::proofs::Whole::no_second))]
+#[tactic(auto, using(crate::proofs::Whole::title_lines))]
 fn read_title(text: &[u8]) -> Result<(&[u8], &[u8]), CaptureFault>
     ensures ok { IfOk result (λ cut.
         parts text.now ≡ title ∷ cut.0.now ∷ parts cut.1.now) }

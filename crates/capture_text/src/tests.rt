@@ -72,10 +72,10 @@ const TEXTS: [(&str, &[u8], Option<u32>); 19] = [
     ("a blank at the end", b"fixgate capture 1\nnames A B C D 0 \nlife\nend\n", Some(2)),
     ("a name with `|`", b"fixgate capture 1\nnames A|A B C D 0\nlife\nend\n", None),
     ("a name of a byte above 126", b"fixgate capture 1\nnames A\x7f B C D 0\nlife\nend\n", Some(2)),
-    ("a name of 35 bytes", b"fixgate capture 1\nnames 12345678901234567890123456789012345 B C D 0\n\
-life\nend\n", None),
-    ("a name of 36 bytes", b"fixgate capture 1\nnames 123456789012345678901234567890123456 B C D 0\n\
-life\nend\n", Some(2)),
+    ("a name of 35 bytes", b"fixgate capture 1\n\
+names 12345678901234567890123456789012345 B C D 0\nlife\nend\n", None),
+    ("a name of 36 bytes", b"fixgate capture 1\n\
+names 123456789012345678901234567890123456 B C D 0\nlife\nend\n", Some(2)),
     ("an hour", b"fixgate capture 1\nnames A B C D 3600\nlife\nend\n", None),
     ("more than an hour", b"fixgate capture 1\nnames A B C D 3601\nlife\nend\n", Some(2)),
     ("a zero in front", b"fixgate capture 1\nnames A B C D 030\nlife\nend\n", Some(2)),

@@ -10,6 +10,7 @@ pub returns-then-not-branch : goal.returns-then-not-branch
 returns-then-not-branch c =
     no_round c.args.side c.args.text.now c.in-Some.body
     (subst (Writes c.args.text.now) c.in-Some.is c.in_ok-body.ensures)
-    (λ both. not_both c.in_ok-is_round_of.field-0 c.if-not-branch.true (c.in_ok-is_round_of.ensures.1
+    (λ both. not_both c.in_ok-is_round_of.field-0 c.if-not-branch.true
+    (c.in_ok-is_round_of.ensures.1
     (subst (λ (b : List ℕ). IsBody b × IsRound (frame_of (kind_of c.args.side) b))
     (sym c.as_slice.ensures) both)))

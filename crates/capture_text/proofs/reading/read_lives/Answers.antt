@@ -2,7 +2,8 @@ use Rattle.std.proofs.Common.{◌≡◌, ◌==◌, ◌∙◌, ap, rules, codes, 
 use Rattle.capture_text.specs.declared.capture.Event.{Event}
 use Rattle.capture_text.proofs.Steps.{says_fault, broken_life, one_life_on, ends_short, ends_none}
 use Rattle.capture_text.proofs.reading.read_lives.Goals as goal
-use Rattle.capture_text.proofs.reading.read_lives.Goals.{then-not-is_empty-via-then-not-is_empty, then-not-is_empty-via-else-not-is_empty+then-is_empty}
+use Rattle.capture_text.proofs.reading.read_lives.Goals.{then-not-is_empty-via-then-not-is_empty}
+use Rattle.capture_text.proofs.reading.read_lives.Goals.{then-not-is_empty-via-else-not-is_empty+then-is_empty}
 
 pub returns-in_err-life : goal.returns-in_err-life
 returns-in_err-life c =
