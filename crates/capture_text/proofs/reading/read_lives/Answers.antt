@@ -3,7 +3,7 @@ use Rattle.capture_text.specs.declared.capture.Event.{Event}
 use Rattle.capture_text.proofs.Steps.{says_fault, broken_life, one_life_on, ends_short, ends_none}
 use Rattle.capture_text.proofs.reading.read_lives.Goals as goal
 use Rattle.capture_text.proofs.reading.read_lives.Goals.{then-not-is_empty-via-then-not-is_empty}
-use Rattle.capture_text.proofs.reading.read_lives.Goals.{then-not-is_empty-via-else-not-is_empty+then-is_empty}
+use Rattle.capture_text.proofs.reading.read_lives.Goals as way
 
 pub returns-in_err-life : goal.returns-in_err-life
 returns-in_err-life c =
@@ -33,10 +33,11 @@ returns-then-not-is_empty c =
           ends_short c.args.text.now c.loop-line.rest.now c.loop-line.number c.next_number.result
           c.loop-line.lives c.loop-line.invariant.between (c.in_default.ensures.none refl)
           c.next_number.ensures (sym c.is_empty.ensures ∙ w.if-not-is_empty.true)
-      | then-not-is_empty-via-else-not-is_empty+then-is_empty w ↦
+      | way.then-not-is_empty-via-else-not-is_empty+then-is_empty w ↦
           ends_none c.args.text.now c.loop-line.rest.now c.loop-line.number c.next_number.result
           c.loop-line.lives c.loop-line.invariant.between (c.in_default.ensures.none refl)
           c.next_number.ensures
-          (ap (λ (ls : List (List Event)). length ls == 0) (sym w.as_slice-else-not-is_empty.ensures)
+          (ap (λ (ls : List (List Event)). length ls == 0)
+          (sym w.as_slice-else-not-is_empty.ensures)
           ∙ sym w.is_empty-else-not-is_empty.ensures ∙ w.if-is_empty.true)
     ]
