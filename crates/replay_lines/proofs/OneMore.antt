@@ -1,6 +1,6 @@
 -- The lines of pieces and connections, one more at a time.
 use Rattle.std.proofs.Common.{◌≡◌, ℕ, zero, suc, ◌+◌, ◌<◌, List, [], ◌∷◌, ◌++◌, length, take}
-use Rattle.std.proofs.Common.{get_or, map, refl, sym, ◌∙◌, ap, append_assoc, append-nil, arith, codes}
+use Rattle.std.proofs.Common.{get_or, map, sym, ◌∙◌, ap, append_assoc, append-nil, arith, codes}
 use Rattle.std.specs.List.{flat_map}
 use Rattle.std.proofs.lemmas.Grind.{flat_map-append}
 use Rattle.std.proofs.lemmas.List.{map-append, take_more}
@@ -16,8 +16,8 @@ byte_more old now piece i within is =
     ap (λ (l : List ℕ). l ++ printed (get_or piece i 0) ∷ []) is
     ∙ append_assoc old (codes "> " ++ map printed (take i piece)) (printed (get_or piece i 0) ∷ [])
     ∙ ap (λ (l : List ℕ). old ++ (codes "> " ++ l))
-        (sym (map-append printed (take i piece) (get_or piece i 0 ∷ []))
-        ∙ ap (λ (l : List ℕ). map printed l) (sym (take_more piece i 0 within)))
+    (sym (map-append printed (take i piece) (get_or piece i 0 ∷ []))
+    ∙ ap (λ (l : List ℕ). map printed l) (sym (take_more piece i 0 within)))
 
 -- one piece more
 pub piece_more : (old now side : List ℕ) (number : ℕ) (pieces : List (List ℕ)) (i : ℕ)
@@ -37,10 +37,10 @@ piece_more old now side number pieces i piece within item is =
         append_assoc (numbered side number) (flat_map piece_line (take k all)) (piece_line one)
         ∙ ap (λ (l : List ℕ). numbered side number ++ l) (
         ap (λ (l : List ℕ). flat_map piece_line (take k all) ++ l)
-            (sym (append-nil (piece_line one)))
+        (sym (append-nil (piece_line one)))
         ∙ sym (flat_map-append piece_line (take k all) (one ∷ []))
         ∙ ap (λ (ls : List (List ℕ)). flat_map piece_line ls)
-            (ap (λ (l : List ℕ). take k all ++ l ∷ []) at ∙ sym (take_more all k one inside)))
+        (ap (λ (l : List ℕ). take k all ++ l ∷ []) at ∙ sym (take_more all k one inside)))
 
 side_more : (side : List ℕ) (number : ℕ) (all : List (List (List ℕ))) (i : ℕ)
     (one : List (List ℕ)) → i < length all → one ≡ get_or all i one
@@ -53,10 +53,10 @@ side_more side number (c ∷ all) zero one within at =
     ∙ sym (append-nil (connection_lines side number c))
 side_more side number (c ∷ all) (suc i) one within at =
     append_assoc (connection_lines side number c) (side_lines side (number + 1) (take i all))
-        (connection_lines side (number + suc i) one)
+    (connection_lines side (number + suc i) one)
     ∙ ap (λ (l : List ℕ). connection_lines side number c ++ l) (
     ap (λ n. side_lines side (number + 1) (take i all) ++ connection_lines side n one)
-        (omega arith)
+    (omega arith)
     ∙ side_more side (number + 1) all i one (omega (arith, within)) at)
 
 -- one connection more

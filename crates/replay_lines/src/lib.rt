@@ -2,6 +2,7 @@
 //! and at the end what the journal has.
 #![tactic(auto)]
 
+pub mod laws;
 mod lines;
 mod printing;
 #[cfg(test)]

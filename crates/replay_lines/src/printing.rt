@@ -56,7 +56,8 @@ pub fn put_life<O: Sink>(
     life: &PlayedLife<'_>,
 ) -> Result<(), PrintError>
     ensures lines { result ≢ Err errors.NoMemory → PutAppends (O.bytes out.old) (O.bytes out.new)
-        result (life_lines life.now.number life.now.client.now life.now.venue.now life.now.end.now) }
+        result (life_lines
+        life.now.number life.now.client.now life.now.venue.now life.now.end.now) }
     ensures nothing { result ≡ Err errors.NoMemory → out.new ≡ out.old }
     ensures cause { result ≢ Err errors.NoMemory →
         HasCause (O.faults out.old) (O.faults out.new) result }

@@ -16,7 +16,12 @@ const LIFE: &[u8] = b"life 7\nclient 1\nvenue 1\nvenue 2\n\
 
 /// A life without a connection.
 fn quiet(end: &'static [u8]) -> PlayedLife<'static> {
-    PlayedLife { number: 1, client: &[], venue: &[], end }
+    PlayedLife {
+        number: 1,
+        client: &[],
+        venue: &[],
+        end,
+    }
 }
 
 fn bytes_of(alloc: Global, printed: &[u8]) -> Result<Vec<u8>, AllocError> {
@@ -46,7 +51,12 @@ fn a_life_is_put_as_its_lines(rt: HostRuntime) -> Result<(), Fail> {
     client.push(Written::new(alloc))?;
     let venue = venue(alloc)?;
     let mut out = MemSink::new(alloc, Vec::new(alloc));
-    let life = PlayedLife { number: 7, client: &client, venue: &venue, end: b"Done" };
+    let life = PlayedLife {
+        number: 7,
+        client: &client,
+        venue: &venue,
+        end: b"Done",
+    };
     assert_eq!(rt; put_life(alloc, &mut out, &life), Ok(()));
     assert_eq!(rt; out.bytes(), LIFE);
     Ok(())
@@ -57,7 +67,10 @@ fn the_last_lines_are_put_behind(rt: HostRuntime) -> Result<(), Fail> {
     let alloc = rt.alloc();
     let mut out = MemSink::new(alloc, Vec::new(alloc));
     assert_eq!(rt; put_life(alloc, &mut out, &quiet(b"NoMemory")), Ok(()));
-    assert_eq!(rt; put_last(alloc, &mut out, 12, (1, 2, 30, 1_000_000_000)), Ok(()));
+    assert_eq!(rt;
+        put_last(alloc, &mut out, 12, (1, 2, 30, 1_000_000_000)),
+        Ok(())
+    );
     assert_eq!(rt;
         out.bytes(),
         b"life 1\nend NoMemory\nentries 12\nnext 1 2 30 1000000000\n".as_slice()

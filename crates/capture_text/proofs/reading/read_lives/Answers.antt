@@ -2,8 +2,6 @@ use Rattle.std.proofs.Common.{◌≡◌, ◌==◌, ◌∙◌, ap, rules, codes, 
 use Rattle.capture_text.specs.declared.capture.Event.{Event}
 use Rattle.capture_text.proofs.Steps.{says_fault, broken_life, one_life_on, ends_short, ends_none}
 use Rattle.capture_text.proofs.reading.read_lives.Goals as goal
-use Rattle.capture_text.proofs.reading.read_lives.Goals.{then-not-is_empty-via-then-not-is_empty}
-use Rattle.capture_text.proofs.reading.read_lives.Goals as way
 
 pub returns-in_err-life : goal.returns-in_err-life
 returns-in_err-life c =
@@ -29,11 +27,11 @@ loop-line-preserved c =
 pub returns-then-not-is_empty : goal.returns-then-not-is_empty
 returns-then-not-is_empty c =
     elim c.then-not-is_empty.branch [
-      | then-not-is_empty-via-then-not-is_empty w ↦
+      | goal.then-not-is_empty-via-then-not-is_empty w ↦
           ends_short c.args.text.now c.loop-line.rest.now c.loop-line.number c.next_number.result
           c.loop-line.lives c.loop-line.invariant.between (c.in_default.ensures.none refl)
           c.next_number.ensures (sym c.is_empty.ensures ∙ w.if-not-is_empty.true)
-      | way.then-not-is_empty-via-else-not-is_empty+then-is_empty w ↦
+      | goal.then-not-is_empty-via-else-not-is_empty+then-is_empty w ↦
           ends_none c.args.text.now c.loop-line.rest.now c.loop-line.number c.next_number.result
           c.loop-line.lives c.loop-line.invariant.between (c.in_default.ensures.none refl)
           c.next_number.ensures
