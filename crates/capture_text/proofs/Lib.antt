@@ -1,0 +1,10 @@
+pub mod Bytes
+pub mod EventLines
+pub mod Grammar
+pub mod NamesLine
+pub mod Parts
+pub mod Standing
+pub mod Steps
+pub mod Whole
+pub mod Worked
+pub mod Written

@@ -1,0 +1,105 @@
+-- Own: a capture, and the lines in which it is written; docs/DEFINITIONS.md, "Captures".
+use Rattle.std.specs.Prelude.{◌≡◌, ◌≢◌, ℕ, ◌≤◌, ◌<◌, ◌^◌, ◌==◌, ◌⊎◌, Bool, true, false}
+use Rattle.std.specs.Prelude.{List, [], ◌∷◌, ◌++◌, map, length, All, codes, if◌then◌else◌}
+use Rattle.std.specs.List.{flat_map, join_with_byte}
+use Rattle.std.specs.Fmt.{decimal}
+use Rattle.frame_grammar.specs.declared.frame.Kind.{Kind}
+use Rattle.frame_grammar.specs.declared.frame.Kind.TheVariants.{Fix42, Fixt11}
+use Rattle.frame_grammar.specs.Frame.{IsBody, frame_of}
+use Rattle.order_meaning.specs.declared.Side.{Side}
+use Rattle.order_meaning.specs.declared.Side.TheVariants.{Client, Venue}
+use Rattle.order_meaning.specs.declared.names.Names.{Names}
+use Rattle.capture_text.specs.declared.capture.Event.{Event}
+use Rattle.capture_text.specs.declared.capture.Event.TheVariants as event
+use Rattle.capture_text.specs.declared.capture.Capture.{Capture}
+
+-- ---- how it is written
+
+-- `|` stands for SOH
+abbrev pub written : ℕ → ℕ
+written byte = if byte == 1 then 124 else byte
+
+abbrev pub letter : Side → List ℕ
+letter Client = codes "c"
+letter Venue = codes "v"
+
+-- the line of an event
+abbrev pub line_of : Event → List ℕ
+line_of (event.At ms) = codes "at " ++ decimal ms
+line_of event.Tick = codes "tick"
+line_of (event.Opened side) = letter side ++ codes "+"
+line_of (event.Closed side) = letter side ++ codes "-"
+line_of (event.Text side bytes) = letter side ++ codes " " ++ map written bytes
+line_of (event.Frame side body) = letter side ++ codes "f " ++ map written body
+
+abbrev pub life_lines : List Event → List (List ℕ)
+life_lines events = codes "life" ∷ map line_of events ++ codes "end" ∷ []
+
+abbrev pub title : List ℕ
+title = codes "fixgate capture 1"
+
+-- `names A B C D H`
+abbrev pub names_line : Names → ℕ → List ℕ
+names_line names heart = join_with_byte 32 (codes "names"
+    ∷ names.client_our ∷ names.client_peer ∷ names.venue_our ∷ names.venue_peer
+    ∷ decimal heart ∷ [])
+
+-- the lines of a capture
+abbrev pub lines_of : Capture → List (List ℕ)
+lines_of capture =
+    title ∷ names_line capture.names capture.heart ∷ flat_map life_lines capture.lives
+
+-- ---- its bounds
+
+-- a CompID: 1 to 35 bytes from 33 to 126
+pub record IsName (name : List ℕ) : Type 0 where
+  pub some : 1 ≤ length name
+  pub short : length name ≤ 35
+  pub printable : All (λ byte. (33 ≤ byte) × (byte ≤ 126)) name
+
+-- what a line may write: bytes from 32 to 126, but no `|`, or SOH
+abbrev pub IsByte : ℕ → Type 0
+IsByte byte = (byte ≡ 1) ⊎ ((32 ≤ byte) × (byte ≤ 126) × (byte ≢ 124))
+
+-- a side is open behind these events, the last of which stands first: its last `+` or `-` is a `+`
+abbrev pub is_open : Side → List Event → Bool
+is_open Client (event.Opened Client ∷ before) = true
+is_open Venue (event.Opened Venue ∷ before) = true
+is_open Client (event.Closed Client ∷ before) = false
+is_open Venue (event.Closed Venue ∷ before) = false
+is_open side (event ∷ before) = is_open side before
+is_open side [] = false
+
+abbrev pub kind_of : Side → Kind
+kind_of Client = Fix42
+kind_of Venue = Fixt11
+
+-- the bytes of a round
+abbrev pub IsRound : List ℕ → Type 0
+IsRound bytes = (1 ≤ length bytes) × (length bytes ≤ 4096)
+
+-- an event may stand behind these, the last of which stands first
+abbrev pub MayStand : List Event → Event → Type 0
+MayStand before (event.At ms) = ms < 2 ^ 64
+MayStand before event.Tick = Unit {0}
+MayStand before (event.Opened side) = is_open side before ≡ false
+MayStand before (event.Closed side) = is_open side before ≡ true
+MayStand before (event.Text side bytes) =
+    (is_open side before ≡ true) × All IsByte bytes × IsRound bytes
+MayStand before (event.Frame side body) =
+    (is_open side before ≡ true) × All IsByte body × IsBody body
+    × IsRound (frame_of (kind_of side) body)
+
+-- each event of a life may stand where it does, behind these
+abbrev pub AreEvents : List Event → List Event → Type 0
+AreEvents before [] = Unit {0}
+AreEvents before (event ∷ events) = MayStand before event × AreEvents (event ∷ before) events
+
+pub record IsCapture (capture : Capture) : Type 0 where
+  pub client_our : IsName capture.names.client_our
+  pub client_peer : IsName capture.names.client_peer
+  pub venue_our : IsName capture.names.venue_our
+  pub venue_peer : IsName capture.names.venue_peer
+  pub heart : capture.heart ≤ 3600
+  pub some : 1 ≤ length capture.lives
+  pub lives : All (AreEvents []) capture.lives

@@ -1,0 +1,5 @@
+pub mod Capture
+pub mod Reading
+pub mod Line
+pub mod Header
+pub mod Life
