@@ -123,7 +123,7 @@ fn round_of(alloc: Global, len: usize) -> Result<Option<CaptureFault>, AllocErro
 
 /// The frame of a body of so many bytes, of the client or the venue.
 fn frame_of(alloc: Global, side: &[u8], len: usize) -> Result<Option<CaptureFault>, AllocError> {
-    let bytes = vec![in alloc; b'x'; len - 4]?;
+    let bytes = vec![in alloc; b'x'; len.saturating_sub(4)]?;
     fault_of(
         alloc,
         &[
