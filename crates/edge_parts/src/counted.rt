@@ -88,6 +88,8 @@ impl<P: Peer> Wire for Counted<P> {
 
     ghost polls = { λ wire. wire.polls };
 
+    ghost plays = { λ wire script. ⊥ };
+
     fn poll(&mut self, buf: &mut [u8]) -> Result<Arrival, Failed>
         requires room { 0 < length buf.old }
         ensures fits { IfOk result (λ arrived. Fits arrived buf.new) }

@@ -74,6 +74,8 @@ impl<'a, R: System + Files, W: Write + Drop> WaitingClock<'a, R, W> {
 impl<'a, R: System + Files, W: Write + Drop> Clock for WaitingClock<'a, R, W> {
     ghost moments = { λ _. None };
 
+    ghost follows = { λ clock listed. ⊥ };
+
     fn now(&mut self) -> u64 {
         if self.shared.is_ending() {
             return self.last;

@@ -6,11 +6,11 @@ mod Turning
 mod Failing
 mod Polling
 mod Rounding
-mod Living
+pub mod Living
 mod Joining
 mod Beginning
 mod GivenOut
 mod Leaving
 mod Shown
-mod Watching
+pub mod Watching
 mod TapsShown

@@ -6,6 +6,7 @@ ghost use Rattle.std.specs.Prelude.{IsOkUnless, [], ◌∷◌, true, ◌<◌, �
 ghost use Rattle.std.specs.Prelude.{if◌then◌else◌};
 ghost use Rattle.std.specs.Option.{ForSome, option_to_list};
 ghost use Rattle.outside.specs.Disk.{HasOneImage};
+ghost use Rattle.wires.specs.Told.{Keeps};
 ghost use Rattle.gate_log.specs.Log.{OnlyReads};
 ghost use Rattle.pair_journal.specs.declared.error.JournalError.TheVariants as errors;
 ghost use Rattle.pair_journal.specs.Calls.{HasDiskCause, BornOrNot};
@@ -306,6 +307,8 @@ impl Gate {
         ensures only { IsOkUnless result errors.DiskFault }
         ensures client_polls { C.polls client.new ≡ C.polls client.old }
         ensures venue_polls { V.polls venue.new ≡ V.polls venue.old }
+        ensures client_plays { Keeps (C.plays client.old) (C.plays client.new) }
+        ensures venue_plays { Keeps (V.plays venue.old) (V.plays venue.new) }
     {
         let client_up = repeat_on(
             &self.journal,
@@ -400,6 +403,8 @@ impl Gate {
         ensures cause { HasCauseOf (D.faults disk.old) (D.faults disk.new) result }
         ensures client_polls { C.polls client.new ≡ C.polls client.old }
         ensures venue_polls { V.polls venue.new ≡ V.polls venue.old }
+        ensures client_plays { Keeps (C.plays client.old) (C.plays client.new) }
+        ensures venue_plays { Keeps (V.plays venue.old) (V.plays venue.new) }
     {
         let made = self.decide(disk, event, now)?;
         show(taps, &made.entry);

@@ -14,4 +14,4 @@ mod taps;
 mod turn;
 
 pub use end::LifeEnd;
-pub use life::{Life, POLL_LEN, live};
+pub use life::{Life, live};

@@ -5,7 +5,7 @@ ghost use Rattle.std.specs.Prelude.{IfSome, OnOk, None, is_some, [], ◌∷◌, 
 ghost use Rattle.std.specs.Option.{ForSome};
 ghost use Rattle.outside.specs.Causes.{next_count};
 ghost use Rattle.outside.specs.Disk.{HasOneImage, Only};
-ghost use Rattle.wires.specs.Told.{GrowsBy};
+ghost use Rattle.wires.specs.Told.{GrowsBy, Keeps};
 ghost use Rattle.wires.specs.Wire.{Connection, is_within};
 ghost use Rattle.life_events.specs.Justified.{transcript_from};
 ghost use Rattle.pair_journal.specs.declared.entry.Entry.{Entry};
@@ -40,9 +40,6 @@ use std::alloc::Global;
 use std::marker::Model;
 use wires::{Clock, Wire};
 
-/// The most bytes that a poll takes.
-pub const POLL_LEN: usize = 4_096;
-
 /// One life of the gateway, between its rounds.
 #[derive(Drop)]
 pub struct Life {
@@ -64,6 +61,7 @@ fn moment<K: Clock>(clock: &mut K) -> u64
     ensures bound { result ≤ MAX_AT }
     ensures given { (m : ℕ) × (result ≡ moment_of m)
         × GrowsBy (K.moments clock.old) (K.moments clock.new) (m ∷ []) }
+    ensures follows { Keeps (K.follows clock.old) (K.follows clock.new) }
 {
     clock.now().min(MAX_AT)
 }
@@ -138,6 +136,9 @@ impl Life {
         ensures client_polls { OnOk result
             (C.polls client.new ≡ next_count (C.polls client.old)) }
         ensures venue_polls { OnOk result (V.polls venue.new ≡ next_count (V.polls venue.old)) }
+        ensures client_plays { Keeps (C.plays client.old) (C.plays client.new) }
+        ensures venue_plays { Keeps (V.plays venue.old) (V.plays venue.new) }
+        ensures follows { Keeps (K.follows clock.old) (K.follows clock.new) }
         ensures durable { OnOk result (HasOneImage (D.bytes disk.old) (D.image disk.old) →
             HasOneImage (D.bytes disk.new) (D.image disk.new)) }
         ensures taps { Watched (state_by has_failed entries tally counts_all)
@@ -204,6 +205,9 @@ impl Life {
             (records (C.recorded client.new) (V.recorded venue.new)))) }
         ensures client_polls { C.polls client.new ≡ C.polls client.old }
         ensures venue_polls { V.polls venue.new ≡ V.polls venue.old }
+        ensures client_plays { Keeps (C.plays client.old) (C.plays client.new) }
+        ensures venue_plays { Keeps (V.plays venue.old) (V.plays venue.new) }
+        ensures follows { Keeps (K.follows clock.old) (K.follows clock.new) }
         ensures durable { OnOk result (HasOneImage (D.bytes disk.old) (D.image disk.old) →
             HasOneImage (D.bytes disk.new) (D.image disk.new)) }
         ensures taps { Watched (state_by has_failed entries tally counts_all)
@@ -254,6 +258,9 @@ impl Life {
             (C.polls client.new ≡ counted_on rounds (C.polls client.old)) }
         ensures venue_polls { OnOk result
             (V.polls venue.new ≡ counted_on rounds (V.polls venue.old)) }
+        ensures client_plays { Keeps (C.plays client.old) (C.plays client.new) }
+        ensures venue_plays { Keeps (V.plays venue.old) (V.plays venue.new) }
+        ensures follows { Keeps (K.follows clock.old) (K.follows clock.new) }
         ensures durable { OnOk result (HasOneImage (D.bytes disk.old) (D.image disk.old) →
             HasOneImage (D.bytes disk.new) (D.image disk.new)) }
         ensures taps { Watched (state_by has_failed entries tally counts_all)
@@ -305,6 +312,9 @@ impl Life {
             (C.polls client.new ≡ counted_on rounds (C.polls client.old)) }
         ensures venue_polls { OnOk result
             (V.polls venue.new ≡ counted_on rounds (V.polls venue.old)) }
+        ensures client_plays { Keeps (C.plays client.old) (C.plays client.new) }
+        ensures venue_plays { Keeps (V.plays venue.old) (V.plays venue.new) }
+        ensures follows { Keeps (K.follows clock.old) (K.follows clock.new) }
         ensures durable { OnOk result (HasOneImage (D.bytes disk.old) (D.image disk.old) →
             HasOneImage (D.bytes disk.new) (D.image disk.new)) }
         ensures taps { Watched (state_by has_failed entries tally counts_all)
@@ -352,6 +362,9 @@ fn lived<D: Disk, C: Wire, V: Wire, K: Clock>(
     ensures client_polls { OnOk result
         (C.polls client.new ≡ counted_on rounds (C.polls client.old)) }
     ensures venue_polls { OnOk result (V.polls venue.new ≡ counted_on rounds (V.polls venue.old)) }
+    ensures client_plays { Keeps (C.plays client.old) (C.plays client.new) }
+    ensures venue_plays { Keeps (V.plays venue.old) (V.plays venue.new) }
+    ensures follows { Keeps (K.follows clock.old) (K.follows clock.new) }
     ensures durable { OnOk result (HasOneImage (D.bytes disk.old) (D.image disk.old) →
         HasOneImage (D.bytes disk.new) (D.image disk.new)) }
     ensures taps { TapsSaw (state_by has_failed entries tally counts_all) taps.old.items
@@ -417,6 +430,10 @@ pub fn live<D: Disk, C: Wire, V: Wire, K: Clock>(
         C.polls client.new ≡ counted_on rounds (C.polls client.old) }
     ensures venue_polls { result ≡ LifeEnd.Done →
         V.polls venue.new ≡ counted_on rounds (V.polls venue.old) }
+    // The scripts that the wires play, and the moments that the clock follows, stay.
+    ensures client_plays { Keeps (C.plays client.old) (C.plays client.new) }
+    ensures venue_plays { Keeps (V.plays venue.old) (V.plays venue.new) }
+    ensures follows { Keeps (K.follows clock.old) (K.follows clock.new) }
     ensures cause { HasCauseOf (D.faults disk.old) (D.faults disk.new) (ended result) }
 {
     an_image_has_one_reading();

@@ -11,7 +11,8 @@ ghost use Rattle.frame_grammar.specs.Framer.{StandsFor};
 ghost use Rattle.frame_grammar.specs.Held.{room};
 ghost use Rattle.frame_grammar.specs.declared.framer.TheConstants.{LEAST_ROOM};
 ghost use Rattle.event_decisions.specs.Event.{Frame};
-ghost use Rattle.wires.specs.Told.{GrowsBy};
+ghost use Rattle.wires.specs.Told.{GrowsBy, Keeps};
+ghost use Rattle.wires.specs.declared.wire.TheConstants.{POLL_LEN};
 ghost use Rattle.wires.specs.Wire.{Poll, Fits, came_of, may_come};
 ghost use Rattle.life_events.specs.Happens.{up_on};
 ghost use Rattle.life_events.specs.Turn.{up_after};
@@ -26,14 +27,13 @@ ghost use Rattle.gateway_life.specs.Watched.{Watched, WereCommitted, state_by};
 
 use crate::LifeEnd;
 use crate::gate::Gate;
-use crate::life::POLL_LEN;
 use drop_taps::Tap;
 use event_decisions::Event;
 use frame_grammar::{Framer, Next};
 use order_meaning::Side;
 use outside::{Disk, Failed};
 use pair_journal::MAX_AT;
-use wires::{Arrival, Wire};
+use wires::{Arrival, POLL_LEN, Wire};
 
 // Whether a connection stands on a side.
 fn is_up(gate: &Gate, side: Side) -> bool
@@ -85,6 +85,8 @@ fn frame_event<D: Disk, C: Wire, V: Wire>(
     ensures cause { HasCauseOf (D.faults disk.old) (D.faults disk.new) result }
     ensures client_polls { C.polls client.new ≡ C.polls client.old }
     ensures venue_polls { V.polls venue.new ≡ V.polls venue.old }
+    ensures client_plays { Keeps (C.plays client.old) (C.plays client.new) }
+    ensures venue_plays { Keeps (V.plays venue.old) (V.plays venue.new) }
 {
     if !is_up(gate, side) {
         return Ok(());
@@ -137,6 +139,8 @@ fn take_frames<D: Disk, C: Wire, V: Wire>(
     ensures cause { HasCauseOf (D.faults disk.old) (D.faults disk.new) result }
     ensures client_polls { C.polls client.new ≡ C.polls client.old }
     ensures venue_polls { V.polls venue.new ≡ V.polls venue.old }
+    ensures client_plays { Keeps (C.plays client.old) (C.plays client.new) }
+    ensures venue_plays { Keeps (V.plays venue.old) (V.plays venue.new) }
 {
     'frames: loop {
         match framer.next() {
@@ -201,6 +205,8 @@ fn arrived<D: Disk, C: Wire, V: Wire>(
     ensures cause { HasCauseOf (D.faults disk.old) (D.faults disk.new) result }
     ensures client_polls { C.polls client.new ≡ C.polls client.old }
     ensures venue_polls { V.polls venue.new ≡ V.polls venue.old }
+    ensures client_plays { Keeps (C.plays client.old) (C.plays client.new) }
+    ensures venue_plays { Keeps (V.plays venue.old) (V.plays venue.new) }
 {
     let arrival = match found {
         Ok(arrival) => arrival,
@@ -236,7 +242,7 @@ fn up_after(up: bool, found: Result<Arrival, Failed>) -> bool
 
 // Looks for what is new from the client.
 fn poll_client<C: Wire>(gate: &mut Gate, client: &mut C, buf: &mut [u8]) -> Result<Arrival, Failed>
-    requires room { 0 < length buf.old }
+    requires room { length buf.old ≡ POLL_LEN }
     requires agrees { Agrees (C.recorded client.old) gate.old.client_up }
     ensures fits { IfOk result (λ arrived. Fits arrived buf.new) }
     ensures same { (gate.new.journal ≡ gate.old.journal) × (gate.new.core ≡ gate.old.core) }
@@ -249,6 +255,7 @@ fn poll_client<C: Wire>(gate: &mut Gate, client: &mut C, buf: &mut [u8]) -> Resu
         may_come gate.old.client_up (came_of result buf.new) ≡ true }
     ensures agrees { Agrees (C.recorded client.new) gate.new.client_up }
     ensures polled { C.polls client.new ≡ next_count (C.polls client.old) }
+    ensures client_plays { Keeps (C.plays client.old) (C.plays client.new) }
 {
     let found = client.poll(buf);
     gate.client_up = up_after(gate.client_up, found);
@@ -257,7 +264,7 @@ fn poll_client<C: Wire>(gate: &mut Gate, client: &mut C, buf: &mut [u8]) -> Resu
 
 // Looks for what is new from the venue.
 fn poll_venue<V: Wire>(gate: &mut Gate, venue: &mut V, buf: &mut [u8]) -> Result<Arrival, Failed>
-    requires room { 0 < length buf.old }
+    requires room { length buf.old ≡ POLL_LEN }
     requires agrees { Agrees (V.recorded venue.old) gate.old.venue_up }
     ensures fits { IfOk result (λ arrived. Fits arrived buf.new) }
     ensures same { (gate.new.journal ≡ gate.old.journal) × (gate.new.core ≡ gate.old.core) }
@@ -270,6 +277,7 @@ fn poll_venue<V: Wire>(gate: &mut Gate, venue: &mut V, buf: &mut [u8]) -> Result
         may_come gate.old.venue_up (came_of result buf.new) ≡ true }
     ensures agrees { Agrees (V.recorded venue.new) gate.new.venue_up }
     ensures polled { V.polls venue.new ≡ next_count (V.polls venue.old) }
+    ensures venue_plays { Keeps (V.plays venue.old) (V.plays venue.new) }
 {
     let found = venue.poll(buf);
     gate.venue_up = up_after(gate.venue_up, found);
@@ -316,6 +324,8 @@ pub(crate) fn client_turn<D: Disk, C: Wire, V: Wire>(
     ensures cause { HasCauseOf (D.faults disk.old) (D.faults disk.new) result }
     ensures polled { C.polls client.new ≡ next_count (C.polls client.old) }
     ensures polls { V.polls venue.new ≡ V.polls venue.old }
+    ensures client_plays { Keeps (C.plays client.old) (C.plays client.new) }
+    ensures venue_plays { Keeps (V.plays venue.old) (V.plays venue.new) }
 {
     let mut buf = [0u8; POLL_LEN];
     let found = poll_client(gate, client, &mut buf);
@@ -374,6 +384,8 @@ pub(crate) fn venue_turn<D: Disk, C: Wire, V: Wire>(
     ensures cause { HasCauseOf (D.faults disk.old) (D.faults disk.new) result }
     ensures polled { V.polls venue.new ≡ next_count (V.polls venue.old) }
     ensures polls { C.polls client.new ≡ C.polls client.old }
+    ensures client_plays { Keeps (C.plays client.old) (C.plays client.new) }
+    ensures venue_plays { Keeps (V.plays venue.old) (V.plays venue.new) }
 {
     let mut buf = [0u8; POLL_LEN];
     let found = poll_venue(gate, venue, &mut buf);

@@ -13,6 +13,7 @@ ghost use Rattle.life_events.specs.Repeats.{repeated_to};
 ghost use Rattle.life_events.specs.Happens.{firsts};
 ghost use Rattle.wire_sends.specs.Sent.{Agrees, Sent, PartSent, Hung, hung_side, AreSendable};
 ghost use Rattle.wire_sends.specs.Again.{repeat_in, IsGiven};
+ghost use Rattle.wires.specs.Told.{Keeps};
 
 use crate::repeats::{Again, repeat_outs};
 use crate::sends::{is_side, send_outs};
@@ -57,6 +58,7 @@ pub fn repeat_on<D: Disk, W: Wire>(
     ensures cause { HasDiskCause (D.faults disk.old) (D.faults disk.new) result }
     ensures only { IsOkUnless result errors.DiskFault }
     ensures polls { W.polls wire.new ≡ W.polls wire.old }
+    ensures plays { Keeps (W.plays wire.old) (W.plays wire.new) }
 {
     match resend {
         Some((of, from, to)) if is_side(side, of) => {
@@ -90,6 +92,7 @@ pub fn outs_on<W: Wire>(
     ensures sent { Sent (W.recorded wire.old) (W.recorded wire.new) up
         (map (form_frame names.now side) (firsts side sent entry.now)) result }
     ensures polls { W.polls wire.new ≡ W.polls wire.old }
+    ensures plays { Keeps (W.plays wire.old) (W.plays wire.new) }
 {
     match entry {
         Some(entry) if sent => send_outs(
@@ -112,6 +115,7 @@ pub fn hang_up_on<W: Wire>(wire: &mut W, up: bool, side: Side, hang_up: Option<S
     ensures hung { Hung (W.recorded wire.old) (W.recorded wire.new) up (hung_side side hang_up)
         result }
     ensures polls { W.polls wire.new ≡ W.polls wire.old }
+    ensures plays { Keeps (W.plays wire.old) (W.plays wire.new) }
 {
     match hang_up {
         Some(of) if is_side(side, of) => {

@@ -12,6 +12,7 @@ ghost use Rattle.life_events.specs.Forms.{form_frame};
 ghost use Rattle.life_events.specs.Repeats.{close_run, repeat_one, run_after, repeat_forms};
 ghost use Rattle.wire_sends.specs.Sent.{Agrees, Sent, PartSent};
 ghost use Rattle.wire_sends.specs.Again.{placed_by, run_of, IsBegun};
+ghost use Rattle.wires.specs.Told.{Keeps};
 
 use crate::sends::send_piece;
 use order_meaning::{Names, Side};
@@ -60,6 +61,7 @@ fn send_run<W: Wire>(
     ensures sent { Sent (W.recorded wire.old) (W.recorded wire.new) up
         (map (form_frame names.now side) (close_run (run_of run) number now)) result }
     ensures polls { W.polls wire.new ≡ W.polls wire.old }
+    ensures plays { Keeps (W.plays wire.old) (W.plays wire.new) }
 {
     match run {
         None => up,
@@ -113,6 +115,7 @@ fn send_again<W: Wire>(
         (map (form_frame names.now side)
         (repeat_one (run_of run) number now (Some (placed_by side number told.now)))) result }
     ensures polls { W.polls wire.new ≡ W.polls wire.old }
+    ensures plays { Keeps (W.plays wire.old) (W.plays wire.new) }
 {
     if told.admin() {
         return up;
@@ -169,6 +172,7 @@ pub(crate) fn repeat_outs<D: Disk, W: Wire>(
     ensures cause { HasDiskCause (D.faults disk.old) (D.faults disk.new) result }
     ensures only { IsOkUnless result errors.DiskFault }
     ensures polls { W.polls wire.new ≡ W.polls wire.old }
+    ensures plays { Keeps (W.plays wire.old) (W.plays wire.new) }
 {
     let mut still = up;
     let mut run = None;

@@ -5,6 +5,7 @@ ghost use Rattle.pair_journal.specs.Numbers.{is_side, outs_to};
 ghost use Rattle.life_events.specs.Forms.{form_frame};
 ghost use Rattle.life_events.specs.Happens.{first_form};
 ghost use Rattle.wire_sends.specs.Sent.{Agrees, Sent, IsSendable, AreSendable};
+ghost use Rattle.wires.specs.Told.{Keeps};
 
 use order_meaning::{Names, Side};
 use pair_journal::{MAX_AT, Out};
@@ -17,6 +18,7 @@ pub(crate) fn send_piece<W: Wire>(wire: &mut W, up: bool, piece: &[u8]) -> bool
     ensures agrees { Agrees (W.recorded wire.new) result }
     ensures sent { Sent (W.recorded wire.old) (W.recorded wire.new) up (piece.now ∷ []) result }
     ensures polls { W.polls wire.new ≡ W.polls wire.old }
+    ensures plays { Keeps (W.plays wire.old) (W.plays wire.new) }
 {
     if !up {
         return false;
@@ -55,6 +57,7 @@ fn send_first<W: Wire>(
         (if is_side side out.now.side
         then form_frame names.now side (first_form at out.now) ∷ [] else []) result }
     ensures polls { W.polls wire.new ≡ W.polls wire.old }
+    ensures plays { Keeps (W.plays wire.old) (W.plays wire.new) }
 {
     if !is_side(side, out.side) {
         return up;
@@ -92,6 +95,7 @@ pub(crate) fn send_outs<W: Wire>(
     ensures sent { Sent (W.recorded wire.old) (W.recorded wire.new) up
         (map (form_frame names.now side) (map (first_form at) (outs_to side outs.now))) result }
     ensures polls { W.polls wire.new ≡ W.polls wire.old }
+    ensures plays { Keeps (W.plays wire.old) (W.plays wire.new) }
 {
     match outs {
         [] => up,

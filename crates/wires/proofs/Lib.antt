@@ -4,3 +4,4 @@ pub mod Noting
 pub mod Silence
 pub mod Worked
 pub mod Kept
+pub mod Playing

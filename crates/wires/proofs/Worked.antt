@@ -7,7 +7,7 @@ use Rattle.wires.specs.Wire.{Nothing, Opened, Bytes, Closed, Broken, WireCall, P
 use Rattle.wires.specs.Wire.{is_within, transcript, came_of, may_come}
 use Rattle.wires.specs.Wire.{SendGrows, HangUpGrows}
 use Rattle.wires.specs.Laws.{AreInPlace, has_place}
-use Rattle.wires.specs.Script.{next_of, rest_of}
+use Rattle.wires.specs.Script.{next_of, rest_of, Plays}
 use Rattle.wires.specs.Clock.{moment_at, moments_told}
 use Rattle.wires.specs.Quiet.{quiet}
 use Rattle.wires.specs.MemWire.{WireState, noted, lost, hung_up, connections_told, sent}
@@ -178,3 +178,10 @@ hung_twice = refl
 told_no_more : (connections_told (lost wire).recorded ≡ [])
     × ((noted (Poll Nothing) (lost wire)).recorded ≡ None)
 told_no_more = (refl, refl)
+
+-- what is read of a script: an end between connections is passed over, and a poll that fails takes
+-- nothing
+played : Plays false (Closed ∷ Opened ∷ Bytes (codes "ab") ∷ Closed ∷ [])
+    (Poll Nothing ∷ Poll Broken ∷ Poll Opened ∷ Send (codes "x") (codes "x") true
+    ∷ Poll (Bytes (codes "ab")) ∷ HangUp ∷ Poll Nothing ∷ Poll Nothing ∷ []) []
+played = (_, (refl, refl), (_, refl, (_, (refl, refl), (_, refl, (_, (refl, refl), (_, refl, (_, (refl, refl), (_, (refl, refl), refl))))))))

@@ -1,13 +1,13 @@
 -- Own: what contracts see of a wire in memory, and what each call does to that.
 use Rattle.std.specs.Prelude.{◌≡◌, ◌⊎◌, ℕ, Bool, true, false, if◌then◌else◌, List, [], ◌∷◌, ◌++◌}
-use Rattle.std.specs.Prelude.{take, map, is_some, Some, None, Result, Ok, Err, IsErr, OnOk}
+use Rattle.std.specs.Prelude.{take, map, is_some, Some, None, Result, Ok, Err, IsErr, OnOk, IfSome}
 use Rattle.std.specs.declared.option.Option.{Option}
 use Rattle.std.specs.Option.{option_map}
 use Rattle.outside.specs.Causes.{faults_after}
 use Rattle.outside.specs.Memory.{CallsState, IsListed, called}
 use Rattle.wires.specs.Told.{GrowsBy}
 use Rattle.wires.specs.Wire.{Came, WireCall, Send, HangUp, Connection, transcript, within_after}
-use Rattle.wires.specs.Script.{item_of}
+use Rattle.wires.specs.Script.{item_of, Plays}
 use Rattle.wires.specs.declared.script.Script.{Script}
 
 pub record WireState : Type 0 where
@@ -30,6 +30,14 @@ fresh script fail = record {
   polls = 0;
 }
 
+-- a wire plays a script, of which so much is left
+abbrev pub PlaysTo : WireState → (script left : List Came) → Type 0
+PlaysTo wire script left = IfSome wire.recorded (λ calls. Plays false script calls left)
+
+-- what is left of it is still to come
+abbrev pub plays : WireState → List Came → Type 0
+plays wire script = PlaysTo wire script wire.script
+
 -- with a call in its record, where it has one
 abbrev pub noted : WireCall → WireState → WireState
 noted call wire = record wire {
@@ -44,6 +52,11 @@ lost wire = record wire { recorded = None; within = false }
 -- after a hang up, which between connections does nothing
 abbrev pub hung_up : WireState → WireState
 hung_up wire = if wire.within then noted HangUp wire else wire
+
+-- the calls of a record that is told, and none of another
+abbrev pub calls_told : Option (List WireCall) → List WireCall
+calls_told None = []
+calls_told (Some calls) = calls
 
 -- the connections of a record that is told, and none of another
 abbrev pub connections_told : Option (List WireCall) → List Connection

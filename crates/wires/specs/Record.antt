@@ -1,4 +1,5 @@
--- Inside: a record of a wire as it is kept, with a hang up as a mark beside the call before it.
+-- Own: a record of a wire as it is kept, with a hang up as a mark beside the call before it;
+-- docs/DEFINITIONS.md, "Wires and clocks".
 use Rattle.std.specs.Prelude.{Bool, List, [], ◌∷◌, take, if◌then◌else◌}
 use Rattle.wires.specs.Wire.{WireCall, Poll, Send, HangUp, Broken}
 use Rattle.wires.specs.Script.{item_of}

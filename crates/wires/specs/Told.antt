@@ -7,3 +7,7 @@ abbrev pub GrowsBy : {A : Type 0} → Option (List A) → Option (List A) → Li
 GrowsBy None new more = new ≡ None
 GrowsBy (Some old) None more = ⊤
 GrowsBy (Some old) (Some new) more = new ≡ old ++ more
+
+-- what held before holds after
+abbrev pub Keeps : {A : Type 0} → (A → Type 0) → (A → Type 0) → Type 0
+Keeps {A} old new = (told : A) → old told → new told

@@ -21,9 +21,9 @@ mod wire;
 pub use clock::{Clock, ListClock};
 pub use mem_wire::{FAILED_SEND_LEN, MemWire};
 pub use quiet::{QuietSource, QuietWire};
-pub use record::Connection;
+pub use record::{Call, Connection, Noted};
 pub use script::Script;
-pub use wire::{Arrival, Wire};
+pub use wire::{Arrival, POLL_LEN, Wire};
 
 #[cfg(test)]
 mod tests;

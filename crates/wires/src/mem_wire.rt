@@ -4,13 +4,16 @@ ghost use Rattle.std.specs.Prelude.{◌≡◌, ◌<◌, ◌∷◌, ℕ, List, []
 ghost use Rattle.std.specs.Prelude.{is_none, IfOk, IfSome, IsErr, OnOk, OnErr};
 ghost use Rattle.std.specs.Option.{ForSome};
 ghost use Rattle.outside.specs.Causes.{HasCause, next_count};
-ghost use Rattle.wires.specs.Told.{GrowsBy};
+ghost use Rattle.wires.specs.Told.{GrowsBy, Keeps};
 ghost use Rattle.wires.specs.Wire.{Poll, Send, came_by, came_of, Fits, is_within, may_come};
 ghost use Rattle.wires.specs.Wire.{within_after, SendGrows, HangUpGrows};
 ghost use Rattle.wires.specs.Script.{next_of, rest_of};
 ghost use Rattle.wires.specs.MemWire.{fresh, noted, lost, hung_up, connections_told, sent, Answers};
+ghost use Rattle.wires.specs.MemWire.{plays, calls_told};
+ghost use Rattle.wires.specs.Record.{calls_of};
+ghost use Rattle.wires.specs.declared.wire.TheConstants.{POLL_LEN};
 
-use crate::record::Record;
+use crate::record::{Noted, Record};
 use crate::script::Play;
 use crate::{Arrival, Connection, Script, Wire};
 use outside::{Calls, Failed};
@@ -81,6 +84,16 @@ impl MemWire {
             within: false,
             calls: Calls::new(fail),
             polls: 0,
+        }
+    }
+
+    /// The calls so far, in order; none where memory was refused.
+    pub fn calls(&self) -> &[Noted]
+        ensures { calls_of result.now ≡ calls_told self.now.recorded }
+    {
+        match &self.told {
+            Some(record) => record.calls(),
+            None => &[],
         }
     }
 
@@ -157,6 +170,8 @@ impl Wire for MemWire {
 
     ghost polls = { λ w. w.polls };
 
+    ghost plays = { plays };
+
     fn poll(&mut self, buf: &mut [u8]) -> Result<Arrival, Failed>
         requires room { 0 < length buf.old }
         ensures fits { IfOk result (λ arrived. Fits arrived buf.new) }
@@ -165,6 +180,7 @@ impl Wire for MemWire {
         ensures allowed { IfSome self.old.recorded (λ r.
             may_come (is_within r) (came_of result buf.new) ≡ true) }
         ensures counted { self.new.polls ≡ next_count self.old.polls }
+        ensures plays { length buf.old ≡ POLL_LEN → Keeps (plays self.old) (plays self.new) }
         ensures cause { HasCause self.old.calls.faults self.new.calls.faults result }
         ensures answers { Answers (Poll (came_of result buf.new)) self.old self.new result }
         ensures given { IfOk result (λ arrived. came_by arrived buf.new ≡
@@ -191,6 +207,7 @@ impl Wire for MemWire {
         requires within { ForSome self.old.recorded (λ r. is_within r ≡ true) }
         ensures grows { SendGrows self.old.recorded self.new.recorded piece.now result }
         ensures counted { self.new.polls ≡ self.old.polls }
+        ensures plays { Keeps (plays self.old) (plays self.new) }
         ensures cause { HasCause self.old.calls.faults self.new.calls.faults result }
         ensures answers { Answers
             (sent FAILED_SEND_LEN result piece.now) self.old self.new result }
@@ -209,6 +226,7 @@ impl Wire for MemWire {
     fn hang_up(&mut self)
         ensures grows { HangUpGrows self.old.recorded self.new.recorded }
         ensures counted { self.new.polls ≡ self.old.polls }
+        ensures plays { Keeps (plays self.old) (plays self.new) }
         ensures faults { self.new.calls.faults ≡ self.old.calls.faults }
         ensures done { self.new ≡ hung_up self.old }
     {

@@ -70,6 +70,8 @@ impl Wire for QuietWire {
 
     ghost polls = { λ w. w.polls };
 
+    ghost plays = { λ w script. ⊥ };
+
     fn poll(&mut self, buf: &mut [u8]) -> Result<Arrival, Failed>
         requires room { 0 < length buf.old }
         ensures fits { IfOk result (λ arrived. Fits arrived buf.new) }

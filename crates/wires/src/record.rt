@@ -5,7 +5,7 @@ ghost use Rattle.wires.specs.Wire.{Poll, Send, HangUp, came_by, came_of, Fits, i
 ghost use Rattle.wires.specs.Wire.{connections_after, change_last, add_read, add_written};
 ghost use Rattle.wires.specs.Wire.{transcript};
 ghost use Rattle.wires.specs.Script.{item_of};
-ghost use Rattle.wires.specs.Record.{call_of};
+ghost use Rattle.wires.specs.Record.{call_of, calls_of};
 
 use crate::{Arrival, Script};
 use outside::Failed;
@@ -31,25 +31,29 @@ impl Model for Connection {
 
 /// A call on a wire.
 #[derive(Debug, Drop)]
-pub(crate) enum Call {
+pub enum Call {
     /// A poll gave this.
     Poll(Script),
     /// A poll failed.
     FailedPoll,
     /// A piece was sent.
     Send {
+        /// The piece.
         piece: Vec<u8>,
-        /// So many bytes of it were written.
+        /// So many bytes of it were written, or all where it is shorter.
         wrote: usize,
+        /// Whether the send was done.
         done: bool,
     },
 }
 
-/// A call, and whether a hang up ended the connection behind it.
+/// A call that a record has.
 #[derive(Debug, Drop)]
-struct Noted {
-    call: Call,
-    hung_up: bool,
+pub struct Noted {
+    /// The call.
+    pub call: Call,
+    /// Whether a hang up ended the connection behind it.
+    pub hung_up: bool,
 }
 
 /// What was done on a wire, seen as its record, with the transcript.
@@ -176,6 +180,13 @@ impl Record {
             calls: Vec::new(alloc),
             connections: Vec::new(alloc),
         }
+    }
+
+    /// The calls so far.
+    pub(crate) fn calls(&self) -> &[Noted]
+        ensures { calls_of result.now ≡ self.now }
+    {
+        &self.calls
     }
 
     /// The connections so far.

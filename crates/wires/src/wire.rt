@@ -4,11 +4,14 @@ ghost use Rattle.std.specs.Prelude.{◌≡◌, ◌<◌, ℕ, List, [], ◌∷◌
 ghost use Rattle.std.specs.Option.{ForSome};
 ghost use Rattle.std.specs.declared.option.Option.{Option};
 ghost use Rattle.outside.specs.Causes.{HasCause, next_count};
-ghost use Rattle.wires.specs.Told.{GrowsBy};
-ghost use Rattle.wires.specs.Wire.{WireCall, Poll, is_within, came_of, Fits, may_come, SendGrows};
-ghost use Rattle.wires.specs.Wire.{HangUpGrows};
+ghost use Rattle.wires.specs.Told.{GrowsBy, Keeps};
+ghost use Rattle.wires.specs.Wire.{WireCall, Came, Poll, is_within, came_of, Fits, may_come};
+ghost use Rattle.wires.specs.Wire.{SendGrows, HangUpGrows};
 
 use outside::Failed;
+
+/// The room of a poll, in bytes, for which a wire may tell what its polls will give.
+pub const POLL_LEN: usize = 4_096;
 
 /// What a poll of a wire found.
 #[derive(Clone, Copy, Debug, PartialEq, Eq)]
@@ -38,6 +41,11 @@ pub trait Wire {
     /// How often it was polled, up to 2^64 - 1, where it stands still.
     ghost polls: { Self → ℕ };
 
+    /// The scripts that it plays, where it tells any: its polls so far gave the first items, and
+    /// those to come give the others. No call ends that, but for a poll with other room than
+    /// [`POLL_LEN`] bytes.
+    ghost plays: { Self → List Came → Type 0 };
+
     /// Looks for what is new, without waiting. Bytes are put at the front of `buf`.
     ///
     /// # Errors
@@ -50,6 +58,7 @@ pub trait Wire {
         ensures allowed { IfSome (recorded self.old) (λ r.
             may_come (is_within r) (came_of result buf.new) ≡ true) }
         ensures counted { polls self.new ≡ next_count (polls self.old) }
+        ensures plays { length buf.old ≡ POLL_LEN → Keeps (plays self.old) (plays self.new) }
         ensures cause { HasCause (faults self.old) (faults self.new) result };
 
     /// Writes the piece on the connection that there is.
@@ -61,11 +70,13 @@ pub trait Wire {
         requires within { ForSome (recorded self.old) (λ r. is_within r ≡ true) }
         ensures grows { SendGrows (recorded self.old) (recorded self.new) piece.now result }
         ensures counted { polls self.new ≡ polls self.old }
+        ensures plays { Keeps (plays self.old) (plays self.new) }
         ensures cause { HasCause (faults self.old) (faults self.new) result };
 
     /// Ends the connection. Between connections it does nothing, and stands in no record.
     fn hang_up(&mut self)
         ensures grows { HangUpGrows (recorded self.old) (recorded self.new) }
         ensures counted { polls self.new ≡ polls self.old }
+        ensures plays { Keeps (plays self.old) (plays self.new) }
         ensures faults { faults self.new ≡ faults self.old };
 }

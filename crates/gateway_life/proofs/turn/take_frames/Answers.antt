@@ -26,6 +26,8 @@ frames-init g c = record {
   faults = refl;
   client_polls = refl;
   venue_polls = refl;
+  client_plays = λ script plays. plays;
+  venue_plays = λ script plays. plays;
   taps = watched_none _ c.args.taps.now.items c.args.gate.now.journal.entries _ refl;
 }
 
@@ -58,6 +60,8 @@ frames-preserved-in-Garbled g c =
       faults = inv.faults;
       client_polls = inv.client_polls;
       venue_polls = inv.venue_polls;
+      client_plays = inv.client_plays;
+      venue_plays = inv.venue_plays;
       taps = inv.taps;
     }
 
@@ -97,6 +101,8 @@ frames-preserved g c =
       faults = dealt.cause ∙ inv.faults;
       client_polls = dealt.client_polls ∙ inv.client_polls;
       venue_polls = dealt.venue_polls ∙ inv.venue_polls;
+      client_plays = λ script plays. dealt.client_plays script (inv.client_plays script plays);
+      venue_plays = λ script plays. dealt.venue_plays script (inv.venue_plays script plays);
       taps = watched_append _ _ _ _ _ _ _ inv.taps dealt.taps;
     }
 

@@ -1,6 +1,7 @@
 use Rattle.std.proofs.Common.{◌≡◌, ℕ, List}
 use Rattle.std.specs.Prelude.{is_some}
 use Rattle.outside.specs.Disk.{HasOneImage}
+use Rattle.wires.specs.Told.{Keeps}
 use Rattle.frame_grammar.specs.Cut.{Piece}
 use Rattle.frame_grammar.specs.Framer.{StandsFor}
 use Rattle.frame_grammar.specs.Held.{pending}
@@ -31,6 +32,8 @@ invariant-frames g l = record {
   faults : g.D.Disk.faults l.disk ≡ g.D.Disk.faults l.initial.disk;
   client_polls : g.C.Wire.polls l.client ≡ g.C.Wire.polls l.initial.client;
   venue_polls : g.V.Wire.polls l.venue ≡ g.V.Wire.polls l.initial.venue;
+  client_plays : Keeps (g.C.Wire.plays l.initial.client) (g.C.Wire.plays l.client);
+  venue_plays : Keeps (g.V.Wire.plays l.initial.venue) (g.V.Wire.plays l.venue);
   taps : Watched (state_by (λ tap. (goal.Tap-dyn g (tap.vtable, tap.value)).has_failed tap.value)
       (λ tap. (goal.Tap-dyn g (tap.vtable, tap.value)).entries tap.value)
       (λ tap. (goal.Tap-dyn g (tap.vtable, tap.value)).tally tap.value)

@@ -18,6 +18,7 @@ loop-number-init g c = record {
   only_read = only_none _ _;
   faults = refl;
   polls = refl;
+  plays = λ script plays. plays;
   sent = begin_repeat _ _ _ _;
 }
 
@@ -53,6 +54,7 @@ loop-number-preserved g c =
       only_read = only_more _ _ _ _ _ _ inv.only_read c.out.ensures.only_read;
       faults = c.in_ok-out.ensures.cause ∙ inv.faults;
       polls = c.send_again-still.ensures.polls ∙ inv.polls;
+      plays = λ script plays. c.send_again-still.ensures.plays script (inv.plays script plays);
       sent = subst (λ q. Repeated (g.W.Wire.recorded c.args.wire.now)
           (g.W.Wire.recorded c.send_again-still.new.wire) c.args.up
           (form_frame c.args.names.now side) c.send_again-still.result

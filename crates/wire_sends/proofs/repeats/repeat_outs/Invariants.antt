@@ -1,5 +1,6 @@
 use Rattle.std.proofs.Common.{◌≡◌, ◌⊎◌, ◌≤◌, ◌+◌, ◌-◌, None}
 use Rattle.gate_log.specs.Log.{OnlyReads}
+use Rattle.wires.specs.Told.{Keeps}
 use Rattle.life_events.specs.Forms.{form_frame}
 use Rattle.life_events.specs.Repeats.{repeats, repeat_forms}
 use Rattle.wire_sends.specs.Sent.{Agrees}
@@ -14,6 +15,7 @@ invariant-loop-number g l = record {
   only_read : OnlyReads g.D.Disk.bytes g.D.Disk.image l.initial.disk l.disk;
   faults : g.D.Disk.faults l.disk ≡ g.D.Disk.faults l.initial.disk;
   polls : g.W.Wire.polls l.wire ≡ g.W.Wire.polls l.initial.wire;
+  plays : Keeps (g.W.Wire.plays l.initial.wire) (g.W.Wire.plays l.wire);
   sent : Repeated (g.W.Wire.recorded l.initial.wire) (g.W.Wire.recorded l.wire) l.up
       (form_frame l.names l.again.side) l.still
       (repeats l.journal.entries l.again.side (run_of l.run) l.number l.again.now

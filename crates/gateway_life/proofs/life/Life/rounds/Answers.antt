@@ -21,6 +21,9 @@ rounds-init g c = record {
   faults = refl;
   client_polls = refl;
   venue_polls = refl;
+  client_plays = λ script plays. plays;
+  venue_plays = λ script plays. plays;
+  follows = λ listed follows. follows;
   taps = watched_none _ c.args.taps.now.items c.args.self.now.gate.journal.entries _ refl;
 }
 
@@ -51,6 +54,9 @@ rounds-preserved g c =
           inv.client_polls;
       venue_polls = counted_more c.rounds.left _ _ c.args.rounds _ (omega arith) one.venue_polls
           inv.venue_polls;
+      client_plays = λ script plays. one.client_plays script (inv.client_plays script plays);
+      venue_plays = λ script plays. one.venue_plays script (inv.venue_plays script plays);
+      follows = λ listed follows. one.follows listed (inv.follows listed follows);
       taps = watched_append _ _ _ _ _ _ _ inv.taps one.taps;
     }
 

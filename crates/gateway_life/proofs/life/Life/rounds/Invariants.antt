@@ -1,7 +1,7 @@
 use Rattle.std.proofs.Common.{◌≡◌, ℕ, List, ◌+◌, length}
 use Rattle.std.specs.Prelude.{is_some}
 use Rattle.outside.specs.Disk.{HasOneImage}
-use Rattle.wires.specs.Told.{GrowsBy}
+use Rattle.wires.specs.Told.{GrowsBy, Keeps}
 use Rattle.gateway_life.specs.Stepped.{records}
 use Rattle.gateway_life.specs.Watched.{Watched, state_by}
 use Rattle.gateway_life.specs.Life.{counted_on}
@@ -29,6 +29,9 @@ invariant-rounds g l = record {
       ≡ counted_on l.rounds (g.C.Wire.polls l.initial.client);
   venue_polls : counted_on l.left (g.V.Wire.polls l.venue)
       ≡ counted_on l.rounds (g.V.Wire.polls l.initial.venue);
+  client_plays : Keeps (g.C.Wire.plays l.initial.client) (g.C.Wire.plays l.client);
+  venue_plays : Keeps (g.V.Wire.plays l.initial.venue) (g.V.Wire.plays l.venue);
+  follows : Keeps (g.K.Clock.follows l.initial.clock) (g.K.Clock.follows l.clock);
   taps : Watched (state_by (λ tap. (goal.Tap-dyn g (tap.vtable, tap.value)).has_failed tap.value)
       (λ tap. (goal.Tap-dyn g (tap.vtable, tap.value)).entries tap.value)
       (λ tap. (goal.Tap-dyn g (tap.vtable, tap.value)).tally tap.value)
