@@ -1,0 +1,4 @@
+pub mod Orders
+pub mod Days
+pub mod Sound
+pub mod Worked
