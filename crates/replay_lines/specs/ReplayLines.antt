@@ -24,19 +24,40 @@ side_lines side number [] = []
 side_lines side number (pieces ∷ rest) =
     connection_lines side number pieces ++ side_lines side (number + 1) rest
 
+-- the name of an end
+abbrev pub end_line : List ℕ → List ℕ
+end_line end = codes "end " ++ end ++ codes "\n"
+
 -- the life of this number, by the pieces written on each connection of both sides, and the name of
 -- its end
 abbrev pub life_lines : ℕ → List (List (List ℕ)) → List (List (List ℕ)) → List ℕ → List ℕ
 life_lines number client venue end = numbered (codes "life") number
-    ++ side_lines (codes "client") 1 client ++ side_lines (codes "venue") 1 venue
-    ++ (codes "end " ++ end ++ codes "\n")
+    ++ side_lines (codes "client") 1 client ++ side_lines (codes "venue") 1 venue ++ end_line end
+
+-- a word and four numbers
+abbrev pub four_numbered : List ℕ → ℕ × ℕ × ℕ × ℕ → List ℕ
+four_numbered word (a, b, c, d) =
+    word ++ codes " " ++ decimal a ++ codes " " ++ decimal b
+    ++ codes " " ++ decimal c ++ codes " " ++ decimal d ++ codes "\n"
 
 -- the next numbers: client in, client out, venue in, venue out
 abbrev pub next_line : ℕ × ℕ × ℕ × ℕ → List ℕ
-next_line (client_in, client_out, venue_in, venue_out) =
-    codes "next " ++ decimal client_in ++ codes " " ++ decimal client_out
-    ++ codes " " ++ decimal venue_in ++ codes " " ++ decimal venue_out ++ codes "\n"
+next_line next = four_numbered (codes "next") next
 
 -- how many entries the journal has, and its next numbers
 abbrev pub last_lines : ℕ → ℕ × ℕ × ℕ × ℕ → List ℕ
 last_lines entries next = numbered (codes "entries") entries ++ next_line next
+
+-- ---- a drill
+
+-- the two numbers of a drill
+abbrev pub drill_line : ℕ → ℕ → List ℕ
+drill_line first count =
+    codes "drill " ++ decimal first ++ codes " " ++ decimal count ++ codes "\n"
+
+-- a drill: its numbers, how many orders of each kind it has, how its life ended, and what the
+-- journal has
+abbrev pub drill_lines : ℕ → ℕ → ℕ × ℕ × ℕ × ℕ → List ℕ → ℕ → ℕ × ℕ × ℕ × ℕ → List ℕ
+drill_lines first count kinds end entries next =
+    drill_line first count ++ four_numbered (codes "kinds") kinds ++ end_line end
+    ++ last_lines entries next

@@ -4,10 +4,10 @@
 
 pub mod laws;
 mod lines;
+mod played;
 mod printing;
 #[cfg(test)]
 mod tests;
-mod written;
 
-pub use printing::{PrintError, put_last, put_life};
-pub use written::{PlayedLife, Written};
+pub use played::{PlayedDrill, PlayedLife};
+pub use printing::{PrintError, put_drill, put_last, put_life};

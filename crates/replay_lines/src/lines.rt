@@ -1,12 +1,17 @@
 //! The lines, as they are appended to a text.
 
-ghost use Rattle.std.specs.Prelude.{◌≡◌, ◌∷◌, ◌++◌, [], codes, decimal, OnOk};
-ghost use Rattle.replay_lines.specs.ReplayLines.{printed, piece_line, numbered, connection_lines};
-ghost use Rattle.replay_lines.specs.ReplayLines.{side_lines, life_lines, next_line, last_lines};
+ghost use Rattle.std.specs.Prelude.{◌≡◌, ◌<◌, ◌-◌, ◌^◌, ◌∷◌, ◌++◌, [], codes, decimal, IfOk, OnOk};
+ghost use Rattle.wires.specs.Record.{call_of, calls_of};
+ghost use Rattle.replay_lines.specs.Pieces.{pieces_of};
+ghost use Rattle.replay_lines.specs.Calls.{opened, call_lines};
+ghost use Rattle.replay_lines.specs.ReplayLines.{printed, piece_line, numbered, side_lines};
+ghost use Rattle.replay_lines.specs.ReplayLines.{end_line, four_numbered, life_lines};
+ghost use Rattle.replay_lines.specs.ReplayLines.{last_lines, drill_line, drill_lines};
 
-use crate::{PlayedLife, Written};
+use crate::{PlayedDrill, PlayedLife};
 use itoa::Buffer;
 use std::alloc::AllocError;
+use wires::{Call, Noted, Script};
 
 /// The byte that ends a field.
 const SOH: u8 = 1;
@@ -49,47 +54,64 @@ fn append_numbered(word: &[u8], number: u64, text: &mut Vec<u8>) -> Result<(), A
     Ok(())
 }
 
-/// Appends the lines of a connection.
-#[tactic(auto, using(crate::proofs::OneMore::piece_more))]
-fn append_connection(
+/// Appends the line of a call, if it has one, behind so many connections: that of the connection
+/// that it opens, or of the piece that it wrote. Answers how many connections there are then.
+fn append_call(
     side: &[u8],
-    number: u64,
-    written: &Written,
+    connections: u64,
+    call: &Call,
     text: &mut Vec<u8>,
-) -> Result<(), AllocError>
-    ensures { OnOk result (text.new.items ≡
-        text.old.items ++ connection_lines side.now number written.now) }
+) -> Result<u64, AllocError>
+    requires { connections < 2 ^ 64 - 1 }
+    ensures count { IfOk result (λ n. n ≡ opened connections (call_of call.now)) }
+    ensures text { OnOk result (text.new.items ≡
+        text.old.items ++ call_lines side.now connections (call_of call.now)) }
 {
-    append_numbered(side, number, text)?;
-    for piece in written.pieces() {
-        append_piece(piece.as_slice(), text)?;
+    match call {
+        Call::Poll(Script::Opened) => {
+            append_numbered(side, connections + 1, text)?;
+            Ok(connections + 1)
+        }
+        Call::Send { piece, wrote, .. } if connections > 0 => {
+            append_piece(&piece[..piece.len().min(*wrote)], text)?;
+            Ok(connections)
+        }
+        _ => Ok(connections),
+    }
+}
+
+/// Appends the lines of the connections of a side.
+fn append_side(side: &[u8], calls: &[Noted], text: &mut Vec<u8>) -> Result<(), AllocError>
+    ensures { OnOk result (text.new.items ≡ text.old.items
+        ++ side_lines side.now 1 (pieces_of (calls_of calls.now))) }
+{
+    let mut connections = 0;
+    for noted in calls {
+        connections = append_call(side, connections, &noted.call, text)?;
     }
     Ok(())
 }
 
-/// Appends the lines of the connections of a side.
-#[tactic(auto, using(crate::proofs::OneMore::connection_more))]
-fn append_side(side: &[u8], all: &[Written], text: &mut Vec<u8>) -> Result<(), AllocError>
-    ensures { OnOk result (text.new.items ≡ text.old.items ++ side_lines side.now 1 all.now) }
+/// Appends the line of an end.
+fn append_end(end: &[u8], text: &mut Vec<u8>) -> Result<(), AllocError>
+    ensures { OnOk result (text.new.items ≡ text.old.items ++ end_line end.now) }
 {
-    for (index, written) in all.iter().enumerate() {
-        append_connection(side, index as u64 + 1, written, text)?;
-    }
+    text.extend_from_slice(b"end ")?;
+    text.extend_from_slice(end)?;
+    text.push(b'\n')?;
     Ok(())
 }
 
 /// Appends the lines of a life.
 pub(crate) fn append_life(life: &PlayedLife<'_>, text: &mut Vec<u8>) -> Result<(), AllocError>
     ensures { OnOk result (text.new.items ≡ text.old.items
-        ++ life_lines life.now.number life.now.client.now life.now.venue.now life.now.end.now) }
+        ++ life_lines life.now.number (pieces_of (calls_of life.now.client.now))
+        (pieces_of (calls_of life.now.venue.now)) life.now.end.now) }
 {
     append_numbered(b"life", life.number, text)?;
     append_side(b"client", life.client, text)?;
     append_side(b"venue", life.venue, text)?;
-    text.extend_from_slice(b"end ")?;
-    text.extend_from_slice(life.end)?;
-    text.push(b'\n')?;
-    Ok(())
+    append_end(life.end, text)
 }
 
 /// Appends a number and a byte behind it.
@@ -101,15 +123,20 @@ fn append_before(number: u32, byte: u8, text: &mut Vec<u8>) -> Result<(), AllocE
     Ok(())
 }
 
-/// Appends the line of the next numbers.
-fn append_next(next: (u32, u32, u32, u32), text: &mut Vec<u8>) -> Result<(), AllocError>
-    ensures { OnOk result (text.new.items ≡ text.old.items ++ next_line next) }
+/// Appends a line of a word and four numbers.
+fn append_four(
+    word: &[u8],
+    numbers: (u32, u32, u32, u32),
+    text: &mut Vec<u8>,
+) -> Result<(), AllocError>
+    ensures { OnOk result (text.new.items ≡ text.old.items ++ four_numbered word.now numbers) }
 {
-    text.extend_from_slice(b"next ")?;
-    append_before(next.0, b' ', text)?;
-    append_before(next.1, b' ', text)?;
-    append_before(next.2, b' ', text)?;
-    append_before(next.3, b'\n', text)
+    text.extend_from_slice(word)?;
+    text.push(b' ')?;
+    append_before(numbers.0, b' ', text)?;
+    append_before(numbers.1, b' ', text)?;
+    append_before(numbers.2, b' ', text)?;
+    append_before(numbers.3, b'\n', text)
 }
 
 /// Appends the last lines.
@@ -121,5 +148,27 @@ pub(crate) fn append_last(
     ensures { OnOk result (text.new.items ≡ text.old.items ++ last_lines entries next) }
 {
     append_numbered(b"entries", entries, text)?;
-    append_next(next, text)
+    append_four(b"next", next, text)
+}
+
+/// Appends the line of the two numbers of a drill.
+fn append_drill(first: u64, count: u32, text: &mut Vec<u8>) -> Result<(), AllocError>
+    ensures { OnOk result (text.new.items ≡ text.old.items ++ drill_line first count) }
+{
+    text.extend_from_slice(b"drill ")?;
+    append_number(first, text)?;
+    text.push(b' ')?;
+    append_before(count, b'\n', text)
+}
+
+/// Appends the lines of a drill.
+pub(crate) fn append_summary(drill: &PlayedDrill<'_>, text: &mut Vec<u8>) -> Result<(), AllocError>
+    ensures { OnOk result (text.new.items ≡ text.old.items
+        ++ drill_lines drill.now.first drill.now.count drill.now.kinds drill.now.end.now
+        drill.now.entries drill.now.next) }
+{
+    append_drill(drill.first, drill.count, text)?;
+    append_four(b"kinds", drill.kinds, text)?;
+    append_end(drill.end, text)?;
+    append_last(drill.entries, drill.next, text)
 }

@@ -3,11 +3,13 @@
 ghost use Rattle.std.specs.Prelude.{◌≡◌, ◌≢◌, Err, OnErr};
 ghost use Rattle.outside.specs.Bytes.{PutAppends};
 ghost use Rattle.outside.specs.Causes.{HasCause};
+ghost use Rattle.wires.specs.Record.{calls_of};
+ghost use Rattle.replay_lines.specs.Pieces.{pieces_of};
 ghost use Rattle.replay_lines.specs.declared.printing.PrintError.TheVariants as errors;
-ghost use Rattle.replay_lines.specs.ReplayLines.{life_lines, last_lines};
+ghost use Rattle.replay_lines.specs.ReplayLines.{life_lines, last_lines, drill_lines};
 
-use crate::PlayedLife;
-use crate::lines::{append_last, append_life};
+use crate::lines::{append_last, append_life, append_summary};
+use crate::{PlayedDrill, PlayedLife};
 use outside::Sink;
 use std::alloc::{AllocError, Global};
 use thiserror::Error;
@@ -56,8 +58,8 @@ pub fn put_life<O: Sink>(
     life: &PlayedLife<'_>,
 ) -> Result<(), PrintError>
     ensures lines { result ≢ Err errors.NoMemory → PutAppends (O.bytes out.old) (O.bytes out.new)
-        result (life_lines
-        life.now.number life.now.client.now life.now.venue.now life.now.end.now) }
+        result (life_lines life.now.number (pieces_of (calls_of life.now.client.now))
+        (pieces_of (calls_of life.now.venue.now)) life.now.end.now) }
     ensures nothing { result ≡ Err errors.NoMemory → out.new ≡ out.old }
     ensures cause { result ≢ Err errors.NoMemory →
         HasCause (O.faults out.old) (O.faults out.new) result }
@@ -86,5 +88,28 @@ pub fn put_last<O: Sink>(
 {
     let mut text = Vec::new(alloc);
     append_last(entries, next, &mut text)?;
+    put_text(out, &text)
+}
+
+/// Puts the lines of a drill, in one put: `drill FIRST COUNT`, `kinds A B C D` with the numbers of
+/// orders that were filled, busted, corrected and rejected, `end ` with the name of its life's end,
+/// and the last lines as of [`put_last`].
+///
+/// # Errors
+/// As of [`put_life`].
+pub fn put_drill<O: Sink>(
+    alloc: Global,
+    out: &mut O,
+    drill: &PlayedDrill<'_>,
+) -> Result<(), PrintError>
+    ensures lines { result ≢ Err errors.NoMemory → PutAppends (O.bytes out.old) (O.bytes out.new)
+        result (drill_lines drill.now.first drill.now.count drill.now.kinds drill.now.end.now
+        drill.now.entries drill.now.next) }
+    ensures nothing { result ≡ Err errors.NoMemory → out.new ≡ out.old }
+    ensures cause { result ≢ Err errors.NoMemory →
+        HasCause (O.faults out.old) (O.faults out.new) result }
+{
+    let mut text = Vec::new(alloc);
+    append_summary(drill, &mut text)?;
     put_text(out, &text)
 }

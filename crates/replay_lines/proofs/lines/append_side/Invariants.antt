@@ -1,7 +1,12 @@
-use Rattle.std.proofs.Common.{◌≡◌, ◌++◌, take}
+use Rattle.std.proofs.Common.{◌≡◌, ◌≤◌, ◌++◌, length}
 use Rattle.replay_lines.specs.ReplayLines.{side_lines}
+use Rattle.replay_lines.proofs.OneMore.{pieces_in}
 use Rattle.replay_lines.proofs.lines.append_side.Given as goal
 
-abbrev pub invariant-loop-index : goal.invariant-loop-index
-invariant-loop-index l =
-    l.text.items ≡ l.fn.text.items ++ side_lines l.side 1 (take l.index l.all)
+abbrev pub invariant-loop-noted : goal.invariant-loop-noted
+invariant-loop-noted l = record {
+  count : l.connections ≡ length (pieces_in l.noted-index l.calls);
+  few : l.connections ≤ l.noted-index;
+  text : l.text.items
+      ≡ l.fn.text.items ++ side_lines l.side 1 (pieces_in l.noted-index l.calls);
+}
