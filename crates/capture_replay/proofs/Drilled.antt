@@ -1,0 +1,133 @@
+-- The day of a drill, from what is said of its life.
+use Rattle.std.proofs.Common.{◌≡◌, ◌≢◌, ◌∙◌, ℕ, List, [], length, refl, sym, ap, subst, inl, inr}
+use Rattle.std.proofs.Common.{Result, Ok, Err, All, arith}
+use Rattle.std.specs.Prelude.{⊤, IsErrAnd}
+use Rattle.std.specs.declared.option.Option.{Option}
+use Rattle.std.specs.Io.KnownBytes.{Appends}
+use Rattle.outside.specs.Bytes.{AppendsFront, PutAppends}
+use Rattle.order_meaning.specs.declared.names.Names.{Names}
+use Rattle.pair_journal.specs.declared.entry.Entry.{Entry}
+use Rattle.pair_journal.specs.Numbers.{first_numbers, numbers_after}
+use Rattle.wires.specs.Wire.{WireCall}
+use Rattle.gateway_life.specs.declared.end.LifeEnd.{LifeEnd}
+use Rattle.gateway_config.specs.declared.config.Config.{Config}
+use Rattle.gateway_life.specs.Life.{IsJournal}
+use Rattle.gateway_life.specs.Laws.{FirstLivesGoOn}
+use Rattle.gateway_life.specs.Watched.{TapState, HaveSeen}
+use Rattle.capture_text.specs.declared.capture.Event.{Event}
+use Rattle.capture_text.specs.Capture.{IsCapture}
+use Rattle.capture_text.specs.Line.{IsBounded}
+use Rattle.replay_lines.specs.declared.printing.PrintError.{PrintError}
+use Rattle.replay_lines.specs.declared.printing.PrintError.TheVariants.{OutputFault, NoMemory}
+use Rattle.drill_day.specs.Drill.{drill_names, drill_heart, drill_events, drill_capture, kinds_of}
+use Rattle.replay_lines.specs.ReplayLines.{drill_lines}
+use Rattle.capture_replay.specs.Replay.{Played, config_with, nothing, end_name}
+use Rattle.capture_replay.specs.Lived.{IsLived, LivesOn}
+use Rattle.capture_replay.specs.Drills.{IsDrilled, Drills, lines_of_drill}
+use Rattle.gateway_life.proofs.Watching.{seen_none}
+use Rattle.capture_replay.proofs.EachLine.{all_bounded}
+use Rattle.capture_replay.proofs.Shown.{are_shown}
+
+-- the disk is unborn
+pub nothing_stands : (names : Names) → IsJournal names [] []
+nothing_stands names = inr (inl (omega arith), refl)
+
+-- it was not lived
+pub undrilled : {T : Type 0} (state : T → TapState) (first count : ℕ) (taps : List T)
+    (old : Option (List ℕ)) (told : Result ⊤ PrintError) → IsErrAnd told (λ e. e ≡ NoMemory)
+    → Drills state first count taps taps told old old
+undrilled state first count taps old (Ok value) is = absurd is
+undrilled state first count taps old (Err error) is = subst
+    (λ (e : PrintError). Drills state first count taps taps (Err e) old old) (sym is)
+    ([], seen_none state taps, refl)
+
+-- its day is lived as that of a capture
+pub day_lived : {T : Type 0} (state : T → TapState) (first count : ℕ) (seen now : List T)
+    (client venue : Option (List WireCall)) (end : LifeEnd) (image : List ℕ) (config : Config)
+    (names : Names) (heart : ℕ) (lines : List Event) (bytes : List ℕ) → bytes ≡ []
+    → config ≡ config_with names heart
+    → names ≡ drill_names → heart ≡ drill_heart → lines ≡ drill_events first count
+    → FirstLivesGoOn → IsCapture (drill_capture first count)
+    → LivesOn state config lines bytes seen now client venue end image
+    → IsLived state (config_with drill_names drill_heart) (drill_events first count) nothing
+    seen now client venue end image
+day_lived state first count seen now client venue end image config names heart lines bytes none is
+    of_names of_heart of_lines go_on sound lives =
+    let same = is ∙ ap (λ (n : Names). config_with n heart) of_names
+    ∙ ap (λ (h : ℕ). config_with drill_names h) of_heart in
+    subst (λ (l : List Event). LivesOn state (config_with drill_names drill_heart) l [] seen now
+    client venue end image) of_lines
+    (subst (λ (k : Config). LivesOn state k lines [] seen now client venue end image) same
+    (subst (λ (b : List ℕ). LivesOn state config lines b seen now client venue end image) none
+    lives))
+    nothing (nothing_stands drill_names)
+    (go_on drill_names (are_shown (drill_capture first count) sound))
+
+-- its lines are within their bounds
+pub day_bounded : (first count : ℕ) (lines : List Event) → lines ≡ drill_events first count
+    → IsCapture (drill_capture first count) → All IsBounded lines
+day_bounded first count lines is sound = subst (λ (l : List Event). All IsBounded l) (sym is)
+    (all_bounded (drill_events first count)
+    (sound.lives 0 (drill_events first count) (omega arith)))
+
+module _ {T : Type 0} (state : T → TapState) (first count : ℕ) (seen now : List T)
+    (client venue : Option (List WireCall)) (end : LifeEnd) (image : List ℕ)
+    (lived : IsLived state (config_with drill_names drill_heart) (drill_events first count) nothing
+    seen now client venue end image) where
+  abbrev life : Played
+  life = record { did = lived.did; end = end; image = image; entries = lived.entries }
+
+  is : IsDrilled state first count seen now life
+  is = record {
+    played = lived.played;
+    saw = subst (λ (es : List Entry). HaveSeen state seen now es) (sym lived.committed) lived.saw;
+  }
+
+  -- how many orders of each kind there are
+  abbrev kinds_are : ℕ × ℕ × ℕ × ℕ
+  kinds_are = let of = kinds_of first count in (of.filled, of.busted, of.corrected, of.rejected)
+
+  stands : IsJournal drill_names lived.entries image
+  stands = subst (λ (es : List Entry). IsJournal drill_names es image) (sym lived.played.entries)
+      lived.played.left.journal
+
+  pub drilled : (result : Result ⊤ PrintError) (old new : Option (List ℕ)) (entries : ℕ)
+      (numbers kinds : ℕ × ℕ × ℕ × ℕ) (name : List ℕ) → kinds ≡ kinds_are → name ≡ end_name end
+      → ((names : Names) (left : List Entry) → IsJournal names left image
+      → (entries ≡ length left) × (numbers ≡ numbers_after first_numbers left))
+      → (result ≢ Err NoMemory → PutAppends old new result
+      (drill_lines first count kinds name entries numbers))
+      → (result ≡ Err NoMemory → new ≡ old) → Drills state first count seen now result old new
+  drilled result old new entries numbers kinds name of of_end left put kept = by result refl
+    where
+      found : (entries ≡ length lived.entries)
+          × (numbers ≡ numbers_after first_numbers lived.entries)
+      found = left drill_names lived.entries stands
+
+      lines : drill_lines first count kinds name entries numbers
+          ≡ lines_of_drill first count life
+      lines = ap (λ (e : List ℕ). drill_lines first count kinds e entries numbers) of_end
+          ∙ ap (λ (k : ℕ × ℕ × ℕ × ℕ). drill_lines first count k (end_name end) entries numbers)
+          of
+          ∙ ap (λ (n : ℕ). drill_lines first count kinds_are (end_name end) n numbers) found.0
+          ∙ ap (λ (n : ℕ × ℕ × ℕ × ℕ). drill_lines first count kinds_are (end_name end)
+          (length lived.entries) n) found.1
+
+      by : (r : Result ⊤ PrintError) → result ≡ r → Drills state first count seen now r old new
+      by (Ok value) is_ok = (
+        life,
+        is,
+        subst (λ (l : List ℕ). Appends old new l) lines
+            (subst (λ (r : Result ⊤ PrintError). PutAppends old new r
+            (drill_lines first count kinds name entries numbers)) is_ok
+            (put (λ no. absurd (cc (is_ok, no))))),
+      )
+      by (Err OutputFault) is_err = (
+        life,
+        is,
+        subst (λ (l : List ℕ). AppendsFront old new l) lines
+            (subst (λ (r : Result ⊤ PrintError). PutAppends old new r
+            (drill_lines first count kinds name entries numbers)) is_err
+            (put (λ no. absurd (cc (is_err, no))))),
+      )
+      by (Err NoMemory) is_err = (lived.entries, is.saw, kept is_err)

@@ -1,0 +1,220 @@
+-- A life of a capture, from what `live` says over wires, a clock and a disk in memory.
+use Rattle.std.proofs.Common.{◌≡◌, ◌∙◌, ℕ, ◌-◌, ◌^◌, ◌==◌, Bool, true, false, List, [], ◌++◌}
+use Rattle.std.proofs.Common.{length, map, filter, refl, sym, ap, subst, Some, None, is_some, is_none}
+use Rattle.std.proofs.Common.{inl, inr, IfSome, if◌then◌else◌}
+use Rattle.std.proofs.lemmas.List.{length-map}
+use Rattle.std.specs.declared.option.Option.{Option}
+use Rattle.outside.specs.Disk.{Only}
+use Rattle.outside.specs.Memory.{DiskState}
+use Rattle.outside.specs.MemDisk.{IsImageOf, fresh}
+use Rattle.outside.specs.declared.mem_disk.Fuse.{Fuse}
+use Rattle.order_meaning.specs.declared.Side.{Side}
+use Rattle.order_meaning.specs.declared.Side.TheVariants.{Client, Venue}
+use Rattle.pair_journal.specs.declared.entry.Entry.{Entry}
+use Rattle.wires.specs.Wire.{Came, WireCall, Connection}
+use Rattle.wires.specs.Script.{item_of, Plays}
+use Rattle.wires.specs.Clock.{ClockState, moments_given, moments_told}
+use Rattle.wires.specs.MemWire.{WireState, calls_told, plays}
+use Rattle.wires.specs.MemWire as wires
+use Rattle.wires.specs.declared.script.Script.{Script}
+use Rattle.life_events.specs.Justified.{transcript_from}
+use Rattle.gateway_config.specs.declared.config.Config.{Config}
+use Rattle.gateway_life.specs.declared.end.LifeEnd.{LifeEnd}
+use Rattle.gateway_life.specs.Life.{Done, Did, Ends, IsJournal}
+use Rattle.gateway_life.specs.Laws.{GoesOnFrom, LeavesImage}
+use Rattle.gateway_life.specs.Watched.{TapState, TapsSaw, WereCommitted}
+use Rattle.gateway_life.specs.declared.end.LifeEnd.TheVariants as ends
+use Rattle.gateway_life.proofs.Living.{same_journal}
+use Rattle.pair_journal.specs.Laws.{HasOneReading}
+use Rattle.capture_text.specs.declared.capture.Event.{Event}
+use Rattle.capture_replay.specs.Rounds.{is_round, arrival, script_of, moments_from}
+use Rattle.capture_replay.specs.Replay.{Left, is_fault}
+use Rattle.capture_replay.specs.Lived.{IsLived, LivesOn}
+
+only_fresh : (bytes fail : List ℕ) (fuse : Fuse) → Only bytes (IsImageOf (fresh bytes fail fuse))
+only_fresh bytes fail fuse image (inl is) = is
+only_fresh bytes fail fuse image (inr is) = is
+
+told_calls : (told : Option (List WireCall)) → is_none told ≡ false → told ≡ Some (calls_told told)
+told_calls None told = absurd (cc told)
+told_calls (Some calls) told = refl
+
+if_told : {A : Type 0} (lost : Bool) (a : A)
+    → is_some (if lost then None else Some a) ≡ true
+    → (if lost then None else Some a) ≡ Some a
+if_told true a told = absurd (cc told)
+if_told false a told = refl
+
+told_moments : (clock : ClockState) → is_some (moments_told clock) ≡ true
+    → moments_told clock ≡ Some (moments_given clock.listed clock.asked)
+told_moments clock told = if_told (clock.asked == 2 ^ 64 - 1)
+    (moments_given clock.listed clock.asked) told
+
+played : (wire : WireState) (calls : List WireCall) (script : List Came)
+    → wire.recorded ≡ Some calls → plays wire script
+    → (left : List Came) × Plays false script calls left
+played wire calls script told plays = (
+  wire.script,
+  subst (λ (r : Option (List WireCall)). IfSome r (λ c. Plays false script c wire.script)) told
+      plays,
+)
+
+-- as many rounds as items of a script
+pub rounds_are : (side : Side) (lines : List Event) (items : List Script)
+    → map item_of items ≡ script_of side lines → length items ≡ length (filter is_round lines)
+rounds_are side lines items is = sym (length-map items item_of)
+    ∙ ap length is ∙ length-map (filter is_round lines) (arrival side)
+
+-- what was done in a life
+abbrev done : WireState → WireState → ClockState → Done
+done client venue clock = record {
+  client = calls_told client.recorded;
+  venue = calls_told venue.recorded;
+  moments = moments_given clock.listed clock.asked;
+}
+
+-- but for a fault, what was known to be committed is all
+committed : (end : LifeEnd) (known found : List Entry) → is_fault end ≡ false
+    → WereCommitted end known found → found ≡ known
+committed ends.Done known found whole were = were
+committed ends.DiskFault known found whole were = absurd (cc whole)
+committed (ends.JournalRefused at) known found whole were = were
+committed (ends.NamesDiffer kept given) known found whole were = were
+committed ends.JournalFull known found whole were = were
+committed (ends.NumbersSpent side) known found whole were = were
+committed ends.NoMemory known found whole were = were
+
+module _ (config : Config) (lines : List Event) (before : Left) (bytes image : List ℕ)
+    (disk : DiskState) (client venue : WireState) (clock : ClockState) (end : LifeEnd)
+    (rounds : ℕ) (listed : List ℕ)
+    (client_told : is_none client.recorded ≡ false) (venue_told : is_none venue.recorded ≡ false)
+    (clock_told : is_some (moments_told clock) ≡ true) where
+  did : Did (Some []) client.recorded (Some []) venue.recorded
+      (moments_told (record { listed = listed; asked = 0 })) (moments_told clock)
+      (done client venue clock)
+  did = record {
+    client = ([], refl, told_calls client.recorded client_told);
+    venue = ([], refl, told_calls venue.recorded venue_told);
+    clock = ([], refl, told_moments clock clock_told);
+  }
+
+  pub lived : {T : Type 0} (state : T → TapState) (seen now : List T)
+      → ((i : List ℕ) → HasOneReading i) → (fail : List ℕ) (fuse : Fuse)
+      → TapsSaw state seen now config.names (Some bytes) (IsImageOf (fresh bytes fail fuse))
+      (IsImageOf disk) end
+      → (Only bytes (IsImageOf (fresh bytes fail fuse)) → (entries : List Entry)
+      → IsJournal config.names entries bytes → (d : Done)
+      → Did (Some []) client.recorded (Some []) venue.recorded
+      (moments_told (record { listed = listed; asked = 0 })) (moments_told clock) d
+      → (i : List ℕ) → IsImageOf disk i → Ends end config entries rounds d i)
+      → (Only bytes (IsImageOf (fresh bytes fail fuse)) → (entries : List Entry)
+      → IsJournal config.names entries bytes → (client_side venue_side : List Connection)
+      → GoesOnFrom config.names entries client_side venue_side → (d : Done)
+      → Did (Some []) client.recorded (Some []) venue.recorded
+      (moments_told (record { listed = listed; asked = 0 })) (moments_told clock) d
+      → (i : List ℕ) → IsImageOf disk i → LeavesImage config.names i
+      (transcript_from client_side d.client) (transcript_from venue_side d.venue))
+      → plays client (script_of Client lines) → plays venue (script_of Venue lines)
+      → clock.listed ≡ moments_from 0 lines → rounds ≡ length (filter is_round lines)
+      → IsImageOf disk image → is_fault end ≡ false
+      → IsJournal config.names before.entries bytes
+      → GoesOnFrom config.names before.entries before.client before.venue
+      → IsLived state config lines before seen now client.recorded venue.recorded end image
+  lived state seen now one fail fuse saw ends leaves client_plays venue_plays follows count among
+      whole journal goes_on =
+      let left = leaves (only_fresh bytes fail fuse) before.entries journal before.client
+      before.venue goes_on (done client venue clock) did image among in
+      record {
+        did = done client venue clock;
+        entries = left.entries;
+        client_told = told_calls client.recorded client_told;
+        venue_told = told_calls venue.recorded venue_told;
+        played = record {
+          client = played client (calls_told client.recorded) (script_of Client lines)
+              (told_calls client.recorded client_told) client_plays;
+          venue = played venue (calls_told venue.recorded) (script_of Venue lines)
+              (told_calls venue.recorded venue_told) venue_plays;
+          moments = (clock.asked, ap (λ l. moments_given l clock.asked) follows);
+          ends = subst (λ n. Ends end config before.entries n (done client venue clock) image) count
+              (ends (only_fresh bytes fail fuse) before.entries journal (done client venue clock)
+              did image among);
+          left = left;
+          entries = refl;
+          whole = whole;
+        };
+        more = saw.more;
+        committed = let (found, is, were) = saw.left (only_fresh bytes fail fuse) before.entries
+            journal image among in
+            same_journal one config.names image left.entries found left.journal is
+            ∙ committed end (before.entries ++ saw.more) found whole were;
+        saw = saw.seen;
+      }
+
+-- what `live` says of forms in memory, between what contracts see of them before and after
+pub record LiveSays {T : Type 0} (state : T → TapState) (seen now : List T) (config : Config)
+    (disk0 disk : DiskState) (client0 client venue0 venue : WireState) (clock0 clock : ClockState)
+    (end : LifeEnd) (rounds : ℕ) : Type 0 where
+  pub taps : TapsSaw state seen now config.names (Some disk0.bytes) (IsImageOf disk0)
+      (IsImageOf disk) end
+  pub ends : Only disk0.bytes (IsImageOf disk0) → (entries : List Entry)
+      → IsJournal config.names entries disk0.bytes → (d : Done)
+      → Did client0.recorded client.recorded venue0.recorded venue.recorded
+      (moments_told clock0) (moments_told clock) d
+      → (i : List ℕ) → IsImageOf disk i → Ends end config entries rounds d i
+  pub leaves : Only disk0.bytes (IsImageOf disk0) → (entries : List Entry)
+      → IsJournal config.names entries disk0.bytes → (client_side venue_side : List Connection)
+      → GoesOnFrom config.names entries client_side venue_side → (d : Done)
+      → Did client0.recorded client.recorded venue0.recorded venue.recorded
+      (moments_told clock0) (moments_told clock) d
+      → (i : List ℕ) → IsImageOf disk i → LeavesImage config.names i
+      (transcript_from client_side d.client) (transcript_from venue_side d.venue)
+  pub client_plays : (script : List Came) → plays client0 script → plays client script
+  pub venue_plays : (script : List Came) → plays venue0 script → plays venue script
+  pub follows : (listed : List ℕ) → clock0.listed ≡ listed → clock.listed ≡ listed
+
+module _ {T : Type 0} (state : T → TapState) (seen now : List T) (config : Config)
+    (lines : List Event) (disk0 disk : DiskState) (client0 client venue0 venue : WireState)
+    (clock0 clock : ClockState) (end : LifeEnd) (rounds : ℕ)
+    (says : LiveSays state seen now config disk0 disk client0 client venue0 venue clock0 clock end
+    rounds) (bytes fail fail_client fail_venue listed image : List ℕ) (fuse : Fuse)
+    (client_items venue_items : List Script) where
+  -- over fresh forms
+  says_fresh : disk0 ≡ fresh bytes fail fuse → client0 ≡ wires.fresh client_items fail_client
+      → venue0 ≡ wires.fresh venue_items fail_venue
+      → clock0 ≡ record { listed = listed; asked = 0 }
+      → LiveSays state seen now config (fresh bytes fail fuse) disk
+      (wires.fresh client_items fail_client) client (wires.fresh venue_items fail_venue) venue
+      (record { listed = listed; asked = 0 }) clock end rounds
+  says_fresh is_disk is_client is_venue is_clock =
+      subst (λ (k : ClockState). LiveSays state seen now config (fresh bytes fail fuse) disk
+      (wires.fresh client_items fail_client) client (wires.fresh venue_items fail_venue) venue k
+      clock end rounds) is_clock
+      (subst (λ (v : WireState). LiveSays state seen now config (fresh bytes fail fuse) disk
+      (wires.fresh client_items fail_client) client v venue clock0 clock end rounds) is_venue
+      (subst (λ (c : WireState). LiveSays state seen now config (fresh bytes fail fuse) disk
+      c client venue0 venue clock0 clock end rounds) is_client
+      (subst (λ (d : DiskState). LiveSays state seen now config d disk
+      client0 client venue0 venue clock0 clock end rounds) is_disk says)))
+
+  pub lives_on : ((i : List ℕ) → HasOneReading i)
+      → disk0 ≡ fresh bytes fail fuse → client0 ≡ wires.fresh client_items fail_client
+      → venue0 ≡ wires.fresh venue_items fail_venue
+      → clock0 ≡ record { listed = listed; asked = 0 }
+      → map item_of client_items ≡ script_of Client lines
+      → map item_of venue_items ≡ script_of Venue lines → listed ≡ moments_from 0 lines
+      → rounds ≡ length client_items → IsImageOf disk image
+      → is_none client.recorded ≡ false → is_none venue.recorded ≡ false
+      → is_some (moments_told clock) ≡ true → is_fault end ≡ false
+      → LivesOn state config lines bytes seen now client.recorded venue.recorded end image
+  lives_on one is_disk is_client is_venue is_clock client_is venue_is listed_is rounds_is among
+      client_told venue_told clock_told whole before journal goes_on =
+      let fresh_says = says_fresh is_disk is_client is_venue is_clock in
+      lived config lines before bytes image disk client venue clock end rounds listed client_told
+      venue_told clock_told state seen now one fail fuse fresh_says.taps fresh_says.ends
+      fresh_says.leaves
+      (subst (λ (s : List Came). plays client s) client_is
+      (fresh_says.client_plays (map item_of client_items) refl))
+      (subst (λ (s : List Came). plays venue s) venue_is
+      (fresh_says.venue_plays (map item_of venue_items) refl))
+      (fresh_says.follows listed refl ∙ listed_is)
+      (rounds_is ∙ rounds_are Client lines client_items client_is) among whole journal goes_on

@@ -1,0 +1,36 @@
+use Rattle.std.proofs.Common.{ap, ◌∙◌}
+use Rattle.drill_day.specs.declared.kinds.Kinds.{Kinds}
+use Rattle.capture_replay.proofs.Drilled.{undrilled, day_bounded, day_lived, drilled}
+use Rattle.capture_replay.proofs.drilling.drill.Goals as goal
+
+pub returns-in_err-day-clause-drills : goal.returns-in_err-day-clause-drills
+returns-in_err-day-clause-drills g c = undrilled _ c.args.first c.args.count
+    c.args.taps.now.items (g.O.Sink.bytes c.args.out.now) c.from_residual.result
+    c.from_residual.ensures.1
+
+pub live_lines-requires : goal.live_lines-requires
+live_lines-requires g c = record {
+  bounded = day_bounded c.args.first c.args.count c.as_slice.result.now
+      (c.as_slice.ensures ∙ c.in_ok-day.ensures.life) c.in_ok-day.ensures.sound;
+}
+
+pub returns-clause-drills : goal.returns-clause-drills
+returns-clause-drills g c =
+    let day = c.in_ok-day in
+    let lived = c.in_ok-lived.lived in
+    let seen = c.args.taps.now.items in
+    let now = c.live_lines.new.taps.items in
+    drilled _ c.args.first c.args.count seen now lived.client.recorded lived.venue.recorded
+    lived.end lived.image.items
+    (day_lived _ c.args.first c.args.count seen now lived.client.recorded lived.venue.recorded
+    lived.end lived.image.items c.config_of-config.result day.day.names day.day.heart
+    c.as_slice.result.now c.new.result.items c.new.ensures.items c.config_of-config.ensures
+    day.ensures.names day.ensures.heart (c.as_slice.ensures ∙ day.ensures.life)
+    c.lives_follow.ensures.first day.ensures.sound c.in_ok-lived.ensures.lived)
+    c.put_drill.result (g.O.Sink.bytes c.args.out.now) (g.O.Sink.bytes c.put_drill.new.out)
+    c.in_ok-entries.entries c.in_ok-entries.next
+    (day.day.kinds.filled, day.day.kinds.busted, day.day.kinds.corrected, day.day.kinds.rejected)
+    c.end_name-end.result.now
+    (ap (λ (k : Kinds). (k.filled, k.busted, k.corrected, k.rejected)) day.ensures.kinds)
+    c.end_name-end.ensures c.in_ok-entries.ensures c.put_drill.ensures.lines
+    (λ none. ap g.O.Sink.bytes (c.put_drill.ensures.nothing none))

@@ -1,0 +1,5 @@
+pub mod Rounds
+pub mod Replay
+pub mod Lived
+pub mod Drills
+pub mod Input

@@ -1,0 +1,134 @@
+-- Own: the lives of a capture, and what is printed of them; docs/DEFINITIONS.md, "A replay".
+use Rattle.std.specs.Prelude.{◌≡◌, ℕ, ◌+◌, Bool, true, false, List, [], ◌∷◌, ◌++◌, length, filter, codes}
+use Rattle.std.specs.Prelude.{Result, Ok, Err, ⊤}
+use Rattle.std.specs.declared.option.Option.{Option}
+use Rattle.std.specs.Io.KnownBytes.{Appends}
+use Rattle.outside.specs.Bytes.{AppendsFront}
+use Rattle.order_meaning.specs.declared.Side.TheVariants.{Client, Venue}
+use Rattle.order_meaning.specs.declared.names.Names.{Names}
+use Rattle.pair_journal.specs.declared.entry.Entry.{Entry}
+use Rattle.pair_journal.specs.Numbers.{first_numbers, numbers_after}
+use Rattle.wires.specs.Wire.{Came, Connection}
+use Rattle.wires.specs.Script.{Plays}
+use Rattle.wires.specs.Clock.{moments_given}
+use Rattle.life_events.specs.Justified.{transcript_from}
+use Rattle.gateway_config.specs.declared.config.Config.{Config}
+use Rattle.gateway_life.specs.declared.end.LifeEnd.{LifeEnd}
+use Rattle.gateway_life.specs.declared.end.LifeEnd.TheVariants as ends
+use Rattle.gateway_life.specs.Life.{Done, Ends}
+use Rattle.gateway_life.specs.Laws.{LeavesImage}
+use Rattle.gateway_life.specs.Watched.{TapState, HaveSeen}
+use Rattle.capture_text.specs.declared.capture.Capture.{Capture}
+use Rattle.capture_text.specs.declared.capture.Event.{Event}
+use Rattle.replay_lines.specs.declared.printing.PrintError.{PrintError}
+use Rattle.replay_lines.specs.Pieces.{pieces_of}
+use Rattle.replay_lines.specs.ReplayLines.{life_lines, last_lines}
+use Rattle.capture_replay.specs.Rounds.{is_round, script_of, moments_from}
+
+-- how the gateway of a capture is set up: SendingTime may be 120 seconds from the present moment
+abbrev pub config_with : Names → (heart : ℕ) → Config
+config_with names heart = record { names = names; heart = heart; window = 120 }
+
+abbrev pub config_of : Capture → Config
+config_of capture = config_with capture.names capture.heart
+
+-- what lives have left: the entries of the journal, and what was read and written on each
+-- connection of both sides
+pub record Left : Type 0 where
+  pub entries : List Entry
+  pub client : List Connection
+  pub venue : List Connection
+
+-- before the first life
+abbrev pub nothing : Left
+nothing = record { entries = []; client = []; venue = [] }
+
+-- a life: what was done in it, how it ended, the bytes that it left on the disk, and their entries
+pub record Played : Type 0 where
+  pub did : Done
+  pub end : LifeEnd
+  pub image : List ℕ
+  pub entries : List Entry
+
+-- what is left after a life
+abbrev pub after : Left → Played → Left
+after left life = record {
+  entries = life.entries;
+  client = transcript_from left.client life.did.client;
+  venue = transcript_from left.venue life.did.venue;
+}
+
+-- a life that ended by a disk fault or for want of memory
+abbrev pub is_fault : LifeEnd → Bool
+is_fault ends.DiskFault = true
+is_fault ends.NoMemory = true
+is_fault end = false
+
+-- A LIFE OF A CAPTURE, over what lives before it have left. Its wires play what its lines let come,
+-- and its clock gives their moments. It ends as `Ends` says, and its image is that journal, lawful,
+-- which justifies all that was read and written, in it and before: whatever of it arrives, each
+-- side takes the beginning of what was committed to it, each message once and in order.
+pub record IsPlayed (config : Config) (lines : List Event) (before : Left) (life : Played)
+    : Type 0 where
+  pub client : (left : List Came) × Plays false (script_of Client lines) life.did.client left
+  pub venue : (left : List Came) × Plays false (script_of Venue lines) life.did.venue left
+  pub moments : (asked : ℕ) × (life.did.moments ≡ moments_given (moments_from 0 lines) asked)
+  pub ends : Ends life.end config before.entries (length (filter is_round lines)) life.did life.image
+  pub left : LeavesImage config.names life.image (after before life).client (after before life).venue
+  pub entries : life.entries ≡ left.entries
+  pub whole : is_fault life.end ≡ false
+
+-- The first lives of a capture, one after another, over what was left before. The taps saw what
+-- each of them committed, in order.
+abbrev pub ArePlayed : {T : Type 0} → (T → TapState) → Config → Left → (seen : List T)
+    → List (List Event) → List Played → (now : List T) → Type 0
+ArePlayed state config left seen lives [] now = now ≡ seen
+ArePlayed state config left seen [] (life ∷ played) now = ⊥
+ArePlayed {T} state config left seen (lines ∷ lives) (life ∷ played) now =
+    IsPlayed config lines left life × (between : List T) × (more : List Entry)
+    × (life.entries ≡ left.entries ++ more) × HaveSeen state seen between more
+    × ArePlayed state config (after left life) between lives played now
+
+-- ---- what is printed
+
+-- the variant's name
+abbrev pub end_name : LifeEnd → List ℕ
+end_name ends.Done = codes "Done"
+end_name ends.DiskFault = codes "DiskFault"
+end_name (ends.JournalRefused at) = codes "JournalRefused"
+end_name (ends.NamesDiffer kept given) = codes "NamesDiffer"
+end_name ends.JournalFull = codes "JournalFull"
+end_name (ends.NumbersSpent side) = codes "NumbersSpent"
+end_name ends.NoMemory = codes "NoMemory"
+
+-- the lines of lives, numbered from this number on
+abbrev pub lives_lines : ℕ → List Played → List ℕ
+lives_lines number [] = []
+lives_lines number (life ∷ played) =
+    life_lines number (pieces_of life.did.client) (pieces_of life.did.venue) (end_name life.end)
+    ++ lives_lines (number + 1) played
+
+-- the entries that the last of them left
+abbrev pub entries_left : List Entry → List Played → List Entry
+entries_left entries [] = entries
+entries_left entries (life ∷ played) = entries_left life.entries played
+
+-- all that is printed of these lives
+abbrev pub replay_lines : List Played → List ℕ
+replay_lines played = lives_lines 1 played
+    ++ last_lines (length (entries_left [] played))
+    (numbers_after first_numbers (entries_left [] played))
+
+-- WHAT A REPLAY DOES by its answer: at `Ok` all lives of the capture were played, and all is printed;
+-- at an error some were played, and a front of what is printed of them.
+abbrev pub Replays : {T : Type 0} → (T → TapState) → Capture → (seen now : List T)
+    → Result ⊤ PrintError → (old new : Option (List ℕ)) → Type 0
+Replays state capture seen now (Ok value) old new =
+    (played : List Played) × (length played ≡ length capture.lives)
+    × ArePlayed state (config_of capture) nothing seen capture.lives played now
+    × Appends old new (replay_lines played)
+Replays {T} state capture seen now (Err error) old new =
+    (played : List Played) × (between : List T) × (more : List Entry)
+    × ArePlayed state (config_of capture) nothing seen capture.lives played between
+    × HaveSeen state between now more
+    × AppendsFront old new (replay_lines played)

@@ -1,0 +1,30 @@
+//! What the last life left.
+
+ghost use Rattle.std.specs.Prelude.{◌≡◌, List, length, IfOk};
+ghost use Rattle.order_meaning.specs.declared.names.Names.{Names};
+ghost use Rattle.pair_journal.specs.declared.entry.Entry.{Entry};
+ghost use Rattle.pair_journal.specs.Numbers.{first_numbers, numbers_after};
+ghost use Rattle.gateway_life.specs.Life.{IsJournal};
+
+use outside::MemDisk;
+use pair_journal::Journal;
+use pair_journal::laws::an_image_has_one_reading;
+use std::alloc::{AllocError, Global};
+
+/// How many entries the journal of these bytes has, and its next numbers. An unborn disk has none.
+pub(crate) fn left_by(
+    alloc: Global,
+    image: Vec<u8>,
+) -> Result<(u64, (u32, u32, u32, u32)), AllocError>
+    ensures { IfOk result (λ left. (names : Names) (entries : List Entry)
+        → IsJournal names entries image.items
+        → (left.0 ≡ length entries) × (left.1 ≡ numbers_after first_numbers entries)) }
+{
+    an_image_has_one_reading();
+    let mut disk = MemDisk::new(alloc, image, Vec::new(alloc));
+    match Journal::look(alloc, &mut disk) {
+        Ok(Some(journal)) => Ok((journal.count(), journal.next())),
+        Ok(None) => Ok((0, (1, 1, 1, 1))),
+        Err(_) => Err(AllocError),
+    }
+}

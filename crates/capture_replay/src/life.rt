@@ -1,0 +1,85 @@
+//! One life of a capture.
+
+ghost use Rattle.std.specs.Prelude.{◌≡◌, List, All, IfOk, IfErr, Some};
+ghost use Rattle.pair_journal.specs.declared.entry.Entry.{Entry};
+ghost use Rattle.gateway_life.specs.Watched.{HaveSeen, state_by};
+ghost use Rattle.capture_text.specs.Line.{IsBounded};
+ghost use Rattle.capture_replay.specs.Lived.{LivesOn};
+
+use crate::ends::is_fault;
+use crate::rounds::{moments_of, script_of};
+use capture_text::Event;
+use drop_taps::Tap;
+use gateway_config::Config;
+use gateway_life::{LifeEnd, live};
+use order_meaning::Side;
+use outside::{Image, MemDisk};
+use pair_journal::laws::an_image_has_one_reading;
+use std::alloc::{AllocError, Global};
+use wires::{ListClock, MemWire};
+
+/// A life that was lived: what was done on its wires, how it ended, and what it left on the disk.
+#[derive(Drop)]
+pub(crate) struct Lived {
+    /// The client's wire.
+    pub(crate) client: MemWire,
+    /// The venue's wire.
+    pub(crate) venue: MemWire,
+    /// How it ended.
+    pub(crate) end: LifeEnd,
+    /// The bytes of the disk.
+    pub(crate) image: Vec<u8>,
+}
+
+/// Lives a life of a capture over a disk of these bytes.
+///
+/// # Errors
+/// `AllocError` where memory was refused to the life or to a form in memory.
+pub(crate) fn live_lines(
+    alloc: Global,
+    config: &Config,
+    lines: &[Event],
+    image: Vec<u8>,
+    taps: &mut Vec<Box<dyn Tap>>,
+) -> Result<Lived, AllocError>
+    requires bounded { All IsBounded lines.now }
+    ensures lived { IfOk result (λ lived. LivesOn
+        (state_by has_failed entries tally counts_all) config.now lines.now image.items
+        taps.old.items taps.new.items lived.client.recorded lived.venue.recorded lived.end
+        lived.image.items) }
+    ensures taps { (more : List Entry) × HaveSeen (state_by has_failed entries tally counts_all)
+        taps.old.items taps.new.items more }
+{
+    an_image_has_one_reading();
+    let script = script_of(alloc, Side::Client, lines)?;
+    let rounds = script.len() as u64;
+    let mut client = MemWire::new(alloc, script, Vec::new(alloc));
+    let mut venue = MemWire::new(
+        alloc,
+        script_of(alloc, Side::Venue, lines)?,
+        Vec::new(alloc),
+    );
+    let mut clock = ListClock::new(moments_of(alloc, lines)?);
+    let mut disk = MemDisk::new(alloc, image, Vec::new(alloc));
+    let end = live(
+        alloc,
+        config,
+        &mut disk,
+        &mut client,
+        &mut venue,
+        &mut clock,
+        taps,
+        rounds,
+    );
+    let refused = disk.refused() || client.refused() || venue.refused() || !clock.is_told();
+    if refused || is_fault(&end) {
+        return Err(AllocError);
+    }
+    let image = disk.image(Image::New)?;
+    Ok(Lived {
+        client,
+        venue,
+        end,
+        image,
+    })
+}
