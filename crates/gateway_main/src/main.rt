@@ -13,7 +13,7 @@ use crate::adapters::{Reading, Writing};
 use crate::lines::{DatedLines, PlainLines};
 use crate::options::read_options;
 use crate::running::run_words;
-use drop_taps::{LineTap, Tap, clear};
+use drop_taps::{LineTap, Tap, TotalsTap, clear};
 use gateway_top::{End, Status};
 use std::alloc::AllocError;
 use std::process::ExitCode;
@@ -42,7 +42,8 @@ fn read_words(rt: &(impl Env + AllocGlobal)) -> Result<Vec<String>, Status> {
 }
 
 /// How the run that the words of the command line ask for ends. The taps of `serve` tell a line for
-/// each entry, and one for each text of the sessions; other commands have none.
+/// each entry, and one for each text of the sessions; the tap of `replay` and `drill` counts; other
+/// commands have none.
 fn ended(rt: HostRuntime, words: &[String]) -> Result<Status, AllocError> {
     let Some(options) = read_options(words) else {
         return Ok(Status::Usage);
@@ -53,6 +54,9 @@ fn ended(rt: HostRuntime, words: &[String]) -> Result<Status, AllocError> {
         [word, ..] if word.as_str() == "serve" => {
             taps.push(Box::new(alloc, LineTap::new(PlainLines { rt }))?)?;
             taps.push(Box::new(alloc, TextTap::new(alloc, DatedLines { rt }))?)?;
+        }
+        [word, ..] if word.as_str() == "replay" || word.as_str() == "drill" => {
+            taps.push(Box::new(alloc, TotalsTap::new())?)?;
         }
         _ => {}
     }

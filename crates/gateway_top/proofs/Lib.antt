@@ -1,6 +1,6 @@
 pub mod Answered
 pub mod Catching
 pub mod Midway
-pub mod Rounds
+pub mod Numbers
 pub mod Serving
 mod Worked

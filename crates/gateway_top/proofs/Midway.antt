@@ -7,8 +7,8 @@ use Rattle.std.specs.Io.KnownBytes.{Appends, Consumes, Keeps, IsAtEnd}
 use Rattle.std.proofs.KnownBytes.{Appends-nil, Appends-trans, Appends-kept, Consumes-nil}
 use Rattle.std.proofs.KnownBytes.{Consumes-trans}
 use Rattle.std.proofs.lemmas.List.{take_all}
-use Rattle.std.proofs.Math.Seq.{take-append-add, take-append_seam}
-use Rattle.outside.specs.Bytes.{AppendsFront}
+use Rattle.std.proofs.Math.Seq.{take-append_seam}
+use Rattle.outside.proofs.Fronts.{appended_front}
 use Rattle.frame_grammar.specs.declared.frame.Kind.{Kind}
 use Rattle.frame_grammar.specs.declared.pieces.Rest.{Rest}
 use Rattle.frame_grammar.specs.Held.{Held}
@@ -23,7 +23,7 @@ use Rattle.gateway_top.specs.declared.status.Status.TheVariants.{OutputFault, No
 use Rattle.gateway_top.specs.declared.status.Status.TheVariants.{InputTooLong, ConfigRefused}
 use Rattle.gateway_top.specs.declared.status.Status.TheVariants.{DiskFault, JournalRefused}
 use Rattle.gateway_top.specs.declared.status.Status.TheVariants.{NamesDiffer, JournalFull}
-use Rattle.gateway_top.specs.declared.status.Status.TheVariants.{NumbersSpent}
+use Rattle.gateway_top.specs.declared.status.Status.TheVariants.{NumbersSpent, CaptureRefused}
 use Rattle.gateway_top.specs.Judge.{JudgesAll, end_said, unfinished}
 use Rattle.gateway_top.specs.Task.{has_ended, kind_of, stops, first_of}
 use Rattle.gateway_top.specs.Pass.{CaughtUp, Advances, Ends}
@@ -73,15 +73,6 @@ at_start task input out framer stands = record {
   going = going_none task;
   put = Appends-nil out;
 }
-
--- what was appended before, and a front of what was put then
-pub appended_front : (a b c : Option (List ℕ)) (said more : List ℕ)
-    → Appends a b said → AppendsFront b c more → AppendsFront a c (said ++ more)
-appended_front a b c said more before (n, after) = (
-  length said + n,
-  subst (λ (l : List ℕ). Appends a c l)
-      (sym (take-append-add said more n)) (Appends-trans a b c said (take n more) before after),
-)
 
 consumed_kept : (a b c : Option (List ℕ)) (bytes : List ℕ)
     → Consumes a b bytes → Keeps b c → Consumes a c bytes
@@ -232,8 +223,7 @@ module _ (task : Task) where
         at_end,
         (
           m.said ++ end_said task end,
-          finished
-              None is,
+          finished None is,
           Appends-trans out_old out put m.said (end_said task end) m.put appended,
         ),
       )
@@ -273,6 +263,7 @@ module _ (task : Task) where
       ran_to_end (NamesDiffer kept given) put never = absurd never
       ran_to_end JournalFull put never = absurd never
       ran_to_end (NumbersSpent side) put never = absurd never
+      ran_to_end (CaptureRefused line) put never = absurd never
 
     -- nothing more was there to take
     pub consumed_all : (later : Option (List ℕ)) (piece : List ℕ)

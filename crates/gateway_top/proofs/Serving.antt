@@ -1,11 +1,28 @@
--- What holds of the rounds that are served holds of the command.
-use Rattle.std.proofs.Common.{◌≡◌, ℕ, sym, ◌∙◌, subst, Some}
+-- What holds of the numbers of a command holds of the command.
+use Rattle.std.proofs.Common.{◌≡◌, ℕ, ◌≤◌, sym, ◌∙◌, subst, Some, IfSome}
 use Rattle.std.specs.declared.option.Option.{Option}
 use Rattle.gateway_top.specs.declared.command.Command.{Command}
-use Rattle.gateway_top.specs.declared.command.Command.TheVariants.{Serve}
-use Rattle.gateway_top.specs.Program.{IfServe}
+use Rattle.gateway_top.specs.declared.command.Command.TheVariants.{Serve, Replay, Drill}
+use Rattle.gateway_top.specs.Command.{IsWithin}
+use Rattle.gateway_top.specs.Program.{IfServe, IfReplay, IfDrill}
 
 pub if_serve : (command known : Option Command) (rounds : ℕ) (holds : ℕ → Type 0)
     → known ≡ command → known ≡ Some (Serve rounds) → holds rounds → IfServe command holds
 if_serve command known rounds holds same is served =
     subst (λ (k : Option Command). IfServe k holds) (sym is ∙ same) served
+
+pub if_replay : (command known : Option Command) (holds : Type 0) → known ≡ command
+    → known ≡ Some Replay → holds → IfReplay command holds
+if_replay command known holds same is replayed =
+    subst (λ (k : Option Command). IfReplay k holds) (sym is ∙ same) replayed
+
+pub if_drill : (command known : Option Command) (first count : ℕ) (holds : ℕ → ℕ → Type 0)
+    → known ≡ command → known ≡ Some (Drill first count) → holds first count
+    → IfDrill command holds
+if_drill command known first count holds same is drilled =
+    subst (λ (k : Option Command). IfDrill k holds) (sym is ∙ same) drilled
+
+-- the numbers of a drill that was read
+pub within : (known : Option Command) (first count : ℕ) → known ≡ Some (Drill first count)
+    → IfSome known IsWithin → (first ≤ 65536) × (1 ≤ count) × (count ≤ 10000)
+within known first count is holds = subst (λ (k : Option Command). IfSome k IsWithin) is holds

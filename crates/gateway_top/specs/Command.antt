@@ -1,26 +1,39 @@
 -- Own: the forms of the command line; docs/DECISIONS.md, "Commands".
-use Rattle.std.specs.Prelude.{ℕ, Bool, true, false, ◌&&◌, nat_le, List, [], ◌∷◌, codes}
+use Rattle.std.specs.Prelude.{ℕ, ◌≤◌, Bool, true, false, ◌&&◌, nat_le, List, [], ◌∷◌, codes}
 use Rattle.std.specs.Prelude.{Some, None, if◌then◌else◌}
 use Rattle.std.specs.Fmt.{decimal}
 use Rattle.std.specs.Option.{option_map}
 use Rattle.std.specs.Str.{bytes_eq}
 use Rattle.std.specs.Str.Parse.{digits_value}
 use Rattle.std.specs.declared.option.Option.{Option}
-use Rattle.gateway_top.specs.declared.command.TheConstants.{MAX_ROUNDS}
+use Rattle.gateway_top.specs.declared.command.TheConstants.{MAX_ROUNDS, MAX_FIRST, MAX_COUNT}
 use Rattle.gateway_top.specs.declared.command.Command.{Command}
 use Rattle.gateway_top.specs.declared.command.Command.TheVariants.{Help, Version, Stream}
-use Rattle.gateway_top.specs.declared.command.Command.TheVariants.{Serve, Show}
+use Rattle.gateway_top.specs.declared.command.Command.TheVariants.{Serve, Show, Replay, Drill}
 use Rattle.gateway_top.specs.declared.task.Task.TheVariants.{TranslateUp, TranslateDown}
 use Rattle.gateway_top.specs.declared.task.Task.TheVariants.{CheckClient, CheckVenue}
 
--- a number of rounds: its digits, without a zero in front, and within its bounds
-abbrev pub are_rounds : ℕ → List ℕ → Bool
-are_rounds rounds word =
-    bytes_eq word (decimal rounds) && (nat_le 1 rounds && nat_le rounds MAX_ROUNDS)
+-- a word is this number: its digits, without a zero in front, within these bounds
+abbrev pub is_between : (least most number : ℕ) → List ℕ → Bool
+is_between least most number word =
+    bytes_eq word (decimal number) && (nat_le least number && nat_le number most)
 
-abbrev pub rounds_of : List ℕ → Option ℕ
-rounds_of word =
-    if are_rounds (digits_value 10 word) word then Some (digits_value 10 word) else None
+abbrev pub number_in : (least most : ℕ) → List ℕ → Option ℕ
+number_in least most word =
+    if is_between least most (digits_value 10 word) word then Some (digits_value 10 word) else None
+
+-- the drill of these two numbers
+abbrev pub drill_from : Option ℕ → Option ℕ → Option Command
+drill_from (Some first) (Some count) = Some (Drill first count)
+drill_from first count = None
+
+abbrev pub drill_of : List ℕ → List ℕ → Option Command
+drill_of first count = drill_from (number_in 0 MAX_FIRST first) (number_in 1 MAX_COUNT count)
+
+-- the numbers of a drill are within their bounds
+abbrev pub IsWithin : Command → Type 0
+IsWithin (Drill first count) = (first ≤ MAX_FIRST) × (1 ≤ count) × (count ≤ MAX_COUNT)
+IsWithin command = Unit {0}
 
 -- the command of these words, where they are one of the forms
 abbrev pub command_of : List (List ℕ) → Option Command
@@ -28,6 +41,7 @@ command_of (word ∷ []) =
     if bytes_eq word (codes "--help") then Some Help
     else if bytes_eq word (codes "--version") then Some Version
     else if bytes_eq word (codes "show") then Some Show
+    else if bytes_eq word (codes "replay") then Some Replay
     else None
 command_of (first ∷ second ∷ []) =
     if bytes_eq first (codes "translate") && bytes_eq second (codes "up")
@@ -39,8 +53,10 @@ command_of (first ∷ second ∷ []) =
     else if bytes_eq first (codes "check") && bytes_eq second (codes "venue")
     then Some (Stream CheckVenue)
     else if bytes_eq first (codes "serve")
-    then option_map (λ rounds. Serve rounds) (rounds_of second)
+    then option_map (λ rounds. Serve rounds) (number_in 1 MAX_ROUNDS second)
     else None
+command_of (first ∷ second ∷ third ∷ []) =
+    if bytes_eq first (codes "drill") then drill_of second third else None
 command_of words = None
 
 -- ---- what of the outside a command calls; the words of none call nothing
@@ -48,6 +64,7 @@ command_of words = None
 abbrev pub calls_input : Option Command → Bool
 calls_input (Some (Stream task)) = true
 calls_input (Some (Serve rounds)) = true
+calls_input (Some Replay) = true
 calls_input command = false
 
 abbrev pub calls_output : Option Command → Bool
@@ -60,7 +77,13 @@ calls_disk (Some (Serve rounds)) = true
 calls_disk (Some Show) = true
 calls_disk command = false
 
--- the wires, the clock and the taps
+abbrev pub calls_taps : Option Command → Bool
+calls_taps (Some (Serve rounds)) = true
+calls_taps (Some Replay) = true
+calls_taps (Some (Drill first count)) = true
+calls_taps command = false
+
+-- the wires and the clock
 abbrev pub calls_wires : Option Command → Bool
 calls_wires (Some (Serve rounds)) = true
 calls_wires command = false

@@ -17,10 +17,13 @@ use Rattle.gateway_serve.specs.declared.error.ServeError.{ServeError}
 use Rattle.gateway_serve.specs.Serve.{Served}
 use Rattle.journal_show.specs.declared.journal_lines.ShowError.{ShowError}
 use Rattle.journal_show.specs.JournalLines.{Shows}
+use Rattle.capture_replay.specs.declared.error.ReplayError.{ReplayError}
+use Rattle.replay_lines.specs.declared.printing.PrintError.{PrintError}
 use Rattle.gateway_top.specs.declared.command.Command.{Command}
 use Rattle.gateway_top.specs.declared.command.Command.TheVariants.{Help, Version, Stream}
-use Rattle.gateway_top.specs.declared.command.Command.TheVariants.{Serve, Show}
-use Rattle.gateway_top.specs.Status.{served_status, shown_status}
+use Rattle.gateway_top.specs.declared.command.Command.TheVariants.{Serve, Show, Replay, Drill}
+use Rattle.gateway_top.specs.Status.{served_status, shown_status, replayed_status}
+use Rattle.gateway_top.specs.Status.{drilled_status}
 use Rattle.gateway_top.specs.declared.task.Task.{Task}
 use Rattle.gateway_top.specs.declared.status.Status.{Status}
 use Rattle.gateway_top.specs.declared.status.Status.TheVariants.{Done, Refused, Usage, InputFault}
@@ -106,7 +109,7 @@ Wrote OutputFault text old new = AppendsFront old new text
 Wrote status text old new = ⊥
 
 -- What a command that writes a text, or does a task, did at a status: what it took of the input,
--- and what it put. The other two have clauses of their own.
+-- and what it put. The others have clauses of their own.
 abbrev pub Does : List ℕ → List ℕ → Command → Status →
     Option (List ℕ) → Option (List ℕ) → Option (List ℕ) → Option (List ℕ) → Type 0
 Does help version Help status left_old left old new = Wrote status help old new
@@ -119,6 +122,7 @@ Does help version command status left_old left old new = Unit {0}
 abbrev pub ReadsToEnd : Command → Status → Bool → Type 0
 ReadsToEnd (Stream task) Done ended = ended ≡ true
 ReadsToEnd (Serve rounds) Done ended = ended ≡ true
+ReadsToEnd Replay Done ended = ended ≡ true
 ReadsToEnd command status ended = Unit {0}
 
 -- ---- serve
@@ -144,3 +148,24 @@ IfShow command holds = Unit {0}
 abbrev pub ShownBy : Status → Option (List ℕ) → Option (List ℕ) → Option (List ℕ) → Type 0
 ShownBy status told old new = (answer : Result ⊤ ShowError)
     × (status ≡ shown_status answer) × IfSome told (λ bytes. Shows bytes answer old new)
+
+-- ---- replay and drill
+
+abbrev pub IfReplay : Option Command → Type 0 → Type 0
+IfReplay (Some Replay) holds = holds
+IfReplay command holds = Unit {0}
+
+-- THE CAPTURE OF THE INPUT WAS REPLAYED, by the status.
+abbrev pub ReplayedBy : Status → (Result ⊤ ReplayError → Type 0) → Type 0
+ReplayedBy status replayed =
+    (answer : Result ⊤ ReplayError) × (status ≡ replayed_status answer) × replayed answer
+
+-- this holds of the two numbers of the drill
+abbrev pub IfDrill : Option Command → (ℕ → ℕ → Type 0) → Type 0
+IfDrill (Some (Drill first count)) holds = holds first count
+IfDrill command holds = Unit {0}
+
+-- THE DAY WAS DRILLED, by the status.
+abbrev pub DrilledBy : Status → (Result ⊤ PrintError → Type 0) → Type 0
+DrilledBy status drilled =
+    (answer : Result ⊤ PrintError) × (status ≡ drilled_status answer) × drilled answer

@@ -10,6 +10,10 @@ use Rattle.gateway_serve.specs.declared.error.ServeError.{ServeError}
 use Rattle.gateway_serve.specs.declared.error.ServeError.TheVariants as serves
 use Rattle.journal_show.specs.declared.journal_lines.ShowError.{ShowError}
 use Rattle.journal_show.specs.declared.journal_lines.ShowError.TheVariants as shows
+use Rattle.capture_replay.specs.declared.error.ReplayError.{ReplayError}
+use Rattle.capture_replay.specs.declared.error.ReplayError.TheVariants as replays
+use Rattle.replay_lines.specs.declared.printing.PrintError.{PrintError}
+use Rattle.replay_lines.specs.declared.printing.PrintError.TheVariants as prints
 use Rattle.gateway_top.specs.Line.{LF}
 use Rattle.gateway_top.specs.declared.status.Status.{Status}
 use Rattle.gateway_top.specs.declared.status.Status.TheVariants.{Done, Refused, Usage, InputFault}
@@ -17,7 +21,7 @@ use Rattle.gateway_top.specs.declared.status.Status.TheVariants.{OutputFault, No
 use Rattle.gateway_top.specs.declared.status.Status.TheVariants.{InputTooLong, ConfigRefused}
 use Rattle.gateway_top.specs.declared.status.Status.TheVariants.{DiskFault, JournalRefused}
 use Rattle.gateway_top.specs.declared.status.Status.TheVariants.{NamesDiffer, JournalFull}
-use Rattle.gateway_top.specs.declared.status.Status.TheVariants.{NumbersSpent}
+use Rattle.gateway_top.specs.declared.status.Status.TheVariants.{NumbersSpent, CaptureRefused}
 
 abbrev pub code_of : Status → ℕ
 code_of Done = 0
@@ -31,6 +35,7 @@ code_of (JournalRefused at) = 7
 code_of (NamesDiffer kept given) = 7
 code_of JournalFull = 8
 code_of (NumbersSpent side) = 9
+code_of (CaptureRefused line) = 10
 code_of NoMemory = 11
 code_of InputTooLong = 12
 
@@ -58,6 +63,7 @@ status_line (NamesDiffer kept given) = codes "journal has other names"
 status_line JournalFull = codes "journal full"
 status_line (NumbersSpent Client) = codes "numbers spent client"
 status_line (NumbersSpent Venue) = codes "numbers spent venue"
+status_line (CaptureRefused line) = codes "capture line " ++ decimal line
 status_line NoMemory = codes "out of memory"
 status_line InputTooLong = codes "input too long"
 
@@ -98,6 +104,17 @@ status_of_show (shows.JournalRefused at) = JournalRefused at
 status_of_show shows.OutputFault = OutputFault
 status_of_show shows.NoMemory = NoMemory
 
+abbrev pub status_of_replay : ReplayError → Status
+status_of_replay replays.InputFault = InputFault
+status_of_replay replays.InputTooLong = InputTooLong
+status_of_replay (replays.CaptureRefused line) = CaptureRefused line
+status_of_replay replays.OutputFault = OutputFault
+status_of_replay replays.NoMemory = NoMemory
+
+abbrev pub status_of_print : PrintError → Status
+status_of_print prints.OutputFault = OutputFault
+status_of_print prints.NoMemory = NoMemory
+
 -- of `serve`
 abbrev pub served_status : Result LifeEnd ServeError → Status
 served_status (Ok end) = status_of_life end
@@ -107,3 +124,13 @@ served_status (Err error) = status_of_error error
 abbrev pub shown_status : Result ⊤ ShowError → Status
 shown_status (Ok done) = Done
 shown_status (Err error) = status_of_show error
+
+-- of `replay`
+abbrev pub replayed_status : Result ⊤ ReplayError → Status
+replayed_status (Ok done) = Done
+replayed_status (Err error) = status_of_replay error
+
+-- of `drill`
+abbrev pub drilled_status : Result ⊤ PrintError → Status
+drilled_status (Ok done) = Done
+drilled_status (Err error) = status_of_print error

@@ -1,14 +1,21 @@
 //! The forms of the command line.
 
-ghost use Rattle.std.specs.Prelude.{◌≡◌, map};
+ghost use Rattle.std.specs.Prelude.{◌≡◌, ◌≤◌, ◌<◌, ◌^◌, map, IfSome};
 ghost use Rattle.std.specs.String.{string_bytes};
-ghost use Rattle.gateway_top.specs.Command.{command_of, are_rounds, rounds_of};
+ghost use Rattle.gateway_top.specs.Command.{command_of, is_between, number_in, drill_of};
+ghost use Rattle.gateway_top.specs.Command.{IsWithin};
 
 use crate::task::Task;
 use itoa::Buffer;
 
 /// The most rounds of a life.
 pub const MAX_ROUNDS: u64 = 1_000_000_000;
+
+/// The most that a drill is made from.
+pub const MAX_FIRST: u64 = 65_536;
+
+/// The most orders of a drill.
+pub const MAX_COUNT: u64 = 10_000;
 
 /// What the words of the command line ask for.
 #[derive(Clone, Copy, Debug, PartialEq, Eq)]
@@ -23,24 +30,28 @@ pub enum Command {
     Serve(u64),
     /// `show`: the entries of the journal as lines.
     Show,
+    /// `replay`: the lives of a capture.
+    Replay,
+    /// `drill FIRST COUNT`: a day of so many orders, made from that number.
+    Drill { first: u64, count: u32 },
 }
 
-/// Whether a word is this number of rounds: its digits without a zero in front, from 1 to
-/// 1,000,000,000.
-fn are_rounds(rounds: u64, word: &str) -> bool
-    ensures { result ≡ are_rounds rounds word.now }
+/// Whether a word is this number: its digits, without a zero in front, within these bounds.
+fn is_between(least: u64, most: u64, number: u64, word: &str) -> bool
+    ensures { result ≡ is_between least most number word.now }
 {
-    word == Buffer::new().format(rounds) && 1 <= rounds && rounds <= MAX_ROUNDS
+    word == Buffer::new().format(number) && least <= number && number <= most
 }
 
-/// The number of rounds of a word, if it is one.
-fn rounds_of(word: &str) -> Option<u64>
-    ensures { result ≡ rounds_of word.now }
+/// The number of a word, if it is one within these bounds.
+fn number_in(least: u64, most: u64, word: &str) -> Option<u64>
+    ensures number { result ≡ number_in least most word.now }
+    ensures bounds { IfSome result (λ number. (least ≤ number) × (number ≤ most)) }
 {
     match word.parse::<u64>() {
-        Ok(rounds) => {
-            if are_rounds(rounds, word) {
-                Some(rounds)
+        Ok(number) => {
+            if is_between(least, most, number, word) {
+                Some(number)
             } else {
                 None
             }
@@ -49,14 +60,29 @@ fn rounds_of(word: &str) -> Option<u64>
     }
 }
 
+/// The drill of these two words, if they are its numbers.
+fn drill_of(first: &str, count: &str) -> Option<Command>
+    ensures drill { result ≡ drill_of first.now count.now }
+    ensures within { IfSome result IsWithin }
+{
+    let first = number_in(0, MAX_FIRST, first)?;
+    let count = number_in(1, MAX_COUNT, count)?;
+    Some(Command::Drill {
+        first,
+        count: count as u32,
+    })
+}
+
 /// The command of these words; `None` where they are none of the forms.
 pub(crate) fn read_command(words: &[String]) -> Option<Command>
-    ensures { result ≡ command_of (map string_bytes words.now) }
+    ensures command { result ≡ command_of (map string_bytes words.now) }
+    ensures within { IfSome result IsWithin }
 {
     match words {
         [word] if word.as_str() == "--help" => Some(Command::Help),
         [word] if word.as_str() == "--version" => Some(Command::Version),
         [word] if word.as_str() == "show" => Some(Command::Show),
+        [word] if word.as_str() == "replay" => Some(Command::Replay),
         [first, second] if first.as_str() == "translate" && second.as_str() == "up" => {
             Some(Command::Stream(Task::TranslateUp))
         }
@@ -70,7 +96,10 @@ pub(crate) fn read_command(words: &[String]) -> Option<Command>
             Some(Command::Stream(Task::CheckVenue))
         }
         [first, second] if first.as_str() == "serve" => {
-            rounds_of(second.as_str()).map(Command::Serve)
+            number_in(1, MAX_ROUNDS, second.as_str()).map(Command::Serve)
+        }
+        [first, second, third] if first.as_str() == "drill" => {
+            drill_of(second.as_str(), third.as_str())
         }
         _ => None,
     }

@@ -9,21 +9,26 @@ ghost use Rattle.gate_log.specs.Log.{OnlyReads};
 ghost use Rattle.wires.specs.Wire.{is_within};
 ghost use Rattle.gateway_life.specs.Watched.{TapsSaw, state_by};
 ghost use Rattle.gateway_serve.specs.Serve.{Lived};
+ghost use Rattle.capture_replay.specs.Input.{Replayed};
+ghost use Rattle.capture_replay.specs.Drills.{Drills};
 ghost use Rattle.gateway_top.specs.Command.{command_of, calls_input, calls_output, calls_disk};
-ghost use Rattle.gateway_top.specs.Command.{calls_wires};
+ghost use Rattle.gateway_top.specs.Command.{calls_taps, calls_wires};
 ghost use Rattle.gateway_top.specs.Program.{Wrote, Does, ReadsToEnd, IfServe, ServedBy, IfShow};
-ghost use Rattle.gateway_top.specs.Program.{ShownBy};
-ghost use Rattle.gateway_top.specs.Status.{served_status, shown_status};
+ghost use Rattle.gateway_top.specs.Program.{ShownBy, IfReplay, ReplayedBy, IfDrill, DrilledBy};
+ghost use Rattle.gateway_top.specs.Status.{served_status, shown_status, replayed_status};
+ghost use Rattle.gateway_top.specs.Status.{drilled_status};
 
 use crate::Status;
 use crate::command::{Command, read_command};
 use crate::pass::put_text;
 use crate::stream::run_stream;
+use capture_replay::{ReplayError, drill, replay_input};
 use drop_taps::Tap;
 use gateway_life::LifeEnd;
 use gateway_serve::{ServeError, serve};
 use journal_show::{ShowError, show};
 use outside::{Disk, Sink, Source};
+use replay_lines::PrintError;
 use std::alloc::Global;
 use wires::{Clock, Wire};
 
@@ -31,7 +36,7 @@ use wires::{Clock, Wire};
 const HELP: &str = "\
 fixgate is a gateway from a trading client of FIX 4.2 to a venue of FIX 5.0 SP2
 over FIXT 1.1: it serves both sessions, translates and checks streams of
-messages, and shows its journal.
+messages, replays captures and shows its journal.
 
 Usage: fixgate [OPTIONS] COMMAND
 
@@ -46,6 +51,11 @@ Usage: fixgate [OPTIONS] COMMAND
   check client    reads a stream of FIX 4.2 and prints a line for each frame and
                   each garbled piece, with the first fault of each request
   check venue     the same of a stream of FIXT 1.1 and of each report
+  replay          reads a capture from standard input, lives its lives over a
+                  journal in memory, and prints what was written in each
+  drill FIRST COUNT
+                  lives a day of COUNT orders, 1 to 10,000, that is made from the
+                  number FIRST, 0 to 65,536, and prints a summary
   --help          prints this text
   --version       prints the version
 
@@ -74,13 +84,14 @@ Exit status:
    7  the journal is refused, or has other names than the configuration
    8  the journal is full
    9  the numbers of a session are spent
+  10  the capture: its first line that is wrong is printed
   11  out of memory
   12  the input has more than 67,108,864 bytes
 On any status but 0 a line with the reason goes to standard error.
 ";
 
 /// What `--version` prints.
-const VERSION: &str = "fixgate 0.4.0\n";
+const VERSION: &str = "fixgate 0.5.0\n";
 
 /// Writes a text.
 fn write_text<O: Sink>(out: &mut O, text: &str) -> Status
@@ -108,6 +119,26 @@ fn of_serve(answer: Result<LifeEnd, ServeError>) -> Status
 /// The status of what `show` answers.
 fn of_show(answer: Result<(), ShowError>) -> Status
     ensures { result ≡ shown_status answer }
+{
+    match answer {
+        Ok(()) => Status::Done,
+        Err(error) => Status::from(error),
+    }
+}
+
+/// The status of what `replay` answers.
+fn of_replay(answer: Result<(), ReplayError>) -> Status
+    ensures { result ≡ replayed_status answer }
+{
+    match answer {
+        Ok(()) => Status::Done,
+        Err(error) => Status::from(error),
+    }
+}
+
+/// The status of what `drill` answers.
+fn of_drill(answer: Result<(), PrintError>) -> Status
+    ensures { result ≡ drilled_status answer }
 {
     match answer {
         Ok(()) => Status::Done,
@@ -179,6 +210,18 @@ pub fn run<I: Source, O: Sink, D: Disk, C: Wire, V: Wire, K: Clock>(
     ensures only_reads { IfShow (command_of (map string_bytes words.now))
         (OnlyReads D.bytes D.image disk.old disk.new) }
 
+    // What `replay` read, and the lives of the capture that it is read as.
+    ensures replays { IfReplay (command_of (map string_bytes words.now))
+        ((taken : List ℕ) × Consumes (I.left input.old) (I.left input.new) taken
+        × ReplayedBy result (λ answer. Replayed
+        (state_by has_failed entries tally counts_all) taken (I.left input.new)
+        taps.old.items taps.new.items answer (O.bytes out.old) (O.bytes out.new))) }
+
+    // What `drill` lived and put.
+    ensures drills { IfDrill (command_of (map string_bytes words.now)) (λ first count.
+        DrilledBy result (λ answer. Drills (state_by has_failed entries tally counts_all)
+        first count taps.old.items taps.new.items answer (O.bytes out.old) (O.bytes out.new))) }
+
     // What a command does not call is as it was.
     ensures input_alone { calls_input (command_of (map string_bytes words.now)) ≡ false
         → input.new ≡ input.old }
@@ -192,7 +235,7 @@ pub fn run<I: Source, O: Sink, D: Disk, C: Wire, V: Wire, K: Clock>(
         → venue.new ≡ venue.old }
     ensures clock_alone { calls_wires (command_of (map string_bytes words.now)) ≡ false
         → clock.new ≡ clock.old }
-    ensures taps_alone { calls_wires (command_of (map string_bytes words.now)) ≡ false
+    ensures taps_alone { calls_taps (command_of (map string_bytes words.now)) ≡ false
         → taps.new ≡ taps.old }
 
     ensures input_fault { result ≡ Status.InputFault
@@ -212,6 +255,8 @@ pub fn run<I: Source, O: Sink, D: Disk, C: Wire, V: Wire, K: Clock>(
             alloc, rounds, input, disk, client, venue, clock, taps,
         )),
         Some(Command::Show) => of_show(show(alloc, disk, out)),
+        Some(Command::Replay) => of_replay(replay_input(alloc, input, out, taps)),
+        Some(Command::Drill { first, count }) => of_drill(drill(alloc, first, count, out, taps)),
         Some(Command::Help) => write_text(out, HELP),
         Some(Command::Version) => write_text(out, VERSION),
         None => Status::Usage,

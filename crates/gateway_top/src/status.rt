@@ -2,13 +2,16 @@
 
 ghost use Rattle.std.specs.Prelude.{◌≡◌};
 ghost use Rattle.gateway_top.specs.Status.{code_of, end_of, status_of_life, status_of_error};
-ghost use Rattle.gateway_top.specs.Status.{status_of_show, key_name};
+ghost use Rattle.gateway_top.specs.Status.{status_of_show, status_of_replay, status_of_print};
+ghost use Rattle.gateway_top.specs.Status.{key_name};
 
+use capture_replay::ReplayError;
 use gateway_config::ConfigKey;
 use gateway_life::LifeEnd;
 use gateway_serve::ServeError;
 use journal_show::ShowError;
 use order_meaning::{Names, Side};
+use replay_lines::PrintError;
 use std::fmt;
 use std::marker::Model;
 
@@ -37,6 +40,8 @@ pub enum Status {
     JournalFull,
     /// A message would take a number of this side past 999,999,999.
     NumbersSpent { side: Side },
+    /// This line of the capture is the first with which none goes on, counted from 1.
+    CaptureRefused { line: u32 },
     /// Memory was refused.
     NoMemory,
     /// The input has more than 67,108,864 bytes.
@@ -79,6 +84,7 @@ impl fmt::Display for Status {
             Status::JournalFull => write!(f, "journal full"),
             Status::NumbersSpent { side: Side::Client } => write!(f, "numbers spent client"),
             Status::NumbersSpent { side: Side::Venue } => write!(f, "numbers spent venue"),
+            Status::CaptureRefused { line } => write!(f, "capture line {line}"),
             Status::NoMemory => write!(f, "out of memory"),
             Status::InputTooLong => write!(f, "input too long"),
         }
@@ -127,6 +133,31 @@ impl From<ShowError> for Status {
     }
 }
 
+impl From<ReplayError> for Status {
+    ghost from_gives = { λ error status. status ≡ status_of_replay error };
+
+    fn from(error: ReplayError) -> Status {
+        match error {
+            ReplayError::InputFault => Status::InputFault,
+            ReplayError::InputTooLong => Status::InputTooLong,
+            ReplayError::CaptureRefused { line } => Status::CaptureRefused { line },
+            ReplayError::OutputFault => Status::OutputFault,
+            ReplayError::NoMemory => Status::NoMemory,
+        }
+    }
+}
+
+impl From<PrintError> for Status {
+    ghost from_gives = { λ error status. status ≡ status_of_print error };
+
+    fn from(error: PrintError) -> Status {
+        match error {
+            PrintError::OutputFault => Status::OutputFault,
+            PrintError::NoMemory => Status::NoMemory,
+        }
+    }
+}
+
 /// The exit status of the program for a status of the run.
 pub fn code(status: &Status) -> u8
     ensures { result ≡ code_of status.now }
@@ -142,6 +173,7 @@ pub fn code(status: &Status) -> u8
         Status::JournalRefused { .. } | Status::NamesDiffer { .. } => 7,
         Status::JournalFull => 8,
         Status::NumbersSpent { .. } => 9,
+        Status::CaptureRefused { .. } => 10,
         Status::NoMemory => 11,
         Status::InputTooLong => 12,
     }

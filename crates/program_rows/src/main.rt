@@ -27,7 +27,7 @@ fn another(alloc: Global, row: &Row<'_>) -> Result<Option<String>, AllocError> {
 }
 
 /// One of each status but that of other names, which a row shows.
-const STATUSES: [Status; 12] = [
+const STATUSES: [Status; 13] = [
     Status::Done,
     Status::Refused { at: 143 },
     Status::Usage,
@@ -40,6 +40,7 @@ const STATUSES: [Status; 12] = [
     Status::JournalRefused { at: 161 },
     Status::JournalFull,
     Status::NumbersSpent { side: Side::Venue },
+    Status::CaptureRefused { line: 5 },
     Status::NoMemory,
     Status::InputTooLong,
 ];

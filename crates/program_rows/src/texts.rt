@@ -18,6 +18,9 @@ fn put_text(bytes: &mut Vec<u8>, text: &str) -> Result<(), AllocError> {
         match byte {
             b'|' => bytes.push(1)?,
             b'~' => bytes.push(b'\n')?,
+            b'!' => bytes.push(b'|')?,
+            b'^' => bytes.push(b'>')?,
+            b'%' => bytes.push(b'*')?,
             b'<' => bytes.extend_from_slice(ORDER.as_bytes())?,
             b'>' => bytes.extend_from_slice(UP.as_bytes())?,
             byte => bytes.push(byte)?,
@@ -36,7 +39,7 @@ fn repeat_last(bytes: &mut Vec<u8>, number: &str) -> Result<(), AllocError> {
 }
 
 /// The bytes of a text, in which `|` stands for SOH, `~` for a new line, `x*40*` for 40 times `x`,
-/// and `<` and `>` for an order and what the venue takes.
+/// `<` and `>` for an order and what the venue takes, and `!`, `^` and `%` for `|`, `>` and `*`.
 pub(crate) fn wire(alloc: Global, text: &str) -> Result<Vec<u8>, AllocError> {
     let mut bytes = Vec::new(alloc);
     let mut is_text = true;

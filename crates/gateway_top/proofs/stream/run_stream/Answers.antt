@@ -3,6 +3,7 @@ use Rattle.std.proofs.Common.{inl, take, length, arith, length-take, length-appe
 use Rattle.std.specs.Prelude.{◌==◌}
 use Rattle.std.proofs.lemmas.Bool.Decides.{nat_tests}
 use Rattle.std.proofs.KnownBytes.{Appends-nil, Appends-trans, Consumes-nil}
+use Rattle.outside.proofs.Fronts.{appended_front}
 use Rattle.frame_grammar.specs.declared.frame.Kind.{Kind}
 use Rattle.frame_grammar.specs.Cut.{Cut}
 use Rattle.frame_grammar.specs.Framer.{EndsIn, place_after}
@@ -11,7 +12,7 @@ use Rattle.gateway_top.specs.Pass.{Advances, Ends}
 use Rattle.gateway_top.specs.Task.{has_ended, stops}
 use Rattle.gateway_top.proofs.Midway.{waits_at_start, midway_more, consumed_more, consumed_all}
 use Rattle.gateway_top.proofs.Midway.{too_long, no_memory, consumed_still, input_failed, stopped}
-use Rattle.gateway_top.proofs.Midway.{said_now, ran_to_end, appended_front}
+use Rattle.gateway_top.proofs.Midway.{said_now, ran_to_end}
 use Rattle.gateway_top.proofs.stream.run_stream.Goals as goal
 
 -- so many bytes of a buffer that has them
