@@ -18,8 +18,6 @@ mod parting;
 mod stop_file;
 mod system;
 mod teller;
-#[cfg(test)]
-mod tests;
 mod venue_connector;
 mod waiting_clock;
 
