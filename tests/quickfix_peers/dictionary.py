@@ -29,7 +29,8 @@ def text_of(folder, name):
 
 
 def body(lines):
-    """The members of a class from the line behind its head: (name, members of the group or None)."""
+    """The members of a class from the line behind its head: the name of each, and the members of
+    its group or None."""
     members = []
     for line in lines:
         if ENDED.match(line):

@@ -6,7 +6,7 @@
 // Both go on until their input ends. At each line of its input the venue stops and starts again,
 // from what its store has. A line goes to the output for each logon and logout, for each
 // message of the application when it is sent for the first time (>) or taken (<), with | for SOH,
-// and for each Reject that is said or taken (!).
+// for each Reject that is said or taken (!), and where all orders are sent.
 //
 // What becomes of an order is said by the last digit of its ClOrdID:
 //   0, 5  it is filled in two parts, told with parties and contra brokers
