@@ -6,6 +6,7 @@ use crate::Kind;
 use crate::frame::SOH;
 
 /// `8=`, the BeginString of a kind and SOH.
+#[inline(always)]
 pub fn begin_string_of(kind: Kind) -> &'static [u8]
     ensures { result.now ≡ begin_string kind }
 {

@@ -1,9 +1,11 @@
 //! The scan of what stands at the front of the unread bytes: rule by rule, as `Found` defines it.
-ghost use Rattle.std.specs.List.{list_any};
+ghost use Rattle.std.specs.List.{list_all, list_any, zip};
+ghost use Rattle.std.specs.Str.{bytes_eq};
 ghost use Rattle.std.specs.Prelude.{◌==◌, ◌≡◌, ◌+◌, ◌≤◌, ◌++◌, List, ℕ, length, take, drop};
 ghost use Rattle.std.specs.Prelude.{if◌then◌else◌, OnOk, Ok};
 ghost use Rattle.frame_grammar.specs.Found.{Found, Whole, found, expect, expect_sum, found_body};
 ghost use Rattle.frame_grammar.specs.Found.{found_said, found_trailer};
+ghost use Rattle.frame_grammar.specs.Frame.{begin_string};
 ghost use Rattle.frame_grammar.specs.Scan.{Leads, ReadsLength, IsFound};
 
 use crate::buffer::{Buffer, CAPACITY};
@@ -44,13 +46,27 @@ pub(crate) fn scan_front(kind: Kind, buffer: &Buffer) -> Result<Front, Stop>
     ensures { IsFound result buffer.now.unread (found kind buffer.now.unread) }
 {
     let bytes = buffer.unread();
-    let begin = begin_string_of(kind);
-    expect_text(begin, bytes, Garble::BeginString)?;
-    let tag = begin.len();
+    expect_begin(kind, bytes)?;
+    let tag = begin_string_of(kind).len();
     expect_text(b"9=", &bytes[tag..], Garble::LengthField)?;
     let start = tag + 2;
     let field = read_length(&bytes[start..])?;
     scan_said(buffer, start, field)
+}
+
+// The BeginString of a kind has to come. Each kind is compared by itself, as a text of known length.
+#[inline(always)]
+fn expect_begin(kind: Kind, bytes: &[u8]) -> Result<(), Stop>
+    ensures leads { (go : List ℕ → Found) → Leads result
+        (expect (begin_string kind) Garble.BeginString go bytes.now)
+        (go (drop (length (begin_string kind)) bytes.now)) }
+    ensures came { OnOk result
+        (take (length (begin_string kind)) bytes.now ≡ begin_string kind) }
+{
+    match kind {
+        Kind::Fix42 => expect_text(begin_string_of(Kind::Fix42), bytes, Garble::BeginString),
+        Kind::Fixt11 => expect_text(begin_string_of(Kind::Fixt11), bytes, Garble::BeginString),
+    }
 }
 
 // BodyLength has ended, and is judged.
@@ -132,13 +148,30 @@ fn scan_trailer(buffer: &Buffer, end: usize) -> Result<(), Stop>
     expect_text(&trailer[6..], &bytes[end + 6..], Garble::Trailer)
 }
 
+// Whether each byte of a text stands in its place.
+#[inline(always)]
+fn stand(text: &[u8], bytes: &[u8]) -> bool
+    ensures { result ≡ list_all (λ pair. pair.0 == pair.1) (zip text.now bytes.now) }
+{
+    text.iter().zip(bytes).all(|(want, byte)| *want == *byte)
+}
+
+// Whether bytes begin with a text, which is short and is compared byte by byte.
+#[inline(always)]
+fn begins(text: &[u8], bytes: &[u8]) -> bool
+    ensures { result ≡ bytes_eq text.now (take (length text.now) bytes.now) }
+{
+    bytes.len() >= text.len() && stand(text, bytes)
+}
+
 // This text has to come, or this rule is broken.
+#[inline(always)]
 fn expect_text(text: &[u8], bytes: &[u8], rule: Garble) -> Result<(), Stop>
     ensures leads { (go : List ℕ → Found) →
         Leads result (expect text.now rule go bytes.now) (go (drop (length text.now) bytes.now)) }
     ensures came { OnOk result (take (length text.now) bytes.now ≡ text.now) }
 {
-    if bytes.starts_with(text) {
+    if begins(text, bytes) {
         Ok(())
     } else if text.starts_with(bytes) {
         Err(Stop::More)
