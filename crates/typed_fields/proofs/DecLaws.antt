@@ -2,7 +2,7 @@
 use Rattle.std.proofs.Common.{◌≡◌, ◌==◌, ◌&&◌, not, if◌then◌else◌, ℕ, zero, suc, ◌+◌, ◌-◌, ◌*◌, ◌/◌}
 use Rattle.std.proofs.Common.{◌%◌, ◌^◌, ◌<◌, ◌≤◌, nat_le, Bool, true, false, List, [], ◌∷◌, ◌++◌}
 use Rattle.std.proofs.Common.{length, take, drop, replicate, Ok, refl, sym, ap, ◌∙◌, arith, ℤ, pos}
-use Rattle.std.proofs.Common.{negsuc, unsigned_abs}
+use Rattle.std.proofs.Common.{negsuc, unsigned_abs, subst}
 use Rattle.std.specs.Char.{is_ascii_digit}
 use Rattle.std.specs.Fmt.{decimal}
 use Rattle.std.specs.Int.{is_negative}
@@ -10,7 +10,7 @@ use Rattle.std.specs.List.{list_all, position_or_len, before_first, after_first}
 use Rattle.std.proofs.lemmas.Bool.Decides.{nat_tests}
 use Rattle.std.proofs.lemmas.List.{length-append, length-take, length-drop, take_at, drop_at}
 use Rattle.std.proofs.lemmas.List.{drop-drop, append-nil, append_assoc, take-append-drop}
-use Rattle.std.proofs.lemmas.List.{length-replicate}
+use Rattle.std.proofs.lemmas.List.{length-replicate, take_all}
 use Rattle.std.proofs.lemmas.Nat.{div-mul-add, mod-mul-add, pow-add, mul-le}
 use Rattle.std.proofs.Math.Nat.{mul-lt-mul_of_pos_right}
 use Rattle.typed_fields.specs.declared.dec.Dec.{Dec}
@@ -28,7 +28,7 @@ use Rattle.typed_fields.proofs.SpellingLemmas.{digit_bounds, power_some, length-
 use Rattle.typed_fields.proofs.SpellingLemmas.{are_digits-zero_padded, number_of-zero_padded}
 use Rattle.typed_fields.proofs.NumberLaws.{decimal-number_of, number_of-leading, or_zero_some}
 use Rattle.typed_fields.proofs.NumberLaws.{are_digits-or_zero}
-use Rattle.typed_fields.proofs.DecLemmas.{read_dec-good, units_of-is}
+use Rattle.typed_fields.proofs.DecLemmas.{read_dec-good, units_of-is, units_of-lt, IsDec-units_of}
 
 -- a digit is no point and no minus sign
 digit_is_other : (c : ℕ) → is_ascii_digit c ≡ true → ((c == 46) ≡ false) × ((c == 45) ≡ false)
@@ -477,6 +477,78 @@ trailing_shorter ds =
     let long : length ds ≡ length (without_trailing_zeros ds) + part.k =
     ap length part.same ∙ simp (length-append, length-replicate) in
     omega (arith, long)
+
+-- at most eight digits behind a point are less than one
+pub behind_small : (rest : List ℕ) (places fraction : ℕ) → are_digits (take places rest) ≡ true
+    → places ≤ length rest → places ≤ 8 → fraction ≡ number_of (take places rest)
+    → fraction * 10 ^ (8 - places) < 10 ^ 8
+behind_small rest places fraction digits within few is =
+    let f = take places rest in
+    let long : length f ≡ places = simp length-take (omega (arith, within)) in
+    let parts = (units-parts [] f digits (omega (arith, long, few))).1 in
+    let small : number_of f * 10 ^ (8 - length f) < 10 ^ 8 = omega (arith, parts) in
+    let small_there : number_of f * 10 ^ (8 - places) < 10 ^ 8 = rw long at small in
+    rw is small_there
+
+-- what stands from a place on
+pub rest_of : (bytes : List ℕ) (n : ℕ) → take (length bytes - n) (drop n bytes) ≡ drop n bytes
+rest_of bytes n = take_all (length bytes - n) (drop n bytes) (simp length-drop (omega arith))
+
+-- digits, of which at most eight stand behind a point, are read as they stand
+pub record ReadsPlain (bytes : List ℕ) (units : ℕ) : Type 0 where
+  pub value : read_dec bytes ≡ Ok (record { units = pos units })
+  pub bound : IsDec (record { units = pos units })
+  pub small : units < 10 ^ 23
+
+reads_plain : (w f : List ℕ) → are_digits w ≡ true → are_digits f ≡ true → 0 < length w
+    → length w + length f ≤ 15 → length f ≤ 8 → ReadsPlain (w ++ with_point f) (units_of w f)
+reads_plain w f h k some few places =
+    let shorter_w = leading_shorter w in
+    let shorter_f = trailing_shorter f in
+    record {
+      value = read_spelled false w f h k some (omega (arith, few)) places
+          (omega (arith, few, shorter_w, shorter_f)) (omega (arith, places, shorter_f))
+          ∙ ap (λ (n : ℕ). Ok (record { units = pos n }))
+          (leading_units w (without_trailing_zeros f) ∙ trailing_units w f places);
+      bound = IsDec-units_of false w f h k few places;
+      small = units_of-lt w f h k few places;
+    }
+
+-- the same of digits alone
+pub whole_plain : (bytes : List ℕ) (n whole : ℕ) → n ≡ length bytes → 0 < n → n ≤ 15
+    → are_digits (take n bytes) ≡ true → whole ≡ number_of (take n bytes)
+    → ReadsPlain bytes (whole * 10 ^ 8)
+unfolding number_of are_digits
+whole_plain bytes n whole all some few digits is =
+    let same : take n bytes ≡ bytes = take_all n bytes (omega (arith, all)) in
+    let plain : ReadsPlain (bytes ++ []) (units_of bytes []) =
+    reads_plain bytes [] (rw same at digits) refl (omega (arith, all, some))
+    (omega (arith, all, few)) (omega arith) in
+    let units : units_of bytes [] ≡ whole * 10 ^ 8 =
+    let number : whole ≡ number_of bytes = rw same at is in omega (arith, number) in
+    subst (λ (n : ℕ). ReadsPlain bytes n) units
+    (subst (λ (b : List ℕ). ReadsPlain b (units_of bytes [])) (append-nil bytes) plain)
+
+-- the same of digits on both sides of a point
+pub point_plain : (bytes rest : List ℕ) (n whole places behind : ℕ) → rest ≡ drop n bytes
+    → n ≤ length bytes → 0 < n → are_digits (take n bytes) ≡ true
+    → whole ≡ number_of (take n bytes) → rest ≡ with_point (drop 1 rest)
+    → are_digits (drop 1 rest) ≡ true → places ≡ length (drop 1 rest) → places ≤ 8
+    → n + places ≤ 15 → behind ≡ number_of (drop 1 rest) * 10 ^ (8 - places)
+    → ReadsPlain bytes (whole * 10 ^ 8 + behind)
+point_plain bytes rest n whole places behind there within some digits is point fraction long few
+    most units =
+    let w = take n bytes in
+    let f = drop 1 rest in
+    let long_w : length w ≡ n = simp length-take (omega (arith, within)) in
+    let plain : ReadsPlain (w ++ with_point f) (units_of w f) =
+    reads_plain w f digits fraction (omega (arith, long_w, some))
+    (omega (arith, long_w, long, most)) (omega (arith, long, few)) in
+    let text : w ++ with_point f ≡ bytes =
+    ap (λ (back : List ℕ). w ++ back) (sym point ∙ there) ∙ take-append-drop n bytes in
+    let same : units_of w f ≡ whole * 10 ^ 8 + behind = rw (is, units, long) refl in
+    subst (λ (n : ℕ). ReadsPlain bytes n) same
+    (subst (λ (b : List ℕ). ReadsPlain b (units_of w f)) text plain)
 
 -- a number that can be read has a spelling: its fifteen digits with the point between them
 some_spelling : (d : Dec) → IsDec d → (v : List ℕ) × (read_dec v ≡ Ok d)

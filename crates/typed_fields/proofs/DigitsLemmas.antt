@@ -2,7 +2,7 @@
 use Rattle.std.proofs.Common.{if◌then◌else◌, inl, inr, ◌≡◌, ◌==◌, ◌&&◌, slice_range, ℕ, zero, suc}
 use Rattle.std.proofs.Common.{◌+◌, ◌-◌, ◌*◌, ◌/◌, ◌%◌, ◌^◌, ◌<◌, ◌≤◌, Bool, true, false, List, []}
 use Rattle.std.proofs.Common.{◌∷◌, ◌++◌, length, get_or, take, drop, refl, sym, ap, ◌∙◌, arith}
-use Rattle.std.proofs.Common.{rules}
+use Rattle.std.proofs.Common.{rules, nat_le}
 use Rattle.std.specs.Char.{is_ascii_digit, is_ascii_alphabetic}
 use Rattle.std.specs.List.{list_all}
 use Rattle.std.proofs.lemmas.List.{take-take, drop-take, take_more, drop_more, at_drop_more}
@@ -277,6 +277,32 @@ pub are_digits-append : (xs ys : List ℕ)
 unfolding are_digits
 are_digits-append xs ys h k = list_all-append is_ascii_digit xs ys
     ∙ (let e : (list_all is_ascii_digit xs && list_all is_ascii_digit ys) ≡ true = rw (h, k) in e)
+
+-- one more digit at the front, of at most fifteen
+pub record FrontMore (bytes : List ℕ) (i : ℕ) : Type 0 where
+  pub digits : are_digits (take (i + 1) bytes) ≡ true
+  pub number : number_of (take (i + 1) bytes)
+      ≡ 10 * number_of (take i bytes) + (get_or bytes i 0 - 48)
+  pub small : number_of (take i bytes) < 10 ^ 14
+  pub most : get_or bytes i 0 ≤ 57
+
+pub front_more : (bytes : List ℕ) (i : ℕ) → i < length bytes → i < 15
+    → are_digits (take i bytes) ≡ true → is_ascii_digit (get_or bytes i 0) ≡ true
+    → FrontMore bytes i
+unfolding are_digits
+front_more bytes i within few so_far digit =
+    let d = get_or bytes i 0 in
+    let bounds = both_true (nat_le 48 d) (nat_le d 57) digit in
+    let low : 48 ≤ d = grind (arith, nat_tests, bounds.0) in
+    let high : d ≤ 57 = grind (arith, nat_tests, bounds.1) in
+    let one : list_all is_ascii_digit (d ∷ []) ≡ true = rw digit refl in
+    record {
+      digits = rw (take_more bytes i 0 within)
+          (are_digits-append (take i bytes) (d ∷ []) so_far one);
+      number = number_of_more bytes i within low high;
+      small = number_of-lt (take i bytes) 14 so_far (simp length-take (omega (arith, few)));
+      most = high;
+    }
 
 pub are_digits-leading : (ds : List ℕ)
     → are_digits ds ≡ true → are_digits (without_leading_zeros ds) ≡ true

@@ -1,9 +1,10 @@
 //! Decimal numbers.
 
 ghost use Rattle.std.specs.Prelude.{◌≡◌, ◌+◌, ◌/◌, ◌^◌, ◌<◌, ◌≤◌, ◌++◌, unsigned_abs, length};
-ghost use Rattle.std.specs.Prelude.{IsTrue, OnOk, OnErr, IfOk};
+ghost use Rattle.std.specs.Prelude.{◌*◌, ◌-◌, IsTrue, OnOk, OnErr, IfOk, IfSome, Ok, drop, pos};
 ghost use Rattle.std.specs.List.{before_first, after_first, position};
-ghost use Rattle.typed_fields.specs.Digits.{are_digits, without_trailing_zeros, zero_padded};
+ghost use Rattle.typed_fields.specs.Digits.{are_digits, number_of, without_trailing_zeros};
+ghost use Rattle.typed_fields.specs.Digits.{zero_padded};
 ghost use Rattle.typed_fields.specs.Dec.{read_dec, dec_text, IsDec, has_minus, without_minus};
 ghost use Rattle.typed_fields.specs.Dec.{is_point, units_of, signed, sign_text, with_point};
 ghost use Rattle.std.specs.Fmt.{decimal};
@@ -11,7 +12,8 @@ ghost use Rattle.std.specs.Int.{is_negative};
 ghost use Rattle.std.specs.Prelude.{◌%◌, vec_capacity, vec_len};
 
 use crate::digits::{
-    are_digits, eight_digits, four_digits, number, without_leading_zeros, without_trailing_zeros,
+    MAX_DIGITS, are_digits, eight_digits, four_digits, front_digits, number, without_leading_zeros,
+    without_trailing_zeros,
 };
 use crate::fault::FieldFault;
 use crate::value::MAX_SPELLING;
@@ -23,9 +25,6 @@ const ONE: u128 = 100_000_000;
 
 /// The most bytes of a spelling.
 const MAX_BYTES: usize = 32;
-
-/// The most digits that count.
-const MAX_DIGITS: usize = 15;
 
 /// The most of them behind the point.
 const MAX_PLACES: usize = 8;
@@ -120,6 +119,51 @@ fn signed(minus: bool, magnitude: u128) -> i128
     if minus { -magnitude } else { magnitude }
 }
 
+/// A point, and at most eight digits behind it: how many there are, and their units.
+#[inline(always)]
+fn units_behind(bytes: &[u8]) -> Option<(usize, u64)>
+    ensures point { IfSome result (λ behind. bytes.now ≡ with_point (drop 1 bytes.now)) }
+    ensures digits { IfSome result (λ behind. IsTrue (are_digits (drop 1 bytes.now))) }
+    ensures places { IfSome result (λ behind. behind.0 ≡ length (drop 1 bytes.now)) }
+    ensures few { IfSome result (λ behind. behind.0 ≤ MAX_PLACES) }
+    ensures units { IfSome result (λ behind.
+        behind.1 ≡ number_of (drop 1 bytes.now) * 10 ^ (MAX_PLACES - behind.0)) }
+    ensures small { IfSome result (λ behind. behind.1 < 10 ^ 8) }
+{
+    if bytes.first() != Some(&b'.') {
+        return None;
+    }
+    let (places, fraction) = front_digits(&bytes[1..]);
+    if places == 0 || places > MAX_PLACES || bytes.len() != places + 1 {
+        return None;
+    }
+    Some((places, fraction * ten_to(MAX_PLACES - places)))
+}
+
+/// The units of digits, of which at most eight stand behind a point, as most numbers are spelled;
+/// `None` where the bytes are more than that.
+#[inline(always)]
+fn plain_units(bytes: &[u8]) -> Option<u128>
+    ensures value { IfSome result (λ units.
+        read_dec bytes.now ≡ Ok (record { units = pos units })) }
+    ensures bound { IfSome result (λ units. IsDec (record { units = pos units })) }
+    ensures small { IfSome result (λ units. units < 10 ^ 23) }
+{
+    let (len, whole) = front_digits(bytes);
+    if len == 0 {
+        return None;
+    }
+    let units = u128::from(whole) * ONE;
+    if len == bytes.len() {
+        return Some(units);
+    }
+    let (places, behind) = units_behind(&bytes[len..])?;
+    if len + places > MAX_DIGITS {
+        return None;
+    }
+    Some(units + u128::from(behind))
+}
+
 impl Dec {
     /// Reads a decimal number.
     ///
@@ -128,6 +172,19 @@ impl Dec {
     /// `Empty` for no bytes, `Form` for anything but the form, and `Range` for a number with more
     /// digits than the bound has.
     pub fn read(value: &[u8]) -> Result<Dec, FieldFault>
+        ensures value { result ≡ read_dec value.now }
+        ensures bound { IfOk result IsDec }
+    {
+        match plain_units(value) {
+            Some(units) => Ok(Dec {
+                units: signed(false, units),
+            }),
+            None => Dec::read_any(value),
+        }
+    }
+
+    /// Reads a decimal number that may have a sign, and zeros that do not count.
+    fn read_any(value: &[u8]) -> Result<Dec, FieldFault>
         ensures value { result ≡ read_dec value.now }
         ensures bound { IfOk result IsDec }
     {

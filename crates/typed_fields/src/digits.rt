@@ -1,7 +1,7 @@
 //! Texts of digits and the numbers that they spell.
 
 ghost use Rattle.std.specs.Prelude.{◌≡◌, ◌+◌, ◌-◌, ◌^◌, ◌<◌, ◌≤◌, length, slice_range};
-ghost use Rattle.std.specs.Prelude.{IsTrue};
+ghost use Rattle.std.specs.Prelude.{IsTrue, take};
 ghost use Rattle.typed_fields.specs.Digits.{are_digits, number_of, has_mark, have_marks};
 ghost use Rattle.typed_fields.specs.Digits.{has_pattern, zero_padded, without_leading_zeros};
 ghost use Rattle.typed_fields.specs.Digits.{without_trailing_zeros};
@@ -27,6 +27,27 @@ pub(crate) fn number(digits: &[u8]) -> u64
         number = 10 * number + u64::from(*digit - b'0');
     }
     number
+}
+
+/// The most digits that count in a decimal number, and that are read at once.
+pub(crate) const MAX_DIGITS: usize = 15;
+
+/// How many digits stand at the front, and the number that they spell; of more than 15, the first
+/// 15.
+#[inline(always)]
+pub(crate) fn front_digits(bytes: &[u8]) -> (usize, u64)
+    ensures within { result.0 ≤ length bytes.now }
+    ensures few { result.0 ≤ MAX_DIGITS }
+    ensures digits { IsTrue (are_digits (take result.0 bytes.now)) }
+    ensures value { result.1 ≡ number_of (take result.0 bytes.now) }
+{
+    let mut number = 0;
+    let mut len = 0;
+    while len < bytes.len() && len < MAX_DIGITS && bytes[len].is_ascii_digit() {
+        number = 10 * number + u64::from(bytes[len] - b'0');
+        len += 1;
+    }
+    (len, number)
 }
 
 /// The number that the at most four digits from one place to another spell.

@@ -3,7 +3,7 @@ use Rattle.std.specs.List.{before_first, after_first}
 use Rattle.typed_fields.specs.Dec.{is_point, whole_part, fraction_part}
 use Rattle.typed_fields.proofs.DigitsLemmas.{are_digits-leading, are_digits-trailing}
 use Rattle.typed_fields.proofs.DecLemmas.{IsDec-units_of, signed_fits, read_dec-found}
-use Rattle.typed_fields.proofs.dec.Dec.read.Goals as goal
+use Rattle.typed_fields.proofs.dec.Dec.read_any.Goals as goal
 
 pub units_of-requires-clause-whole : goal.units_of-requires-clause-whole
 units_of-requires-clause-whole c =
