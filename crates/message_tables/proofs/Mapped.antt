@@ -14,9 +14,9 @@ use Rattle.message_tables.specs.Tables.{Row, Table, or_else}
 use Rattle.message_tables.specs.Tables.{first_of, tags_of, row_at, rows_of, rows_in}
 use Rattle.message_tables.specs.Tables.{all_rows, tags_in, lines_in}
 use Rattle.message_tables.specs.FirstFault.{once_of, once_in, group_tags_of, group_tags_in}
-use Rattle.message_tables.specs.FirstFault.{is_of_group, is_passed, missing, missing_of}
+use Rattle.message_tables.specs.FirstFault.{is_of_group, is_passed, misplaced, missing, missing_of}
 use Rattle.message_tables.specs.CodeTables.{row_of, group_of, item_of, table_of}
-use Rattle.message_tables.specs.Plain.{lacks, lacks_group}
+use Rattle.message_tables.specs.Plain.{IsWhole, lacks, lacks_group, placed_at}
 use Rattle.message_tables.proofs.Clean.{first_of-map}
 
 pub first_of-same : {X A : Type 0} (f g : X → Option A) (xs : List X)
@@ -155,3 +155,12 @@ module _ {K Kind : Type 0} (kind : K → Kind) where
       ap (λ (tags : List ℕ). lacks fields group.count
       && (list_all (lacks fields) tags && list_all (lacks fields) group.skipped.now))
       (sym (tags_mapped group.rows.now))
+
+  -- a whole group
+  pub whole_mapped : (fields : List Field) (group : CodeGroup K)
+      → IsWhole fields (group_of (λ (k : K). k) group) → IsWhole fields (group_of kind group)
+  whole_mapped fields group whole = record {
+    placed = λ place lt.
+        ap (misplaced (placed_at fields place)) (group_tags_mapped group) ∙ whole.placed place lt;
+    said = missing_item fields (items.Lines group) ∙ whole.said;
+  }

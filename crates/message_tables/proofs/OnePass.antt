@@ -5,26 +5,29 @@ use Rattle.std.proofs.Common.{List, [], ◌∷◌, ◌++◌, length, get_or, tak
 use Rattle.std.proofs.Common.{None, refl, sym, ap, ◌∙◌, arith, one-add}
 use Rattle.std.specs.Prelude.{position, nat_lt, not, ◌==◌, ◌&&◌, ◌||◌, reverse}
 use Rattle.std.specs.Option.{option_map, option_or}
-use Rattle.std.specs.List.{list_any, list_all, flat_map, position_or_len, slice_get}
+use Rattle.std.specs.List.{AllByRecursion, list_any, list_all, flat_map, position_or_len}
+use Rattle.std.specs.List.{slice_get}
 use Rattle.std.proofs.Math.ListN.{set}
 use Rattle.std.proofs.lemmas.List.{get_or-set_other}
 use Rattle.std.proofs.lemmas.List.Folds.{find-append}
-use Rattle.std.proofs.lemmas.Option.{slice_get-get_or}
+use Rattle.std.proofs.lemmas.Option.{get_or_from_slice_get, slice_get-get_or}
 use Rattle.std.proofs.lemmas.Bool.Decides.{nat_tests}
 use Rattle.message_tables.specs.declared.table_fault.TableFault.{TableFault}
 use Rattle.message_tables.specs.declared.table_fault.TableFault.TheVariants as faults
 use Rattle.message_tables.specs.declared.table_fault.Mark.{Mark}
 use Rattle.message_tables.specs.declared.table_fault.Mark.TheVariants as marks
 use Rattle.field_groups.specs.Field.{Field}
-use Rattle.message_tables.specs.Tables.{Row, GroupTags, Item, One, Party, Lines, Table, Judge}
+use Rattle.message_tables.specs.Tables.{Row, RepeatingGroup, GroupTags, Item, One, Party, Lines}
+use Rattle.message_tables.specs.Tables.{Table, Judge}
 use Rattle.message_tables.specs.Tables.{first_of, value_at, has_tag, is_one_of, is_needed}
 use Rattle.message_tables.specs.Tables.{row_at, rows_of, rows_in, all_rows, tags_in}
 use Rattle.message_tables.specs.FirstFault.{twice, once_in, placed_from, group_tags_in}
 use Rattle.message_tables.specs.FirstFault.{group_tags_of, in_groups, misplaced, wrong_version}
 use Rattle.message_tables.specs.FirstFault.{wrong, beyond, Marked, marked, missing_of, missing}
 use Rattle.message_tables.specs.FirstFault.{fault_if, by_row, is_passed, first_fault}
-use Rattle.message_tables.specs.FirstFault.{Placed}
-use Rattle.message_tables.specs.Plain.{is_good, lacks, lacks_group, fits, fits_at, item_fits}
+use Rattle.message_tables.specs.FirstFault.{Placed, place_in}
+use Rattle.message_tables.specs.Plain.{IsLoose, IsWhole, ItemFits, fits, fits_at, is_good, lacks}
+use Rattle.message_tables.specs.Plain.{lacks_group, member_fits, member_fits_at, placed_at}
 use Rattle.message_tables.specs.Plain.{with_place, with_places}
 use Rattle.message_tables.proofs.ByPlace.{no_lines, value_by_place}
 use Rattle.message_tables.proofs.Placed.{none, at, rest_at, passed, ended, has_tag-reverse}
@@ -214,61 +217,73 @@ lacks_listed fields (one ∷ tags) tag h there =
         absurd (let no : not (has_tag tag fields) ≡ true = rw (← same) absent in
         let yes : not true ≡ true = rw there at no in cc)
 
-module _ {Kind : Type 0} (judge : Judge Kind) (fields : List Field) where
-  row_fits : (tag : ℕ) (rows : List (Row Kind)) (row : Row Kind)
-      → list_all (fits judge fields) rows ≡ true → row_at tag rows ≡ Some row
-      → fits judge fields row ≡ true
-  row_fits tag [] row h e = absurd cc
-  row_fits tag (one ∷ rows) row h e =
-      by (one.tag == tag) (row_fits tag rows row (and_right _ _ h)) e
-    where
-      by : (b : Bool) → (row_at tag rows ≡ Some row → fits judge fields row ≡ true)
-          → cond b (Some one) (row_at tag rows) ≡ Some row → fits judge fields row ≡ true
-      by true later e = let same : one ≡ row = cc in rw (← same) (and_left _ _ h)
-      by false later e = later e
+-- a tag of a field at a place is that of a field
+tag_there : (fields : List Field) (i : ℕ) → i < length fields
+    → has_tag (get_or fields i none).0 fields ≡ true
+tag_there [] i lt = absurd (omega (arith, lt))
+tag_there (f ∷ fs) zero lt = here (eqb f.0 f.0) refl
+  where
+    here : (b : Bool) → eqb f.0 f.0 ≡ b → (b || has_tag f.0 fs) ≡ true
+    here true e = refl
+    here false e = absurd (grind (arith, nat_tests))
+tag_there (f ∷ fs) (suc i) lt =
+    here (eqb f.0 (get_or fs i none).0) (tag_there fs i (omega (arith, lt)))
+  where
+    here : (b : Bool) {c : Bool} → c ≡ true → (b || c) ≡ true
+    here true e = refl
+    here false e = e
 
-  -- a row of an item, of a tag that stands
-  item_row_fits : (tag : ℕ) (item : Item Kind) (row : Row Kind)
-      → item_fits judge fields item ≡ true → has_tag tag fields ≡ true
-      → row_at tag (rows_of item) ≡ Some row → fits judge fields row ≡ true
-  item_row_fits tag (One one) row h there e =
-      row_fits tag (one ∷ []) row (rw h refl) e
-  item_row_fits tag (Party role) row h there e = absurd cc
-  item_row_fits tag (Lines group) row h there e =
-      absurd (not_there group.rows (lacks_listed fields (tags_in group).members tag
-      (and_left _ _ (and_right _ _ h)) there) e)
-    where
-      not_there : (rows : List (Row Kind))
-          → is_one_of (map (λ (r : Row Kind). r.tag) rows) tag ≡ false
-          → row_at tag rows ≡ Some row → ⊥
-      not_there [] n e = absurd cc
-      not_there (one ∷ rows) n e = by (one.tag == tag) (not_there rows) n e
-        where
-          by : (b : Bool)
-              → (is_one_of (map (λ (r : Row Kind). r.tag) rows) tag ≡ false
-              → row_at tag rows ≡ Some row → ⊥)
-              → (b || is_one_of (map (λ (r : Row Kind). r.tag) rows) tag) ≡ false
-              → cond b (Some one) (row_at tag rows) ≡ Some row → ⊥
-          by true later n e = absurd cc
-          by false later n e = later n e
+-- a row of a tag passes what all rows pass
+row_passes : {Kind : Type 0} (test : Row Kind → Bool) (tag : ℕ) (rows : List (Row Kind))
+    (row : Row Kind) → list_all test rows ≡ true → row_at tag rows ≡ Some row → test row ≡ true
+row_passes test tag [] row h e = absurd cc
+row_passes test tag (one ∷ rows) row h e =
+    by (one.tag == tag) (row_passes test tag rows row (and_right _ _ h)) e
+  where
+    by : (b : Bool) → (row_at tag rows ≡ Some row → test row ≡ true)
+        → cond b (Some one) (row_at tag rows) ≡ Some row → test row ≡ true
+    by true later e = let same : one ≡ row = cc in rw (← same) (and_left _ _ h)
+    by false later e = later e
+
+module _ {Kind : Type 0} (judge : Judge Kind) (fields : List Field) where
+  -- the first value of a row's tag, if there is one, is good
+  abbrev IsGoodRow : Row Kind → Type 0
+  IsGoodRow row = (value : List ℕ) → value_at row.tag fields ≡ Some value
+      → fits_at judge fields row (Some value) ≡ true
+
+  good_row : (row : Row Kind) → fits judge fields row ≡ true → IsGoodRow row
+  good_row row h value e = rw e at h
+
+  good_member : (row : Row Kind) → member_fits judge fields row ≡ true → IsGoodRow row
+  good_member row h value e = rw e at h
+
+  row_fits : (tag : ℕ) (rows : List (Row Kind)) (row : Row Kind)
+      → list_all (fits judge fields) rows ≡ true → row_at tag rows ≡ Some row → IsGoodRow row
+  row_fits tag rows row h e = good_row row (row_passes (fits judge fields) tag rows row h e)
+
+  -- a row of an item
+  item_row_fits : (tag : ℕ) (item : Item Kind) (row : Row Kind) → ItemFits judge fields item
+      → row_at tag (rows_of item) ≡ Some row → IsGoodRow row
+  item_row_fits tag (One one) row h e = row_fits tag (one ∷ []) row (rw h refl) e
+  item_row_fits tag (Party role) row h e = absurd cc
+  item_row_fits tag (Lines group) row h e =
+      good_member row (row_passes (member_fits judge fields) tag group.rows row h.1 e)
 
   items_row_fits : (tag : ℕ) (items : List (Item Kind)) (row : Row Kind)
-      → list_all (item_fits judge fields) items ≡ true → has_tag tag fields ≡ true
-      → row_at tag (flat_map rows_of items) ≡ Some row → fits judge fields row ≡ true
-  items_row_fits tag [] row h there e = absurd cc
-  items_row_fits tag (item ∷ items) row h there e =
-      by (row_at tag (rows_of item)) refl (items_row_fits tag items row (and_right _ _ h) there)
+      → AllByRecursion (ItemFits judge fields) items
+      → row_at tag (flat_map rows_of items) ≡ Some row → IsGoodRow row
+  items_row_fits tag [] row h e = absurd cc
+  items_row_fits tag (item ∷ items) row h e =
+      by (row_at tag (rows_of item)) refl (items_row_fits tag items row h.1)
       (sym (find-append (λ (r : Row Kind). r.tag == tag) (rows_of item) (flat_map rows_of items))
       ∙ e)
     where
       by : (o : Option (Row Kind)) → row_at tag (rows_of item) ≡ o
-          → (row_at tag (flat_map rows_of items) ≡ Some row → fits judge fields row ≡ true)
-          → option_or o (row_at tag (flat_map rows_of items)) ≡ Some row
-          → fits judge fields row ≡ true
+          → (row_at tag (flat_map rows_of items) ≡ Some row → IsGoodRow row)
+          → option_or o (row_at tag (flat_map rows_of items)) ≡ Some row → IsGoodRow row
       by None n later e = later e
       by (Some one) n later e =
-          let same : one ≡ row = cc in
-          item_row_fits tag item row (and_left _ _ h) there (n ∙ ap Some same)
+          let same : one ≡ row = cc in item_row_fits tag item row h.0 (n ∙ ap Some same)
 
 -- ---- the stages
 
@@ -332,44 +347,97 @@ and_false : (a : Bool) (fault : TableFault) → fault_if (a && false) fault ≡ 
 and_false true fault = refl
 and_false false fault = refl
 
+-- ---- a group of which no field stands
+
+module _ {Kind : Type 0} (fields : List Field) (group : RepeatingGroup Kind)
+    (h : lacks_group fields (tags_in group) ≡ true) where
+  misplaced_none : (p : Placed) → has_tag p.field.0 fields ≡ true
+      → misplaced p (tags_in group) ≡ None
+  misplaced_none p there =
+      let no_member =
+      lacks_listed fields (tags_in group).members p.field.0 (and_left _ _ (and_right _ _ h)) there
+      in
+      let no_skipped =
+      lacks_listed fields (tags_in group).skipped p.field.0 (and_right _ _ (and_right _ _ h)) there
+      in
+      rw (no_count (eqb p.field.0 group.count) refl, no_member, no_skipped) refl
+    where
+      no_count : (b : Bool) → eqb p.field.0 group.count ≡ b → eqb p.field.0 group.count ≡ false
+      no_count false e = e
+      no_count true e =
+          let same : p.field.0 ≡ group.count = grind (arith, nat_tests) in
+          let absent : not (has_tag group.count fields) ≡ true = and_left _ _ h in
+          absurd (let no : not (has_tag p.field.0 fields) ≡ true = rw same absent in
+          let yes : not true ≡ true = rw there at no in cc)
+
+  absent_is_whole : IsWhole fields group
+  unfolding first_of
+  absent_is_whole = record {
+    placed = λ place lt. misplaced_none (placed_at fields place) (tag_there fields place lt);
+    said = rw (← no_lines (tags_in group) fields (no_place group.count fields (and_left _ _ h)))
+        refl;
+  }
+
+  members_absent : (judge : Judge Kind) (rows : List (Row Kind))
+      → list_all (lacks fields) (map (λ (r : Row Kind). r.tag) rows) ≡ true
+      → list_all (member_fits judge fields) rows ≡ true
+  members_absent judge [] h = refl
+  members_absent judge (row ∷ rows) h =
+      let here : member_fits judge fields row ≡ true =
+      absent (has_tag row.tag fields) refl (and_left _ _ h) in
+      let later : list_all (member_fits judge fields) rows ≡ true =
+      members_absent judge rows (and_right _ _ h) in
+      rw (here, later) refl
+    where
+      absent : (b : Bool) → has_tag row.tag fields ≡ b → not b ≡ true
+          → member_fits judge fields row ≡ true
+      absent true e lacking = absurd cc
+      absent false e lacking =
+          ap (member_fits_at judge fields row) (value_at-none row.tag fields e)
+
+  pub absent_fits : (judge : Judge Kind) → ItemFits judge fields (Lines group)
+  absent_fits judge =
+      (absent_is_whole, members_absent judge group.rows (and_left _ _ (and_right _ _ h)))
+
 module _ {Kind : Type 0} (judge : Judge Kind) (table : Table Kind) (fields : List Field) where
+  -- a field is the first one of a row, or good by itself
+  pub data IsGoodAt (place : ℕ) : Type 0 where
+    Rowed : RowAt fields (all_rows table) place → IsGoodAt place
+    Loose : IsLoose judge fields table place → IsGoodAt place
+
   -- what one pass over the rows shows
   pub record IsPlain : Type 0 where
     pub header : list_all (fits judge fields) table.header ≡ true
-    pub items : list_all (item_fits judge fields) table.items ≡ true
-    pub rowed : (place : ℕ) → place < length fields → RowAt fields (all_rows table) place
+    pub items : AllByRecursion (ItemFits judge fields) table.items
+    pub placed : (place : ℕ) → place < length fields → IsGoodAt place
 
   module _ (plain : IsPlain) where
-    first_at : (i : ℕ) (lt : i < length fields) → IsFirst (plain.rowed i lt).tag fields i
-    first_at i lt = is_first _ fields i (plain.rowed i lt).first
-
-    fits_there : (tag : ℕ) (row : Row Kind) → has_tag tag fields ≡ true
-        → row_at tag (all_rows table) ≡ Some row → fits judge fields row ≡ true
-    fits_there tag row there e =
+    good_by_row : (tag : ℕ) (row : Row Kind) → row_at tag (all_rows table) ≡ Some row
+        → IsGoodRow judge fields row
+    good_by_row tag row e =
         by (row_at tag table.header) refl
         (sym (find-append (λ (r : Row Kind). r.tag == tag) table.header (rows_in table)) ∙ e)
       where
         by : (o : Option (Row Kind)) → row_at tag table.header ≡ o
-            → option_or o (row_at tag (rows_in table)) ≡ Some row → fits judge fields row ≡ true
-        by None n e = items_row_fits judge fields tag table.items row plain.items there e
+            → option_or o (row_at tag (rows_in table)) ≡ Some row → IsGoodRow judge fields row
+        by None n e = items_row_fits judge fields tag table.items row plain.items e
         by (Some one) n e =
             row_fits judge fields tag table.header row plain.header
             (n ∙ (let same : one ≡ row = cc in ap Some same))
 
-    mark_at : (i : ℕ) → i < length fields
+    rowed_mark : (i : ℕ) → RowAt fields (all_rows table) i
         → (marked judge table fields (get_or fields i none)).1 ≡ marks.Good
-    mark_at i lt = good
+    rowed_mark i r = good
       where
-        first : IsFirst (plain.rowed i lt).tag fields i
-        first = first_at i lt
+        first : IsFirst r.tag fields i
+        first = is_first r.tag fields i r.first
 
-        found : RowOf (plain.rowed i lt).tag (all_rows table)
-        found = row_there _ (all_rows table) (plain.rowed i lt).there
+        found : RowOf r.tag (all_rows table)
+        found = row_there r.tag (all_rows table) r.there
 
         fit : fits_at judge fields found.row (Some (get_or fields i none).1) ≡ true
-        fit = ap (fits_at judge fields found.row)
-            (sym (ap (λ (tag : ℕ). value_at tag fields) found.same ∙ first.value))
-            ∙ fits_there _ found.row first.there found.is
+        fit = good_by_row r.tag found.row found.is (get_or fields i none).1
+            (ap (λ (tag : ℕ). value_at tag fields) found.same ∙ first.value)
 
         is : row_at (get_or fields i none).0 (all_rows table) ≡ Some found.row
         is = ap (λ (tag : ℕ). row_at tag (all_rows table)) first.same ∙ found.is
@@ -378,41 +446,39 @@ module _ {Kind : Type 0} (judge : Judge Kind) (table : Table Kind) (fields : Lis
         good = ap (by_row judge (is_passed table (get_or fields i none).0) fields
             (get_or fields i none).1) is ∙ good_mark _ fit
 
-    twice_none : (i : ℕ) → i < length fields → twice (once_in table) (at fields i) ≡ None
-    twice_none i lt =
-        let first = first_at i lt in
+    mark_at : (i : ℕ) → i < length fields
+        → (marked judge table fields (get_or fields i none)).1 ≡ marks.Good
+    mark_at i lt = by (plain.placed i lt)
+      where
+        by : IsGoodAt i → (marked judge table fields (get_or fields i none)).1 ≡ marks.Good
+        by (Rowed r) = rowed_mark i r
+        by (Loose l) = l.good
+
+    rowed_once : (i : ℕ) → RowAt fields (all_rows table) i
+        → twice (once_in table) (at fields i) ≡ None
+    rowed_once i r =
+        let first = is_first r.tag fields i r.first in
         let before : has_tag (get_or fields i none).0 (reverse (take i fields)) ≡ false =
         has_tag-reverse (get_or fields i none).0 (take i fields)
         ∙ ap (λ (tag : ℕ). has_tag tag (take i fields)) first.same ∙ first.before in
         rw before (and_false _ _)
 
-    misplaced_none : (p : Placed) (group : GroupTags) → has_tag p.field.0 fields ≡ true
-        → lacks_group fields group ≡ true → misplaced p group ≡ None
-    misplaced_none p group there h =
-        let no_member =
-        lacks_listed fields group.members p.field.0 (and_left _ _ (and_right _ _ h)) there in
-        let no_skipped =
-        lacks_listed fields group.skipped p.field.0 (and_right _ _ (and_right _ _ h)) there in
-        rw (no_count (eqb p.field.0 group.count) refl, no_member, no_skipped) refl
+    twice_none : (i : ℕ) → i < length fields → twice (once_in table) (at fields i) ≡ None
+    twice_none i lt = by (plain.placed i lt)
       where
-        no_count : (b : Bool) → eqb p.field.0 group.count ≡ b → eqb p.field.0 group.count ≡ false
-        no_count false e = e
-        no_count true e =
-            let same : p.field.0 ≡ group.count = grind (arith, nat_tests) in
-            let absent : not (has_tag group.count fields) ≡ true = and_left _ _ h in
-            absurd (let no : not (has_tag p.field.0 fields) ≡ true = rw same absent in
-            let yes : not true ≡ true = rw there at no in cc)
+        by : IsGoodAt i → twice (once_in table) (at fields i) ≡ None
+        by (Rowed r) = rowed_once i r
+        by (Loose l) = l.once
 
-    groups_none : (p : Placed) → has_tag p.field.0 fields ≡ true → (items : List (Item Kind))
-        → list_all (item_fits judge fields) items ≡ true
-        → first_of (misplaced p) (flat_map group_tags_of items) ≡ None
+    groups_none : (i : ℕ) → i < length fields → (items : List (Item Kind))
+        → AllByRecursion (ItemFits judge fields) items
+        → first_of (misplaced (at fields i)) (flat_map group_tags_of items) ≡ None
     unfolding first_of
-    groups_none p there [] h = refl
-    groups_none p there (One row ∷ items) h = groups_none p there items (and_right _ _ h)
-    groups_none p there (Party role ∷ items) h = groups_none p there items h
-    groups_none p there (Lines group ∷ items) h =
-        rw (misplaced_none p (tags_in group) there (and_left _ _ h))
-        (groups_none p there items (and_right _ _ h))
+    groups_none i lt [] h = refl
+    groups_none i lt (One row ∷ items) h = groups_none i lt items h.1
+    groups_none i lt (Party role ∷ items) h = groups_none i lt items h.1
+    groups_none i lt (Lines group ∷ items) h =
+        rw (h.0.0.placed i lt) (groups_none i lt items h.1)
 
     missing_none : (row : Row Kind) → fits judge fields row ≡ true → missing fields row ≡ None
     missing_none row h = by (has_tag row.tag fields) refl
@@ -428,21 +494,13 @@ module _ {Kind : Type 0} (judge : Judge Kind) (table : Table Kind) (fields : Lis
             let absent = value_at-none row.tag fields e in
             rw e (no (is_needed row.need fields) (faults.Reason row.tag 1) (rw absent at h))
 
-    items_none : (items : List (Item Kind)) → list_all (item_fits judge fields) items ≡ true
+    items_none : (items : List (Item Kind)) → AllByRecursion (ItemFits judge fields) items
         → first_of (missing_of fields) items ≡ None
     unfolding first_of
     items_none [] h = refl
-    items_none (One row ∷ items) h =
-        rw (missing_none row (and_left _ _ h)) (items_none items (and_right _ _ h))
-    items_none (Party role ∷ items) h = items_none items h
-    items_none (Lines group ∷ items) h =
-        rw (← no_lines (tags_in group) fields
-        (no_place group.count fields (and_left _ _ (and_left _ _ h))))
-        (items_none items (and_right _ _ h))
-
-    there_at : (i : ℕ) → i < length fields → has_tag (get_or fields i none).0 fields ≡ true
-    there_at i lt =
-        let first = first_at i lt in ap (λ (tag : ℕ). has_tag tag fields) first.same ∙ first.there
+    items_none (One row ∷ items) h = rw (missing_none row h.0) (items_none items h.1)
+    items_none (Party role ∷ items) h = items_none items h.1
+    items_none (Lines group ∷ items) h = rw h.0.0.said (items_none items h.1)
 
   -- fields that one pass shows to be at no fault have none
   pub plain_is_clean : IsPlain → None ≡ first_fault judge table fields
@@ -452,11 +510,24 @@ module _ {Kind : Type 0} (judge : Judge Kind) (table : Table Kind) (fields : Lis
         placed_none (twice (once_in table)) fields (twice_none plain),
         marks_none wrong_version (λ _. refl) (marked judge table fields) fields (mark_at plain),
         placed_none (in_groups (group_tags_in table)) fields
-            (λ i lt. groups_none plain (at fields i) (there_at plain i lt) table.items plain.items),
+            (λ i lt. groups_none plain i lt table.items plain.items),
         marks_none wrong (λ _. refl) (marked judge table fields) fields (mark_at plain),
         items_none plain table.items plain.items,
         marks_none beyond (λ _. refl) (marked judge table fields) fields (mark_at plain),
       ) refl
+
+-- a field whose tag has not stood before, or may stand again, does not stand twice
+pub once_if : (once : List ℕ) (fields : List Field) (place : ℕ) (f : Field)
+    → Some f ≡ slice_get fields place
+    → (is_one_of once f.0 && has_tag f.0 (take place fields)) ≡ false
+    → twice once (placed_at fields place) ≡ None
+once_if once fields place f at h =
+    let same : get_or fields place none ≡ f =
+    get_or_from_slice_get fields place f none (sym at) in
+    ap (λ (x : Field). twice once (place_in fields place x)) same
+    ∙ ap (λ (b : Bool). fault_if (is_one_of once f.0 && b) (faults.Reason f.0 13))
+    (has_tag-reverse f.0 (take place fields))
+    ∙ rw h refl
 
 -- ---- as the pass goes on
 
@@ -492,6 +563,31 @@ pub fits_of_some : {Kind : Type 0} (judge : Judge Kind) (fields : List Field) (r
     → fits_at judge fields row (Some f.1) ≡ fits judge fields row
 fits_of_some judge fields row place f e at =
     ap (fits_at judge fields row) (value_by_place row.tag fields (Some place) (Some f) e at)
+
+-- the same of a row of a group
+pub member_of_none : {Kind : Type 0} (judge : Judge Kind) (fields : List Field) (row : Row Kind)
+    → None ≡ position (has row.tag) fields → true ≡ member_fits judge fields row
+member_of_none judge fields row e =
+    ap (member_fits_at judge fields row) (value_by_place row.tag fields None None e refl)
+
+pub member_of_some : {Kind : Type 0} (judge : Judge Kind) (fields : List Field) (row : Row Kind)
+    → (place : ℕ) (f : Field) → Some place ≡ position (has row.tag) fields
+    → Some f ≡ slice_get fields place
+    → fits_at judge fields row (Some f.1) ≡ member_fits judge fields row
+member_of_some judge fields row place f e at =
+    ap (member_fits_at judge fields row)
+    (value_by_place row.tag fields (Some place) (Some f) e at)
+
+-- a tag whose first field stands here, or that may stand again
+pub first_is_once : (once : List ℕ) (fields : List Field) (tag place : ℕ)
+    → Some place ≡ position (has tag) fields
+    → (is_one_of once tag && has_tag tag (take place fields)) ≡ false
+first_is_once once fields tag place e =
+    rw (is_first tag fields place (sym e)).before (and_no (is_one_of once tag))
+  where
+    and_no : (b : Bool) → (b && false) ≡ false
+    and_no true = refl
+    and_no false = refl
 
 -- the first field of a tag is there
 pub not_past : (fields : List Field) (tag place : ℕ) → Some place ≡ position (has tag) fields

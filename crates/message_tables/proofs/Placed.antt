@@ -4,13 +4,14 @@ use Rattle.std.proofs.Common.{take, drop, Option, Some, None, refl, sym, ap, ◌
 use Rattle.std.proofs.Common.{cond, ◌-◌, take_while, count_by, not, Bool, true, false, eqb}
 use mathlib.Core.List.{reverse_aux}
 use Rattle.std.proofs.lemmas.List.{drop_all, drop_more, take_more}
-use Rattle.std.specs.Prelude.{reverse, ◌||◌, ◌&&◌, ◌==◌}
+use Rattle.std.specs.Prelude.{reverse, ◌||◌, ◌&&◌, ◌==◌, if◌then◌else◌}
 use Rattle.std.proofs.lemmas.List.Sums.{take_while-cons, sum_by-cons}
 use Rattle.message_tables.specs.declared.table_fault.TableFault.{TableFault}
 use Rattle.message_tables.specs.declared.table_fault.TableFault.TheVariants as faults
 use Rattle.field_groups.specs.Field.{Field}
-use Rattle.message_tables.specs.Tables.{first_of, has_tag, is_one_of}
-use Rattle.message_tables.specs.FirstFault.{Placed, placed_from, place_in, fault_if, twice}
+use Rattle.message_tables.specs.Tables.{GroupTags, first_of, has_tag, is_inside, is_one_of, run}
+use Rattle.message_tables.specs.FirstFault.{Placed, placed_from, place_in, fault_if, is_opened}
+use Rattle.message_tables.specs.FirstFault.{lines_begun, twice}
 
 abbrev pub none : Field
 none = (0, [])
@@ -133,3 +134,42 @@ pub twice_as : (once : List ℕ) (fs front : List Field) (i : ℕ) (f : Field)
 twice_as once fs front i f e =
     ap (λ (b : Bool). fault_if (is_one_of once f.0 && b) (faults.Reason f.0 13))
     (ap (has_tag f.0) e ∙ sym (has_tag-reverse f.0 (take i fs)))
+
+-- ---- a step forwards
+
+-- what the fields before a place say of a group, with the field at it
+lines_more : (group : GroupTags) (f : Field) (fs : List Field) (lines : ℕ) (inside begins : Bool)
+    → is_inside group f.0 ≡ inside → (f.0 == group.first) ≡ begins → lines ≡ lines_begun group fs
+    → (if inside then (if begins then 1 else 0) + lines else 0) ≡ lines_begun group (f ∷ fs)
+lines_more group f fs lines true true within first is =
+    ap (λ (n : ℕ). 1 + n) is
+    ∙ sym (counted_one (λ h. h.0 == group.first) (λ h. is_inside group h.0) f fs within first)
+lines_more group f fs lines true false within first is =
+    zero-add lines ∙ is ∙ sym (counted_on (λ h. h.0 == group.first) (λ h. is_inside group h.0) f fs within first)
+lines_more group f fs lines false begins within first is =
+    let out : run group (f ∷ fs) ≡ [] =
+    take_while-cons (λ h. is_inside group h.0) f fs ∙ rw within refl in
+    sym (ap (count_by (λ h. h.0 == group.first)) out)
+
+pub said_more : (group : GroupTags) (fs : List Field) (i : ℕ) (f : Field) (opened : Bool)
+    (lines : ℕ) → i < length fs → f ≡ get_or fs i none
+    → opened ≡ is_opened group (reverse (take i fs))
+    → lines ≡ lines_begun group (reverse (take i fs))
+    → ((if f.0 == group.count then true else (if is_inside group f.0 then opened else false))
+    ≡ is_opened group (reverse (take (i + 1) fs)))
+    × ((if is_inside group f.0 then (if f.0 == group.first then 1 else 0) + lines else 0)
+    ≡ lines_begun group (reverse (take (i + 1) fs)))
+said_more group fs i f opened lines lt at opened_is lines_is =
+    let more : f ∷ reverse (take i fs) ≡ reverse (take (i + 1) fs) =
+    ap (λ (g : Field). g ∷ reverse (take i fs)) at ∙ sym (back fs i lt) in (
+      ap (λ (b : Bool). if f.0 == group.count then true
+          else (if is_inside group f.0 then b else false)) opened_is ∙ ap (is_opened group) more,
+      lines_more group f (reverse (take i fs)) lines (is_inside group f.0)
+          (f.0 == group.first) refl refl lines_is ∙ ap (lines_begun group) more,
+    )
+
+pub few_more : (inside begins : Bool) (n lines i : ℕ)
+    → n ≡ (if inside then (if begins then 1 else 0) + lines else 0) → lines ≤ i → n ≤ i + 1
+few_more true true n lines i is le = omega (arith, is, le)
+few_more true false n lines i is le = omega (arith, is, le)
+few_more false begins n lines i is le = omega (arith, is)

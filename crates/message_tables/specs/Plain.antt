@@ -1,14 +1,15 @@
 -- Inside: fields that one pass over the rows of their table shows to be at no fault.
-use Rattle.std.specs.Prelude.{ℕ, ◌==◌, ◌&&◌, Bool, true, false, not, List, [], ◌∷◌, Some, None}
-use Rattle.std.specs.Prelude.{position, slice_set}
+use Rattle.std.specs.Prelude.{◌≡◌, ℕ, ◌==◌, ◌<◌, ◌&&◌, Bool, true, false, not, List, [], ◌∷◌}
+use Rattle.std.specs.Prelude.{Some, None, length, position, slice_index_or, slice_set}
 use Rattle.std.specs.declared.option.Option.{Option}
 use Rattle.std.specs.List.{list_all}
 use Rattle.message_tables.specs.declared.table_fault.Mark.{Mark}
 use Rattle.message_tables.specs.declared.table_fault.Mark.TheVariants as marks
 use Rattle.field_groups.specs.Field.{Field}
-use Rattle.message_tables.specs.Tables.{Row, GroupTags, Item, One, Party, Lines, Judge, value_at}
-use Rattle.message_tables.specs.Tables.{has_tag, is_needed, tags_in}
-use Rattle.message_tables.specs.FirstFault.{mark_of, allowed}
+use Rattle.message_tables.specs.Tables.{Row, RepeatingGroup, GroupTags, Item, One, Party, Lines}
+use Rattle.message_tables.specs.Tables.{Table, Judge, value_at, has_tag, is_needed, tags_in}
+use Rattle.message_tables.specs.FirstFault.{Placed, allowed, mark_of, marked, misplaced, missing_of}
+use Rattle.message_tables.specs.FirstFault.{once_in, place_in, twice}
 
 abbrev pub is_good : Mark → Bool
 is_good marks.Good = true
@@ -24,6 +25,17 @@ lacks_group fields group =
     lacks fields group.count
     && (list_all (lacks fields) group.members && list_all (lacks fields) group.skipped)
 
+-- the field at a place, with those before and behind it
+abbrev pub placed_at : List Field → ℕ → Placed
+placed_at fields place = place_in fields place (slice_index_or fields place (0, []))
+
+-- a group of which no field stands at a wrong place, and each line says what it has to
+pub record IsWhole {Kind : Type 0} (fields : List Field) (group : RepeatingGroup Kind) : Type 0
+  where
+    pub placed : (place : ℕ) → place < length fields
+        → misplaced (placed_at fields place) (tags_in group) ≡ None
+    pub said : missing_of fields (Lines group) ≡ None
+
 module _ {Kind : Type 0} (judge : Judge Kind) (fields : List Field) where
   abbrev pub fits_at : Row Kind → Option (List ℕ) → Bool
   fits_at row None = not (is_needed row.need fields)
@@ -34,11 +46,24 @@ module _ {Kind : Type 0} (judge : Judge Kind) (fields : List Field) where
   abbrev pub fits : Row Kind → Bool
   fits row = fits_at row (value_at row.tag fields)
 
-  -- a row that fits, or a group without a field
-  abbrev pub item_fits : Item Kind → Bool
-  item_fits (One row) = fits row
-  item_fits (Party role) = true
-  item_fits (Lines group) = lacks_group fields (tags_in group)
+  -- a row of a group: the first field of its tag, if there is one, has a good value
+  abbrev pub member_fits_at : Row Kind → Option (List ℕ) → Bool
+  member_fits_at row None = true
+  member_fits_at row (Some value) = fits_at row (Some value)
+
+  abbrev pub member_fits : Row Kind → Bool
+  member_fits row = member_fits_at row (value_at row.tag fields)
+
+  -- a row that fits, or a whole group whose rows fit
+  abbrev pub ItemFits : Item Kind → Type 0
+  ItemFits (One row) = fits row ≡ true
+  ItemFits (Party role) = Unit {0}
+  ItemFits (Lines group) = IsWhole fields group × (list_all member_fits group.rows ≡ true)
+
+  -- a field that is good where it is not the first one of a row
+  pub record IsLoose (table : Table Kind) (place : ℕ) : Type 0 where
+    pub once : twice (once_in table) (placed_at fields place) ≡ None
+    pub good : (marked judge table fields (slice_index_or fields place (0, []))).1 ≡ marks.Good
 
 -- places, with one more that is marked
 abbrev pub with_place : List Bool → Option ℕ → List Bool

@@ -1,7 +1,8 @@
 //! The faults of groups: counts, members that stand elsewhere, and too many lines.
 
-ghost use Rattle.std.specs.Prelude.{◌≡◌, ◌==◌, ◌<◌, ℕ, [], None, IsTrue, length, reverse, count_by};
-ghost use Rattle.message_tables.specs.Tables.{has_tag, first_of};
+ghost use Rattle.std.specs.Prelude.{◌≡◌, ◌==◌, ◌+◌, ◌^◌, ◌<◌, ℕ, [], None, IsTrue, length, take};
+ghost use Rattle.std.specs.Prelude.{reverse, count_by, false, true, if◌then◌else◌};
+ghost use Rattle.message_tables.specs.Tables.{has_tag, first_of, is_inside};
 ghost use Rattle.message_tables.specs.FirstFault.{group_tags_of, group_tags_in, placed_from};
 ghost use Rattle.message_tables.specs.FirstFault.{in_groups, misplaced, misplaced_member, place_in};
 ghost use Rattle.message_tables.specs.FirstFault.{lines_begun, line_before, is_opened, is_count};
@@ -49,6 +50,15 @@ fn is_count(value: &[u8], lines: usize) -> bool
         Some(said) => said as usize == lines,
         None => false,
     }
+}
+
+/// What fields, from the last backwards, say of a group.
+#[derive(Clone, Copy)]
+struct Before {
+    /// Whether they are of the group after its count, or the count.
+    opened: bool,
+    /// How many of them begin a line, as far as they are inside the group.
+    lines: usize,
 }
 
 impl<K> RepeatingGroup<K> {
@@ -108,19 +118,51 @@ impl<K> RepeatingGroup<K> {
         false
     }
 
-    /// The fault of a member, with the fields before it.
-    fn misplaced_member(&self, before: &[Field<'_>], tag: u32) -> Option<TableFault>
+    /// What these fields say of the group.
+    fn before(&self, fields: &[Field<'_>]) -> Before
+        ensures opened { result.opened
+            ≡ is_opened (own_tags self.now) (reverse (seen fields.now)) }
+        ensures lines { result.lines
+            ≡ lines_begun (own_tags self.now) (reverse (seen fields.now)) }
+    {
+        Before {
+            opened: self.is_opened(fields),
+            lines: self.lines_before(fields),
+        }
+    }
+
+    /// What they say with one field more, which is inside the group or not.
+    #[inline(always)]
+    fn with(&self, said: Before, tag: u32, inside: bool) -> Before
+        requires { said.lines + 1 < 2 ^ 64 }
+        ensures opened { result.opened ≡ (if tag == (own_tags self.now).count then true
+            else (if inside then said.opened else false)) }
+        ensures lines { result.lines ≡ (if inside
+            then (if tag == (own_tags self.now).first then 1 else 0) + said.lines else 0) }
+    {
+        let begun = if tag == self.first() { 1 } else { 0 };
+        Before {
+            opened: tag == self.count || (inside && said.opened),
+            lines: if inside { begun + said.lines } else { 0 },
+        }
+    }
+
+    /// The fault of a member, with the fields before it and what they say of the group.
+    fn misplaced_member(&self, before: &[Field<'_>], said: Before, tag: u32) -> Option<TableFault>
+        requires opened { said.opened
+            ≡ is_opened (own_tags self.now) (reverse (seen before.now)) }
+        requires lines { said.lines
+            ≡ lines_begun (own_tags self.now) (reverse (seen before.now)) }
         ensures { result ≡ misplaced_member (own_tags self.now) (reverse (seen before.now)) tag }
     {
-        if !self.is_opened(before) {
+        if !said.opened {
             return Some(TableFault::Reason { tag, reason: ORDER });
         }
         if is_among(self.skipped, tag) {
             return None;
         }
-        let lines = self.lines_before(before);
         if tag == self.first() {
-            if lines >= MAX_LINES {
+            if said.lines >= MAX_LINES {
                 return Some(TableFault::Reason {
                     tag: self.count,
                     reason: RANGE,
@@ -128,15 +170,28 @@ impl<K> RepeatingGroup<K> {
             }
             return None;
         }
-        if lines == 0 || self.is_again(before, tag) {
+        if said.lines == 0 || self.is_again(before, tag) {
             return Some(TableFault::Reason { tag, reason: ORDER });
         }
         None
     }
 
-    /// The fault that the group has at a place.
-    fn misplaced(&self, fields: &[Field<'_>], place: usize) -> Option<TableFault>
-        requires { place < length fields.now }
+    /// The fault that the group has at a place, whose field is inside the group or not, by what the
+    /// fields before it say.
+    #[inline(always)]
+    fn misplaced_by(
+        &self,
+        fields: &[Field<'_>],
+        place: usize,
+        inside: bool,
+        said: Before,
+    ) -> Option<TableFault>
+        requires within { place < length fields.now }
+        requires inside { inside ≡ is_inside (own_tags self.now) (seen_at fields.now place).0 }
+        requires opened { said.opened
+            ≡ is_opened (own_tags self.now) (reverse (take place (seen fields.now))) }
+        requires lines { said.lines
+            ≡ lines_begun (own_tags self.now) (reverse (take place (seen fields.now))) }
         ensures { result ≡ misplaced
             (place_in (seen fields.now) place (seen_at fields.now place)) (own_tags self.now) }
     {
@@ -147,23 +202,41 @@ impl<K> RepeatingGroup<K> {
                 !is_count(value, lines),
                 TableFault::Reason { tag, reason: COUNT },
             )
-        } else if self.has(tag) {
-            self.misplaced_member(front(fields, place), tag)
+        } else if inside {
+            self.misplaced_member(front(fields, place), said, tag)
         } else {
             None
         }
     }
 
+    /// The fault that the group has at a place.
+    fn misplaced(&self, fields: &[Field<'_>], place: usize) -> Option<TableFault>
+        requires { place < length fields.now }
+        ensures { result ≡ misplaced
+            (place_in (seen fields.now) place (seen_at fields.now place)) (own_tags self.now) }
+    {
+        let (tag, _) = field_at(fields, place);
+        let said = self.before(front(fields, place));
+        self.misplaced_by(fields, place, self.has(tag), said)
+    }
+
     /// Whether the group has no fault at any place.
-    fn is_placed(&self, fields: &[Field<'_>]) -> bool
+    pub(crate) fn is_placed(&self, fields: &[Field<'_>]) -> bool
         ensures { IsTrue result → (place : ℕ) → place < length fields.now → misplaced
             (place_in (seen fields.now) place (seen_at fields.now place)) (own_tags self.now)
             ≡ None }
     {
+        let mut said = Before {
+            opened: false,
+            lines: 0,
+        };
         for place in 0..fields.len() {
-            if let Some(_) = self.misplaced(fields, place) {
+            let (tag, _) = field_at(fields, place);
+            let inside = self.has(tag);
+            if let Some(_) = self.misplaced_by(fields, place, inside, said) {
                 return false;
             }
+            said = self.with(said, tag, inside);
         }
         true
     }

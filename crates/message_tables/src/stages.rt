@@ -1,6 +1,6 @@
 //! The first fault of a message's fields, stage by stage.
 
-ghost use Rattle.std.specs.Prelude.{◌≡◌, ◌-◌, ◌<◌, ◌++◌, ◌∷◌, [], List, length, map};
+ghost use Rattle.std.specs.Prelude.{◌≡◌, ◌-◌, ◌<◌, ◌++◌, ◌∷◌, [], IsTrue, List, length, map};
 ghost use Rattle.field_groups.specs.Field.{Field};
 ghost use Rattle.message_tables.specs.Tables.{first_of, or_else};
 ghost use Rattle.message_tables.specs.FirstFault.{once_in, twice, placed_from, fault_if, missing};
@@ -8,6 +8,7 @@ ghost use Rattle.message_tables.specs.FirstFault.{missing_of, in_groups, wrong_v
 ghost use Rattle.message_tables.specs.FirstFault.{beyond};
 ghost use Rattle.message_tables.specs.Tables.{lines_in};
 ghost use Rattle.message_tables.specs.FirstFault.{Marked, group_tags_in, place_in};
+ghost use Rattle.message_tables.specs.Plain.{IsWhole};
 ghost use Rattle.message_tables.specs.Stages.{IsFound};
 ghost use Rattle.message_tables.specs.CodeTables.{seen, seen_at, row_of, group_of, own_tags};
 ghost use Rattle.message_tables.specs.CodeTables.{item_of, table_of};
@@ -17,7 +18,7 @@ use crate::group_stage::first_misplaced;
 use crate::lookup::{Line, field_at, front, stands};
 use crate::table::{Item, RepeatingGroup, Row, Table};
 use crate::table_fault::{Mark, TableFault};
-use field_groups::Field;
+use field_groups::{Field, Fields};
 
 /// SessionRejectReason(373): tag appears more than once.
 const TWICE: u8 = 13;
@@ -105,6 +106,29 @@ fn missing_line<K>(group: &RepeatingGroup<K>, fields: &[Field<'_>]) -> Option<Ta
         from = end;
     }
     None
+}
+
+impl<K> RepeatingGroup<K> {
+    /// Whether no field of the group stands at a wrong place, and each of its lines says what it
+    /// has to.
+    pub fn is_whole(&self, fields: &Fields<'_>) -> bool
+        ensures { IsTrue result → IsWhole fields.now (group_of (λ k. k) self.now) }
+    {
+        self.is_whole_in(fields.as_slice())
+    }
+
+    /// Whether it is so of these fields.
+    fn is_whole_in(&self, fields: &[Field<'_>]) -> bool
+        ensures { IsTrue result → IsWhole (seen fields.now) (group_of (λ k. k) self.now) }
+    {
+        if !self.is_placed(fields) {
+            return false;
+        }
+        match missing_line(self, fields) {
+            Some(_) => false,
+            None => true,
+        }
+    }
 }
 
 /// The fault of an item that has to be said and is not.

@@ -291,7 +291,7 @@ impl<K> Table<K> {
     }
 
     /// Whether a tag stands at most once in a message.
-    pub(crate) fn is_once(&self, tag: u32) -> bool
+    pub fn is_once(&self, tag: u32) -> bool
         ensures { result ≡ is_one_of (once_in (table_of (λ k. k) self.now)) tag }
     {
         if has_row(self.header, tag) {

@@ -1,12 +1,14 @@
 //! The first fault of a message's fields beside their table.
 
-ghost use Rattle.std.specs.Prelude.{◌≡◌, ◌==◌, IsTrue, None, Some, map, position, take};
+ghost use Rattle.std.specs.Prelude.{◌≡◌, ◌==◌, ◌&&◌, IsTrue, None, Some, false, map, position};
+ghost use Rattle.std.specs.Prelude.{take};
 ghost use Rattle.std.specs.List.{list_all};
-ghost use Rattle.message_tables.specs.Tables.{rows_of};
-ghost use Rattle.message_tables.specs.CodeTables.{item_of, row_of, table_of as code_table};
-ghost use Rattle.message_tables.specs.Plain.{fits, fits_at, item_fits, with_place, with_places};
-ghost use Rattle.row_values.specs.OnePass.{Fit, ItemsFit};
-ghost use Rattle.message_tables.specs.FirstFault.{first_fault, marked};
+ghost use Rattle.message_tables.specs.Tables.{Lines, has_tag, is_one_of};
+ghost use Rattle.message_tables.specs.CodeTables.{group_of, item_of, row_of};
+ghost use Rattle.message_tables.specs.CodeTables.{table_of as code_table};
+ghost use Rattle.message_tables.specs.Plain.{IsLoose, fits, fits_at, member_fits, with_place};
+ghost use Rattle.row_values.specs.OnePass.{AreGoodPlaces, Fit, ItemFit, ItemsFit, MembersFit};
+ghost use Rattle.message_tables.specs.FirstFault.{first_fault, marked, once_in};
 ghost use Rattle.message_tables.specs.Stages.{IsFound};
 ghost use Rattle.row_values.specs.CodeKinds.{kind_of};
 ghost use Rattle.row_values.specs.Kinds.{judge};
@@ -15,7 +17,7 @@ ghost use Rattle.row_values.specs.Gives.{IsClean};
 
 use crate::kinds::Kind;
 use field_groups::{Fields, Split, SplitFault};
-use message_tables::{Found, Item, Mark, Row, Table, TableFault};
+use message_tables::{Found, Item, Mark, RepeatingGroup, Row, Table, TableFault};
 use order_meaning::Fault;
 
 /// SessionRejectReason(373): invalid tag number.
@@ -125,17 +127,73 @@ fn rows_fit(rows: &[Row<Kind>], fields: &Fields<'_>, rowed: &mut Rowed) -> bool
     true
 }
 
-/// Whether an item fits: its row, or a group of which no field stands.
+/// Whether the field of a row of a group, the first that has its tag, has a good value. The field's
+/// place is marked.
+#[inline(always)]
+fn member_fits(row: &Row<Kind>, fields: &Fields<'_>, rowed: &mut Rowed) -> bool
+    ensures fits { result ≡ member_fits judge fields.now (row_of kind_of row.now) }
+    ensures places { rowed.new
+        ≡ with_place rowed.old (position (λ f. f.0 == row.now.tag) fields.now) }
+{
+    match fields.find(row.tag) {
+        None => true,
+        Some(place) => {
+            rowed[place] = true;
+            match fields.at(place) {
+                None => false,
+                Some((_, value)) => value_fits(row, fields, value),
+            }
+        }
+    }
+}
+
+/// Whether the rows of a group fit.
+fn members_fit(rows: &[Row<Kind>], fields: &Fields<'_>, rowed: &mut Rowed) -> bool
+    ensures { IsTrue result
+        → MembersFit fields.now (map (row_of kind_of) rows.now) rowed.old rowed.new }
+{
+    for row in rows {
+        if !member_fits(row, fields, rowed) {
+            return false;
+        }
+    }
+    true
+}
+
+/// Whether a group of which a field stands is whole, and its rows fit.
+#[inline(never)]
+fn group_fits(group: &RepeatingGroup<Kind>, fields: &Fields<'_>, rowed: &mut Rowed) -> bool
+    ensures { IsTrue result
+        → ItemFit fields.now (Lines (group_of kind_of group.now)) rowed.old rowed.new }
+{
+    if !group.is_whole(fields) {
+        return false;
+    }
+    members_fit(group.rows, fields, rowed)
+}
+
+/// Whether a group has no field, or fits.
+#[inline(always)]
+fn lines_fit(group: &RepeatingGroup<Kind>, fields: &Fields<'_>, rowed: &mut Rowed) -> bool
+    ensures { IsTrue result
+        → ItemFit fields.now (Lines (group_of kind_of group.now)) rowed.old rowed.new }
+{
+    if group.is_absent(fields) {
+        return true;
+    }
+    group_fits(group, fields, rowed)
+}
+
+/// Whether an item fits: its row, or a group of which no field stands, or which is whole.
 #[inline(always)]
 fn item_fits(item: &Item<Kind>, fields: &Fields<'_>, rowed: &mut Rowed) -> bool
-    ensures fits { result ≡ item_fits judge fields.now (item_of kind_of item.now) }
-    ensures places { IsTrue result → rowed.new
-        ≡ with_places fields.now (rows_of (item_of kind_of item.now)) rowed.old }
+    ensures { IsTrue result
+        → ItemFit fields.now (item_of kind_of item.now) rowed.old rowed.new }
 {
     match item {
         Item::One(row) => row_fits(row, fields, rowed),
         Item::Party(_) => true,
-        Item::Lines(group) => group.is_absent(fields),
+        Item::Lines(group) => lines_fit(group, fields, rowed),
     }
 }
 
@@ -159,15 +217,70 @@ fn are_marked(rowed: &Rowed, count: usize) -> bool
     rowed.iter().take(count).all(|one| *one)
 }
 
-/// Whether one pass over the rows shows that these fields are at no fault. A message with a group
-/// is left to the stages.
+/// Whether the field of a tag at a place is the first of that tag, or one of many.
+fn may_stand(table: &Table<Kind>, fields: &Fields<'_>, tag: u32, place: usize) -> bool
+    ensures { IsTrue result → (is_one_of (once_in (code_table kind_of table.now)) tag
+        && has_tag tag (take place fields.now)) ≡ false }
+{
+    if !table.is_once(tag) {
+        return true;
+    }
+    match fields.find(tag) {
+        None => false,
+        Some(first) => first == place,
+    }
+}
+
+/// Whether the field at a place is good where it is not the first one of a row.
+fn is_loose(table: &Table<Kind>, fields: &Fields<'_>, place: usize) -> bool
+    ensures { IsTrue result → IsLoose judge fields.now (code_table kind_of table.now) place }
+{
+    match fields.at(place) {
+        None => false,
+        Some((tag, value)) => {
+            if !may_stand(table, fields, tag, place) {
+                return false;
+            }
+            match mark(table, fields, tag, value) {
+                Mark::Good => true,
+                _ => false,
+            }
+        }
+    }
+}
+
+/// Whether each field is marked, or good without a mark.
+#[inline(never)]
+fn are_good(table: &Table<Kind>, fields: &Fields<'_>, rowed: &Rowed) -> bool
+    ensures { IsTrue result → AreGoodPlaces (code_table kind_of table.now) fields.now rowed.now }
+{
+    for place in 0..fields.len() {
+        if !rowed[place] && !is_loose(table, fields, place) {
+            return false;
+        }
+    }
+    true
+}
+
+/// Whether each field is marked, as most are, or else good without a mark.
+#[inline(always)]
+fn all_good(table: &Table<Kind>, fields: &Fields<'_>, rowed: &Rowed) -> bool
+    ensures { IsTrue result → AreGoodPlaces (code_table kind_of table.now) fields.now rowed.now }
+{
+    if are_marked(rowed, fields.len()) {
+        return true;
+    }
+    are_good(table, fields, rowed)
+}
+
+/// Whether one pass over the rows shows that these fields are at no fault.
 fn is_plain(table: &Table<Kind>, fields: &Fields<'_>) -> bool
     ensures { IsTrue result
         → first_fault judge (code_table kind_of table.now) fields.now ≡ None }
 {
     let mut rowed = [false; MAX_FIELDS];
     rows_fit(table.header, fields, &mut rowed)
-        && (items_fit(table.items, fields, &mut rowed) && are_marked(&rowed, fields.len()))
+        && (items_fit(table.items, fields, &mut rowed) && all_good(table, fields, &rowed))
 }
 
 /// The first fault of these fields.

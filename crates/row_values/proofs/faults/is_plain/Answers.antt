@@ -1,5 +1,3 @@
-use Rattle.std.proofs.Common.{Bool, ℕ, take, sym, ap, ◌∙◌}
-use Rattle.std.specs.List.{list_all}
 use Rattle.message_tables.specs.CodeTables.{table_of}
 use Rattle.row_values.specs.CodeKinds.{kind_of}
 use Rattle.row_values.proofs.OnePass.{at_no_fault}
@@ -9,6 +7,4 @@ pub returns-then-items_fit : goal.returns-then-items_fit
 returns-then-items_fit c = λ yes.
     at_no_fault (table_of kind_of c.args.table.now) c.args.fields.now _ c.items_fit.new.rowed
     (c.rows_fit.ensures c.if-rows_fit.true) (c.items_fit.ensures c.if-items_fit.true)
-    c.items_fit.array_long (rw c.len.ensures.value at c.len.ensures.few)
-    (ap (λ (n : ℕ). list_all (λ (one : Bool). one) (take n c.items_fit.new.rowed))
-    (sym c.len.ensures.value) ∙ sym c.are_marked.ensures ∙ yes)
+    (c.all_good.ensures yes)

@@ -1,4 +1,3 @@
-use Rattle.std.proofs.Common.{sym, ◌∙◌}
 use Rattle.std.proofs.lemmas.List.{get_or_default}
 use Rattle.row_values.proofs.OnePass.{next_item}
 use Rattle.row_values.proofs.faults.items_fit.Goals as goal
@@ -9,5 +8,4 @@ loop-item-preserved c =
     c.args.items.now c.loop-item.item-index _
     (get_or_default c.args.items.now c.loop-item.item-index _ _ c.loop-item-test.true)
     c.loop-item-test.true
-    c.loop-item.invariant (sym c.item_fits.ensures.fits ∙ c.if-not-item_fits.false)
-    (c.item_fits.ensures.places c.if-not-item_fits.false)
+    c.loop-item.invariant (c.item_fits.ensures c.if-not-item_fits.false)

@@ -1,4 +1,4 @@
-use Rattle.std.proofs.Common.{◌∙◌, None, refl}
+use Rattle.std.proofs.Common.{refl}
 use Rattle.message_tables.specs.Tables.{first_of}
 use Rattle.message_tables.proofs.table.Item.is_placed.Goals as goal
 
