@@ -2,34 +2,37 @@
 use Rattle.std.proofs.Common.{◌≡◌, ℕ, Bool, true, false, not, ◌==◌, ◌&&◌, ◌||◌, List, [], ◌∷◌}
 use Rattle.std.proofs.Common.{codes, Option, Some, None, Result, Ok, Err, refl, sym, ap, subst, ◌∙◌}
 use Rattle.std.proofs.Common.{if◌then◌else◌}
-use Rattle.std.specs.Prelude.{IfOk, is_none}
+use Rattle.std.specs.Borrow.{Bor}
 use Rattle.std.specs.List.{list_any}
 use Rattle.std.specs.Result.{result_ok}
+use Rattle.std.proofs.lemmas.Bool.{eqb-true}
 use Rattle.field_groups.specs.declared.fault.SplitFault.{SplitFault}
 use Rattle.field_groups.specs.Field.{Field}
 use Rattle.field_groups.specs.Fields.{SplitsInto}
 use Rattle.field_groups.proofs.Determined.{determined}
-use Rattle.message_tables.specs.Tables.{Message, ◌>>=◌, first_of, is_one_of, or_else}
+use Rattle.message_tables.specs.FirstFault.{message_in, message_of as table_message}
+use Rattle.message_tables.specs.Tables.{Message, Table, ◌>>=◌, first_of, is_one_of, or_else}
 use Rattle.order_meaning.specs.declared.Side.TheVariants.{Client}
 use Rattle.order_meaning.specs.declared.fault.Fault.{Fault}
-use Rattle.order_meaning.specs.declared.fault.Fault.TheVariants as faults
 use Rattle.order_chains.specs.declared.item.ChainItem.{ChainItem}
 use Rattle.pair_journal.specs.declared.entry.Took.{Took}
 use Rattle.pair_journal.specs.declared.entry.Out.{Out}
 use Rattle.pair_journal.specs.declared.entry.Entry.{Entry}
 use Rattle.pair_journal.specs.Given.{has_letter, is_source, letter_of, letters_to, source_in}
 use Rattle.pair_journal.specs.Numbers.{is_side}
-use Rattle.row_values.specs.Gives.{Gives}
-use Rattle.dict_fix42.specs.declared.requests.Msg42.{Msg42}
-use Rattle.dict_fix42.specs.Message.{message42}
-use Rattle.dict_fix42.specs.Said.{says}
+use Rattle.row_values.specs.Faults.{message_by, told}
+use Rattle.row_values.specs.Gives.{IsCleanIf}
+use Rattle.row_values.specs.Kinds.{Kind, judge}
+use Rattle.rows_fix42.specs.Header.{table}
+use Rattle.dict_fix42.specs.Message.{message42, table_of}
+use Rattle.dict_fix42.specs.Requests.{cancel_request, new_order, replace_request}
 use Rattle.reports_fix42.specs.Message as reports42
 use Rattle.translation.specs.Header.{type_of as type_in}
 use Rattle.event_decisions.specs.Body.{Reading, first_value, reading_of, type_of}
 use Rattle.event_decisions.proofs.Bodies.{bodies_are_read}
 use Rattle.message_answers.specs.Chains.{joining, joining_letter, item_in, item_of}
 use Rattle.message_answers.specs.Message.{is_refusal_type, message_of, said_in}
-use Rattle.message_answers.specs.Seen.{IsReadItem, joined}
+use Rattle.message_answers.specs.Seen.{item_said, joined}
 use Rattle.message_answers.proofs.Letters.{among, joining_by, source_by}
 use Rattle.message_answers.proofs.Requested.{type_is as letter_is}
 use Rattle.message_answers.proofs.Typed.{type_is}
@@ -182,46 +185,93 @@ module _ (entry : Entry) (took : Took) (letter : ℕ) (fields : List Field)
       → item_in entry ≡ None
   item_faulty e read = item_is entry took (Some letter) (Err e) is front (message_is ∙ read)
 
--- ---- where there is memory
+-- ---- by its fields
 
--- some letter is found
-some_letter : (entry : Entry) (o : Option ℕ) → first_of (joining_letter entry) entry.outs ≡ o
-    → is_none o ≡ false
-    → (letter : ℕ) × (first_of (joining_letter entry) entry.outs ≡ Some letter)
-some_letter entry None e some = absurd cc
-some_letter entry (Some letter) e some = (letter, e)
+-- each of the letters that join
+by_letter : (P : ℕ → Type 0) → P 68 → P 70 → P 71 → (letter : ℕ)
+    → is_one_of joining letter ≡ true → P letter
+by_letter P d f g letter is = by (68 == letter) (70 == letter) (71 == letter) refl refl refl
+  where
+    by : (a b c : Bool) → (68 == letter) ≡ a → (70 == letter) ≡ b → (71 == letter) ≡ c → P letter
+    by true b c of_d of_f of_g = subst P (eqb-true 68 letter of_d) d
+    by false true c of_d of_f of_g = subst P (eqb-true 70 letter of_f) f
+    by false false true of_d of_f of_g = subst P (eqb-true 71 letter of_g) g
+    by false false false of_d of_f of_g =
+        let wrong : (false || (false || (false || false))) ≡ true =
+        subst (λ (a : Bool). (a || (false || (false || false))) ≡ true) of_d
+        (subst (λ (b : Bool). ((68 == letter) || (b || (false || false))) ≡ true) of_f
+        (subst (λ (c : Bool). ((68 == letter) || ((70 == letter) || (c || false))) ≡ true) of_g
+        is)) in absurd cc
 
-module _ (entry : Entry) (took : Took) (fields : List Field) (fault : Option SplitFault)
-    (is : entry.took ≡ Some took)
-    (some : is_none (first_of (joining_letter entry) entry.outs) ≡ false)
+-- what fields at no fault say joins by ClOrdID(11) and OrigClOrdID(41)
+joined_said : (number : ℕ) (fields : List Field) (letter : ℕ) → is_one_of joining letter ≡ true
+    → (t : Table Kind) → table_of (letter ∷ []) ≡ Some t
+    → joined number (message_in judge t fields) ≡ Some (item_said number letter fields)
+joined_said number fields =
+    let P : ℕ → Type 0 = λ letter. (t : Table Kind) → table_of (letter ∷ []) ≡ Some t
+    → joined number (message_in judge t fields) ≡ Some (item_said number letter fields) in
+    by_letter P (λ t is. said 68 (table 68 new_order) t is refl)
+    (λ t is. said 70 (table 70 cancel_request) t is refl)
+    (λ t is. said 71 (table 71 replace_request) t is refl)
+  where
+    said : (letter : ℕ) (one t : Table Kind) → Some one ≡ Some t
+        → joined number (message_in judge one fields) ≡ Some (item_said number letter fields)
+        → joined number (message_in judge t fields) ≡ Some (item_said number letter fields)
+    said letter one t is holds =
+        let same : one ≡ t = cc in
+        subst (λ (x : Table Kind). joined number (message_in judge x fields)
+        ≡ Some (item_said number letter fields))
+        same holds
+
+module _ (entry : Entry) (took : Took) (letter : ℕ) (fields : List Field)
+    (fault : Option SplitFault) (is : entry.took ≡ Some took)
+    (front : first_of (joining_letter entry) entry.outs ≡ Some letter)
     (split : SplitsInto took.raw fields fault) (msg_type : List ℕ)
-    (typed : msg_type ≡ type_in fields) where
-  letter_found : (letter : ℕ) × (first_of (joining_letter entry) entry.outs ≡ Some letter)
-  letter_found = some_letter entry (first_of (joining_letter entry) entry.outs) refl some
-
-  retyped : (read : Result Message Fault) → message42 msg_type fields fault ≡ read
+    (type_said : msg_type ≡ type_in fields) where
+  retyped : (read : Result Message Fault) → message_by (table_of msg_type) fields fault ≡ read
       → message42 (type_in fields) fields fault ≡ read
-  retyped read reads = ap (λ (t : List ℕ). message42 t fields fault) (sym typed) ∙ reads
+  unfolding message42
+  retyped read reads =
+      ap (λ (t : List ℕ). message_by (table_of t) fields fault) (sym type_said) ∙ reads
 
-  item_of_read : (m : Message) → message42 msg_type fields fault ≡ Ok m
-      → item_in entry ≡ joined took.number m
-  item_of_read m reads = item_read entry took letter_found.0 fields fault is letter_found.1 split m
-      (retyped (Ok m) reads)
+  lettered : msg_type ≡ letter ∷ []
+  lettered = type_said ∙ same_type fields ∙ typed entry took letter fields fault is front split
 
-  no_item : (e : Fault) → message42 msg_type fields fault ≡ Err e → item_in entry ≡ None
-  no_item e reads = item_faulty entry took letter_found.0 fields fault is letter_found.1 split e
-      (retyped (Err e) reads)
+  -- THE REQUEST OF AN ENTRY, by its fields
+  pub item_clean : (good : Bor (List Field))
+      → IsCleanIf (table_of msg_type) fields fault (Ok good)
+      → item_in entry ≡ Some (item_said took.number letter good.now)
+  unfolding table_message
+  item_clean good = by (table_of msg_type) refl
+    where
+      by : (o : Option (Table Kind)) → table_of msg_type ≡ o → IsCleanIf o fields fault (Ok good)
+          → item_in entry ≡ Some (item_said took.number letter good.now)
+      by None at clean = absurd clean
+      by (Some t) at clean =
+          let message : table_message judge t fields ≡ Ok (message_in judge t fields) =
+          rw clean.2 refl in
+          let reads : message_by (table_of msg_type) fields fault ≡ Ok (message_in judge t fields) =
+          ap (λ (o : Option (Table Kind)). message_by o fields fault) at
+          ∙ ap (message_by (Some t) fields) clean.1 ∙ ap told message in
+          item_read entry took letter fields fault is front split (message_in judge t fields)
+          (retyped (Ok (message_in judge t fields)) reads)
+          ∙ joined_said took.number fields letter
+          (found entry took letter fields fault is front split).joins t
+          (ap table_of (sym lettered) ∙ at)
+          ∙ ap (λ (f : List Field). Some (item_said took.number letter f)) (sym clean.0)
 
-  -- THE REQUEST OF AN ENTRY, as it was read
-  pub item_told : {E : Type 0} (read : Result Msg42 Fault) (result : Result (Option ChainItem) E)
-      → Gives says read (message42 msg_type fields fault)
-      → IfOk result (IsReadItem took.number read) → IfOk result (λ item. item ≡ item_in entry)
-  item_told (Ok request) (Ok item) reads is = is ∙ sym (item_of_read (says request) reads)
-  item_told (Err faults.NoMemory) (Ok item) reads is = absurd is
-  item_told (Err faults.NotSupported) (Ok item) reads is =
-      is ∙ sym (no_item faults.NotSupported reads)
-  item_told (Err (faults.Session tag reason)) (Ok item) reads is =
-      is ∙ sym (no_item (faults.Session tag reason) reads)
-  item_told (Err (faults.NoCounterpart tag)) (Ok item) reads is =
-      is ∙ sym (no_item (faults.NoCounterpart tag) reads)
-  item_told read (Err error) reads is = tt
+  -- a faulty one joins nothing
+  pub item_refused : (e : Fault) → IsCleanIf (table_of msg_type) fields fault (Err e)
+      → item_in entry ≡ None
+  item_refused e = by (table_of msg_type) refl
+    where
+      refused : (o : Option (Table Kind)) → table_of msg_type ≡ o
+          → message_by o fields fault ≡ Err e → item_in entry ≡ None
+      refused o at is_fault = item_faulty entry took letter fields fault is front split e
+          (retyped (Err e) (ap (λ (o : Option (Table Kind)). message_by o fields fault) at
+          ∙ is_fault))
+
+      by : (o : Option (Table Kind)) → table_of msg_type ≡ o → IsCleanIf o fields fault (Err e)
+          → item_in entry ≡ None
+      by None at clean = refused None at clean
+      by (Some t) at clean = refused (Some t) at clean

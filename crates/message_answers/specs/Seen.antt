@@ -2,7 +2,7 @@
 -- public call rests on it.
 use Rattle.std.specs.Prelude.{◌≡◌, ◌≤◌, ◌<◌, ℕ, Bool, true, false, ◌&&◌, List, [], ◌∷◌, codes}
 use Rattle.std.specs.Prelude.{length, Option, Some, None, Result, Ok, Err, if◌then◌else◌}
-use Rattle.std.specs.Prelude.{IfSome}
+use Rattle.std.specs.Prelude.{IfSome, ◌==◌, unwrap_or}
 use Rattle.std.specs.Option.{option_map}
 use Rattle.frame_grammar.specs.Frame.{IsBody}
 use Rattle.field_groups.specs.Field.{Field, body_of}
@@ -11,7 +11,6 @@ use Rattle.order_meaning.specs.declared.Side.{Side}
 use Rattle.order_meaning.specs.declared.Side.TheVariants.{Client, Venue}
 use Rattle.order_meaning.specs.declared.fault.Fault.{Fault}
 use Rattle.order_meaning.specs.declared.fault.Fault.TheVariants.{NoCounterpart}
-use Rattle.order_meaning.specs.declared.fault.Fault.TheVariants as faults
 use Rattle.order_meaning.specs.declared.fault.Lack.{Lack}
 use Rattle.order_meaning.specs.declared.fault.Lack.TheVariants as lacks
 use Rattle.order_meaning.specs.declared.refusal.Refusal.{Refusal}
@@ -20,8 +19,8 @@ use Rattle.session_core.specs.declared.said.Said.{Said}
 use Rattle.pair_journal.specs.declared.TheConstants.{MAX_CONTENT, MAX_TYPE}
 use Rattle.pair_journal.specs.declared.entry.Entry.{Entry}
 use Rattle.pair_journal.specs.Given.{source_of}
-use Rattle.dict_fix42.specs.declared.requests.Msg42.{Msg42}
-use Rattle.dict_fix42.specs.Said.{says}
+use Rattle.row_values.specs.Kinds as kinds
+use Rattle.value_kinds.specs.ValueKind.{Id}
 use Rattle.refusal_parts.specs.Said.{business_reject_says, session_reject_says}
 use Rattle.reject_rules.specs.Refusals.{refusal_of}
 use Rattle.reject_rules.specs.Renumbered.{renumbered}
@@ -163,9 +162,15 @@ pub data IsSpelled (a : GivenAsked) (side : Side) (original : Option (List ℕ))
 
 -- ---- what joins
 
--- the request that joins, where it is read from the message of this number; want of memory is no
--- answer
-abbrev pub IsReadItem : ℕ → Result Msg42 Fault → Option ChainItem → Type 0
-IsReadItem number (Ok request) item = item ≡ joined number (says request)
-IsReadItem number (Err faults.NoMemory) item = ⊥
-IsReadItem number (Err fault) item = item ≡ None
+-- OrigClOrdID(41) that fields say of a request, which an order (D) does not have
+abbrev pub original_said : (letter : ℕ) → List Field → Option (List ℕ)
+original_said letter fields = if letter == 68 then None else kinds.said fields 41 (kinds.Value Id)
+
+-- the request of this number and letter that fields say, as it joins the chains
+abbrev pub item_said : (number letter : ℕ) → List Field → ChainItem
+item_said number letter fields = record {
+  id = unwrap_or (kinds.said fields 11 (kinds.Value Id)) [];
+  orig = original_said letter fields;
+  number = number;
+  letter = letter;
+}

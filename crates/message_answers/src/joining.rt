@@ -1,23 +1,24 @@
 //! The requests that a journal forwarded, as they join the chains.
 
 ghost use Rattle.std.specs.Prelude.{◌≡◌, ◌++◌, List, IfOk, OnOk};
-ghost use Rattle.std.specs.Option.{option_to_list, ForSome};
+ghost use Rattle.std.specs.Option.{option_map, option_to_list, ForSome};
 ghost use Rattle.message_tables.specs.Tables.{first_of};
 ghost use Rattle.gate_log.specs.Log.{OnlyReads};
 ghost use Rattle.pair_journal.specs.Calls.{HasDiskCause, ReadsOnly};
 ghost use Rattle.pair_journal.specs.Journal.{JournalOf, Born};
 ghost use Rattle.message_answers.specs.Chains.{joining_letter, item_in, new_item, chains_of};
-ghost use Rattle.message_answers.specs.Seen.{IsReadItem};
+ghost use Rattle.message_answers.specs.Seen.{item_said, original_said};
 
-use crate::requests::item_of;
-use dict_fix42::{Msg42, read42};
-use field_groups::split;
+use dict_fix42::good42;
+use field_groups::{Fields, split};
 use order_chains::{ChainItem, Chains};
-use order_meaning::Fault;
+use order_meaning::Bytes;
 use outside::Disk;
 use pair_journal::{Entry, Journal, JournalError, Out, source_in};
+use row_values::{or_empty, text};
 use std::alloc::{AllocError, Global};
 use translation::msg_type;
+use value_kinds::ValueKind::Id;
 
 // The letter of a New Order (D), a Cancel (F) or a Cancel/Replace (G) that an out translates.
 fn joining_letter(entry: &Entry, out: &Out) -> Option<u8>
@@ -43,34 +44,61 @@ fn first_letter(entry: &Entry, outs: &[Out]) -> Option<u8>
     }
 }
 
-// The request of a message with this number, as it was read. A faulty message joins nothing.
-fn read_item(
-    alloc: Global,
-    number: u32,
-    read: &Result<Msg42, Fault>,
-) -> Result<Option<ChainItem>, AllocError>
-    ensures { IfOk result (IsReadItem number read.now) }
+// OrigClOrdID(41) of a request, which an order (D) does not have.
+fn original<'f>(letter: u8, fields: &'f Fields<'_>) -> Option<&'f [u8]>
+    ensures { option_map (λ id. id.now) result ≡ original_said letter fields.now }
 {
-    match read {
-        Ok(request) => item_of(alloc, number, request),
-        Err(Fault::NoMemory) => Err(AllocError),
-        Err(_) => Ok(None),
+    match letter {
+        b'D' => None,
+        _ => text(fields, 41, &Id),
     }
 }
 
-// The request that an entry forwarded.
+// A text, copied.
+fn copied(alloc: Global, text: Option<&[u8]>) -> Result<Option<Bytes>, AllocError>
+    ensures { IfOk result (λ copied. copied ≡ option_map (λ bytes. bytes.now) text.entry) }
+{
+    match text {
+        Some(text) => Ok(Some(Bytes::copy(alloc, text)?)),
+        None => Ok(None),
+    }
+}
+
+// The request that these fields say, as it joins the chains.
+fn item_said(
+    alloc: Global,
+    number: u32,
+    letter: u8,
+    fields: &Fields<'_>,
+) -> Result<ChainItem, AllocError>
+    ensures { IfOk result (λ item. item ≡ item_said number letter fields.now) }
+{
+    let id = copied(alloc, text(fields, 11, &Id))?;
+    let orig = copied(alloc, original(letter, fields))?;
+    Ok(ChainItem {
+        id: or_empty(alloc, id),
+        orig,
+        number,
+        letter,
+    })
+}
+
+// The request that an entry forwarded. It is judged, and not filled into a struct.
 fn item_in(alloc: Global, entry: &Entry) -> Result<Option<ChainItem>, AllocError>
     ensures { IfOk result (λ item. item ≡ item_in entry.now) }
 {
     let Some(took) = &entry.took else {
         return Ok(None);
     };
-    if first_letter(entry, entry.outs.as_slice()).is_none() {
+    let Some(letter) = first_letter(entry, entry.outs.as_slice()) else {
         return Ok(None);
-    }
+    };
     let split = split(alloc, took.raw.as_slice())?;
-    let read = read42(alloc, msg_type(&split.fields), &split);
-    read_item(alloc, took.number, &read)
+    match good42(msg_type(&split.fields), &split) {
+        Ok(fields) => Ok(Some(item_said(alloc, took.number, letter, fields)?)),
+        // A faulty message joins nothing.
+        Err(_) => Ok(None),
+    }
 }
 
 // Adds the request that an entry forwarded, unless one with its id is there.
