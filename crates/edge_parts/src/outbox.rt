@@ -214,6 +214,7 @@ impl Outbox {
     fn begin_wait(&mut self, now: u64)
         ensures bytes { self.new.bytes ≡ self.old.bytes }
         ensures since { has_bytes self.old.bytes ≡ true → self.new.since ≡ self.old.since }
+        ensures began { has_bytes self.old.bytes ≡ false → self.new.since ≡ now }
     {
         if self.is_empty() {
             self.since = now;
@@ -228,6 +229,7 @@ impl Outbox {
         ensures same { OnErr result (self.new.bytes ≡ self.old.bytes) }
         ensures bounded { length self.new.bytes ≤ ROOM }
         ensures since { has_bytes self.old.bytes ≡ true → self.new.since ≡ self.old.since }
+        ensures began { OnOk result (has_bytes self.old.bytes ≡ false → self.new.since ≡ now) }
     {
         let waiting = self.len();
         if waiting > ROOM || piece.len() > ROOM - waiting {
@@ -265,6 +267,7 @@ impl Outbox {
         ensures late { OnOk result (has_bytes self.old.bytes ≡ true
             → length self.new.bytes ≡ length self.old.bytes + length piece.now
             → self.new.since ≡ self.old.since) }
+        ensures began { OnOk result (has_bytes self.old.bytes ≡ false → self.new.since ≡ now) }
     {
         self.flush(out, now)?;
         let count = self.write_next(out, piece)?;
@@ -296,6 +299,7 @@ impl Outbox {
         ensures late { OnOk result (has_bytes self.old.bytes ≡ true
             → length self.new.bytes ≡ length self.old.bytes + length piece.now
             → self.new.since ≡ self.old.since) }
+        ensures began { OnOk result (has_bytes self.old.bytes ≡ false → self.new.since ≡ now) }
     {
         self.keep(piece, now)?;
         if !self.is_much(piece.len()) {
@@ -338,6 +342,7 @@ impl Outbox {
         ensures late { OnOk result (has_bytes self.old.bytes ≡ true
             → length self.new.bytes ≡ length self.old.bytes + length piece.now
             → self.new.since ≡ self.old.since) }
+        ensures began { OnOk result (has_bytes self.old.bytes ≡ false → self.new.since ≡ now) }
     {
         if self.take_turn() {
             self.send_at_once(out, piece, now)
