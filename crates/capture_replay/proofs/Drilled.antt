@@ -41,27 +41,32 @@ undrilled state first count taps old (Err error) is = subst
     (λ (e : PrintError). Drills state first count taps taps (Err e) old old) (sym is)
     ([], seen_none state taps, refl)
 
--- its day is lived as that of a capture
-pub day_lived : {T : Type 0} (state : T → TapState) (first count : ℕ) (seen now : List T)
+module _ {T : Type 0} (state : T → TapState) (first count : ℕ) (seen now : List T)
     (client venue : Option (List WireCall)) (end : LifeEnd) (image : List ℕ) (config : Config)
-    (names : Names) (heart : ℕ) (lines : List Event) (bytes : List ℕ) → bytes ≡ []
-    → config ≡ config_with names heart
-    → names ≡ drill_names → heart ≡ drill_heart → lines ≡ drill_events first count
-    → FirstLivesGoOn → IsCapture (drill_capture first count)
-    → LivesOn state config lines bytes seen now client venue end image
-    → IsLived state (config_with drill_names drill_heart) (drill_events first count) nothing
-    seen now client venue end image
-day_lived state first count seen now client venue end image config names heart lines bytes none is
-    of_names of_heart of_lines go_on sound lives =
-    let same = is ∙ ap (λ (n : Names). config_with n heart) of_names
-    ∙ ap (λ (h : ℕ). config_with drill_names h) of_heart in
-    subst (λ (l : List Event). LivesOn state (config_with drill_names drill_heart) l [] seen now
-    client venue end image) of_lines
-    (subst (λ (k : Config). LivesOn state k lines [] seen now client venue end image) same
-    (subst (λ (b : List ℕ). LivesOn state config lines b seen now client venue end image) none
-    lives))
-    nothing (nothing_stands drill_names)
-    (go_on drill_names (are_shown (drill_capture first count) sound))
+    (names : Names) (heart : ℕ) (lines : List Event) (bytes : List ℕ) (none : bytes ≡ [])
+    (is : config ≡ config_with names heart) (of_names : names ≡ drill_names)
+    (of_heart : heart ≡ drill_heart) (of_lines : lines ≡ drill_events first count)
+    (go_on : FirstLivesGoOn) (sound : IsCapture (drill_capture first count))
+    (lives : LivesOn state config lines bytes seen now client venue end image) where
+  same : config ≡ config_with drill_names drill_heart
+  same = is ∙ ap (λ (n : Names). config_with n heart) of_names
+      ∙ ap (λ (h : ℕ). config_with drill_names h) of_heart
+
+  -- its day is lived as that of a capture
+  pub day_lived : IsLived state (config_with drill_names drill_heart) (drill_events first count)
+      nothing seen now client venue end image
+  day_lived =
+      subst (λ (l : List Event). LivesOn state (config_with drill_names drill_heart) l [] seen now
+      client venue end image) of_lines
+      (subst (λ (k : Config). LivesOn state k lines [] seen now client venue end image) same
+      (subst (λ (b : List ℕ). LivesOn state config lines b seen now client venue end image) none
+      lives))
+      nothing (nothing_stands drill_names)
+      (go_on drill_names (are_shown (drill_capture first count) sound))
+
+  -- and leaves a journal
+  pub day_left : (left : Names) × (entries : List Entry) × IsJournal left entries image
+  day_left = (drill_names, _, day_lived.played.left.journal)
 
 -- its lines are within their bounds
 pub day_bounded : (first count : ℕ) (lines : List Event) → lines ≡ drill_events first count

@@ -1,4 +1,4 @@
--- The journal that a look found in an image is the one that the image was known to be.
+-- What a look finds in an image that was known to be a journal, or unborn.
 use Rattle.std.proofs.Common.{◌≡◌, ◌∙◌, ℕ, List, [], sym, ap, subst, inl, inr}
 use Rattle.std.proofs.Common.{Some, Ok}
 use Rattle.std.specs.declared.option.Option.{Option}
@@ -6,7 +6,7 @@ use Rattle.order_meaning.specs.declared.names.Names.{Names}
 use Rattle.pair_journal.specs.declared.entry.Entry.{Entry}
 use Rattle.pair_journal.specs.State.{JournalState}
 use Rattle.pair_journal.specs.Calls.{Looks}
-use Rattle.pair_journal.specs.Journal.{Reading, JournalOf, Unborn, Born}
+use Rattle.pair_journal.specs.Journal.{Reading, JournalOf, Unborn, Born, Refused}
 use Rattle.pair_journal.specs.Laws.{HasOneReading}
 use Rattle.gateway_life.specs.Life.{IsJournal}
 
@@ -29,3 +29,11 @@ pub found_entries : (image : List ℕ) (names : Names) (entries : List Entry)
 found_entries image names entries looked journal one is some looks =
     found image names journal.names entries journal.entries one is
     (subst (λ (l : Option JournalState). Looks image (Ok l)) some looks)
+
+pub none_refused : (image : List ℕ) (at : ℕ) → HasOneReading image
+    → (names : Names) × (entries : List Entry) × IsJournal names entries image
+    → JournalOf image (Refused at) → ⊥
+none_refused image at one (names, entries, inl born) refused =
+    absurd (cc (one (Refused at) (Born names entries) refused born))
+none_refused image at one (names, entries, inr (unborn, none)) refused =
+    absurd (cc (one (Refused at) Unborn refused unborn))

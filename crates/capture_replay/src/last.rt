@@ -7,15 +7,19 @@ ghost use Rattle.pair_journal.specs.Numbers.{first_numbers, numbers_after};
 ghost use Rattle.gateway_life.specs.Life.{IsJournal};
 
 use outside::MemDisk;
-use pair_journal::Journal;
 use pair_journal::laws::an_image_has_one_reading;
+use pair_journal::{Journal, JournalError};
 use std::alloc::{AllocError, Global};
 
 /// How many entries the journal of these bytes has, and its next numbers. An unborn disk has none.
+///
+/// # Errors
+/// `AllocError` where memory was refused, also to the disk.
 pub(crate) fn left_by(
     alloc: Global,
     image: Vec<u8>,
 ) -> Result<(u64, (u32, u32, u32, u32)), AllocError>
+    requires { (names : Names) × (entries : List Entry) × IsJournal names entries image.items }
     ensures { IfOk result (λ left. (names : Names) (entries : List Entry)
         → IsJournal names entries image.items
         → (left.0 ≡ length entries) × (left.1 ≡ numbers_after first_numbers entries)) }
@@ -25,6 +29,10 @@ pub(crate) fn left_by(
     match Journal::look(alloc, &mut disk) {
         Ok(Some(journal)) => Ok((journal.count(), journal.next())),
         Ok(None) => Ok((0, (1, 1, 1, 1))),
-        Err(_) => Err(AllocError),
+        Err(JournalError::DiskFault | JournalError::NoMemory) => Err(AllocError),
+        // They are the bytes of a journal, or of none yet.
+        Err(JournalError::Refused { .. }) => unreachable!(),
+        Err(JournalError::NamesDiffer { .. }) => unreachable!(),
+        Err(JournalError::Full) => unreachable!(),
     }
 }

@@ -10,7 +10,7 @@ ghost use Rattle.capture_replay.specs.Rounds.{is_round, arrival, told_moment};
 ghost use Rattle.capture_replay.specs.Rounds.{script_of, moments_from};
 
 use capture_text::Event;
-use frame_grammar::{Kind, write_frame};
+use frame_grammar::{FrameError, Kind, write_frame};
 use order_meaning::Side;
 use std::alloc::{AllocError, Global};
 use wires::Script;
@@ -27,8 +27,9 @@ fn frame(alloc: Global, side: Side, body: &[u8]) -> Result<Vec<u8>, AllocError>
     let mut frame = Vec::new(alloc);
     match write_frame(kind, body, &mut frame) {
         Ok(()) => Ok(frame),
+        Err(FrameError::NoMemory) => Err(AllocError),
         // The body of a capture is never too long.
-        Err(_) => Err(AllocError),
+        Err(FrameError::TooLong) => unreachable!(),
     }
 }
 

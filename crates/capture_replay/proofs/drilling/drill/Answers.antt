@@ -1,6 +1,6 @@
 use Rattle.std.proofs.Common.{ap, ◌∙◌}
 use Rattle.drill_day.specs.declared.kinds.Kinds.{Kinds}
-use Rattle.capture_replay.proofs.Drilled.{undrilled, day_bounded, day_lived, drilled}
+use Rattle.capture_replay.proofs.Drilled.{undrilled, day_bounded, day_lived, day_left, drilled}
 use Rattle.capture_replay.proofs.drilling.drill.Goals as goal
 
 pub returns-in_err-day-clause-drills : goal.returns-in_err-day-clause-drills
@@ -13,6 +13,17 @@ live_lines-requires g c = record {
   bounded = day_bounded c.args.first c.args.count c.as_slice.result.now
       (c.as_slice.ensures ∙ c.in_ok-day.ensures.life) c.in_ok-day.ensures.sound;
 }
+
+pub left_by-requires : goal.left_by-requires
+left_by-requires g c =
+    let day = c.in_ok-day in
+    let lived = c.in_ok-lived.lived in
+    day_left _ c.args.first c.args.count c.args.taps.now.items c.live_lines.new.taps.items
+    lived.client.recorded lived.venue.recorded lived.end lived.image.items
+    c.config_of-config.result day.day.names day.day.heart c.as_slice.result.now
+    c.new.result.items c.new.ensures.items c.config_of-config.ensures day.ensures.names
+    day.ensures.heart (c.as_slice.ensures ∙ day.ensures.life) c.lives_follow.ensures.first
+    day.ensures.sound c.in_ok-lived.ensures.lived
 
 pub returns-clause-drills : goal.returns-clause-drills
 returns-clause-drills g c =

@@ -1,7 +1,7 @@
-use Rattle.std.proofs.Common.{◌≡◌, ◌∙◌, rules, Ok, length, ap, subst}
+use Rattle.std.proofs.Common.{◌≡◌, ◌∙◌, rules, Ok, Err, length, ap, subst}
 use Rattle.pair_journal.specs.Calls.{Looks}
 use Rattle.pair_journal.specs.Numbers.{first_numbers, numbers_after}
-use Rattle.capture_replay.proofs.LastLeft.{found_entries}
+use Rattle.capture_replay.proofs.LastLeft.{found_entries, none_refused}
 use Rattle.capture_replay.proofs.last.left_by.Goals as goal
 
 pub returns-in-Ok-Some : goal.returns-in-Ok-Some
@@ -11,3 +11,11 @@ returns-in-Ok-Some c = λ names entries is.
     (c.an_image_has_one_reading.ensures c.args.image.items) is c.in-Ok-Some.field-0-is
     (subst (λ b. Looks b (Ok c.in-Ok-Some.field-0)) bytes c.in-Ok-Some.ensures.looks) in
     (c.count.ensures ∙ ap length same, c.next.ensures.next ∙ ap (numbers_after first_numbers) same)
+
+pub unreachable-requires : goal.unreachable-requires
+unreachable-requires c =
+    let bytes : c.new-disk.result.bytes ≡ c.args.image.items = search rules in
+    none_refused c.args.image.items c.in-Err-Refused.field-0-0
+    (c.an_image_has_one_reading.ensures c.args.image.items) c.requires
+    (subst (λ e. Looks c.args.image.items (Err e)) c.in-Err-Refused.field-0-is
+    (subst (λ b. Looks b (Err c.in-Err-Refused.field-0)) bytes c.in-Err-Refused.ensures.looks))

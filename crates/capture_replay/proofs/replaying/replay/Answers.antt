@@ -99,6 +99,9 @@ returns-in_err-put_life-clause-replays g c =
     c.in_err-put_life.was c.put_life.ensures.lines
     (λ none. ap g.O.Sink.bytes (c.put_life.ensures.nothing none))
 
+pub left_by-requires : goal.left_by-requires
+left_by-requires g c = (_, _, c.loop-index.invariant.so_far.journal)
+
 pub returns-in_err-entries-clause-replays : goal.returns-in_err-entries-clause-replays
 returns-in_err-entries-clause-replays g c =
     stopped _ c.args.capture.now c.loop-index.index c.args.taps.now.items c.loop-index.taps.items
