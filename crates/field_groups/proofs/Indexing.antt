@@ -1,8 +1,8 @@
--- The index of the first field of each tag, as fields are added.
-use Rattle.std.proofs.Common.{◌≡◌, ◌≢◌, ℕ, zero, suc, ◌+◌, ◌<◌, ◌≤◌, Bool, true, false, cond, eqb}
+-- The index of the first field of each slot, as fields are added, and what it finds.
+use Rattle.std.proofs.Common.{◌≡◌, ◌≢◌, ℕ, zero, suc, ◌+◌, ◌%◌, ◌<◌, ◌≤◌, Bool, true, false, cond, eqb}
 use Rattle.std.proofs.Common.{List, [], ◌∷◌, ◌++◌, length, Option, Some, None, refl, ap, ◌∙◌}
-use Rattle.std.proofs.Common.{arith, get_or, replicate}
-use Rattle.std.specs.Prelude.{position, nat_lt, not, ◌==◌, ◌&&◌, IfSome}
+use Rattle.std.proofs.Common.{arith, get_or, replicate, le_of_lt, sym}
+use Rattle.std.specs.Prelude.{position, nat_lt, not, ◌==◌}
 use Rattle.std.specs.List.{position_or_len}
 use Rattle.std.specs.Borrow.{Bor}
 use Rattle.std.proofs.lemmas.Bool.Decides.{nat_tests}
@@ -10,14 +10,19 @@ use Rattle.std.proofs.lemmas.List.Folds.{position_or_len_push}
 use Rattle.std.proofs.Math.ListN.{set}
 use Rattle.std.proofs.lemmas.List.{get_or-set_same, get_or-set_other, length_push}
 use Rattle.std.proofs.lemmas.List.{get_or-replicate, length-replicate, length-set}
-use Rattle.std.proofs.lemmas.List.Sums.{prefix_len-le-length}
-use Rattle.field_groups.specs.Index.{IsIndexed, counted_place, with_field}
+use Rattle.std.proofs.lemmas.List.Sums.{prefix_len-le-length, position_or_len_is}
+use Rattle.std.proofs.lemmas.List.Sums.{fails_before_first, passes_at_first}
+use Rattle.field_groups.specs.Index.{IsIndexed, counted_place, slot_of, with_field}
 
 abbrev pub Parts : Type 0
 Parts = List (ℕ × Bor (List ℕ))
 
 abbrev pub has : ℕ → ℕ × Bor (List ℕ) → Bool
 has tag part = part.0 == tag
+
+-- whether the tag of a part has a slot
+abbrev pub stands_in : ℕ → ℕ × Bor (List ℕ) → Bool
+stands_in slot part = slot_of part.0 == slot
 
 -- the first place that passes, with one more element
 abbrev pub or_last : Option ℕ → Bool → ℕ → Option ℕ
@@ -51,88 +56,181 @@ pub none_indexed : IsIndexed [] (replicate 512 0)
 none_indexed = record {
   few = omega arith;
   whole = length-replicate {A = ℕ} 512 0;
-  place = λ tag lt. let none : get_or (replicate 512 0) tag 0 ≡ 0 =
-      get_or-replicate {A = ℕ} 512 tag 0 0 lt in rw none refl;
+  place = λ slot lt. let none : get_or (replicate 512 0) slot 0 ≡ 0 =
+      get_or-replicate {A = ℕ} 512 slot 0 0 lt in rw none refl;
 }
 
--- a field whose tag has no place yet
+-- a field whose slot has no place yet
 pub placed : (parts : Parts) (first : List ℕ) (part : ℕ × Bor (List ℕ)) → IsIndexed parts first
-    → length parts < 256 → part.0 < 512 → get_or first part.0 0 ≡ 0
-    → IsIndexed (parts ++ part ∷ []) (set first part.0 (suc (length parts)))
-placed parts first part indexed few within none = record {
+    → length parts < 256 → get_or first (slot_of part.0) 0 ≡ 0
+    → IsIndexed (parts ++ part ∷ []) (set first (slot_of part.0) (suc (length parts)))
+placed parts first part indexed within none = record {
   few = omega (arith, length_push parts part);
-  whole = length-set first part.0 (suc (length parts)) ∙ indexed.whole;
-  place = λ tag lt. position-push (has tag) parts part
-      ∙ at tag (eqb part.0 tag) refl (indexed.place tag lt);
+  whole = length-set first (slot_of part.0) (suc (length parts)) ∙ indexed.whole;
+  place = λ slot lt. position-push (stands_in slot) parts part
+      ∙ at slot lt (eqb (slot_of part.0) slot) refl (indexed.place slot lt);
 }
   where
     or_none : (o : Option ℕ) → or_last o false (length parts) ≡ o
     or_none None = refl
     or_none (Some place) = refl
 
-    at : (tag : ℕ) (same : Bool) → eqb part.0 tag ≡ same
-        → position (has tag) parts ≡ counted_place (get_or first tag 0)
-        → or_last (position (has tag) parts) (eqb part.0 tag) (length parts)
-        ≡ counted_place (get_or (set first part.0 (suc (length parts))) tag 0)
-    at tag true e was =
-        let same : part.0 ≡ tag = grind (arith, nat_tests) in
-        let here : part.0 < length first = rw indexed.whole within in
-        rw (was, e, ← same, none, get_or-set_same first part.0 (suc (length parts)) 0 here)
-        refl
-    at tag false e was =
-        let other : tag ≢ part.0 = grind (arith, nat_tests) in
-        rw (was, e, get_or-set_other first part.0 tag (suc (length parts)) 0 other)
-        (or_none (counted_place (get_or first tag 0)))
+    at : (slot : ℕ) → slot < 512 → (same : Bool) → eqb (slot_of part.0) slot ≡ same
+        → position (stands_in slot) parts ≡ counted_place (get_or first slot 0)
+        → or_last (position (stands_in slot) parts) (eqb (slot_of part.0) slot) (length parts)
+        ≡ counted_place (get_or (set first (slot_of part.0) (suc (length parts))) slot 0)
+    at slot lt true e was =
+        let same : slot_of part.0 ≡ slot = grind (arith, nat_tests) in
+        let here : slot_of part.0 < length first = rw (indexed.whole, same) lt in
+        rw (
+          was,
+          e,
+          ← same,
+          none,
+          get_or-set_same first (slot_of part.0) (suc (length parts)) 0 here,
+        ) refl
+    at slot lt false e was =
+        let other : slot ≢ slot_of part.0 = grind (arith, nat_tests) in
+        rw (was, e, get_or-set_other first (slot_of part.0) slot (suc (length parts)) 0 other)
+        (or_none (counted_place (get_or first slot 0)))
 
--- a field whose tag has a place, or is not indexed
+-- a field whose slot has a place
 pub passed_by : (parts : Parts) (first : List ℕ) (part : ℕ × Bor (List ℕ)) → IsIndexed parts first
-    → length parts < 256 → (part.0 < 512 → get_or first part.0 0 ≢ 0)
+    → length parts < 256 → get_or first (slot_of part.0) 0 ≢ 0
     → IsIndexed (parts ++ part ∷ []) first
 passed_by parts first part indexed few later = record {
   few = omega (arith, length_push parts part);
   whole = indexed.whole;
-  place = λ tag lt. position-push (has tag) parts part
-      ∙ at tag lt (eqb part.0 tag) refl (get_or first tag 0) refl (indexed.place tag lt);
+  place = λ slot lt. position-push (stands_in slot) parts part
+      ∙ at slot (eqb (slot_of part.0) slot) refl (get_or first slot 0) refl
+      (indexed.place slot lt);
 }
   where
-    at : (tag : ℕ) → tag < 512 → (same : Bool) → eqb part.0 tag ≡ same
-        → (n : ℕ) → get_or first tag 0 ≡ n → position (has tag) parts ≡ counted_place n
-        → or_last (position (has tag) parts) (eqb part.0 tag) (length parts) ≡ counted_place n
-    at tag lt true e zero z was =
-        let same : part.0 ≡ tag = grind (arith, nat_tests) in
-        absurd (later (rw same lt) (rw same z))
-    at tag lt false e zero z was = rw (was, e) refl
-    at tag lt same e (suc n) z was = rw was refl
+    at : (slot : ℕ) → (same : Bool) → eqb (slot_of part.0) slot ≡ same
+        → (n : ℕ) → get_or first slot 0 ≡ n → position (stands_in slot) parts ≡ counted_place n
+        → or_last (position (stands_in slot) parts) (eqb (slot_of part.0) slot) (length parts)
+        ≡ counted_place n
+    at slot true e zero z was =
+        let same : slot_of part.0 ≡ slot = grind (arith, nat_tests) in
+        absurd (later (rw same z))
+    at slot false e zero z was = rw (was, e) refl
+    at slot same e (suc n) z was = rw was refl
 
 -- one more field, at its place
 pub pushed_indexed : (parts : Parts) (first : List ℕ) (part : ℕ × Bor (List ℕ)) (place : ℕ)
     → IsIndexed parts first → place ≡ length parts → place < 256
     → IsIndexed (parts ++ part ∷ []) (with_field first part.0 place)
 pushed_indexed parts first part place indexed last few =
-    rw last (by (nat_lt part.0 512) refl (eqb (get_or first part.0 0) 0) refl)
+    rw last (by (eqb (get_or first (slot_of part.0) 0) 0) refl)
   where
     room : length parts < 256
     room = rw (← last) few
 
-    by : (low : Bool) → nat_lt part.0 512 ≡ low
-        → (none : Bool) → eqb (get_or first part.0 0) 0 ≡ none
+    by : (none : Bool) → eqb (get_or first (slot_of part.0) 0) 0 ≡ none
         → IsIndexed (parts ++ part ∷ [])
-        (cond (low && none) (set first part.0 (suc (length parts))) first)
-    by true l true n =
-        placed parts first part indexed room (grind (arith, nat_tests)) (grind (arith, nat_tests))
-    by true l false n = passed_by parts first part indexed room (λ _. grind (arith, nat_tests))
-    by false l none n =
-        passed_by parts first part indexed room (λ low. absurd (grind (arith, nat_tests)))
+        (cond none (set first (slot_of part.0) (suc (length parts))) first)
+    by true n = placed parts first part indexed room (grind (arith, nat_tests))
+    by false n = passed_by parts first part indexed room (grind (arith, nat_tests))
 
--- what is found is among at most 256 fields
-pub few_found : (parts : Parts) (tag : ℕ) (o : Option ℕ) → length parts ≤ 256
-    → o ≡ position (has tag) parts → IfSome o (λ place. place < 256)
-few_found parts tag None few e = tt
-few_found parts tag (Some place) few e =
-    found (nat_lt (position_or_len (has tag) parts) (length parts)) refl e
+-- ---- what is found
+
+-- a place that was found is that of an element
+pub is_within : {X : Type 0} (p : X → Bool) (xs : List X) (place : ℕ) → position p xs ≡ Some place
+    → (place ≡ position_or_len p xs) × (place < length xs)
+is_within p xs place e = by (nat_lt (position_or_len p xs) (length xs)) refl e
   where
-    found : (in_front : Bool) → nat_lt (position_or_len (has tag) parts) (length parts) ≡ in_front
-        → Some place ≡ cond in_front (Some (position_or_len (has tag) parts)) None → place < 256
-    found true t s =
-        let same : place ≡ position_or_len (has tag) parts = cc in grind (arith, nat_tests)
-    found false t s = absurd cc
+    by : (in_front : Bool) → nat_lt (position_or_len p xs) (length xs) ≡ in_front
+        → cond in_front (Some (position_or_len p xs)) None ≡ Some place
+        → (place ≡ position_or_len p xs) × (place < length xs)
+    by true t s = let same : place ≡ position_or_len p xs = cc in
+        (same, rw same (grind (arith, nat_tests)))
+    by false t s = absurd cc
+
+module _ {X : Type 0} (p q : X → Bool) (under : (x : X) → p x ≡ false → q x ≡ false) where
+  -- the first that passes a wider test is the first that passes a narrower one, where it does
+  pub narrower : (xs : List X) (d : X) (place : ℕ) → position p xs ≡ Some place
+      → q (get_or xs place d) ≡ true → position q xs ≡ Some place
+  narrower xs d place e passes =
+      let within = is_within p xs place e in
+      let first : position_or_len q xs ≡ place = position_or_len_is q xs place d
+      (le_of_lt within.1)
+      (λ k lt. under (get_or xs k d) (fails_before_first p xs k d (rw (← within.0) lt)))
+      (λ lt. passes) in
+      let front : nat_lt place (length xs) ≡ true = grind (arith, nat_tests) in
+      rw (first, front) refl
+
+  -- where none passes a wider test, none passes a narrower one
+  none_in : (xs : List X) (d : X) → position p xs ≡ None → position q xs ≡ None
+  none_in xs d e =
+      by (nat_lt (position_or_len p xs) (length xs)) refl e
+      (nat_lt (position_or_len q xs) (length xs)) refl
+    where
+      by : (wide : Bool) → nat_lt (position_or_len p xs) (length xs) ≡ wide
+          → cond wide (Some (position_or_len p xs)) None ≡ None
+          → (narrow : Bool) → nat_lt (position_or_len q xs) (length xs) ≡ narrow
+          → cond narrow (Some (position_or_len q xs)) None ≡ None
+      by true w none narrow n = absurd cc
+      by false w none true n =
+          let here : position_or_len q xs < length xs = grind (arith, nat_tests) in
+          let before : position_or_len q xs < position_or_len p xs = grind (arith, nat_tests) in
+          let fails = under (get_or xs (position_or_len q xs) d)
+          (fails_before_first p xs (position_or_len q xs) d before) in
+          let passes = passes_at_first q xs d here in
+          absurd cc
+      by false w none false n = refl
+
+  pub none_narrower : (xs : List X) → position p xs ≡ None → position q xs ≡ None
+  none_narrower [] e = refl
+  none_narrower (x ∷ xs) e = none_in (x ∷ xs) x e
+
+-- a tag below 448 has a slot of its own
+own_slot : (other tag : ℕ) → tag < 448 → slot_of other ≡ slot_of tag → other ≡ tag
+own_slot other tag low e = by (nat_lt other 448) refl (nat_lt tag 448) refl e
+  where
+    by : (one : Bool) → nat_lt other 448 ≡ one → (its : Bool) → nat_lt tag 448 ≡ its
+        → cond one other (448 + other % 64) ≡ cond its tag (448 + tag % 64) → other ≡ tag
+    by true o true t e = e
+    by false o true t e = absurd (grind (arith, nat_tests))
+    by one o false t e = absurd (grind (arith, nat_tests))
+
+-- the slot of a tag, in an index of parts
+module _ (parts : Parts) (first : List ℕ) (tag slot : ℕ) (indexed : IsIndexed parts first)
+    (is : slot ≡ slot_of tag) (low : slot < 512) where
+  -- a part whose tag has another slot has another tag
+  other_slot : (part : ℕ × Bor (List ℕ)) → stands_in slot part ≡ false → has tag part ≡ false
+  other_slot part other = by (has tag part) refl
+    where
+      by : (same : Bool) → has tag part ≡ same → same ≡ false
+      by true s =
+          let tags : part.0 ≡ tag = grind (arith, nat_tests) in
+          let slots : slot_of part.0 ≡ slot = ap slot_of tags ∙ sym is in
+          absurd (grind (arith, nat_tests))
+      by false s = refl
+
+  -- no tag has a place whose slot has none
+  pub absent : counted_place (get_or first slot 0) ≡ None → position (has tag) parts ≡ None
+  absent none =
+      none_narrower (stands_in slot) (has tag) other_slot parts (indexed.place slot low ∙ none)
+
+  -- the first part of a slot is the first of its tag, where it has that tag
+  pub present : (place : ℕ) (d : ℕ × Bor (List ℕ)) → counted_place (get_or first slot 0) ≡ Some place
+      → (get_or parts place d).0 ≡ tag → position (has tag) parts ≡ Some place
+  present place d some here =
+      narrower (stands_in slot) (has tag) other_slot parts d place
+      (indexed.place slot low ∙ some) (grind (arith, nat_tests))
+
+  -- as it has where the slot is the tag's own
+  pub owned : (place : ℕ) → tag < 448 → counted_place (get_or first slot 0) ≡ Some place
+      → position (has tag) parts ≡ Some place
+  owned place own some = by parts refl
+    where
+      within : (place ≡ position_or_len (stands_in slot) parts) × (place < length parts)
+      within = is_within (stands_in slot) parts place (indexed.place slot low ∙ some)
+
+      by : (ps : Parts) → ps ≡ parts → position (has tag) parts ≡ Some place
+      by [] e = let none : place < 0 = rw (ap length e) within.1 in absurd (omega (arith, none))
+      by (part ∷ ps) e =
+          let stands : stands_in slot (get_or parts place part) ≡ true = rw within.0
+          (passes_at_first (stands_in slot) parts part (rw (← within.0) within.1)) in
+          present place part some
+          (own_slot (get_or parts place part).0 tag own (grind (arith, nat_tests) ∙ is))

@@ -1,6 +1,6 @@
 -- Inside: where the first field of each tag stands, kept beside the fields.
-use Rattle.std.specs.Prelude.{◌≡◌, ◌==◌, ◌<◌, ◌≤◌, ◌&&◌, ℕ, zero, suc, List, Option, Some}
-use Rattle.std.specs.Prelude.{None, length, position, nat_lt, slice_index, slice_set}
+use Rattle.std.specs.Prelude.{◌≡◌, ◌==◌, ◌<◌, ◌≤◌, ◌+◌, ◌%◌, ℕ, zero, suc, List}
+use Rattle.std.specs.Prelude.{Option, Some, None, length, nat_lt, position, slice_index, slice_set}
 use Rattle.std.specs.Prelude.{if◌then◌else◌}
 use Rattle.std.specs.Borrow.{Bor}
 
@@ -9,19 +9,22 @@ abbrev pub counted_place : ℕ → Option ℕ
 counted_place zero = None
 counted_place (suc place) = Some place
 
--- the tags that the index has
-abbrev pub indexed : ℕ
-indexed = 512
+-- The slots of the index, and that of a tag: tags below 448 have one each, all others share 64.
+abbrev pub slots : ℕ
+slots = 512
 
--- at most 256 fields, and for each tag below 512 the place of the first one
+abbrev pub slot_of : ℕ → ℕ
+slot_of tag = if nat_lt tag 448 then tag else 448 + tag % 64
+
+-- at most 256 fields, and for each slot the place of the first field whose tag has it
 pub record IsIndexed (parts : List (ℕ × Bor (List ℕ))) (first : List ℕ) : Type 0 where
   pub few : length parts ≤ 256
-  pub whole : length first ≡ indexed
-  pub place : (tag : ℕ) → tag < indexed
-      → position (λ part. part.0 == tag) parts ≡ counted_place (slice_index first tag)
+  pub whole : length first ≡ slots
+  pub place : (slot : ℕ) → slot < slots
+      → position (λ part. slot_of part.0 == slot) parts ≡ counted_place (slice_index first slot)
 
 -- the index with one more field at a place, counted from 0
 abbrev pub with_field : List ℕ → ℕ → ℕ → List ℕ
 with_field first tag place =
-    if nat_lt tag indexed && (slice_index first tag == 0)
-    then slice_set first tag (suc place) else first
+    if slice_index first (slot_of tag) == 0
+    then slice_set first (slot_of tag) (suc place) else first

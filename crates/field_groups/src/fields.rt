@@ -2,7 +2,7 @@
 
 ghost use Rattle.std.specs.Prelude.{◌≡◌, ◌==◌, ◌<◌, length, map, position};
 ghost use Rattle.std.specs.Slice.Iter.{iter_rest};
-ghost use Rattle.field_groups.specs.Index.{counted_place, indexed, with_field};
+ghost use Rattle.field_groups.specs.Index.{counted_place, slot_of, slots, with_field};
 
 use crate::fault::SplitFault;
 use std::alloc::{AllocError, Global};
@@ -12,8 +12,14 @@ use std::slice::Iter;
 /// The byte that ends a field.
 pub const SOH: u8 = 1;
 
-/// The tags below this one have a place in the index of fields.
-pub(crate) const INDEXED: usize = 512;
+/// The tags below this one have a slot each in the index of fields.
+const OWN: u32 = 448;
+
+/// The slots that all other tags share. Few of one message have the same.
+const SHARED: u32 = 64;
+
+/// The slots of the index of fields.
+const SLOTS: usize = 512;
 
 /// A field: its tag and its value, a part of the body.
 pub type Field<'a> = (u32, &'a [u8]);
@@ -22,8 +28,8 @@ pub type Field<'a> = (u32, &'a [u8]);
 #[derive(Debug, Drop)]
 pub struct Fields<'a> {
     parts: Vec<Field<'a>>,
-    // For each tag below 512 the place of its first field, counted from 1; 0 where none has it.
-    first: [u16; INDEXED],
+    // For each slot the place of the first field whose tag has it, counted from 1; 0 where none has.
+    first: [u16; SLOTS],
 }
 
 impl<'a> Model for Fields<'a> {
@@ -51,7 +57,7 @@ impl<'a> Fields<'a> {
     {
         Ok(Fields {
             parts: Vec::with_capacity(alloc, capacity)?,
-            first: [0; INDEXED],
+            first: [0; SLOTS],
         })
     }
 
@@ -98,12 +104,15 @@ impl<'a> Fields<'a> {
         ensures place { result ≡ position (λ field. field.0 == tag) self.now }
         ensures few { IfSome result (λ place. place < 256) }
     {
-        let index = tag as usize;
-        if index < INDEXED {
-            counted_place(self.first[index])
-        } else {
-            first_place(&self.parts, tag)
+        let place = counted_place(self.first[slot_of(tag)])?;
+        if tag < OWN {
+            return Some(place);
         }
+        // The field of another tag may stand there.
+        if self.parts[place].0 == tag {
+            return Some(place);
+        }
+        first_place(&self.parts, tag)
     }
 
     /// All fields, in order.
@@ -135,16 +144,29 @@ impl<'f, 'a> IntoIterator for &'f Fields<'a> {
     }
 }
 
-/// Indexes a field at a place, if it is the first with its tag.
+/// The slot of a tag.
 #[inline(always)]
-fn index_field(first: &mut [u16; INDEXED], tag: u32, place: usize)
-    requires whole { length first.old ≡ indexed }
+fn slot_of(tag: u32) -> usize
+    ensures value { result ≡ slot_of tag }
+    ensures within { result < SLOTS }
+{
+    if tag < OWN {
+        tag as usize
+    } else {
+        (OWN + tag % SHARED) as usize
+    }
+}
+
+/// Indexes a field at a place, if it is the first whose tag has its slot.
+#[inline(always)]
+fn index_field(first: &mut [u16; SLOTS], tag: u32, place: usize)
+    requires whole { length first.old ≡ slots }
     requires place { place < 256 }
     ensures { first.new ≡ with_field first.old tag place }
 {
-    let index = tag as usize;
-    if index < INDEXED && first[index] == 0 {
-        first[index] = place as u16 + 1;
+    let slot = slot_of(tag);
+    if first[slot] == 0 {
+        first[slot] = place as u16 + 1;
     }
 }
 
