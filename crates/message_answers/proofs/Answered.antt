@@ -1,5 +1,5 @@
 -- What is answered to a message, by what each step of the code found.
-use Rattle.std.proofs.Common.{◌≡◌, ◌≤◌, ◌<◌, ◌++◌, ℕ, Bool, true, false, List, [], ◌∷◌, codes}
+use Rattle.std.proofs.Common.{◌≡◌, ◌≤◌, ◌<◌, ℕ, Bool, true, false, List, [], ◌∷◌}
 use Rattle.std.proofs.Common.{length, nat_lt, Option, Some, None, Result, Ok, Err, refl, sym, ap}
 use Rattle.std.proofs.Common.{subst, ◌∙◌, arith, if◌then◌else◌}
 use Rattle.std.specs.Prelude.{IfOk}
@@ -19,13 +19,13 @@ use Rattle.row_values.specs.Gives.{Tells}
 use Rattle.refusal_parts.specs.Said.{business_reject_says, session_reject_says}
 use Rattle.reject_rules.specs.Refusals.{refusal_of}
 use Rattle.event_decisions.specs.Body.{type_of}
-use Rattle.event_decisions.specs.Decide.{Asked, Words}
+use Rattle.event_decisions.specs.Decide.{Words}
 use Rattle.message_answers.specs.declared.answer.Answer.{Answer as GivenAnswer}
 use Rattle.message_answers.specs.declared.asking.Asked.{Asked as GivenAsked}
 use Rattle.message_answers.specs.declared.asking.Known.{Known as GivenKnown}
 use Rattle.message_answers.specs.Answer.{Gives, near_if}
 use Rattle.message_answers.specs.Answer.{refused, spelled, told, in_order, answered, forwarded}
-use Rattle.message_answers.specs.Answer.{to_near, near_words, words_of, too_long}
+use Rattle.message_answers.specs.Answer.{near_words, words_of, too_long}
 use Rattle.message_answers.specs.Answer.{Answers, AnswersBy}
 use Rattle.message_answers.specs.Chains.{chains_of}
 use Rattle.message_answers.specs.Known.{Known, known_of, named}

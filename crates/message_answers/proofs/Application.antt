@@ -2,7 +2,7 @@
 use Rattle.std.proofs.Common.{◌≡◌, ℕ, Bool, true, false, not, List, [], ◌∷◌, length, nat_lt}
 use Rattle.std.proofs.Common.{Option, Some, None, Result, Ok, Err, refl, sym, subst, IfSome}
 use Rattle.std.proofs.Common.{if◌then◌else◌}
-use Rattle.field_groups.specs.Field.{Field, body_of}
+use Rattle.field_groups.specs.Field.{body_of}
 use Rattle.message_tables.specs.Tables.{Message}
 use Rattle.order_meaning.specs.declared.Side.{Side}
 use Rattle.order_meaning.specs.declared.Side.TheVariants.{Client, Venue}
@@ -18,9 +18,9 @@ use Rattle.dict_fix42.specs.Sense.{request42}
 use Rattle.request_translate.specs.Lack.{lack_if}
 use Rattle.event_decisions.specs.Body.{type_of}
 use Rattle.event_decisions.specs.Decide.{Asked, Words}
-use Rattle.message_answers.specs.Answer.{Answer, Nothing, Near, Far, Forward, AnswersBy, Gives}
+use Rattle.message_answers.specs.Answer.{Answer, Nothing, Near, Forward, AnswersBy, Gives}
 use Rattle.message_answers.specs.Answer.{answered, forwarded, in_order, is_used, lack_of_report}
-use Rattle.message_answers.specs.Answer.{near_words, original_of, other, refused, reported}
+use Rattle.message_answers.specs.Answer.{near_words, original_of, other, refused}
 use Rattle.message_answers.specs.Answer.{requested, spelled, told, too_long, used}
 use Rattle.message_answers.specs.Known.{Known, named}
 use Rattle.message_answers.specs.Message.{is_business, is_refusal, message_of, refusal_in}

@@ -5,7 +5,6 @@ use Rattle.field_groups.specs.Field.{Field}
 use Rattle.message_tables.specs.Tables.{Message}
 use Rattle.order_meaning.specs.declared.Side.{Side}
 use Rattle.order_meaning.specs.declared.Side.TheVariants.{Client, Venue}
-use Rattle.order_meaning.specs.Book.{Book}
 use Rattle.order_meaning.specs.Report.{Report, Executed, NotCanceled, filled, or_known}
 use Rattle.exec_translate.specs.Laws.{BooksChangeAlike}
 use Rattle.reports_fix42.specs.Said.{cancel_reject_says, report_says}

@@ -1,6 +1,6 @@
 -- The ExecType(150) of a report that was read, and its lack.
-use Rattle.std.proofs.Common.{◌≡◌, ℕ, Bool, true, false, ◌==◌, ◌&&◌, ◌||◌, List, [], ◌∷◌, codes}
-use Rattle.std.proofs.Common.{Option, Some, None, Result, Ok, Err, refl, sym, ap, subst, ◌∙◌}
+use Rattle.std.proofs.Common.{◌≡◌, ℕ, Bool, true, false, ◌&&◌, ◌||◌, List, [], ◌∷◌, codes}
+use Rattle.std.proofs.Common.{Option, Some, None, Ok, refl, sym, ap, ◌∙◌}
 use Rattle.std.proofs.Common.{if◌then◌else◌, option_map}
 use Rattle.std.specs.Prelude.{is_none, is_some}
 use Rattle.field_groups.specs.declared.fault.SplitFault.{SplitFault}
@@ -14,7 +14,6 @@ use Rattle.row_values.specs.Faults.{told}
 use Rattle.row_values.specs.Kinds.{Value, judge, verdict_of}
 use Rattle.rows_fix50.specs.Header.{completed, completed_by}
 use Rattle.reports_fix42.specs.declared.reports.Report42.{Report42}
-use Rattle.reports_fix42.specs.declared.reports.CancelReject42.{CancelReject42}
 use Rattle.reports_fix42.specs.Said as said42
 use Rattle.reports_fix42.specs.Sense.{report42}
 use Rattle.reports_fix50.specs.declared.reports.Report50.{Report50}

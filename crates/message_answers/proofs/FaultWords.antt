@@ -2,7 +2,7 @@
 -- reasons are few.
 use Rattle.std.proofs.Common.{◌≡◌, ◌<◌, ◌≤◌, ◌^◌, ◌==◌, ◌&&◌, ◌||◌, ℕ, Bool, true, false, not}
 use Rattle.std.proofs.Common.{List, []}
-use Rattle.std.proofs.Common.{◌∷◌, ◌++◌, map, Option, Some, None, Result, Ok, Err, IfSome, refl}
+use Rattle.std.proofs.Common.{◌∷◌, map, Option, Some, None, Ok, Err, IfSome, refl}
 use Rattle.std.proofs.Common.{sym}
 use Rattle.std.proofs.Common.{subst, arith, lit<, if◌then◌else◌, codes}
 use Rattle.std.specs.Prelude.{nat_le}
@@ -10,7 +10,6 @@ use Rattle.std.specs.List.{AllByRecursion, flat_map, list_all, list_any}
 use Rattle.std.specs.Str.{bytes_eq}
 use Rattle.std.proofs.lemmas.Bool.{eqb-true}
 use Rattle.std.proofs.lemmas.Bool.Decides.{nat_tests}
-use Rattle.typed_fields.specs.declared.fault.FieldFault.{FieldFault}
 use Rattle.typed_fields.specs.declared.fault.FieldFault.TheVariants.{Empty, Form, Range}
 use Rattle.typed_fields.specs.declared.month_year.MonthYear.{MonthYear as MonthValue}
 use Rattle.typed_fields.specs.Day.{is_date}
@@ -25,11 +24,11 @@ use Rattle.message_tables.specs.declared.table_fault.TableFault.{TableFault}
 use Rattle.message_tables.specs.declared.table_fault.TableFault.TheVariants.{Reason}
 use Rattle.message_tables.specs.declared.table_fault.Mark.{Mark}
 use Rattle.message_tables.specs.declared.table_fault.Mark.TheVariants as marks
-use Rattle.message_tables.specs.Tables.{GroupTags, Item, Lenient, Lines, Message, Need, One}
+use Rattle.message_tables.specs.Tables.{GroupTags, Item, Lenient, Lines, Need, One}
 use Rattle.message_tables.specs.Tables.{Optional}
 use Rattle.message_tables.specs.Tables.{Outside, Party, Required, Fixed, When, Row, Said, Spells}
 use Rattle.message_tables.specs.Tables.{Table}
-use Rattle.message_tables.specs.Tables.{Verdict, Wrong, all_rows, first_of, groups_of, has_tag}
+use Rattle.message_tables.specs.Tables.{Verdict, Wrong, all_rows, first_of, has_tag}
 use Rattle.message_tables.specs.Tables.{is_inside, is_listed, is_needed, is_one_of, lines_in}
 use Rattle.message_tables.specs.Tables.{or_else, row_at, tags_in, value_at}
 use Rattle.message_tables.specs.FirstFault.{Marked, Placed, allowed, beyond, by_row, fault_if}

@@ -1,6 +1,6 @@
 -- The request that an entry forwarded, as the code reads it.
 use Rattle.std.proofs.Common.{◌≡◌, ℕ, Bool, true, false, not, ◌==◌, ◌&&◌, ◌||◌, List, [], ◌∷◌}
-use Rattle.std.proofs.Common.{codes, Option, Some, None, Result, Ok, Err, refl, sym, ap, subst, ◌∙◌}
+use Rattle.std.proofs.Common.{Option, Some, None, Result, Ok, Err, refl, sym, ap, subst, ◌∙◌}
 use Rattle.std.proofs.Common.{if◌then◌else◌}
 use Rattle.std.specs.Borrow.{Bor}
 use Rattle.std.specs.List.{list_any}
@@ -18,7 +18,7 @@ use Rattle.order_chains.specs.declared.item.ChainItem.{ChainItem}
 use Rattle.pair_journal.specs.declared.entry.Took.{Took}
 use Rattle.pair_journal.specs.declared.entry.Out.{Out}
 use Rattle.pair_journal.specs.declared.entry.Entry.{Entry}
-use Rattle.pair_journal.specs.Given.{has_letter, is_source, letter_of, letters_to, source_in}
+use Rattle.pair_journal.specs.Given.{has_letter, is_source, letter_of, letters_to}
 use Rattle.pair_journal.specs.Numbers.{is_side}
 use Rattle.row_values.specs.Faults.{message_by, told}
 use Rattle.row_values.specs.Gives.{IsCleanIf}
@@ -28,7 +28,7 @@ use Rattle.dict_fix42.specs.Message.{message42, table_of}
 use Rattle.dict_fix42.specs.Requests.{cancel_request, new_order, replace_request}
 use Rattle.reports_fix42.specs.Message as reports42
 use Rattle.translation.specs.Header.{type_of as type_in}
-use Rattle.event_decisions.specs.Body.{Reading, first_value, reading_of, type_of}
+use Rattle.event_decisions.specs.Body.{Reading, first_value, reading_of}
 use Rattle.event_decisions.proofs.Bodies.{bodies_are_read}
 use Rattle.message_answers.specs.Chains.{joining, joining_letter, item_in, item_of}
 use Rattle.message_answers.specs.Message.{is_refusal_type, message_of, said_in}

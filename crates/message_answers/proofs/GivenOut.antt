@@ -1,11 +1,11 @@
 -- Every answer that is given out can be sent.
-use Rattle.std.proofs.Common.{◌≡◌, ◌≤◌, ◌<◌, ◌^◌, ℕ, ◌==◌, ◌&&◌, ◌||◌, not, Bool, true, false, List}
+use Rattle.std.proofs.Common.{◌≡◌, ◌≤◌, ◌<◌, ◌^◌, ℕ, ◌&&◌, ◌||◌, not, Bool, true, false, List}
 use Rattle.std.proofs.Common.{[], ◌∷◌, codes, length, nat_lt, Option, Some, None, Result, Ok, Err}
-use Rattle.std.proofs.Common.{IfSome, refl, sym, ap, subst, ◌∙◌, arith, lit<, if◌then◌else◌, inl}
+use Rattle.std.proofs.Common.{IfSome, refl, sym, ap, subst, arith, lit<, if◌then◌else◌, inl}
 use Rattle.std.proofs.Common.{inr}
 use Rattle.std.specs.Prelude.{All, is_none}
 use Rattle.std.specs.Fmt.{decimal}
-use Rattle.std.specs.List.{AllByRecursion, list_all, list_any}
+use Rattle.std.specs.List.{AllByRecursion, list_any}
 use Rattle.std.specs.Str.{bytes_eq}
 use Rattle.std.proofs.lemmas.Bool.Decides.{nat_tests}
 use Rattle.std.proofs.lemmas.List.Elements.{All-head, All-tail}
@@ -39,13 +39,13 @@ use Rattle.request_translate.specs.Lack.{lack_if, lacks_capacity, lacks_time}
 use Rattle.event_decisions.specs.Body.{first_value, reading_of, type_of}
 use Rattle.event_decisions.specs.Decide.{Asked, Words}
 use Rattle.event_decisions.proofs.Bodies.{bodies_are_read}
-use Rattle.message_answers.specs.Answer.{Answers, Gives, answered, forwarded, in_order, is_used}
+use Rattle.message_answers.specs.Answer.{Gives, answered, forwarded, in_order, is_used}
 use Rattle.message_answers.specs.Answer.{lack_of_report, lacks_original, near_if, near_words}
 use Rattle.message_answers.specs.Answer.{original_of, other, refused, reported, requested, spelled}
 use Rattle.message_answers.specs.Answer.{Forward, Near, to_near, told, too_long, used}
 use Rattle.message_answers.specs.Known.{known_of, named}
 use Rattle.message_answers.specs.Laws.{AnswersAreGivenOut, AreNumbered, IsGivenOut, IsGivenType}
-use Rattle.message_answers.specs.Laws.{is_in_header, session_types}
+use Rattle.message_answers.specs.Laws.{session_types}
 use Rattle.message_answers.specs.Message.{is_business, is_refusal, message_of, refusal_in}
 use Rattle.message_answers.specs.Translated.{GoesOn}
 use Rattle.message_answers.proofs.FaultWords.{split_words}

@@ -1,6 +1,6 @@
 -- The chains of a journal, entry by entry.
-use Rattle.std.proofs.Common.{◌≡◌, ◌≢◌, ℕ, zero, suc, ◌+◌, List, [], ◌∷◌, ◌++◌, take, refl, sym, ap}
-use Rattle.std.proofs.Common.{◌∙◌, Option, Some, None, arith, length}
+use Rattle.std.proofs.Common.{◌≡◌, ℕ, zero, suc, ◌+◌, List, [], ◌∷◌, ◌++◌, take, sym, ap}
+use Rattle.std.proofs.Common.{◌∙◌, Option, Some, arith, length}
 use Rattle.std.proofs.lemmas.List.{take_all}
 use Rattle.std.specs.Option.{ForSome}
 use Rattle.order_meaning.specs.declared.names.Names.{Names}

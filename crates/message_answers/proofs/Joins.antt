@@ -1,6 +1,6 @@
 -- The request that joins by an answer, as an entry forwards it.
-use Rattle.std.proofs.Common.{◌≡◌, ℕ, Bool, true, false, not, ◌==◌, ◌&&◌, ◌||◌, List, [], ◌∷◌}
-use Rattle.std.proofs.Common.{codes, take, Option, Some, None, Result, Ok, Err, refl, sym, ap}
+use Rattle.std.proofs.Common.{◌≡◌, ℕ, Bool, true, false, ◌==◌, ◌&&◌, List, [], ◌∷◌}
+use Rattle.std.proofs.Common.{codes, Option, Some, None, Result, Ok, Err, refl, sym, ap}
 use Rattle.std.proofs.Common.{subst, ◌∙◌, if◌then◌else◌}
 use Rattle.std.specs.Prelude.{IfOk}
 use Rattle.std.specs.List.{list_any}
@@ -17,10 +17,9 @@ use Rattle.session_core.specs.declared.said.Said.{Said}
 use Rattle.pair_journal.specs.declared.entry.Took.{Took}
 use Rattle.pair_journal.specs.declared.entry.Out.{Out}
 use Rattle.pair_journal.specs.declared.entry.Entry.{Entry}
-use Rattle.pair_journal.specs.Given.{has_letter, is_source, letter_of, source_in}
+use Rattle.pair_journal.specs.Given.{has_letter, is_source, letter_of}
 use Rattle.reject_rules.specs.Content.{business_reject}
 use Rattle.reject_rules.specs.Renumbered.{renumbered}
-use Rattle.event_decisions.specs.Body.{type_of}
 use Rattle.event_decisions.specs.Decide.{Words, out_of}
 use Rattle.event_decisions.specs.Laws.{AreWords}
 use Rattle.message_answers.specs.declared.answer.Answer.{Answer as GivenAnswer}

@@ -8,7 +8,7 @@ use Rattle.std.specs.Option.{option_to_list}
 use Rattle.std.specs.Result.{result_ok}
 use Rattle.std.proofs.lemmas.Bool.{eqb-true}
 use Rattle.field_groups.specs.Field.{is_soh}
-use Rattle.message_tables.specs.Tables.{Message, Tag, ◌>>=◌, first_of, is_one_of, said_at}
+use Rattle.message_tables.specs.Tables.{Message, Tag, ◌>>=◌, first_of, said_at}
 use Rattle.order_meaning.specs.declared.Side.{Side}
 use Rattle.order_meaning.specs.declared.Side.TheVariants.{Client, Venue}
 use Rattle.order_meaning.specs.declared.fault.Fault.{Fault}

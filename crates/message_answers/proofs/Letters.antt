@@ -1,6 +1,6 @@
 -- Letters that are among some, and the letter of a message that was read.
 use Rattle.std.proofs.Common.{◌≡◌, ℕ, Bool, true, false, ◌==◌, ◌||◌, ◌&&◌, List, [], ◌∷◌, refl}
-use Rattle.std.proofs.Common.{sym, subst, Option, Some, None, if◌then◌else◌}
+use Rattle.std.proofs.Common.{subst, Option, Some, None, if◌then◌else◌}
 use Rattle.std.specs.List.{list_all}
 use Rattle.std.proofs.lemmas.Bool.{eqb-true}
 use Rattle.message_tables.specs.Tables.{◌>>=◌, is_one_of}

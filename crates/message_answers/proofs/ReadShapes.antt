@@ -1,5 +1,5 @@
 -- By which table a message of a side is read, and what that says of it.
-use Rattle.std.proofs.Common.{◌≡◌, ℕ, ◌==◌, ◌||◌, ◌&&◌, not, Bool, true, false, List, [], ◌∷◌}
+use Rattle.std.proofs.Common.{◌≡◌, ℕ, ◌==◌, ◌||◌, not, Bool, true, false, List}
 use Rattle.std.proofs.Common.{codes}
 use Rattle.std.proofs.Common.{Option, Some, None, Result, Ok, Err, IfSome, refl, sym, ap, subst}
 use Rattle.std.proofs.Common.{◌∙◌}

@@ -1,7 +1,7 @@
 -- What is answered to a report of the venue.
-use Rattle.std.proofs.Common.{◌≡◌, ℕ, Bool, true, false, ◌||◌, List, [], ◌∷◌, codes, Option, Some}
+use Rattle.std.proofs.Common.{◌≡◌, ℕ, Bool, true, false, ◌||◌, List, codes, Option, Some}
 use Rattle.std.proofs.Common.{None, Result, Ok, Err, refl, sym, ap, subst, ◌∙◌, inl, inr}
-use Rattle.std.proofs.Common.{if◌then◌else◌, option_map}
+use Rattle.std.proofs.Common.{option_map}
 use Rattle.std.specs.Prelude.{IfOk}
 use Rattle.std.specs.Str.{bytes_eq}
 use Rattle.std.proofs.lemmas.Slice.Eq.{bytes_eq-Decides}
@@ -9,13 +9,12 @@ use Rattle.field_groups.specs.declared.fault.SplitFault.{SplitFault}
 use Rattle.field_groups.specs.Field.{Field, body_of}
 use Rattle.message_tables.specs.Tables.{Message, is_one_of}
 use Rattle.order_meaning.specs.declared.Side.{Side}
-use Rattle.order_meaning.specs.declared.Side.TheVariants.{Client, Venue}
+use Rattle.order_meaning.specs.declared.Side.TheVariants.{Venue}
 use Rattle.order_meaning.specs.declared.fault.Fault.{Fault}
 use Rattle.order_meaning.specs.declared.fault.Fault.TheVariants as faults
 use Rattle.order_meaning.specs.declared.fault.Lack.{Lack}
 use Rattle.order_meaning.specs.declared.fault.Lack.TheVariants as lacks
 use Rattle.order_meaning.specs.Report.{filled, or_known}
-use Rattle.order_chains.specs.declared.item.ChainItem.{ChainItem}
 use Rattle.row_values.specs.Gives.{Tells}
 use Rattle.reports_fix42.specs.declared.reports.Report42.{Report42}
 use Rattle.reports_fix42.specs.declared.reports.CancelReject42.{CancelReject42}

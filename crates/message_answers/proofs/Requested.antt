@@ -1,5 +1,5 @@
 -- What is answered to a request of the client.
-use Rattle.std.proofs.Common.{◌≡◌, ℕ, Bool, true, false, not, ◌&&◌, List, [], ◌∷◌, codes, Option}
+use Rattle.std.proofs.Common.{◌≡◌, ℕ, Bool, true, false, not, List, [], ◌∷◌, codes, Option}
 use Rattle.std.proofs.Common.{Some, None, Result, Ok, Err, refl, sym, ap, subst, ◌∙◌}
 use Rattle.std.proofs.Common.{if◌then◌else◌}
 use Rattle.std.specs.Prelude.{IfOk}
@@ -12,7 +12,7 @@ use Rattle.message_tables.specs.Tables.{Message, Table}
 use Rattle.message_tables.specs.FirstFault.{first_fault, message_in as message_by_rows, message_of}
 use Rattle.message_tables.specs.FirstFault.{unless}
 use Rattle.order_meaning.specs.declared.Side.{Side}
-use Rattle.order_meaning.specs.declared.Side.TheVariants.{Client, Venue}
+use Rattle.order_meaning.specs.declared.Side.TheVariants.{Client}
 use Rattle.order_meaning.specs.declared.fault.Fault.{Fault}
 use Rattle.order_meaning.specs.declared.fault.Lack.{Lack}
 use Rattle.order_meaning.specs.declared.fault.Lack.TheVariants as lacking
@@ -39,7 +39,7 @@ use Rattle.request_translate.specs.Lack.{lack_if, IsLackOf}
 use Rattle.request_translate.specs.Laws.{ReadIsSound}
 use Rattle.request_translate.specs.Translation.{IsRequest, News, Cancels, Replaces, Statuses}
 use Rattle.request_translate.specs.Up.{IsSound42}
-use Rattle.event_decisions.specs.Body.{reading_of, type_of}
+use Rattle.event_decisions.specs.Body.{type_of}
 use Rattle.event_decisions.proofs.Bodies.{bodies_are_read}
 use Rattle.message_answers.specs.declared.answer.Answer.{Answer as GivenAnswer}
 use Rattle.message_answers.specs.declared.asking.Asked.{Asked as GivenAsked}

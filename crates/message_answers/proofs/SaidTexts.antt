@@ -1,6 +1,6 @@
 -- The ids and the texts that the fields of a body say have no SOH, and are not too long.
-use Rattle.std.proofs.Common.{◌≡◌, ◌≤◌, ◌<◌, ◌^◌, ℕ, Bool, true, false, not, List, [], ◌∷◌, length}
-use Rattle.std.proofs.Common.{Option, Some, None, Ok, Err, IfSome, refl, sym, subst, arith}
+use Rattle.std.proofs.Common.{◌≡◌, ◌≤◌, ℕ, Bool, true, false, not, List, [], ◌∷◌, length}
+use Rattle.std.proofs.Common.{Option, Some, None, Ok, Err, IfSome, refl, arith}
 use Rattle.std.proofs.Common.{if◌then◌else◌}
 use Rattle.std.specs.Prelude.{nat_le, ◌&&◌}
 use Rattle.std.specs.Char.{is_ascii_digit}
@@ -12,13 +12,12 @@ use Rattle.typed_fields.specs.declared.fault.FieldFault.TheVariants.{Range}
 use Rattle.field_groups.specs.Data.{is_data_tag}
 use Rattle.field_groups.specs.Field.{Field, AreFields, is_soh}
 use Rattle.field_groups.specs.HeadValues.{number_in}
-use Rattle.message_tables.specs.Tables.{Cell, Message, Said, Spells, Tag, ◌>>=◌, said_at, text_of}
+use Rattle.message_tables.specs.Tables.{Cell, Message, Said, Tag, ◌>>=◌, said_at, text_of}
 use Rattle.message_tables.specs.Tables.{value_at}
 use Rattle.order_meaning.specs.declared.refusal.Refusal.{Refusal}
 use Rattle.value_kinds.specs.ValueKind.{Id, Text, spelling}
 use Rattle.row_values.specs.Amounts.{number_if}
 use Rattle.row_values.specs.Kinds.{Value, judge, verdict_of}
-use Rattle.sound_messages.proofs.Each.{both}
 use Rattle.sound_messages.proofs.Good.{held}
 use Rattle.sound_messages.proofs.ReadSound.{IsClearField}
 use Rattle.exec_translate.proofs.DownValues.{IsId}

@@ -1,24 +1,19 @@
 -- The content of what goes on: fields that are no raw data, not too many, and none of them of the
 -- header.
 use Rattle.std.proofs.Common.{◌≡◌, ◌≤◌, ℕ, ◌==◌, ◌||◌, not, Bool, true, false, List, [], ◌∷◌, map}
-use Rattle.std.proofs.Common.{codes, length, Option, Some, None, Ok, IfSome, refl, sym, ap, subst}
-use Rattle.std.proofs.Common.{◌∙◌, arith, lit≤, option_map, inl, inr}
-use Rattle.std.specs.List.{AllByRecursion, flat_map, list_all, list_any}
-use Rattle.typed_fields.specs.Stamp.{stamp_text}
-use Rattle.typed_fields.specs.Number.{number_text}
+use Rattle.std.proofs.Common.{length, Option, Some, None, Ok, IfSome, refl, sym, ap, subst}
+use Rattle.std.proofs.Common.{◌∙◌, arith, lit≤}
+use Rattle.std.specs.List.{flat_map, list_all, list_any}
 use Rattle.field_groups.specs.declared.fault.SplitFault.{SplitFault}
 use Rattle.field_groups.specs.Data.{is_data_tag}
 use Rattle.field_groups.specs.Field.{Field, AreFields}
 use Rattle.field_groups.proofs.Plain.{plain_are}
-use Rattle.message_tables.specs.Tables.{Message, Said, Spells, Table, Tag, is_one_of, said_at}
+use Rattle.message_tables.specs.Tables.{Message, Table, Tag, is_one_of, said_at}
 use Rattle.message_tables.specs.Content.{content}
-use Rattle.order_meaning.specs.declared.Side.{Side}
-use Rattle.order_meaning.specs.declared.Side.TheVariants.{Client, Venue}
 use Rattle.order_meaning.specs.Report.{or_known}
 use Rattle.value_kinds.specs.ValueKind.{Id}
-use Rattle.value_kinds.specs.CodeKinds.{code_text}
 use Rattle.row_values.specs.Faults.{message_by}
-use Rattle.row_values.specs.Kinds.{Kind, Value, judge, row}
+use Rattle.row_values.specs.Kinds.{Kind, Value, judge}
 use Rattle.rows_fix50.specs.Header.{completed, completed_by, table}
 use Rattle.dict_fix50.specs.Requests.{new_order, cancel_request, replace_request, status_request}
 use Rattle.reports_fix42.specs.declared.reports.CancelReject42.{CancelReject42}
@@ -29,12 +24,12 @@ use Rattle.reports_fix50.specs.Message as reports50
 use Rattle.reports_fix50.specs.Readable as reports50_readable
 use Rattle.reports_fix50.specs.Reports.{cancel_reject}
 use Rattle.reports_fix50.specs.Said as said50
-use Rattle.sound_messages.specs.Sound.{IsItem, IsSaid, IsSound}
+use Rattle.sound_messages.specs.Sound.{IsSound}
 use Rattle.sound_messages.proofs.Completed.{other_said}
 use Rattle.sound_messages.proofs.Each.{both, not_true}
 use Rattle.sound_messages.proofs.Found.{items_of}
 use Rattle.sound_messages.proofs.PlainFields.{all_of, few_of, has_good_tags, most_of, times}
-use Rattle.sound_messages.proofs.RowsSaid.{optional_said, same_value}
+use Rattle.sound_messages.proofs.RowsSaid.{optional_said}
 use Rattle.sound_messages.proofs.Stages.{AreOf, item_tags}
 use Rattle.request_translate.specs.Translation.{IsRequest, News, Cancels, Replaces, Statuses}
 use Rattle.exec_translate.specs.Written.{IsWrittenReject}
@@ -42,7 +37,7 @@ use Rattle.exec_translate.proofs.DownRows.{GoDown, SaysAlike, items_down}
 use Rattle.exec_translate.proofs.SoundDown.{IsRead, reject_sound, report_sound}
 use Rattle.report_translate.proofs.ReadReports.{reject_read, report_read}
 use Rattle.message_answers.specs.Laws.{header_tags, is_in_header}
-use Rattle.message_answers.specs.Translated.{GoesUp, IsNotCanceled, IsReported}
+use Rattle.message_answers.specs.Translated.{IsNotCanceled, IsReported}
 use Rattle.message_answers.proofs.Letters.{among}
 use Rattle.message_answers.proofs.SaidTexts.{AreClear, IsShortId}
 

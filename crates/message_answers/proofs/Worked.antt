@@ -29,7 +29,6 @@ use Rattle.reports_fix42.specs.Message.{message42 as refusal42}
 use Rattle.reports_fix50.specs.Message.{message50}
 use Rattle.reports_fix50.specs.Sense.{exec_of}
 use Rattle.event_decisions.specs.Body.{reading_of}
-use Rattle.event_decisions.specs.Decide.{Asked}
 use Rattle.message_answers.specs.Chains.{chains_of}
 use Rattle.message_answers.specs.Known.{Known}
 use Rattle.message_answers.specs.Answer.{Answer, Nothing, Near, Far, Forward, answer_to}

@@ -1,14 +1,13 @@
 -- Inside: how the code keeps what is asked, what is known and what is answered; no clause of a
 -- public call rests on it.
-use Rattle.std.specs.Prelude.{◌≡◌, ◌≤◌, ◌<◌, ℕ, Bool, true, false, ◌&&◌, List, [], ◌∷◌, codes}
-use Rattle.std.specs.Prelude.{length, Option, Some, None, Result, Ok, Err, if◌then◌else◌}
+use Rattle.std.specs.Prelude.{◌≡◌, ◌≤◌, ◌<◌, ℕ, Bool, true, false, List, [], ◌∷◌, codes}
+use Rattle.std.specs.Prelude.{length, Option, Some, None, Result, if◌then◌else◌}
 use Rattle.std.specs.Prelude.{IfSome, ◌==◌, unwrap_or}
 use Rattle.std.specs.Option.{option_map}
 use Rattle.frame_grammar.specs.Frame.{IsBody}
 use Rattle.field_groups.specs.Field.{Field, body_of}
 use Rattle.message_tables.specs.Tables.{Tag, Message, is_one_of, said_at, text_in}
 use Rattle.order_meaning.specs.declared.Side.{Side}
-use Rattle.order_meaning.specs.declared.Side.TheVariants.{Client, Venue}
 use Rattle.order_meaning.specs.declared.fault.Fault.{Fault}
 use Rattle.order_meaning.specs.declared.fault.Fault.TheVariants.{NoCounterpart}
 use Rattle.order_meaning.specs.declared.fault.Lack.{Lack}
@@ -27,7 +26,6 @@ use Rattle.reject_rules.specs.Renumbered.{renumbered}
 use Rattle.message_answers.specs.declared.answer.Answer.{Answer as GivenAnswer}
 use Rattle.message_answers.specs.declared.asking.Asked.{Asked as GivenAsked}
 use Rattle.message_answers.specs.declared.asking.Known.{Known as GivenKnown}
-use Rattle.message_answers.specs.declared.asking.Words.{Words as GivenWords}
 use Rattle.event_decisions.specs.Body.{reading_of, type_of}
 use Rattle.event_decisions.specs.Decide.{Asked, Words}
 use Rattle.event_decisions.specs.Laws.{AreWords}

@@ -1,8 +1,7 @@
 -- One entry more at each step, and the disk is only read.
-use Rattle.std.proofs.Common.{◌≡◌, ◌∙◌, refl, sym, subst, ap, arith, take, length}
-use Rattle.std.specs.Option.{ForSome}
+use Rattle.std.proofs.Common.{◌∙◌, refl}
 use Rattle.pair_journal.proofs.Walking.{only_read_still, only_read_on}
-use Rattle.message_answers.proofs.Joined.{one_joined, all_joined, journal_still}
+use Rattle.message_answers.proofs.Joined.{one_joined, journal_still}
 use Rattle.message_answers.proofs.joining.chains_of.Goals as goal
 
 pub loop-index-init : goal.loop-index-init

@@ -1,4 +1,4 @@
-use Rattle.std.proofs.Common.{rules, ◌≡◌, ◌∙◌, Result, Ok, Err, Some, List, ℕ, ap, sym, subst}
+use Rattle.std.proofs.Common.{rules, ◌≡◌, ◌∙◌, Result, Some, List, ℕ, ap, sym, subst}
 use Rattle.std.specs.Borrow.{Bor}
 use Rattle.field_groups.specs.Field.{Field}
 use Rattle.field_groups.specs.Fields.{SplitsInto}
