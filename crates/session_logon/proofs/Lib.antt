@@ -1,3 +1,2 @@
-mod HeaderLemmas
 mod ReadBack
 mod Worked

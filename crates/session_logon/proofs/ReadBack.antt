@@ -49,7 +49,6 @@ use Rattle.session_logon.specs.Content.{logout_text, heartbeat_fields, test_requ
 use Rattle.session_logon.specs.Content.{resend_request_fields, rejected_fields, reason_fields}
 use Rattle.session_logon.specs.Content.{reason_field, text_field, gap_fill_fields}
 use Rattle.session_logon.specs.Laws.{Heading, header_fields, turned, meant, IsSayable, IsReadAs}
-use Rattle.session_logon.proofs.HeaderLemmas.{has}
 
 -- ---- values that are read back
 
@@ -67,6 +66,10 @@ same_text [] = refl
 same_text (x ∷ xs) = rw (eq-eqb x x refl, same_text xs) refl
 
 -- ---- the fields of the header, and what stands behind them
+
+-- the test that a field has a tag
+abbrev has : ℕ → Field → Bool
+has tag field = field.0 == tag
 
 -- no field of the header has this tag
 header_lacks : (tag : ℕ) (side : Side) (names : Names)

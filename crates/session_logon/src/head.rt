@@ -13,16 +13,15 @@ ghost use Rattle.session_logon.specs.Logon.{logon_of, is_yes};
 ghost use Rattle.session_logon.specs.Reasons.{required, read_between};
 ghost use Rattle.session_logon.specs.Reasons.{text_fault};
 
-use crate::header::Header;
 use crate::logon::{LogonFault, check_logon, is_text, is_yes};
 use crate::reasons::{number_between, reason_of, text_fault, zero_or_from};
 use field_groups::{Fields, Split};
-use message_tables::value;
+use message_tables::Lookup;
 use order_meaning::{Names, Side};
 use session_core::reason::{REQUIRED_TAG_MISSING, SENDING_TIME_ACCURACY_PROBLEM};
 use session_core::tag::{
-    BEGIN_SEQ_NO, END_SEQ_NO, GAP_FILL_FLAG, NEW_SEQ_NO, SENDER_COMP_ID, TARGET_COMP_ID,
-    TEST_REQ_ID,
+    BEGIN_SEQ_NO, END_SEQ_NO, GAP_FILL_FLAG, MSG_SEQ_NUM, NEW_SEQ_NO, POSS_DUP_FLAG,
+    SENDER_COMP_ID, SENDING_TIME, TARGET_COMP_ID, TEST_REQ_ID,
 };
 use session_core::{ALL_USED, Head, MAX_MSG_SEQ_NUM, What};
 use typed_fields::Stamp;
@@ -99,7 +98,7 @@ fn test_request(fields: &Fields<'_>) -> What
     ensures kind { result ≡ test_request_kind (text_fault (value_at TEST_REQ_ID fields.now)) }
     ensures numbers { HasNumbers result }
 {
-    match text_fault(value(fields.as_slice(), TEST_REQ_ID)) {
+    match text_fault(fields.value(TEST_REQ_ID)) {
         None => What::TestRequest,
         Some(reason) => What::Faulty {
             tag: TEST_REQ_ID,
@@ -113,7 +112,7 @@ fn resend_request(fields: &Fields<'_>) -> What
         (value_at BEGIN_SEQ_NO fields.now)) fields.now }
     ensures numbers { HasNumbers result }
 {
-    let from = match number_between(value(fields.as_slice(), BEGIN_SEQ_NO), 1, MAX_MSG_SEQ_NUM) {
+    let from = match number_between(fields.value(BEGIN_SEQ_NO), 1, MAX_MSG_SEQ_NUM) {
         Ok(from) => from,
         Err(reason) => {
             return What::Faulty {
@@ -122,7 +121,7 @@ fn resend_request(fields: &Fields<'_>) -> What
             };
         }
     };
-    match zero_or_from(value(fields.as_slice(), END_SEQ_NO), from) {
+    match zero_or_from(fields.value(END_SEQ_NO), from) {
         Ok(to) => What::ResendRequest { from, to },
         Err(reason) => What::Faulty {
             tag: END_SEQ_NO,
@@ -137,8 +136,8 @@ fn sequence_reset(fields: &Fields<'_>) -> What
     ensures numbers { HasNumbers result }
 {
     let tag = NEW_SEQ_NO;
-    let to = number_between(value(fields.as_slice(), NEW_SEQ_NO), 1, ALL_USED);
-    match (is_yes(value(fields.as_slice(), GAP_FILL_FLAG)), to) {
+    let to = number_between(fields.value(NEW_SEQ_NO), 1, ALL_USED);
+    match (is_yes(fields.value(GAP_FILL_FLAG)), to) {
         (true, Ok(to)) => What::GapFill { to },
         (true, Err(reason)) => What::Faulty { tag, reason },
         (false, Ok(to)) => What::Reset { to },
@@ -179,12 +178,14 @@ pub fn read_head(
 ) -> Head
     ensures { result ≡ head_of side names.now window msg_type.now split.now.fields now }
 {
-    let header = Header::of(&split.fields);
+    let fields = &split.fields;
+    let sender = fields.value(SENDER_COMP_ID);
+    let target = fields.value(TARGET_COMP_ID);
     Head {
-        number: number_between(header.number, 1, MAX_MSG_SEQ_NUM).ok(),
-        dup: is_yes(header.dup),
-        comp: wrong_name(side, names, header.sender, header.target),
-        time: wrong_time(window, now, header.time),
-        what: kind(side, msg_type, &split.fields),
+        number: number_between(fields.value(MSG_SEQ_NUM), 1, MAX_MSG_SEQ_NUM).ok(),
+        dup: is_yes(fields.value(POSS_DUP_FLAG)),
+        comp: wrong_name(side, names, sender, target),
+        time: wrong_time(window, now, fields.value(SENDING_TIME)),
+        what: kind(side, msg_type, fields),
     }
 }

@@ -11,7 +11,6 @@
 
 mod content;
 mod head;
-mod header;
 pub mod laws;
 mod logon;
 mod reasons;

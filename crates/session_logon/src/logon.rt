@@ -6,7 +6,7 @@ ghost use Rattle.session_logon.specs.Logon.{is_text, is_yes, is_flag_or_none, is
 
 use crate::reasons::number_between;
 use field_groups::Fields;
-use message_tables::value;
+use message_tables::Lookup;
 use order_meaning::Side;
 use session_core::tag::{DEFAULT_APPL_VER_ID, ENCRYPT_METHOD, HEART_BT_INT, RESET_SEQ_NUM_FLAG};
 use thiserror::Error;
@@ -59,7 +59,7 @@ fn is_version(side: Side, fields: &Fields<'_>) -> bool
 {
     match side {
         Side::Client => true,
-        Side::Venue => is_text(value(fields.as_slice(), DEFAULT_APPL_VER_ID), b"9"),
+        Side::Venue => is_text(fields.value(DEFAULT_APPL_VER_ID), b"9"),
     }
 }
 
@@ -74,16 +74,16 @@ fn is_version(side: Side, fields: &Fields<'_>) -> bool
 pub fn check_logon(side: Side, fields: &Fields<'_>) -> Result<(u32, bool), LogonFault>
     ensures { result ≡ logon_of side fields.now }
 {
-    if !is_text(value(fields.as_slice(), ENCRYPT_METHOD), b"0") {
+    if !is_text(fields.value(ENCRYPT_METHOD), b"0") {
         return Err(LogonFault::Tag(ENCRYPT_METHOD));
     }
-    let Ok(heart) = number_between(value(fields.as_slice(), HEART_BT_INT), 0, MAX_HEART) else {
+    let Ok(heart) = number_between(fields.value(HEART_BT_INT), 0, MAX_HEART) else {
         return Err(LogonFault::Tag(HEART_BT_INT));
     };
     if !is_version(side, fields) {
         return Err(LogonFault::Tag(DEFAULT_APPL_VER_ID));
     }
-    let reset = value(fields.as_slice(), RESET_SEQ_NUM_FLAG);
+    let reset = fields.value(RESET_SEQ_NUM_FLAG);
     if !is_flag_or_none(reset) {
         return Err(LogonFault::Tag(RESET_SEQ_NUM_FLAG));
     }
