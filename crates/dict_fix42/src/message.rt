@@ -2,8 +2,8 @@
 
 ghost use Rattle.std.specs.Prelude.{◌≡◌, ◌++◌, ◌∷◌, [], IfOk, OnErr, OnOk, Some};
 ghost use Rattle.field_groups.specs.Field.{body_of};
-ghost use Rattle.row_values.specs.Faults.{message_by};
-ghost use Rattle.row_values.specs.Gives.{Gives, IsCleanIf};
+ghost use Rattle.first_faults.specs.Faults.{message_by};
+ghost use Rattle.first_faults.specs.Gives.{Gives, IsCleanIf};
 ghost use Rattle.dict_fix42.specs.Message.{message42, table_of};
 ghost use Rattle.rows_fix42.specs.Header.{table};
 ghost use Rattle.dict_fix42.specs.Readable.{IsReadable42};
@@ -18,8 +18,9 @@ use crate::requests::Msg42;
 use crate::tables;
 use crate::writing::{cancel_parts, new_parts, replace_parts, status_parts};
 use field_groups::{Fields, Split};
+use first_faults::good_fields;
 use order_meaning::Fault;
-use row_values::{good_fields, put_content};
+use row_values::put_content;
 use std::alloc::{AllocError, Global};
 
 /// The letter of a message's type, as MsgType(35) has it; it takes no memory.

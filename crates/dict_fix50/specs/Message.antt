@@ -8,7 +8,7 @@ use Rattle.field_groups.specs.Field.{Field}
 use Rattle.message_tables.specs.Tables.{Table, Message}
 use Rattle.order_meaning.specs.declared.fault.Fault.{Fault}
 use Rattle.row_values.specs.Kinds.{Kind}
-use Rattle.row_values.specs.Faults.{message_by}
+use Rattle.first_faults.specs.Faults.{message_by}
 use Rattle.rows_fix50.specs.Header.{table, completed_by}
 use Rattle.dict_fix50.specs.Requests.{new_order, cancel_request, replace_request, status_request}
 

@@ -2,7 +2,7 @@
 
 ghost use Rattle.std.specs.Prelude.{◌≡◌, ◌++◌, ◌∷◌, [], IfOk, OnErr, OnOk, Some};
 ghost use Rattle.field_groups.specs.Field.{body_of};
-ghost use Rattle.row_values.specs.Gives.{Gives};
+ghost use Rattle.first_faults.specs.Gives.{Gives};
 ghost use Rattle.dict_fix50.specs.Message.{message50, message50_by};
 ghost use Rattle.rows_fix50.specs.Header.{table};
 ghost use Rattle.dict_fix50.specs.Readable.{IsReadable50};
@@ -17,8 +17,9 @@ use crate::requests::Msg50;
 use crate::tables;
 use crate::writing::{cancel_parts, new_parts, replace_parts, status_parts};
 use field_groups::Split;
+use first_faults::good_fields;
 use order_meaning::Fault;
-use row_values::{good_fields, put_content, read_lines};
+use row_values::{put_content, read_lines};
 use std::alloc::{AllocError, Global};
 
 /// The letter of a message's type, as MsgType(35) has it; it takes no memory.

@@ -5,7 +5,7 @@ use Rattle.message_tables.specs.Tables.{Table, Message, is_one_of}
 use Rattle.message_tables.specs.FirstFault.{message_of}
 use Rattle.message_tables.specs.Content.{content}
 use Rattle.row_values.specs.Kinds.{Kind, judge}
-use Rattle.row_values.specs.Faults.{told}
+use Rattle.first_faults.specs.Faults.{told}
 use Rattle.rows_fix50.specs.Header.{completed_by}
 use Rattle.reports_fix42.specs.Message as tables42
 use Rattle.reports_fix42.specs.Message.{message42}

@@ -15,7 +15,7 @@ use Rattle.order_meaning.specs.declared.fault.Fault.{Fault}
 use Rattle.session_core.specs.declared.tag.TheConstants.{REF_SEQ_NUM}
 use Rattle.value_kinds.specs.ValueKind.{Number}
 use Rattle.row_values.specs.Amounts.{number_if}
-use Rattle.row_values.specs.Faults.{message_by}
+use Rattle.first_faults.specs.Faults.{message_by}
 use Rattle.row_values.specs.Kinds.{Kind, Value, judge, said}
 use Rattle.refusal_parts.specs.Once.{once, once_by}
 use Rattle.reports_fix42.specs.Message.{message42}

@@ -9,7 +9,7 @@ use Rattle.message_tables.specs.FirstFault.{message_of}
 use Rattle.message_tables.specs.Content.{content}
 use Rattle.order_meaning.specs.declared.Side.TheVariants.{Client, Venue}
 use Rattle.order_meaning.specs.Request.{Request, RequestKind, New, Cancel, Replace, Status}
-use Rattle.row_values.specs.Faults.{told}
+use Rattle.first_faults.specs.Faults.{told}
 use Rattle.row_values.specs.Kinds.{Kind, judge}
 use Rattle.rows_fix50.specs.Header.{completed_by, table}
 use Rattle.dict_fix42.specs.Sense.{request42, request_of as asked_in}

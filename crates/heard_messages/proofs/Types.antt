@@ -9,7 +9,7 @@ use Rattle.message_tables.specs.Tables.{Message, Table}
 use Rattle.order_meaning.specs.declared.Side.{Side}
 use Rattle.order_meaning.specs.declared.Side.TheVariants.{Client, Venue}
 use Rattle.order_meaning.specs.declared.fault.Fault.TheVariants.{NotSupported}
-use Rattle.row_values.specs.Faults.{message_by}
+use Rattle.first_faults.specs.Faults.{message_by}
 use Rattle.row_values.specs.Kinds.{Kind}
 use Rattle.rows_fix42.specs.Header.{table as table42}
 use Rattle.rows_fix50.specs.Header.{completed_by, table as table50}

@@ -15,7 +15,7 @@ use Rattle.session_core.specs.declared.said.Said.{Said}
 use Rattle.pair_journal.specs.declared.TheConstants.{MAX_CONTENT}
 use Rattle.pair_journal.specs.declared.entry.Entry.{Entry}
 use Rattle.pair_journal.specs.Given.{source_of}
-use Rattle.row_values.specs.Gives.{Tells}
+use Rattle.first_faults.specs.Gives.{Tells}
 use Rattle.refusal_parts.specs.Said.{business_reject_says, session_reject_says}
 use Rattle.reject_rules.specs.Refusals.{refusal_of}
 use Rattle.event_decisions.specs.Body.{type_of}

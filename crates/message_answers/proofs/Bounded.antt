@@ -11,7 +11,7 @@ use Rattle.message_tables.specs.FirstFault.{first_fault, message_in, message_of,
 use Rattle.order_meaning.specs.declared.refusal.Refusal.{Refusal}
 use Rattle.typed_fields.specs.declared.fault.FieldFault.TheVariants.{Range}
 use Rattle.value_kinds.specs.ValueKind.{Id, spelling}
-use Rattle.row_values.specs.Faults.{told}
+use Rattle.first_faults.specs.Faults.{told}
 use Rattle.row_values.specs.Kinds.{Value, judge, verdict_of}
 use Rattle.refusal_parts.specs.Once.{once, once_by, refusal_by}
 use Rattle.refusal_parts.specs.Readable.{IsReadableRefusal, IsWhole}

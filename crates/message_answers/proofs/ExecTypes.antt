@@ -10,7 +10,7 @@ use Rattle.message_tables.specs.Tables.{Message, Tag, ◌>>=◌, is_one_of, said
 use Rattle.message_tables.specs.FirstFault.{first_fault, message_in, message_of, unless}
 use Rattle.order_meaning.specs.Report.{Report, Exec, Executed, or_known}
 use Rattle.value_kinds.specs.ValueKind.{Known, is_code, known, spelling}
-use Rattle.row_values.specs.Faults.{told}
+use Rattle.first_faults.specs.Faults.{told}
 use Rattle.row_values.specs.Kinds.{Value, judge, verdict_of}
 use Rattle.rows_fix50.specs.Header.{completed, completed_by}
 use Rattle.reports_fix42.specs.declared.reports.Report42.{Report42}

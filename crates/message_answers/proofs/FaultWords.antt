@@ -42,7 +42,7 @@ use Rattle.message_tables.specs.FirstFault.{wrong_version}
 use Rattle.order_meaning.specs.declared.fault.Fault.{Fault}
 use Rattle.value_kinds.specs.ValueKind.{Code, DayOfMonth, MonthYear, OneByte, Spelling, is_code}
 use Rattle.value_kinds.specs.ValueKind.{number_of_two, spelling}
-use Rattle.row_values.specs.Faults.{message_by, of_split, of_table, told}
+use Rattle.first_faults.specs.Faults.{message_by, of_split, of_table, told}
 use Rattle.row_values.specs.Kinds.{Byte, DayOf, Kind, MonthBeside, TimeBeside, Value, Version}
 use Rattle.row_values.specs.Kinds.{counted}
 use Rattle.row_values.specs.Kinds.{date_at, filled, if_spelled, in_month, is_at_close, judge}

@@ -20,8 +20,8 @@ use Rattle.pair_journal.specs.declared.entry.Out.{Out}
 use Rattle.pair_journal.specs.declared.entry.Entry.{Entry}
 use Rattle.pair_journal.specs.Given.{has_letter, is_source, letter_of, letters_to}
 use Rattle.pair_journal.specs.Numbers.{is_side}
-use Rattle.row_values.specs.Faults.{message_by, told}
-use Rattle.row_values.specs.Gives.{IsCleanIf}
+use Rattle.first_faults.specs.Faults.{message_by, told}
+use Rattle.first_faults.specs.Gives.{IsCleanIf}
 use Rattle.row_values.specs.Kinds.{Kind, judge}
 use Rattle.rows_fix42.specs.Header.{table}
 use Rattle.dict_fix42.specs.Message.{message42, table_of}

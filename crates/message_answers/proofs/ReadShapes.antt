@@ -16,7 +16,7 @@ use Rattle.order_meaning.specs.declared.Side.{Side}
 use Rattle.order_meaning.specs.declared.Side.TheVariants.{Client, Venue}
 use Rattle.order_meaning.specs.declared.fault.Fault.{Fault}
 use Rattle.order_meaning.specs.declared.fault.Fault.TheVariants.{NotSupported}
-use Rattle.row_values.specs.Faults.{message_by, of_split, told}
+use Rattle.first_faults.specs.Faults.{message_by, of_split, told}
 use Rattle.row_values.specs.Kinds.{Kind, judge}
 use Rattle.rows_fix42.specs.Header.{table as table42}
 use Rattle.rows_fix50.specs.Header.{completed, completed_by}

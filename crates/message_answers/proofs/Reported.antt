@@ -15,7 +15,7 @@ use Rattle.order_meaning.specs.declared.fault.Fault.TheVariants as faults
 use Rattle.order_meaning.specs.declared.fault.Lack.{Lack}
 use Rattle.order_meaning.specs.declared.fault.Lack.TheVariants as lacks
 use Rattle.order_meaning.specs.Report.{filled, or_known}
-use Rattle.row_values.specs.Gives.{Tells}
+use Rattle.first_faults.specs.Gives.{Tells}
 use Rattle.reports_fix42.specs.declared.reports.Report42.{Report42}
 use Rattle.reports_fix42.specs.declared.reports.CancelReject42.{CancelReject42}
 use Rattle.reports_fix42.specs.Content.{report_content, cancel_reject_content}

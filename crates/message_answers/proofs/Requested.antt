@@ -17,8 +17,8 @@ use Rattle.order_meaning.specs.declared.fault.Fault.{Fault}
 use Rattle.order_meaning.specs.declared.fault.Lack.{Lack}
 use Rattle.order_meaning.specs.declared.fault.Lack.TheVariants as lacking
 use Rattle.order_chains.specs.declared.item.ChainItem.{ChainItem}
-use Rattle.row_values.specs.Faults.{message_by, told}
-use Rattle.row_values.specs.Gives.{Tells}
+use Rattle.first_faults.specs.Faults.{message_by, told}
+use Rattle.first_faults.specs.Gives.{Tells}
 use Rattle.row_values.specs.Kinds.{Kind, judge}
 use Rattle.rows_fix42.specs.Header.{table}
 use Rattle.dict_fix42.specs.declared.requests.Msg42.{Msg42}

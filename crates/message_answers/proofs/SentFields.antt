@@ -12,7 +12,7 @@ use Rattle.message_tables.specs.Tables.{Message, Table, Tag, is_one_of, said_at}
 use Rattle.message_tables.specs.Content.{content}
 use Rattle.order_meaning.specs.Report.{or_known}
 use Rattle.value_kinds.specs.ValueKind.{Id}
-use Rattle.row_values.specs.Faults.{message_by}
+use Rattle.first_faults.specs.Faults.{message_by}
 use Rattle.row_values.specs.Kinds.{Kind, Value, judge}
 use Rattle.rows_fix50.specs.Header.{completed, completed_by, table}
 use Rattle.dict_fix50.specs.Requests.{new_order, cancel_request, replace_request, status_request}

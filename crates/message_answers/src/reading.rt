@@ -3,7 +3,7 @@
 ghost use Rattle.std.specs.Prelude.{◌≡◌, codes, IfOk};
 ghost use Rattle.std.specs.Str.{bytes_eq};
 ghost use Rattle.reject_rules.specs.Laws.{IsBounded};
-ghost use Rattle.row_values.specs.Gives.{Gives};
+ghost use Rattle.first_faults.specs.Gives.{Gives};
 ghost use Rattle.message_answers.specs.Message.{is_refusal_type, refusal_in, said_by};
 ghost use Rattle.message_answers.specs.Seen.{refusal_says, refusal_type};
 

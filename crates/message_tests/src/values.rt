@@ -6,14 +6,14 @@ ghost use Rattle.std.specs.Prelude.{IfSome};
 ghost use Rattle.row_values.specs.Lines.{IsReadableMaturity};
 
 use field_groups::{Field, split};
+use first_faults::good_fields;
 use message_tables::Need::{Lenient, Optional, Required};
 use message_tables::{Item, Line, Row, Table};
 use order_meaning::{Bytes, Fault, Lines, PartyLine};
 use row_values::{
     ALLOCS, AllocLine, Allocs, ContraLine, GroupLine, Kind, Maturity, Part, SessionLine, Sessions,
-    TEXTS, Value, all_owned, bytes_of, code, day, flag, good_fields, may_close, month,
-    number_or_zero, or_empty, owned, price, put_content, qty, qty_or_zero, resend, stamp,
-    stamp_or_epoch, text,
+    TEXTS, Value, all_owned, bytes_of, code, day, flag, may_close, month, number_or_zero, or_empty,
+    owned, price, put_content, qty, qty_or_zero, resend, stamp, stamp_or_epoch, text,
 };
 use std::alloc::{AllocError, Global};
 use std::test::Fail;

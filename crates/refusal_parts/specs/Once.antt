@@ -6,7 +6,7 @@ use Rattle.field_groups.specs.Field.{Field}
 use Rattle.message_tables.specs.Tables.{Table, Message}
 use Rattle.order_meaning.specs.declared.fault.Fault.{Fault}
 use Rattle.row_values.specs.Kinds.{Kind}
-use Rattle.row_values.specs.Faults.{message_by}
+use Rattle.first_faults.specs.Faults.{message_by}
 
 -- a message that does not say whether it repeats another, PossResend (97)
 abbrev pub once : Message → Message

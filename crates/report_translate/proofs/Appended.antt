@@ -11,7 +11,7 @@ use Rattle.order_meaning.specs.declared.fault.Lack.{Lack}
 use Rattle.order_meaning.specs.declared.fault.Lack.TheVariants as lacks
 use Rattle.value_kinds.specs.ValueKind.{Id}
 use Rattle.row_values.specs.Kinds.{Value, judge}
-use Rattle.row_values.proofs.Given.{given}
+use Rattle.first_faults.proofs.Given.{given}
 use Rattle.rows_fix50.specs.Header.{completed, completed_by}
 use Rattle.reports_fix50.specs.Message.{cancel_reject_table, report_table, report_table_of}
 use Rattle.reports_fix50.proofs.Means.{cancel_reject_means, report_means}

@@ -16,7 +16,7 @@ use Rattle.order_meaning.specs.declared.fault.Fault.TheVariants.{NotSupported}
 use Rattle.message_tables.specs.Content.{content}
 use Rattle.value_kinds.specs.ValueKind.{Filled, Flag}
 use Rattle.row_values.specs.Kinds.{Kind, judge}
-use Rattle.row_values.specs.Faults.{told}
+use Rattle.first_faults.specs.Faults.{told}
 use Rattle.rows_fix42.specs.Header.{table}
 use Rattle.reports_fix42.specs.declared.reports.Report42.{Report42}
 use Rattle.reports_fix42.specs.declared.reports.CancelReject42.{CancelReject42}

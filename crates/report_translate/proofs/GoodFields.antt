@@ -12,11 +12,11 @@ use Rattle.value_kinds.specs.CodeKinds.{code_text}
 use Rattle.value_kinds.specs.ValueKind.{Known}
 use Rattle.message_tables.specs.FirstFault.{first_fault, message_in}
 use Rattle.message_tables.specs.Tables.{Message, Said, Table, ◌>>=◌, code_of}
-use Rattle.row_values.specs.Faults.{message_by}
-use Rattle.row_values.specs.Gives.{IsCleanIf}
+use Rattle.first_faults.specs.Faults.{message_by}
+use Rattle.first_faults.specs.Gives.{IsCleanIf}
 use Rattle.row_values.specs.Kinds.{Kind, Value, judge}
 use Rattle.row_values.proofs.ByTable.{says}
-use Rattle.row_values.proofs.Given.{given}
+use Rattle.first_faults.proofs.Given.{given}
 use Rattle.rows_fix50.specs.Header.{completed, completed_by}
 use Rattle.reports_fix50.specs.Message.{report_by, report_table, cancel_reject_table}
 use Rattle.reports_fix50.specs.Message.{report_table_of}

@@ -12,8 +12,8 @@ use Rattle.order_meaning.specs.declared.fault.Fault.{Fault}
 use Rattle.order_meaning.specs.declared.fault.Fault.TheVariants as faults
 use Rattle.order_meaning.specs.declared.refusal.Refusal.{Refusal}
 use Rattle.row_values.specs.Kinds.{Kind}
-use Rattle.row_values.specs.Faults.{of_split}
-use Rattle.row_values.specs.Gives.{Gives}
+use Rattle.first_faults.specs.Faults.{of_split}
+use Rattle.first_faults.specs.Gives.{Gives}
 use Rattle.refusal_parts.specs.Once.{refusal_by}
 use Rattle.reports_fix42.specs.Message.{message42 as any42}
 use Rattle.reports_fix42.specs.Message.{session_reject_table as session_reject_table42}

@@ -17,7 +17,7 @@ use Rattle.message_tables.specs.FirstFault.{first_fault, message_in, message_of,
 use Rattle.message_tables.specs.Content.{content}
 use Rattle.value_kinds.specs.ValueKind.{Known, spelling}
 use Rattle.row_values.specs.Kinds.{Kind, Value, judge, verdict_of}
-use Rattle.row_values.specs.Faults.{told}
+use Rattle.first_faults.specs.Faults.{told}
 use Rattle.rows_fix50.specs.Header.{completed, completed_by}
 use Rattle.reports_fix50.specs.Message.{report_by, report_table, cancel_reject_table}
 use Rattle.reports_fix50.specs.Reports.{execution_report, cancel_reject}

@@ -7,7 +7,7 @@ use Rattle.message_tables.specs.Tables.{Message}
 use Rattle.order_meaning.specs.declared.Side.{Side}
 use Rattle.order_meaning.specs.declared.fault.Fault.{Fault}
 use Rattle.order_meaning.specs.declared.fault.Fault.TheVariants as faults
-use Rattle.row_values.specs.Gives.{Tells}
+use Rattle.first_faults.specs.Gives.{Tells}
 use Rattle.translation.specs.declared.error.TranslateError.{TranslateError}
 use Rattle.translation.specs.Errors.{error_of_fault}
 use Rattle.translation.specs.Header.{type_of}

@@ -8,7 +8,7 @@ use Rattle.message_tables.specs.Tables.{Message, ◌>>=◌, code_of}
 use Rattle.order_meaning.specs.Book.{Book}
 use Rattle.order_meaning.specs.declared.fault.Fault.{Fault}
 use Rattle.order_meaning.specs.declared.refusal.Refusal.{Refusal}
-use Rattle.row_values.specs.Gives.{Tells}
+use Rattle.first_faults.specs.Gives.{Tells}
 use Rattle.reports_fix42.specs.declared.reports.Report42.{Report42}
 use Rattle.reports_fix42.specs.declared.reports.CancelReject42.{CancelReject42}
 use Rattle.reports_fix42.specs.Sense.{report42}

@@ -10,7 +10,7 @@ use Rattle.message_tables.specs.Tables.{Item, Table, Message}
 use Rattle.order_meaning.specs.declared.fault.Fault.{Fault}
 use Rattle.order_meaning.specs.declared.fault.Fault.TheVariants.{NotSupported}
 use Rattle.row_values.specs.Kinds.{Kind}
-use Rattle.row_values.specs.Faults.{message_by}
+use Rattle.first_faults.specs.Faults.{message_by}
 use Rattle.refusal_parts.specs.Once.{refusal_by}
 use Rattle.rows_fix42.specs.Header.{table}
 use Rattle.reports_fix42.specs.Reports.{execution_report, cancel_reject, session_reject}

@@ -2,8 +2,8 @@
 
 ghost use Rattle.std.specs.Prelude.{◌≡◌, ◌++◌, IfOk, None, OnErr, OnOk, Some};
 ghost use Rattle.field_groups.specs.Field.{body_of};
-ghost use Rattle.row_values.specs.Faults.{message_by};
-ghost use Rattle.row_values.specs.Gives.{Gives};
+ghost use Rattle.first_faults.specs.Faults.{message_by};
+ghost use Rattle.first_faults.specs.Gives.{Gives};
 ghost use Rattle.refusal_parts.specs.Once.{refusal_by};
 ghost use Rattle.refusal_parts.specs.Readable.{IsReadableRefusal};
 ghost use Rattle.refusal_parts.specs.Said.{business_reject_says, session_reject_says};
@@ -21,9 +21,10 @@ use crate::reports::{CancelReject42, Report42};
 use crate::tables;
 use crate::writing::{cancel_reject_parts, report_parts};
 use field_groups::Split;
+use first_faults::good_fields;
 use order_meaning::{Fault, Refusal};
 use refusal_parts::{business_reject, business_reject_parts, session_reject, session_reject_parts};
-use row_values::{good_fields, put_content};
+use row_values::put_content;
 use std::alloc::{AllocError, Global};
 
 /// Reads the fields of an Execution Report(8).

@@ -2,7 +2,7 @@
 
 ghost use Rattle.std.specs.Prelude.{◌≡◌, ◌++◌, IfOk, None, OnErr, OnOk};
 ghost use Rattle.field_groups.specs.Field.{body_of};
-ghost use Rattle.row_values.specs.Gives.{Gives, IsCleanIf};
+ghost use Rattle.first_faults.specs.Gives.{Gives, IsCleanIf};
 ghost use Rattle.refusal_parts.specs.Once.{refusal_by};
 ghost use Rattle.refusal_parts.specs.Readable.{IsReadableRefusal};
 ghost use Rattle.refusal_parts.specs.Said.{business_reject_says, session_reject_says};
@@ -20,9 +20,10 @@ use crate::reports::{CancelReject50, Report50};
 use crate::tables;
 use crate::writing::{cancel_reject_parts, report_parts};
 use field_groups::{Fields, Split};
+use first_faults::good_fields;
 use order_meaning::{Fault, Refusal};
 use refusal_parts::{business_reject, business_reject_parts, session_reject, session_reject_parts};
-use row_values::{good_fields, put_content};
+use row_values::put_content;
 use std::alloc::{AllocError, Global};
 
 /// The fields of the body of a report, where they are whole and at no fault beside the table of

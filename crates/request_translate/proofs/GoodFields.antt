@@ -9,10 +9,10 @@ use Rattle.field_groups.specs.Field.{Field}
 use Rattle.value_kinds.specs.ValueKind.{Code}
 use Rattle.message_tables.specs.FirstFault.{first_fault, message_in}
 use Rattle.message_tables.specs.Tables.{Table}
-use Rattle.row_values.specs.Gives.{IsCleanIf}
+use Rattle.first_faults.specs.Gives.{IsCleanIf}
 use Rattle.row_values.specs.Kinds.{Kind, Value, judge}
 use Rattle.row_values.proofs.ByTable.{says}
-use Rattle.row_values.proofs.Given.{given}
+use Rattle.first_faults.proofs.Given.{given}
 use Rattle.rows_fix42.specs.Header.{table}
 use Rattle.dict_fix42.specs.Message.{message42, table_of}
 use Rattle.dict_fix42.specs.Requests.{new_order, cancel_request, replace_request, status_request}

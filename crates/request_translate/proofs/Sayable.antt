@@ -16,7 +16,7 @@ use Rattle.order_meaning.specs.Request.{LimitOnClose}
 use Rattle.row_values.specs.Kinds.{Kind, judge, Byte, counted, verdict_of}
 use Rattle.dict_fix50.specs.Message.{message50, message50_by}
 use Rattle.rows_fix50.specs.Header.{table, completed, completed_by}
-use Rattle.row_values.specs.Faults.{told}
+use Rattle.first_faults.specs.Faults.{told}
 use Rattle.dict_fix50.specs.Requests.{new_order, cancel_request, replace_request, status_request}
 use Rattle.dict_fix50.specs.Sense.{sense50, request50, request_of}
 use Rattle.rows_fix50.specs.Meaning.{terms_of}

@@ -19,7 +19,7 @@ use Rattle.dict_fix42.specs.Message as read42
 use Rattle.dict_fix42.specs.Requests as requests42
 use Rattle.dict_fix42.specs.Sense.{sense42, request42}
 use Rattle.row_values.specs.Kinds.{Kind, Version, judge}
-use Rattle.row_values.specs.Faults as row_faults
+use Rattle.first_faults.specs.Faults as row_faults
 use Rattle.dict_fix50.specs.Message as read50
 use Rattle.rows_fix50.specs.Header.{table, completed, completed_by}
 use Rattle.dict_fix50.specs.Requests.{new_order, cancel_request, replace_request, status_request}

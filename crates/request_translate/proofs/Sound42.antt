@@ -25,7 +25,7 @@ use Rattle.row_values.specs.Kinds.{Kind, Value, Byte, DayOf, MonthBeside, TimeBe
 use Rattle.row_values.specs.Kinds.{judge, verdict_of, month_at, in_month}
 use Rattle.dict_fix42.specs.Message.{message42}
 use Rattle.rows_fix42.specs.Header.{table}
-use Rattle.row_values.specs.Faults.{message_by, told}
+use Rattle.first_faults.specs.Faults.{message_by, told}
 use Rattle.dict_fix42.specs.Requests.{new_order, cancel_request, replace_request, status_request}
 use Rattle.dict_fix42.specs.Said.{says as says42}
 use Rattle.dict_fix42.specs.declared.requests.Msg42.{Msg42}

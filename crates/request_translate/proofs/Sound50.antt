@@ -13,7 +13,7 @@ use Rattle.message_tables.specs.Tables.{Said, said_at, groups_of, groups_in}
 use Rattle.message_tables.specs.FirstFault.{first_fault, message_in, message_of}
 use Rattle.message_tables.specs.Content.{content}
 use Rattle.row_values.specs.Kinds.{Kind, judge, date_at}
-use Rattle.row_values.specs.Faults.{told}
+use Rattle.first_faults.specs.Faults.{told}
 use Rattle.rows_fix50.specs.Header.{table, completed, completed_by}
 use Rattle.dict_fix50.specs.Message.{message50, message50_by}
 use Rattle.dict_fix50.specs.Requests.{new_order, cancel_request, replace_request, status_request}

@@ -6,7 +6,7 @@ use Rattle.field_groups.specs.Field.{Field}
 use Rattle.message_tables.specs.Tables.{Message}
 use Rattle.dict_fix42.specs.Message.{message42}
 use Rattle.rows_fix42.specs.Header.{table}
-use Rattle.row_values.specs.Faults.{message_by}
+use Rattle.first_faults.specs.Faults.{message_by}
 use Rattle.dict_fix42.specs.Requests.{new_order, cancel_request, replace_request, status_request}
 use Rattle.translation.proofs.Writable.{IsType, is_byte}
 

@@ -6,7 +6,7 @@ use Rattle.message_tables.specs.Tables.{Item, Message, is_one_of}
 use Rattle.message_tables.specs.FirstFault.{message_of}
 use Rattle.message_tables.specs.Content.{content}
 use Rattle.row_values.specs.Kinds.{Kind, judge}
-use Rattle.row_values.specs.Faults.{told}
+use Rattle.first_faults.specs.Faults.{told}
 use Rattle.dict_fix42.specs.Message.{message42}
 use Rattle.rows_fix42.specs.Header.{table as table42}
 use Rattle.dict_fix42.specs.Requests as requests42

@@ -1,13 +1,10 @@
 pub mod Marks
 pub mod Texts
-pub mod FirstFaults
 pub mod LineByLine
 pub mod Contents
-pub mod Given
 pub mod SaidRows
 pub mod ByTable
 pub mod Days
 pub mod ContraRows
-pub mod OnePass
 pub mod MadeByEach
 pub mod StepsByType

@@ -1,13 +1,10 @@
 pub mod Kinds
-pub mod Faults
 pub mod Lines
 pub mod Groups
 pub mod Columns
 pub mod CodeKinds
-pub mod Gives
 pub mod Writing
 pub mod Maturity
 pub mod Contras
 pub mod Amounts
 pub mod Phases
-pub mod OnePass

@@ -191,7 +191,7 @@ fn judge_version(version: &[u8]) -> Mark
 impl Kind {
     /// What a value is beside the other fields of its message.
     #[tactic(auto, using(crate::proofs::Marks::of_kind), unfolding(crate::specs::Kinds::judge))]
-    pub(crate) fn judge(&self, fields: &Fields<'_>, bytes: &[u8]) -> Mark
+    pub fn judge(&self, fields: &Fields<'_>, bytes: &[u8]) -> Mark
         ensures { result ≡ mark_of (judge fields.now (kind_of self.now) bytes.now) }
     {
         match self {

@@ -1,10 +1,9 @@
-//! What rows of tables say: the kinds of their values, what a value is beside its message, the
-//! first fault of a message, and how values are read from fields and written to a content.
+//! What rows of tables say: the kinds of their values, what a value is beside its message, and how
+//! values are read from fields and written to a content.
 #![tactic(auto)]
 
 mod contras;
 mod copies;
-mod faults;
 mod kinds;
 mod lines;
 mod maturity;
@@ -13,7 +12,6 @@ mod writing;
 
 pub use contras::{CONTRA_ROWS, CONTRAS, ContraLine, Contras};
 pub use copies::{TEXTS, all_owned, bytes_of, owned};
-pub use faults::good_fields;
 pub use kinds::Kind;
 pub use lines::{
     ALLOCS, AllocLine, Allocs, GroupLine, Maturity, PARTIES, SESSIONS, SessionLine, Sessions,

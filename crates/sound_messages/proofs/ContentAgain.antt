@@ -12,7 +12,7 @@ use Rattle.message_tables.specs.Tables.{Tag, Role, flag_of, is_one_of, said_at, 
 use Rattle.message_tables.specs.FirstFault.{message_in, message_of, unless}
 use Rattle.message_tables.specs.Content.{content}
 use Rattle.row_values.specs.Kinds.{Kind, judge}
-use Rattle.row_values.specs.Faults.{told}
+use Rattle.first_faults.specs.Faults.{told}
 use Rattle.sound_messages.specs.Sound.{IsSound, places_of, without_resend}
 use Rattle.sound_messages.proofs.Each.{are_apart}
 use Rattle.sound_messages.proofs.Lookups.{places_apart}

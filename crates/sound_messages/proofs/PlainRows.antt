@@ -15,7 +15,7 @@ use Rattle.message_tables.specs.FirstFault.{first_fault, message_in, message_of,
 use Rattle.message_tables.proofs.Few.{IsPlain}
 use Rattle.row_values.specs.Kinds.{Kind, Value, Byte, DayOf, MonthBeside, TimeBeside, Version}
 use Rattle.row_values.specs.Kinds.{judge, verdict_of, row}
-use Rattle.row_values.specs.Faults.{told}
+use Rattle.first_faults.specs.Faults.{told}
 use Rattle.row_values.specs.Contras.{contras}
 use Rattle.row_values.specs.Groups.{parties, allocs, sessions}
 use Rattle.sound_messages.specs.Sound.{IsClear}

@@ -24,7 +24,7 @@ use Rattle.message_tables.specs.Content.{content, cell_fields, item_fields}
 use Rattle.row_values.specs.Kinds.{Kind, Value, Byte, DayOf, MonthBeside, TimeBeside, Version}
 use Rattle.row_values.specs.Kinds.{judge, verdict_of, filled, month_beside, is_at_close, counted}
 use Rattle.row_values.specs.Kinds.{in_month}
-use Rattle.row_values.specs.Faults.{told}
+use Rattle.first_faults.specs.Faults.{told}
 use Rattle.sound_messages.specs.Sound.{IsSaid, IsItem, IsSound, places_of}
 use Rattle.sound_messages.proofs.Each.{are_apart, both, either, not_true, same_number, each_part}
 use Rattle.sound_messages.proofs.Each.{each_joined, each_front}

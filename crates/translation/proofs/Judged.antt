@@ -5,8 +5,8 @@ use Rattle.field_groups.specs.declared.fault.SplitFault.{SplitFault}
 use Rattle.field_groups.specs.Field.{Field}
 use Rattle.message_tables.specs.Tables.{Table}
 use Rattle.order_meaning.specs.declared.fault.Fault.{Fault}
-use Rattle.row_values.specs.Faults.{message_by}
-use Rattle.row_values.specs.Gives.{IsCleanIf}
+use Rattle.first_faults.specs.Faults.{message_by}
+use Rattle.first_faults.specs.Gives.{IsCleanIf}
 use Rattle.row_values.specs.Kinds.{Kind}
 use Rattle.translation.specs.Judged.{AreGood, AreGoodBy}
 

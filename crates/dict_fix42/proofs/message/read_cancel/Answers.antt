@@ -1,5 +1,5 @@
 use Rattle.dict_fix42.proofs.Means.{cancel_means}
-use Rattle.row_values.proofs.Given.{no_fault, reads}
+use Rattle.first_faults.proofs.Given.{no_fault, reads}
 use Rattle.dict_fix42.proofs.message.read_cancel.Goals as goal
 
 pub returns-clause-says : goal.returns-clause-says

@@ -1,5 +1,5 @@
 use Rattle.dict_fix42.proofs.Means.{new_means}
-use Rattle.row_values.proofs.Given.{no_fault, reads}
+use Rattle.first_faults.proofs.Given.{no_fault, reads}
 use Rattle.dict_fix42.proofs.Given.{new_allocs, new_sessions}
 use Rattle.dict_fix42.proofs.message.read_new.Goals as goal
 

@@ -1,6 +1,6 @@
 use Rattle.std.proofs.Common.{Ok, refl, sym, ap, ◌∙◌}
 use Rattle.rows_fix50.specs.Header.{completed_by}
-use Rattle.row_values.proofs.Given.{no_fault, reads}
+use Rattle.first_faults.proofs.Given.{no_fault, reads}
 use Rattle.dict_fix50.proofs.Means.{replace_means}
 use Rattle.dict_fix50.proofs.Given.{replace_parties, replace_allocs, replace_sessions}
 use Rattle.dict_fix50.proofs.message.read_replace.Goals as goal

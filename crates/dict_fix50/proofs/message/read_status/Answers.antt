@@ -1,6 +1,6 @@
 use Rattle.std.proofs.Common.{Ok, refl, sym, ap, ◌∙◌}
 use Rattle.rows_fix50.specs.Header.{completed_by}
-use Rattle.row_values.proofs.Given.{no_fault, reads}
+use Rattle.first_faults.proofs.Given.{no_fault, reads}
 use Rattle.dict_fix50.proofs.Means.{status_means}
 use Rattle.dict_fix50.proofs.Given.{status_parties}
 use Rattle.dict_fix50.proofs.message.read_status.Goals as goal

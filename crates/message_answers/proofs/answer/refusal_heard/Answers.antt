@@ -1,7 +1,7 @@
 use Rattle.std.proofs.Common.{◌≡◌, ◌∙◌, ap, sym, subst, List, ℕ, Result}
 use Rattle.message_tables.specs.Tables.{Message}
 use Rattle.order_meaning.specs.declared.fault.Fault.{Fault}
-use Rattle.row_values.specs.Gives.{Tells}
+use Rattle.first_faults.specs.Gives.{Tells}
 use Rattle.message_answers.specs.Message.{said_by}
 use Rattle.message_answers.specs.Seen.{message_in, refusal_type}
 use Rattle.message_answers.proofs.Answered.{faulty, refusal_told}

@@ -4,7 +4,7 @@ use Rattle.field_groups.specs.Field.{Field}
 use Rattle.field_groups.specs.Fields.{SplitsInto}
 use Rattle.message_tables.specs.Tables.{first_of}
 use Rattle.order_meaning.specs.declared.fault.Fault.{Fault}
-use Rattle.row_values.specs.Gives.{IsCleanIf}
+use Rattle.first_faults.specs.Gives.{IsCleanIf}
 use Rattle.dict_fix42.specs.Message.{table_of}
 use Rattle.message_answers.specs.Chains.{joining_letter}
 use Rattle.message_answers.proofs.Forwards.{item_clean, item_refused}

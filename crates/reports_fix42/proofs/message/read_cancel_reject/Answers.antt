@@ -1,4 +1,4 @@
-use Rattle.row_values.proofs.Given.{no_fault, reads}
+use Rattle.first_faults.proofs.Given.{no_fault, reads}
 use Rattle.reports_fix42.proofs.Means.{cancel_reject_means}
 use Rattle.reports_fix42.proofs.message.read_cancel_reject.Goals as goal
 

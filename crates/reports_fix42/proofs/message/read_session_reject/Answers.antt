@@ -1,5 +1,5 @@
 use Rattle.std.proofs.Common.{Ok, false, refl, sym, ap, ◌∙◌}
-use Rattle.row_values.proofs.Given.{reads}
+use Rattle.first_faults.proofs.Given.{reads}
 use Rattle.rows_fix42.specs.Header.{header}
 use Rattle.refusal_parts.specs.Once.{once_by}
 use Rattle.refusal_parts.proofs.Means.{session_reject_means}

@@ -1,5 +1,5 @@
 use Rattle.std.proofs.Common.{Ok, refl, sym, ap, ◌∙◌}
-use Rattle.row_values.proofs.Given.{no_fault, reads}
+use Rattle.first_faults.proofs.Given.{no_fault, reads}
 use Rattle.rows_fix50.specs.Header.{completed_by}
 use Rattle.reports_fix50.proofs.Means.{cancel_reject_means}
 use Rattle.reports_fix50.proofs.message.read_cancel_reject.Goals as goal

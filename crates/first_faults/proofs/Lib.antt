@@ -1,0 +1,3 @@
+pub mod OnePass
+pub mod FirstFaults
+pub mod Given

@@ -1,0 +1,12 @@
+use Rattle.std.proofs.Common.{map, take}
+use Rattle.message_tables.specs.CodeTables.{seen, table_of}
+use Rattle.message_tables.specs.FirstFault.{marked}
+use Rattle.message_tables.specs.Stages.{IsFound}
+use Rattle.row_values.specs.Kinds.{judge}
+use Rattle.row_values.specs.CodeKinds.{kind_of}
+use Rattle.first_faults.proofs.faults.found.Given as goal
+
+abbrev pub invariant-loop-tag : goal.invariant-loop-tag
+invariant-loop-tag l =
+    let mark = marked judge (table_of kind_of l.table) l.fields in
+    IsFound (map mark (seen (take l.tag-index l.parts))) l.found

@@ -1,9 +1,0 @@
-use Rattle.std.proofs.Common.{map, take}
-use Rattle.message_tables.specs.CodeTables.{row_of}
-use Rattle.row_values.specs.CodeKinds.{kind_of}
-use Rattle.row_values.specs.OnePass.{MembersFit}
-use Rattle.row_values.proofs.faults.members_fit.Given as goal
-
-abbrev pub invariant-loop-row : goal.invariant-loop-row
-invariant-loop-row l =
-    MembersFit l.fields (map (row_of kind_of) (take l.row-index l.rows)) l.fn.rowed l.rowed
