@@ -193,6 +193,14 @@ own_slot other tag low e = by (nat_lt other 448) refl (nat_lt tag 448) refl e
     by false o true t e = absurd (grind (arith, nat_tests))
     by one o false t e = absurd (grind (arith, nat_tests))
 
+-- which is the tag
+own_is : (tag : ℕ) → tag < 448 → tag ≡ slot_of tag
+own_is tag low = by (nat_lt tag 448) refl
+  where
+    by : (own : Bool) → nat_lt tag 448 ≡ own → tag ≡ cond own tag (448 + tag % 64)
+    by true o = refl
+    by false o = absurd (grind (arith, nat_tests))
+
 -- the slot of a tag, in an index of parts
 module _ (parts : Parts) (first : List ℕ) (tag slot : ℕ) (indexed : IsIndexed parts first)
     (is : slot ≡ slot_of tag) (low : slot < 512) where
@@ -234,3 +242,13 @@ module _ (parts : Parts) (first : List ℕ) (tag slot : ℕ) (indexed : IsIndexe
           (passes_at_first (stands_in slot) parts part (rw (← within.0) within.1)) in
           present place part some
           (own_slot (get_or parts place part).0 tag own (grind (arith, nat_tests) ∙ is))
+
+-- what a tag with a slot of its own has there is its first place
+pub own_place : (parts : Parts) (first : List ℕ) (tag : ℕ) → IsIndexed parts first → tag < 448
+    → position (has tag) parts ≡ counted_place (get_or first tag 0)
+own_place parts first tag indexed low = by (counted_place (get_or first tag 0)) refl
+  where
+    by : (o : Option ℕ) → counted_place (get_or first tag 0) ≡ o → position (has tag) parts ≡ o
+    by None e = absent parts first tag tag indexed (own_is tag low) (omega (arith, low)) e
+    by (Some place) e =
+        owned parts first tag tag indexed (own_is tag low) (omega (arith, low)) place low e

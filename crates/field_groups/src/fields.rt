@@ -104,11 +104,20 @@ impl<'a> Fields<'a> {
         ensures place { result ≡ position (λ field. field.0 == tag) self.now }
         ensures few { IfSome result (λ place. place < 256) }
     {
-        let place = counted_place(self.first[slot_of(tag)])?;
         if tag < OWN {
-            return Some(place);
+            counted_place(self.first[tag as usize])
+        } else {
+            self.find_shared(tag)
         }
-        // The field of another tag may stand there.
+    }
+
+    // The place of the first field with this tag, which may share its slot.
+    #[inline(never)]
+    fn find_shared(&self, tag: u32) -> Option<usize>
+        ensures place { result ≡ position (λ field. field.0 == tag) self.now }
+        ensures few { IfSome result (λ place. place < 256) }
+    {
+        let place = counted_place(self.first[slot_of(tag)])?;
         if self.parts[place].0 == tag {
             return Some(place);
         }
