@@ -28,7 +28,7 @@ pub type Field<'a> = (u32, &'a [u8]);
 #[derive(Debug, Drop)]
 pub struct Fields<'a> {
     parts: Vec<Field<'a>>,
-    // For each slot the place of the first field whose tag has it, counted from 1; 0 where none has.
+    // For each slot the place of the first field whose tag has it, from 1 on; 0 where none has.
     first: [u16; SLOTS],
 }
 

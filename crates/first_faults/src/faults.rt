@@ -1,7 +1,7 @@
 //! The first fault of a message's fields beside their table.
 
 ghost use Rattle.std.specs.Prelude.{◌≡◌, ◌==◌, ◌&&◌, IsTrue, None, Some, false, map, position};
-ghost use Rattle.std.specs.Prelude.{take};
+ghost use Rattle.std.specs.Prelude.{IfNone, IfSome, take};
 ghost use Rattle.std.specs.List.{list_all};
 ghost use Rattle.message_tables.specs.Tables.{Lines, has_tag, is_one_of};
 ghost use Rattle.message_tables.specs.CodeTables.{group_of, item_of, row_of};
@@ -96,6 +96,25 @@ fn value_fits(row: &Row<Kind>, fields: &Fields<'_>, value: &[u8]) -> bool
     }
 }
 
+/// Whether the first field of a row's tag has a good value; `None` where no field has the tag. The
+/// field's place is marked.
+#[inline(always)]
+fn first_fits(row: &Row<Kind>, fields: &Fields<'_>, rowed: &mut Rowed) -> Option<bool>
+    ensures none { IfNone result (None ≡ position (λ f. f.0 == row.now.tag) fields.now) }
+    ensures row { IfSome result (λ good. good ≡ fits judge fields.now (row_of kind_of row.now)) }
+    ensures member { IfSome result (λ good.
+        good ≡ member_fits judge fields.now (row_of kind_of row.now)) }
+    ensures places { rowed.new
+        ≡ with_place rowed.old (position (λ f. f.0 == row.now.tag) fields.now) }
+{
+    let place = fields.find(row.tag)?;
+    rowed[place] = true;
+    match fields.at(place) {
+        None => Some(false),
+        Some((_, value)) => Some(value_fits(row, fields, value)),
+    }
+}
+
 /// Whether the field of a row has a good value, or none is needed. The field's place is marked.
 #[inline(always)]
 fn row_fits(row: &Row<Kind>, fields: &Fields<'_>, rowed: &mut Rowed) -> bool
@@ -103,15 +122,9 @@ fn row_fits(row: &Row<Kind>, fields: &Fields<'_>, rowed: &mut Rowed) -> bool
     ensures places { rowed.new
         ≡ with_place rowed.old (position (λ f. f.0 == row.now.tag) fields.now) }
 {
-    match fields.find(row.tag) {
+    match first_fits(row, fields, rowed) {
         None => !row.need.is_needed(fields),
-        Some(place) => {
-            rowed[place] = true;
-            match fields.at(place) {
-                None => false,
-                Some((_, value)) => value_fits(row, fields, value),
-            }
-        }
+        Some(good) => good,
     }
 }
 
@@ -135,15 +148,9 @@ fn member_fits(row: &Row<Kind>, fields: &Fields<'_>, rowed: &mut Rowed) -> bool
     ensures places { rowed.new
         ≡ with_place rowed.old (position (λ f. f.0 == row.now.tag) fields.now) }
 {
-    match fields.find(row.tag) {
+    match first_fits(row, fields, rowed) {
         None => true,
-        Some(place) => {
-            rowed[place] = true;
-            match fields.at(place) {
-                None => false,
-                Some((_, value)) => value_fits(row, fields, value),
-            }
-        }
+        Some(good) => good,
     }
 }
 

@@ -226,8 +226,11 @@ joined_said number fields =
 module _ (entry : Entry) (took : Took) (letter : ℕ) (fields : List Field)
     (fault : Option SplitFault) (is : entry.took ≡ Some took)
     (front : first_of (joining_letter entry) entry.outs ≡ Some letter)
-    (split : SplitsInto took.raw fields fault) (msg_type : List ℕ)
-    (type_said : msg_type ≡ type_in fields) where
+    (raw : List ℕ) (same : raw ≡ took.raw) (split : SplitsInto raw fields fault)
+    (msg_type : List ℕ) (type_said : msg_type ≡ type_in fields) where
+  whole : SplitsInto took.raw fields fault
+  whole = subst (λ (r : List ℕ). SplitsInto r fields fault) same split
+
   retyped : (read : Result Message Fault) → message_by (table_of msg_type) fields fault ≡ read
       → message42 (type_in fields) fields fault ≡ read
   unfolding message42
@@ -235,10 +238,9 @@ module _ (entry : Entry) (took : Took) (letter : ℕ) (fields : List Field)
       ap (λ (t : List ℕ). message_by (table_of t) fields fault) (sym type_said) ∙ reads
 
   lettered : msg_type ≡ letter ∷ []
-  lettered = type_said ∙ same_type fields ∙ typed entry took letter fields fault is front split
+  lettered = type_said ∙ same_type fields ∙ typed entry took letter fields fault is front whole
 
-  -- THE REQUEST OF AN ENTRY, by its fields
-  pub item_clean : (good : Bor (List Field))
+  item_clean : (good : Bor (List Field))
       → IsCleanIf (table_of msg_type) fields fault (Ok good)
       → item_in entry ≡ Some (item_said took.number letter good.now)
   unfolding table_message
@@ -253,21 +255,21 @@ module _ (entry : Entry) (took : Took) (letter : ℕ) (fields : List Field)
           let reads : message_by (table_of msg_type) fields fault ≡ Ok (message_in judge t fields) =
           ap (λ (o : Option (Table Kind)). message_by o fields fault) at
           ∙ ap (message_by (Some t) fields) clean.1 ∙ ap told message in
-          item_read entry took letter fields fault is front split (message_in judge t fields)
+          item_read entry took letter fields fault is front whole (message_in judge t fields)
           (retyped (Ok (message_in judge t fields)) reads)
           ∙ joined_said took.number fields letter
-          (found entry took letter fields fault is front split).joins t
+          (found entry took letter fields fault is front whole).joins t
           (ap table_of (sym lettered) ∙ at)
           ∙ ap (λ (f : List Field). Some (item_said took.number letter f)) (sym clean.0)
 
   -- a faulty one joins nothing
-  pub item_refused : (e : Fault) → IsCleanIf (table_of msg_type) fields fault (Err e)
+  item_refused : (e : Fault) → IsCleanIf (table_of msg_type) fields fault (Err e)
       → item_in entry ≡ None
   item_refused e = by (table_of msg_type) refl
     where
       refused : (o : Option (Table Kind)) → table_of msg_type ≡ o
           → message_by o fields fault ≡ Err e → item_in entry ≡ None
-      refused o at is_fault = item_faulty entry took letter fields fault is front split e
+      refused o at is_fault = item_faulty entry took letter fields fault is front whole e
           (retyped (Err e) (ap (λ (o : Option (Table Kind)). message_by o fields fault) at
           ∙ is_fault))
 
@@ -275,3 +277,14 @@ module _ (entry : Entry) (took : Took) (letter : ℕ) (fields : List Field)
           → item_in entry ≡ None
       by None at clean = refused None at clean
       by (Some t) at clean = refused (Some t) at clean
+
+  -- what joins of the fields as they are judged
+  abbrev pub item_of_clean : Result (Bor (List Field)) Fault → Option ChainItem
+  item_of_clean (Ok good) = Some (item_said took.number letter good.now)
+  item_of_clean (Err e) = None
+
+  -- THE REQUEST OF AN ENTRY, by its fields
+  pub item_judged : (r : Result (Bor (List Field)) Fault)
+      → IsCleanIf (table_of msg_type) fields fault r → item_in entry ≡ item_of_clean r
+  item_judged (Ok good) = item_clean good
+  item_judged (Err e) = item_refused e

@@ -168,6 +168,7 @@ fn kind(side: Side, msg_type: &[u8], fields: &Fields<'_>) -> What
 /// `window` is how many seconds SendingTime(52) may be off to both sides of now. `msg_type` is the
 /// value of MsgType(35). The fields before a fault of the split are read. Where a tag stands twice,
 /// the first counts. The call takes no memory.
+#[inline(never)]
 pub fn read_head(
     side: Side,
     names: &Names,

@@ -18,7 +18,8 @@ use Rattle.typed_fields.specs.Digits.{are_digits, number_of, zero_padded, withou
 use Rattle.typed_fields.specs.Digits.{without_trailing_zeros, before_others, or_zero}
 use Rattle.typed_fields.specs.Dec.{has_minus, is_point, whole_part, fraction_part, is_dec_form}
 use Rattle.typed_fields.specs.Dec.{whole_digits, fraction_digits, is_dec_bounded, units_of, signed}
-use Rattle.typed_fields.specs.Dec.{read_dec, IsDec, sign_text, with_point, dec_text, plain_dec}
+use Rattle.typed_fields.specs.Dec.{read_dec, IsDec, ReadsPlain, sign_text, with_point, dec_text}
+use Rattle.typed_fields.specs.Dec.{plain_dec}
 use Rattle.typed_fields.specs.Laws.{ReadsBack, IsPlain, IsStable}
 use Rattle.typed_fields.proofs.DigitsLemmas.{both_true, number_of-append, number_of-lt}
 use Rattle.typed_fields.proofs.DigitsLemmas.{are_digits-append, are_digits-take, are_digits-drop}
@@ -495,11 +496,6 @@ pub rest_of : (bytes : List ℕ) (n : ℕ) → take (length bytes - n) (drop n b
 rest_of bytes n = take_all (length bytes - n) (drop n bytes) (simp length-drop (omega arith))
 
 -- digits, of which at most eight stand behind a point, are read as they stand
-pub record ReadsPlain (bytes : List ℕ) (units : ℕ) : Type 0 where
-  pub value : read_dec bytes ≡ Ok (record { units = pos units })
-  pub bound : IsDec (record { units = pos units })
-  pub small : units < 10 ^ 23
-
 reads_plain : (w f : List ℕ) → are_digits w ≡ true → are_digits f ≡ true → 0 < length w
     → length w + length f ≤ 15 → length f ≤ 8 → ReadsPlain (w ++ with_point f) (units_of w f)
 reads_plain w f h k some few places =

@@ -3,7 +3,7 @@
 -- stand or be left out (23.0 is 23.0000 is 23 is 23.). Up to fifteen significant digits are held. A
 -- value is exact: a whole number of units of 10^-8.
 use Rattle.std.specs.Prelude.{◌≡◌, ℕ, ◌+◌, ◌-◌, ◌*◌, ◌/◌, ◌%◌, ◌^◌, ◌<◌, ◌≤◌, Bool, not, ◌&&◌, List}
-use Rattle.std.specs.Prelude.{[], ◌∷◌, ◌++◌, length, drop, slice_index, Result, nat_le, ◌==◌, ℤ}
+use Rattle.std.specs.Prelude.{[], ◌∷◌, ◌++◌, length, drop, slice_index, Result, Ok, nat_le, ◌==◌, ℤ}
 use Rattle.std.specs.Prelude.{pos, neg_ℤ, unsigned_abs, if◌then◌else◌}
 use Rattle.std.specs.Int.{is_negative}
 use Rattle.std.specs.Fmt.{decimal}
@@ -74,6 +74,12 @@ pub record IsDec (d : Dec) : Type 0 where
   pub at_most_fifteen : digits < 10 ^ 15
   pub at_most_eight : zeros ≤ 8
   pub units : unsigned_abs d.units ≡ digits * 10 ^ zeros
+
+-- the bytes are read as a number of units without a sign, that digits of its form can have
+pub record ReadsPlain (bytes : List ℕ) (units : ℕ) : Type 0 where
+  pub value : read_dec bytes ≡ Ok (record { units = pos units })
+  pub bound : IsDec (record { units = pos units })
+  pub small : units < 10 ^ 23
 
 -- the sign, where there is one
 abbrev pub sign_text : Bool → List ℕ

@@ -1,14 +1,14 @@
 //! Decimal numbers.
 
 ghost use Rattle.std.specs.Prelude.{◌≡◌, ◌+◌, ◌/◌, ◌^◌, ◌<◌, ◌≤◌, ◌++◌, unsigned_abs, length};
-ghost use Rattle.std.specs.Prelude.{◌*◌, ◌-◌, IsTrue, OnOk, OnErr, IfOk, IfSome, Ok, drop, pos};
+ghost use Rattle.std.specs.Prelude.{◌*◌, ◌-◌, IsTrue, OnOk, OnErr, IfOk, IfSome, Ok, drop};
 ghost use Rattle.std.specs.List.{before_first, after_first, position};
 ghost use Rattle.typed_fields.specs.Digits.{are_digits, number_of, without_trailing_zeros};
 ghost use Rattle.typed_fields.specs.Digits.{zero_padded};
 ghost use Rattle.typed_fields.specs.Dec.{read_dec, dec_text, IsDec, has_minus, without_minus};
 ghost use Rattle.typed_fields.specs.Dec.{is_point, units_of, signed, sign_text, with_point};
+ghost use Rattle.typed_fields.specs.Dec.{ReadsPlain};
 ghost use Rattle.std.specs.Fmt.{decimal};
-ghost use Rattle.std.specs.Int.{is_negative};
 ghost use Rattle.std.specs.Prelude.{◌%◌, vec_capacity, vec_len};
 
 use crate::digits::{
@@ -144,10 +144,7 @@ fn units_behind(bytes: &[u8]) -> Option<(usize, u64)>
 /// `None` where the bytes are more than that.
 #[inline(always)]
 fn plain_units(bytes: &[u8]) -> Option<u128>
-    ensures value { IfSome result (λ units.
-        read_dec bytes.now ≡ Ok (record { units = pos units })) }
-    ensures bound { IfSome result (λ units. IsDec (record { units = pos units })) }
-    ensures small { IfSome result (λ units. units < 10 ^ 23) }
+    ensures { IfSome result (ReadsPlain bytes.now) }
 {
     let (len, whole) = front_digits(bytes);
     if len == 0 {
