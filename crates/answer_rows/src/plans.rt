@@ -11,7 +11,8 @@ use gateway_core::{Config, Core, Event, Plan, PlanError};
 use order_chains::ChainItem;
 use order_meaning::Side::{self, Client, Venue};
 use outside::MemDisk;
-use pair_journal::{Journal, JournalError, Out};
+use pair_entries::Out;
+use pair_journal::{Journal, JournalError};
 use session_core::{ALL_USED, LinkState, Numbers, Session};
 use std::alloc::{AllocError, Global};
 

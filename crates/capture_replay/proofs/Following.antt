@@ -11,7 +11,7 @@ use Rattle.outside.specs.Bytes.{AppendsFront, PutAppends}
 use Rattle.outside.proofs.Fronts.{appended_front, front_on}
 use Rattle.wires.specs.Wire.{WireCall}
 use Rattle.wires.specs.MemWire.{calls_told}
-use Rattle.pair_journal.specs.declared.entry.Entry.{Entry}
+use Rattle.pair_entries.specs.declared.entry.Entry.{Entry}
 use Rattle.pair_journal.specs.Numbers.{first_numbers, numbers_after}
 use Rattle.gateway_config.specs.declared.config.Config.{Config}
 use Rattle.gateway_life.specs.declared.end.LifeEnd.{LifeEnd}

@@ -10,7 +10,7 @@ use Rattle.outside.specs.MemDisk.{IsImageOf, fresh}
 use Rattle.outside.specs.declared.mem_disk.Fuse.{Fuse}
 use Rattle.order_meaning.specs.declared.Side.{Side}
 use Rattle.order_meaning.specs.declared.Side.TheVariants.{Client, Venue}
-use Rattle.pair_journal.specs.declared.entry.Entry.{Entry}
+use Rattle.pair_entries.specs.declared.entry.Entry.{Entry}
 use Rattle.wires.specs.Wire.{Came, WireCall, Connection}
 use Rattle.wires.specs.Script.{item_of, Plays}
 use Rattle.wires.specs.Clock.{ClockState, moments_given, moments_told}

@@ -2,7 +2,7 @@
 
 ghost use Rattle.std.specs.Prelude.{◌≡◌, List, length, IfOk};
 ghost use Rattle.order_meaning.specs.declared.names.Names.{Names};
-ghost use Rattle.pair_journal.specs.declared.entry.Entry.{Entry};
+ghost use Rattle.pair_entries.specs.declared.entry.Entry.{Entry};
 ghost use Rattle.pair_journal.specs.Numbers.{first_numbers, numbers_after};
 ghost use Rattle.gateway_life.specs.Life.{IsJournal};
 

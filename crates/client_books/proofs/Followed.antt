@@ -11,11 +11,11 @@ use Rattle.message_tables.specs.Tables.{Message}
 use Rattle.order_meaning.specs.declared.Side.TheVariants.{Client}
 use Rattle.order_meaning.specs.declared.names.Names.{Names}
 use Rattle.order_meaning.specs.Book.{Book}
-use Rattle.pair_journal.specs.declared.TheConstants.{MAX_NUMBER}
-use Rattle.pair_journal.specs.declared.entry.Took.{Took}
-use Rattle.pair_journal.specs.declared.entry.Out.{Out}
-use Rattle.pair_journal.specs.declared.entry.Entry.{Entry}
-use Rattle.pair_journal.specs.Payload.{Next, IsTook}
+use Rattle.pair_entries.specs.declared.TheConstants.{MAX_NUMBER}
+use Rattle.pair_entries.specs.declared.entry.Took.{Took}
+use Rattle.pair_entries.specs.declared.entry.Out.{Out}
+use Rattle.pair_entries.specs.declared.entry.Entry.{Entry}
+use Rattle.pair_entries.specs.Payload.{Next, IsTook}
 use Rattle.pair_journal.specs.Numbers.{first_numbers, is_side, outs_to, next_out, Numbered}
 use Rattle.pair_journal.specs.Journal.{AreEntries}
 use Rattle.reports_fix50.specs.Step.{step50}

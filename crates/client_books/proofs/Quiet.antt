@@ -17,7 +17,7 @@ use Rattle.session_core.specs.declared.act.Act.TheVariants.{Take, Skip, Say, Res
 use Rattle.session_core.specs.declared.act.Admin.{Admin}
 use Rattle.session_core.specs.declared.act.Admin.TheVariants as admin
 use Rattle.session_logon.specs.Content.{said}
-use Rattle.pair_journal.specs.declared.entry.Out.{Out}
+use Rattle.pair_entries.specs.declared.entry.Out.{Out}
 use Rattle.pair_journal.specs.Numbers.{is_side}
 use Rattle.reports_fix42.specs.Step.{step42}
 use Rattle.event_decisions.specs.Decide.{Heard, says_of}

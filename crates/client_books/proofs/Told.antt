@@ -15,10 +15,10 @@ use Rattle.session_core.specs.declared.session.Session.{Session}
 use Rattle.session_core.specs.declared.session.Spent.{Spent}
 use Rattle.session_core.specs.declared.session.Step.{Step}
 use Rattle.session_core.specs.Table as session
-use Rattle.pair_journal.specs.declared.entry.Took.{Took}
-use Rattle.pair_journal.specs.declared.entry.Out.{Out}
-use Rattle.pair_journal.specs.declared.entry.Entry.{Entry}
-use Rattle.pair_journal.specs.Payload.{IsEntry, IsTook}
+use Rattle.pair_entries.specs.declared.entry.Took.{Took}
+use Rattle.pair_entries.specs.declared.entry.Out.{Out}
+use Rattle.pair_entries.specs.declared.entry.Entry.{Entry}
+use Rattle.pair_entries.specs.Payload.{IsEntry, IsTook}
 use Rattle.reports_fix42.specs.Step.{step42}
 use Rattle.reports_fix50.specs.Step.{step50}
 use Rattle.event_decisions.specs.Body.{fields_of}

@@ -17,7 +17,7 @@ use Rattle.order_meaning.specs.declared.Side.{Side}
 use Rattle.order_meaning.specs.declared.Side.TheVariants.{Client, Venue}
 use Rattle.order_meaning.specs.Book.{Order, in_phase}
 use Rattle.order_meaning.specs.Report.{Phase, New, PendingCancel}
-use Rattle.pair_journal.specs.declared.entry.Entry.{Entry}
+use Rattle.pair_entries.specs.declared.entry.Entry.{Entry}
 use Rattle.reports_fix42.specs.Message.{message42 as report42}
 use Rattle.reports_fix42.specs.Sense as sense42
 use Rattle.reports_fix42.specs.Step.{step42}

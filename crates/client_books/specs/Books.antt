@@ -9,9 +9,9 @@ use Rattle.std.specs.Result.{result_ok}
 use Rattle.message_tables.specs.Tables.{Message, ◌>>=◌}
 use Rattle.order_meaning.specs.declared.Side.TheVariants.{Client, Venue}
 use Rattle.order_meaning.specs.Book.{Book}
-use Rattle.pair_journal.specs.declared.entry.Took.{Took}
-use Rattle.pair_journal.specs.declared.entry.Out.{Out}
-use Rattle.pair_journal.specs.declared.entry.Entry.{Entry}
+use Rattle.pair_entries.specs.declared.entry.Took.{Took}
+use Rattle.pair_entries.specs.declared.entry.Out.{Out}
+use Rattle.pair_entries.specs.declared.entry.Entry.{Entry}
 use Rattle.pair_journal.specs.Numbers.{is_side}
 use Rattle.reports_fix42.specs.Step.{step42}
 use Rattle.reports_fix50.specs.Step.{step50}

@@ -3,7 +3,7 @@ use Rattle.std.specs.Prelude.{◌≡◌, ℕ, List}
 use Rattle.order_meaning.specs.declared.Side.TheVariants.{Client}
 use Rattle.order_meaning.specs.declared.names.Names.{Names}
 use Rattle.order_meaning.specs.Book.{Book}
-use Rattle.pair_journal.specs.declared.entry.Entry.{Entry}
+use Rattle.pair_entries.specs.declared.entry.Entry.{Entry}
 use Rattle.pair_journal.specs.Numbers.{first_numbers}
 use Rattle.pair_journal.specs.Journal.{AreEntries}
 use Rattle.event_decisions.specs.Decide.{IsLawful}

@@ -1,7 +1,7 @@
 -- Own: what contracts see of the tap that keeps entries.
 use Rattle.std.specs.Prelude.{List, Bool}
 use Rattle.outside.specs.Memory.{CallsState}
-use Rattle.pair_journal.specs.declared.entry.Entry.{Entry}
+use Rattle.pair_entries.specs.declared.entry.Entry.{Entry}
 
 pub record KeepState : Type 0 where
   pub entries : List Entry

@@ -3,14 +3,14 @@
 ghost use Rattle.std.specs.Prelude.{◌≡◌, ◌↔◌, [], ◌∷◌, ◌++◌, length, Some, Err, OnOk, OnErr};
 ghost use Rattle.std.specs.Prelude.{false, is_err};
 ghost use Rattle.outside.specs.Memory.{IsListed, called};
-ghost use Rattle.pair_journal.specs.Payload.{IsEntry};
+ghost use Rattle.pair_entries.specs.Payload.{IsEntry};
 ghost use Rattle.drop_taps.specs.Tap.{seen_after, tally_after, faults_after, entries_alone};
 ghost use Rattle.drop_taps.specs.Tap.{HasTapCause};
 ghost use Rattle.drop_taps.specs.declared.tap.TapFailed.TheVariants as failures;
 
 use crate::{Seen, Tap, TapFailed};
 use outside::Calls;
-use pair_journal::Entry;
+use pair_entries::Entry;
 use std::alloc::{AllocError, Global};
 use std::marker::Model;
 

@@ -4,14 +4,14 @@ ghost use Rattle.std.specs.Prelude.{◌≡◌, ◌≢◌, None, Err, false, IsTr
 ghost use Rattle.outside.specs.Bytes.{PutAppends};
 ghost use Rattle.outside.specs.Causes.{HasCause, next_count};
 ghost use Rattle.entry_lines.specs.EntryLine.{entry_line};
-ghost use Rattle.pair_journal.specs.Payload.{IsEntry};
+ghost use Rattle.pair_entries.specs.Payload.{IsEntry};
 ghost use Rattle.drop_taps.specs.Tap.{seen_after, tally_after, entries_alone, HasTapCause};
 ghost use Rattle.drop_taps.specs.declared.tap.TapFailed.TheVariants as failures;
 
 use crate::{Seen, Tap, TapFailed};
 use entry_lines::entry_line;
 use outside::Sink;
-use pair_journal::Entry;
+use pair_entries::Entry;
 
 /// A tap that puts the line of each entry to a sink, numbered from 1 by what it was shown.
 ///

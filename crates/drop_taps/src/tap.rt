@@ -2,13 +2,13 @@
 
 ghost use Rattle.std.specs.Prelude.{◌≡◌, ℕ, List, Bool, false, IsTrue, IsOk, is_err};
 ghost use Rattle.std.specs.declared.option.Option.{Option};
-ghost use Rattle.pair_journal.specs.declared.entry.Entry.{Entry};
-ghost use Rattle.pair_journal.specs.Payload.{IsEntry};
+ghost use Rattle.pair_entries.specs.declared.entry.Entry.{Entry};
+ghost use Rattle.pair_entries.specs.Payload.{IsEntry};
 ghost use Rattle.drop_taps.specs.declared.tap.Seen.{Seen};
 ghost use Rattle.drop_taps.specs.declared.tap.TapFailed.TheVariants as failures;
 ghost use Rattle.drop_taps.specs.Tap.{seen_after, tally_after, HasTapCause};
 
-use pair_journal::Entry;
+use pair_entries::Entry;
 use std::alloc::AllocError;
 use thiserror::Error;
 

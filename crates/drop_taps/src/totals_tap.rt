@@ -2,11 +2,12 @@
 
 ghost use Rattle.std.specs.Prelude.{◌≡◌, None, false, true, count_by};
 ghost use Rattle.drop_taps.specs.Tap.{seen_after, is_request, is_report, is_refusal, grown};
-ghost use Rattle.pair_journal.specs.declared.entry.Entry.{Entry};
+ghost use Rattle.pair_entries.specs.declared.entry.Entry.{Entry};
 
 use crate::{Seen, Tap, TapFailed};
 use order_meaning::Side;
-use pair_journal::{Entry, Out, source_in};
+use pair_entries::{Entry, Out};
+use pair_journal::source_in;
 
 /// A tap that counts entries, requests, reports and refusals, as [`Seen`] says. It never fails, and
 /// takes no memory.

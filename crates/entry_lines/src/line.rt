@@ -4,7 +4,7 @@ ghost use Rattle.std.specs.Prelude.{◌≡◌, ◌+◌, ◌*◌, ◌≤◌, ◌+
 ghost use Rattle.std.specs.Prelude.{◌==◌, not};
 ghost use Rattle.std.specs.List.{flat_map, prefix_len};
 ghost use Rattle.arrayvec.specs.ArrayVec.{array_vec_len};
-ghost use Rattle.pair_journal.specs.Payload.{IsOut, IsTook, AreOuts, IsEntry};
+ghost use Rattle.pair_entries.specs.Payload.{IsOut, IsTook, AreOuts, IsEntry};
 ghost use Rattle.entry_lines.specs.EntryLine.{side_name, type_in, message_words, took_words};
 ghost use Rattle.entry_lines.specs.EntryLine.{out_words, outs_words, next_words};
 ghost use Rattle.entry_lines.specs.EntryLine.{entry_line};
@@ -12,7 +12,7 @@ ghost use Rattle.entry_lines.specs.EntryLine.{entry_line};
 use arrayvec::ArrayVec;
 use itoa::Buffer;
 use order_meaning::Side;
-use pair_journal::{Entry, Out, Took};
+use pair_entries::{Entry, Out, Took};
 use std::marker::Model;
 
 /// The room for the line of an entry, in bytes: a body that was taken, and 512 bytes.

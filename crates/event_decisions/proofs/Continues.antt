@@ -30,10 +30,10 @@ use Rattle.session_logon.specs.Head.{test_request_kind, logon_kind}
 use Rattle.session_logon.specs.Reasons.{required, read_between, between, or_reason}
 use Rattle.session_logon.specs.Reasons.{read_zero_or_from, text_fault}
 use Rattle.message_tables.specs.Tables.{value_at}
-use Rattle.pair_journal.specs.declared.entry.Out.{Out}
-use Rattle.pair_journal.specs.declared.entry.Entry.{Entry}
+use Rattle.pair_entries.specs.declared.entry.Out.{Out}
+use Rattle.pair_entries.specs.declared.entry.Entry.{Entry}
 use Rattle.pair_journal.specs.Numbers.{OutsGoOn, InStays, GoesOn, next_out}
-use Rattle.pair_journal.specs.Payload.{Next}
+use Rattle.pair_entries.specs.Payload.{Next}
 use Rattle.event_decisions.specs.Event.{Event, Opened, Frame, Closed, Tick, End, side_of}
 use Rattle.event_decisions.specs.Body.{type_of, fields_of}
 use Rattle.event_decisions.specs.Decide.{Sessions, session_of, with_session, numbers_of}

@@ -17,11 +17,11 @@ use Rattle.session_core.specs.declared.said.Said.{Said}
 use Rattle.session_core.specs.Table as session
 use Rattle.session_core.specs.Table.{says}
 use Rattle.session_logon.specs.Content.{said}
-use Rattle.pair_journal.specs.declared.entry.Took.{Took}
-use Rattle.pair_journal.specs.declared.entry.Out.{Out}
+use Rattle.pair_entries.specs.declared.entry.Took.{Took}
+use Rattle.pair_entries.specs.declared.entry.Out.{Out}
 use Rattle.pair_journal.specs.Numbers.{is_side, outs_to, Numbered}
 use Rattle.pair_journal.specs.Numbers.{next_in, next_out}
-use Rattle.pair_journal.specs.Payload.{Next}
+use Rattle.pair_entries.specs.Payload.{Next}
 use Rattle.event_decisions.specs.Event.{Event, Opened, Frame, Closed, Tick, End, side_of}
 use Rattle.event_decisions.specs.Decide.{Sessions, AreSides, session_of, with_session, numbers_of}
 use Rattle.event_decisions.specs.Decide.{Heard, says_of, out_of, Words, Given, give}

@@ -19,8 +19,8 @@ use Rattle.session_core.specs.declared.session.LinkState.{LinkState}
 use Rattle.session_core.specs.declared.session.LinkState.TheVariants.{Down}
 use Rattle.session_core.specs.declared.session.LinkState.TheVariants.{Active}
 use Rattle.session_core.specs.declared.session.Session.{Session}
-use Rattle.pair_journal.specs.declared.entry.Out.{Out}
-use Rattle.pair_journal.specs.declared.entry.Entry.{Entry}
+use Rattle.pair_entries.specs.declared.entry.Out.{Out}
+use Rattle.pair_entries.specs.declared.entry.Entry.{Entry}
 use Rattle.order_meaning.specs.declared.names.Names.{Names}
 use Rattle.event_decisions.specs.Body.{reading_of}
 use Rattle.event_decisions.specs.Event.{Event, Opened, Frame}

@@ -24,11 +24,11 @@ use Rattle.session_core.specs.declared.tag.TheConstants.{TEST_REQ_ID}
 use Rattle.session_core.specs.Table as session
 use Rattle.session_logon.specs.Content.{said}
 use Rattle.session_logon.specs.Head.{head_of}
-use Rattle.pair_journal.specs.declared.entry.Took.{Took}
-use Rattle.pair_journal.specs.declared.entry.Out.{Out}
-use Rattle.pair_journal.specs.declared.entry.Entry.{Entry}
+use Rattle.pair_entries.specs.declared.entry.Took.{Took}
+use Rattle.pair_entries.specs.declared.entry.Out.{Out}
+use Rattle.pair_entries.specs.declared.entry.Entry.{Entry}
 use Rattle.pair_journal.specs.Numbers.{numbers_after, first_numbers}
-use Rattle.pair_journal.specs.Payload.{Next}
+use Rattle.pair_entries.specs.Payload.{Next}
 use Rattle.event_decisions.specs.Body.{fields_of, type_of}
 use Rattle.event_decisions.specs.Event.{Event, Opened, Frame, Closed, Tick, End, side_of}
 

@@ -12,9 +12,9 @@ use Rattle.session_core.specs.declared.reason.TheConstants.{COMP_ID_PROBLEM}
 use Rattle.session_core.specs.declared.tag.TheConstants.{NEW_SEQ_NO, SENDING_TIME}
 use Rattle.session_logon.specs.Content.{said}
 use Rattle.session_logon.specs.Head.{kind_of, number_in}
-use Rattle.pair_journal.specs.declared.entry.Took.{Took}
-use Rattle.pair_journal.specs.declared.entry.Out.{Out}
-use Rattle.pair_journal.specs.declared.entry.Entry.{Entry}
+use Rattle.pair_entries.specs.declared.entry.Took.{Took}
+use Rattle.pair_entries.specs.declared.entry.Out.{Out}
+use Rattle.pair_entries.specs.declared.entry.Entry.{Entry}
 use Rattle.pair_journal.specs.Numbers.{GoesOn, TookGoesOn, Taking, Counts, Fills, Resets, next_out}
 use Rattle.event_decisions.specs.Body.{reading_of, fields_of, type_of}
 use Rattle.event_decisions.specs.Event.{Event, Frame}

@@ -5,8 +5,8 @@ use Rattle.order_meaning.specs.declared.Side.{Side}
 use Rattle.order_chains.specs.declared.item.ChainItem.{ChainItem}
 use Rattle.session_core.specs.declared.act.Act.{Act}
 use Rattle.session_core.specs.declared.session.Step.{Step}
-use Rattle.pair_journal.specs.declared.entry.Took.{Took}
-use Rattle.pair_journal.specs.declared.entry.Out.{Out}
+use Rattle.pair_entries.specs.declared.entry.Took.{Took}
+use Rattle.pair_entries.specs.declared.entry.Out.{Out}
 use Rattle.event_decisions.specs.Decide.{Sessions, Words, Heard, Decision, session_of}
 use Rattle.event_decisions.specs.Decide.{with_session, numbers_of, says_of, give}
 use Rattle.message_answers.specs.Chains.{new_item}

@@ -5,7 +5,7 @@ use Rattle.std.proofs.Common.{if◌then◌else◌}
 use Rattle.std.specs.Option.{option_to_list}
 use Rattle.order_chains.specs.declared.item.ChainItem.{ChainItem}
 use Rattle.message_tables.specs.Tables.{◌>>=◌}
-use Rattle.pair_journal.specs.declared.entry.Entry.{Entry}
+use Rattle.pair_entries.specs.declared.entry.Entry.{Entry}
 use Rattle.order_chains.specs.Chains.{has_id}
 use Rattle.message_answers.specs.Chains.{chains_of, chains_after, new_item, if_new, item_in}
 use Rattle.gateway_core.specs.declared.plan.Plan.{Plan}

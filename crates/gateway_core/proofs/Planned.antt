@@ -27,12 +27,12 @@ use Rattle.session_core.specs.Table as session
 use Rattle.session_core.specs.Table.{says, is_spent, settled, does, counted, heard, row_of}
 use Rattle.session_core.specs.Table.{effect_of, is_say}
 use Rattle.session_logon.specs.Content.{said}
-use Rattle.pair_journal.specs.declared.entry.Took.{Took}
-use Rattle.pair_journal.specs.declared.entry.Out.{Out}
-use Rattle.pair_journal.specs.declared.entry.Entry.{Entry}
+use Rattle.pair_entries.specs.declared.entry.Took.{Took}
+use Rattle.pair_entries.specs.declared.entry.Out.{Out}
+use Rattle.pair_entries.specs.declared.entry.Entry.{Entry}
 use Rattle.pair_journal.specs.Given.{is_source, letter_of, letters_to, has_letter}
 use Rattle.pair_journal.specs.Numbers.{is_side}
-use Rattle.pair_journal.specs.Payload.{IsOut, AreOuts}
+use Rattle.pair_entries.specs.Payload.{IsOut, AreOuts}
 use Rattle.event_decisions.specs.Body.{reading_of}
 use Rattle.event_decisions.specs.Decide.{Sessions, Words, Given, Heard, Asked, Decision}
 use Rattle.event_decisions.specs.Decide.{session_of, with_session, is_active, head_in}

@@ -17,8 +17,8 @@ use Rattle.session_core.specs.declared.tag.TheConstants.{TEST_REQ_ID}
 use Rattle.session_core.specs.Table as session
 use Rattle.session_logon.specs.Head.{head_of}
 use Rattle.translation.specs.Header.{type_of as type_in}
-use Rattle.pair_journal.specs.declared.entry.Took.{Took}
-use Rattle.pair_journal.specs.declared.entry.Entry.{Entry}
+use Rattle.pair_entries.specs.declared.entry.Took.{Took}
+use Rattle.pair_entries.specs.declared.entry.Entry.{Entry}
 use Rattle.event_decisions.specs.Body.{Reading, reading_of, fields_of, type_of, first_value}
 use Rattle.event_decisions.specs.Decide.{Heard, session_of, head_in, heard_in, takes}
 use Rattle.event_decisions.specs.Decide.{took_if, says_of, asks, asked_if, is_active}

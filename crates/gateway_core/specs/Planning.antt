@@ -14,12 +14,12 @@ use Rattle.session_core.specs.declared.session.Spent.{Spent}
 use Rattle.session_core.specs.declared.session.Step.{Step}
 use Rattle.session_core.specs.declared.session.Session.{Session}
 use Rattle.session_core.specs.Table.{Input, step, says, is_spent}
-use Rattle.pair_journal.specs.declared.TheConstants.{MAX_CONTENT}
-use Rattle.pair_journal.specs.declared.entry.Took.{Took}
-use Rattle.pair_journal.specs.declared.entry.Out.{Out}
-use Rattle.pair_journal.specs.declared.entry.Entry.{Entry}
+use Rattle.pair_entries.specs.declared.TheConstants.{MAX_CONTENT}
+use Rattle.pair_entries.specs.declared.entry.Took.{Took}
+use Rattle.pair_entries.specs.declared.entry.Out.{Out}
+use Rattle.pair_entries.specs.declared.entry.Entry.{Entry}
 use Rattle.pair_journal.specs.Given.{source_of}
-use Rattle.pair_journal.specs.Payload.{Next}
+use Rattle.pair_entries.specs.Payload.{Next}
 use Rattle.event_decisions.specs.Decide.{Sessions, Heard, Given, Words, Decision, Repeat, give}
 use Rattle.event_decisions.specs.Decide.{session_of, with_session, numbers_of, says_of, hangs_up}
 use Rattle.event_decisions.specs.Decide.{entry_if, repeat_of, asks, is_active}

@@ -1,7 +1,7 @@
 //! What the acts of a session's step ask for beside its own messages.
 
 ghost use Rattle.std.specs.Prelude.{◌≡◌, ◌≤◌, length, IfOk, IfSome};
-ghost use Rattle.pair_journal.specs.Payload.{IsTook};
+ghost use Rattle.pair_entries.specs.Payload.{IsTook};
 ghost use Rattle.session_core.specs.Table.{Message};
 ghost use Rattle.event_decisions.specs.Decide.{takes, took_if, hangs_up, repeat_of, asks};
 ghost use Rattle.event_decisions.specs.Decide.{is_active};
@@ -9,7 +9,7 @@ ghost use Rattle.gateway_core.specs.Planning.{repeat_by, is_asked};
 
 use message_answers::Asked;
 use order_meaning::{Bytes, Side};
-use pair_journal::{MAX_RAW, Took};
+use pair_entries::{MAX_RAW, Took};
 use session_core::{Act, Head, LinkState, What};
 use std::alloc::{AllocError, Global};
 

@@ -2,13 +2,13 @@
 
 ghost use Rattle.std.specs.Prelude.{◌≡◌, ◌≤◌, ◌++◌, length, IfOk, IfSome};
 ghost use Rattle.std.specs.Option.{option_to_list};
-ghost use Rattle.pair_journal.specs.Payload.{IsTook, IsOut, AreOuts, AreNext, IsEntry};
+ghost use Rattle.pair_entries.specs.Payload.{IsTook, IsOut, AreOuts, AreNext, IsEntry};
 ghost use Rattle.event_decisions.specs.Decide.{same_numbers, entry_if};
 ghost use Rattle.gateway_core.specs.Planning.{with_entry};
 
 use crate::outs::push_if;
 use order_chains::ChainItem;
-use pair_journal::{Entry, MAX_AT, Out, Outs, Prepared, Took, prepare};
+use pair_entries::{Entry, MAX_AT, Out, Outs, Prepared, Took, prepare};
 use std::alloc::{AllocError, Global};
 
 /// The next numbers: client in, client out, venue in, venue out.

@@ -5,14 +5,14 @@ ghost use Rattle.std.specs.Prelude.{OnOk, IfSome};
 ghost use Rattle.std.specs.Option.{option_to_list};
 ghost use Rattle.session_core.specs.Table.{says};
 ghost use Rattle.session_logon.specs.Content.{said};
-ghost use Rattle.pair_journal.specs.Payload.{IsOut, AreOuts};
+ghost use Rattle.pair_entries.specs.Payload.{IsOut, AreOuts};
 ghost use Rattle.event_decisions.specs.Decide.{out_of, says_of};
 ghost use Rattle.message_answers.specs.Seen.{IsFit};
 ghost use Rattle.gateway_core.specs.Planning.{HasReasonWords, HasWords, IsEcho, echoes};
 ghost use Rattle.gateway_core.specs.Planning.{heard_by, silent};
 
 use order_meaning::Side;
-use pair_journal::{MAX_OUTS, Out, Outs};
+use pair_entries::{MAX_OUTS, Out, Outs};
 use session_core::{ALL_USED, Act, Admin, Said, Why};
 use session_logon::say;
 use std::alloc::{AllocError, Global};

@@ -2,7 +2,7 @@
 
 use order_chains::ChainItem;
 use order_meaning::Side;
-use pair_journal::Prepared;
+use pair_entries::Prepared;
 use session_core::Session;
 use std::alloc::AllocError;
 

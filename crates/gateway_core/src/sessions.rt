@@ -1,7 +1,7 @@
 //! The two sessions of the gateway.
 
 ghost use Rattle.std.specs.Prelude.{◌≡◌, IfOk, IfSome};
-ghost use Rattle.pair_journal.specs.Payload.{IsOut, AreNext};
+ghost use Rattle.pair_entries.specs.Payload.{IsOut, AreNext};
 ghost use Rattle.event_decisions.specs.Decide.{session_of, with_session, numbers_of, give};
 ghost use Rattle.message_answers.specs.Seen.{IsFit};
 ghost use Rattle.gateway_core.specs.Planning.{words_by, gave};
@@ -9,7 +9,7 @@ ghost use Rattle.gateway_core.specs.Planning.{words_by, gave};
 use crate::outs::out_of;
 use message_answers::Words;
 use order_meaning::Side;
-use pair_journal::Out;
+use pair_entries::Out;
 use session_core::Session;
 use std::marker::Model;
 

@@ -9,7 +9,7 @@ use Rattle.outside.specs.Disk.{HasOneImage, AreAmong}
 use Rattle.order_meaning.specs.declared.names.Names.{Names}
 use Rattle.pair_journal.specs.declared.error.JournalError.{JournalError}
 use Rattle.pair_journal.specs.declared.error.JournalError.TheVariants as errors
-use Rattle.pair_journal.specs.declared.entry.Entry.{Entry}
+use Rattle.pair_entries.specs.declared.entry.Entry.{Entry}
 use Rattle.pair_journal.specs.Calls.{Loads, BornOrNot, ReadsOnly}
 use Rattle.pair_journal.specs.Journal.{JournalOf, Unborn, Born, AreEntries}
 use Rattle.pair_journal.specs.Numbers.{first_numbers}

@@ -13,12 +13,12 @@ use Rattle.order_meaning.specs.declared.Side.{Side}
 use Rattle.order_meaning.specs.declared.Side.TheVariants.{Client, Venue}
 use Rattle.order_meaning.specs.declared.names.Names.{Names}
 use Rattle.order_chains.specs.declared.item.ChainItem.{ChainItem}
-use Rattle.pair_journal.specs.declared.TheConstants.{MAX_NEXT}
+use Rattle.pair_entries.specs.declared.TheConstants.{MAX_NEXT}
 use Rattle.pair_journal.specs.declared.error.JournalError.{JournalError}
 use Rattle.pair_journal.specs.declared.error.JournalError.TheVariants as errors
-use Rattle.pair_journal.specs.declared.entry.Out.{Out}
-use Rattle.pair_journal.specs.declared.entry.Entry.{Entry}
-use Rattle.pair_journal.specs.Payload.{Next, AreNext, IsEntry, AreOuts, entry_bytes}
+use Rattle.pair_entries.specs.declared.entry.Out.{Out}
+use Rattle.pair_entries.specs.declared.entry.Entry.{Entry}
+use Rattle.pair_entries.specs.Payload.{Next, AreNext, IsEntry, AreOuts, entry_bytes}
 use Rattle.pair_journal.specs.Numbers.{next_out, outs_to, Numbered, OutsGoOn, GoesOn, is_side}
 use Rattle.pair_journal.specs.Numbers.{numbers_after, first_numbers}
 use Rattle.pair_journal.specs.Journal.{JournalOf, Born, AreEntries}

@@ -39,11 +39,11 @@ use Rattle.session_logon.specs.Content.{said, fields_of, logon_fields, logout_fi
 use Rattle.session_logon.specs.Content.{rejected_fields, reason_field, text_field}
 use Rattle.session_logon.specs.Head.{our, peer}
 use Rattle.session_frames.specs.Laws.{IsShown}
-use Rattle.pair_journal.specs.declared.TheConstants.{MAX_NUMBER, MAX_CONTENT}
-use Rattle.pair_journal.specs.declared.entry.Took.{Took}
-use Rattle.pair_journal.specs.declared.entry.Out.{Out}
-use Rattle.pair_journal.specs.declared.entry.Entry.{Entry}
-use Rattle.pair_journal.specs.Payload.{Next, IsEntry, IsOut, IsTook, AreOuts}
+use Rattle.pair_entries.specs.declared.TheConstants.{MAX_NUMBER, MAX_CONTENT}
+use Rattle.pair_entries.specs.declared.entry.Took.{Took}
+use Rattle.pair_entries.specs.declared.entry.Out.{Out}
+use Rattle.pair_entries.specs.declared.entry.Entry.{Entry}
+use Rattle.pair_entries.specs.Payload.{Next, IsEntry, IsOut, IsTook, AreOuts}
 use Rattle.pair_journal.specs.Numbers.{first_numbers, is_side, outs_to}
 use Rattle.pair_journal.specs.Journal.{AreEntries}
 use Rattle.event_decisions.specs.Body.{first_value, reading_of}

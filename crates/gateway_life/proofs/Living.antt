@@ -11,7 +11,7 @@ use Rattle.std.specs.Option.{ForSome}
 use Rattle.outside.specs.Causes.{next_count}
 use Rattle.outside.specs.Disk.{Only, HasOneImage}
 use Rattle.order_meaning.specs.declared.names.Names.{Names}
-use Rattle.pair_journal.specs.declared.entry.Entry.{Entry}
+use Rattle.pair_entries.specs.declared.entry.Entry.{Entry}
 use Rattle.pair_journal.specs.Calls.{BornOrNot}
 use Rattle.pair_journal.specs.Journal.{JournalOf, Unborn, Born, Refused}
 use Rattle.pair_journal.specs.Laws.{HasOneReading}

@@ -12,7 +12,7 @@ use Rattle.frame_grammar.specs.Cut.{Piece}
 use Rattle.frame_grammar.specs.Framer.{StandsFor}
 use Rattle.order_meaning.specs.declared.Side.{Side}
 use Rattle.order_meaning.specs.declared.Side.TheVariants.{Client, Venue}
-use Rattle.pair_journal.specs.declared.entry.Entry.{Entry}
+use Rattle.pair_entries.specs.declared.entry.Entry.{Entry}
 use Rattle.session_frames.specs.Frames.{kind_of}
 use Rattle.event_decisions.specs.Event.{Event, Opened, Frame, Closed, Tick}
 use Rattle.gateway_config.specs.declared.config.Config.{Config}

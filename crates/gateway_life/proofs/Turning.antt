@@ -12,7 +12,7 @@ use Rattle.frame_grammar.specs.Held.{Held}
 use Rattle.frame_grammar.specs.Framer.{StandsFor}
 use Rattle.order_meaning.specs.declared.Side.{Side}
 use Rattle.order_meaning.specs.declared.names.Names.{Names}
-use Rattle.pair_journal.specs.declared.entry.Entry.{Entry}
+use Rattle.pair_entries.specs.declared.entry.Entry.{Entry}
 use Rattle.event_decisions.specs.Event.{Event, Opened, Frame, Closed}
 use Rattle.message_answers.specs.Answer.{Answers}
 use Rattle.gateway_config.specs.declared.config.Config.{Config}

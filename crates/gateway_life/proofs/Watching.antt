@@ -10,7 +10,7 @@ use Rattle.std.specs.declared.option.Option.{Option}
 use Rattle.std.specs.Option.{option_map, option_to_list}
 use Rattle.outside.specs.Disk.{HasOneImage}
 use Rattle.order_meaning.specs.declared.names.Names.{Names}
-use Rattle.pair_journal.specs.declared.entry.Entry.{Entry}
+use Rattle.pair_entries.specs.declared.entry.Entry.{Entry}
 use Rattle.drop_taps.specs.declared.tap.Seen.{Seen}
 use Rattle.drop_taps.specs.Tap.{seen_after, tally_after}
 use Rattle.event_decisions.specs.Event.{Event}

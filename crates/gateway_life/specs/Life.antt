@@ -4,8 +4,8 @@ use Rattle.std.specs.Prelude.{length, min, Some, Result, Ok, Err, ⊤}
 use Rattle.std.specs.declared.option.Option.{Option}
 use mathlib.Core.Logic.{inl, inr}
 use Rattle.order_meaning.specs.declared.names.Names.{Names}
-use Rattle.pair_journal.specs.declared.TheConstants.{MAX_AT}
-use Rattle.pair_journal.specs.declared.entry.Entry.{Entry}
+use Rattle.pair_entries.specs.declared.TheConstants.{MAX_AT}
+use Rattle.pair_entries.specs.declared.entry.Entry.{Entry}
 use Rattle.pair_journal.specs.Journal.{JournalOf, Unborn, Born, Refused}
 use Rattle.outside.specs.Causes.{next_count}
 use Rattle.order_meaning.specs.declared.Side.TheVariants.{Client, Venue}

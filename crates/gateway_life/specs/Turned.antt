@@ -10,7 +10,7 @@ use Rattle.frame_grammar.specs.declared.framer.TheConstants.{LEAST_ROOM}
 use Rattle.order_meaning.specs.declared.Side.{Side}
 use Rattle.order_meaning.specs.declared.Side.TheVariants.{Client, Venue}
 use Rattle.session_frames.specs.Frames.{kind_of}
-use Rattle.pair_journal.specs.declared.entry.Entry.{Entry}
+use Rattle.pair_entries.specs.declared.entry.Entry.{Entry}
 use Rattle.event_decisions.specs.Event.{Event, Frame, Tick}
 use Rattle.message_answers.specs.Answer.{Answers}
 use Rattle.gateway_config.specs.declared.config.Config.{Config}

@@ -5,7 +5,7 @@ use Rattle.std.specs.declared.option.Option.{Option}
 use Rattle.std.specs.Option.{option_map, option_to_list}
 use Rattle.outside.specs.Disk.{Only}
 use Rattle.order_meaning.specs.declared.names.Names.{Names}
-use Rattle.pair_journal.specs.declared.entry.Entry.{Entry}
+use Rattle.pair_entries.specs.declared.entry.Entry.{Entry}
 use Rattle.drop_taps.specs.declared.tap.Seen.{Seen}
 use Rattle.drop_taps.specs.Tap.{tally_after}
 use Rattle.gateway_life.specs.declared.end.LifeEnd.{LifeEnd}

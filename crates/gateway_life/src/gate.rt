@@ -12,7 +12,7 @@ ghost use Rattle.pair_journal.specs.declared.error.JournalError.TheVariants as e
 ghost use Rattle.pair_journal.specs.Calls.{HasDiskCause, BornOrNot};
 ghost use Rattle.pair_journal.specs.Journal.{JournalOf, Born};
 ghost use Rattle.pair_journal.specs.Numbers.{GoesOn, numbers_after, first_numbers};
-ghost use Rattle.pair_journal.specs.Payload.{IsEntry};
+ghost use Rattle.pair_entries.specs.Payload.{IsEntry};
 ghost use Rattle.event_decisions.specs.Event.{event_of, IsFramed};
 ghost use Rattle.event_decisions.specs.Decide.{Decides};
 ghost use Rattle.message_answers.specs.Answer.{Answers};
@@ -38,7 +38,8 @@ use event_decisions::laws::decisions_continue;
 use gateway_core::{Config, Core};
 use order_meaning::{Names, Side};
 use outside::Disk;
-use pair_journal::{Entry, Journal, JournalError, MAX_AT, OutBuf, Prepared};
+use pair_entries::{Entry, MAX_AT, Prepared};
+use pair_journal::{Journal, JournalError, OutBuf};
 use session_frames::FrameBuf;
 use std::alloc::Global;
 use wire_sends::{hang_up_on, outs_on, repeat_on};

@@ -2,12 +2,12 @@
 
 ghost use Rattle.std.specs.Prelude.{◌≡◌, [], ◌∷◌, false, IfSome, is_err};
 ghost use Rattle.std.specs.Option.{option_to_list};
-ghost use Rattle.pair_journal.specs.Payload.{IsEntry};
+ghost use Rattle.pair_entries.specs.Payload.{IsEntry};
 ghost use Rattle.drop_taps.specs.Tap.{seen_after, tally_after};
 ghost use Rattle.gateway_life.specs.Watched.{Saw, HaveSeen, state_by};
 
 use drop_taps::{Tap, TapFailed};
-use pair_journal::Entry;
+use pair_entries::Entry;
 
 // Whether a tap has failed.
 fn is_failed(tap: &Box<dyn Tap>) -> bool

@@ -32,7 +32,7 @@ use event_decisions::Event;
 use frame_grammar::{Framer, Next};
 use order_meaning::Side;
 use outside::{Disk, Failed};
-use pair_journal::MAX_AT;
+use pair_entries::MAX_AT;
 use wires::{Arrival, POLL_LEN, Wire};
 
 // Whether a connection stands on a side.

@@ -13,8 +13,8 @@ use Rattle.order_meaning.specs.declared.refusal.Refusal.{Refusal}
 use Rattle.session_core.specs.declared.said.Said.{Said}
 use Rattle.session_core.specs.declared.tag.TheConstants.{REF_SEQ_NUM, REF_TAG_ID, REF_MSG_TYPE}
 use Rattle.session_core.specs.declared.tag.TheConstants.{SESSION_REJECT_REASON, TEXT}
-use Rattle.pair_journal.specs.declared.TheConstants.{MAX_CONTENT}
-use Rattle.pair_journal.specs.declared.entry.Entry.{Entry}
+use Rattle.pair_entries.specs.declared.TheConstants.{MAX_CONTENT}
+use Rattle.pair_entries.specs.declared.entry.Entry.{Entry}
 use Rattle.reject_rules.specs.Content.{business_reject, field_if, number_if, reject}
 use Rattle.reject_rules.specs.Refusals.{away_refusal, business_refusal, no_counterpart}
 use Rattle.reject_rules.specs.Refusals.{refusal_of, session_refusal, used_refusal}

@@ -7,7 +7,7 @@ use Rattle.std.proofs.lemmas.Slice.Eq.{bytes_eq-Decides}
 use Rattle.message_tables.specs.Tables.{Message, ◌>>=◌, is_one_of, text_in}
 use Rattle.order_meaning.specs.declared.Side.{Side}
 use Rattle.order_meaning.specs.declared.fault.Fault.{Fault}
-use Rattle.pair_journal.specs.declared.entry.Out.{Out}
+use Rattle.pair_entries.specs.declared.entry.Out.{Out}
 use Rattle.event_decisions.specs.Body.{fields_of, reading_of, type_of}
 use Rattle.message_answers.specs.Chains.{joining}
 use Rattle.message_answers.specs.Message.{message_of}

@@ -13,8 +13,8 @@ use Rattle.order_meaning.specs.declared.Side.TheVariants.{Client, Venue}
 use Rattle.order_meaning.specs.declared.fault.Fault.{Fault}
 use Rattle.session_core.specs.declared.said.Said.{Said}
 use Rattle.session_core.specs.declared.tag.TheConstants.{REF_SEQ_NUM}
-use Rattle.pair_journal.specs.declared.TheConstants.{MAX_NUMBER}
-use Rattle.pair_journal.specs.declared.entry.Entry.{Entry}
+use Rattle.pair_entries.specs.declared.TheConstants.{MAX_NUMBER}
+use Rattle.pair_entries.specs.declared.entry.Entry.{Entry}
 use Rattle.exec_translate.specs.Laws.{BooksChangeAlike, WrittenReportsAreReadAgain}
 use Rattle.reject_rules.specs.Renumbered.{renumbered}
 use Rattle.dict_fix42.specs.Sense.{request42}

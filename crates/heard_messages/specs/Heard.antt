@@ -13,7 +13,7 @@ use Rattle.order_meaning.specs.declared.Side.TheVariants.{Client, Venue}
 use Rattle.order_meaning.specs.declared.fault.Fault.{Fault}
 use Rattle.order_meaning.specs.Book.{Book}
 use Rattle.session_core.specs.declared.tag.TheConstants.{REF_SEQ_NUM}
-use Rattle.pair_journal.specs.declared.entry.Out.{Out}
+use Rattle.pair_entries.specs.declared.entry.Out.{Out}
 use Rattle.row_values.specs.Kinds.{resend_of}
 use Rattle.dict_fix42.specs.Message as requests42
 use Rattle.dict_fix42.specs.Sense.{request42}

@@ -7,9 +7,9 @@ use Rattle.order_meaning.specs.declared.Side.{Side}
 use Rattle.order_meaning.specs.declared.Side.TheVariants.{Client, Venue}
 use Rattle.order_meaning.specs.declared.names.Names.{Names}
 use Rattle.session_logon.specs.Head.{number_in}
-use Rattle.pair_journal.specs.declared.TheConstants.{MAX_NUMBER}
-use Rattle.pair_journal.specs.declared.entry.Out.{Out}
-use Rattle.pair_journal.specs.declared.entry.Entry.{Entry}
+use Rattle.pair_entries.specs.declared.TheConstants.{MAX_NUMBER}
+use Rattle.pair_entries.specs.declared.entry.Out.{Out}
+use Rattle.pair_entries.specs.declared.entry.Entry.{Entry}
 use Rattle.pair_journal.specs.Numbers.{Counts, Fills, Resets}
 use Rattle.event_decisions.specs.Body.{fields_of, type_of}
 use Rattle.event_decisions.specs.Decide.{Asked, Words, out_of}

@@ -9,7 +9,7 @@ use Rattle.std.proofs.KnownBytes.{Appends-trans}
 use Rattle.std.proofs.lemmas.List.{take-append-drop}
 use Rattle.outside.specs.Bytes.{AppendsFront, PutAppends}
 use Rattle.outside.proofs.Fronts.{appended_front, front_on}
-use Rattle.pair_journal.specs.declared.entry.Entry.{Entry}
+use Rattle.pair_entries.specs.declared.entry.Entry.{Entry}
 use Rattle.entry_lines.specs.EntryLine.{entry_line}
 use Rattle.journal_show.specs.JournalLines.{lines_from}
 

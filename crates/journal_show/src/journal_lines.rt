@@ -6,7 +6,7 @@ ghost use Rattle.std.specs.Option.{ForSome};
 ghost use Rattle.outside.specs.Bytes.{PutAppends};
 ghost use Rattle.outside.specs.Causes.{HasCause};
 ghost use Rattle.gate_log.specs.Log.{OnlyReads};
-ghost use Rattle.pair_journal.specs.declared.entry.Entry.{Entry};
+ghost use Rattle.pair_entries.specs.declared.entry.Entry.{Entry};
 ghost use Rattle.pair_journal.specs.Journal.{JournalOf, Born};
 ghost use Rattle.entry_lines.specs.EntryLine.{entry_line};
 ghost use Rattle.journal_show.specs.declared.journal_lines.ShowError.TheVariants as errors;

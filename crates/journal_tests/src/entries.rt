@@ -1,10 +1,10 @@
 //! Entries by hand, and whether they keep the bounds of one and go on from the numbers before.
 
 ghost use Rattle.std.specs.Prelude.{◌≤◌, IfSome, IsTrue};
-ghost use Rattle.pair_journal.specs.Payload.{IsOut, IsTook, AreOuts, AreNext, IsEntry};
+ghost use Rattle.pair_entries.specs.Payload.{IsOut, IsTook, AreOuts, AreNext, IsEntry};
 
 use order_meaning::{Bytes, Side};
-use pair_journal::{
+use pair_entries::{
     Entry, MAX_AT, MAX_CONTENT, MAX_NEXT, MAX_NUMBER, MAX_OUTS, MAX_RAW, MAX_TYPE, Out, Outs, Took,
 };
 use std::alloc::{AllocError, Global};

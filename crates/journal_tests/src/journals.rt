@@ -3,14 +3,13 @@
 ghost use Rattle.std.specs.Prelude.{◌≡◌, ◌<◌, [], ◌∷◌, IfOk, IfSome};
 ghost use Rattle.order_meaning.specs.declared.Side.TheVariants as sides;
 ghost use Rattle.pair_journal.specs.Numbers.{GoesOn};
-ghost use Rattle.pair_journal.specs.Payload.{IsEntry};
+ghost use Rattle.pair_entries.specs.Payload.{IsEntry};
 
 use crate::entries::{Next, is_entry};
 use order_meaning::{Bytes, Name, Names, Side};
 use outside::{DiskCall, Image, MemDisk};
-use pair_journal::{
-    Entry, Journal, JournalError, MAX_CONTENT, MAX_NEXT, MAX_RAW, Out, OutBuf, Outs, Took, prepare,
-};
+use pair_entries::{Entry, MAX_CONTENT, MAX_NEXT, MAX_RAW, Out, Outs, Took, prepare};
+use pair_journal::{Journal, JournalError, OutBuf};
 use std::alloc::{AllocError, Global};
 use std::test::Fail;
 

@@ -3,7 +3,7 @@
 use crate::entries::{Message, Next, entry_of, is_entry, outs_of};
 use entry_lines::{MAX_LINE, entry_line};
 use order_meaning::{Bytes, Side};
-use pair_journal::{Entry, MAX_AT, MAX_NEXT, MAX_NUMBER, Took};
+use pair_entries::{Entry, MAX_AT, MAX_NEXT, MAX_NUMBER, Took};
 use std::alloc::{AllocError, Global};
 use std::test::Fail;
 

@@ -4,7 +4,7 @@ use crate::entries::{Message, Next, entry_of, is_entry};
 use drop_taps::*;
 use order_meaning::Side;
 use outside::MemSink;
-use pair_journal::Entry;
+use pair_entries::Entry;
 use std::alloc::{AllocError, Global};
 use std::test::Fail;
 

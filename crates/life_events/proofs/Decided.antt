@@ -8,11 +8,11 @@ use Rattle.std.specs.declared.option.Option.{Option}
 use Rattle.order_meaning.specs.declared.Side.{Side}
 use Rattle.order_meaning.specs.declared.Side.TheVariants.{Client, Venue}
 use Rattle.order_meaning.specs.declared.names.Names.{Names}
-use Rattle.pair_journal.specs.declared.entry.Took.{Took}
-use Rattle.pair_journal.specs.declared.entry.Entry.{Entry}
+use Rattle.pair_entries.specs.declared.entry.Took.{Took}
+use Rattle.pair_entries.specs.declared.entry.Entry.{Entry}
 use Rattle.pair_journal.specs.Numbers.{is_side, outs_to, Numbered, next_out, numbers_after}
 use Rattle.pair_journal.specs.Numbers.{first_numbers, OutsGoOn}
-use Rattle.pair_journal.specs.Payload.{Next}
+use Rattle.pair_entries.specs.Payload.{Next}
 use Rattle.event_decisions.specs.Event.{Event, Frame}
 use Rattle.event_decisions.specs.Decide.{Words, Repeat, Sessions, AreSides, Decision, numbers_of}
 use Rattle.event_decisions.specs.Decide.{decide}

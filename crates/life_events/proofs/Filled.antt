@@ -6,8 +6,8 @@ use Rattle.std.specs.Prelude.{◌==◌, if◌then◌else◌, map}
 use Rattle.std.specs.declared.option.Option.{Option}
 use Rattle.std.proofs.lemmas.Bool.Decides.{nat_tests}
 use Rattle.order_meaning.specs.declared.Side.{Side}
-use Rattle.pair_journal.specs.declared.entry.Out.{Out}
-use Rattle.pair_journal.specs.declared.entry.Entry.{Entry}
+use Rattle.pair_entries.specs.declared.entry.Out.{Out}
+use Rattle.pair_entries.specs.declared.entry.Entry.{Entry}
 use Rattle.life_events.specs.Forms.{Placed, all_placed, Form, Again}
 use Rattle.life_events.specs.Taken.{Message, Read, GapFill, Taking, take_more, read_of_form}
 use Rattle.life_events.specs.Repeats.{Run, close_run, extend_run, repeat_one, run_after, repeats}

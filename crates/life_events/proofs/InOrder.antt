@@ -8,8 +8,8 @@ use Rattle.std.specs.declared.option.Option.{Option}
 use Rattle.std.proofs.lemmas.Bool.{cases_eq}
 use Rattle.std.proofs.lemmas.Bool.Decides.{nat_tests}
 use Rattle.order_meaning.specs.declared.Side.{Side}
-use Rattle.pair_journal.specs.declared.entry.Out.{Out}
-use Rattle.pair_journal.specs.declared.entry.Entry.{Entry}
+use Rattle.pair_entries.specs.declared.entry.Out.{Out}
+use Rattle.pair_entries.specs.declared.entry.Entry.{Entry}
 use Rattle.life_events.specs.Forms.{Placed, all_placed, placed, Form, First, Again, Fill, AreForms}
 use Rattle.life_events.specs.Taken.{Message, Read, GapFill, Other, Taking, take_more, read_of_form}
 use Rattle.life_events.specs.Taken.{committed_below}

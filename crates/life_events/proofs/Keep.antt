@@ -8,8 +8,8 @@ use Rattle.std.specs.Option.{option_to_list, option_map_or}
 use Rattle.std.specs.declared.option.Option.{Option}
 use Rattle.order_meaning.specs.declared.Side.{Side}
 use Rattle.order_meaning.specs.declared.names.Names.{Names}
-use Rattle.pair_journal.specs.declared.entry.Out.{Out}
-use Rattle.pair_journal.specs.declared.entry.Entry.{Entry}
+use Rattle.pair_entries.specs.declared.entry.Out.{Out}
+use Rattle.pair_entries.specs.declared.entry.Entry.{Entry}
 use Rattle.pair_journal.specs.Numbers.{is_side, outs_to, Numbered}
 use Rattle.event_decisions.specs.Event.{Event, Opened, Frame, Closed, Tick, End}
 use Rattle.event_decisions.specs.Decide.{Repeat, Decision}

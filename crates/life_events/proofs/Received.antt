@@ -9,7 +9,7 @@ use Rattle.std.proofs.lemmas.Bool.{le-leb}
 use Rattle.std.proofs.lemmas.Bool.Decides.{nat_tests}
 use Rattle.order_meaning.specs.declared.Side.{Side}
 use Rattle.order_meaning.specs.declared.names.Names.{Names}
-use Rattle.pair_journal.specs.declared.entry.Entry.{Entry}
+use Rattle.pair_entries.specs.declared.entry.Entry.{Entry}
 use Rattle.session_frames.specs.Frames.{kind_of, heading, body_out, frame_out}
 use Rattle.life_events.specs.Forms.{Placed, all_placed, placed, Form, First, Again, Fill}
 use Rattle.life_events.specs.Forms.{form_frame, IsForm, out_frame}

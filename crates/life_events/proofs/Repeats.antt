@@ -5,7 +5,7 @@ use Rattle.std.proofs.Common.{None, inl, inr, ◌⊎◌}
 use Rattle.std.specs.Prelude.{if◌then◌else◌, slice_get, IsTrue, IsSomeAnd}
 use Rattle.std.specs.declared.option.Option.{Option}
 use Rattle.order_meaning.specs.declared.Side.{Side}
-use Rattle.pair_journal.specs.declared.entry.Entry.{Entry}
+use Rattle.pair_entries.specs.declared.entry.Entry.{Entry}
 use Rattle.pair_journal.specs.Numbers.{is_side}
 use Rattle.event_decisions.specs.Decide.{Repeat}
 use Rattle.life_events.specs.Justified.{first_numbers_of}

@@ -16,8 +16,8 @@ use Rattle.order_meaning.specs.declared.names.Names.{Names}
 use Rattle.session_core.specs.declared.session.LinkState.{LinkState}
 use Rattle.session_core.specs.declared.session.LinkState.TheVariants.{Down, Active}
 use Rattle.session_core.specs.declared.session.Session.{Session}
-use Rattle.pair_journal.specs.declared.entry.Out.{Out}
-use Rattle.pair_journal.specs.declared.entry.Entry.{Entry}
+use Rattle.pair_entries.specs.declared.entry.Out.{Out}
+use Rattle.pair_entries.specs.declared.entry.Entry.{Entry}
 use Rattle.event_decisions.specs.Body.{reading_of}
 use Rattle.event_decisions.specs.Event.{Opened, Frame, Tick}
 use Rattle.event_decisions.specs.Decide.{Asked, Words, Sessions, Decision, decide}

@@ -4,7 +4,7 @@ use Rattle.std.specs.declared.option.Option.{Option}
 use Rattle.order_meaning.specs.declared.Side.{Side}
 use Rattle.order_meaning.specs.declared.Side.TheVariants.{Client, Venue}
 use Rattle.order_meaning.specs.declared.names.Names.{Names}
-use Rattle.pair_journal.specs.declared.entry.Entry.{Entry}
+use Rattle.pair_entries.specs.declared.entry.Entry.{Entry}
 use Rattle.event_decisions.specs.Event.{Event, Tick, End}
 use Rattle.event_decisions.specs.Decide.{Asked, Words}
 use Rattle.wires.specs.Wire.{Came, Poll, may_come}

@@ -9,8 +9,8 @@ use Rattle.order_meaning.specs.declared.Side.TheVariants.{Client, Venue}
 use Rattle.order_meaning.specs.declared.names.Names.{Names}
 use Rattle.session_core.specs.declared.session.Session.{Session}
 use Rattle.session_core.specs.Table as session
-use Rattle.pair_journal.specs.declared.entry.Out.{Out}
-use Rattle.pair_journal.specs.declared.entry.Entry.{Entry}
+use Rattle.pair_entries.specs.declared.entry.Out.{Out}
+use Rattle.pair_entries.specs.declared.entry.Entry.{Entry}
 use Rattle.pair_journal.specs.Numbers.{is_side, outs_to}
 use Rattle.event_decisions.specs.Event.{Event, side_of}
 use Rattle.event_decisions.specs.Decide.{Sessions, Asked, Words, Decision, Decides}

@@ -18,8 +18,8 @@ use Rattle.session_core.specs.declared.head.What.TheVariants as what
 use Rattle.session_logon.specs.Head.{number_in, sequence_reset_kind}
 use Rattle.session_logon.specs.Logon.{is_yes}
 use Rattle.session_logon.specs.Reasons.{required, read_between}
-use Rattle.pair_journal.specs.declared.entry.Out.{Out}
-use Rattle.pair_journal.specs.declared.entry.Entry.{Entry}
+use Rattle.pair_entries.specs.declared.entry.Out.{Out}
+use Rattle.pair_entries.specs.declared.entry.Entry.{Entry}
 use Rattle.event_decisions.specs.Body.{fields_of, type_of}
 use Rattle.session_frames.specs.Laws.{IsSendable}
 use Rattle.life_events.specs.Forms.{Placed, placed}

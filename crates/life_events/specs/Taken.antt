@@ -9,8 +9,8 @@ use Rattle.std.specs.List.{flat_map}
 use Rattle.frame_grammar.specs.Frame.{IsFrame}
 use Rattle.order_meaning.specs.declared.Side.{Side}
 use Rattle.order_meaning.specs.declared.names.Names.{Names}
-use Rattle.pair_journal.specs.declared.entry.Out.{Out}
-use Rattle.pair_journal.specs.declared.entry.Entry.{Entry}
+use Rattle.pair_entries.specs.declared.entry.Out.{Out}
+use Rattle.pair_entries.specs.declared.entry.Entry.{Entry}
 use Rattle.wires.specs.Wire.{Connection}
 use Rattle.session_frames.specs.Frames.{kind_of}
 use Rattle.life_events.specs.Bodies.{bodies_of}

@@ -2,7 +2,7 @@
 
 ghost use Rattle.std.specs.Prelude.{Bool, List};
 ghost use Rattle.std.specs.declared.option.Option.{Option};
-ghost use Rattle.pair_journal.specs.declared.entry.Entry.{Entry};
+ghost use Rattle.pair_entries.specs.declared.entry.Entry.{Entry};
 ghost use Rattle.event_decisions.specs.Decide.{Asked, Words};
 
 /// What answers a message of the application.

@@ -12,8 +12,8 @@ use Rattle.order_meaning.specs.declared.fault.Fault.TheVariants as faults
 use Rattle.order_meaning.specs.declared.refusal.Refusal.{Refusal}
 use Rattle.order_chains.specs.declared.item.ChainItem.{ChainItem}
 use Rattle.session_core.specs.declared.said.Said.{Said}
-use Rattle.pair_journal.specs.declared.TheConstants.{MAX_CONTENT}
-use Rattle.pair_journal.specs.declared.entry.Entry.{Entry}
+use Rattle.pair_entries.specs.declared.TheConstants.{MAX_CONTENT}
+use Rattle.pair_entries.specs.declared.entry.Entry.{Entry}
 use Rattle.pair_journal.specs.Given.{source_of}
 use Rattle.first_faults.specs.Gives.{Tells}
 use Rattle.refusal_parts.specs.Said.{business_reject_says, session_reject_says}

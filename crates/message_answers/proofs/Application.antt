@@ -10,7 +10,7 @@ use Rattle.order_meaning.specs.declared.fault.Fault.{Fault}
 use Rattle.order_meaning.specs.declared.fault.Fault.TheVariants as faults
 use Rattle.order_meaning.specs.declared.refusal.Refusal.{Refusal}
 use Rattle.session_core.specs.declared.said.Said.{Said}
-use Rattle.pair_journal.specs.declared.TheConstants.{MAX_CONTENT}
+use Rattle.pair_entries.specs.declared.TheConstants.{MAX_CONTENT}
 use Rattle.reject_rules.specs.Content.{reject, business_reject}
 use Rattle.reject_rules.specs.Refusals.{refusal_of, used_refusal, away_refusal}
 use Rattle.reject_rules.specs.Renumbered.{renumbered}

@@ -15,9 +15,9 @@ use Rattle.message_tables.specs.Tables.{Message, Table, ◌>>=◌, first_of, is_
 use Rattle.order_meaning.specs.declared.Side.TheVariants.{Client}
 use Rattle.order_meaning.specs.declared.fault.Fault.{Fault}
 use Rattle.order_chains.specs.declared.item.ChainItem.{ChainItem}
-use Rattle.pair_journal.specs.declared.entry.Took.{Took}
-use Rattle.pair_journal.specs.declared.entry.Out.{Out}
-use Rattle.pair_journal.specs.declared.entry.Entry.{Entry}
+use Rattle.pair_entries.specs.declared.entry.Took.{Took}
+use Rattle.pair_entries.specs.declared.entry.Out.{Out}
+use Rattle.pair_entries.specs.declared.entry.Entry.{Entry}
 use Rattle.pair_journal.specs.Given.{has_letter, is_source, letter_of, letters_to}
 use Rattle.pair_journal.specs.Numbers.{is_side}
 use Rattle.first_faults.specs.Faults.{message_by, told}

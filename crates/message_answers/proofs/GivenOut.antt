@@ -20,8 +20,8 @@ use Rattle.order_meaning.specs.declared.fault.Fault.TheVariants as faults
 use Rattle.order_meaning.specs.Request.{Request}
 use Rattle.session_core.specs.declared.said.Said.{Said}
 use Rattle.session_core.specs.declared.tag.TheConstants.{REF_SEQ_NUM}
-use Rattle.pair_journal.specs.declared.TheConstants.{MAX_CONTENT, MAX_NUMBER}
-use Rattle.pair_journal.specs.declared.entry.Entry.{Entry}
+use Rattle.pair_entries.specs.declared.TheConstants.{MAX_CONTENT, MAX_NUMBER}
+use Rattle.pair_entries.specs.declared.entry.Entry.{Entry}
 use Rattle.row_values.specs.Kinds.{judge}
 use Rattle.sound_messages.proofs.Each.{both, not_true}
 use Rattle.sound_messages.proofs.PlainFields.{all_of, clear_fields, is_good_tag, plain_field}

@@ -9,7 +9,7 @@ use Rattle.pair_journal.specs.Journal.{JournalOf, Born}
 use Rattle.std.specs.List.{slice_get}
 use Rattle.std.specs.Option.{option_to_list}
 use Rattle.order_chains.specs.declared.item.ChainItem.{ChainItem}
-use Rattle.pair_journal.specs.declared.entry.Entry.{Entry}
+use Rattle.pair_entries.specs.declared.entry.Entry.{Entry}
 use Rattle.message_answers.specs.Chains.{chains_after, chains_of, new_item}
 
 -- one entry more

@@ -14,9 +14,9 @@ use Rattle.order_meaning.specs.declared.refusal.Refusal.{Refusal}
 use Rattle.order_chains.specs.Chains.{has_id}
 use Rattle.order_chains.specs.declared.item.ChainItem.{ChainItem}
 use Rattle.session_core.specs.declared.said.Said.{Said}
-use Rattle.pair_journal.specs.declared.entry.Took.{Took}
-use Rattle.pair_journal.specs.declared.entry.Out.{Out}
-use Rattle.pair_journal.specs.declared.entry.Entry.{Entry}
+use Rattle.pair_entries.specs.declared.entry.Took.{Took}
+use Rattle.pair_entries.specs.declared.entry.Out.{Out}
+use Rattle.pair_entries.specs.declared.entry.Entry.{Entry}
 use Rattle.pair_journal.specs.Given.{has_letter, is_source, letter_of}
 use Rattle.reject_rules.specs.Content.{business_reject}
 use Rattle.reject_rules.specs.Renumbered.{renumbered}

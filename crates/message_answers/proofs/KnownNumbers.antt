@@ -15,10 +15,10 @@ use Rattle.order_meaning.specs.declared.fault.Fault.{Fault}
 use Rattle.order_meaning.specs.declared.refusal.Refusal.{Refusal}
 use Rattle.order_chains.specs.Chains.{has_id, item_with, number_of, orig_of}
 use Rattle.order_chains.specs.declared.item.ChainItem.{ChainItem}
-use Rattle.pair_journal.specs.declared.TheConstants.{MAX_NUMBER}
-use Rattle.pair_journal.specs.declared.entry.Took.{Took}
-use Rattle.pair_journal.specs.declared.entry.Out.{Out}
-use Rattle.pair_journal.specs.declared.entry.Entry.{Entry}
+use Rattle.pair_entries.specs.declared.TheConstants.{MAX_NUMBER}
+use Rattle.pair_entries.specs.declared.entry.Took.{Took}
+use Rattle.pair_entries.specs.declared.entry.Out.{Out}
+use Rattle.pair_entries.specs.declared.entry.Entry.{Entry}
 use Rattle.pair_journal.specs.Given.{Given, given, has_letter, is_source, letter_of, letters_to}
 use Rattle.pair_journal.specs.Given.{numbered, source_in, source_of}
 use Rattle.pair_journal.specs.Numbers.{is_side, outs_to}

@@ -20,7 +20,7 @@ use Rattle.order_meaning.specs.declared.Side.{Side}
 use Rattle.order_meaning.specs.declared.Side.TheVariants.{Client, Venue}
 use Rattle.order_chains.specs.declared.item.ChainItem.{ChainItem}
 use Rattle.session_core.specs.declared.said.Said.{Said}
-use Rattle.pair_journal.specs.declared.entry.Entry.{Entry}
+use Rattle.pair_entries.specs.declared.entry.Entry.{Entry}
 use Rattle.reject_rules.specs.Content.{reject, business_reject}
 use Rattle.reject_rules.specs.Refusals.{no_counterpart}
 use Rattle.reject_rules.specs.Renumbered.{rejected_text}

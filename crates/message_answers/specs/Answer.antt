@@ -15,8 +15,8 @@ use Rattle.order_meaning.specs.declared.fault.Fault.{Fault}
 use Rattle.order_meaning.specs.declared.fault.Fault.TheVariants.{NoCounterpart}
 use Rattle.order_chains.specs.Chains.{has_id, orig_of}
 use Rattle.session_core.specs.declared.said.Said.{Said}
-use Rattle.pair_journal.specs.declared.TheConstants.{MAX_CONTENT}
-use Rattle.pair_journal.specs.declared.entry.Entry.{Entry}
+use Rattle.pair_entries.specs.declared.TheConstants.{MAX_CONTENT}
+use Rattle.pair_entries.specs.declared.entry.Entry.{Entry}
 use Rattle.reject_rules.specs.Refusals.{refusal_of, used_refusal, away_refusal}
 use Rattle.reject_rules.specs.Renumbered.{renumbered}
 use Rattle.dict_fix42.specs.Sense.{request42}

@@ -6,9 +6,9 @@ use Rattle.message_tables.specs.Tables.{Tag, Message, ◌>>=◌, first_of, is_on
 use Rattle.order_meaning.specs.declared.Side.TheVariants.{Client}
 use Rattle.order_chains.specs.declared.item.ChainItem.{ChainItem}
 use Rattle.order_chains.specs.Chains.{has_id}
-use Rattle.pair_journal.specs.declared.entry.Took.{Took}
-use Rattle.pair_journal.specs.declared.entry.Out.{Out}
-use Rattle.pair_journal.specs.declared.entry.Entry.{Entry}
+use Rattle.pair_entries.specs.declared.entry.Took.{Took}
+use Rattle.pair_entries.specs.declared.entry.Out.{Out}
+use Rattle.pair_entries.specs.declared.entry.Entry.{Entry}
 use Rattle.pair_journal.specs.Given.{source_in}
 use Rattle.message_answers.specs.Message.{message_of}
 

@@ -10,8 +10,8 @@ use Rattle.order_meaning.specs.declared.Side.{Side}
 use Rattle.order_meaning.specs.declared.Side.TheVariants.{Client, Venue}
 use Rattle.order_meaning.specs.Book.{Book}
 use Rattle.session_core.specs.declared.said.Said.{Said}
-use Rattle.pair_journal.specs.declared.TheConstants.{MAX_CONTENT, MAX_NUMBER, MAX_TYPE}
-use Rattle.pair_journal.specs.declared.entry.Entry.{Entry}
+use Rattle.pair_entries.specs.declared.TheConstants.{MAX_CONTENT, MAX_NUMBER, MAX_TYPE}
+use Rattle.pair_entries.specs.declared.entry.Entry.{Entry}
 use Rattle.dict_fix42.specs.Sense.{request42}
 use Rattle.dict_fix50.specs.Sense.{request50}
 use Rattle.request_translate.specs.Translation.{IsRequest}

@@ -15,8 +15,8 @@ use Rattle.order_meaning.specs.declared.fault.Lack.TheVariants as lacks
 use Rattle.order_meaning.specs.declared.refusal.Refusal.{Refusal}
 use Rattle.order_chains.specs.declared.item.ChainItem.{ChainItem}
 use Rattle.session_core.specs.declared.said.Said.{Said}
-use Rattle.pair_journal.specs.declared.TheConstants.{MAX_CONTENT, MAX_TYPE}
-use Rattle.pair_journal.specs.declared.entry.Entry.{Entry}
+use Rattle.pair_entries.specs.declared.TheConstants.{MAX_CONTENT, MAX_TYPE}
+use Rattle.pair_entries.specs.declared.entry.Entry.{Entry}
 use Rattle.pair_journal.specs.Given.{source_of}
 use Rattle.row_values.specs.Kinds as kinds
 use Rattle.value_kinds.specs.ValueKind.{Id}

@@ -18,7 +18,7 @@ use crate::requests::requested;
 use crate::saying::{say_fault, say_told};
 use order_chains::ChainItem;
 use order_meaning::{Bytes, Fault, Lack, Refusal, Side};
-use pair_journal::MAX_CONTENT;
+use pair_entries::MAX_CONTENT;
 use session_core::Said;
 use std::alloc::{AllocError, Global};
 

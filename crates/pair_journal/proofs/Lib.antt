@@ -1,9 +1,7 @@
 pub mod Worked
-pub mod Fronts
 pub mod Names
 pub mod Giving
 pub mod Carrying
-pub mod Same
 pub mod Walking
 pub mod OneReading
 pub mod Loaded

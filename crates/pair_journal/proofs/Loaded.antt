@@ -10,10 +10,10 @@ use Rattle.gate_log.specs.Records.{Stands}
 use Rattle.gate_log.specs.Log as log
 use Rattle.gate_log.specs.State.{LogState}
 use Rattle.gate_log.proofs.Told.{if_some, at_some}
-use Rattle.pair_journal.specs.declared.entry.Entry.{Entry}
+use Rattle.pair_entries.specs.declared.entry.Entry.{Entry}
 use Rattle.pair_journal.specs.declared.error.JournalError.{JournalError}
 use Rattle.pair_journal.specs.declared.error.JournalError.TheVariants as errors
-use Rattle.pair_journal.specs.Payload.{entry_bytes}
+use Rattle.pair_entries.specs.Payload.{entry_bytes}
 use Rattle.pair_journal.specs.Birth.{birth_bytes, AreNames}
 use Rattle.pair_journal.specs.Journal.{Spells, JournalOf, Unborn, Born, Refused}
 use Rattle.pair_journal.specs.State.{JournalState}

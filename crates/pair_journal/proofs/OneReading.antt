@@ -5,8 +5,8 @@ use Rattle.order_meaning.specs.declared.names.Names.{Names}
 use Rattle.gate_log.specs.Records.{blocks, Stands}
 use Rattle.gate_log.proofs.Blocks.{Stands-unique}
 use Rattle.gate_log.proofs.Refused.{refused_stands, refused_once}
-use Rattle.pair_journal.specs.declared.entry.Entry.{Entry}
-use Rattle.pair_journal.specs.Payload.{Next, IsEntry, entry_bytes}
+use Rattle.pair_entries.specs.declared.entry.Entry.{Entry}
+use Rattle.pair_entries.specs.Payload.{Next, IsEntry, entry_bytes}
 use Rattle.pair_journal.specs.Birth.{birth_bytes}
 use Rattle.pair_journal.specs.Numbers.{GoesOn, first_numbers, numbers_after}
 use Rattle.pair_journal.specs.Journal.{AreEntries, Spells, IsMisspelt, Misspells, Reading}

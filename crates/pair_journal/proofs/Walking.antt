@@ -8,16 +8,16 @@ use Rattle.std.specs.Option.{ForSome}
 use Rattle.gate_log.specs.Records.{blocks, Stands}
 use Rattle.gate_log.specs.Log.{IsAt, OnlyRead}
 use Rattle.gate_log.proofs.Blocks.{length-blocks-push}
-use Rattle.pair_journal.specs.declared.entry.Entry.{Entry}
-use Rattle.pair_journal.specs.Payload.{Next, entry_bytes}
+use Rattle.pair_entries.specs.declared.entry.Entry.{Entry}
+use Rattle.pair_entries.specs.Payload.{Next, entry_bytes}
 use Rattle.pair_journal.specs.Birth.{birth_bytes, AreNames}
 use Rattle.pair_journal.specs.Numbers.{GoesOn, first_numbers, numbers_after}
 use Rattle.pair_journal.specs.Journal.{AreEntries, Misspells}
 use Rattle.pair_journal.specs.Calls.{payloads_of}
 use Rattle.pair_journal.specs.Loading.{IsBorn, Follows}
 use Rattle.pair_journal.proofs.Names.{birth_size}
-use Rattle.pair_journal.proofs.Same.{same_entry}
-use Rattle.pair_journal.proofs.Fronts.{entry_short}
+use Rattle.pair_entries.proofs.Same.{same_entry}
+use Rattle.pair_entries.proofs.Fronts.{entry_short}
 use Rattle.pair_journal.proofs.Carrying.{AreEntries-push, numbers_after-push, payloads-push}
 
 -- ---- the first payload

@@ -1,12 +1,9 @@
--- Worked bytes of payloads, by computation alone.
-use Rattle.std.proofs.Common.{◌≡◌, [], ◌∷◌, take, length, refl, true, false, Some}
+-- Worked bytes of the birth record, by computation alone.
+use Rattle.std.proofs.Common.{◌≡◌, [], ◌∷◌, take, length, refl}
 use Rattle.std.specs.Prelude.{codes}
-use Rattle.order_meaning.specs.declared.Side.TheVariants.{Client, Venue}
 use Rattle.order_meaning.specs.declared.names.Names.{Names}
 use Rattle.gate_log.specs.Records.{blocks}
-use Rattle.pair_journal.specs.declared.entry.Entry.{Entry}
 use Rattle.pair_journal.specs.Birth.{birth_bytes}
-use Rattle.pair_journal.specs.Payload.{entry_bytes}
 
 abbrev names : Names
 names = record {
@@ -24,25 +21,3 @@ birth_begins = refl
 
 birth_has_155 : length (birth_bytes names) ≡ 155
 birth_has_155 = refl
-
--- the client's message 2 was taken, and goes to the venue as number 3
-abbrev entry : Entry
-entry = record {
-  at = 258;
-  took = Some (record { side = Client; number = 2; raw = codes "35=D" });
-  next = (3, 1, 1, 4);
-  outs = (record {
-    side = Venue;
-    number =
-        3;
-    admin = false;
-    resend = true;
-    msg_type = codes "D";
-    content = codes "11=A";
-  }) ∷ [];
-}
-
-entry_is : entry_bytes entry ≡ 0 ∷ 0 ∷ 0 ∷ 0 ∷ 0 ∷ 0 ∷ 1 ∷ 2 ∷ 1 ∷ 0
-    ∷ 0 ∷ 0 ∷ 2 ∷ 0 ∷ 0 ∷ 0 ∷ 4 ∷ 51 ∷ 53 ∷ 61 ∷ 68 ∷ 0 ∷ 0 ∷ 0 ∷ 3 ∷ 0 ∷ 0 ∷ 0 ∷ 1 ∷ 0 ∷ 0 ∷ 0 ∷ 1
-    ∷ 0 ∷ 0 ∷ 0 ∷ 4 ∷ 1 ∷ 2 ∷ 0 ∷ 0 ∷ 0 ∷ 3 ∷ 2 ∷ 1 ∷ 68 ∷ 0 ∷ 0 ∷ 0 ∷ 4 ∷ 49 ∷ 49 ∷ 61 ∷ 65 ∷ []
-entry_is = refl

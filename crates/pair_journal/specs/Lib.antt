@@ -1,10 +1,8 @@
-pub mod Payload
 pub mod Birth
 pub mod Numbers
 pub mod Journal
 pub mod Laws
 pub mod Parts
-pub mod Prepared
 pub mod State
 pub mod Given
 pub mod OutBuf

@@ -5,8 +5,8 @@ use Rattle.order_meaning.specs.declared.names.Names.{Names}
 use Rattle.gate_log.specs.Records.{Stands}
 use Rattle.pair_journal.specs.declared.error.JournalError.{JournalError}
 use Rattle.pair_journal.specs.declared.error.JournalError.TheVariants as errors
-use Rattle.pair_journal.specs.declared.entry.Entry.{Entry}
-use Rattle.pair_journal.specs.Payload.{Next, IsEntry, entry_bytes}
+use Rattle.pair_entries.specs.declared.entry.Entry.{Entry}
+use Rattle.pair_entries.specs.Payload.{Next, IsEntry, entry_bytes}
 use Rattle.pair_journal.specs.Numbers.{GoesOn}
 use Rattle.pair_journal.specs.Birth.{birth_bytes, AreNames}
 use Rattle.pair_journal.specs.Journal.{Misspells}

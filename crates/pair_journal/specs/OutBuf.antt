@@ -2,8 +2,8 @@
 use Rattle.std.specs.Prelude.{◌≡◌, ℕ, ◌≤◌, List, Bool, length, Some, None}
 use Rattle.std.specs.declared.option.Option.{Option}
 use Rattle.pair_journal.specs.Given.{Given}
-use Rattle.pair_journal.specs.declared.TheConstants.{MAX_AT, MAX_TYPE, MAX_CONTENT}
-use Rattle.pair_journal.specs.declared.entry.Out.{Out}
+use Rattle.pair_entries.specs.declared.TheConstants.{MAX_AT, MAX_TYPE, MAX_CONTENT}
+use Rattle.pair_entries.specs.declared.entry.Out.{Out}
 
 pub record Told : Type 0 where
   -- the moment of its entry

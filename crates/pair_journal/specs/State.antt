@@ -1,7 +1,7 @@
 -- Own: what contracts see of a journal.
 use Rattle.std.specs.Prelude.{ℕ, List, Bool}
 use Rattle.order_meaning.specs.declared.names.Names.{Names}
-use Rattle.pair_journal.specs.declared.entry.Entry.{Entry}
+use Rattle.pair_entries.specs.declared.entry.Entry.{Entry}
 
 pub record JournalState : Type 0 where
   pub names : Names

@@ -9,8 +9,8 @@ ghost use Rattle.std.specs.List.{list_any, slice_get};
 ghost use Rattle.pair_journal.specs.Parts.{given_at};
 
 use crate::numbers::{is_side, next_out};
-use crate::{Entry, Out, Took};
 use order_meaning::Side;
+use pair_entries::{Entry, Out, Took};
 
 /// The byte that ends a field; this crate stands on none that reads fields.
 const SOH: u8 = 1;

@@ -8,21 +8,21 @@ ghost use Rattle.gate_log.specs.Records.{Stands};
 ghost use Rattle.gate_log.specs.Log.{OnlyReads, IsAt, BornOrNot};
 ghost use Rattle.outside.specs.Disk.{HasOneImage};
 ghost use Rattle.pair_journal.specs.Birth.{AreNames, birth_bytes};
-ghost use Rattle.pair_journal.specs.declared.entry.Entry.{Entry};
+ghost use Rattle.pair_entries.specs.declared.entry.Entry.{Entry};
 ghost use Rattle.pair_journal.specs.declared.error.JournalError.TheVariants as errors;
-ghost use Rattle.pair_journal.specs.Payload.{entry_bytes};
+ghost use Rattle.pair_entries.specs.Payload.{entry_bytes};
 ghost use Rattle.pair_journal.specs.Numbers.{first_numbers};
 ghost use Rattle.pair_journal.specs.Journal.{AreEntries, JournalOf, Unborn};
 ghost use Rattle.pair_journal.specs.Calls.{HasDiskCause, ReadsOnly, Loads};
 ghost use Rattle.pair_journal.specs.Loading.{IsBorn, Misreads, Follows, Opens};
 
+use crate::JournalError;
 use crate::birth::{are_names, read_birth, write_birth};
 use crate::numbers::{FIRST, Next, goes_on};
-use crate::reading::read_entry;
-use crate::{Entry, JournalError};
 use gate_log::{BIRTH_LEN, Log};
 use order_meaning::Names;
 use outside::{Disk, MAX_DISK};
+use pair_entries::{Entry, read_entry};
 use std::alloc::{AllocError, Global};
 
 /// Replaces `out` by the payload that stands at this place.

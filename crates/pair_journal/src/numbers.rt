@@ -1,12 +1,12 @@
 //! Whether the numbers of an entry go on from those before it.
 
 ghost use Rattle.std.specs.Prelude.{◌≡◌, ◌+◌, ◌↔◌, length, IsTrue};
-ghost use Rattle.pair_journal.specs.Payload.{AreOuts, IsEntry};
+ghost use Rattle.pair_entries.specs.Payload.{AreOuts, IsEntry};
 ghost use Rattle.pair_journal.specs.Numbers.{is_side, outs_to, next_in, next_out, Numbered};
 ghost use Rattle.pair_journal.specs.Numbers.{OutsGoOn, InStays, GoesOn};
 
-use crate::{Entry, MAX_NEXT, Out, Took};
 use order_meaning::Side;
+use pair_entries::{Entry, MAX_NEXT, Out, Took};
 
 /// The next numbers: client in, client out, venue in, venue out.
 pub(crate) type Next = (u32, u32, u32, u32);

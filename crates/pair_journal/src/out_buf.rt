@@ -3,8 +3,8 @@
 ghost use Rattle.std.specs.Prelude.{◌≡◌, ◌+◌, ◌≤◌, [], length, IfOk};
 ghost use Rattle.pair_journal.specs.OutBuf.{told};
 
-use crate::Out;
 use gate_log::extend_reserved;
+use pair_entries::Out;
 use std::alloc::{AllocError, Global};
 use std::marker::Model;
 

@@ -9,7 +9,7 @@ use Rattle.order_meaning.specs.declared.names.TheConstants.{MAX_NAME}
 use Rattle.session_core.specs.declared.numbers.TheConstants.{MAX_MSG_SEQ_NUM}
 use Rattle.session_logon.specs.Head.{our, peer}
 use Rattle.session_logon.specs.Laws.{header_fields}
-use Rattle.pair_journal.specs.declared.TheConstants.{MAX_TYPE, MAX_CONTENT}
+use Rattle.pair_entries.specs.declared.TheConstants.{MAX_TYPE, MAX_CONTENT}
 use Rattle.event_decisions.specs.Body.{reading_of}
 use Rattle.session_frames.specs.Frames.{kind_of, heading, body_out, frame_out}
 

@@ -17,7 +17,7 @@ use field_groups::SOH;
 use frame_grammar::{Kind, MAX_BODY, begin_string_of, trailer_of};
 use itoa::Buffer;
 use order_meaning::{Name, Names, Side};
-use pair_journal::{MAX_AT, MAX_CONTENT, MAX_TYPE};
+use pair_entries::{MAX_AT, MAX_CONTENT, MAX_TYPE};
 use session_core::MAX_MSG_SEQ_NUM;
 use session_core::tag::{
     GAP_FILL_FLAG, MSG_SEQ_NUM, MSG_TYPE, NEW_SEQ_NO, ORIG_SENDING_TIME, POSS_DUP_FLAG,

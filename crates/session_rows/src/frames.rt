@@ -4,7 +4,7 @@ use crate::logons::{names, type_and_fields};
 use crate::sessions::side;
 use crate::words::{behind, bytes_of, is_yes, moment, number, word};
 use order_meaning::{Names, Side};
-use pair_journal::{MAX_AT, MAX_CONTENT, MAX_TYPE};
+use pair_entries::{MAX_AT, MAX_CONTENT, MAX_TYPE};
 use session_core::MAX_MSG_SEQ_NUM;
 use session_frames::{FRAME_ROOM, FrameBuf, fill_out, frame_out};
 use std::alloc::{AllocError, Global};

@@ -5,9 +5,9 @@ use Rattle.std.specs.Fmt.{decimal}
 use Rattle.std.specs.List.{flat_map}
 use Rattle.std.specs.Option.{option_to_list}
 use Rattle.order_meaning.specs.declared.Side.{Side}
-use Rattle.pair_journal.specs.declared.entry.Took.{Took}
-use Rattle.pair_journal.specs.declared.entry.Out.{Out}
-use Rattle.pair_journal.specs.declared.entry.Entry.{Entry}
+use Rattle.pair_entries.specs.declared.entry.Took.{Took}
+use Rattle.pair_entries.specs.declared.entry.Out.{Out}
+use Rattle.pair_entries.specs.declared.entry.Entry.{Entry}
 use Rattle.entry_lines.specs.EntryLine.{side_name}
 
 -- the types whose texts an operator wants to read: Reject, Logout and BusinessMessageReject

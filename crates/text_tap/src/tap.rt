@@ -2,14 +2,14 @@
 
 ghost use Rattle.std.specs.Prelude.{◌≡◌, [], None, false, is_err, Err};
 ghost use Rattle.outside.specs.Bytes.{PutAppends};
-ghost use Rattle.pair_journal.specs.Payload.{IsEntry};
+ghost use Rattle.pair_entries.specs.Payload.{IsEntry};
 ghost use Rattle.drop_taps.specs.Tap.{tally_after, entries_alone, HasTapCause};
 ghost use Rattle.text_tap.specs.TextLines.{text_lines};
 
 use crate::text::put_text_lines;
 use drop_taps::{Seen, Tap, TapFailed};
 use outside::Sink;
-use pair_journal::Entry;
+use pair_entries::Entry;
 use std::alloc::Global;
 
 /// A tap that puts a line to a sink for each Reject(3), Logout(5) and BusinessMessageReject(j) that

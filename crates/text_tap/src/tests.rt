@@ -4,7 +4,7 @@ use crate::TextTap;
 use drop_taps::TapFailed;
 use order_meaning::{Bytes, Side};
 use outside::MemSink;
-use pair_journal::{Entry, MAX_OUTS, Out, Outs, Took};
+use pair_entries::{Entry, MAX_OUTS, Out, Outs, Took};
 use std::alloc::{AllocError, Global};
 use std::test::Fail;
 

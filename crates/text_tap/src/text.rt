@@ -9,7 +9,7 @@ ghost use Rattle.text_tap.specs.TextLines.{place_words, text_lines};
 
 use itoa::Buffer;
 use order_meaning::Side;
-use pair_journal::{Entry, Out, Took};
+use pair_entries::{Entry, Out, Took};
 use std::alloc::AllocError;
 
 /// The byte that ends a field.

@@ -7,9 +7,9 @@ use Rattle.std.proofs.lemmas.Bool.Decides.{nat_tests}
 use Rattle.std.proofs.lemmas.List.{length-map}
 use Rattle.order_meaning.specs.declared.Side.{Side}
 use Rattle.order_meaning.specs.declared.Side.TheVariants.{Client, Venue}
-use Rattle.pair_journal.specs.declared.entry.Out.{Out}
-use Rattle.pair_journal.specs.declared.entry.Entry.{Entry}
-use Rattle.pair_journal.specs.Payload.{Next}
+use Rattle.pair_entries.specs.declared.entry.Out.{Out}
+use Rattle.pair_entries.specs.declared.entry.Entry.{Entry}
+use Rattle.pair_entries.specs.Payload.{Next}
 use Rattle.pair_journal.specs.Numbers.{next_out, outs_to, Numbered, OutsGoOn, GoesOn, is_side}
 use Rattle.pair_journal.specs.Numbers.{first_numbers}
 use Rattle.pair_journal.specs.Journal.{AreEntries}

@@ -11,7 +11,7 @@ use Rattle.std.specs.declared.option.Option.{Option}
 use Rattle.std.proofs.lemmas.List.{map-append}
 use Rattle.order_meaning.specs.declared.Side.{Side}
 use Rattle.order_meaning.specs.declared.names.Names.{Names}
-use Rattle.pair_journal.specs.declared.entry.Entry.{Entry}
+use Rattle.pair_entries.specs.declared.entry.Entry.{Entry}
 use Rattle.wires.specs.Wire.{WireCall}
 use Rattle.life_events.specs.Forms.{Placed, Form, Again, placed, form_frame, out_frame}
 use Rattle.life_events.specs.Repeats.{Run, close_run, repeat_one, run_after, repeats}

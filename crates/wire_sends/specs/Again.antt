@@ -3,10 +3,10 @@ use Rattle.std.specs.Prelude.{◌≡◌, ℕ, ◌+◌, ◌-◌, ◌≤◌, Some,
 use Rattle.std.specs.declared.option.Option.{Option}
 use Rattle.std.specs.Option.{option_map}
 use Rattle.order_meaning.specs.declared.Side.{Side}
-use Rattle.pair_journal.specs.declared.TheConstants.{MAX_AT, MAX_NUMBER, MAX_NEXT}
+use Rattle.pair_entries.specs.declared.TheConstants.{MAX_AT, MAX_NUMBER, MAX_NEXT}
 use Rattle.pair_journal.specs.OutBuf.{Told}
 use Rattle.wires.specs.Wire.{WireCall}
-use Rattle.pair_journal.specs.declared.entry.Entry.{Entry}
+use Rattle.pair_entries.specs.declared.entry.Entry.{Entry}
 use Rattle.pair_journal.specs.Numbers.{next_out, numbers_after, first_numbers}
 use Rattle.event_decisions.specs.Decide.{Repeat}
 use Rattle.life_events.specs.Forms.{Placed, Form}

@@ -19,7 +19,8 @@ use crate::repeats::{Again, repeat_outs};
 use crate::sends::{is_side, send_outs};
 use order_meaning::{Names, Side};
 use outside::Disk;
-use pair_journal::{Entry, Journal, JournalError, MAX_AT, OutBuf};
+use pair_entries::{Entry, MAX_AT};
+use pair_journal::{Journal, JournalError, OutBuf};
 use session_frames::FrameBuf;
 use wires::Wire;
 

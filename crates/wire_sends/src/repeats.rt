@@ -17,7 +17,8 @@ ghost use Rattle.wires.specs.Told.{Keeps};
 use crate::sends::send_piece;
 use order_meaning::{Names, Side};
 use outside::Disk;
-use pair_journal::{Journal, JournalError, MAX_AT, MAX_NUMBER, OutBuf};
+use pair_entries::{MAX_AT, MAX_NUMBER};
+use pair_journal::{Journal, JournalError, OutBuf};
 use session_frames::{FrameBuf, fill_out, frame_out};
 use wires::Wire;
 

@@ -8,7 +8,7 @@ ghost use Rattle.wire_sends.specs.Sent.{Agrees, Sent, IsSendable, AreSendable};
 ghost use Rattle.wires.specs.Told.{Keeps};
 
 use order_meaning::{Names, Side};
-use pair_journal::{MAX_AT, Out};
+use pair_entries::{MAX_AT, Out};
 use session_frames::{FrameBuf, frame_out};
 use wires::Wire;
 

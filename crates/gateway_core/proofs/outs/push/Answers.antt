@@ -1,7 +1,7 @@
 use Rattle.std.proofs.Common.{List, sym, subst}
 use Rattle.std.proofs.lemmas.Result.{on_ok_weaker}
-use Rattle.pair_journal.specs.declared.entry.Out.{Out}
-use Rattle.pair_journal.specs.Payload.{AreOuts}
+use Rattle.pair_entries.specs.declared.entry.Out.{Out}
+use Rattle.pair_entries.specs.Payload.{AreOuts}
 use Rattle.gateway_core.proofs.Planned.{more_outs}
 use Rattle.gateway_core.proofs.outs.push.Goals as goal
 

@@ -1,8 +1,8 @@
 use Rattle.std.proofs.Common.{◌≡◌, ◌∙◌, sym, subst, IsTrue}
-use Rattle.pair_journal.specs.declared.entry.Entry.{Entry}
+use Rattle.pair_entries.specs.declared.entry.Entry.{Entry}
 use Rattle.pair_journal.specs.Numbers.{GoesOn}
-use Rattle.pair_journal.proofs.Fronts.{at_none, at_some}
-use Rattle.pair_journal.proofs.Same.{same_entry}
+use Rattle.pair_entries.proofs.Fronts.{at_none, at_some}
+use Rattle.pair_entries.proofs.Same.{same_entry}
 use Rattle.pair_journal.proofs.loading.entry_after.Goals as goal
 
 pub returns-in_default : goal.returns-in_default

@@ -1,7 +1,7 @@
 use Rattle.std.proofs.Common.{◌≡◌, ◌+◌, ◌∙◌, List, ℕ, length, refl, sym, subst, arith}
-use Rattle.pair_journal.specs.declared.entry.Entry.{Entry}
+use Rattle.pair_entries.specs.declared.entry.Entry.{Entry}
 use Rattle.pair_journal.specs.Numbers.{first_numbers}
-use Rattle.pair_journal.proofs.Fronts.{at_none, at_some}
+use Rattle.pair_entries.proofs.Fronts.{at_none, at_some}
 use Rattle.pair_journal.proofs.Walking.{Read, none_read, next_at, misread, more_read, all_read}
 use Rattle.pair_journal.proofs.Walking.{only_read_still, only_read_on, stands_still}
 use Rattle.pair_journal.proofs.loading.read_entries.Goals as goal

@@ -4,7 +4,7 @@ use Rattle.std.specs.Option.{option_to_list}
 use Rattle.event_decisions.specs.Event.{event_of}
 use Rattle.gateway_core.specs.State.{sessions_in, decision_of}
 use Rattle.pair_journal.specs.Numbers.{numbers_after, first_numbers, GoesOn}
-use Rattle.pair_journal.specs.Payload.{IsEntry}
+use Rattle.pair_entries.specs.Payload.{IsEntry}
 use Rattle.pair_journal.specs.State.{JournalState}
 use Rattle.gateway_life.specs.State.{seen}
 use Rattle.gateway_life.specs.Ready.{world_of}

@@ -1,6 +1,6 @@
 use Rattle.std.proofs.Common.{◌<◌, List, length, sym, ap, subst}
-use Rattle.pair_journal.specs.declared.entry.Entry.{Entry}
-use Rattle.pair_journal.specs.Payload.{IsEntry}
+use Rattle.pair_entries.specs.declared.entry.Entry.{Entry}
+use Rattle.pair_entries.specs.Payload.{IsEntry}
 use Rattle.pair_journal.specs.Numbers.{first_numbers}
 use Rattle.pair_journal.proofs.Carrying.{entry_at, get_is}
 use Rattle.pair_journal.proofs.journal.Journal.entry.Goals as goal

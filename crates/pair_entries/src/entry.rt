@@ -1,0 +1,171 @@
+//! What an entry of the journal says.
+
+ghost use Rattle.std.specs.Prelude.{◌≡◌, ◌<◌, ◌≤◌, ◌++◌, [], ◌∷◌, length, IfOk, OnOk, OnErr};
+
+use crate::MAX_OUTS;
+use order_meaning::{Bytes, Side};
+use std::alloc::{AllocError, Global};
+use std::marker::Model;
+
+/// A message that was taken.
+#[derive(Debug, Drop)]
+pub struct Took {
+    /// Whose message it is.
+    pub side: Side,
+    /// MsgSeqNum(34), from 1 to 999,999,999.
+    pub number: u32,
+    /// The body, from `35=` on, of at most 8,192 bytes.
+    pub raw: Bytes,
+}
+
+/// A message that was given out.
+#[derive(Debug, Drop)]
+pub struct Out {
+    /// To whom it goes.
+    pub side: Side,
+    /// MsgSeqNum(34), from 1 to 999,999,999.
+    pub number: u32,
+    /// Whether it is administrative, so that a gap fill stands for it when it is asked for again.
+    pub admin: bool,
+    /// Whether it has PossResend(97) with `Y`.
+    pub resend: bool,
+    /// MsgType(35), of 1 to 8 bytes.
+    pub msg_type: Bytes,
+    /// The fields behind the header, of at most 7,936 bytes.
+    pub content: Bytes,
+}
+
+impl Took {
+    /// A second one of the same value.
+    ///
+    /// # Errors
+    /// `AllocError` for want of memory.
+    pub fn duplicate(&self) -> Result<Took, AllocError>
+        ensures { IfOk result (λ took. took ≡ self.now) }
+    {
+        Ok(Took {
+            side: self.side,
+            number: self.number,
+            raw: self.raw.duplicate()?,
+        })
+    }
+}
+
+impl Out {
+    /// A second one of the same value.
+    ///
+    /// # Errors
+    /// `AllocError` for want of memory.
+    pub fn duplicate(&self) -> Result<Out, AllocError>
+        ensures { IfOk result (λ out. out ≡ self.now) }
+    {
+        Ok(Out {
+            side: self.side,
+            number: self.number,
+            admin: self.admin,
+            resend: self.resend,
+            msg_type: self.msg_type.duplicate()?,
+            content: self.content.duplicate()?,
+        })
+    }
+}
+
+/// At most four messages that were given out, in order, seen as their list.
+#[derive(Debug, Drop)]
+pub struct Outs {
+    outs: Vec<Out>,
+}
+
+impl Model for Outs {
+    ghost use Rattle.std.specs.Prelude.{List, ◌≤◌, length};
+    ghost use Rattle.pair_entries.specs.declared.entry.Out.{Out};
+
+    ghost Value = { List Out };
+
+    ghost view = { λ o. o.outs.items };
+
+    ghost invariant = { λ o. length o.outs.items ≤ 4 };
+}
+
+impl Outs {
+    /// No message; it takes no memory.
+    pub fn new(alloc: Global) -> Outs
+        ensures { result ≡ [] }
+    {
+        Outs {
+            outs: Vec::new(alloc),
+        }
+    }
+
+    /// Adds a message behind fewer than four.
+    ///
+    /// # Errors
+    /// `AllocError` for want of memory; then the messages are as before.
+    pub fn push(&mut self, out: Out) -> Result<(), AllocError>
+        requires { length self.old < MAX_OUTS }
+        ensures ok { OnOk result (self.new ≡ self.old ++ out ∷ []) }
+        ensures err { OnErr result (self.new ≡ self.old) }
+    {
+        self.outs.push(out)?;
+        Ok(())
+    }
+
+    /// A second list of the same messages.
+    ///
+    /// # Errors
+    /// `AllocError` for want of memory.
+    pub fn duplicate(&self) -> Result<Outs, AllocError>
+        ensures { IfOk result (λ outs. outs ≡ self.now) }
+    {
+        let mut outs = Outs::new(*self.outs.allocator());
+        for out in self.outs.as_slice() {
+            outs.push(out.duplicate()?)?;
+        }
+        Ok(outs)
+    }
+
+    /// The messages, in order; it takes no memory.
+    pub fn as_slice(&self) -> &[Out]
+        ensures outs { result.now ≡ self.now }
+        ensures few { length self.now ≤ MAX_OUTS }
+    {
+        &self.outs
+    }
+}
+
+/// What one event changed.
+#[derive(Debug, Drop)]
+pub struct Entry {
+    /// When it was, in milliseconds since 1970-01-01 00:00 UTC; the first moment of what was given
+    /// out.
+    pub at: u64,
+    /// The message that was taken, if one was.
+    pub took: Option<Took>,
+    /// The next numbers after it: client in, client out, venue in, venue out, each from 1 to
+    /// 1,000,000,000.
+    pub next: (u32, u32, u32, u32),
+    /// The messages that were given out.
+    pub outs: Outs,
+}
+
+impl Entry {
+    /// A second one of the same value.
+    ///
+    /// # Errors
+    /// `AllocError` for want of memory.
+    pub fn duplicate(&self) -> Result<Entry, AllocError>
+        ensures { IfOk result (λ entry. entry ≡ self.now) }
+    {
+        let took = match &self.took {
+            Some(took) => Some(took.duplicate()?),
+            None => None,
+        };
+        let outs = self.outs.duplicate()?;
+        Ok(Entry {
+            at: self.at,
+            took,
+            next: self.next,
+            outs,
+        })
+    }
+}
