@@ -13,7 +13,7 @@ use Rattle.gateway_life.specs.declared.end.LifeEnd.{LifeEnd}
 use Rattle.gateway_config.specs.declared.config.Config.{Config}
 use Rattle.gateway_life.specs.Life.{IsJournal}
 use Rattle.gateway_life.specs.Laws.{FirstLivesGoOn}
-use Rattle.gateway_life.specs.Watched.{TapState, HaveSeen}
+use Rattle.drop_taps.specs.Shown.{TapState, HaveSeen}
 use Rattle.capture_text.specs.declared.capture.Event.{Event}
 use Rattle.capture_text.specs.Capture.{IsCapture}
 use Rattle.capture_text.specs.Line.{IsBounded}
@@ -24,7 +24,7 @@ use Rattle.replay_lines.specs.ReplayLines.{drill_lines}
 use Rattle.capture_replay.specs.Replay.{Played, config_with, nothing, end_name}
 use Rattle.capture_replay.specs.Lived.{IsLived, LivesOn}
 use Rattle.capture_replay.specs.Drills.{IsDrilled, Drills, lines_of_drill}
-use Rattle.gateway_life.proofs.Watching.{seen_none}
+use Rattle.drop_taps.proofs.Showing.{seen_none}
 use Rattle.capture_replay.proofs.EachLine.{all_bounded}
 use Rattle.capture_replay.proofs.Shown.{are_shown}
 

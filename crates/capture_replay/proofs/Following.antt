@@ -17,9 +17,9 @@ use Rattle.gateway_config.specs.declared.config.Config.{Config}
 use Rattle.gateway_life.specs.declared.end.LifeEnd.{LifeEnd}
 use Rattle.gateway_life.specs.Life.{IsJournal}
 use Rattle.gateway_life.specs.Laws.{GoesOnFrom, AreShown, FirstLivesGoOn, NextLivesGoOn}
-use Rattle.gateway_life.specs.Watched.{TapState, HaveSeen}
+use Rattle.drop_taps.specs.Shown.{TapState, HaveSeen}
 use Rattle.order_meaning.specs.declared.names.Names.{Names}
-use Rattle.gateway_life.proofs.Watching.{seen_none}
+use Rattle.drop_taps.proofs.Showing.{seen_none}
 use Rattle.capture_text.specs.declared.capture.Capture.{Capture}
 use Rattle.capture_text.specs.declared.capture.Event.{Event}
 use Rattle.replay_lines.specs.declared.printing.PrintError.{PrintError}

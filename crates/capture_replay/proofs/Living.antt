@@ -22,7 +22,8 @@ use Rattle.gateway_config.specs.declared.config.Config.{Config}
 use Rattle.gateway_life.specs.declared.end.LifeEnd.{LifeEnd}
 use Rattle.gateway_life.specs.Life.{Done, Did, Ends, IsJournal}
 use Rattle.gateway_life.specs.Laws.{GoesOnFrom, LeavesImage}
-use Rattle.gateway_life.specs.Watched.{TapState, TapsSaw, WereCommitted}
+use Rattle.drop_taps.specs.Shown.{TapState}
+use Rattle.gateway_life.specs.Watched.{TapsSaw, WereCommitted}
 use Rattle.gateway_life.specs.declared.end.LifeEnd.TheVariants as ends
 use Rattle.gateway_life.proofs.Living.{same_journal}
 use Rattle.pair_journal.specs.Laws.{HasOneReading}

@@ -2,7 +2,7 @@
 use Rattle.std.proofs.Common.{◌≡◌, ℕ, List, refl, sym, subst, inl, inr, Result, Ok, Err}
 use Rattle.std.specs.Prelude.{⊤, IsErrAnd}
 use Rattle.std.specs.declared.option.Option.{Option}
-use Rattle.gateway_life.specs.Watched.{TapState}
+use Rattle.drop_taps.specs.Shown.{TapState}
 use Rattle.capture_text.specs.declared.capture.Capture.{Capture}
 use Rattle.replay_lines.specs.declared.printing.PrintError.{PrintError}
 use Rattle.replay_lines.specs.declared.printing.PrintError.TheVariants as prints

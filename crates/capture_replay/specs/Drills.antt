@@ -5,7 +5,7 @@ use Rattle.std.specs.Io.KnownBytes.{Appends}
 use Rattle.outside.specs.Bytes.{AppendsFront}
 use Rattle.pair_entries.specs.declared.entry.Entry.{Entry}
 use Rattle.pair_journal.specs.Numbers.{first_numbers, numbers_after}
-use Rattle.gateway_life.specs.Watched.{TapState, HaveSeen}
+use Rattle.drop_taps.specs.Shown.{TapState, HaveSeen}
 use Rattle.replay_lines.specs.declared.printing.PrintError.{PrintError}
 use Rattle.replay_lines.specs.declared.printing.PrintError.TheVariants.{OutputFault, NoMemory}
 use Rattle.replay_lines.specs.ReplayLines.{drill_lines}

@@ -9,7 +9,7 @@ use Rattle.capture_text.specs.declared.capture.Capture.{Capture}
 use Rattle.capture_text.specs.declared.reading.CaptureFault.{CaptureFault}
 use Rattle.capture_text.specs.declared.reading.CaptureFault.TheVariants as faults
 use Rattle.capture_text.specs.Reading.{Reads}
-use Rattle.gateway_life.specs.Watched.{TapState}
+use Rattle.drop_taps.specs.Shown.{TapState}
 use Rattle.replay_lines.specs.declared.printing.PrintError.{PrintError}
 use Rattle.replay_lines.specs.declared.printing.PrintError.TheVariants as prints
 use Rattle.capture_replay.specs.declared.error.ReplayError.{ReplayError}

@@ -8,7 +8,7 @@ use Rattle.gateway_config.specs.declared.config.Config.{Config}
 use Rattle.gateway_life.specs.declared.end.LifeEnd.{LifeEnd}
 use Rattle.gateway_life.specs.Life.{Done, IsJournal}
 use Rattle.gateway_life.specs.Laws.{GoesOnFrom}
-use Rattle.gateway_life.specs.Watched.{TapState, HaveSeen}
+use Rattle.drop_taps.specs.Shown.{TapState, HaveSeen}
 use Rattle.capture_text.specs.declared.capture.Capture.{Capture}
 use Rattle.capture_text.specs.declared.capture.Event.{Event}
 use Rattle.capture_replay.specs.Replay.{Left, Played, IsPlayed, ArePlayed, after, nothing}

@@ -17,7 +17,7 @@ use Rattle.gateway_life.specs.declared.end.LifeEnd.{LifeEnd}
 use Rattle.gateway_life.specs.declared.end.LifeEnd.TheVariants as ends
 use Rattle.gateway_life.specs.Life.{Done, Ends}
 use Rattle.gateway_life.specs.Laws.{LeavesImage}
-use Rattle.gateway_life.specs.Watched.{TapState, HaveSeen}
+use Rattle.drop_taps.specs.Shown.{TapState, HaveSeen}
 use Rattle.capture_text.specs.declared.capture.Capture.{Capture}
 use Rattle.capture_text.specs.declared.capture.Event.{Event}
 use Rattle.replay_lines.specs.declared.printing.PrintError.{PrintError}

@@ -2,7 +2,7 @@
 
 ghost use Rattle.std.specs.Prelude.{◌≡◌, ◌≢◌, ◌≤◌, Err};
 ghost use Rattle.outside.specs.Causes.{Rose};
-ghost use Rattle.gateway_life.specs.Watched.{state_by};
+ghost use Rattle.drop_taps.specs.Shown.{state_by};
 ghost use Rattle.replay_lines.specs.declared.printing.PrintError.TheVariants as errors;
 ghost use Rattle.capture_replay.specs.Drills.{Drills};
 

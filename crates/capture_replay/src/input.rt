@@ -3,7 +3,7 @@
 ghost use Rattle.std.specs.Prelude.{◌≡◌, ◌≢◌, List, ℕ, Err, OnOk, false, true};
 ghost use Rattle.std.specs.Io.KnownBytes.{Consumes};
 ghost use Rattle.outside.specs.Causes.{Rose};
-ghost use Rattle.gateway_life.specs.Watched.{state_by};
+ghost use Rattle.drop_taps.specs.Shown.{state_by};
 ghost use Rattle.capture_replay.specs.declared.error.ReplayError.TheVariants as errors;
 ghost use Rattle.capture_replay.specs.Input.{IsRead, Replayed};
 

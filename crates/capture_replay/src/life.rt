@@ -2,7 +2,7 @@
 
 ghost use Rattle.std.specs.Prelude.{◌≡◌, List, All, IfOk, IfErr, Some};
 ghost use Rattle.pair_entries.specs.declared.entry.Entry.{Entry};
-ghost use Rattle.gateway_life.specs.Watched.{HaveSeen, state_by};
+ghost use Rattle.drop_taps.specs.Shown.{HaveSeen, state_by};
 ghost use Rattle.capture_text.specs.Line.{IsBounded};
 ghost use Rattle.capture_replay.specs.Lived.{LivesOn};
 

@@ -1,2 +1,3 @@
 pub mod Retained
 pub mod Worked
+pub mod Showing

@@ -1,3 +1,4 @@
 pub mod Tap
 pub mod Kept
 pub mod Totals
+pub mod Shown

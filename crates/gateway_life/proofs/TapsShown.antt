@@ -17,9 +17,11 @@ use Rattle.gateway_life.specs.Ready.{LeavesOf}
 use Rattle.gateway_life.specs.Stepped.{IsOfEvent}
 use Rattle.gateway_life.specs.Life.{IsJournal}
 use Rattle.gateway_life.specs.Rounds.{Begins}
-use Rattle.gateway_life.specs.Watched.{TapState, Watched, WereCommitted, NoneIfRefused, end_in}
+use Rattle.drop_taps.specs.Shown.{TapState}
+use Rattle.gateway_life.specs.Watched.{Watched, WereCommitted, NoneIfRefused, end_in}
 use Rattle.gateway_life.specs.Watched.{TapsSaw}
-use Rattle.gateway_life.proofs.Watching.{seen_none, were_same}
+use Rattle.drop_taps.proofs.Showing.{seen_none}
+use Rattle.gateway_life.proofs.Watching.{were_same}
 use Rattle.gateway_life.proofs.Living.{unbegun_image, same_journal, image_of, leaves_from}
 
 none_shown : (end : LifeEnd) → NoneIfRefused end []

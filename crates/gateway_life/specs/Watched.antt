@@ -1,66 +1,14 @@
 -- Own: what the taps saw of a life's entries; docs/DEFINITIONS.md, "Taps and lines".
-use Rattle.std.specs.Prelude.{◌≡◌, ℕ, Bool, true, false, List, [], ◌∷◌, ◌++◌, IfSome, ⊤}
-use Rattle.std.specs.Prelude.{Result, Ok, Err}
+use Rattle.std.specs.Prelude.{◌≡◌, ℕ, List, [], ◌++◌, IfSome, Result, Ok, Err}
 use Rattle.std.specs.declared.option.Option.{Option}
-use Rattle.std.specs.Option.{option_map, option_to_list}
+use Rattle.std.specs.Option.{option_to_list}
 use Rattle.outside.specs.Disk.{Only}
 use Rattle.order_meaning.specs.declared.names.Names.{Names}
 use Rattle.pair_entries.specs.declared.entry.Entry.{Entry}
-use Rattle.drop_taps.specs.declared.tap.Seen.{Seen}
-use Rattle.drop_taps.specs.Tap.{tally_after}
+use Rattle.drop_taps.specs.Shown.{TapState, HaveSeen}
 use Rattle.gateway_life.specs.declared.end.LifeEnd.{LifeEnd}
 use Rattle.gateway_life.specs.declared.end.LifeEnd.TheVariants as ends
 use Rattle.gateway_life.specs.Life.{IsJournal}
-
--- ---- one tap
-
--- what a tap says of itself: whether it has failed, the entries that it saw, what it counted, and
--- whether it counts more than entries
-pub record TapState : Type 0 where
-  pub failed : Bool
-  pub told : Option (List Entry)
-  pub tally : Seen
-  pub counts_all : Bool
-
--- the same, by the four members of the trait
-abbrev pub state_by : {T : Type 0} → (T → Bool) → (T → Option (List Entry)) → (T → Seen)
-    → (T → Bool) → T → TapState
-state_by failed told tally counts_all tap = record {
-  failed = failed tap;
-  told = told tap;
-  tally = tally tap;
-  counts_all = counts_all tap;
-}
-
--- what is counted after these entries
-abbrev pub tallied : Bool → List Entry → Seen → Seen
-tallied counts_all [] tally = tally
-tallied counts_all (entry ∷ entries) tally =
-    tallied counts_all entries (tally_after {T = ⊤} {E = ⊤} counts_all (Ok tt) entry tally)
-
--- A TAP THAT IS SHOWN ENTRIES. One that had failed is as it was. Any other saw them in order,
--- behind what it had seen: all of them, unless it failed; then those before it did.
-pub record Saw {T : Type 0} (state : T → TapState) (old new : T) (entries : List Entry)
-    : Type 0 where
-  pub passed : (state old).failed ≡ true → new ≡ old
-  pub front : List Entry
-  pub rest : List Entry
-  pub joined : front ++ rest ≡ entries
-  pub told : (state old).failed ≡ false
-      → (state new).told ≡ option_map (λ seen. seen ++ front) (state old).told
-  pub tally : (state old).failed ≡ false
-      → (state new).tally ≡ tallied (state old).counts_all front (state old).tally
-  pub counts : (state new).counts_all ≡ (state old).counts_all
-  pub all : (state new).failed ≡ false → rest ≡ []
-
--- ---- all taps
-
--- each of them, one by one: none is taken out, added or moved
-abbrev pub HaveSeen : {T : Type 0} → (state : T → TapState) → (old new : List T) → List Entry
-    → Type 0
-HaveSeen state [] [] entries = ⊤
-HaveSeen state (a ∷ old) (b ∷ new) entries = Saw state a b entries × HaveSeen state old new entries
-HaveSeen state old new entries = ⊥
 
 -- the taps saw what was committed between these lists of entries
 pub record Watched {T : Type 0} (state : T → TapState) (old new : List T)

@@ -26,13 +26,13 @@ ghost use Rattle.gateway_life.specs.Ready.{IsReady, Ready, world_of, made_of, Le
 ghost use Rattle.gateway_life.specs.Stepped.{Stepped, MayStand, Broken, IsWhy, HasCauseOf, records};
 ghost use Rattle.gateway_life.specs.Committed.{OldOrNew, IsFull};
 ghost use Rattle.gateway_life.specs.Rounds.{Begins};
-ghost use Rattle.gateway_life.specs.Watched.{Watched, WereCommitted, state_by};
+ghost use Rattle.drop_taps.specs.Shown.{state_by};
+ghost use Rattle.gateway_life.specs.Watched.{Watched, WereCommitted};
 ghost use Rattle.gateway_life.specs.Stepped.{IsOfEvent, IsNotDone};
 
 use crate::LifeEnd;
 use crate::acts::{is_sent, standing};
-use crate::taps::show;
-use drop_taps::Tap;
+use drop_taps::{Tap, show};
 use event_decisions::Event;
 use event_decisions::laws::decisions_continue;
 use gateway_core::{Config, Core};

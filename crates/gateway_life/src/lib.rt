@@ -10,7 +10,6 @@ mod end;
 mod gate;
 pub mod laws;
 mod life;
-mod taps;
 mod turn;
 
 pub use end::LifeEnd;

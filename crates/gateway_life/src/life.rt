@@ -21,7 +21,8 @@ ghost use Rattle.gateway_life.specs.Rounds.{IsLive, RoundDone, RoundBroken, ends
 ghost use Rattle.gateway_life.specs.Rounds.{RoundsDone, LifeDone, LifeBroken, LifeWhole};
 ghost use Rattle.gateway_life.specs.Rounds.{LifeStopped};
 ghost use Rattle.gateway_life.specs.Stepped.{IsOfEvent, IsNotDone};
-ghost use Rattle.gateway_life.specs.Watched.{Watched, WereCommitted, TapsSaw, end_in, state_by};
+ghost use Rattle.drop_taps.specs.Shown.{state_by};
+ghost use Rattle.gateway_life.specs.Watched.{Watched, WereCommitted, TapsSaw, end_in};
 ghost use Rattle.gateway_life.specs.Rounds.{IsUnbegun};
 
 use crate::LifeEnd;

@@ -23,7 +23,8 @@ ghost use Rattle.gateway_life.specs.Stepped.{SteppedOrNot, BrokenIf, HasCauseOf,
 ghost use Rattle.gateway_life.specs.Turned.{IsDrained, TakenAll, TakenPart, Arrived, ArrivedPart};
 ghost use Rattle.gateway_life.specs.Turned.{Turned, TurnBroken};
 ghost use Rattle.gateway_life.specs.Stepped.{IsOfEvent};
-ghost use Rattle.gateway_life.specs.Watched.{Watched, WereCommitted, state_by};
+ghost use Rattle.drop_taps.specs.Shown.{state_by};
+ghost use Rattle.gateway_life.specs.Watched.{Watched, WereCommitted};
 
 use crate::LifeEnd;
 use crate::gate::Gate;

@@ -7,7 +7,8 @@ ghost use Rattle.outside.specs.Causes.{Rose};
 ghost use Rattle.wires.specs.Wire.{is_within};
 ghost use Rattle.gateway_life.specs.Stepped.{HasCauseOf};
 ghost use Rattle.gateway_life.specs.Life.{ended};
-ghost use Rattle.gateway_life.specs.Watched.{TapsSaw, state_by};
+ghost use Rattle.drop_taps.specs.Shown.{state_by};
+ghost use Rattle.gateway_life.specs.Watched.{TapsSaw};
 ghost use Rattle.gateway_serve.specs.declared.error.ServeError.TheVariants as errors;
 ghost use Rattle.gateway_serve.specs.Serve.{IsConfigured, Served, Lived};
 

@@ -2,7 +2,7 @@ use Rattle.std.proofs.Common.{◌≡◌, [], false, true, rules, length}
 use Rattle.std.specs.Prelude.{is_some, is_none}
 use Rattle.outside.specs.declared.mem_disk.Fuse.TheVariants.{Unlit}
 use Rattle.wires.specs.Clock.{moments_told}
-use Rattle.gateway_life.proofs.Watching.{seen_none}
+use Rattle.drop_taps.proofs.Showing.{seen_none}
 use Rattle.capture_replay.specs.Replay.{is_fault}
 use Rattle.capture_replay.proofs.Living.{lives_on}
 use Rattle.capture_replay.proofs.life.live_lines.Goals as goal

@@ -2,7 +2,7 @@ use Rattle.std.proofs.Common.{◌∙◌, ◌≡◌, List, rules, length, refl, a
 use Rattle.std.proofs.Common.{[]}
 use Rattle.wires.specs.Record.{calls_of}
 use Rattle.capture_text.specs.declared.capture.Event.{Event}
-use Rattle.gateway_life.proofs.Watching.{seen_none}
+use Rattle.drop_taps.proofs.Showing.{seen_none}
 use Rattle.capture_replay.proofs.Shown.{are_shown, life_bounded}
 use Rattle.capture_replay.proofs.Following.{there_in, within_in, none_yet, lived_on, gone_on}
 use Rattle.capture_replay.proofs.Following.{broken_off, stopped, ended}

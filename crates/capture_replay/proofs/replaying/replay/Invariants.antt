@@ -1,5 +1,5 @@
 use Rattle.std.proofs.Common.{◌≡◌}
-use Rattle.gateway_life.specs.Watched.{state_by}
+use Rattle.drop_taps.specs.Shown.{state_by}
 use Rattle.capture_replay.specs.Lived.{SoFar}
 use Rattle.capture_replay.proofs.replaying.replay.Given as goal
 

@@ -8,7 +8,8 @@ use Rattle.frame_grammar.specs.Held.{pending}
 use Rattle.gateway_life.specs.State.{seen}
 use Rattle.gateway_life.specs.Ready.{Ready, world_of}
 use Rattle.gateway_life.specs.Stepped.{records}
-use Rattle.gateway_life.specs.Watched.{Watched, state_by}
+use Rattle.drop_taps.specs.Shown.{state_by}
+use Rattle.gateway_life.specs.Watched.{Watched}
 use Rattle.gateway_life.specs.Turned.{Taken}
 use Rattle.gateway_life.proofs.turn.take_frames.Given as goal
 

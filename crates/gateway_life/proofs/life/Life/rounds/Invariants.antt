@@ -3,7 +3,8 @@ use Rattle.std.specs.Prelude.{is_some}
 use Rattle.outside.specs.Disk.{HasOneImage}
 use Rattle.wires.specs.Told.{GrowsBy, Keeps}
 use Rattle.gateway_life.specs.Stepped.{records}
-use Rattle.gateway_life.specs.Watched.{Watched, state_by}
+use Rattle.drop_taps.specs.Shown.{state_by}
+use Rattle.gateway_life.specs.Watched.{Watched}
 use Rattle.gateway_life.specs.Life.{counted_on}
 use Rattle.gateway_life.specs.Rounds.{IsLive, RoundsDone}
 use Rattle.gateway_life.proofs.life.Life.rounds.Given as goal

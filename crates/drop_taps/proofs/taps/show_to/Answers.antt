@@ -1,6 +1,6 @@
 use Rattle.std.proofs.Common.{◌∙◌, ◌∷◌, [], sym}
-use Rattle.gateway_life.proofs.Watching.{saw_passed, saw_one}
-use Rattle.gateway_life.proofs.taps.show_to.Goals as goal
+use Rattle.drop_taps.proofs.Showing.{saw_passed, saw_one}
+use Rattle.drop_taps.proofs.taps.show_to.Goals as goal
 
 pub returns-then-is_failed : goal.returns-then-is_failed
 returns-then-is_failed g c =

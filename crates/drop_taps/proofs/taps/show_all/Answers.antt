@@ -1,6 +1,6 @@
 use Rattle.std.proofs.Common.{◌≡◌, [], ◌∷◌, length, arith}
-use Rattle.gateway_life.proofs.Watching.{up_to_step, shown_all}
-use Rattle.gateway_life.proofs.taps.show_all.Goals as goal
+use Rattle.drop_taps.proofs.Showing.{up_to_step, shown_all}
+use Rattle.drop_taps.proofs.taps.show_all.Goals as goal
 
 pub loop-tap-preserved : goal.loop-tap-preserved
 loop-tap-preserved g c =

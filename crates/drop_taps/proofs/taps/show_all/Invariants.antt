@@ -1,7 +1,7 @@
 use Rattle.std.proofs.Common.{[], ◌∷◌}
-use Rattle.gateway_life.specs.Watched.{state_by}
-use Rattle.gateway_life.proofs.Watching.{SeenUpTo}
-use Rattle.gateway_life.proofs.taps.show_all.Given as goal
+use Rattle.drop_taps.specs.Shown.{state_by}
+use Rattle.drop_taps.proofs.Showing.{SeenUpTo}
+use Rattle.drop_taps.proofs.taps.show_all.Given as goal
 
 abbrev pub invariant-loop-tap : goal.invariant-loop-tap
 invariant-loop-tap g l =
