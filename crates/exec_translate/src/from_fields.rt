@@ -86,6 +86,7 @@ struct Amounts {
 }
 
 /// Reads the decimal numbers of an execution report.
+#[inline(never)]
 fn amounts_of(fields: &Fields<'_>) -> Amounts
     ensures says { AreAmountsOf fields.now result }
     ensures readable { AreReadableAmounts result }
@@ -116,6 +117,7 @@ struct Reasons {
 }
 
 /// Reads the reasons of an execution report.
+#[inline(never)]
 fn reasons_of(alloc: Global, fields: &Fields<'_>) -> Result<Reasons, AllocError>
     ensures { IfOk result (AreReasonsOf fields.now) }
 {
@@ -149,6 +151,7 @@ struct Details {
 }
 
 /// Reads the details of an execution report.
+#[inline(never)]
 fn details_of(alloc: Global, fields: &Fields<'_>) -> Result<Details, AllocError>
     ensures { IfOk result (AreDetailsOf fields.now) }
 {
@@ -201,6 +204,7 @@ struct Execution {
 }
 
 /// Reads of an execution report at no fault what is spelled otherwise, and its groups.
+#[inline(never)]
 fn read_execution(alloc: Global, fields: &Fields<'_>) -> Result<Execution, Lack>
     requires { first_fault judge report_table fields.now ≡ None }
     ensures ok { IfOk result (IsExecutionOf fields.now) }
@@ -326,6 +330,7 @@ fn execution_parts<'a>(
 }
 
 /// Appends what was read of an execution report at no fault, and its other rows as they stand.
+#[inline(never)]
 fn put_execution(fields: &Fields<'_>, e: &Execution, out: &mut Vec<u8>) -> Result<(), AllocError>
     requires good { first_fault judge report_table fields.now ≡ None }
     requires execution { IsExecutionOf fields.now e.now }
