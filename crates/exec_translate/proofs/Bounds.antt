@@ -9,7 +9,9 @@ use Rattle.std.proofs.lemmas.List.{length-take}
 use Rattle.field_groups.specs.Field.{Field}
 use Rattle.message_tables.specs.Tables.{value_at}
 use Rattle.typed_fields.specs.declared.fault.FieldFault.{FieldFault}
+use Rattle.typed_fields.specs.declared.dec.Dec.{Dec}
 use Rattle.typed_fields.specs.declared.stamp.Stamp.{Stamp}
+use Rattle.typed_fields.specs.Dec.{IsDec}
 use Rattle.typed_fields.specs.Day.{IsDay, day_number, read_day, spells_date}
 use Rattle.typed_fields.specs.Digits.{are_digits, has_pattern, number_of}
 use Rattle.typed_fields.specs.Stamp.{IsStamp, hour_in, is_stamp_form, milli_in, minute_in}
@@ -20,6 +22,8 @@ use Rattle.typed_fields.proofs.DigitsLemmas.{both_true, digits_of_pattern, lengt
 use Rattle.typed_fields.proofs.DigitsLemmas.{number_of-lt}
 use Rattle.typed_fields.proofs.SpellingLemmas.{judged_ok}
 use Rattle.typed_fields.proofs.StampLemmas.{milli_in_none, milli_in_some}
+use Rattle.row_values.proofs.Texts.{dec_readable, qty_readable, zero_is}
+use Rattle.exec_translate.specs.FromFields.{price, price_if, qty, qty_if, zero_amount}
 
 at_most : (a b : ℕ) → nat_le a b ≡ true → a ≤ b
 at_most a b h = grind (arith, nat_tests)
@@ -90,7 +94,17 @@ if_read {A = A} read Is bound (Some v) = by (read v) (λ x e. bound v x e)
     by (Ok x) bound = bound x refl
     by (Err fault) bound = tt
 
+or_zero : (o : Option Dec) → IfSome o IsDec → IsDec (unwrap_or o zero_amount)
+or_zero None h = zero_is
+or_zero (Some d) h = h
+
 module _ (fields : List Field) (tag : ℕ) where
+  pub the_price_readable : IsDec (price fields tag)
+  the_price_readable = or_zero (price_if fields tag) (dec_readable fields tag)
+
+  pub the_qty_readable : IsDec (qty fields tag)
+  the_qty_readable = or_zero (qty_if fields tag) (qty_readable fields tag)
+
   pub day_readable :
       IfSome (option_and_then (λ bytes. result_ok (read_day bytes)) (value_at tag fields)) IsDay
   day_readable = if_read read_day IsDay day_in_bound (value_at tag fields)

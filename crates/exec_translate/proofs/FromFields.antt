@@ -1,15 +1,17 @@
 -- What is written of fields at no fault is the content of the report that they say.
 use Rattle.std.proofs.Common.{◌≡◌, ◌++◌, ◌==◌, ℕ, List, [], ◌∷◌, true, Some, None, refl}
 use Rattle.std.proofs.Common.{sym, ap, ◌∙◌, codes, map, option_map, option_and_then, subst}
-use Rattle.std.proofs.Common.{if◌then◌else◌}
+use Rattle.std.proofs.Common.{if◌then◌else◌, Option, unwrap_or}
 use Rattle.std.specs.Prelude.{IsSome, OnOk, Result, Ok, Err}
 use Rattle.std.specs.List.{slice_get}
+use Rattle.typed_fields.specs.declared.dec.Dec.{Dec}
 use Rattle.typed_fields.specs.Dec.{dec_text}
 use Rattle.typed_fields.specs.Day.{day_text}
 use Rattle.typed_fields.specs.Number.{number_text}
 use Rattle.typed_fields.specs.Stamp.{stamp_text}
 use Rattle.value_kinds.specs.CodeKinds.{code_text}
 use Rattle.value_kinds.specs.ValueKind.{ValueKind, Id, Text, Code, Known, Currency, Day, Stamp}
+use Rattle.value_kinds.specs.ValueKind.{Price, Qty}
 use Rattle.field_groups.specs.Field.{Field, body_of}
 use Rattle.message_tables.specs.TableLaws.{IsStrict}
 use Rattle.message_tables.specs.Tables.{Need, Required, Optional, When, Is, One, Table, Said, Tag}
@@ -19,24 +21,31 @@ use Rattle.message_tables.specs.Content.{cell_fields, group_fields}
 use Rattle.row_values.specs.Contras.{contra_cells}
 use Rattle.row_values.specs.Kinds.{Kind, Value, judge}
 use Rattle.row_values.specs.Lines.{month_text}
-use Rattle.row_values.specs.Writing.{month_day_text}
+use Rattle.row_values.specs.Writing.{dec_at, month_day_text}
 use Rattle.row_values.proofs.ByTable.{says}
 use Rattle.row_values.proofs.SaidRows.{full, full_text}
-use Rattle.row_values.proofs.Texts.{day_said, stamp_said}
+use Rattle.row_values.proofs.Texts.{day_said, price_said, qty_at_said, stamp_said}
 use Rattle.reports_fix42.specs.Content.{cancel_reject_content, report_content}
 use Rattle.reports_fix50.specs.Message.{cancel_reject_table, report_table}
-use Rattle.sound_messages.proofs.AsTheyStand.{as_said, is_own}
+use Rattle.sound_messages.proofs.AsTheyStand.{as_said, is_own, qty_stands}
 use Rattle.exec_translate.specs.declared.from_fields.Execution.{Execution}
 use Rattle.exec_translate.specs.declared.from_fields.Reject.{Reject}
 use Rattle.exec_translate.specs.FromFields.{AppendsReject, AppendsReport, IsExecutionOf, IsRejectOf}
 use Rattle.exec_translate.specs.FromFields.{code, day_if, id, id_if, reject42, rejected50, report42}
-use Rattle.exec_translate.specs.FromFields.{stamp_if, statuses, text_if, told50, told_or}
+use Rattle.exec_translate.specs.FromFields.{price, price_if, qty, qty_if, stamp_if, statuses, text_if}
+use Rattle.exec_translate.specs.FromFields.{told50, told_or, zero_amount}
 use Rattle.exec_translate.proofs.Means.{report_books, report_kept}
 use Rattle.exec_translate.proofs.SaidReports.{code_said, known_said, reject_is_readable}
 use Rattle.exec_translate.proofs.SaidReports.{reject_rows}
 use Rattle.exec_translate.proofs.SaidReports.{rejected_readable, rejected_says, report_is_readable}
 use Rattle.exec_translate.proofs.SaidReports.{report_mapped, report_rows, some_id, told_readable}
 use Rattle.exec_translate.proofs.SaidReports.{told_says}
+
+-- a number that is said
+some_dec : (o : Option Dec) → IsSome (option_map dec_text o)
+    → option_map dec_text o ≡ Some (dec_text (unwrap_or o zero_amount))
+some_dec None there = absurd cc
+some_dec (Some d) there = refl
 
 -- ---- rows of a table, of fields at no fault
 
@@ -84,6 +93,21 @@ module _ (table : Table Kind) (fields : List Field)
   the_known i tag listed at its = stands Required tag (Known listed) refl refl its
       ∙ sym (full _ _ (says table fields h i tag (Value (Known listed)) at its)
       (known_said fields tag listed))
+
+  -- a number that has to stand
+  pub the_qty : (i tag : ℕ) → IsAt i tag Qty → IsRow Required tag Qty
+      → option_map dec_text (dec_at tag fields) ≡ Some (dec_text (qty fields tag))
+  the_qty i tag at its =
+      qty_stands table fields h Required tag refl its
+      ∙ some_dec (qty_if fields tag)
+      (subst (λ (s : Said). IsSome s) (sym (qty_at_said fields tag))
+      (says table fields h i tag (Value Qty) at its))
+
+  pub the_price : (i tag : ℕ) → IsAt i tag Price → IsRow Required tag Price
+      → option_map dec_text (dec_at tag fields) ≡ Some (dec_text (price fields tag))
+  the_price i tag at its = some_dec (price_if fields tag)
+      (subst (λ (s : Said). IsSome s) (sym (price_said fields tag))
+      (says table fields h i tag (Value Price) at its))
 
 -- Text(58) of both reports
 pub report_text_at : (fields : List Field) → first_fault judge report_table fields ≡ None
@@ -136,24 +160,24 @@ module _ (fields : List Field) (e : Execution) (g : first_fault judge report_tab
         cell_fields (Tag 205, option_and_then month_day_text e.details.maturity) ++ (
         cell_fields (Tag 207, value_at 207 fields) ++ (
         cell_fields (Tag 54, value_at 54 fields) ++ (
-        cell_fields (Tag 38, option_map dec_text e.amounts.order_qty) ++ (
+        cell_fields (Tag 38, option_map dec_text (dec_at 38 fields)) ++ (
         cell_fields (Tag 40, option_map code_text e.details.ord_type) ++ (
-        cell_fields (Tag 44, option_map dec_text e.amounts.price) ++ (
-        cell_fields (Tag 99, option_map dec_text e.amounts.stop_px) ++ (
+        cell_fields (Tag 44, option_map dec_text (dec_at 44 fields)) ++ (
+        cell_fields (Tag 99, option_map dec_text (dec_at 99 fields)) ++ (
         cell_fields (Tag 15, value_at 15 fields) ++ (
         cell_fields (Tag 59, option_map code_text e.details.time_in_force) ++ (
         cell_fields (Tag 432, value_at 432 fields) ++ (
         cell_fields (Tag 126, value_at 126 fields) ++ (
         cell_fields (Tag 47, option_map code_text e.details.capacity) ++ (
-        cell_fields (Tag 32, option_map dec_text e.amounts.last_qty) ++ (
-        cell_fields (Tag 31, option_map dec_text e.amounts.last_px) ++ (
+        cell_fields (Tag 32, option_map dec_text (dec_at 32 fields)) ++ (
+        cell_fields (Tag 31, option_map dec_text (dec_at 31 fields)) ++ (
         cell_fields (Tag 30, value_at 30 fields) ++ (
         cell_fields (Tag 151, Some (dec_text e.amounts.leaves)) ++ (
-        cell_fields (Tag 14, Some (dec_text e.amounts.cum)) ++ (
-        cell_fields (Tag 6, Some (dec_text e.amounts.avg)) ++ (
+        cell_fields (Tag 14, option_map dec_text (dec_at 14 fields)) ++ (
+        cell_fields (Tag 6, option_map dec_text (dec_at 6 fields)) ++ (
         cell_fields (Tag 75, value_at 75 fields) ++ (
         cell_fields (Tag 60, value_at 60 fields) ++ (
-        cell_fields (Tag 110, option_map dec_text e.amounts.min_qty) ++ (
+        cell_fields (Tag 110, option_map dec_text (dec_at 110 fields)) ++ (
         cell_fields (Tag 111, option_map dec_text e.amounts.max_floor) ++ (
         text ++ (
         [])))))))))))))))))))))))))))))))))))))))))))))))
@@ -192,24 +216,27 @@ module _ (fields : List Field) (e : Execution) (g : first_fault judge report_tab
         cell_fields (Tag 205, option_and_then month_day_text e.details.maturity) ++ (
         cell_fields (Tag 207, id_at t fields g 207 refl i) ++ (
         cell_fields (Tag 54, the_code t fields g 26 54 (codes "123456") refl refl i) ++ (
-        cell_fields (Tag 38, option_map dec_text e.amounts.order_qty) ++ (
+        cell_fields (Tag 38, qty_stands t fields g Optional 38 refl refl i) ++ (
         cell_fields (Tag 40, option_map code_text e.details.ord_type) ++ (
-        cell_fields (Tag 44, option_map dec_text e.amounts.price) ++ (
-        cell_fields (Tag 99, option_map dec_text e.amounts.stop_px) ++ (
+        cell_fields (Tag 44, option_map dec_text (dec_at 44 fields)) ++ (
+        cell_fields (Tag 99, option_map dec_text (dec_at 99 fields)) ++ (
         cell_fields (Tag 15, stands t fields g Optional 15 Currency refl refl refl i) ++ (
         cell_fields (Tag 59, option_map code_text e.details.time_in_force) ++ (
         cell_fields (Tag 432, day_at t fields g 432 refl i) ++ (
         cell_fields (Tag 126, stamp_at t fields g 126 refl i) ++ (
         cell_fields (Tag 47, option_map code_text e.details.capacity) ++ (
-        cell_fields (Tag 32, option_map dec_text e.amounts.last_qty) ++ (
-        cell_fields (Tag 31, option_map dec_text e.amounts.last_px) ++ (
+        cell_fields (
+          Tag 32,
+          qty_stands t fields g (When ((Is 150 (codes "FG") ∷ []) ∷ [])) 32 refl refl i,
+        ) ++ (
+        cell_fields (Tag 31, option_map dec_text (dec_at 31 fields)) ++ (
         cell_fields (Tag 30, id_at t fields g 30 refl i) ++ (
         cell_fields (Tag 151, Some (dec_text e.amounts.leaves)) ++ (
-        cell_fields (Tag 14, Some (dec_text e.amounts.cum)) ++ (
-        cell_fields (Tag 6, Some (dec_text e.amounts.avg)) ++ (
+        cell_fields (Tag 14, the_qty t fields g 40 14 refl refl i) ++ (
+        cell_fields (Tag 6, the_price t fields g 41 6 refl refl i) ++ (
         cell_fields (Tag 75, day_at t fields g 75 refl i) ++ (
         cell_fields (Tag 60, stamp_at t fields g 60 refl i) ++ (
-        cell_fields (Tag 110, option_map dec_text e.amounts.min_qty) ++ (
+        cell_fields (Tag 110, qty_stands t fields g Optional 110 refl refl i) ++ (
         cell_fields (Tag 111, option_map dec_text e.amounts.max_floor) ++ (
         text_is i ++ (
         [])))))))))))))))))))))))))))))))))))))))))))))))

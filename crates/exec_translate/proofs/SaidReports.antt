@@ -3,6 +3,7 @@ use Rattle.std.proofs.Common.{◌≡◌, ℕ, List, [], ◌∷◌, Bool, Some}
 use Rattle.std.proofs.Common.{None, refl, sym, ap, ◌∙◌, codes, unwrap_or}
 use Rattle.std.proofs.Common.{if◌then◌else◌}
 use Rattle.std.specs.Prelude.{IsSome, IfSome}
+use Rattle.typed_fields.specs.Dec.{dec_text}
 use Rattle.order_meaning.specs.declared.party.Three.{Three}
 use Rattle.value_kinds.specs.CodeKinds.{code_text}
 use Rattle.value_kinds.specs.ValueKind.{Code, Known, Text}
@@ -11,7 +12,8 @@ use Rattle.message_tables.specs.Tables.{Said, ◌>>=◌, code_of}
 use Rattle.row_values.specs.Kinds.{Value, said}
 use Rattle.row_values.proofs.ContraRows.{contras_readable}
 use Rattle.row_values.proofs.SaidRows.{parties_readable}
-use Rattle.row_values.proofs.Texts.{day_said, stamp_said}
+use Rattle.row_values.proofs.Texts.{day_said, dec_readable, price_said, qty_at_said, qty_readable}
+use Rattle.row_values.proofs.Texts.{stamp_said}
 use Rattle.reports_fix42.specs.Readable as readable42
 use Rattle.reports_fix50.specs.Readable as readable50
 use Rattle.reports_fix50.specs.Reading.{IsCancelReject, IsReport}
@@ -22,9 +24,11 @@ use Rattle.exec_translate.specs.declared.from_fields.Reject.{Reject}
 use Rattle.exec_translate.specs.Down.{IsMapped}
 use Rattle.exec_translate.specs.FromFields.{IsExecutionOf, IsRejectOf, code, id, if_told}
 use Rattle.exec_translate.specs.FromFields.{reject42, rejected50, report42, statuses, text_if}
-use Rattle.exec_translate.specs.FromFields.{told50, told_or}
+use Rattle.exec_translate.specs.FromFields.{price_if, qty_if, told50, told_or}
+use Rattle.exec_translate.specs.FromFields.{zero_amount}
 use Rattle.exec_translate.specs.Written.{IsWritten, IsWrittenReject}
-use Rattle.exec_translate.proofs.Bounds.{day_readable, stamp_readable}
+use Rattle.exec_translate.proofs.Bounds.{day_readable, stamp_readable, the_price_readable}
+use Rattle.exec_translate.proofs.Bounds.{the_qty_readable}
 use Rattle.exec_translate.proofs.Mapped.{same_codes}
 use Rattle.exec_translate.proofs.Readable.{refusal_readable, report_readable}
 
@@ -78,25 +82,25 @@ module _ (fields : List Field) (e : Execution) (w : IsExecutionOf fields e) wher
       maturity = w.details.maturity_is;
       security_exchange = refl;
       side = code_said fields 54 (codes "123456");
-      order_qty = w.amounts.order_qty;
+      order_qty = qty_at_said fields 38;
       ord_type = w.details.type_is;
-      price = w.amounts.price;
-      stop_px = w.amounts.stop_px;
+      price = price_said fields 44;
+      stop_px = price_said fields 99;
       currency = refl;
       time_in_force = w.details.time_is;
       expire_date = day_said fields 432;
       expire_time = stamp_said fields 126;
       capacity = w.details.capacity;
     };
-    last_qty = w.amounts.last_qty;
-    last_px = w.amounts.last_px;
+    last_qty = qty_at_said fields 32;
+    last_px = price_said fields 31;
     last_mkt = refl;
     leaves = w.amounts.leaves;
-    cum = w.amounts.cum;
-    avg = w.amounts.avg;
+    cum = said_or dec_text (qty_if fields 14) zero_amount _ (qty_at_said fields 14);
+    avg = said_or dec_text (price_if fields 6) zero_amount _ (price_said fields 6);
     trade_date = day_said fields 75;
     transact_time = stamp_said fields 60;
-    min_qty = w.amounts.min_qty;
+    min_qty = qty_at_said fields 110;
     max_floor = w.amounts.max_floor;
     text = refl;
   }
@@ -109,19 +113,19 @@ module _ (fields : List Field) (e : Execution) (w : IsExecutionOf fields e) wher
     restate_reason = w.reasons.restate_number;
     settl_date = day_readable fields 64;
     maturity = w.details.maturity_readable;
-    order_qty = w.readable.order_qty;
-    price = w.readable.price;
-    stop_px = w.readable.stop_px;
+    order_qty = qty_readable fields 38;
+    price = dec_readable fields 44;
+    stop_px = dec_readable fields 99;
     expire_date = day_readable fields 432;
     expire_time = stamp_readable fields 126;
-    last_qty = w.readable.last_qty;
-    last_px = w.readable.last_px;
+    last_qty = qty_readable fields 32;
+    last_px = dec_readable fields 31;
     leaves = w.readable.leaves;
-    cum = w.readable.cum;
-    avg = w.readable.avg;
+    cum = the_qty_readable fields 14;
+    avg = the_price_readable fields 6;
     trade_date = day_readable fields 75;
     transact_time = stamp_readable fields 60;
-    min_qty = w.readable.min_qty;
+    min_qty = qty_readable fields 110;
     max_floor = w.readable.max_floor;
   }
 

@@ -1,7 +1,7 @@
 -- Inside: the reports of both versions that fields at no fault say. What FIX 4.2 spells otherwise,
 -- the groups and the amounts are those that the code reads; the other rows are told of the fields.
 use Rattle.std.specs.Prelude.{◌≡◌, ◌++◌, ◌==◌, ◌||◌, ℕ, Bool, List, [], ◌∷◌, codes, Option, Some}
-use Rattle.std.specs.Prelude.{None}
+use Rattle.std.specs.Prelude.{None, pos}
 use Rattle.std.specs.Prelude.{IfSome, option_and_then, unwrap_or, if◌then◌else◌}
 use Rattle.std.specs.Option.{option_map}
 use Rattle.std.specs.Result.{result_ok}
@@ -15,7 +15,7 @@ use Rattle.typed_fields.specs.Number.{IsNumber, number_text}
 use Rattle.typed_fields.specs.Stamp.{read_stamp}
 use Rattle.value_kinds.specs.CodeKinds.{code_text}
 use Rattle.value_kinds.specs.ValueKind.{ValueKind, Id, Text, Code, Known, Word, Currency}
-use Rattle.value_kinds.specs.ValueKind.{Price, Qty, Reason}
+use Rattle.value_kinds.specs.ValueKind.{Qty, Reason}
 use Rattle.field_groups.specs.Field.{Field, body_of}
 use Rattle.message_tables.specs.Tables.{Said, ◌>>=◌, code_of, value_at}
 use Rattle.order_meaning.specs.Book.{Book}
@@ -27,6 +27,7 @@ use Rattle.row_values.specs.Kinds.{Value, TimeBeside, said, resend_of}
 use Rattle.row_values.specs.Contras.{AreContras}
 use Rattle.row_values.specs.Groups.{AreParties}
 use Rattle.row_values.specs.Lines.{IsReadableMaturity}
+use Rattle.row_values.specs.Writing.{dec_at, qty_at}
 use Rattle.row_values.specs.declared.lines.Maturity.{Maturity}
 use Rattle.rows_fix50.specs.Maturity.{IsMaturity}
 use Rattle.rows_fix50.specs.Meaning.{terms_of as terms50}
@@ -70,6 +71,10 @@ security_types = codes "CS" ∷ codes "PS" ∷ codes "FUT" ∷ []
 abbrev pub statuses : List ℕ
 statuses = codes "0123456789ABCDE"
 
+-- no amount at all
+abbrev pub zero_amount : Dec
+zero_amount = record { units = pos 0 }
+
 module _ (fields : List Field) where
   abbrev pub text_if : ℕ → ValueKind → Said
   text_if tag kind = said fields tag (Value kind)
@@ -90,6 +95,18 @@ module _ (fields : List Field) where
   abbrev pub stamp_if : ℕ → Option StampValue
   stamp_if tag = option_and_then (λ bytes. result_ok (read_stamp bytes)) (value_at tag fields)
 
+  abbrev pub price_if : ℕ → Option Dec
+  price_if tag = dec_at tag fields
+
+  abbrev pub price : ℕ → Dec
+  price tag = unwrap_or (price_if tag) zero_amount
+
+  abbrev pub qty_if : ℕ → Option Dec
+  qty_if tag = qty_at tag fields
+
+  abbrev pub qty : ℕ → Dec
+  qty tag = unwrap_or (qty_if tag) zero_amount
+
   abbrev pub ord_status_said : Said
   ord_status_said = text_if 39 (Known statuses)
 
@@ -106,27 +123,11 @@ told_or (Some told) text = Some told
 -- ---- what the code reads of an execution report is what its fields say
 
 pub record AreAmountsOf (fields : List Field) (a : Amounts) : Type 0 where
-  pub order_qty : option_map dec_text a.order_qty ≡ said fields 38 (Value Qty)
-  pub price : option_map dec_text a.price ≡ said fields 44 (Value Price)
-  pub stop_px : option_map dec_text a.stop_px ≡ said fields 99 (Value Price)
-  pub last_qty : option_map dec_text a.last_qty ≡ said fields 32 (Value Qty)
-  pub last_px : option_map dec_text a.last_px ≡ said fields 31 (Value Price)
   pub leaves : IfSome (said fields 151 (Value Qty)) (λ text. text ≡ dec_text a.leaves)
-  pub cum : IfSome (said fields 14 (Value Qty)) (λ text. text ≡ dec_text a.cum)
-  pub avg : IfSome (said fields 6 (Value Price)) (λ text. text ≡ dec_text a.avg)
-  pub min_qty : option_map dec_text a.min_qty ≡ said fields 110 (Value Qty)
   pub max_floor : option_map dec_text a.max_floor ≡ said fields 1138 (Value Qty)
 
 pub record AreReadableAmounts (a : Amounts) : Type 0 where
-  pub order_qty : IfSome a.order_qty IsDec
-  pub price : IfSome a.price IsDec
-  pub stop_px : IfSome a.stop_px IsDec
-  pub last_qty : IfSome a.last_qty IsDec
-  pub last_px : IfSome a.last_px IsDec
   pub leaves : IsDec a.leaves
-  pub cum : IsDec a.cum
-  pub avg : IsDec a.avg
-  pub min_qty : IfSome a.min_qty IsDec
   pub max_floor : IfSome a.max_floor IsDec
 
 -- the reasons of the venue, of which FIX 4.2 has some and the text tells the others
@@ -226,24 +227,24 @@ told50 fields e w = record {
   maturity = w.details.told_maturity;
   security_exchange = id_if fields 207;
   side = code fields 54 (Code (codes "123456"));
-  order_qty = e.amounts.order_qty;
+  order_qty = qty_if fields 38;
   ord_type = w.details.told_type;
-  price = e.amounts.price;
-  stop_px = e.amounts.stop_px;
+  price = price_if fields 44;
+  stop_px = price_if fields 99;
   currency = text_if fields 15 Currency;
   time_in_force = w.details.told_time;
   expire_date = day_if fields 432;
   expire_time = stamp_if fields 126;
   capacity = e.details.capacity;
-  last_qty = e.amounts.last_qty;
-  last_px = e.amounts.last_px;
+  last_qty = qty_if fields 32;
+  last_px = price_if fields 31;
   last_mkt = id_if fields 30;
   leaves = e.amounts.leaves;
-  cum = e.amounts.cum;
-  avg = e.amounts.avg;
+  cum = qty fields 14;
+  avg = price fields 6;
   trade_date = day_if fields 75;
   transact_time = stamp_if fields 60;
-  min_qty = e.amounts.min_qty;
+  min_qty = qty_if fields 110;
   max_floor = e.amounts.max_floor;
   text = text_if fields 58 Text;
 }
@@ -278,24 +279,24 @@ report42 fields e = record {
   maturity = e.details.maturity;
   security_exchange = id_if fields 207;
   side = code fields 54 (Code (codes "123456"));
-  order_qty = e.amounts.order_qty;
+  order_qty = qty_if fields 38;
   ord_type = e.details.ord_type;
-  price = e.amounts.price;
-  stop_px = e.amounts.stop_px;
+  price = price_if fields 44;
+  stop_px = price_if fields 99;
   currency = text_if fields 15 Currency;
   time_in_force = e.details.time_in_force;
   expire_date = day_if fields 432;
   expire_time = stamp_if fields 126;
   capacity = e.details.capacity;
-  last_qty = e.amounts.last_qty;
-  last_px = e.amounts.last_px;
+  last_qty = qty_if fields 32;
+  last_px = price_if fields 31;
   last_mkt = id_if fields 30;
   leaves = e.amounts.leaves;
-  cum = e.amounts.cum;
-  avg = e.amounts.avg;
+  cum = qty fields 14;
+  avg = price fields 6;
   trade_date = day_if fields 75;
   transact_time = stamp_if fields 60;
-  min_qty = e.amounts.min_qty;
+  min_qty = qty_if fields 110;
   max_floor = e.amounts.max_floor;
   text = told_or e.reasons.told (text_if fields 58 Text);
 }

@@ -1,6 +1,7 @@
 //! Writing a report of FIX 4.2 straight from the fields of a report of FIX 5.0 SP2: texts, days and
-//! moments stand as they are, since each has one spelling. What is spelled otherwise, or dropped
-//! where it is outside the profile, is read first.
+//! moments stand as they are, since each has one spelling, and so do most decimal numbers, which
+//! are spelled anew where they are not in their canonical spelling. What is said otherwise, or
+//! dropped where it is outside the profile, is read first.
 
 ghost use Rattle.std.specs.Prelude.{◌≡◌, ◌==◌, IfErr, IfOk, IfSome, IsSome, None, OnOk, Some};
 ghost use Rattle.std.specs.Prelude.{codes, if◌then◌else◌};
@@ -33,8 +34,8 @@ use order_meaning::{Bytes, Lack, Lines, Three};
 use party_translate::from_parties;
 use reports_fix50::exec_type;
 use row_values::{
-    Contras, Maturity, Part, Value, code, owned, price, price_or_zero, put_content, qty,
-    qty_or_zero, read_lines, reason, text,
+    Contras, Maturity, Part, Value, code, owned, put_content, qty, qty_or_zero, read_lines, reason,
+    text,
 };
 use rows_fix50::{maturity, time_in_force};
 use std::alloc::{AllocError, Global};
@@ -60,47 +61,22 @@ const ORD_TYPE: ValueKind = Code(b"1234");
 /// What OrderCapacity(528) may be.
 const CAPACITY: ValueKind = Code(b"AIP");
 
-/// The decimal numbers of an execution report.
+/// The decimal numbers of an execution report that its codes go by, or that have another tag.
 #[derive(Debug, Clone, Copy)]
 struct Amounts {
-    /// OrderQty(38).
-    order_qty: Option<Dec>,
-    /// Price(44).
-    price: Option<Dec>,
-    /// StopPx(99).
-    stop_px: Option<Dec>,
-    /// LastQty(32).
-    last_qty: Option<Dec>,
-    /// LastPx(31).
-    last_px: Option<Dec>,
     /// LeavesQty(151).
     leaves: Dec,
-    /// CumQty(14).
-    cum: Dec,
-    /// AvgPx(6).
-    avg: Dec,
-    /// MinQty(110).
-    min_qty: Option<Dec>,
     /// DisplayQty(1138); MaxFloor(111) of FIX 4.2.
     max_floor: Option<Dec>,
 }
 
-/// Reads the decimal numbers of an execution report.
-#[inline(never)]
+/// Reads these numbers.
 fn amounts_of(fields: &Fields<'_>) -> Amounts
     ensures says { AreAmountsOf fields.now result }
     ensures readable { AreReadableAmounts result }
 {
     Amounts {
-        order_qty: qty(fields, 38),
-        price: price(fields, 44),
-        stop_px: price(fields, 99),
-        last_qty: qty(fields, 32),
-        last_px: price(fields, 31),
         leaves: qty_or_zero(fields, 151),
-        cum: qty_or_zero(fields, 14),
-        avg: price_or_zero(fields, 6),
-        min_qty: qty(fields, 110),
         max_floor: qty(fields, 1138),
     }
 }
@@ -306,24 +282,24 @@ fn execution_parts<'a>(
         Part::Row(205, Value::MonthDay(&e.details.maturity)),
         Part::Same(fields, 207),
         Part::Same(fields, 54),
-        Part::Row(38, Value::DecIf(&e.amounts.order_qty)),
+        Part::Dec(fields, 38),
         Part::Row(40, Value::CodeIf(e.details.ord_type)),
-        Part::Row(44, Value::DecIf(&e.amounts.price)),
-        Part::Row(99, Value::DecIf(&e.amounts.stop_px)),
+        Part::Dec(fields, 44),
+        Part::Dec(fields, 99),
         Part::Same(fields, 15),
         Part::Row(59, Value::CodeIf(e.details.time_in_force)),
         Part::Same(fields, 432),
         Part::Same(fields, 126),
         Part::Row(47, Value::CodeIf(e.details.capacity)),
-        Part::Row(32, Value::DecIf(&e.amounts.last_qty)),
-        Part::Row(31, Value::DecIf(&e.amounts.last_px)),
+        Part::Dec(fields, 32),
+        Part::Dec(fields, 31),
         Part::Same(fields, 30),
         Part::Row(151, Value::Dec(&e.amounts.leaves)),
-        Part::Row(14, Value::Dec(&e.amounts.cum)),
-        Part::Row(6, Value::Dec(&e.amounts.avg)),
+        Part::Dec(fields, 14),
+        Part::Dec(fields, 6),
         Part::Same(fields, 75),
         Part::Same(fields, 60),
-        Part::Row(110, Value::DecIf(&e.amounts.min_qty)),
+        Part::Dec(fields, 110),
         Part::Row(111, Value::DecIf(&e.amounts.max_floor)),
         text,
     ]

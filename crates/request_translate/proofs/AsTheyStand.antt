@@ -1,124 +1,23 @@
 -- What the fields of a message at no fault say, by their values as they stand.
-use Rattle.std.proofs.Common.{◌≡◌, ℕ, List, [], ◌∷◌, Option, Some, None, Bool, true, false, refl}
-use Rattle.std.proofs.Common.{sym, ap, ◌∙◌, option_map, unwrap_or}
-use Rattle.std.specs.Prelude.{IsSome, IfSome, Result, Ok, Err, if◌then◌else◌}
+use Rattle.std.proofs.Common.{◌≡◌, ℕ, List, Some, None, true, refl, sym, ◌∙◌, option_map}
+use Rattle.std.specs.Prelude.{IfSome}
 use Rattle.std.specs.List.{slice_get}
-use Rattle.typed_fields.specs.declared.fault.FieldFault.{FieldFault}
 use Rattle.typed_fields.specs.Day.{day_text}
 use Rattle.typed_fields.specs.Stamp.{stamp_text}
 use Rattle.typed_fields.specs.Flag.{flag_text}
 use Rattle.value_kinds.specs.CodeKinds.{code_text}
-use Rattle.value_kinds.specs.ValueKind.{ValueKind, Filled, Id, Text, OneByte, Code, Known, Codes}
-use Rattle.value_kinds.specs.ValueKind.{Word, Currency, Flag, Number, Reason, Qty, Price, Stamp}
-use Rattle.value_kinds.specs.ValueKind.{Day, MonthYear, DayOfMonth, Spelling, spelling, spelt}
-use Rattle.value_kinds.specs.ValueKind.{listed_word, is_code}
+use Rattle.value_kinds.specs.ValueKind.{ValueKind, Id, Code, Stamp, Day, Flag}
 use Rattle.field_groups.specs.Field.{Field}
-use Rattle.message_tables.specs.TableLaws.{IsStrict}
-use Rattle.message_tables.specs.Tables.{Need, Required, Optional, One, Table, Said, ◌>>=◌}
-use Rattle.message_tables.specs.Tables.{all_rows, code_of, is_one_of, row_at, text_of, value_at}
+use Rattle.message_tables.specs.Tables.{Need, Required, Optional, One, Table, all_rows, row_at}
+use Rattle.message_tables.specs.Tables.{value_at}
 use Rattle.message_tables.specs.FirstFault.{first_fault}
-use Rattle.message_tables.proofs.Clean.{spells}
-use Rattle.row_values.specs.Kinds.{Kind, Value, judge, said, verdict_of}
+use Rattle.row_values.specs.Kinds.{Kind, Value, judge, said}
 use Rattle.row_values.proofs.ByTable.{says}
 use Rattle.row_values.proofs.SaidRows.{full, full_text}
 use Rattle.row_values.proofs.Texts.{day_said, flag_said, stamp_said}
-use Rattle.sound_messages.proofs.Good.{IsGood, all_good, held}
+use Rattle.sound_messages.proofs.AsTheyStand.{as_said, code_back, is_own, said_or}
 use Rattle.request_translate.specs.FromFields.{code, code_if, day_if, epoch, flag_if, id, id_if}
 use Rattle.request_translate.specs.FromFields.{stamp, stamp_if, text_if}
-
--- ---- kinds whose values have one spelling, the value itself
-
-abbrev pub is_own : ValueKind → Bool
-is_own Filled = true
-is_own Id = true
-is_own Text = true
-is_own OneByte = true
-is_own (Code listed) = true
-is_own (Known listed) = true
-is_own (Codes listed) = true
-is_own (Word listed) = true
-is_own Currency = true
-is_own Flag = true
-is_own Stamp = true
-is_own Day = true
-is_own kind = false
-
--- a spelling that is this text
-abbrev Is : Spelling → List ℕ → Type 0
-Is s text = s ≡ Ok (Some text)
-
-module _ (bytes text : List ℕ) where
-  if_good : (good : Bool) (fault : FieldFault)
-      → Is (if good then Ok (Some bytes) else Err fault) text → bytes ≡ text
-  if_good true fault h = cc
-  if_good false fault h = absurd cc
-
-  if_listed : (good : Bool) → Is (Ok (listed_word good bytes)) text → bytes ≡ text
-  if_listed true h = cc
-  if_listed false h = absurd cc
-
-  if_parted : (parted good : Bool) (fault : FieldFault)
-      → Is (if parted then Ok (listed_word good bytes) else Err fault) text → bytes ≡ text
-  if_parted true good fault h = if_listed good h
-  if_parted false good fault h = absurd cc
-
-  if_read : {A : Type 0} (r : Result A FieldFault) → Is (spelt (λ _. bytes) r) text
-      → bytes ≡ text
-  if_read (Ok value) h = cc
-  if_read (Err fault) h = absurd cc
-
-own : (kind : ValueKind) → is_own kind ≡ true → (bytes text : List ℕ)
-    → spelling kind bytes ≡ Ok (Some text) → bytes ≡ text
-unfolding spelling
-own kind is [] text h = absurd cc
-own Filled is (b ∷ bs) text h = cc
-own Id is (b ∷ bs) text h = if_good (b ∷ bs) text _ _ h
-own Text is (b ∷ bs) text h = if_good (b ∷ bs) text _ _ h
-own OneByte is (b ∷ bs) text h = if_good (b ∷ bs) text _ _ h
-own (Code listed) is (b ∷ bs) text h = if_listed (b ∷ bs) text (is_code listed (b ∷ bs)) h
-own (Known listed) is (b ∷ bs) text h = if_good (b ∷ bs) text _ _ h
-own (Codes listed) is (b ∷ bs) text h = if_parted (b ∷ bs) text _ _ _ h
-own (Word listed) is (b ∷ bs) text h = if_listed (b ∷ bs) text _ h
-own Currency is (b ∷ bs) text h = if_good (b ∷ bs) text _ _ h
-own Flag is (b ∷ bs) text h = if_read (b ∷ bs) text _ h
-own Stamp is (b ∷ bs) text h = if_read (b ∷ bs) text _ h
-own Day is (b ∷ bs) text h = if_read (b ∷ bs) text _ h
-own Number is bytes text h = absurd cc
-own Reason is bytes text h = absurd cc
-own Qty is bytes text h = absurd cc
-own Price is bytes text h = absurd cc
-own MonthYear is bytes text h = absurd cc
-own DayOfMonth is bytes text h = absurd cc
-
--- ---- codes
-
-code_back : (fields : List Field) (tag : ℕ) (listed : List ℕ)
-    → option_map code_text (code_if fields tag listed)
-    ≡ said fields tag (Value (Code listed))
-unfolding judge spelling
-code_back fields tag listed = here (value_at tag fields)
-  where
-    by_list : (good : Bool) (byte : ℕ)
-        → option_map code_text (text_of (verdict_of (Ok (listed_word good (byte ∷ []))))
-        >>= code_of) ≡ text_of (verdict_of (Ok (listed_word good (byte ∷ []))))
-    by_list true byte = refl
-    by_list false byte = refl
-
-    here : (o : Option (List ℕ)) → option_map code_text
-        ((o >>= (λ v. text_of (judge fields (Value (Code listed)) v))) >>= code_of)
-        ≡ (o >>= (λ v. text_of (judge fields (Value (Code listed)) v)))
-    here None = refl
-    here (Some []) = refl
-    here (Some (b ∷ [])) = by_list (is_one_of listed b) b
-    here (Some (b ∷ c ∷ bs)) = refl
-
--- a value where it is said, and another where it is not
-pub said_or : {A : Type 0} (text : A → List ℕ) (value : Option A) (other : A) (s : Said)
-    → option_map text value ≡ s → IfSome s (λ t. t ≡ text (unwrap_or value other))
-said_or text None other None h = tt
-said_or text None other (Some t) h = absurd cc
-said_or text (Some x) other None h = tt
-said_or text (Some x) other (Some t) h = cc
 
 module _ (fields : List Field) where
   pub code_is : (tag : ℕ) (listed : List ℕ) → option_map code_text (code_if fields tag listed)
@@ -136,32 +35,8 @@ module _ (fields : List Field) where
 
 -- ---- rows of a table, of fields at no fault
 
-as_is : (bytes : List ℕ) (s : Spelling)
-    → ((text : List ℕ) → s ≡ Ok (Some text) → bytes ≡ text)
-    → IsSome (text_of (verdict_of s)) → Some bytes ≡ text_of (verdict_of s)
-as_is bytes (Ok (Some text)) same there = ap Some (same text refl)
-as_is bytes (Ok None) same there = absurd cc
-as_is bytes (Err fault) same there = absurd cc
-
 module _ (table : Table Kind) (fields : List Field)
     (h : first_fault judge table fields ≡ None) where
-  as_said : (need : Need) (tag : ℕ) (kind : ValueKind) → IsStrict need → is_own kind ≡ true
-      → row_at tag (all_rows table)
-      ≡ Some (record { tag = tag; kind = Value kind; need = need })
-      → value_at tag fields ≡ said fields tag (Value kind)
-  unfolding judge
-  as_said need tag kind strict is its = here (value_at tag fields) refl
-    where
-      here : (o : Option (List ℕ)) → value_at tag fields ≡ o
-          → o ≡ (o >>= (λ v. text_of (judge fields (Value kind) v)))
-      here None at = refl
-      here (Some v) at =
-          let good = held (IsGood judge table fields) tag fields v at
-          (all_good judge table fields h) in
-          as_is v (spelling kind v) (own kind is v)
-          (spells judge table fields need tag (judge fields (Value kind) v) strict
-          (rw its at good.0) (rw its at good.1))
-
   -- a row that need not stand
   abbrev IsRow : Need → ℕ → ValueKind → Type 0
   IsRow need tag kind =
@@ -169,27 +44,27 @@ module _ (table : Table Kind) (fields : List Field)
 
   pub text_at : (tag : ℕ) (kind : ValueKind) → is_own kind ≡ true → IsRow Optional tag kind
       → value_at tag fields ≡ text_if fields tag kind
-  text_at tag kind is its = as_said Optional tag kind refl is its
+  text_at tag kind is its = as_said table fields h Optional tag kind refl is its
 
   pub id_at : (tag : ℕ) → IsRow Optional tag Id → value_at tag fields ≡ id_if fields tag
   id_at tag its = text_at tag Id refl its
 
   pub code_at : (tag : ℕ) (listed : List ℕ) → IsRow Optional tag (Code listed)
       → value_at tag fields ≡ option_map code_text (code_if fields tag listed)
-  code_at tag listed its = as_said Optional tag (Code listed) refl refl its
+  code_at tag listed its = as_said table fields h Optional tag (Code listed) refl refl its
       ∙ sym (code_back fields tag listed)
 
   pub day_at : (tag : ℕ) → IsRow Optional tag Day
       → value_at tag fields ≡ option_map day_text (day_if fields tag)
-  day_at tag its = as_said Optional tag Day refl refl its ∙ sym (day_said fields tag)
+  day_at tag its = as_said table fields h Optional tag Day refl refl its ∙ sym (day_said fields tag)
 
   pub stamp_at : (tag : ℕ) → IsRow Optional tag Stamp
       → value_at tag fields ≡ option_map stamp_text (stamp_if fields tag)
-  stamp_at tag its = as_said Optional tag Stamp refl refl its ∙ sym (stamp_said fields tag)
+  stamp_at tag its = as_said table fields h Optional tag Stamp refl refl its ∙ sym (stamp_said fields tag)
 
   pub flag_at : (tag : ℕ) → IsRow Optional tag Flag
       → value_at tag fields ≡ option_map flag_text (flag_if fields tag)
-  flag_at tag its = as_said Optional tag Flag refl refl its ∙ sym (flag_said fields tag)
+  flag_at tag its = as_said table fields h Optional tag Flag refl refl its ∙ sym (flag_said fields tag)
 
   -- a row that has to stand, at this place
   abbrev IsAt : ℕ → ℕ → ValueKind → Type 0
@@ -198,17 +73,17 @@ module _ (table : Table Kind) (fields : List Field)
 
   pub the_id : (i tag : ℕ) → IsAt i tag Id → IsRow Required tag Id
       → value_at tag fields ≡ Some (id fields tag)
-  the_id i tag at its = as_said Required tag Id refl refl its
+  the_id i tag at its = as_said table fields h Required tag Id refl refl its
       ∙ sym (full_text _ _ (says table fields h i tag (Value Id) at its) refl)
 
   pub the_code : (i tag : ℕ) (listed : List ℕ) → IsAt i tag (Code listed)
       → IsRow Required tag (Code listed)
       → value_at tag fields ≡ Some (code_text (code fields tag listed))
-  the_code i tag listed at its = as_said Required tag (Code listed) refl refl its
+  the_code i tag listed at its = as_said table fields h Required tag (Code listed) refl refl its
       ∙ sym (full _ _ (says table fields h i tag (Value (Code listed)) at its)
       (full_code fields tag listed))
 
   pub the_stamp : (i tag : ℕ) → IsAt i tag Stamp → IsRow Required tag Stamp
       → value_at tag fields ≡ Some (stamp_text (stamp fields tag))
-  the_stamp i tag at its = as_said Required tag Stamp refl refl its
+  the_stamp i tag at its = as_said table fields h Required tag Stamp refl refl its
       ∙ sym (full _ _ (says table fields h i tag (Value Stamp) at its) (full_stamp fields tag))

@@ -7,7 +7,7 @@ use Rattle.typed_fields.specs.Dec.{dec_text}
 use Rattle.value_kinds.specs.CodeKinds.{code_text}
 use Rattle.value_kinds.specs.ValueKind.{Text, Codes, Word, Currency, Qty}
 use Rattle.field_groups.specs.Field.{Field, AreFields}
-use Rattle.message_tables.specs.Tables.{Said, Tag, value_at}
+use Rattle.message_tables.specs.Tables.{Optional, Required, Said, Tag, value_at}
 use Rattle.message_tables.specs.FirstFault.{first_fault}
 use Rattle.message_tables.specs.Content.{cell_fields, group_fields, content}
 use Rattle.order_meaning.specs.declared.party.PartyLine.{PartyLine}
@@ -15,8 +15,10 @@ use Rattle.row_values.specs.declared.lines.Maturity.{Maturity}
 use Rattle.row_values.specs.Kinds.{Value, judge, said}
 use Rattle.row_values.specs.Maturity.{IsMaturity}
 use Rattle.row_values.specs.Lines.{alloc_cells, month_text, party_cells, session_cells}
-use Rattle.row_values.specs.Writing.{date_text}
+use Rattle.row_values.specs.Writing.{date_text, dec_at, qty_at}
 use Rattle.row_values.proofs.ByTable.{says}
+use Rattle.row_values.proofs.Texts.{qty_at_said}
+use Rattle.sound_messages.proofs.AsTheyStand.{qty_stands}
 use Rattle.rows_fix42.specs.Header.{table as table42}
 use Rattle.rows_fix50.specs.Header.{table as table50}
 use Rattle.dict_fix42.specs.Message.{message42, table_of}
@@ -135,8 +137,8 @@ module _ (fields : List Field) (maturity : Option Maturity) where
 
 -- ---- Cancel42
 
-module _ (fields : List Field) (maturity : Option Maturity) (order_qty : Option Dec) where
-  cancel_up : IsCancel (cancel42 fields maturity order_qty) (cancel50 fields maturity order_qty)
+module _ (fields : List Field) (maturity : Option Maturity) where
+  cancel_up : IsCancel (cancel42 fields maturity) (cancel50 fields maturity)
   cancel_up = record {
     resend = refl;
     cl_ord_id = refl;
@@ -161,14 +163,13 @@ module _ (fields : List Field) (maturity : Option Maturity) (order_qty : Option 
       ≡ Some (table42 70 requests42.cancel_request)
       → AreGoodBy (table_of (type_of fields)) fields
       → IsMaturity fields maturity
-      → option_map dec_text order_qty ≡ said fields 38 (Value Qty)
-      → IsRequestOf fields None (messages50.Cancel (cancel50 fields maturity order_qty))
-  cancel_asked are is good m q =
-      let mine = cancel42 fields maturity order_qty in
-      let up = cancel50 fields maturity order_qty in
+      → IsRequestOf fields None (messages50.Cancel (cancel50 fields maturity))
+  cancel_asked are is good m =
+      let mine = cancel42 fields maturity in
+      let up = cancel50 fields maturity in
       let means =
       cancel_means fields (no_fault fields (table42 70 requests42.cancel_request) is good)
-      mine (cancel_says fields maturity order_qty m q) in
+      mine (cancel_says fields maturity m) in
       let whole : message42 (type_of fields) fields None ≡ Ok (said42.cancel_says mine) =
       read fields (table42 70 requests42.cancel_request) is good ∙ ap Ok (sym means) in
       let sure = sound fields (messages42.Cancel mine) are whole in
@@ -201,11 +202,11 @@ module _ (fields : List Field) (maturity : Option Maturity) (order_qty : Option 
       cell_fields (Tag 207, value_at 207 fields) ++ (
       cell_fields (Tag 54, value_at 54 fields) ++ (
       cell_fields (Tag 60, value_at 60 fields) ++ (
-      cell_fields (Tag 38, option_map dec_text order_qty) ++ (
+      cell_fields (Tag 38, option_map dec_text (dec_at 38 fields)) ++ (
       cell_fields (Tag 58, value_at 58 fields) ++ (
       [])))))))))))))))))
       ≡ content (table50 70 requests50.cancel_request)
-      (said50.cancel_says (cancel50 fields maturity order_qty))
+      (said50.cancel_says (cancel50 fields maturity))
   cancel_content g lines lines_are =
       let t = (table42 70 requests42.cancel_request) in
       λ i.
@@ -224,7 +225,7 @@ module _ (fields : List Field) (maturity : Option Maturity) (order_qty : Option 
       cell_fields (Tag 207, id_at t fields g 207 refl i) ++ (
       cell_fields (Tag 54, the_code t fields g 14 54 (codes "123456") refl refl i) ++ (
       cell_fields (Tag 60, the_stamp t fields g 15 60 refl refl i) ++ (
-      cell_fields (Tag 38, option_map dec_text order_qty) ++ (
+      cell_fields (Tag 38, qty_stands t fields g Optional 38 refl refl i) ++ (
       cell_fields (Tag 58, text_at t fields g 58 Text refl refl i) ++ (
       [])))))))))))))))))
 
@@ -304,7 +305,7 @@ module _ (fields : List Field) (o : Order) where
       cell_fields (Tag 64, value_at 64 fields) ++ (
       cell_fields (Tag 21, value_at 21 fields) ++ (
       cell_fields (Tag 18, value_at 18 fields) ++ (
-      cell_fields (Tag 110, option_map dec_text o.min_qty) ++ (
+      cell_fields (Tag 110, option_map dec_text (dec_at 110 fields)) ++ (
       cell_fields (Tag 1138, option_map dec_text o.max_floor) ++ (
       cell_fields (Tag 100, value_at 100 fields) ++ (
       group_fields 386 (map session_cells o.sessions) ++ (
@@ -319,10 +320,10 @@ module _ (fields : List Field) (o : Order) where
       cell_fields (Tag 54, value_at 54 fields) ++ (
       cell_fields (Tag 114, value_at 114 fields) ++ (
       cell_fields (Tag 60, value_at 60 fields) ++ (
-      cell_fields (Tag 38, option_map dec_text o.order_qty) ++ (
+      cell_fields (Tag 38, option_map dec_text (dec_at 38 fields)) ++ (
       cell_fields (Tag 40, Some (code_text o.terms.ord_type)) ++ (
-      cell_fields (Tag 44, option_map dec_text o.price) ++ (
-      cell_fields (Tag 99, option_map dec_text o.stop_px) ++ (
+      cell_fields (Tag 44, option_map dec_text (dec_at 44 fields)) ++ (
+      cell_fields (Tag 99, option_map dec_text (dec_at 99 fields)) ++ (
       cell_fields (Tag 15, value_at 15 fields) ++ (
       cell_fields (Tag 59, option_map code_text o.terms.time_in_force) ++ (
       cell_fields (Tag 168, value_at 168 fields) ++ (
@@ -335,7 +336,8 @@ module _ (fields : List Field) (o : Order) where
       ≡ content (table50 68 requests50.new_order) (said50.new_says (new50 fields o))
   new_content g h =
       let t = (table42 68 requests42.new_order) in
-      let the_qty = qty_there o.order_qty _ h.order_qty
+      let the_qty = qty_stands t fields g Required 38 refl refl
+      ∙ qty_there (qty_at 38 fields) _ (qty_at_said fields 38)
       (says t fields g 25 38 (Value Qty) refl refl) in
       λ i.
       cell_fields (Tag 11, the_id t fields g 0 11 refl refl i) ++ (
@@ -346,7 +348,7 @@ module _ (fields : List Field) (o : Order) where
       cell_fields (Tag 64, day_at t fields g 64 refl i) ++ (
       cell_fields (Tag 21, the_code t fields g 8 21 (codes "123") refl refl i) ++ (
       cell_fields (Tag 18, text_at t fields g 18 (Codes (codes "123456G")) refl refl i) ++ (
-      cell_fields (Tag 110, option_map dec_text o.min_qty) ++ (
+      cell_fields (Tag 110, qty_stands t fields g Optional 110 refl refl i) ++ (
       cell_fields (Tag 1138, option_map dec_text o.max_floor) ++ (
       cell_fields (Tag 100, id_at t fields g 100 refl i) ++ (
       group_fields 386 (map session_cells o.sessions) ++ (
@@ -363,8 +365,8 @@ module _ (fields : List Field) (o : Order) where
       cell_fields (Tag 60, the_stamp t fields g 24 60 refl refl i) ++ (
       cell_fields (Tag 38, the_qty i) ++ (
       cell_fields (Tag 40, Some (code_text o.terms.ord_type)) ++ (
-      cell_fields (Tag 44, option_map dec_text o.price) ++ (
-      cell_fields (Tag 99, option_map dec_text o.stop_px) ++ (
+      cell_fields (Tag 44, option_map dec_text (dec_at 44 fields)) ++ (
+      cell_fields (Tag 99, option_map dec_text (dec_at 99 fields)) ++ (
       cell_fields (Tag 15, text_at t fields g 15 Currency refl refl i) ++ (
       cell_fields (Tag 59, option_map code_text o.terms.time_in_force) ++ (
       cell_fields (Tag 168, stamp_at t fields g 168 refl i) ++ (
@@ -456,7 +458,7 @@ module _ (fields : List Field) (o : Order) where
       cell_fields (Tag 64, value_at 64 fields) ++ (
       cell_fields (Tag 21, value_at 21 fields) ++ (
       cell_fields (Tag 18, value_at 18 fields) ++ (
-      cell_fields (Tag 110, option_map dec_text o.min_qty) ++ (
+      cell_fields (Tag 110, option_map dec_text (dec_at 110 fields)) ++ (
       cell_fields (Tag 1138, option_map dec_text o.max_floor) ++ (
       cell_fields (Tag 100, value_at 100 fields) ++ (
       group_fields 386 (map session_cells o.sessions) ++ (
@@ -471,10 +473,10 @@ module _ (fields : List Field) (o : Order) where
       cell_fields (Tag 54, value_at 54 fields) ++ (
       cell_fields (Tag 114, value_at 114 fields) ++ (
       cell_fields (Tag 60, value_at 60 fields) ++ (
-      cell_fields (Tag 38, option_map dec_text o.order_qty) ++ (
+      cell_fields (Tag 38, option_map dec_text (dec_at 38 fields)) ++ (
       cell_fields (Tag 40, Some (code_text o.terms.ord_type)) ++ (
-      cell_fields (Tag 44, option_map dec_text o.price) ++ (
-      cell_fields (Tag 99, option_map dec_text o.stop_px) ++ (
+      cell_fields (Tag 44, option_map dec_text (dec_at 44 fields)) ++ (
+      cell_fields (Tag 99, option_map dec_text (dec_at 99 fields)) ++ (
       cell_fields (Tag 15, value_at 15 fields) ++ (
       cell_fields (Tag 59, option_map code_text o.terms.time_in_force) ++ (
       cell_fields (Tag 168, value_at 168 fields) ++ (
@@ -487,7 +489,8 @@ module _ (fields : List Field) (o : Order) where
       ≡ content (table50 71 requests50.replace_request) (said50.replace_says (replace50 fields o))
   replace_content g h =
       let t = (table42 71 requests42.replace_request) in
-      let the_qty = qty_there o.order_qty _ h.order_qty
+      let the_qty = qty_stands t fields g Required 38 refl refl
+      ∙ qty_there (qty_at 38 fields) _ (qty_at_said fields 38)
       (says t fields g 27 38 (Value Qty) refl refl) in
       λ i.
       cell_fields (Tag 11, the_id t fields g 0 11 refl refl i) ++ (
@@ -500,7 +503,7 @@ module _ (fields : List Field) (o : Order) where
       cell_fields (Tag 64, day_at t fields g 64 refl i) ++ (
       cell_fields (Tag 21, the_code t fields g 10 21 (codes "123") refl refl i) ++ (
       cell_fields (Tag 18, text_at t fields g 18 (Codes (codes "123456G")) refl refl i) ++ (
-      cell_fields (Tag 110, option_map dec_text o.min_qty) ++ (
+      cell_fields (Tag 110, qty_stands t fields g Optional 110 refl refl i) ++ (
       cell_fields (Tag 1138, option_map dec_text o.max_floor) ++ (
       cell_fields (Tag 100, id_at t fields g 100 refl i) ++ (
       group_fields 386 (map session_cells o.sessions) ++ (
@@ -517,8 +520,8 @@ module _ (fields : List Field) (o : Order) where
       cell_fields (Tag 60, the_stamp t fields g 26 60 refl refl i) ++ (
       cell_fields (Tag 38, the_qty i) ++ (
       cell_fields (Tag 40, Some (code_text o.terms.ord_type)) ++ (
-      cell_fields (Tag 44, option_map dec_text o.price) ++ (
-      cell_fields (Tag 99, option_map dec_text o.stop_px) ++ (
+      cell_fields (Tag 44, option_map dec_text (dec_at 44 fields)) ++ (
+      cell_fields (Tag 99, option_map dec_text (dec_at 99 fields)) ++ (
       cell_fields (Tag 15, text_at t fields g 15 Currency refl refl i) ++ (
       cell_fields (Tag 59, option_map code_text o.terms.time_in_force) ++ (
       cell_fields (Tag 168, stamp_at t fields g 168 refl i) ++ (

@@ -1,17 +1,17 @@
 -- The requests of FIX 4.2 that fields at no fault say.
-use Rattle.std.proofs.Common.{◌≡◌, ℕ, List, Option, Some, None, refl, codes, option_map}
+use Rattle.std.proofs.Common.{◌≡◌, ℕ, List, Option, Some, None, refl, codes}
 use Rattle.std.proofs.Common.{unwrap_or}
 use Rattle.std.specs.Prelude.{IfSome}
-use Rattle.typed_fields.specs.declared.dec.Dec.{Dec}
 use Rattle.typed_fields.specs.Dec.{dec_text}
 use Rattle.value_kinds.specs.CodeKinds.{code_text}
-use Rattle.value_kinds.specs.ValueKind.{Text, Codes, Word, Currency, Qty}
+use Rattle.value_kinds.specs.ValueKind.{Text, Codes, Word, Currency}
 use Rattle.field_groups.specs.Field.{Field}
 use Rattle.message_tables.specs.Tables.{Said}
 use Rattle.row_values.specs.declared.lines.Maturity.{Maturity}
-use Rattle.row_values.specs.Kinds.{Value, said, resend_of}
+use Rattle.row_values.specs.Kinds.{resend_of}
 use Rattle.row_values.specs.Maturity.{IsMaturity}
-use Rattle.row_values.proofs.Texts.{day_said, flag_said, stamp_said}
+use Rattle.row_values.specs.Writing.{dec_at, qty_at}
+use Rattle.row_values.proofs.Texts.{day_said, flag_said, price_said, qty_at_said, stamp_said}
 use Rattle.dict_fix42.specs.Reading.{IsNew, IsCancel, IsReplace, IsStatus}
 use Rattle.dict_fix42.specs.declared.requests.New42.{New42}
 use Rattle.dict_fix42.specs.declared.requests.Cancel42.{Cancel42}
@@ -22,7 +22,8 @@ use Rattle.request_translate.specs.FromFields.{IsOrderOf, code, code_if, day_if,
 use Rattle.request_translate.specs.FromFields.{id_if, security_types, stamp, stamp_if, text_if}
 use Rattle.request_translate.specs.FromFields.{zero}
 use Rattle.request_translate.specs.Writing.{AreTermsOf}
-use Rattle.request_translate.proofs.AsTheyStand.{code_is, full_code, full_stamp, said_or}
+use Rattle.sound_messages.proofs.AsTheyStand.{said_or}
+use Rattle.request_translate.proofs.AsTheyStand.{code_is, full_code, full_stamp}
 
 full_is : (text : Said) (code : ℕ) → Some (code_text code) ≡ text
     → IfSome text (λ t. t ≡ code_text code)
@@ -66,7 +67,7 @@ module _ (fields : List Field) (maturity : Option Maturity) where
     side = full_code fields 54 (codes "123456");
   }
 
-module _ (fields : List Field) (maturity : Option Maturity) (order_qty : Option Dec) where
+module _ (fields : List Field) (maturity : Option Maturity) where
   abbrev pub cancel42 : Cancel42
   cancel42 = record {
     resend = resend_of fields;
@@ -85,14 +86,12 @@ module _ (fields : List Field) (maturity : Option Maturity) (order_qty : Option 
     security_exchange = id_if fields 207;
     side = code fields 54 (codes "123456");
     transact_time = stamp fields 60;
-    order_qty = order_qty;
+    order_qty = qty_at 38 fields;
     text = text_if fields 58 Text;
   }
 
-  pub cancel_says : IsMaturity fields maturity
-      → option_map dec_text order_qty ≡ said fields 38 (Value Qty)
-      → IsCancel fields cancel42
-  cancel_says m q = record {
+  pub cancel_says : IsMaturity fields maturity → IsCancel fields cancel42
+  cancel_says m = record {
     resend = refl;
     cl_ord_id = refl;
     orig_id = refl;
@@ -109,7 +108,7 @@ module _ (fields : List Field) (maturity : Option Maturity) (order_qty : Option 
     security_exchange = refl;
     side = full_code fields 54 (codes "123456");
     transact_time = full_stamp fields 60;
-    order_qty = q;
+    order_qty = qty_at_said fields 38;
     text = refl;
   }
 
@@ -127,7 +126,7 @@ new42 fields o t = record {
   settl_date = day_if fields 64;
   hand_inst = code fields 21 (codes "123");
   exec_inst = text_if fields 18 (Codes (codes "123456G"));
-  min_qty = o.min_qty;
+  min_qty = qty_at 110 fields;
   max_floor = o.max_floor;
   ex_destination = id_if fields 100;
   sessions = o.sessions;
@@ -141,10 +140,10 @@ new42 fields o t = record {
   side = code fields 54 (codes "123456");
   locate = flag_if fields 114;
   transact_time = stamp fields 60;
-  order_qty = unwrap_or o.order_qty zero;
+  order_qty = unwrap_or (qty_at 38 fields) zero;
   ord_type = t.ord_type;
-  price = o.price;
-  stop_px = o.stop_px;
+  price = dec_at 44 fields;
+  stop_px = dec_at 99 fields;
   currency = text_if fields 15 Currency;
   time_in_force = t.time;
   effective_time = stamp_if fields 168;
@@ -169,7 +168,7 @@ module _ (fields : List Field) (o : Order) where
     settl_date = day_said fields 64;
     hand_inst = full_code fields 21 (codes "123");
     exec_inst = refl;
-    min_qty = h.min_qty;
+    min_qty = qty_at_said fields 110;
     max_floor = h.max_floor;
     ex_destination = refl;
     sessions = h.sessions;
@@ -183,10 +182,10 @@ module _ (fields : List Field) (o : Order) where
     side = full_code fields 54 (codes "123456");
     locate = flag_said fields 114;
     transact_time = full_stamp fields 60;
-    order_qty = said_or dec_text o.order_qty zero _ h.order_qty;
+    order_qty = said_or dec_text (qty_at 38 fields) zero _ (qty_at_said fields 38);
     ord_type = full_is _ _ h.terms.type_is;
-    price = h.price;
-    stop_px = h.stop_px;
+    price = price_said fields 44;
+    stop_px = price_said fields 99;
     currency = refl;
     time_in_force = h.terms.time_is;
     effective_time = stamp_said fields 168;
@@ -212,7 +211,7 @@ replace42 fields o t = record {
   settl_date = day_if fields 64;
   hand_inst = code fields 21 (codes "123");
   exec_inst = text_if fields 18 (Codes (codes "123456G"));
-  min_qty = o.min_qty;
+  min_qty = qty_at 110 fields;
   max_floor = o.max_floor;
   ex_destination = id_if fields 100;
   sessions = o.sessions;
@@ -226,10 +225,10 @@ replace42 fields o t = record {
   side = code fields 54 (codes "123456");
   locate = flag_if fields 114;
   transact_time = stamp fields 60;
-  order_qty = unwrap_or o.order_qty zero;
+  order_qty = unwrap_or (qty_at 38 fields) zero;
   ord_type = t.ord_type;
-  price = o.price;
-  stop_px = o.stop_px;
+  price = dec_at 44 fields;
+  stop_px = dec_at 99 fields;
   currency = text_if fields 15 Currency;
   time_in_force = t.time;
   effective_time = stamp_if fields 168;
@@ -257,7 +256,7 @@ module _ (fields : List Field) (o : Order) where
     settl_date = day_said fields 64;
     hand_inst = full_code fields 21 (codes "123");
     exec_inst = refl;
-    min_qty = h.min_qty;
+    min_qty = qty_at_said fields 110;
     max_floor = h.max_floor;
     ex_destination = refl;
     sessions = h.sessions;
@@ -271,10 +270,10 @@ module _ (fields : List Field) (o : Order) where
     side = full_code fields 54 (codes "123456");
     locate = flag_said fields 114;
     transact_time = full_stamp fields 60;
-    order_qty = said_or dec_text o.order_qty zero _ h.order_qty;
+    order_qty = said_or dec_text (qty_at 38 fields) zero _ (qty_at_said fields 38);
     ord_type = full_is _ _ h.terms.type_is;
-    price = h.price;
-    stop_px = h.stop_px;
+    price = price_said fields 44;
+    stop_px = price_said fields 99;
     currency = refl;
     time_in_force = h.terms.time_is;
     effective_time = stamp_said fields 168;

@@ -13,7 +13,7 @@ use Rattle.typed_fields.specs.Day.{read_day}
 use Rattle.typed_fields.specs.Stamp.{read_stamp}
 use Rattle.typed_fields.specs.Flag.{read_flag}
 use Rattle.value_kinds.specs.ValueKind.{ValueKind, Id, Text, Code, Codes, Word, Currency}
-use Rattle.value_kinds.specs.ValueKind.{Price, Qty}
+use Rattle.value_kinds.specs.ValueKind.{Qty}
 use Rattle.field_groups.specs.declared.fault.SplitFault.{SplitFault}
 use Rattle.field_groups.specs.Field.{Field, body_of}
 use Rattle.message_tables.specs.Tables.{Said, ◌>>=◌, code_of, value_at}
@@ -22,6 +22,7 @@ use Rattle.row_values.specs.Groups.{AreAllocs, AreSessions}
 use Rattle.row_values.specs.Lines.{AreReadableAllocs, IsReadableMaturity}
 use Rattle.row_values.specs.Maturity.{IsMaturity}
 use Rattle.row_values.specs.declared.lines.Maturity.{Maturity}
+use Rattle.row_values.specs.Writing.{dec_at, qty_at}
 use Rattle.dict_fix50.specs.declared.requests.New50.{New50}
 use Rattle.dict_fix50.specs.declared.requests.Cancel50.{Cancel50}
 use Rattle.dict_fix50.specs.declared.requests.Replace50.{Replace50}
@@ -79,23 +80,15 @@ pub record IsOrderOf (fields : List Field) (o : Order) : Type 0 where
       ≡ parties_up (id_if fields 109) (id_if fields 76) (id_if fields 439)
   pub allocs : AreAllocs fields o.allocs
   pub sessions : AreSessions fields o.sessions
-  pub min_qty : option_map dec_text o.min_qty ≡ said fields 110 (Value Qty)
   pub max_floor : option_map dec_text o.max_floor ≡ said fields 111 (Value Qty)
   pub maturity : IsMaturity fields o.maturity
-  pub order_qty : option_map dec_text o.order_qty ≡ said fields 38 (Value Qty)
-  pub price : option_map dec_text o.price ≡ said fields 44 (Value Price)
-  pub stop_px : option_map dec_text o.stop_px ≡ said fields 99 (Value Price)
   pub terms : AreTermsOf fields o.terms
 
 -- and can be written
 pub record IsReadableOrder (o : Order) : Type 0 where
   pub allocs : AreReadableAllocs o.allocs
-  pub min_qty : IfSome o.min_qty IsDec
   pub max_floor : IfSome o.max_floor IsDec
   pub maturity : IfSome o.maturity IsReadableMaturity
-  pub order_qty : IfSome o.order_qty IsDec
-  pub price : IfSome o.price IsDec
-  pub stop_px : IfSome o.stop_px IsDec
 
 -- the content of a request that means what these fields mean is appended
 pub record Appends (fields : List Field) (stopped : Option SplitFault) (before after : List ℕ)
@@ -124,7 +117,6 @@ module _ (fields : List Field) (maturity : Option Maturity) where
     side = code fields 54 (codes "123456");
   }
 
-module _ (fields : List Field) (maturity : Option Maturity) (order_qty : Option Dec) where
   abbrev pub cancel50 : Cancel50
   cancel50 = record {
     resend = resend_of fields;
@@ -142,7 +134,7 @@ module _ (fields : List Field) (maturity : Option Maturity) (order_qty : Option 
     security_exchange = id_if fields 207;
     side = code fields 54 (codes "123456");
     transact_time = stamp fields 60;
-    order_qty = order_qty;
+    order_qty = qty_at 38 fields;
     text = text_if fields 58 Text;
   }
 
@@ -159,7 +151,7 @@ new50 fields o = record {
   settl_date = day_if fields 64;
   hand_inst = code fields 21 (codes "123");
   exec_inst = text_if fields 18 (Codes (codes "123456G"));
-  min_qty = o.min_qty;
+  min_qty = qty_at 110 fields;
   max_floor = o.max_floor;
   ex_destination = id_if fields 100;
   sessions = o.sessions;
@@ -173,10 +165,10 @@ new50 fields o = record {
   side = code fields 54 (codes "123456");
   locate = flag_if fields 114;
   transact_time = stamp fields 60;
-  order_qty = unwrap_or o.order_qty zero;
+  order_qty = unwrap_or (qty_at 38 fields) zero;
   ord_type = o.terms.ord_type;
-  price = o.price;
-  stop_px = o.stop_px;
+  price = dec_at 44 fields;
+  stop_px = dec_at 99 fields;
   currency = text_if fields 15 Currency;
   time_in_force = o.terms.time_in_force;
   effective_time = stamp_if fields 168;
@@ -200,7 +192,7 @@ replace50 fields o = record {
   settl_date = day_if fields 64;
   hand_inst = code fields 21 (codes "123");
   exec_inst = text_if fields 18 (Codes (codes "123456G"));
-  min_qty = o.min_qty;
+  min_qty = qty_at 110 fields;
   max_floor = o.max_floor;
   ex_destination = id_if fields 100;
   sessions = o.sessions;
@@ -214,10 +206,10 @@ replace50 fields o = record {
   side = code fields 54 (codes "123456");
   locate = flag_if fields 114;
   transact_time = stamp fields 60;
-  order_qty = unwrap_or o.order_qty zero;
+  order_qty = unwrap_or (qty_at 38 fields) zero;
   ord_type = o.terms.ord_type;
-  price = o.price;
-  stop_px = o.stop_px;
+  price = dec_at 44 fields;
+  stop_px = dec_at 99 fields;
   currency = text_if fields 15 Currency;
   time_in_force = o.terms.time_in_force;
   effective_time = stamp_if fields 168;

@@ -1,10 +1,10 @@
 //! Writing a request of FIX 5.0 SP2 straight from the fields of a request of FIX 4.2: texts, codes,
-//! days and moments stand as they are, since each has one spelling. What is spelled otherwise is
+//! days and moments stand as they are, since each has one spelling, and so do most decimal numbers,
+//! which are spelled anew where they are not in their canonical spelling. What is said otherwise is
 //! read first.
 
 ghost use Rattle.std.specs.Prelude.{◌≡◌, ◌≤◌, IfErr, IfOk, IfSome, None, OnOk, Some, length};
 ghost use Rattle.std.specs.List.{AllByRecursion, flat_map};
-ghost use Rattle.typed_fields.specs.Dec.{IsDec};
 ghost use Rattle.field_groups.specs.Field.{AreFields};
 ghost use Rattle.message_tables.specs.Content.{content};
 ghost use Rattle.message_tables.specs.FirstFault.{first_fault};
@@ -31,8 +31,7 @@ use crate::parts::{Terms, parties_in};
 use field_groups::Fields;
 use order_meaning::Lines;
 use row_values::{
-    Allocs, Maturity, Part, Sessions, Value, month_and_day, price, put_content, qty, read_lines,
-    text,
+    Allocs, Maturity, Part, Sessions, Value, month_and_day, put_content, qty, read_lines, text,
 };
 use std::alloc::{AllocError, Global};
 use translation::{TranslateError, msg_type};
@@ -95,15 +94,13 @@ fn cancel_parts<'a>(
     fields: &'a Fields<'a>,
     parties: &'a Lines,
     maturity: &'a Option<Maturity>,
-    order_qty: &'a Option<Dec>,
 ) -> [Part<'a>; 17]
     requires good { first_fault judge (table42 70 requests42.cancel_request) fields.now ≡ None }
     requires parties { parties.now ≡ parties_up (id_if fields.now 109) (id_if fields.now 76) None }
     requires maturity { IfSome maturity.now IsReadableMaturity }
-    requires order_qty { IfSome order_qty.now IsDec }
     ensures parts { AllByRecursion IsPart result }
     ensures content { flat_map part_fields result ≡ content (table50 70 requests50.cancel_request)
-        (said50.cancel_says (cancel50 fields.now maturity.now order_qty.now)) }
+        (said50.cancel_says (cancel50 fields.now maturity.now)) }
 {
     [
         Part::Same(fields, 11),
@@ -121,7 +118,7 @@ fn cancel_parts<'a>(
         Part::Same(fields, 207),
         Part::Same(fields, 54),
         Part::Same(fields, 60),
-        Part::Row(38, Value::DecIf(order_qty)),
+        Part::Dec(fields, 38),
         Part::Same(fields, 58),
     ]
 }
@@ -136,8 +133,7 @@ fn put_cancel(alloc: Global, fields: &Fields<'_>, out: &mut Vec<u8>) -> Result<(
 {
     let parties = two_parties(alloc, fields)?;
     let maturity = month_and_day(fields);
-    let order_qty = qty(fields, 38);
-    put_content(out, &cancel_parts(fields, &parties, &maturity, &order_qty))
+    put_content(out, &cancel_parts(fields, &parties, &maturity))
 }
 
 /// What FIX 5.0 SP2 spells otherwise of an order, or may, and its groups.
@@ -149,18 +145,10 @@ struct Order {
     allocs: Allocs,
     /// TrdgSesGrp(386).
     sessions: Sessions,
-    /// MinQty(110).
-    min_qty: Option<Dec>,
     /// DisplayQty(1138); MaxFloor(111) of FIX 4.2.
     max_floor: Option<Dec>,
     /// MaturityMonthYear(200), and MaturityDate(541) where it has a day.
     maturity: Option<Maturity>,
-    /// OrderQty(38).
-    order_qty: Option<Dec>,
-    /// Price(44).
-    price: Option<Dec>,
-    /// StopPx(99).
-    stop_px: Option<Dec>,
     /// OrdType(40), TimeInForce(59) and OrderCapacity(528).
     terms: Terms,
 }
@@ -183,12 +171,8 @@ fn read_order(alloc: Global, fields: &Fields<'_>, terms: Terms) -> Result<Order,
         )?,
         allocs: read_lines(alloc, fields)?,
         sessions: read_lines(alloc, fields)?,
-        min_qty: qty(fields, 110),
         max_floor: qty(fields, 111),
         maturity: month_and_day(fields),
-        order_qty: qty(fields, 38),
-        price: price(fields, 44),
-        stop_px: price(fields, 99),
         terms,
     })
 }
@@ -207,7 +191,7 @@ macro_rules! order_parts {
             Part::Same($fields, 64),
             Part::Same($fields, 21),
             Part::Same($fields, 18),
-            Part::Row(110, Value::DecIf(&$o.min_qty)),
+            Part::Dec($fields, 110),
             Part::Row(1138, Value::DecIf(&$o.max_floor)),
             Part::Same($fields, 100),
             Part::Sessions(&$o.sessions),
@@ -222,10 +206,10 @@ macro_rules! order_parts {
             Part::Same($fields, 54),
             Part::Same($fields, 114),
             Part::Same($fields, 60),
-            Part::Row(38, Value::DecIf(&$o.order_qty)),
+            Part::Dec($fields, 38),
             Part::Row(40, Value::Code($o.terms.ord_type)),
-            Part::Row(44, Value::DecIf(&$o.price)),
-            Part::Row(99, Value::DecIf(&$o.stop_px)),
+            Part::Dec($fields, 44),
+            Part::Dec($fields, 99),
             Part::Same($fields, 15),
             Part::Row(59, Value::CodeIf($o.terms.time_in_force)),
             Part::Same($fields, 168),

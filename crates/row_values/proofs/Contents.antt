@@ -3,12 +3,19 @@ use Rattle.std.proofs.Common.{◌≡◌, ℕ, ◌+◌, List, [], ◌∷◌, ◌+
 use Rattle.std.proofs.Common.{ap, ◌∙◌, append_assoc, arith, ◌≤◌, take}
 use Rattle.std.proofs.lemmas.List.{length-append, length-map, take-take, take_all}
 use Rattle.std.proofs.Math.Seq.{take-append_seam}
+use Rattle.std.specs.Prelude.{Result, Ok}
+use Rattle.std.specs.Option.{option_map}
+use Rattle.std.specs.Result.{result_ok}
 use Rattle.std.specs.Io.{StartsWith}
+use Rattle.typed_fields.specs.declared.dec.Dec.{Dec}
+use Rattle.typed_fields.specs.declared.fault.FieldFault.{FieldFault}
+use Rattle.typed_fields.specs.Dec.{dec_text, read_dec}
 use Rattle.std.specs.List.{AllByRecursion, flat_map}
 use Rattle.std.specs.Fmt.{decimal}
 use Rattle.field_groups.specs.Field.{Field, body_of, field_bytes}
-use Rattle.message_tables.specs.Tables.{Cell}
-use Rattle.message_tables.specs.Content.{line_fields, group_fields}
+use Rattle.field_groups.proofs.Front.{field_apart}
+use Rattle.message_tables.specs.Tables.{Cell, Tag}
+use Rattle.message_tables.specs.Content.{cell_fields, line_fields, group_fields}
 use Rattle.row_values.specs.Writing.{count_fields}
 
 pub body-append : (xs ys : List Field) → body_of (xs ++ ys) ≡ body_of xs ++ body_of ys
@@ -51,6 +58,23 @@ group_done {L} cells tag old out lines now i h le same =
     ∙ append_assoc old count (written lines)
     ∙ ap (λ (bytes : List ℕ). old ++ bytes) (group_written cells tag lines)
     ∙ ap (λ (ls : List L). old ++ body_of (group_fields tag (map cells ls))) same
+
+-- the field of a number that was read, once its tag, its spelling and SOH are appended
+pub dec_appended : (tag : ℕ) (value before tagged spelled out : List ℕ) (dec : Dec)
+    → read_dec value ≡ Ok dec → tagged ≡ before ++ decimal tag ++ 61 ∷ []
+    → spelled ≡ tagged ++ dec_text dec → out ≡ spelled ++ 1 ∷ []
+    → out ≡ before
+    ++ body_of (cell_fields (Tag tag, option_map dec_text (result_ok (read_dec value))))
+dec_appended tag value before tagged spelled out dec is begun done ended =
+    let text = dec_text dec in
+    let last = text ++ 1 ∷ [] in
+    ended ∙ ap (λ (l : List ℕ). l ++ 1 ∷ []) (done ∙ ap (λ (l : List ℕ). l ++ text) begun)
+    ∙ append_assoc (before ++ decimal tag ++ 61 ∷ []) text (1 ∷ [])
+    ∙ append_assoc (before ++ decimal tag) (61 ∷ []) last
+    ∙ append_assoc before (decimal tag) (61 ∷ last)
+    ∙ ap (λ (l : List ℕ). before ++ l) (sym (field_apart (tag, text) []))
+    ∙ ap (λ (r : Result Dec FieldFault).
+    before ++ body_of (cell_fields (Tag tag, option_map dec_text (result_ok r)))) (sym is)
 
 -- nothing is asked of the lines
 pub nothing_asked : {L : Type 0} (lines : List L) → AllByRecursion (λ _. Unit {0}) lines

@@ -1,9 +1,12 @@
 -- Inside: the parts in which a content is written.
 use Rattle.std.specs.Prelude.{ℕ, ◌++◌, zero, suc, List, [], ◌∷◌, map, Option, Some, IfSome}
-use Rattle.std.specs.Prelude.{option_and_then}
+use Rattle.std.specs.Prelude.{None, not, option_and_then, if◌then◌else◌}
+use Rattle.std.specs.Int.{is_negative}
 use Rattle.std.specs.Option.{option_map}
 use Rattle.std.specs.Fmt.{decimal}
-use Rattle.typed_fields.specs.Dec.{dec_text, IsDec}
+use Rattle.std.specs.Result.{result_ok}
+use Rattle.typed_fields.specs.declared.dec.Dec.{Dec}
+use Rattle.typed_fields.specs.Dec.{dec_text, read_dec, IsDec}
 use Rattle.typed_fields.specs.Day.{day_text, IsDay}
 use Rattle.typed_fields.specs.Digits.{zero_padded}
 use Rattle.typed_fields.specs.Stamp.{stamp_text, IsStamp}
@@ -61,9 +64,22 @@ IsValue (values.Month maturity) = IfSome maturity.now IsReadableMaturity
 IsValue (values.Date maturity) = IfSome maturity.now IsReadableMaturity
 IsValue value = Unit {0}
 
+-- the decimal number that the first field with a tag spells, if it spells one
+abbrev pub dec_at : ℕ → List Field → Option Dec
+dec_at tag fields = option_and_then (λ bytes. result_ok (read_dec bytes)) (value_at tag fields)
+
+-- and the quantity, which is a number that is not negative
+abbrev pub not_negative : Dec → Option Dec
+not_negative dec = if not (is_negative dec.units) then Some dec else None
+
+abbrev pub qty_at : ℕ → List Field → Option Dec
+qty_at tag fields = option_and_then not_negative (dec_at tag fields)
+
 abbrev pub part_fields : Part → List Field
 part_fields (parts.Row tag value) = cell_fields (Tag tag, value_text value)
 part_fields (parts.Same fields tag) = cell_fields (Tag tag, value_at tag fields.now)
+part_fields (parts.Dec fields tag) =
+    cell_fields (Tag tag, option_map dec_text (dec_at tag fields.now))
 part_fields (parts.Parties lines) = group_fields 453 (map party_cells lines.now)
 part_fields (parts.Allocs lines) = group_fields 78 (map alloc_cells lines.now)
 part_fields (parts.Sessions lines) = group_fields 386 (map session_cells lines.now)
@@ -72,6 +88,7 @@ part_fields (parts.Contras lines) = group_fields 382 (map contra_cells lines.now
 abbrev pub IsPart : Part → Type 0
 IsPart (parts.Row tag value) = IsValue value
 IsPart (parts.Same fields tag) = Unit {0}
+IsPart (parts.Dec fields tag) = Unit {0}
 IsPart (parts.Parties lines) = AreReadableParties lines.now
 IsPart (parts.Allocs lines) = AreReadableAllocs lines.now
 IsPart (parts.Sessions lines) = Unit {0}

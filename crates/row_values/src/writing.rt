@@ -5,6 +5,8 @@ ghost use Rattle.std.specs.Prelude.{option_and_then};
 ghost use Rattle.std.specs.List.{AllByRecursion, flat_map};
 ghost use Rattle.std.specs.Option.{option_map};
 ghost use Rattle.std.specs.Io.{StartsWith};
+ghost use Rattle.std.specs.Result.{result_ok};
+ghost use Rattle.typed_fields.specs.Dec.{dec_text, read_dec};
 ghost use Rattle.typed_fields.specs.Digits.{zero_padded};
 ghost use Rattle.typed_fields.specs.MonthYear.{IsMonthYear, month_year_text};
 ghost use Rattle.field_groups.specs.Field.{body_of, field_bytes};
@@ -13,7 +15,7 @@ ghost use Rattle.message_tables.specs.Content.{cell_fields, group_fields};
 ghost use Rattle.value_kinds.specs.CodeKinds.{two_digit_text};
 ghost use Rattle.row_values.specs.Lines.{IsReadableMaturity, month_text};
 ghost use Rattle.row_values.specs.Writing.{IsPart, IsValue, count_fields, date_text};
-ghost use Rattle.row_values.specs.Writing.{month_day_text, part_fields, value_text};
+ghost use Rattle.row_values.specs.Writing.{dec_at, month_day_text, part_fields, value_text};
 
 use crate::contras::Contras;
 use crate::lines::{Allocs, GroupLine, Maturity, Sessions};
@@ -66,6 +68,9 @@ pub enum Part<'a> {
     Row(u32, Value<'a>),
     /// The first of these fields with a tag, as it stands, if there is one.
     Same(&'a Fields<'a>, u32),
+    /// The decimal number that the first of these fields with a tag spells, if it spells one, in its
+    /// canonical spelling.
+    Dec(&'a Fields<'a>, u32),
     /// Parties(453).
     Parties(&'a Lines),
     /// The accounts of an order, (78).
@@ -243,6 +248,36 @@ fn put_same(out: &mut Vec<u8>, fields: &Fields<'_>, tag: u32) -> Appended
     }
 }
 
+/// Appends a field of the decimal number that a value spells, if it spells one.
+#[inline(never)]
+fn put_dec(out: &mut Vec<u8>, tag: u32, value: &[u8]) -> Appended
+    ensures done { OnOk result (out.new.items ≡ out.old.items
+        ++ body_of (cell_fields (Tag tag, option_map dec_text (result_ok (read_dec value.now))))) }
+    ensures kept { StartsWith out.new.items out.old.items }
+{
+    let start = out.len();
+    out.reserve(AROUND + MAX_SPELLING)?;
+    push_tag(out, tag);
+    match Dec::respell(value, out) {
+        Ok(()) => out.push_reserved(SOH),
+        Err(_) => out.truncate(start),
+    }
+    Ok(())
+}
+
+/// Appends the decimal number that the first of these fields with a tag spells, if it spells one.
+#[inline(always)]
+fn put_respelled(out: &mut Vec<u8>, fields: &Fields<'_>, tag: u32) -> Appended
+    ensures done { OnOk result (out.new.items ≡ out.old.items
+        ++ body_of (cell_fields (Tag tag, option_map dec_text (dec_at tag fields.now)))) }
+    ensures kept { StartsWith out.new.items out.old.items }
+{
+    match fields.value(tag) {
+        None => Ok(()),
+        Some(value) => put_dec(out, tag, value),
+    }
+}
+
 /// Appends the count of a group that has lines.
 fn put_count(out: &mut Vec<u8>, tag: u32, count: usize) -> Appended
     requires { count ≤ 32 }
@@ -298,6 +333,7 @@ fn put_part(out: &mut Vec<u8>, part: &Part<'_>) -> Appended
     match part {
         Part::Row(tag, value) => put_row(out, *tag, value),
         Part::Same(fields, tag) => put_same(out, fields, *tag),
+        Part::Dec(fields, tag) => put_respelled(out, fields, *tag),
         Part::Parties(lines) => put_group(out, 453, lines),
         Part::Allocs(lines) => put_group(out, 78, lines),
         Part::Sessions(lines) => put_group(out, 386, lines),

@@ -1,14 +1,18 @@
 -- Values that stand as they are: at no fault, they are their own spelling.
 use Rattle.std.proofs.Common.{◌≡◌, ℕ, List, [], ◌∷◌, Option, Some, None, Bool, true, false, refl}
-use Rattle.std.proofs.Common.{ap}
+use Rattle.std.proofs.Common.{ap, sym, ◌∙◌}
 use Rattle.std.proofs.Common.{option_map, unwrap_or}
-use Rattle.std.specs.Prelude.{IsSome, IfSome, Result, Ok, Err, if◌then◌else◌}
+use Rattle.std.specs.Prelude.{IsSome, IfSome, Result, Ok, Err, if◌then◌else◌, not}
+use Rattle.std.specs.Int.{is_negative}
 use Rattle.typed_fields.specs.declared.fault.FieldFault.{FieldFault}
+use Rattle.typed_fields.specs.declared.fault.FieldFault.TheVariants.{Range}
+use Rattle.typed_fields.specs.declared.dec.Dec.{Dec}
+use Rattle.typed_fields.specs.Dec.{dec_text, read_dec}
 use Rattle.value_kinds.specs.CodeKinds.{code_text}
 use Rattle.value_kinds.specs.ValueKind.{ValueKind, Filled, Id, Text, OneByte, Code, Known, Codes}
 use Rattle.value_kinds.specs.ValueKind.{Word, Currency, Flag, Number, Reason, Qty, Price, Stamp}
 use Rattle.value_kinds.specs.ValueKind.{Day, MonthYear, DayOfMonth, Spelling, spelling, spelt}
-use Rattle.value_kinds.specs.ValueKind.{known, listed_word, is_code}
+use Rattle.value_kinds.specs.ValueKind.{if_in_range, known, listed_word, is_code}
 use Rattle.field_groups.specs.Field.{Field}
 use Rattle.message_tables.specs.TableLaws.{IsStrict}
 use Rattle.message_tables.specs.Tables.{Need, Table, Said, ◌>>=◌, all_rows, code_of, is_one_of}
@@ -17,6 +21,8 @@ use Rattle.message_tables.specs.Tables.{text_of, value_at}
 use Rattle.message_tables.specs.FirstFault.{first_fault}
 use Rattle.message_tables.proofs.Clean.{spells}
 use Rattle.row_values.specs.Kinds.{Kind, Value, judge, said, verdict_of}
+use Rattle.row_values.specs.Writing.{dec_at, qty_at}
+use Rattle.row_values.proofs.Texts.{price_said, qty_at_said}
 use Rattle.sound_messages.proofs.Good.{IsGood, all_good, held}
 
 -- ---- kinds whose values have one spelling, the value itself
@@ -142,6 +148,28 @@ as_is bytes (Ok (Some text)) same there = ap Some (same text refl)
 as_is bytes (Ok None) same there = absurd cc
 as_is bytes (Err fault) same there = absurd cc
 
+-- a quantity that is spelled is spelled as a price is
+positive : (bytes : List ℕ) → IsSome (text_of (verdict_of (spelling Qty bytes)))
+    → text_of (verdict_of (spelling Qty bytes)) ≡ text_of (verdict_of (spelling Price bytes))
+unfolding spelling
+positive [] there = absurd cc
+positive (b ∷ bs) there = by_read (read_dec (b ∷ bs)) there
+  where
+    at : (d : Dec) (good : Bool)
+        → IsSome (text_of (verdict_of (spelt dec_text (if good then Ok d else Err Range))))
+        → text_of (verdict_of (spelt dec_text (if good then Ok d else Err Range)))
+        ≡ Some (dec_text d)
+    at d true there = refl
+    at d false there = absurd cc
+
+    by_read : (r : Result Dec FieldFault)
+        → IsSome (text_of (verdict_of (spelt dec_text
+        (if_in_range (λ d. not (is_negative d.units)) r))))
+        → text_of (verdict_of (spelt dec_text (if_in_range (λ d. not (is_negative d.units)) r)))
+        ≡ text_of (verdict_of (spelt dec_text r))
+    by_read (Ok d) there = at d (not (is_negative d.units)) there
+    by_read (Err fault) there = absurd cc
+
 module _ (table : Table Kind) (fields : List Field)
     (h : first_fault judge table fields ≡ None) where
   pub as_said : (need : Need) (tag : ℕ) (kind : ValueKind) → IsStrict need → is_own kind ≡ true
@@ -160,3 +188,30 @@ module _ (table : Table Kind) (fields : List Field)
           as_is v (spelling kind v) (own kind is v)
           (spells judge table fields need tag (judge fields (Value kind) v) strict
           (rw its at good.0) (rw its at good.1))
+
+  -- a quantity at no fault is said as a price is
+  as_price : (need : Need) (tag : ℕ) → IsStrict need
+      → row_at tag (all_rows table)
+      ≡ Some (record { tag = tag; kind = Value Qty; need = need })
+      → said fields tag (Value Qty) ≡ said fields tag (Value Price)
+  unfolding judge
+  as_price need tag strict its = here (value_at tag fields) refl
+    where
+      here : (o : Option (List ℕ)) → value_at tag fields ≡ o
+          → (o >>= (λ v. text_of (judge fields (Value Qty) v)))
+          ≡ (o >>= (λ v. text_of (judge fields (Value Price) v)))
+      here None at = refl
+      here (Some v) at =
+          let good = held (IsGood judge table fields) tag fields v at
+          (all_good judge table fields h) in
+          positive v
+          (spells judge table fields need tag (judge fields (Value Qty) v) strict
+          (rw its at good.0) (rw its at good.1))
+
+  -- so its number is that of the field
+  pub qty_stands : (need : Need) (tag : ℕ) → IsStrict need
+      → row_at tag (all_rows table)
+      ≡ Some (record { tag = tag; kind = Value Qty; need = need })
+      → option_map dec_text (dec_at tag fields) ≡ option_map dec_text (qty_at tag fields)
+  qty_stands need tag strict its =
+      price_said fields tag ∙ sym (as_price need tag strict its) ∙ sym (qty_at_said fields tag)

@@ -18,7 +18,8 @@ use Rattle.typed_fields.specs.Digits.{are_digits, number_of, zero_padded, withou
 use Rattle.typed_fields.specs.Digits.{without_trailing_zeros, before_others, or_zero}
 use Rattle.typed_fields.specs.Dec.{has_minus, is_point, whole_part, fraction_part, is_dec_form}
 use Rattle.typed_fields.specs.Dec.{whole_digits, fraction_digits, is_dec_bounded, units_of, signed}
-use Rattle.typed_fields.specs.Dec.{read_dec, IsDec, ReadsPlain, sign_text, with_point, dec_text}
+use Rattle.typed_fields.specs.Dec.{read_dec, IsDec, IsCanonical, ReadsPlain, sign_text, with_point}
+use Rattle.typed_fields.specs.Dec.{dec_text}
 use Rattle.typed_fields.specs.Dec.{plain_dec}
 use Rattle.typed_fields.specs.Laws.{ReadsBack, IsPlain, IsStable}
 use Rattle.typed_fields.proofs.DigitsLemmas.{both_true, number_of-append, number_of-lt}
@@ -355,6 +356,15 @@ is_read v d e =
       value = j.value;
     }
 
+-- a number that was read can be read
+pub dec_in_bound : (v : List ℕ) (d : Dec) → read_dec v ≡ Ok d → IsDec d
+dec_in_bound v d e =
+    let r = is_read v d e in
+    subst IsDec r.value
+    (IsDec-units_of (has_minus v) (whole_digits v) (fraction_digits v)
+    (are_digits-leading (whole_part v) r.whole) (are_digits-trailing (fraction_part v) r.fraction)
+    r.few r.places)
+
 pub dec_is_plain : IsPlain read_dec dec_text plain_dec
 dec_is_plain v d e =
     let r = is_read v d e in
@@ -545,6 +555,114 @@ point_plain bytes rest n whole places behind there within some digits is point f
     let same : units_of w f ≡ whole * 10 ^ 8 + behind = rw (is, units, long) refl in
     subst (λ (n : ℕ). ReadsPlain bytes n) same
     (subst (λ (b : List ℕ). ReadsPlain b (units_of w f)) text plain)
+
+-- ---- canonical spellings
+
+-- a digit alone, or digits of which the first is no zero
+pub one_kept : (w : List ℕ) → length w ≡ 1 → or_zero (without_leading_zeros w) ≡ w
+unfolding without_leading_zeros
+one_kept [] e = absurd (omega (arith, e))
+one_kept (c ∷ []) e = by (c == 48) refl
+  where
+    by : (b : Bool) → (c == 48) ≡ b → or_zero (if b then [] else (c ∷ [])) ≡ c ∷ []
+    by true is = let same : c ≡ 48 = grind (arith, nat_tests, is) in rw same refl
+    by false is = refl
+one_kept (c ∷ d ∷ ds) e = absurd (omega (arith, e))
+
+pub leads_kept : (w : List ℕ) → 0 < length w → length (without_leading_zeros w) ≡ length w
+    → or_zero (without_leading_zeros w) ≡ w
+unfolding without_leading_zeros
+leads_kept [] some e = absurd (omega (arith, some))
+leads_kept (c ∷ cs) some e = by (c == 48) (leading_shorter cs) e
+  where
+    by : (b : Bool) → length (without_leading_zeros cs) ≤ length cs
+        → length (if b then without_leading_zeros cs else (c ∷ cs)) ≡ length (c ∷ cs)
+        → or_zero (if b then without_leading_zeros cs else (c ∷ cs)) ≡ c ∷ cs
+    by true shorter e = absurd (omega (arith, shorter, e))
+    by false shorter e = refl
+
+-- digits of which the last is no zero
+pub trails_kept : (f : List ℕ) → length (without_trailing_zeros f) ≡ length f
+    → without_trailing_zeros f ≡ f
+unfolding without_trailing_zeros
+trails_kept [] e = refl
+trails_kept (c ∷ cs) e = by (without_trailing_zeros cs) (trails_kept cs) refl e
+  where
+    alone : (b : Bool) → (ds : List ℕ) → length (if b then [] else (c ∷ [])) ≡ suc (length ds)
+        → (if b then [] else (c ∷ [])) ≡ c ∷ ds
+    alone true ds e = absurd (omega (arith, e))
+    alone false [] e = refl
+    alone false (d ∷ ds) e = absurd (omega (arith, e))
+
+    by : (r : List ℕ)
+        → (length (without_trailing_zeros cs) ≡ length cs → without_trailing_zeros cs ≡ cs)
+        → without_trailing_zeros cs ≡ r
+        → length (before_others c r) ≡ suc (length cs) → before_others c r ≡ c ∷ cs
+    by [] rest is e = alone (c == 48) cs e
+    by (d ∷ ds) rest is e = ap (λ (l : List ℕ). c ∷ l) (sym is ∙ rest (rw is (omega (arith, e))))
+
+spelled_plainly : (w f : List ℕ) → are_digits w ≡ true → 0 < length w
+    → or_zero (without_leading_zeros w) ≡ w → without_trailing_zeros f ≡ f
+    → plain_dec (w ++ with_point f) ≡ w ++ with_point f
+spelled_plainly w f h some lead trail =
+    let p = parts_of false w f h some in
+    (λ i. sign_text (p.minus i
+    && not (length (without_leading_zeros (p.whole i))
+    + length (without_trailing_zeros (p.fraction i)) == 0))
+    ++ or_zero (without_leading_zeros (p.whole i))
+    ++ with_point (without_trailing_zeros (p.fraction i)))
+    ∙ (λ i. lead i ++ with_point (trail i))
+
+-- bytes that are read as they stand, and have no needless one
+canonical : (bytes w f : List ℕ) (units : ℕ) → w ++ with_point f ≡ bytes → ReadsPlain bytes units
+    → are_digits w ≡ true → 0 < length w → or_zero (without_leading_zeros w) ≡ w
+    → without_trailing_zeros f ≡ f → length bytes ≤ 16 → IsCanonical bytes
+canonical bytes w f units is plain h some lead trail short = record {
+  units = units;
+  plain = plain;
+  text = dec_is_plain bytes (record { units = pos units }) plain.value
+      ∙ ap plain_dec (sym is) ∙ spelled_plainly w f h some lead trail ∙ is;
+  short = short;
+}
+
+-- digits alone
+pub whole_canonical : (bytes : List ℕ) (n whole : ℕ) → n ≡ length bytes → 0 < n → n ≤ 15
+    → are_digits (take n bytes) ≡ true → whole ≡ number_of (take n bytes)
+    → or_zero (without_leading_zeros (take n bytes)) ≡ take n bytes → IsCanonical bytes
+unfolding without_trailing_zeros
+whole_canonical bytes n whole all some few digits is lead =
+    let same : take n bytes ≡ bytes = take_all n bytes (omega (arith, all)) in
+    canonical bytes bytes [] (whole * 10 ^ 8) (append-nil bytes)
+    (whole_plain bytes n whole all some few digits is) (rw same at digits)
+    (omega (arith, all, some))
+    (subst (λ (w : List ℕ). or_zero (without_leading_zeros w) ≡ w) same lead) refl
+    (omega (arith, all, few))
+
+-- digits on both sides of a point
+pub point_canonical : (bytes rest : List ℕ) (n whole places behind : ℕ) → rest ≡ drop n bytes
+    → n ≤ length bytes → 0 < n → are_digits (take n bytes) ≡ true
+    → whole ≡ number_of (take n bytes) → rest ≡ with_point (drop 1 rest)
+    → are_digits (drop 1 rest) ≡ true → places ≡ length (drop 1 rest) → places ≤ 8
+    → n + places ≤ 15 → behind ≡ number_of (drop 1 rest) * 10 ^ (8 - places)
+    → or_zero (without_leading_zeros (take n bytes)) ≡ take n bytes
+    → without_trailing_zeros (drop 1 rest) ≡ drop 1 rest → IsCanonical bytes
+point_canonical bytes rest n whole places behind there within some digits is point fraction long few
+    most units lead trail =
+    let w = take n bytes in
+    let f = drop 1 rest in
+    let long_w : length w ≡ n = simp length-take (omega (arith, within)) in
+    let text : w ++ with_point f ≡ bytes =
+    ap (λ (back : List ℕ). w ++ back) (sym point ∙ there) ∙ take-append-drop n bytes in
+    let parts : length bytes ≡ length w + length (with_point f) =
+    ap length (sym text) ∙ length-append w (with_point f) in
+    canonical bytes w f (whole * 10 ^ 8 + behind) text
+    (point_plain bytes rest n whole places behind there within some digits is point fraction long
+    few most units) digits (omega (arith, long_w, some)) lead trail
+    (omega (arith, parts, long_w, behind_point f, long, most))
+  where
+    behind_point : (f : List ℕ) → length (with_point f) ≤ 1 + length f
+    behind_point [] = omega arith
+    behind_point (d ∷ ds) = omega arith
 
 -- a number that can be read has a spelling: its fifteen digits with the point between them
 some_spelling : (d : Dec) → IsDec d → (v : List ℕ) × (read_dec v ≡ Ok d)

@@ -3,7 +3,7 @@
 -- stand or be left out (23.0 is 23.0000 is 23 is 23.). Up to fifteen significant digits are held. A
 -- value is exact: a whole number of units of 10^-8.
 use Rattle.std.specs.Prelude.{◌≡◌, ℕ, ◌+◌, ◌-◌, ◌*◌, ◌/◌, ◌%◌, ◌^◌, ◌<◌, ◌≤◌, Bool, not, ◌&&◌, List}
-use Rattle.std.specs.Prelude.{[], ◌∷◌, ◌++◌, length, drop, slice_index, Result, Ok, nat_le, ◌==◌, ℤ}
+use Rattle.std.specs.Prelude.{[], ◌∷◌, ◌++◌, length, drop, slice_index, Result, Ok, Err, nat_le, ◌==◌, ℤ}
 use Rattle.std.specs.Prelude.{pos, neg_ℤ, unsigned_abs, if◌then◌else◌}
 use Rattle.std.specs.Int.{is_negative}
 use Rattle.std.specs.Fmt.{decimal}
@@ -104,3 +104,21 @@ plain_dec bytes =
     sign_text
     (has_minus bytes && not (length (whole_digits bytes) + length (fraction_digits bytes) == 0))
     ++ or_zero (whole_digits bytes) ++ with_point (fraction_digits bytes)
+
+-- bytes are the canonical spelling of a number without a sign, of so many units
+pub record IsCanonical (bytes : List ℕ) : Type 0 where
+  pub units : ℕ
+  pub plain : ReadsPlain bytes units
+  pub text : dec_text (record { units = pos units }) ≡ bytes
+  pub short : length bytes ≤ 16
+
+-- what is appended of the number that bytes spell
+pub record Respells (bytes before after : List ℕ) : Type 0 where
+  pub dec : Dec
+  pub read : read_dec bytes ≡ Ok dec
+  pub appended : after ≡ before ++ dec_text dec
+
+-- nothing, where they spell none
+pub record SpellsNone (bytes before after : List ℕ) (fault : FieldFault) : Type 0 where
+  pub read : read_dec bytes ≡ Err fault
+  pub same : after ≡ before

@@ -1,13 +1,13 @@
 //! Decimal numbers.
 
 ghost use Rattle.std.specs.Prelude.{◌≡◌, ◌+◌, ◌/◌, ◌^◌, ◌<◌, ◌≤◌, ◌++◌, unsigned_abs, length};
-ghost use Rattle.std.specs.Prelude.{◌*◌, ◌-◌, IsTrue, OnOk, OnErr, IfOk, IfSome, Ok, drop};
+ghost use Rattle.std.specs.Prelude.{◌*◌, ◌-◌, IsTrue, OnOk, OnErr, IfErr, IfOk, IfSome, Ok, drop};
 ghost use Rattle.std.specs.List.{before_first, after_first, position};
 ghost use Rattle.typed_fields.specs.Digits.{are_digits, number_of, without_trailing_zeros};
-ghost use Rattle.typed_fields.specs.Digits.{zero_padded};
+ghost use Rattle.typed_fields.specs.Digits.{or_zero, without_leading_zeros, zero_padded};
 ghost use Rattle.typed_fields.specs.Dec.{read_dec, dec_text, IsDec, has_minus, without_minus};
 ghost use Rattle.typed_fields.specs.Dec.{is_point, units_of, signed, sign_text, with_point};
-ghost use Rattle.typed_fields.specs.Dec.{ReadsPlain};
+ghost use Rattle.typed_fields.specs.Dec.{IsCanonical, ReadsPlain, Respells, SpellsNone};
 ghost use Rattle.std.specs.Fmt.{decimal};
 ghost use Rattle.std.specs.Prelude.{◌%◌, vec_capacity, vec_len};
 
@@ -161,6 +161,45 @@ fn plain_units(bytes: &[u8]) -> Option<u128>
     Some(units + u128::from(behind))
 }
 
+/// Whether digits, of which there are some, have no zero in front that does not count.
+#[inline(always)]
+fn is_plain_whole(digits: &[u8]) -> bool
+    ensures { IsTrue result → or_zero (without_leading_zeros digits.now) ≡ digits.now }
+{
+    match digits {
+        [] => false,
+        [_] => true,
+        _ => without_leading_zeros(digits).len() == digits.len(),
+    }
+}
+
+/// Whether digits have no zero at the end.
+#[inline(always)]
+fn is_plain_fraction(digits: &[u8]) -> bool
+    ensures { IsTrue result → without_trailing_zeros digits.now ≡ digits.now }
+{
+    without_trailing_zeros(digits).len() == digits.len()
+}
+
+/// Whether bytes are the canonical spelling of a number without a sign.
+#[inline(always)]
+fn is_canonical(bytes: &[u8]) -> bool
+    ensures { IsTrue result → IsCanonical bytes.now }
+{
+    let (len, _) = front_digits(bytes);
+    if len == 0 || !is_plain_whole(&bytes[..len]) {
+        return false;
+    }
+    if len == bytes.len() {
+        return true;
+    }
+    let behind = &bytes[len..];
+    match units_behind(behind) {
+        None => false,
+        Some((places, _)) => len + places <= MAX_DIGITS && is_plain_fraction(&behind[1..]),
+    }
+}
+
 impl Dec {
     /// Reads a decimal number.
     ///
@@ -220,6 +259,27 @@ impl Dec {
     {
         out.reserve(MAX_SPELLING)?;
         self.push(out);
+        Ok(())
+    }
+
+    /// Appends the canonical spelling of the number that bytes spell, where there is room for any.
+    /// Most numbers are spelled so already, and stand as they are.
+    ///
+    /// # Errors
+    ///
+    /// As `read`; then `out` is unchanged.
+    pub fn respell(value: &[u8], out: &mut Vec<u8>) -> Result<(), FieldFault>
+        requires room { vec_len out.old + MAX_SPELLING ≤ vec_capacity out.old }
+        ensures ok { OnOk result (Respells value.now out.old.items out.new.items) }
+        ensures err { IfErr result (SpellsNone value.now out.old.items out.new.items) }
+        ensures len { vec_len out.new ≤ vec_len out.old + MAX_SPELLING }
+        ensures capacity { vec_capacity out.old ≤ vec_capacity out.new }
+    {
+        if is_canonical(value) {
+            out.extend_from_slice(value).unwrap();
+            return Ok(());
+        }
+        Dec::read(value)?.push(out);
         Ok(())
     }
 

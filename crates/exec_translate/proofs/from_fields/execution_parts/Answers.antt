@@ -36,24 +36,24 @@ returns c =
           also tt (
           also tt (
           also tt (
-          also h.order_qty (
-          also tt (
-          also h.price (
-          also h.stop_px (
           also tt (
           also tt (
           also tt (
           also tt (
           also tt (
-          also h.last_qty (
-          also h.last_px (
+          also tt (
+          also tt (
+          also tt (
+          also tt (
+          also tt (
+          also tt (
           also tt (
           also h.leaves (
-          also h.cum (
-          also h.avg (
           also tt (
           also tt (
-          also h.min_qty (
+          also tt (
+          also tt (
+          also tt (
           also h.max_floor (
           also c.requires.text (
           tt)))))))))))))))))))))))))))))))))))))))))))))));

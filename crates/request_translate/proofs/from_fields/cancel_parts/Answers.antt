@@ -22,10 +22,10 @@ returns c = record {
       also tt (
       also tt (
       also tt (
-      also c.requires.order_qty (
+      also tt (
       also tt (
       tt)))))))))))))))));
   content =
-      cancel_content c.args.fields.now c.args.maturity.now c.args.order_qty.now c.requires.good
-      c.args.parties.now c.requires.parties;
+      cancel_content c.args.fields.now c.args.maturity.now c.requires.good c.args.parties.now
+      c.requires.parties;
 }

@@ -18,10 +18,9 @@ pub returns : goal.returns
 returns c =
     let fields = c.args.fields.now in
     let maturity = c.month_and_day-maturity in
-    let qty = c.qty-order_qty in
-    let request = Cancel (cancel50 fields maturity.result qty.result) in
-    let asked = cancel_asked fields maturity.result qty.result c.requires.whole c.requires.table
-    c.requires.good maturity.ensures.says qty.ensures.text in
+    let request = Cancel (cancel50 fields maturity.result) in
+    let asked = cancel_asked fields maturity.result c.requires.whole c.requires.table
+    c.requires.good maturity.ensures.says in
     appends_if fields None request asked c.args.out.now.items c.put_content.new.out.items
     c.put_content.result (flat_map part_fields c.cancel_parts.result)
     c.cancel_parts.ensures.content c.put_content.ensures.ok

@@ -16,7 +16,7 @@ returns c = record {
       also tt (
       also tt (
       also tt (
-      also c.requires.readable.min_qty (
+      also tt (
       also c.requires.readable.max_floor (
       also tt (
       also tt (
@@ -31,10 +31,10 @@ returns c = record {
       also tt (
       also tt (
       also tt (
-      also c.requires.readable.order_qty (
       also tt (
-      also c.requires.readable.price (
-      also c.requires.readable.stop_px (
+      also tt (
+      also tt (
+      also tt (
       also tt (
       also tt (
       also tt (
