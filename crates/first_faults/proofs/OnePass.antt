@@ -4,7 +4,7 @@ use Rattle.std.proofs.Common.{◌++◌, length}
 use Rattle.std.proofs.Common.{get_or, take, map, replicate, refl, sym, ap, ◌∙◌, arith}
 use Rattle.std.proofs.lemmas.List.{append-nil}
 use Rattle.std.proofs.lemmas.Bool.Decides.{nat_tests}
-use Rattle.std.specs.Prelude.{◌&&◌, ◌==◌, None, Some}
+use Rattle.std.specs.Prelude.{◌&&◌, ◌==◌, None, Some, position}
 use Rattle.std.specs.List.{AllByRecursion, list_all, flat_map, slice_get}
 use Rattle.std.proofs.lemmas.Option.{get_or_from_slice_get}
 use Rattle.std.proofs.lemmas.List.{take_more, map-append}
@@ -13,20 +13,26 @@ use Rattle.std.proofs.lemmas.Grind.{flat_map-append}
 use Rattle.field_groups.specs.Field.{Field}
 use Rattle.message_tables.specs.declared.table.Row.{Row as CodeRow}
 use Rattle.message_tables.specs.declared.table.Item.{Item as CodeItem}
+use Rattle.message_tables.specs.declared.table.Table.{Table as CodeTable}
 use Rattle.message_tables.specs.declared.table_fault.Mark.{Mark}
 use Rattle.message_tables.specs.declared.table_fault.Mark.TheVariants as marks
 use Rattle.message_tables.specs.Tables.{Row, Item, Table, all_rows, has_tag, is_one_of, rows_in}
-use Rattle.message_tables.specs.Tables.{rows_of}
-use Rattle.message_tables.specs.FirstFault.{Marked, first_fault, marked, once_in}
-use Rattle.message_tables.specs.CodeTables.{row_of, item_of}
-use Rattle.message_tables.specs.Plain.{IsLoose, ItemFits, fits, member_fits, with_places}
-use Rattle.message_tables.proofs.OnePass.{IsGoodAt, Loose, Rowed, each_marked, once_if}
+use Rattle.message_tables.specs.Tables.{row_at, rows_of}
+use Rattle.message_tables.specs.FirstFault.{Marked, first_fault, is_passed, marked, once_in}
+use Rattle.message_tables.specs.FirstFault.{without_row}
+use Rattle.message_tables.specs.CodeTables.{row_of, item_of, table_of}
+use Rattle.message_tables.specs.Plain.{IsLoose, ItemFits, fits, fits_at, is_good, member_fits}
+use Rattle.message_tables.specs.Plain.{with_places}
+use Rattle.message_tables.proofs.OnePass.{IsGoodAt, Loose, Rowed, each_marked, first_is_once}
+use Rattle.message_tables.proofs.OnePass.{good_mark, once_if}
 use Rattle.message_tables.proofs.OnePass.{plain_is_clean, row_of_place, with_places-append}
+use Rattle.message_tables.proofs.Mapped.{once_mapped}
 use Rattle.row_values.specs.declared.kinds.Kind.{Kind as CodeKind}
 use Rattle.row_values.specs.Kinds.{Kind, judge}
 use Rattle.row_values.specs.CodeKinds.{kind_of}
 use Rattle.first_faults.specs.OnePass.{AreGoodPlaces, Fit, IsGoodPlace, IsMarked, ItemFit, ItemsFit}
 use Rattle.first_faults.specs.OnePass.{MembersFit, Stands}
+use Rattle.first_faults.proofs.FirstFaults.{with_none, with_row}
 
 -- ---- a loop over rows, and one over items
 
@@ -176,3 +182,40 @@ loose table fields place f mark at once is good = record {
       (get_or_from_slice_get fields place f (0, []) (sym at))
       ∙ sym (ap (λ (x : Marked). x.1) is) ∙ good;
 }
+
+-- fields that are good without a mark, by how their tags may stand in the table of the code
+module _ (table : CodeTable CodeKind) (fields : List Field) (place tag : ℕ) (value : List ℕ)
+    (at : Some (tag, value) ≡ slice_get fields place) where
+  abbrev own : Table CodeKind
+  own = table_of (λ (k : CodeKind). k) table
+
+  abbrev Holds : Type 0
+  Holds = IsLoose judge fields (table_of kind_of table) place
+
+  module _ (many : is_one_of (once_in own) tag ≡ false) where
+    behind : (is_one_of (once_in (table_of kind_of table)) tag && has_tag tag (take place fields))
+        ≡ false
+    behind = ap (λ (tags : List ℕ). is_one_of tags tag && has_tag tag (take place fields))
+        (once_mapped kind_of table)
+        ∙ ap (λ (b : Bool). b && has_tag tag (take place fields)) many
+
+    pub member_loose : (row : CodeRow CodeKind)
+        → Some (row_of (λ (k : CodeKind). k) row) ≡ row_at tag (all_rows own)
+        → fits_at judge fields (row_of kind_of row) (Some value) ≡ true → Holds
+    member_loose row is fit =
+        loose (table_of kind_of table) fields place (tag, value) _ at behind
+        (with_row table fields tag value (row_of (λ (k : CodeKind). k) row) is) (good_mark _ fit)
+
+    pub stranger_loose : None ≡ row_at tag (all_rows own)
+        → is_good (without_row (is_passed own tag) value) ≡ true → Holds
+    stranger_loose none fit =
+        loose (table_of kind_of table) fields place (tag, value) _ at behind
+        (with_none table fields tag value none) (good_mark _ fit)
+
+  pub once_loose : Some place ≡ position (λ (f : Field). f.0 == tag) fields → (mark : Mark)
+      → (tag, mark) ≡ marked judge (table_of kind_of table) fields (tag, value)
+      → is_good mark ≡ true → Holds
+  once_loose first mark is fit =
+      loose (table_of kind_of table) fields place (tag, value) mark at
+      (first_is_once (once_in (table_of kind_of table)) fields tag place first) is
+      (good_mark mark fit)

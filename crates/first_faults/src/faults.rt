@@ -6,7 +6,8 @@ ghost use Rattle.std.specs.List.{list_all};
 ghost use Rattle.message_tables.specs.Tables.{Lines, has_tag, is_one_of};
 ghost use Rattle.message_tables.specs.CodeTables.{group_of, item_of, row_of};
 ghost use Rattle.message_tables.specs.CodeTables.{table_of as code_table};
-ghost use Rattle.message_tables.specs.Plain.{IsLoose, fits, fits_at, member_fits, with_place};
+ghost use Rattle.message_tables.specs.Plain.{IsLoose, fits, fits_at, is_good, member_fits};
+ghost use Rattle.message_tables.specs.Plain.{with_place};
 ghost use Rattle.first_faults.specs.OnePass.{AreGoodPlaces, Fit, ItemFit, ItemsFit, MembersFit};
 ghost use Rattle.message_tables.specs.FirstFault.{first_fault, marked, once_in};
 ghost use Rattle.message_tables.specs.Stages.{IsFound};
@@ -16,7 +17,7 @@ ghost use Rattle.first_faults.specs.Faults.{of_split, of_table};
 ghost use Rattle.first_faults.specs.Gives.{IsClean};
 
 use field_groups::{Fields, Split, SplitFault};
-use message_tables::{Found, Item, Mark, RepeatingGroup, Row, Table, TableFault};
+use message_tables::{Found, Item, Mark, RepeatingGroup, Row, Standing, Table, TableFault};
 use order_meaning::Fault;
 use row_values::Kind;
 
@@ -85,15 +86,23 @@ fn found(table: &Table<Kind>, fields: &Fields<'_>) -> Found
     found
 }
 
+/// Whether a field is good.
+#[inline(always)]
+fn is_good(mark: Mark) -> bool
+    ensures { result ≡ is_good mark }
+{
+    match mark {
+        Mark::Good => true,
+        _ => false,
+    }
+}
+
 /// Whether a value is good beside its row.
 #[inline(always)]
 fn value_fits(row: &Row<Kind>, fields: &Fields<'_>, value: &[u8]) -> bool
     ensures { result ≡ fits_at judge fields.now (row_of kind_of row.now) (Some value.now) }
 {
-    match row.need.allows(row.kind.judge(fields, value)) {
-        Mark::Good => true,
-        _ => false,
-    }
+    is_good(row.need.allows(row.kind.judge(fields, value)))
 }
 
 /// Whether the first field of a row's tag has a good value; `None` where no field has the tag. The
@@ -224,35 +233,30 @@ fn are_marked(rowed: &Rowed, count: usize) -> bool
     rowed.iter().take(count).all(|one| *one)
 }
 
-/// Whether the field of a tag at a place is the first of that tag, or one of many.
-fn may_stand(table: &Table<Kind>, fields: &Fields<'_>, tag: u32, place: usize) -> bool
-    ensures { IsTrue result → (is_one_of (once_in (code_table kind_of table.now)) tag
-        && has_tag tag (take place fields.now)) ≡ false }
+/// Whether the field at a place is the first one of its tag.
+fn is_first(fields: &Fields<'_>, tag: u32, place: usize) -> bool
+    ensures { IsTrue result → Some place ≡ position (λ f. f.0 == tag) fields.now }
 {
-    if !table.is_once(tag) {
-        return true;
-    }
     match fields.find(tag) {
         None => false,
         Some(first) => first == place,
     }
 }
 
-/// Whether the field at a place is good where it is not the first one of a row.
+/// Whether the field at a place is good where it is not the first one of a row. Most such fields
+/// are those of the further lines of a group, and those without a row.
 fn is_loose(table: &Table<Kind>, fields: &Fields<'_>, place: usize) -> bool
     ensures { IsTrue result → IsLoose judge fields.now (code_table kind_of table.now) place }
 {
     match fields.at(place) {
         None => false,
-        Some((tag, value)) => {
-            if !may_stand(table, fields, tag, place) {
-                return false;
+        Some((tag, value)) => match table.standing(tag) {
+            Standing::Again(row) => value_fits(row, fields, value),
+            Standing::WithoutRow => is_good(table.without_row(tag, value)),
+            Standing::Once => {
+                is_first(fields, tag, place) && is_good(mark(table, fields, tag, value))
             }
-            match mark(table, fields, tag, value) {
-                Mark::Good => true,
-                _ => false,
-            }
-        }
+        },
     }
 }
 

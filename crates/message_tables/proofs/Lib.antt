@@ -9,3 +9,4 @@ pub mod Few
 pub mod Members
 pub mod ByPlace
 pub mod OnePass
+pub mod TagStanding

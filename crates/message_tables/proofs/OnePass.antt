@@ -319,7 +319,7 @@ marks_none f good g (x ∷ xs) each =
     ap (λ (m : Mark). f ((g x).0, m)) (each 0 (omega arith)) ∙ good (g x).0 in
     rw here (marks_none f good g xs (λ i lt. each (suc i) (omega (arith, lt))))
 
-good_mark : (mark : Mark) → is_good mark ≡ true → mark ≡ marks.Good
+pub good_mark : (mark : Mark) → is_good mark ≡ true → mark ≡ marks.Good
 good_mark marks.Good h = refl
 good_mark marks.Outside h = absurd cc
 good_mark (marks.Wrong reason) h = absurd cc

@@ -5,3 +5,4 @@ pub mod Content
 pub mod CodeTables
 pub mod Stages
 pub mod Plain
+pub mod TagStanding

@@ -13,5 +13,5 @@ mod table_fault;
 pub use group_lines::{line, line_end};
 pub use lookup::{Line, Lookup, field_at, stands, value};
 pub use stages::Found;
-pub use table::{Item, Need, RepeatingGroup, Row, Table, Test};
+pub use table::{Item, Need, RepeatingGroup, Row, Standing, Table, Test};
 pub use table_fault::{Mark, TableFault};

@@ -1,6 +1,7 @@
 //! Tables of messages, as the code has them.
 
 ghost use Rattle.std.specs.Prelude.{◌≡◌, ◌==◌};
+ghost use Rattle.message_tables.specs.TagStanding.{IsStanding};
 ghost use Rattle.std.specs.Option.{option_map};
 ghost use Rattle.std.specs.List.{find, list_all, list_any};
 ghost use Rattle.message_tables.specs.Tables.{passes, is_one_of, is_needed, is_inside, row_at};
@@ -244,6 +245,30 @@ impl<K> Item<K> {
     }
 }
 
+/// How a tag may stand in a message.
+#[derive(Debug)]
+pub enum Standing<'t, K: 'static> {
+    /// At most once: it has a row that is in no group, or is that of a group's count.
+    Once,
+    /// Again and again: this is its row, that of a member of a group.
+    Again(&'t Row<K>),
+    /// Again and again, and it has no row.
+    WithoutRow,
+}
+
+/// Whether a tag stands at most once by one of these items.
+fn is_once_in<K>(items: &[Item<K>], tag: u32) -> bool
+    ensures { result ≡ list_any
+        (λ item. is_one_of (once_of (item_of (λ k. k) item)) tag) items.now }
+{
+    for item in items {
+        if item.is_once(tag) {
+            return true;
+        }
+    }
+    false
+}
+
 impl<K> Table<K> {
     /// The row of a tag.
     pub fn row(&self, tag: u32) -> Option<&Row<K>>
@@ -259,6 +284,27 @@ impl<K> Table<K> {
             }
         }
         None
+    }
+
+    /// How a tag may stand in a message.
+    pub fn standing(&self, tag: u32) -> Standing<'_, K>
+        ensures { IsStanding self.now tag result }
+    {
+        if has_row(self.header, tag) {
+            return Standing::Once;
+        }
+        for (place, item) in self.items.iter().enumerate() {
+            if item.is_once(tag) {
+                return Standing::Once;
+            }
+            if let Some(row) = item.row(tag) {
+                if is_once_in(&self.items[place + 1..], tag) {
+                    return Standing::Once;
+                }
+                return Standing::Again(row);
+            }
+        }
+        Standing::WithoutRow
     }
 
     /// Whether a field without a row may be passed over: in a table that is not strict, and where
@@ -294,14 +340,6 @@ impl<K> Table<K> {
     pub fn is_once(&self, tag: u32) -> bool
         ensures { result ≡ is_one_of (once_in (table_of (λ k. k) self.now)) tag }
     {
-        if has_row(self.header, tag) {
-            return true;
-        }
-        for item in self.items {
-            if item.is_once(tag) {
-                return true;
-            }
-        }
-        false
+        has_row(self.header, tag) || is_once_in(self.items, tag)
     }
 }

@@ -1,9 +1,21 @@
-use Rattle.message_tables.specs.CodeTables.{table_of}
-use Rattle.row_values.specs.CodeKinds.{kind_of}
-use Rattle.first_faults.proofs.OnePass.{loose}
+use Rattle.std.proofs.Common.{sym, ◌∙◌}
+use Rattle.first_faults.proofs.OnePass.{member_loose, once_loose, stranger_loose}
 use Rattle.first_faults.proofs.faults.is_loose.Goals as goal
 
-pub returns-in-Good : goal.returns-in-Good
-returns-in-Good c = λ yes.
-    loose (table_of kind_of c.args.table.now) c.args.fields.now c.args.place _ c.mark.result
-    c.in-Some.ensures (c.may_stand.ensures c.if-not-may_stand.false) c.mark.ensures c.in-Good.is
+pub returns-in-Again : goal.returns-in-Again
+returns-in-Again c = λ yes.
+    member_loose c.args.table.now c.args.fields.now c.args.place c.in-Some.tag c.in-Some.value.now
+    c.in-Some.ensures c.in-Again.ensures.0 c.in-Again.row.now c.in-Again.ensures.1
+    (sym c.value_fits.ensures ∙ yes)
+
+pub returns-in-WithoutRow : goal.returns-in-WithoutRow
+returns-in-WithoutRow c = λ yes.
+    stranger_loose c.args.table.now c.args.fields.now c.args.place c.in-Some.tag
+    c.in-Some.value.now c.in-Some.ensures c.in-WithoutRow.ensures.0 c.in-WithoutRow.ensures.1
+    (rw c.without_row.ensures at sym c.is_good.ensures ∙ yes)
+
+pub returns-then-is_first : goal.returns-then-is_first
+returns-then-is_first c = λ yes.
+    once_loose c.args.table.now c.args.fields.now c.args.place c.in-Some.tag c.in-Some.value.now
+    c.in-Some.ensures (c.is_first.ensures c.if-is_first.true) c.mark.result c.mark.ensures
+    (sym c.is_good.ensures ∙ yes)
