@@ -3,8 +3,8 @@
 use crate::row::show;
 use std::alloc::{AllocError, Global};
 use typed_fields::{
-    Day, Dec, FieldFault, FieldValue, Flag, MAX_MILLIS, MonthYear, Number, Stamp, are_digits,
-    point_in,
+    Day, Dec, FieldFault, FieldValue, Flag, MAX_MILLIS, MAX_SPELLING, MonthYear, Number, Stamp,
+    are_digits, point_in,
 };
 
 /// Appends the canonical spelling of a value.
@@ -28,6 +28,16 @@ fn dec(out: &mut String, alloc: Global, given: &[u8]) -> Result<(), AllocError> 
             write!(out, "{units} ")?;
             spell(out, alloc, &dec)
         }
+        Err(fault) => tell(out, fault),
+    }
+}
+
+/// The canonical spelling of a number that is spelled in some way.
+fn respelled(out: &mut String, alloc: Global, given: &[u8]) -> Result<(), AllocError> {
+    let mut text = Vec::new(alloc);
+    text.reserve(MAX_SPELLING)?;
+    match Dec::respell(given, &mut text) {
+        Ok(()) => show(out, &text),
         Err(fault) => tell(out, fault),
     }
 }
@@ -141,6 +151,7 @@ pub(crate) fn answer(
 ) -> Result<(), AllocError> {
     match call {
         "Dec" => dec(out, alloc, given),
+        "Dec::respell" => respelled(out, alloc, given),
         "Number" => number(out, alloc, given),
         "Flag" => flag(out, alloc, given),
         "MonthYear" => month_year(out, alloc, given),
