@@ -18,7 +18,7 @@ use Rattle.typed_fields.specs.Digits.{are_digits, number_of, zero_padded, withou
 use Rattle.typed_fields.specs.Digits.{without_trailing_zeros, before_others, or_zero}
 use Rattle.typed_fields.specs.Dec.{has_minus, is_point, whole_part, fraction_part, is_dec_form}
 use Rattle.typed_fields.specs.Dec.{whole_digits, fraction_digits, is_dec_bounded, units_of, signed}
-use Rattle.typed_fields.specs.Dec.{read_dec, IsDec, IsCanonical, ReadsPlain, sign_text, with_point}
+use Rattle.typed_fields.specs.Dec.{read_dec, IsDec, SpellsItself, ReadsPlain, sign_text, with_point}
 use Rattle.typed_fields.specs.Dec.{dec_text}
 use Rattle.typed_fields.specs.Dec.{plain_dec}
 use Rattle.typed_fields.specs.Laws.{ReadsBack, IsPlain, IsStable}
@@ -616,7 +616,7 @@ spelled_plainly w f h some lead trail =
 -- bytes that are read as they stand, and have no needless one
 canonical : (bytes w f : List ℕ) (units : ℕ) → w ++ with_point f ≡ bytes → ReadsPlain bytes units
     → are_digits w ≡ true → 0 < length w → or_zero (without_leading_zeros w) ≡ w
-    → without_trailing_zeros f ≡ f → length bytes ≤ 16 → IsCanonical bytes
+    → without_trailing_zeros f ≡ f → length bytes ≤ 16 → SpellsItself bytes
 canonical bytes w f units is plain h some lead trail short = record {
   units = units;
   plain = plain;
@@ -628,7 +628,7 @@ canonical bytes w f units is plain h some lead trail short = record {
 -- digits alone
 pub whole_canonical : (bytes : List ℕ) (n whole : ℕ) → n ≡ length bytes → 0 < n → n ≤ 15
     → are_digits (take n bytes) ≡ true → whole ≡ number_of (take n bytes)
-    → or_zero (without_leading_zeros (take n bytes)) ≡ take n bytes → IsCanonical bytes
+    → or_zero (without_leading_zeros (take n bytes)) ≡ take n bytes → SpellsItself bytes
 unfolding without_trailing_zeros
 whole_canonical bytes n whole all some few digits is lead =
     let same : take n bytes ≡ bytes = take_all n bytes (omega (arith, all)) in
@@ -645,7 +645,7 @@ pub point_canonical : (bytes rest : List ℕ) (n whole places behind : ℕ) → 
     → are_digits (drop 1 rest) ≡ true → places ≡ length (drop 1 rest) → places ≤ 8
     → n + places ≤ 15 → behind ≡ number_of (drop 1 rest) * 10 ^ (8 - places)
     → or_zero (without_leading_zeros (take n bytes)) ≡ take n bytes
-    → without_trailing_zeros (drop 1 rest) ≡ drop 1 rest → IsCanonical bytes
+    → without_trailing_zeros (drop 1 rest) ≡ drop 1 rest → SpellsItself bytes
 point_canonical bytes rest n whole places behind there within some digits is point fraction long few
     most units lead trail =
     let w = take n bytes in

@@ -106,7 +106,7 @@ plain_dec bytes =
     ++ or_zero (whole_digits bytes) ++ with_point (fraction_digits bytes)
 
 -- bytes are the canonical spelling of a number without a sign, of so many units
-pub record IsCanonical (bytes : List ℕ) : Type 0 where
+pub record SpellsItself (bytes : List ℕ) : Type 0 where
   pub units : ℕ
   pub plain : ReadsPlain bytes units
   pub text : dec_text (record { units = pos units }) ≡ bytes

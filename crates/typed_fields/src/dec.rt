@@ -7,7 +7,7 @@ ghost use Rattle.typed_fields.specs.Digits.{are_digits, number_of, without_trail
 ghost use Rattle.typed_fields.specs.Digits.{or_zero, without_leading_zeros, zero_padded};
 ghost use Rattle.typed_fields.specs.Dec.{read_dec, dec_text, IsDec, has_minus, without_minus};
 ghost use Rattle.typed_fields.specs.Dec.{is_point, units_of, signed, sign_text, with_point};
-ghost use Rattle.typed_fields.specs.Dec.{IsCanonical, ReadsPlain, Respells, SpellsNone};
+ghost use Rattle.typed_fields.specs.Dec.{SpellsItself, ReadsPlain, Respells, SpellsNone};
 ghost use Rattle.std.specs.Fmt.{decimal};
 ghost use Rattle.std.specs.Prelude.{◌%◌, vec_capacity, vec_len};
 
@@ -183,8 +183,8 @@ fn is_plain_fraction(digits: &[u8]) -> bool
 
 /// Whether bytes are the canonical spelling of a number without a sign.
 #[inline(always)]
-fn is_canonical(bytes: &[u8]) -> bool
-    ensures { IsTrue result → IsCanonical bytes.now }
+fn spells_itself(bytes: &[u8]) -> bool
+    ensures { IsTrue result → SpellsItself bytes.now }
 {
     let (len, _) = front_digits(bytes);
     if len == 0 || !is_plain_whole(&bytes[..len]) {
@@ -275,7 +275,7 @@ impl Dec {
         ensures len { vec_len out.new ≤ vec_len out.old + MAX_SPELLING }
         ensures capacity { vec_capacity out.old ≤ vec_capacity out.new }
     {
-        if is_canonical(value) {
+        if spells_itself(value) {
             out.extend_from_slice(value).unwrap();
             return Ok(());
         }

@@ -1,7 +1,7 @@
 use Rattle.std.proofs.Common.{◌≡◌, ℕ, List, subst, arith}
 use Rattle.typed_fields.specs.Digits.{without_trailing_zeros}
 use Rattle.typed_fields.proofs.DecLaws.{whole_canonical, point_canonical, rest_of}
-use Rattle.typed_fields.proofs.dec.is_canonical.Goals as goal
+use Rattle.typed_fields.proofs.dec.spells_itself.Goals as goal
 
 pub returns-then-len-bytes : goal.returns-then-len-bytes
 returns-then-len-bytes c = λ yes.
