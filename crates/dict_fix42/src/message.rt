@@ -17,7 +17,7 @@ use crate::reading::{cancel_request, new_order, replace_request, status_request}
 use crate::requests::Msg42;
 use crate::tables;
 use crate::writing::{cancel_parts, new_parts, replace_parts, status_parts};
-use field_groups::{Fields, Split};
+use field_groups::{Fields, Split, is_type};
 use first_faults::good_fields;
 use order_meaning::Fault;
 use row_values::put_content;
@@ -45,13 +45,13 @@ pub fn type42(msg: &Msg42) -> &'static [u8]
 pub fn good42<'s, 'a>(msg_type: &[u8], split: &'s Split<'a>) -> Result<&'s Fields<'a>, Fault>
     ensures { IsCleanIf (table_of msg_type.now) split.now.fields split.now.fault result }
 {
-    if msg_type == b"D".as_slice() {
+    if is_type(msg_type, b'D') {
         good_fields(tables::new_order(), split)
-    } else if msg_type == b"F".as_slice() {
+    } else if is_type(msg_type, b'F') {
         good_fields(tables::cancel_request(), split)
-    } else if msg_type == b"G".as_slice() {
+    } else if is_type(msg_type, b'G') {
         good_fields(tables::replace_request(), split)
-    } else if msg_type == b"H".as_slice() {
+    } else if is_type(msg_type, b'H') {
         good_fields(tables::status_request(), split)
     } else {
         Err(Fault::NotSupported)
@@ -113,13 +113,13 @@ pub fn read42(alloc: Global, msg_type: &[u8], split: &Split<'_>) -> Result<Msg42
     ensures says { Gives says result (message42 msg_type.now split.now.fields split.now.fault) }
     ensures readable { IfOk result IsReadable42 }
 {
-    if msg_type == b"D".as_slice() {
+    if is_type(msg_type, b'D') {
         read_new(alloc, split)
-    } else if msg_type == b"F".as_slice() {
+    } else if is_type(msg_type, b'F') {
         read_cancel(alloc, split)
-    } else if msg_type == b"G".as_slice() {
+    } else if is_type(msg_type, b'G') {
         read_replace(alloc, split)
-    } else if msg_type == b"H".as_slice() {
+    } else if is_type(msg_type, b'H') {
         read_status(alloc, split)
     } else {
         Err(Fault::NotSupported)

@@ -16,7 +16,7 @@ use crate::reading::{cancel_request, new_order, replace_request, status_request}
 use crate::requests::Msg50;
 use crate::tables;
 use crate::writing::{cancel_parts, new_parts, replace_parts, status_parts};
-use field_groups::Split;
+use field_groups::{Split, is_type};
 use first_faults::good_fields;
 use order_meaning::Fault;
 use row_values::{put_content, read_lines};
@@ -92,13 +92,13 @@ pub fn read50(alloc: Global, msg_type: &[u8], split: &Split<'_>) -> Result<Msg50
     ensures says { Gives says result (message50 msg_type.now split.now.fields split.now.fault) }
     ensures readable { IfOk result IsReadable50 }
 {
-    if msg_type == b"D".as_slice() {
+    if is_type(msg_type, b'D') {
         read_new(alloc, split)
-    } else if msg_type == b"F".as_slice() {
+    } else if is_type(msg_type, b'F') {
         read_cancel(alloc, split)
-    } else if msg_type == b"G".as_slice() {
+    } else if is_type(msg_type, b'G') {
         read_replace(alloc, split)
-    } else if msg_type == b"H".as_slice() {
+    } else if is_type(msg_type, b'H') {
         read_status(alloc, split)
     } else {
         Err(Fault::NotSupported)

@@ -1,6 +1,6 @@
-//! The one number that this crate reads: a length or a count.
+//! What this crate reads of a value: a length or a count, and a type of one letter.
 
-ghost use Rattle.std.specs.Prelude.{◌≡◌, ◌^◌, ◌<◌, ◌≤◌, IsTrue, length};
+ghost use Rattle.std.specs.Prelude.{◌≡◌, ◌^◌, ◌<◌, ◌≤◌, ◌∷◌, [], IsTrue, bytes_eq, length};
 ghost use Rattle.std.specs.List.{list_all};
 ghost use Rattle.std.specs.Char.{is_ascii_digit};
 ghost use Rattle.std.specs.Str.Parse.{digits_value};
@@ -46,4 +46,15 @@ pub fn number_in(value: &[u8]) -> Option<u32>
         return None;
     }
     Some(number as u32)
+}
+
+/// Whether a MsgType(35) is this one letter.
+#[inline(always)]
+pub fn is_type(msg_type: &[u8], letter: u8) -> bool
+    ensures { result ≡ bytes_eq msg_type.now (letter ∷ []) }
+{
+    match msg_type {
+        [byte] => *byte == letter,
+        _ => false,
+    }
 }

@@ -9,7 +9,7 @@ ghost use Rattle.translation.specs.Header.{type_of};
 ghost use Rattle.translation.specs.Judged.{AreGood, AreGoodBy};
 
 use exec_translate::has_codes;
-use field_groups::{Fields, Split};
+use field_groups::{Fields, Split, is_type};
 use reports_fix50::{exec_type, good_report};
 use translation::{TranslateError, faulty, msg_type};
 
@@ -47,7 +47,7 @@ fn check_good(fields: &Fields<'_>) -> Result<(), TranslateError>
     ensures ok { OnOk result (IsCheckedOf fields.now None) }
     ensures refused { IfErr result (RefusesCheck fields.now None) }
 {
-    if msg_type(fields) == b"8".as_slice() {
+    if is_type(msg_type(fields), b'8') {
         check_codes(fields)
     } else {
         Ok(())

@@ -7,7 +7,7 @@ ghost use Rattle.report_translate.specs.Refusals.{IsGoodRefusal, IsFaultyRefusal
 ghost use Rattle.report_translate.specs.Writing.{IsReadAs};
 ghost use Rattle.translation.specs.Header.{type_of};
 
-use field_groups::{Split, split};
+use field_groups::{Split, is_type, split};
 use order_meaning::{Fault, Refusal, Side};
 use reports_fix42 as fix42;
 use reports_fix50 as fix50;
@@ -20,9 +20,9 @@ fn read42(alloc: Global, msg_type: &[u8], split: &Split<'_>) -> Result<Refusal, 
     ensures { IsReadAs result
         (refusal_message Client msg_type.now split.now.fields split.now.fault) }
 {
-    if msg_type == b"3".as_slice() {
+    if is_type(msg_type, b'3') {
         fix42::read_session_reject(alloc, split)
-    } else if msg_type == b"j".as_slice() {
+    } else if is_type(msg_type, b'j') {
         fix42::read_business_reject(alloc, split)
     } else {
         Err(Fault::NotSupported)
@@ -35,9 +35,9 @@ fn read50(alloc: Global, msg_type: &[u8], split: &Split<'_>) -> Result<Refusal, 
     ensures { IsReadAs result
         (refusal_message Venue msg_type.now split.now.fields split.now.fault) }
 {
-    if msg_type == b"3".as_slice() {
+    if is_type(msg_type, b'3') {
         fix50::read_session_reject(alloc, split)
-    } else if msg_type == b"j".as_slice() {
+    } else if is_type(msg_type, b'j') {
         fix50::read_business_reject(alloc, split)
     } else {
         Err(Fault::NotSupported)

@@ -10,7 +10,7 @@ ghost use Rattle.translation.specs.Judged.{AreGoodBy};
 
 use crate::checking::good;
 use exec_translate::{put_cancel_reject, put_report};
-use field_groups::{Fields, Split};
+use field_groups::{Fields, Split, is_type};
 use std::alloc::Global;
 use translation::{TranslateError, check_lengths, lacking, msg_type, write_head};
 
@@ -53,7 +53,7 @@ fn put_good(alloc: Global, fields: &Fields<'_>, out: &mut Vec<u8>) -> Result<(),
     ensures ok { OnOk result (Appends fields.now None out.old.items out.new.items) }
     ensures refused { IfErr result (Refuses fields.now None) }
 {
-    if msg_type(fields) == b"8".as_slice() {
+    if is_type(msg_type(fields), b'8') {
         put_execution(alloc, fields, out)
     } else {
         put_reject(alloc, fields, out)

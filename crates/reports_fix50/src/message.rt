@@ -19,7 +19,7 @@ use crate::reading::{cancel_reject, execution_report};
 use crate::reports::{CancelReject50, Report50};
 use crate::tables;
 use crate::writing::{cancel_reject_parts, report_parts};
-use field_groups::{Fields, Split};
+use field_groups::{Fields, Split, is_type};
 use first_faults::good_fields;
 use order_meaning::{Fault, Refusal};
 use refusal_parts::{business_reject, business_reject_parts, session_reject, session_reject_parts};
@@ -36,9 +36,9 @@ use std::alloc::{AllocError, Global};
 pub fn good_report<'s, 'a>(msg_type: &[u8], split: &'s Split<'a>) -> Result<&'s Fields<'a>, Fault>
     ensures { IsCleanIf (report_table_of msg_type.now) split.now.fields split.now.fault result }
 {
-    if msg_type == b"8".as_slice() {
+    if is_type(msg_type, b'8') {
         good_fields(tables::execution_report(), split)
-    } else if msg_type == b"9".as_slice() {
+    } else if is_type(msg_type, b'9') {
         good_fields(tables::cancel_reject(), split)
     } else {
         Err(Fault::NotSupported)

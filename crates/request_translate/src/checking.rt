@@ -10,7 +10,7 @@ ghost use Rattle.translation.specs.Judged.{AreGood, AreGoodBy};
 
 use crate::parts::{Terms, order_terms};
 use dict_fix42::{good42, order_codes};
-use field_groups::{Fields, Split};
+use field_groups::{Fields, Split, is_type};
 use translation::{TranslateError, faulty, lacking, msg_type};
 
 /// The fields of a body, where they are whole and at no fault beside the table of their type.
@@ -66,11 +66,11 @@ fn check_good(fields: &Fields<'_>) -> Result<(), TranslateError>
     ensures refused { IfErr result (Refuses fields.now None) }
 {
     let msg_type = msg_type(fields);
-    if msg_type == b"D".as_slice() {
+    if is_type(msg_type, b'D') {
         check_terms(fields)
-    } else if msg_type == b"F".as_slice() {
+    } else if is_type(msg_type, b'F') {
         Ok(())
-    } else if msg_type == b"G".as_slice() {
+    } else if is_type(msg_type, b'G') {
         check_terms(fields)
     } else {
         Ok(())

@@ -28,7 +28,7 @@ ghost use Rattle.translation.specs.Judged.{AreGoodBy};
 
 use crate::checking::terms_of;
 use crate::parts::{Terms, parties_in};
-use field_groups::Fields;
+use field_groups::{Fields, is_type};
 use order_meaning::Lines;
 use row_values::{
     Allocs, Maturity, Part, Sessions, Value, month_and_day, put_content, qty, read_lines, text,
@@ -291,11 +291,11 @@ pub(crate) fn put_good(
     ensures refused { IfErr result (Refuses fields.now None) }
 {
     let msg_type = msg_type(fields);
-    if msg_type == b"D".as_slice() {
+    if is_type(msg_type, b'D') {
         put_new(alloc, fields, out)
-    } else if msg_type == b"F".as_slice() {
+    } else if is_type(msg_type, b'F') {
         Ok(put_cancel(alloc, fields, out)?)
-    } else if msg_type == b"G".as_slice() {
+    } else if is_type(msg_type, b'G') {
         put_replace(alloc, fields, out)
     } else {
         Ok(put_status(alloc, fields, out)?)

@@ -1,9 +1,9 @@
 -- Moments: the milliseconds that bytes spell.
-use Rattle.std.proofs.Common.{◌≡◌, ◌==◌, ℕ, ◌≤◌, Bool, true, false, List, [], ◌∷◌, ◌++◌}
-use Rattle.std.proofs.Common.{length, take, drop, Some, None, slice_range, codes, refl, sym, arith}
+use Rattle.std.proofs.Common.{◌≡◌, ◌==◌, ℕ, ◌+◌, ◌≤◌, Bool, true, false, List, [], ◌∷◌, ◌++◌}
+use Rattle.std.proofs.Common.{length, take, drop, Some, None, slice_range, refl, sym, arith}
 use Rattle.std.specs.Prelude.{◌&&◌}
 use Rattle.std.proofs.lemmas.Bool.Decides.{nat_tests}
-use Rattle.std.proofs.lemmas.List.{length-take, length-drop}
+use Rattle.std.proofs.lemmas.List.{length-take, length-drop, length-append}
 use Rattle.typed_fields.specs.Digits.{number_of, has_mark, have_marks, has_pattern}
 use Rattle.typed_fields.specs.Stamp.{milli_in}
 
@@ -29,19 +29,21 @@ apart (m ∷ ms) ns (b ∷ bs) le = by (has_mark m b) (apart ms ns bs (omega (ar
     by true e = e
     by false e = refl
 
--- the form of whole seconds in two parts: the date, and the time behind it
-pub seconds_apart : (bs : List ℕ) → length bs ≡ 17
-    → (has_pattern (codes "YYYYMMDD") (take 8 bs) && has_pattern (codes "-HH:MM:SS") (drop 8 bs))
-    ≡ has_pattern (codes "YYYYMMDD-HH:MM:SS") bs
+-- a pattern in two parts
+pub pattern_apart : (ms ns bs : List ℕ) → length bs ≡ length ms + length ns
+    → (has_pattern ms (take (length ms) bs) && has_pattern ns (drop (length ms) bs))
+    ≡ has_pattern (ms ++ ns) bs
 unfolding has_pattern
-seconds_apart bs e =
-    let date : (8 == length (take 8 bs)) ≡ true = grind (arith, nat_tests, length-take 8 bs) in
-    let time : (9 == length (drop 8 bs)) ≡ true = grind (arith, nat_tests, length-drop 8 bs) in
-    let all : (17 == length bs) ≡ true = grind (arith, nat_tests) in
-    rw (date, time, all) (sym (apart (codes "YYYYMMDD") (codes "-HH:MM:SS") bs (omega (arith, e))))
+pattern_apart ms ns bs e =
+    let front : (length ms == length (take (length ms) bs)) ≡ true =
+    grind (arith, nat_tests, length-take (length ms) bs) in
+    let back : (length ns == length (drop (length ms) bs)) ≡ true =
+    grind (arith, nat_tests, length-drop (length ms) bs) in
+    let all : (length (ms ++ ns) == length bs) ≡ true =
+    grind (arith, nat_tests, length-append ms ns) in
+    rw (front, back, all) (sym (apart ms ns bs (omega (arith, e))))
 
-pub no_seconds : (bs : List ℕ) → (length bs ≡ 17 → ⊥)
-    → has_pattern (codes "YYYYMMDD-HH:MM:SS") bs ≡ false
+pub no_pattern : (ms bs : List ℕ) → (length bs ≡ length ms → ⊥) → has_pattern ms bs ≡ false
 unfolding has_pattern
-no_seconds bs other =
-    let all : (17 == length bs) ≡ false = grind (arith, nat_tests) in rw all refl
+no_pattern ms bs other =
+    let all : (length ms == length bs) ≡ false = grind (arith, nat_tests) in rw all refl

@@ -70,6 +70,14 @@ fn has_seconds(bytes: &[u8]) -> bool
         && (has_pattern(b"YYYYMMDD", &bytes[..8]) && has_pattern(b"-HH:MM:SS", &bytes[8..]))
 }
 
+/// Whether bytes have the form of milliseconds.
+#[inline(always)]
+fn has_millis(bytes: &[u8]) -> bool
+    ensures { result ≡ has_pattern (codes "YYYYMMDD-HH:MM:SS.sss") bytes.now }
+{
+    bytes.len() == 21 && (has_seconds(&bytes[..17]) && has_pattern(b".sss", &bytes[17..]))
+}
+
 impl Stamp {
     /// Reads a moment.
     ///
@@ -87,7 +95,7 @@ impl Stamp {
         if has_seconds(value) {
             return read_moment(value, None);
         }
-        if has_pattern(b"YYYYMMDD-HH:MM:SS.sss", value) {
+        if has_millis(value) {
             return read_moment(value, Some(number_at(value, 18, 21)));
         }
         Err(FieldFault::Form)

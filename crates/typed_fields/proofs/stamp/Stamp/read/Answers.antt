@@ -18,24 +18,24 @@ read_moment-requires-clause-milli c =
 pub number_at-requires-clause-within : goal.number_at-requires-clause-within
 number_at-requires-clause-within c =
     let shape : has_pattern (codes "YYYYMMDD-HH:MM:SS.sss") c.args.value.now ≡ true =
-    sym c.has_pattern.ensures ∙ c.if-has_pattern.true in
+    sym c.has_millis.ensures ∙ c.if-has_millis.true in
     omega (arith, length-has_pattern _ _ shape)
 
 pub number_at-requires-clause-digits : goal.number_at-requires-clause-digits
 number_at-requires-clause-digits c =
     digits_of_pattern (codes "YYYYMMDD-HH:MM:SS.sss")
-    c.args.value.now 18 21 (sym c.has_pattern.ensures ∙ c.if-has_pattern.true) refl
+    c.args.value.now 18 21 (sym c.has_millis.ensures ∙ c.if-has_millis.true) refl
 
-pub read_moment-requires-then-has_pattern-clause-form :
-    goal.read_moment-requires-then-has_pattern-clause-form
-read_moment-requires-then-has_pattern-clause-form c =
+pub read_moment-requires-then-has_millis-clause-form :
+    goal.read_moment-requires-then-has_millis-clause-form
+read_moment-requires-then-has_millis-clause-form c =
     has_pattern-take 17 (codes "YYYYMMDD-HH:MM:SS.sss")
-    c.args.value.now (sym c.has_pattern.ensures ∙ c.if-has_pattern.true)
+    c.args.value.now (sym c.has_millis.ensures ∙ c.if-has_millis.true)
 
-pub read_moment-requires-then-has_pattern-clause-milli :
-    goal.read_moment-requires-then-has_pattern-clause-milli
-read_moment-requires-then-has_pattern-clause-milli c =
+pub read_moment-requires-then-has_millis-clause-milli :
+    goal.read_moment-requires-then-has_millis-clause-milli
+read_moment-requires-then-has_millis-clause-milli c =
     milli_in_some c.args.value.now c.number_at.result
     (length-has_pattern (codes "YYYYMMDD-HH:MM:SS.sss")
-    c.args.value.now (sym c.has_pattern.ensures ∙ c.if-has_pattern.true))
+    c.args.value.now (sym c.has_millis.ensures ∙ c.if-has_millis.true))
     c.number_at.ensures.value
