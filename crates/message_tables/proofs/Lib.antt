@@ -9,4 +9,5 @@ pub mod Few
 pub mod Members
 pub mod ByPlace
 pub mod OnePass
+pub mod TagMarks
 pub mod TagStanding

@@ -5,4 +5,5 @@ pub mod Content
 pub mod CodeTables
 pub mod Stages
 pub mod Plain
+pub mod TagMarks
 pub mod TagStanding

@@ -226,13 +226,14 @@ impl<K> RepeatingGroup<K> {
             (place_in (seen fields.now) place (seen_at fields.now place)) (own_tags self.now)
             ≡ None }
     {
+        let marks = self.marks();
         let mut said = Before {
             opened: false,
             lines: 0,
         };
         for place in 0..fields.len() {
             let (tag, _) = field_at(fields, place);
-            let inside = self.has(tag);
+            let inside = self.has_marked(&marks, tag);
             if let Some(_) = self.misplaced_by(fields, place, inside, said) {
                 return false;
             }

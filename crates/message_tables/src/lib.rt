@@ -9,6 +9,7 @@ mod lookup;
 mod stages;
 mod table;
 mod table_fault;
+mod tag_marks;
 
 pub use group_lines::{line, line_end};
 pub use lookup::{Line, Lookup, field_at, stands, value};

@@ -29,8 +29,8 @@ loop-place-preserved g c =
           subst (λ (p : ℕ). misplaced (place_in fs p (seen_at c.args.fields.now p)) group ≡ None)
           same none)
           (cases_lt place i);
-      opened = (rw c.has-inside.ensures at c.with-said.ensures.opened) ∙ more.0;
-      lines = (rw c.has-inside.ensures at c.with-said.ensures.lines) ∙ more.1;
-      few = few_more c.has-inside.result (f.0 == group.first) c.with-said.result.lines said.lines
-          i c.with-said.ensures.lines known.few;
+      opened = (rw c.has_marked-inside.ensures at c.with-said.ensures.opened) ∙ more.0;
+      lines = (rw c.has_marked-inside.ensures at c.with-said.ensures.lines) ∙ more.1;
+      few = few_more c.has_marked-inside.result (f.0 == group.first) c.with-said.result.lines
+          said.lines i c.with-said.ensures.lines known.few;
     }
