@@ -113,6 +113,7 @@ module _ {K : Type 0} where
           → (b || is_one_of group.skipped.now tag) ≡ true → is_marked marks tag ≡ true
       by true member inside =
           rw marks_are (with_tags-keeps group.skipped.now rows (tag % 64)
-          (rw as_members (tag_marked (own_tags group).members (replicate 64 false) tag refl member)))
+          (rw as_members
+          (tag_marked (own_tags group).members (replicate 64 false) tag refl member)))
       by false member inside =
           rw marks_are (tag_marked group.skipped.now rows tag whole inside)

@@ -1,5 +1,5 @@
-use Rattle.std.proofs.Common.{◌≡◌, ◌≢◌, ap, sym, ◌∙◌, arith, get_or}
-use Rattle.std.specs.Prelude.{take, List, ℕ}
+use Rattle.std.proofs.Common.{ap, sym, ◌∙◌, arith}
+use Rattle.std.specs.Prelude.{take, ℕ}
 use Rattle.std.specs.Str.Parse.{digits_value}
 use Rattle.field_groups.proofs.Reading.{tag_tests, digit_count_is, no_tag, zero_first, other_next}
 use Rattle.field_groups.proofs.Reading.{rest_is, equals}

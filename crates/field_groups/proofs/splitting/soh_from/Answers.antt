@@ -1,4 +1,4 @@
-use Rattle.std.proofs.Common.{◌≡◌, ◌-◌, ◌+◌, ℕ, length, take, drop, subst, arith}
+use Rattle.std.proofs.Common.{◌≡◌, ◌-◌, ◌+◌, ℕ, length, subst, arith}
 use Rattle.memchr.specs.Find.{Nowhere, Passes}
 use Rattle.field_groups.specs.Field.{is_soh}
 use Rattle.field_groups.proofs.Places.{found_in_part, none_in_part}
