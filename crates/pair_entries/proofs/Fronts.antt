@@ -74,6 +74,15 @@ behind_out d o a b hd ho is =
     behind_counted d.content o.content a b (counted d.content ++ a)
     (omega (arith, hd.bounded)) (omega (arith, ho.bounded)) refl contents
 
+-- two lists with the same bytes have the same behind their first
+behind_first : (d o : Out) (done outs : List Out) (left rest : List ℕ) → IsOut d → IsOut o
+    → flat_map out_bytes (d ∷ done) ++ left ≡ flat_map out_bytes (o ∷ outs) ++ rest
+    → flat_map out_bytes done ++ left ≡ flat_map out_bytes outs ++ rest
+behind_first d o done outs left rest h1 h2 is =
+    behind_out d o (flat_map out_bytes done ++ left) (flat_map out_bytes outs ++ rest) h1 h2
+    (sym (append_assoc (out_bytes d) (flat_map out_bytes done) left)
+    ∙ is ∙ append_assoc (out_bytes o) (flat_map out_bytes outs) rest)
+
 -- where fewer outs were read than stand there, one more stands in front of what is left
 pub more_outs : (done outs : List Out) (left rest : List ℕ) → AreOuts done → AreOuts outs
     → length done < length outs → flat_map out_bytes done ++ left ≡ flat_map out_bytes outs ++ rest
@@ -87,10 +96,8 @@ more_outs [] (o ∷ outs) left rest h1 h2 fewer is = (
 )
 more_outs (d ∷ done) [] left rest h1 h2 fewer is = absurd (omega (arith, fewer))
 more_outs (d ∷ done) (o ∷ outs) left rest h1 h2 fewer is =
-    let whole = sym (append_assoc (out_bytes d) (flat_map out_bytes done) left)
-    ∙ is ∙ append_assoc (out_bytes o) (flat_map out_bytes outs) rest in
-    more_outs done outs left rest h1.1 h2.1 (omega (arith, fewer)) (behind_out
-    d o (flat_map out_bytes done ++ left) (flat_map out_bytes outs ++ rest) h1.0 h2.0 whole)
+    more_outs done outs left rest h1.1 h2.1 (omega (arith, fewer))
+    (behind_first d o done outs left rest h1.0 h2.0 is)
 
 -- where as many were read, the same is left
 pub same_outs : (done outs : List Out) (left rest : List ℕ)
@@ -100,10 +107,8 @@ same_outs [] [] left rest h1 h2 same is = is
 same_outs [] (o ∷ outs) left rest h1 h2 same is = absurd (omega (arith, same))
 same_outs (d ∷ done) [] left rest h1 h2 same is = absurd (omega (arith, same))
 same_outs (d ∷ done) (o ∷ outs) left rest h1 h2 same is =
-    let whole = sym (append_assoc (out_bytes d) (flat_map out_bytes done) left)
-    ∙ is ∙ append_assoc (out_bytes o) (flat_map out_bytes outs) rest in
-    same_outs done outs left rest h1.1 h2.1 (omega (arith, same)) (behind_out
-    d o (flat_map out_bytes done ++ left) (flat_map out_bytes outs ++ rest) h1.0 h2.0 whole)
+    same_outs done outs left rest h1.1 h2.1 (omega (arith, same))
+    (behind_first d o done outs left rest h1.0 h2.0 is)
 
 pub AreOuts-push : (outs : List Out) (out : Out)
     → AreOuts outs → IsOut out → AreOuts (outs ++ out ∷ [])
