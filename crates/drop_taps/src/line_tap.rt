@@ -9,7 +9,7 @@ ghost use Rattle.drop_taps.specs.Tap.{seen_after, tally_after, entries_alone, Ha
 ghost use Rattle.drop_taps.specs.declared.tap.TapFailed.TheVariants as failures;
 
 use crate::{Seen, Tap, TapFailed};
-use entry_lines::entry_line;
+use entry_lines::EntryLine;
 use outside::Sink;
 use pair_entries::Entry;
 
@@ -19,6 +19,8 @@ use pair_entries::Entry;
 #[derive(Debug, Drop)]
 pub struct LineTap<O> {
     pub(crate) sink: O,
+    // The line of the last entry.
+    line: EntryLine,
     pub(crate) entries: u64,
     pub(crate) failed: bool,
 }
@@ -26,10 +28,13 @@ pub struct LineTap<O> {
 impl<O: Sink> LineTap<O> {
     /// A tap that has put no line yet.
     pub fn new(sink: O) -> LineTap<O>
-        ensures { result ≡ record { sink = sink; entries = 0; failed = false } }
+        ensures sink { result.sink ≡ sink }
+        ensures entries { result.entries ≡ 0 }
+        ensures failed { result.failed ≡ false }
     {
         LineTap {
             sink,
+            line: EntryLine::new(),
             entries: 0,
             failed: false,
         }
@@ -69,8 +74,8 @@ impl<O: Sink + Drop> Tap for LineTap<O> {
         ensures cause { HasTapCause (O.faults self.old.sink) (O.faults self.new.sink) result }
     {
         let number = self.entries.saturating_add(1);
-        let line = entry_line(number, entry);
-        if self.sink.put(line.as_slice()).is_err() {
+        self.line.write(number, entry);
+        if self.sink.put(self.line.as_slice()).is_err() {
             self.failed = true;
             return Err(TapFailed::Fault);
         }

@@ -3,4 +3,4 @@
 
 mod line;
 
-pub use line::{EntryLine, MAX_LINE, entry_line};
+pub use line::{EntryLine, MAX_LINE};

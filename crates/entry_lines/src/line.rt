@@ -1,6 +1,6 @@
 //! The line of an entry, a word at a time.
 
-ghost use Rattle.std.specs.Prelude.{◌≡◌, ◌+◌, ◌*◌, ◌≤◌, ◌++◌, length, decimal, codes, IfSome};
+ghost use Rattle.std.specs.Prelude.{◌≡◌, ◌+◌, ◌*◌, ◌≤◌, ◌++◌, [], length, decimal, codes, IfSome};
 ghost use Rattle.std.specs.Prelude.{◌==◌, not};
 ghost use Rattle.std.specs.List.{flat_map, prefix_len};
 ghost use Rattle.arrayvec.specs.ArrayVec.{array_vec_len};
@@ -23,7 +23,8 @@ const SOH: u8 = 1;
 
 type Words = ArrayVec<u8, MAX_LINE>;
 
-/// The line of an entry, seen as its bytes.
+/// The line of an entry, seen as its bytes: empty until one is written. It takes no memory, and has
+/// room for any line, so one serves for many entries.
 #[derive(Debug, Drop)]
 pub struct EntryLine {
     words: Words,
@@ -38,6 +39,36 @@ impl Model for EntryLine {
 }
 
 impl EntryLine {
+    /// An empty line.
+    pub fn new() -> EntryLine
+        ensures { result ≡ [] }
+    {
+        EntryLine {
+            words: Words::new(),
+        }
+    }
+
+    /// Replaces the line by that of an entry with this number: when it was, what was taken, what
+    /// was given out, and the next numbers after it.
+    #[tactic(auto, unfolding(crate::specs::EntryLine::entry_line))]
+    pub fn write(&mut self, number: u64, entry: &Entry)
+        requires { IsEntry entry.now }
+        ensures { self.new ≡ entry_line number entry.now }
+    {
+        let words = &mut self.words;
+        words.clear();
+        put_number(words, number);
+        put(words, b" at=");
+        put_number(words, entry.at);
+        put(words, b" took=");
+        put_took(words, &entry.took);
+        put(words, b" outs=");
+        put_outs(words, entry.outs.as_slice());
+        put(words, b" next=");
+        put_next(words, entry.next);
+        put(words, b"\n");
+    }
+
     /// The bytes of the line, with the LF at its end.
     pub fn as_slice(&self) -> &[u8]
         ensures { result.now ≡ self.now }
@@ -179,25 +210,4 @@ fn put_next(line: &mut Words, next: (u32, u32, u32, u32))
     put_number(line, u64::from(next.2));
     put(line, b",");
     put_number(line, u64::from(next.3));
-}
-
-/// The line of an entry with this number: when it was, what was taken, what was given out, and the
-/// next numbers after it. It takes no memory.
-#[tactic(auto, unfolding(crate::specs::EntryLine::entry_line))]
-pub fn entry_line(number: u64, entry: &Entry) -> EntryLine
-    requires { IsEntry entry.now }
-    ensures { result ≡ entry_line number entry.now }
-{
-    let mut words = Words::new();
-    put_number(&mut words, number);
-    put(&mut words, b" at=");
-    put_number(&mut words, entry.at);
-    put(&mut words, b" took=");
-    put_took(&mut words, &entry.took);
-    put(&mut words, b" outs=");
-    put_outs(&mut words, entry.outs.as_slice());
-    put(&mut words, b" next=");
-    put_next(&mut words, entry.next);
-    put(&mut words, b"\n");
-    EntryLine { words }
 }

@@ -12,7 +12,7 @@ ghost use Rattle.entry_lines.specs.EntryLine.{entry_line};
 ghost use Rattle.journal_show.specs.declared.journal_lines.ShowError.TheVariants as errors;
 ghost use Rattle.journal_show.specs.JournalLines.{lines_from, Shows, FailsBy, show_error};
 
-use entry_lines::entry_line;
+use entry_lines::EntryLine;
 use outside::{Disk, Sink};
 use pair_journal::{Journal, JournalError};
 use std::alloc::Global;
@@ -65,12 +65,13 @@ fn put_line<O: Sink>(out: &mut O, line: &[u8]) -> Result<(), ShowError>
     }
 }
 
-/// Puts the line of the entry of this index, which counts from 0.
+/// Puts the line of the entry of this index, which counts from 0. It is made in `line`.
 fn put_entry<D: Disk, O: Sink>(
     journal: &Journal,
     disk: &mut D,
     out: &mut O,
     index: u64,
+    line: &mut EntryLine,
 ) -> Result<(), ShowError>
     requires index { index < length journal.now.entries }
     requires few { length journal.now.entries < 2 ^ 64 }
@@ -84,7 +85,8 @@ fn put_entry<D: Disk, O: Sink>(
     ensures output_cause { FailsBy errors.OutputFault (O.faults out.old) (O.faults out.new) result }
 {
     let entry = journal.entry(disk, index)?;
-    put_line(out, entry_line(1 + index, &entry).as_slice())
+    line.write(1 + index, &entry);
+    put_line(out, line.as_slice())
 }
 
 /// Puts the line of each entry of a journal, in order.
@@ -102,8 +104,9 @@ fn put_entries<D: Disk, O: Sink>(
     ensures disk_cause { FailsBy errors.DiskFault (D.faults disk.old) (D.faults disk.new) result }
     ensures output_cause { FailsBy errors.OutputFault (O.faults out.old) (O.faults out.new) result }
 {
+    let mut line = EntryLine::new();
     for index in 0..journal.count() {
-        put_entry(journal, disk, out, index)?;
+        put_entry(journal, disk, out, index, &mut line)?;
     }
     Ok(())
 }

@@ -1,7 +1,7 @@
 //! Lines by hand, from the form alone: `N at=MS took=T outs=O next=A,B,C,D`.
 
 use crate::entries::{Message, Next, entry_of, is_entry, outs_of};
-use entry_lines::{MAX_LINE, entry_line};
+use entry_lines::{EntryLine, MAX_LINE};
 use order_meaning::{Bytes, Side};
 use pair_entries::{Entry, MAX_AT, MAX_NEXT, MAX_NUMBER, Took};
 use std::alloc::{AllocError, Global};
@@ -53,7 +53,12 @@ client:8:TYPETYPE next=1000000000,9,1,10\n" },
 /// Whether the line of a row is the one that it says.
 fn is_said(alloc: Global, row: &Row) -> Result<bool, AllocError> {
     let entry = entry_of(alloc, row.at, &row.took, row.outs, row.next)?;
-    Ok(is_entry(&entry) && entry_line(row.number, &entry).as_slice() == row.line)
+    if !is_entry(&entry) {
+        return Ok(false);
+    }
+    let mut line = EntryLine::new();
+    line.write(row.number, &entry);
+    Ok(line.as_slice() == row.line)
 }
 
 #[test]
@@ -105,7 +110,8 @@ fn line_len(entry: &Entry) -> Option<usize> {
     if !is_entry(entry) {
         return None;
     }
-    let line = entry_line(u64::MAX, entry);
+    let mut line = EntryLine::new();
+    line.write(u64::MAX, entry);
     if line.as_slice().ends_with(LONGEST_END) {
         Some(line.as_slice().len())
     } else {
