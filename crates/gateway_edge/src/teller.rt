@@ -12,13 +12,19 @@ use std::time::Duration;
 /// The descriptor of standard error.
 const STANDARD_ERROR: i32 = 2;
 
+/// What a pipe that takes anything takes without a wait, in bytes: `PIPE_BUF` of POSIX, on Linux.
+const PIPE_BUF: usize = 4_096;
+
 /// Writes lines for the operator. A line that standard error would not take at once is lost, and
-/// counted; the next line says how many were.
+/// counted; the next line says how many were. A line of more than 4,096 bytes is written in parts,
+/// and cut where standard error takes no more.
 #[derive(Drop)]
 pub struct Teller<W: Write + Drop> {
     out: W,
-    /// Reports whether standard error takes a line; none where it always does, as a file.
+    /// Reports whether standard error takes a part; none where it always does, as a file.
     ready: Option<Poll>,
+    /// Whether standard error is a file, which the system does not watch.
+    is_file: bool,
     events: Events<Global>,
     lost: u64,
 }
@@ -36,21 +42,27 @@ impl<W: Write + Drop> Teller<W> {
             Token(0),
             Interest::WRITABLE,
         );
-        let ready = match watched {
-            Ok(()) => Some(poll),
-            Err(_) => None,
+        let (ready, is_file) = match watched {
+            Ok(()) => (Some(poll), false),
+            Err(error) => (None, error.kind() == io::ErrorKind::PermissionDenied),
         };
         Ok(Teller {
             out,
             ready,
+            is_file,
             events,
             lost: 0,
         })
     }
 
-    // Whether a line can be written without a wait. What is ready is reported to a registration
-    // that is made anew.
-    fn takes_line(&mut self) -> bool {
+    /// Whether standard error is a file, which takes each line at once.
+    pub fn tells_a_file(&self) -> bool {
+        self.is_file
+    }
+
+    // Whether a part of a line can be written without a wait. What is ready is reported to a
+    // registration that is made anew.
+    fn takes_part(&mut self) -> bool {
         let Some(poll) = &mut self.ready else {
             return true;
         };
@@ -64,14 +76,22 @@ impl<W: Write + Drop> Teller<W> {
             && !self.events.is_empty()
     }
 
-    // Writes a line where it can be written at once.
+    // Writes what can be written without a wait, which is asked before each part.
+    fn write_at_once(&mut self, lines: &[u8]) -> io::Result<()> {
+        for part in lines.chunks(PIPE_BUF) {
+            if !self.takes_part() {
+                return Err(io::Error::from(io::ErrorKind::WouldBlock));
+            }
+            self.out.write_all(part)?;
+        }
+        Ok(())
+    }
+
+    // Writes the line of a notice.
     fn write<R: System>(&mut self, rt: &R, notice: Notice<'_>) -> io::Result<()> {
         let now = moment(rt).unwrap_or(0);
         let line = line(rt.alloc(), now, notice, Lost(self.lost))?;
-        if !self.takes_line() {
-            return Err(io::Error::from(io::ErrorKind::WouldBlock));
-        }
-        self.out.write_all(&line)
+        self.write_at_once(&line)
     }
 
     /// Writes the line of a notice, or loses it.
@@ -84,9 +104,8 @@ impl<W: Write + Drop> Teller<W> {
 
     /// Writes lines as they are, or loses them.
     pub fn put(&mut self, lines: &[u8]) {
-        if self.takes_line() && self.out.write_all(lines).is_ok() {
-            return;
+        if self.write_at_once(lines).is_err() {
+            self.lost = self.lost.saturating_add(1);
         }
-        self.lost = self.lost.saturating_add(1);
     }
 }

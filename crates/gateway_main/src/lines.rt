@@ -1,17 +1,40 @@
 //! Standard error as a sink of lines, which never waits for its reader.
 //!
-//! A tap is kept in a box, which holds no set of sockets: so each line makes its own teller.
+//! A tap is kept in a box, which holds no set of sockets: so each line makes its own teller, but
+//! for the line of an entry where standard error is a file, which takes every line at once.
 
 ghost use Rattle.std.specs.Prelude.{None};
 
 use edge_parts::Notice;
 use gateway_edge::Teller;
 use outside::{Failed, Sink};
+use std::io::Write;
 
 /// Lines as they are. One that would not be taken at once is lost.
 #[derive(Drop)]
 pub(crate) struct PlainLines {
-    pub(crate) rt: HostRuntime,
+    rt: HostRuntime,
+    // Whether standard error was seen to be a file.
+    to_file: bool,
+}
+
+impl PlainLines {
+    /// Lines to standard error.
+    pub(crate) fn new(rt: HostRuntime) -> PlainLines {
+        PlainLines { rt, to_file: false }
+    }
+
+    // Writes lines as they are, or loses them.
+    fn write(&mut self, lines: &[u8]) {
+        if self.to_file {
+            let _ = self.rt.stderr().write_all(lines); // what a full disk refuses is lost
+            return;
+        }
+        if let Ok(mut teller) = Teller::new(&self.rt, self.rt.stderr()) {
+            teller.put(lines);
+            self.to_file = teller.tells_a_file();
+        }
+    }
 }
 
 impl Sink for PlainLines {
@@ -20,9 +43,7 @@ impl Sink for PlainLines {
     ghost faults = { λ _. 0 };
 
     fn put(&mut self, piece: &[u8]) -> Result<(), Failed> {
-        if let Ok(mut teller) = Teller::new(&self.rt, self.rt.stderr()) {
-            teller.put(piece);
-        }
+        self.write(piece);
         Ok(())
     }
 }

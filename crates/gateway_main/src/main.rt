@@ -52,7 +52,7 @@ fn ended(rt: HostRuntime, words: &[String]) -> Result<Status, AllocError> {
     let mut taps: Vec<Box<dyn Tap>> = Vec::new(alloc);
     match options.words {
         [word, ..] if word.as_str() == "serve" => {
-            taps.push(Box::new(alloc, LineTap::new(PlainLines { rt }))?)?;
+            taps.push(Box::new(alloc, LineTap::new(PlainLines::new(rt)))?)?;
             taps.push(Box::new(alloc, TextTap::new(alloc, DatedLines { rt }))?)?;
         }
         [word, ..] if word.as_str() == "replay" || word.as_str() == "drill" => {
