@@ -51,8 +51,8 @@ pub(crate) fn entry_of(
     })
 }
 
-// Whether no number changes.
-fn same_numbers(before: Next, after: Next) -> bool
+/// Whether no number changes.
+pub(crate) fn same_numbers(before: Next, after: Next) -> bool
     ensures { result ≡ same_numbers before after }
 {
     before.0 == after.0 && (before.1 == after.1 && (before.2 == after.2 && before.3 == after.3))

@@ -20,13 +20,13 @@ ghost use Rattle.message_answers.specs.Chains.{new_item};
 ghost use Rattle.message_answers.specs.Seen.{IsFit};
 ghost use Rattle.gateway_core.specs.Planning.{IsSayable, StepsAreSayable, heard_by};
 ghost use Rattle.gateway_core.specs.Planning.{words_by, given_by, entry_by, decision_by, turned};
-ghost use Rattle.gateway_core.specs.Planning.{quiet_by, Comes, JoinsWith, IsAnswered};
+ghost use Rattle.gateway_core.specs.Planning.{quiet_by, silent, Comes, JoinsWith, IsAnswered};
 ghost use Rattle.message_answers.specs.Seen.{IsSplit};
 ghost use Rattle.gateway_core.specs.State.{loaded, Stand, IsNew, Plans, HasItem, Grows};
 ghost use Rattle.gateway_core.specs.State.{sessions_in, decision_of};
 
 use crate::acting::{hangs_up, is_active, is_asked, repeat_of, took_of};
-use crate::entries::{committed, entry_of, with_entry};
+use crate::entries::{committed, entry_of, same_numbers, with_entry};
 use crate::outs::{Heard, Speaker, say_all};
 use crate::sessions::{Given, Sessions};
 use crate::{Config, Event, Plan, PlanError};
@@ -224,6 +224,30 @@ struct Told {
     item: Option<ChainItem>,
 }
 
+impl<'a> Turn<'a> {
+    // An event of a side at which no message comes.
+    fn silent(side: Side) -> Turn<'a>
+        ensures turn { result ≡ record {
+          side = side;
+          heard = result.heard;
+          took = None;
+          answer = record { words = None; item = None };
+        } }
+        ensures heard { heard_by result.heard ≡ silent }
+        ensures echo { result.heard.echo.now ≡ [] }
+    {
+        Turn {
+            side,
+            heard: Heard::nothing(),
+            took: None,
+            answer: Answer {
+                words: None,
+                item: None,
+            },
+        }
+    }
+}
+
 impl Core {
     fn sessions(&self) -> Sessions
         ensures { result ≡ sessions_in self.now }
@@ -283,18 +307,36 @@ impl Core {
         ensures plan { Comes (quiet_by (sessions_in self.now) side now step) result }
         ensures item { IfOk result (HasItem self.now) }
     {
-        let turn = Turn {
-            side,
-            heard: Heard::nothing(),
-            took: None,
-            answer: Answer {
-                words: None,
-                item: None,
-            },
-        };
         match step {
-            Ok(step) => self.concluded(alloc, turn, step, now),
+            Ok(step) => match self.still(side, &step) {
+                Some(plan) => Ok(plan),
+                None => self.concluded(alloc, Turn::silent(side), step, now),
+            },
             Err(_) => Err(PlanError::NumbersSpent { side }),
+        }
+    }
+
+    // The plan of a step that does nothing and changes no number: its session goes on.
+    fn still(&self, side: Side, step: &Step) -> Option<Plan>
+        ensures plan { IfSome result (λ plan. (now : ℕ) →
+            turned (sessions_in self.now) side silent None None step.now now
+            ≡ Ok (decision_of plan)) }
+        ensures item { IfSome result (HasItem self.now) }
+    {
+        let sessions = self.sessions().with(side, step.next);
+        if !same_numbers(self.sessions().numbers(), sessions.numbers()) {
+            return None;
+        }
+        match step.acts.as_slice() {
+            [] => Some(Plan {
+                entry: None,
+                item: None,
+                client: sessions.client,
+                venue: sessions.venue,
+                resend: None,
+                hang_up: None,
+            }),
+            _ => None,
         }
     }
 
