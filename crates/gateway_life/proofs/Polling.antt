@@ -11,19 +11,16 @@ use Rattle.frame_grammar.specs.Held.{Held, room}
 use Rattle.frame_grammar.specs.Cut.{Piece}
 use Rattle.frame_grammar.specs.Framer.{StandsFor}
 use Rattle.order_meaning.specs.declared.Side.{Side}
-use Rattle.order_meaning.specs.declared.Side.TheVariants.{Client, Venue}
 use Rattle.pair_entries.specs.declared.entry.Entry.{Entry}
 use Rattle.session_frames.specs.Frames.{kind_of}
 use Rattle.event_decisions.specs.Event.{Event, Opened, Frame, Closed, Tick}
 use Rattle.gateway_config.specs.declared.config.Config.{Config}
-use Rattle.gateway_core.specs.State.{sessions_in}
 use Rattle.wires.specs.Wire as wire
 use Rattle.wires.specs.Wire.{Came, may_come}
 use Rattle.life_events.specs.Happens.{World, up_on}
 use Rattle.life_events.specs.Turn.{on_side, with_up, up_after, AreNew, events_of}
 use Rattle.gateway_life.specs.declared.end.LifeEnd.{LifeEnd}
-use Rattle.gateway_life.specs.State.{GateState}
-use Rattle.gateway_life.specs.Ready.{LeavesOf, world_of}
+use Rattle.gateway_life.specs.Ready.{LeavesOf}
 use Rattle.gateway_life.specs.Stepped.{Records, Grew, Stepped, Broken}
 use Rattle.gateway_life.specs.Turned.{Arrived, ArrivedPart, Turned, TurnBroken, TakenAll, TakenPart}
 use Rattle.gateway_life.specs.Turned.{record_on}
@@ -63,30 +60,6 @@ durable_on (Err error) A B C first later = tt
 pub ok_map : {T E : Type 0} (r : Result T E) (P Q : Type 0) → (P → Q) → OnOk r P → OnOk r Q
 ok_map (Ok value) P Q to p = to p
 ok_map (Err error) P Q to p = tt
-
--- ---- a poll
-
-pub world_client : (old new : GateState) (came : Came) → new.journal ≡ old.journal
-    → new.core ≡ old.core → new.client_up ≡ up_after old.client_up came
-    → new.venue_up ≡ old.venue_up
-    → world_of new ≡ with_up Client (up_after old.client_up came) (world_of old)
-world_client old new came journal core up other = λ i. record {
-  entries = (journal i).entries;
-  sessions = sessions_in (core i);
-  client_up = up i;
-  venue_up = other i;
-}
-
-pub world_venue : (old new : GateState) (came : Came) → new.journal ≡ old.journal
-    → new.core ≡ old.core → new.venue_up ≡ up_after old.venue_up came
-    → new.client_up ≡ old.client_up
-    → world_of new ≡ with_up Venue (up_after old.venue_up came) (world_of old)
-world_venue old new came journal core up other = λ i. record {
-  entries = (journal i).entries;
-  sessions = sessions_in (core i);
-  client_up = other i;
-  venue_up = up i;
-}
 
 -- ---- a side's turn
 

@@ -27,7 +27,7 @@ use Rattle.gateway_life.specs.Stepped.{Records, Grew, AllStepped, Failed}
 use Rattle.gateway_life.specs.Turned.{StandsWhole, IfBytes, UnlessOpened, Turned, TurnBroken}
 use Rattle.gateway_life.specs.Turned.{record_on}
 use Rattle.gateway_life.specs.Life.{OneEnds, LastEnds, moment_of}
-use Rattle.gateway_life.specs.Rounds.{StoodFor, AreTold, RoundDone, RoundEnds, RoundBroken}
+use Rattle.gateway_life.specs.Rounds.{AreTold, RoundDone, RoundEnds, RoundBroken}
 use Rattle.gateway_life.specs.Rounds.{RoundsDone, LifeDone, LifeBroken, ends_of}
 use Rattle.gateway_life.proofs.Turning.{grew_append, grew_none, both_end, both_three}
 use Rattle.gateway_life.proofs.Failing.{FailsFor, failed_fails, failed_grew}

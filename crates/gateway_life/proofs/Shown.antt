@@ -1,7 +1,7 @@
 -- The names of a configuration that was read can be shown in a header.
-use Rattle.std.proofs.Common.{◌≡◌, ℕ, ◌≤◌, Bool, true, false, List, [], ◌∷◌, length, refl, sym, ap}
-use Rattle.std.proofs.Common.{◌∙◌, subst, Some, None, Ok, arith, codes}
-use Rattle.std.specs.Prelude.{Option, ◌&&◌, ◌||◌, nat_le, if◌then◌else◌}
+use Rattle.std.proofs.Common.{◌≡◌, ℕ, Bool, true, false, List, [], ◌∷◌, length, refl, subst}
+use Rattle.std.proofs.Common.{Some, None, arith, codes}
+use Rattle.std.specs.Prelude.{Option, ◌&&◌, nat_le, if◌then◌else◌}
 use Rattle.std.specs.List.{list_all, list_any}
 use Rattle.std.proofs.lemmas.Bool.{or_from}
 use Rattle.std.proofs.lemmas.Bool.Decides.{nat_tests}
@@ -9,9 +9,8 @@ use Rattle.toml.specs.Data.{Data, string, table}
 use Rattle.field_groups.specs.Field.{is_soh}
 use Rattle.order_meaning.specs.declared.names.TheConstants.{MAX_NAME}
 use Rattle.session_frames.specs.Laws.{IsShown}
-use Rattle.gateway_config.specs.declared.config.Config.{Config}
-use Rattle.gateway_config.specs.Reading.{Says, Reads, name_in, is_name, is_printable, value_of}
-use Rattle.gateway_life.specs.Laws.{AreShown, ReadNamesAreShown}
+use Rattle.gateway_config.specs.Reading.{name_in, is_name, is_printable, value_of}
+use Rattle.gateway_life.specs.Laws.{ReadNamesAreShown}
 
 both : (a b : Bool) → (a && b) ≡ true → (a ≡ true) × (b ≡ true)
 both true true e = (refl, refl)

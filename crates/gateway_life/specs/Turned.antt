@@ -3,6 +3,7 @@ use Rattle.std.specs.Prelude.{◌≡◌, ℕ, ◌≤◌, true, List, [], ◌∷�
 use Rattle.std.specs.Prelude.{is_some}
 use Rattle.std.specs.declared.option.Option.{Option}
 use Rattle.std.specs.List.{filter_map}
+use Rattle.outside.specs.Causes.{next_count}
 use Rattle.frame_grammar.specs.Held.{Held, room}
 use Rattle.frame_grammar.specs.Cut.{Piece, ComeFirst, Cut}
 use Rattle.frame_grammar.specs.Framer.{StandsFor}
@@ -104,6 +105,12 @@ pub record IsDrained (side : Side) (held : Held) : Type 0 where
 abbrev pub record_on : Side → Records → Option (List WireCall)
 record_on Client r = r.client
 record_on Venue r = r.venue
+
+-- how often the wire of a side was polled, behind a turn of a side
+abbrev pub polls_after : (wire turn : Side) → ℕ → ℕ
+polls_after Client Client count = next_count count
+polls_after Venue Venue count = next_count count
+polls_after wire turn count = count
 
 -- A SIDE'S TURN, whole, for whatever was read on a connection that stands and that the framer
 -- stood for.

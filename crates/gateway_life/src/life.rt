@@ -28,7 +28,7 @@ ghost use Rattle.gateway_life.specs.Rounds.{IsUnbegun};
 use crate::LifeEnd;
 use crate::gate::Gate;
 use crate::laws::lives_leave;
-use crate::turn::{client_turn, venue_turn};
+use crate::turn::turn;
 use drop_taps::Tap;
 use event_decisions::Event;
 use frame_grammar::{Framer, Kind};
@@ -39,7 +39,7 @@ use pair_entries::MAX_AT;
 use pair_journal::laws::an_image_has_one_reading;
 use std::alloc::Global;
 use std::marker::Model;
-use wires::{Clock, Wire};
+use wires::{Clock, POLL_LEN, Wire};
 
 /// One life of the gateway, between its rounds.
 #[derive(Drop)]
@@ -153,22 +153,27 @@ impl Life {
         ensures cause { HasCauseOf (D.faults disk.old) (D.faults disk.new) result }
     {
         let now = moment(clock);
-        client_turn(
+        let mut buf = [0u8; POLL_LEN];
+        turn(
             &mut self.gate,
             disk,
             client,
             venue,
             taps,
             &mut self.client,
+            Side::Client,
+            &mut buf,
             now,
         )?;
-        venue_turn(
+        turn(
             &mut self.gate,
             disk,
             client,
             venue,
             taps,
             &mut self.venue,
+            Side::Venue,
+            &mut buf,
             now,
         )
     }

@@ -2,7 +2,6 @@
 
 ghost use Rattle.std.specs.Prelude.{◌≡◌, ◌≤◌, ◌<◌, [], ◌∷◌, length, is_some, true, IfOk, IfErr};
 ghost use Rattle.std.specs.Prelude.{OnOk};
-ghost use Rattle.outside.specs.Causes.{next_count};
 ghost use Rattle.outside.specs.Disk.{HasOneImage};
 ghost use Rattle.std.specs.Prelude.{ℕ, List};
 ghost use Rattle.frame_grammar.specs.Cut.{Piece};
@@ -11,17 +10,17 @@ ghost use Rattle.frame_grammar.specs.Framer.{StandsFor};
 ghost use Rattle.frame_grammar.specs.Held.{room};
 ghost use Rattle.frame_grammar.specs.declared.framer.TheConstants.{LEAST_ROOM};
 ghost use Rattle.event_decisions.specs.Event.{Frame};
-ghost use Rattle.wires.specs.Told.{GrowsBy, Keeps};
+ghost use Rattle.wires.specs.Told.{Keeps};
 ghost use Rattle.wires.specs.declared.wire.TheConstants.{POLL_LEN};
 ghost use Rattle.wires.specs.Wire.{Poll, Fits, came_of, may_come};
 ghost use Rattle.life_events.specs.Happens.{up_on};
-ghost use Rattle.life_events.specs.Turn.{up_after};
+ghost use Rattle.life_events.specs.Turn.{on_side, with_up, up_after};
 ghost use Rattle.wire_sends.specs.Sent.{Agrees};
 ghost use Rattle.gateway_life.specs.Ready.{Ready, world_of, LeavesOf};
 ghost use Rattle.gateway_life.specs.State.{seen};
-ghost use Rattle.gateway_life.specs.Stepped.{SteppedOrNot, BrokenIf, HasCauseOf, records};
+ghost use Rattle.gateway_life.specs.Stepped.{SteppedOrNot, BrokenIf, HasCauseOf, Grew, records};
 ghost use Rattle.gateway_life.specs.Turned.{IsDrained, TakenAll, TakenPart, Arrived, ArrivedPart};
-ghost use Rattle.gateway_life.specs.Turned.{Turned, TurnBroken};
+ghost use Rattle.gateway_life.specs.Turned.{Turned, TurnBroken, record_on, polls_after};
 ghost use Rattle.gateway_life.specs.Stepped.{IsOfEvent};
 ghost use Rattle.drop_taps.specs.Shown.{state_by};
 ghost use Rattle.gateway_life.specs.Watched.{Watched, WereCommitted};
@@ -34,7 +33,7 @@ use frame_grammar::{Framer, Next};
 use order_meaning::Side;
 use outside::{Disk, Failed};
 use pair_entries::MAX_AT;
-use wires::{Arrival, POLL_LEN, Wire};
+use wires::{Arrival, Wire};
 
 // Whether a connection stands on a side.
 fn is_up(gate: &Gate, side: Side) -> bool
@@ -241,76 +240,79 @@ fn up_after(up: bool, found: Result<Arrival, Failed>) -> bool
     }
 }
 
-// Looks for what is new from the client.
-fn poll_client<C: Wire>(gate: &mut Gate, client: &mut C, buf: &mut [u8]) -> Result<Arrival, Failed>
+// Looks for what is new from a side.
+fn poll<C: Wire, V: Wire>(
+    gate: &mut Gate,
+    client: &mut C,
+    venue: &mut V,
+    side: Side,
+    buf: &mut [u8],
+) -> Result<Arrival, Failed>
     requires room { length buf.old ≡ POLL_LEN }
-    requires agrees { Agrees (C.recorded client.old) gate.old.client_up }
-    ensures fits { IfOk result (λ arrived. Fits arrived buf.new) }
+    requires client_agrees { Agrees (C.recorded client.old) gate.old.client_up }
+    requires venue_agrees { Agrees (V.recorded venue.old) gate.old.venue_up }
+    ensures fits { IfOk result (λ arrival. Fits arrival buf.new) }
     ensures same { (gate.new.journal ≡ gate.old.journal) × (gate.new.core ≡ gate.old.core) }
-    ensures up { gate.new.client_up
-        ≡ up_after gate.old.client_up (came_of result buf.new) }
-    ensures other { gate.new.venue_up ≡ gate.old.venue_up }
-    ensures grows { GrowsBy (C.recorded client.old) (C.recorded client.new)
-        (Poll (came_of result buf.new) ∷ []) }
-    ensures may { is_some (C.recorded client.old) ≡ true →
-        may_come gate.old.client_up (came_of result buf.new) ≡ true }
-    ensures agrees { Agrees (C.recorded client.new) gate.new.client_up }
-    ensures polled { C.polls client.new ≡ next_count (C.polls client.old) }
+    ensures world { world_of (seen gate.new) ≡ with_up side
+        (up_after (up_on side (world_of (seen gate.old))) (came_of result buf.new))
+        (world_of (seen gate.old)) }
+    ensures grew { Grew (records (C.recorded client.old) (V.recorded venue.old))
+        (records (C.recorded client.new) (V.recorded venue.new))
+        (on_side side (Poll (came_of result buf.new) ∷ [])) }
+    ensures may { is_some (record_on side (records (C.recorded client.old)
+        (V.recorded venue.old))) ≡ true →
+        may_come (up_on side (world_of (seen gate.old))) (came_of result buf.new) ≡ true }
+    ensures client_agrees { Agrees (C.recorded client.new) gate.new.client_up }
+    ensures venue_agrees { Agrees (V.recorded venue.new) gate.new.venue_up }
+    ensures client_polls { C.polls client.new
+        ≡ polls_after Side.Client side (C.polls client.old) }
+    ensures venue_polls { V.polls venue.new ≡ polls_after Side.Venue side (V.polls venue.old) }
     ensures client_plays { Keeps (C.plays client.old) (C.plays client.new) }
-{
-    let found = client.poll(buf);
-    gate.client_up = up_after(gate.client_up, found);
-    found
-}
-
-// Looks for what is new from the venue.
-fn poll_venue<V: Wire>(gate: &mut Gate, venue: &mut V, buf: &mut [u8]) -> Result<Arrival, Failed>
-    requires room { length buf.old ≡ POLL_LEN }
-    requires agrees { Agrees (V.recorded venue.old) gate.old.venue_up }
-    ensures fits { IfOk result (λ arrived. Fits arrived buf.new) }
-    ensures same { (gate.new.journal ≡ gate.old.journal) × (gate.new.core ≡ gate.old.core) }
-    ensures up { gate.new.venue_up
-        ≡ up_after gate.old.venue_up (came_of result buf.new) }
-    ensures other { gate.new.client_up ≡ gate.old.client_up }
-    ensures grows { GrowsBy (V.recorded venue.old) (V.recorded venue.new)
-        (Poll (came_of result buf.new) ∷ []) }
-    ensures may { is_some (V.recorded venue.old) ≡ true →
-        may_come gate.old.venue_up (came_of result buf.new) ≡ true }
-    ensures agrees { Agrees (V.recorded venue.new) gate.new.venue_up }
-    ensures polled { V.polls venue.new ≡ next_count (V.polls venue.old) }
     ensures venue_plays { Keeps (V.plays venue.old) (V.plays venue.new) }
 {
-    let found = venue.poll(buf);
-    gate.venue_up = up_after(gate.venue_up, found);
-    found
+    match side {
+        Side::Client => {
+            let found = client.poll(buf);
+            gate.client_up = up_after(gate.client_up, found);
+            found
+        }
+        Side::Venue => {
+            let found = venue.poll(buf);
+            gate.venue_up = up_after(gate.venue_up, found);
+            found
+        }
+    }
 }
 
-/// The client's turn.
-pub(crate) fn client_turn<D: Disk, C: Wire, V: Wire>(
+/// A side's turn. Its poll fills `buf`.
+pub(crate) fn turn<D: Disk, C: Wire, V: Wire>(
     gate: &mut Gate,
     disk: &mut D,
     client: &mut C,
     venue: &mut V,
     taps: &mut Vec<Box<dyn Tap>>,
     framer: &mut Framer,
+    side: Side,
+    buf: &mut [u8],
     now: u64,
 ) -> Result<(), LifeEnd>
     requires ready { Ready (seen gate.old) (D.bytes disk.old)
         (C.recorded client.old) (V.recorded venue.old) }
     requires moment { now ≤ MAX_AT }
-    requires drained { IsDrained Side.Client framer.old }
+    requires drained { IsDrained side framer.old }
+    requires room { length buf.old ≡ POLL_LEN }
     ensures config { gate.new.core.config ≡ gate.old.core.config }
     ensures ready { OnOk result (Ready (seen gate.new) (D.bytes disk.new)
         (C.recorded client.new) (V.recorded venue.new)) }
-    ensures drained { OnOk result (IsDrained Side.Client framer.new) }
-    ensures turn { OnOk result (Turned Side.Client framer.old framer.new gate.old.core.config
+    ensures drained { OnOk result (IsDrained side framer.new) }
+    ensures turn { OnOk result (Turned side framer.old framer.new gate.old.core.config
         (world_of (seen gate.old)) now (world_of (seen gate.new))
         (records (C.recorded client.old) (V.recorded venue.old))
         (records (C.recorded client.new) (V.recorded venue.new))) }
     ensures durable { OnOk result (HasOneImage (D.bytes disk.old) (D.image disk.old) →
         HasOneImage (D.bytes disk.new) (D.image disk.new)) }
     ensures ends { IfErr result (λ end. LeavesOf (D.bytes disk.old) (D.image disk.old)
-        (D.image disk.new) gate.old.core.config.names (TurnBroken end Side.Client
+        (D.image disk.new) gate.old.core.config.names (TurnBroken end side
         framer.old gate.old.core.config (world_of (seen gate.old)) now
         (records (C.recorded client.old) (V.recorded venue.old))
         (records (C.recorded client.new) (V.recorded venue.new)))) }
@@ -323,84 +325,15 @@ pub(crate) fn client_turn<D: Disk, C: Wire, V: Wire>(
     ensures only { IfErr result IsOfEvent }
     ensures told { is_some (D.bytes disk.new) ≡ is_some (D.bytes disk.old) }
     ensures cause { HasCauseOf (D.faults disk.old) (D.faults disk.new) result }
-    ensures polled { C.polls client.new ≡ next_count (C.polls client.old) }
-    ensures polls { V.polls venue.new ≡ V.polls venue.old }
+    ensures client_polls { C.polls client.new
+        ≡ polls_after Side.Client side (C.polls client.old) }
+    ensures venue_polls { V.polls venue.new ≡ polls_after Side.Venue side (V.polls venue.old) }
     ensures client_plays { Keeps (C.plays client.old) (C.plays client.new) }
     ensures venue_plays { Keeps (V.plays venue.old) (V.plays venue.new) }
 {
-    let mut buf = [0u8; POLL_LEN];
-    let found = poll_client(gate, client, &mut buf);
+    let found = poll(gate, client, venue, side, &mut *buf);
     arrived(
-        gate,
-        disk,
-        client,
-        venue,
-        taps,
-        framer,
-        Side::Client,
-        found,
-        &buf,
-        now,
+        gate, disk, client, venue, taps, framer, side, found, buf, now,
     )?;
-    gate.event(disk, client, venue, taps, &Event::Tick(Side::Client), now)
-}
-
-/// The venue's turn.
-pub(crate) fn venue_turn<D: Disk, C: Wire, V: Wire>(
-    gate: &mut Gate,
-    disk: &mut D,
-    client: &mut C,
-    venue: &mut V,
-    taps: &mut Vec<Box<dyn Tap>>,
-    framer: &mut Framer,
-    now: u64,
-) -> Result<(), LifeEnd>
-    requires ready { Ready (seen gate.old) (D.bytes disk.old)
-        (C.recorded client.old) (V.recorded venue.old) }
-    requires moment { now ≤ MAX_AT }
-    requires drained { IsDrained Side.Venue framer.old }
-    ensures config { gate.new.core.config ≡ gate.old.core.config }
-    ensures ready { OnOk result (Ready (seen gate.new) (D.bytes disk.new)
-        (C.recorded client.new) (V.recorded venue.new)) }
-    ensures drained { OnOk result (IsDrained Side.Venue framer.new) }
-    ensures turn { OnOk result (Turned Side.Venue framer.old framer.new gate.old.core.config
-        (world_of (seen gate.old)) now (world_of (seen gate.new))
-        (records (C.recorded client.old) (V.recorded venue.old))
-        (records (C.recorded client.new) (V.recorded venue.new))) }
-    ensures durable { OnOk result (HasOneImage (D.bytes disk.old) (D.image disk.old) →
-        HasOneImage (D.bytes disk.new) (D.image disk.new)) }
-    ensures ends { IfErr result (λ end. LeavesOf (D.bytes disk.old) (D.image disk.old)
-        (D.image disk.new) gate.old.core.config.names (TurnBroken end Side.Venue
-        framer.old gate.old.core.config (world_of (seen gate.old)) now
-        (records (C.recorded client.old) (V.recorded venue.old))
-        (records (C.recorded client.new) (V.recorded venue.new)))) }
-    ensures taps { Watched (state_by has_failed entries tally counts_all)
-        taps.old.items taps.new.items gate.old.journal.entries
-        gate.new.journal.entries }
-    ensures kept { IfErr result (λ end. LeavesOf (D.bytes disk.old) (D.image disk.old)
-        (D.image disk.new) gate.old.core.config.names
-        (WereCommitted end gate.new.journal.entries)) }
-    ensures only { IfErr result IsOfEvent }
-    ensures told { is_some (D.bytes disk.new) ≡ is_some (D.bytes disk.old) }
-    ensures cause { HasCauseOf (D.faults disk.old) (D.faults disk.new) result }
-    ensures polled { V.polls venue.new ≡ next_count (V.polls venue.old) }
-    ensures polls { C.polls client.new ≡ C.polls client.old }
-    ensures client_plays { Keeps (C.plays client.old) (C.plays client.new) }
-    ensures venue_plays { Keeps (V.plays venue.old) (V.plays venue.new) }
-{
-    let mut buf = [0u8; POLL_LEN];
-    let found = poll_venue(gate, venue, &mut buf);
-    arrived(
-        gate,
-        disk,
-        client,
-        venue,
-        taps,
-        framer,
-        Side::Venue,
-        found,
-        &buf,
-        now,
-    )?;
-    gate.event(disk, client, venue, taps, &Event::Tick(Side::Venue), now)
+    gate.event(disk, client, venue, taps, &Event::Tick(side), now)
 }

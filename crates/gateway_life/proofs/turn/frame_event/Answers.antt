@@ -3,7 +3,7 @@ use Rattle.gateway_life.specs.State.{seen}
 use Rattle.gateway_life.specs.Ready.{world_of}
 use Rattle.event_decisions.specs.Event.{Frame}
 use Rattle.gateway_life.specs.Stepped.{records, Broken, BrokenIf}
-use Rattle.gateway_life.proofs.Turning.{not_counted, counted}
+use Rattle.gateway_life.proofs.Turning.{not_counted}
 use Rattle.gateway_life.proofs.Polling.{last_leaves}
 use Rattle.gateway_life.proofs.Watching.{watched_none}
 use Rattle.gateway_life.proofs.turn.frame_event.Goals as goal

@@ -7,72 +7,72 @@ use Rattle.gateway_life.proofs.Polling.{durable_on}
 use Rattle.gateway_life.proofs.Watching.{watched_append, kept_err, kept_last}
 use Rattle.gateway_life.proofs.life.Life.round.Goals as goal
 
-pub returns-in_err-client_turn-clause-ends : goal.returns-in_err-client_turn-clause-ends
-returns-in_err-client_turn-clause-ends g c =
+pub returns-in_err-turn-clause-ends : goal.returns-in_err-turn-clause-ends
+returns-in_err-turn-clause-ends g c =
     let at = c.moment-now.ensures.given in
-    rw (← c.self.view_is) (client_ends c.from_residual.result c.in_err-client_turn.field-0.0
+    rw (← c.self.view_is) (client_ends c.from_residual.result c.in_err-turn.field-0.0
     c.self.inside.gate.core.config (record {
       gate = seen c.self.inside.gate;
       client = c.self.inside.client;
       venue = c.self.inside.venue;
     }) c.moment-now.result at.0 _ _
     (g.D.Disk.bytes c.args.disk.now) _ _ _ _ c.from_residual.ensures.1 at.1 at.2
-    c.in_err-client_turn.ensures.ends)
+    c.in_err-turn.ensures.ends)
 
 pub returns-clause-round : goal.returns-clause-round
 returns-clause-round g c =
     let at = c.moment-now.ensures.given in
-    rw (← c.self.view_is) (round_ok c.venue_turn.result c.self.inside.gate.core.config
-    c.client_turn.new.gate.core.config (record {
+    rw (← c.self.view_is) (round_ok c.turn-2.result c.self.inside.gate.core.config
+    c.turn.new.gate.core.config (record {
       gate = seen c.self.inside.gate;
       client = c.self.inside.client;
       venue = c.self.inside.venue;
     }) (record {
-      gate = seen c.venue_turn.new.gate;
-      client = c.client_turn.new.framer;
-      venue = c.venue_turn.new.framer;
-    }) (world_of (seen c.client_turn.new.gate)) c.moment-now.result at.0 _ _ _ _ _
-    c.client_turn.ensures.config at.1 at.2 c.in_ok-client_turn.ensures.turn
-    c.venue_turn.ensures.turn)
+      gate = seen c.turn-2.new.gate;
+      client = c.turn.new.framer;
+      venue = c.turn-2.new.framer;
+    }) (world_of (seen c.turn.new.gate)) c.moment-now.result at.0 _ _ _ _ _
+    c.turn.ensures.config at.1 at.2 c.in_ok-turn.ensures.turn
+    c.turn-2.ensures.turn)
 
 pub returns-clause-ends : goal.returns-clause-ends
 returns-clause-ends g c =
     let at = c.moment-now.ensures.given in
-    rw (← c.self.view_is) (venue_ends c.venue_turn.result c.self.inside.gate.core.config
-    c.client_turn.new.gate.core.config (record {
+    rw (← c.self.view_is) (venue_ends c.turn-2.result c.self.inside.gate.core.config
+    c.turn.new.gate.core.config (record {
       gate = seen c.self.inside.gate;
       client = c.self.inside.client;
       venue = c.self.inside.venue;
-    }) c.client_turn.new.framer
-    (world_of (seen c.client_turn.new.gate)) c.moment-now.result at.0 _ _
-    (g.D.Disk.bytes c.args.disk.now) (g.D.Disk.bytes c.client_turn.new.disk) _ _ _ _ _ _
-    c.client_turn.ensures.config at.1 at.2 c.client_turn.ensures.told
-    c.in_ok-client_turn.ensures.durable c.in_ok-client_turn.ensures.turn
-    c.venue_turn.ensures.ends)
+    }) c.turn.new.framer
+    (world_of (seen c.turn.new.gate)) c.moment-now.result at.0 _ _
+    (g.D.Disk.bytes c.args.disk.now) (g.D.Disk.bytes c.turn.new.disk) _ _ _ _ _ _
+    c.turn.ensures.config at.1 at.2 c.turn.ensures.told
+    c.in_ok-turn.ensures.durable c.in_ok-turn.ensures.turn
+    c.turn-2.ensures.ends)
 
-pub returns-in_err-client_turn-clause-taps : goal.returns-in_err-client_turn-clause-taps
-returns-in_err-client_turn-clause-taps g c =
-    rw (← c.self.view_is) c.in_err-client_turn.ensures.taps
+pub returns-in_err-turn-clause-taps : goal.returns-in_err-turn-clause-taps
+returns-in_err-turn-clause-taps g c =
+    rw (← c.self.view_is) c.in_err-turn.ensures.taps
 
-pub returns-in_err-client_turn-clause-kept : goal.returns-in_err-client_turn-clause-kept
-returns-in_err-client_turn-clause-kept g c =
-    rw (← c.self.view_is) (kept_err c.from_residual.result c.in_err-client_turn.field-0.0 _
+pub returns-in_err-turn-clause-kept : goal.returns-in_err-turn-clause-kept
+returns-in_err-turn-clause-kept g c =
+    rw (← c.self.view_is) (kept_err c.from_residual.result c.in_err-turn.field-0.0 _
     (g.D.Disk.bytes c.args.disk.now) _ _ _ _ _ _ c.from_residual.ensures.1 refl (λ one. one) refl
-    c.in_err-client_turn.ensures.kept)
+    c.in_err-turn.ensures.kept)
 
 pub returns-clause-taps : goal.returns-clause-taps
 returns-clause-taps g c =
     rw (← c.self.view_is) (watched_append _ _ _ _ c.self.inside.gate.journal.entries _ _
-    c.client_turn.ensures.taps c.venue_turn.ensures.taps)
+    c.turn.ensures.taps c.turn-2.ensures.taps)
 
 pub returns-clause-kept : goal.returns-clause-kept
 returns-clause-kept g c =
-    rw (← c.self.view_is) (kept_last c.venue_turn.result (g.D.Disk.bytes c.args.disk.now)
-    (g.D.Disk.bytes c.client_turn.new.disk) _ _ _ _ _ _ c.client_turn.ensures.told
-    c.in_ok-client_turn.ensures.durable
-    (ap (λ (k : Config). k.names) c.client_turn.ensures.config) c.venue_turn.ensures.kept)
+    rw (← c.self.view_is) (kept_last c.turn-2.result (g.D.Disk.bytes c.args.disk.now)
+    (g.D.Disk.bytes c.turn.new.disk) _ _ _ _ _ _ c.turn.ensures.told
+    c.in_ok-turn.ensures.durable
+    (ap (λ (k : Config). k.names) c.turn.ensures.config) c.turn-2.ensures.kept)
 
 pub returns-clause-durable : goal.returns-clause-durable
 returns-clause-durable g c =
-    durable_on c.venue_turn.result _ _ _ c.in_ok-client_turn.ensures.durable
-    c.venue_turn.ensures.durable
+    durable_on c.turn-2.result _ _ _ c.in_ok-turn.ensures.durable
+    c.turn-2.ensures.durable

@@ -1,137 +1,125 @@
-use Rattle.std.proofs.Common.{◌∙◌, [], ◌∷◌, ap, refl, subst}
-use Rattle.order_meaning.specs.declared.Side.TheVariants.{Venue}
+use Rattle.std.proofs.Common.{◌∙◌, ap, refl, subst}
 use Rattle.event_decisions.specs.Event.{Tick}
 use Rattle.gateway_config.specs.declared.config.Config.{Config}
 use Rattle.gateway_core.specs.State.{CoreState}
-use Rattle.wires.specs.Wire.{Poll, came_of}
-use Rattle.life_events.specs.Turn.{on_side}
+use Rattle.wires.specs.Wire.{came_of}
 use Rattle.gateway_life.specs.State.{seen}
 use Rattle.gateway_life.specs.Ready.{world_of}
-use Rattle.gateway_life.specs.Stepped.{records, Grew, Stepped, Broken}
+use Rattle.gateway_life.specs.Stepped.{records, Stepped, Broken}
 use Rattle.gateway_life.specs.Turned.{Arrived, ArrivedPart, Turned, TurnBroken}
-use Rattle.wire_sends.proofs.Sendings.{grows_none}
-use Rattle.gateway_life.proofs.Polling.{err_leaves, last_leaves, ok_map, world_venue, turned}
+use Rattle.gateway_life.proofs.Polling.{err_leaves, last_leaves, ok_map, turned}
 use Rattle.gateway_life.proofs.Polling.{turn_part}
 use Rattle.pair_journal.specs.State.{JournalState}
 use Rattle.gateway_life.proofs.Polling.{turn_tick}
 use Rattle.gateway_life.proofs.Watching.{watched_from, watched_append, kept_err, kept_last}
-use Rattle.gateway_life.proofs.turn.venue_turn.Goals as goal
+use Rattle.gateway_life.proofs.turn.turn.Goals as goal
 
 pub returns-in_err-arrived-clause-ends : goal.returns-in_err-arrived-clause-ends
 returns-in_err-arrived-clause-ends g c =
     let config = c.args.gate.now.core.config in
     let w = world_of (seen c.args.gate.now) in
-    let poll = c.poll_venue-found in
+    let poll = c.poll-found in
     let polled = world_of (seen poll.new.gate) in
     let came = came_of poll.result poll.new.buf in
     let same = poll.ensures.same in
-    let is = world_venue (seen c.args.gate.now) (seen poll.new.gate) came same.0 same.1
-    poll.ensures.up poll.ensures.other in
+    let side = c.args.side in
+    let is = poll.ensures.world in
     let at = ap (λ (k : CoreState). k.config) same.1 in
     let r0 = records (g.C.Wire.recorded c.args.client.now) (g.V.Wire.recorded c.args.venue.now) in
-    let r1 = records (g.C.Wire.recorded c.args.client.now) (g.V.Wire.recorded poll.new.venue) in
-    let grew : Grew r0 r1 (on_side Venue (Poll came ∷ [])) = record {
-      client = grows_none _;
-      venue = poll.ensures.grows;
-    } in
+    let r1 = records (g.C.Wire.recorded poll.new.client) (g.V.Wire.recorded poll.new.venue) in
+    let grew = poll.ensures.grew in
     let r2 = records (g.C.Wire.recorded c.arrived.new.client)
     (g.V.Wire.recorded c.arrived.new.venue) in
     let error = c.in_err-arrived.field-0.0 in
     err_leaves c.from_residual.result error _ (g.D.Disk.bytes c.args.disk.now) _ _ _ _ _
-    (ArrivedPart error c.args.framer.now came poll.new.gate.core.config polled Venue
+    (ArrivedPart error c.args.framer.now came poll.new.gate.core.config polled side
     c.args.now r1 r2)
-    (λ end. TurnBroken end Venue c.args.framer.now config w c.args.now r0 r2)
+    (λ end. TurnBroken end side c.args.framer.now config w c.args.now r0 r2)
     c.from_residual.ensures.1 refl (λ one. one) (ap (λ (k : Config). k.names) at)
-    (λ xs part. turn_part config Venue came w polled c.args.now r0 r1 poll.ensures.may
+    (λ xs part. turn_part config side came w polled c.args.now r0 r1 poll.ensures.may
     grew is error c.args.framer.now r2 xs
-    (subst (λ (k : Config). ArrivedPart error c.args.framer.now came k polled Venue c.args.now r1 r2
-    xs) at part)) c.in_err-arrived.ensures.ends
+    (subst (λ (k : Config). ArrivedPart error c.args.framer.now came k polled side c.args.now r1
+    r2 xs) at part)) c.in_err-arrived.ensures.ends
 
 pub returns-clause-turn : goal.returns-clause-turn
 returns-clause-turn g c =
     let config = c.args.gate.now.core.config in
     let w = world_of (seen c.args.gate.now) in
-    let poll = c.poll_venue-found in
+    let poll = c.poll-found in
     let polled = world_of (seen poll.new.gate) in
     let came = came_of poll.result poll.new.buf in
     let same = poll.ensures.same in
-    let is = world_venue (seen c.args.gate.now) (seen poll.new.gate) came same.0 same.1
-    poll.ensures.up poll.ensures.other in
+    let side = c.args.side in
+    let is = poll.ensures.world in
     let at = ap (λ (k : CoreState). k.config) same.1 in
     let r0 = records (g.C.Wire.recorded c.args.client.now) (g.V.Wire.recorded c.args.venue.now) in
-    let r1 = records (g.C.Wire.recorded c.args.client.now) (g.V.Wire.recorded poll.new.venue) in
-    let grew : Grew r0 r1 (on_side Venue (Poll came ∷ [])) = record {
-      client = grows_none _;
-      venue = poll.ensures.grows;
-    } in
+    let r1 = records (g.C.Wire.recorded poll.new.client) (g.V.Wire.recorded poll.new.venue) in
+    let grew = poll.ensures.grew in
     let x = world_of (seen c.arrived.new.gate) in
     let y = world_of (seen c.event.new.self) in
     let r2 = records (g.C.Wire.recorded c.arrived.new.client)
     (g.V.Wire.recorded c.arrived.new.venue) in
     let r3 = records (g.C.Wire.recorded c.event.new.client) (g.V.Wire.recorded c.event.new.venue) in
     let found = subst (λ (k : Config). Arrived c.args.framer.now c.arrived.new.framer came k polled
-    Venue c.args.now x r1 r2) at c.in_ok-arrived.ensures.arrived in
+    side c.args.now x r1 r2) at c.in_ok-arrived.ensures.arrived in
     ok_map c.event.result
-    (Stepped c.arrived.new.gate.core.config x (Tick Venue) c.args.now y r2 r3)
-    (Turned Venue c.args.framer.now c.arrived.new.framer config w c.args.now y r0 r3)
-    (λ tick. turned config Venue came w polled c.args.now r0 r1 poll.ensures.may grew is
+    (Stepped c.arrived.new.gate.core.config x (Tick side) c.args.now y r2 r3)
+    (Turned side c.args.framer.now c.arrived.new.framer config w c.args.now y r0 r3)
+    (λ tick. turned config side came w polled c.args.now r0 r1 poll.ensures.may grew is
     c.args.framer.now c.arrived.new.framer x y r2 r3 found
-    (subst (λ (k : Config). Stepped k x (Tick Venue) c.args.now y r2 r3)
+    (subst (λ (k : Config). Stepped k x (Tick side) c.args.now y r2 r3)
     (c.arrived.ensures.config ∙ at) tick)) c.event.ensures.happens
 
 pub returns-clause-ends : goal.returns-clause-ends
 returns-clause-ends g c =
     let config = c.args.gate.now.core.config in
     let w = world_of (seen c.args.gate.now) in
-    let poll = c.poll_venue-found in
+    let poll = c.poll-found in
     let polled = world_of (seen poll.new.gate) in
     let came = came_of poll.result poll.new.buf in
     let same = poll.ensures.same in
-    let is = world_venue (seen c.args.gate.now) (seen poll.new.gate) came same.0 same.1
-    poll.ensures.up poll.ensures.other in
+    let side = c.args.side in
+    let is = poll.ensures.world in
     let at = ap (λ (k : CoreState). k.config) same.1 in
     let r0 = records (g.C.Wire.recorded c.args.client.now) (g.V.Wire.recorded c.args.venue.now) in
-    let r1 = records (g.C.Wire.recorded c.args.client.now) (g.V.Wire.recorded poll.new.venue) in
-    let grew : Grew r0 r1 (on_side Venue (Poll came ∷ [])) = record {
-      client = grows_none _;
-      venue = poll.ensures.grows;
-    } in
+    let r1 = records (g.C.Wire.recorded poll.new.client) (g.V.Wire.recorded poll.new.venue) in
+    let grew = poll.ensures.grew in
     let x = world_of (seen c.arrived.new.gate) in
     let y = world_of (seen c.event.new.self) in
     let r2 = records (g.C.Wire.recorded c.arrived.new.client)
     (g.V.Wire.recorded c.arrived.new.venue) in
     let r3 = records (g.C.Wire.recorded c.event.new.client) (g.V.Wire.recorded c.event.new.venue) in
     let found = subst (λ (k : Config). Arrived c.args.framer.now c.arrived.new.framer came k polled
-    Venue c.args.now x r1 r2) at c.in_ok-arrived.ensures.arrived in
+    side c.args.now x r1 r2) at c.in_ok-arrived.ensures.arrived in
     last_leaves c.event.result (g.D.Disk.bytes c.args.disk.now) (g.D.Disk.bytes c.arrived.new.disk)
     _ _ _ _ _
-    (λ end. Broken end c.arrived.new.gate.core.config x (Tick Venue) c.args.now r2 r3)
-    (λ end. TurnBroken end Venue c.args.framer.now config w c.args.now r0 r3)
+    (λ end. Broken end c.arrived.new.gate.core.config x (Tick side) c.args.now r2 r3)
+    (λ end. TurnBroken end side c.args.framer.now config w c.args.now r0 r3)
     c.arrived.ensures.told c.in_ok-arrived.ensures.durable
     (ap (λ (k : Config). k.names) (c.arrived.ensures.config ∙ at))
-    (λ end xs broken. turn_tick config Venue came w polled c.args.now r0 r1
+    (λ end xs broken. turn_tick config side came w polled c.args.now r0 r1
     poll.ensures.may grew is end c.args.framer.now c.arrived.new.framer x r2 r3 xs found
-    (subst (λ (k : Config). Broken end k x (Tick Venue) c.args.now r2 r3 xs)
+    (subst (λ (k : Config). Broken end k x (Tick side) c.args.now r2 r3 xs)
     (c.arrived.ensures.config ∙ at) broken)) c.event.ensures.ends
 
 pub returns-in_err-arrived-clause-taps : goal.returns-in_err-arrived-clause-taps
 returns-in_err-arrived-clause-taps g c =
     watched_from _ _ _ c.args.gate.now.journal.entries _ _
-    (ap (λ (j : JournalState). j.entries) c.poll_venue-found.ensures.same.0)
+    (ap (λ (j : JournalState). j.entries) c.poll-found.ensures.same.0)
     c.in_err-arrived.ensures.taps
 
 pub returns-in_err-arrived-clause-kept : goal.returns-in_err-arrived-clause-kept
 returns-in_err-arrived-clause-kept g c =
     kept_err c.from_residual.result c.in_err-arrived.field-0.0 _ (g.D.Disk.bytes c.args.disk.now)
     _ _ _ _ _ c.arrived.new.gate.journal.entries c.from_residual.ensures.1 refl (λ one. one)
-    (ap (λ (k : CoreState). k.config.names) c.poll_venue-found.ensures.same.1)
+    (ap (λ (k : CoreState). k.config.names) c.poll-found.ensures.same.1)
     c.in_err-arrived.ensures.kept
 
 pub returns-clause-taps : goal.returns-clause-taps
 returns-clause-taps g c =
     watched_append _ _ _ _ c.args.gate.now.journal.entries _ _
     (watched_from _ _ _ c.args.gate.now.journal.entries _ _
-    (ap (λ (j : JournalState). j.entries) c.poll_venue-found.ensures.same.0)
+    (ap (λ (j : JournalState). j.entries) c.poll-found.ensures.same.0)
     c.in_ok-arrived.ensures.taps) c.event.ensures.taps
 
 pub returns-clause-kept : goal.returns-clause-kept
@@ -139,4 +127,4 @@ returns-clause-kept g c =
     kept_last c.event.result (g.D.Disk.bytes c.args.disk.now) (g.D.Disk.bytes c.arrived.new.disk)
     _ _ _ _ _ c.event.new.self.journal.entries c.arrived.ensures.told
     c.in_ok-arrived.ensures.durable (ap (λ (k : Config). k.names) (c.arrived.ensures.config
-    ∙ ap (λ (k : CoreState). k.config) c.poll_venue-found.ensures.same.1)) c.event.ensures.kept
+    ∙ ap (λ (k : CoreState). k.config) c.poll-found.ensures.same.1)) c.event.ensures.kept
