@@ -8,8 +8,6 @@ mod line;
 mod lines;
 mod number;
 mod reading;
-#[cfg(test)]
-mod tests;
 
 pub use capture::{Capture, Event, Life, Lives};
 pub use reading::{CaptureFault, read_capture};

@@ -8,8 +8,6 @@ mod kinds;
 pub mod laws;
 mod order;
 mod report;
-#[cfg(test)]
-mod tests;
 
 pub use drill::{Drill, drill_day};
 pub use kinds::Kinds;

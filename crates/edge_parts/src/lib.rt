@@ -21,8 +21,6 @@ mod notice;
 mod outbox;
 mod pace;
 mod shared;
-#[cfg(test)]
-mod tests;
 
 pub use back_off::BackOff;
 pub use clocks::{moment, ticks};

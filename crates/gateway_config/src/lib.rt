@@ -3,8 +3,6 @@
 
 mod config;
 mod reading;
-#[cfg(test)]
-mod tests;
 
 pub use config::{Config, ConfigFault, ConfigKey};
 pub use reading::{DEFAULT_HEART, DEFAULT_WINDOW, MAX_HEART, MAX_WINDOW, read_config};

@@ -3,8 +3,6 @@
 
 mod error;
 mod serving;
-#[cfg(test)]
-mod tests;
 
 pub use error::ServeError;
 pub use serving::serve;

@@ -2,7 +2,5 @@
 #![tactic(auto)]
 
 mod journal_lines;
-#[cfg(test)]
-mod tests;
 
 pub use journal_lines::{ShowError, show};

@@ -6,8 +6,6 @@
 
 mod chains;
 mod item;
-#[cfg(test)]
-mod tests;
 
 pub use chains::Chains;
 pub use item::ChainItem;

@@ -8,8 +8,6 @@ mod names;
 mod party;
 mod reasons;
 mod refusal;
-#[cfg(test)]
-mod tests;
 
 pub use bytes::Bytes;
 pub use fault::{Fault, Lack};

@@ -7,7 +7,5 @@
 
 pub mod laws;
 mod parties;
-#[cfg(test)]
-mod tests;
 
 pub use parties::{CLEARING_FIRM, CLIENT_ID, EXECUTING_FIRM, from_parties, to_parties};

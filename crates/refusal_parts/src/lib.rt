@@ -3,8 +3,6 @@
 #![tactic(auto)]
 
 mod reading;
-#[cfg(test)]
-mod tests;
 mod writing;
 
 pub use reading::{business_reject, session_reject};

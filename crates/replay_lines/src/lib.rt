@@ -6,8 +6,6 @@ pub mod laws;
 mod lines;
 mod played;
 mod printing;
-#[cfg(test)]
-mod tests;
 
 pub use played::{PlayedDrill, PlayedLife};
 pub use printing::{PrintError, put_drill, put_last, put_life};

@@ -3,8 +3,6 @@
 #![tactic(auto)]
 
 mod tap;
-#[cfg(test)]
-mod tests;
 mod text;
 
 pub use tap::TextTap;

@@ -2,7 +2,5 @@
 #![tactic(auto)]
 
 mod reading;
-#[cfg(test)]
-mod tests;
 
 pub use reading::{InputError, MAX_INPUT, MAX_READ, read_some, read_whole};

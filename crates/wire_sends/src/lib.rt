@@ -8,8 +8,6 @@
 mod acts;
 mod repeats;
 mod sends;
-#[cfg(test)]
-mod tests;
 
 pub use acts::{hang_up_on, outs_on, repeat_on};
 pub use sends::is_side;

@@ -24,6 +24,3 @@ pub use quiet::{QuietSource, QuietWire};
 pub use record::{Call, Connection, Noted};
 pub use script::Script;
 pub use wire::{Arrival, POLL_LEN, Wire};
-
-#[cfg(test)]
-mod tests;
