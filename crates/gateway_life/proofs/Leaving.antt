@@ -25,8 +25,8 @@ use Rattle.gateway_life.specs.declared.end.LifeEnd.{LifeEnd}
 use Rattle.gateway_life.specs.declared.end.LifeEnd.TheVariants as ends
 use Rattle.gateway_life.specs.Life.{begun, hung_up, moment_of, Done, IsJournal, Ends, EndsBefore}
 use Rattle.gateway_life.specs.Life.{DoesNotBegin}
-use Rattle.client_books.specs.Laws.{BooksFollow}
-use Rattle.client_books.specs.Books.{book_of_taken}
+use Rattle.heard_laws.specs.Laws.{BooksFollow}
+use Rattle.heard_laws.specs.Books.{book_of_taken}
 use Rattle.gateway_life.specs.Laws.{IsLeft, IsTaken, LeavesImage, GoesOnFrom}
 use Rattle.gateway_life.specs.Laws.{LivesLeave, LivesThatEndLeave}
 use Rattle.gateway_life.proofs.GivenOut.{are_sent}

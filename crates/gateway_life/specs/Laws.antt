@@ -17,7 +17,7 @@ use Rattle.life_events.specs.Repeats.{repeat_forms}
 use Rattle.life_events.specs.Justified.{IsJustified, transcript_from, Leaves}
 use Rattle.life_events.specs.Receiver.{read_body, message_of_out}
 use Rattle.life_events.specs.Taken.{TakesInOrder, take_more, read_of_form, AreReadAsForms}
-use Rattle.client_books.specs.Laws.{TakesTheBook}
+use Rattle.heard_laws.specs.Laws.{TakesTheBook}
 use Rattle.gateway_life.specs.declared.end.LifeEnd.{LifeEnd}
 use Rattle.gateway_life.specs.Life.{Done, LivesToEnd, EndsBefore, IsJournal, Ends}
 

@@ -1,4 +1,0 @@
-mod Worked
-mod Quiet
-mod Told
-mod Followed

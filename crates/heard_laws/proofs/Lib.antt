@@ -1,0 +1,15 @@
+mod Worked
+mod Types
+mod Ids
+mod Numbers
+mod Refusals
+mod Contents
+mod Answered
+mod On
+mod Requests
+mod Reports
+mod Texts
+mod Session
+mod Quiet
+mod Told
+mod Followed
