@@ -10,6 +10,7 @@ pub mod DownCodes
 pub mod DownValues
 pub mod DownRows
 pub mod SoundDown
+pub mod ReadReports
 mod ReportsAgain
 pub mod Bounds
 pub mod SaidReports

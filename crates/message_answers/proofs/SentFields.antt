@@ -35,7 +35,7 @@ use Rattle.request_translate.specs.Translation.{IsRequest, News, Cancels, Replac
 use Rattle.exec_translate.specs.Written.{IsWrittenReject}
 use Rattle.exec_translate.proofs.DownRows.{GoDown, SaysAlike, items_down}
 use Rattle.exec_translate.proofs.SoundDown.{IsRead, reject_sound, report_sound}
-use Rattle.report_translate.proofs.ReadReports.{reject_read, report_read}
+use Rattle.exec_translate.proofs.ReadReports.{reject_read, report_read}
 use Rattle.message_answers.specs.Laws.{header_tags, is_in_header}
 use Rattle.message_answers.specs.Translated.{IsNotCanceled, IsReported}
 use Rattle.message_answers.proofs.Letters.{among}

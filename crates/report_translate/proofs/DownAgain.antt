@@ -47,7 +47,7 @@ use Rattle.report_translate.specs.Reading.{report_message}
 use Rattle.report_translate.specs.Said.{says50, says42, content42}
 use Rattle.report_translate.specs.Writing.{AreWritten, IsExecutionOf, IsRejectOf}
 use Rattle.report_translate.proofs.OfType.{eight, nine, no_report, type_is}
-use Rattle.report_translate.proofs.ReadReports.{IsReadOf, report_read, reject_read}
+use Rattle.exec_translate.proofs.ReadReports.{IsReadOf, report_read, reject_read}
 
 -- ---- a sound message of FIX 4.2 behind the header that is carried
 

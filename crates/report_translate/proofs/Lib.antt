@@ -3,7 +3,6 @@ pub mod OfType
 pub mod GoodFields
 pub mod Stands
 pub mod Appended
-pub mod ReadReports
 pub mod DownAgain
 pub mod Translated
 pub mod Refused
