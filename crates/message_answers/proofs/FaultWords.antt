@@ -240,12 +240,12 @@ beyond_word (tag, marks.Wrong reason) word = tt
 
 -- ---- groups
 
-member_word : (outside passed first many again : Bool) (count tag : ℕ) → IsWordNumber count
-    → IsWordNumber tag → IsWordFault (if outside then Some (Reason tag 15) else
-    (if passed then None else (if first then fault_if many (Reason count 5)
+member_word : (passed outside first many again : Bool) (count tag : ℕ) → IsWordNumber count
+    → IsWordNumber tag → IsWordFault (if passed then None else
+    (if outside then Some (Reason tag 15) else (if first then fault_if many (Reason count 5)
     else fault_if again (Reason tag 15))))
-member_word true passed first many again count tag one two = (two, lit< tt)
-member_word false true first many again count tag one two = tt
+member_word true outside first many again count tag one two = tt
+member_word false true first many again count tag one two = (two, lit< tt)
 member_word false false true many again count tag one two = if_word many count 5 one (lit< tt)
 member_word false false false many again count tag one two = if_word again tag 15 two (lit< tt)
 
@@ -265,7 +265,7 @@ misplaced_word p word group count =
         if_word (not (is_count (number_in p.field.1) (lines_begun group p.after))) p.field.0 16 word
         (lit< tt)
     by false true =
-        member_word (not (is_opened group p.before)) (is_one_of group.skipped p.field.0)
+        member_word (is_one_of group.skipped p.field.0) (not (is_opened group p.before))
         (p.field.0 == group.first) (nat_le most_lines (lines_begun group p.before))
         (lines_begun group p.before == 0 || has_tag p.field.0 (line_before group p.before))
         group.count p.field.0 count word

@@ -81,7 +81,7 @@ module _ (g : GroupTags) (plain : IsPlain g) where
       ap (is_one_of g.skipped) e ∙ plain.first_is_said in
       let member : misplaced_member g before f.0 ≡ None = rw (not_count f h, h) at none in
       few_begun (lines_begun g before)
-      (nat_le 32 (lines_begun g before)) _ refl (rw (opened, skip, first) at member)
+      (nat_le 32 (lines_begun g before)) _ refl (rw (skip, opened, first) at member)
 
   -- one more field of the lines
   one_field : (before fs : List Field) (f : Field) (r : Bool)

@@ -91,11 +91,12 @@ is_opened group (f ∷ fs) =
     if f.0 == group.count then true else (if is_inside group f.0 then is_opened group fs else false)
 
 -- The fault of a member beside the fields before it, from it backwards: outside its group, before
--- the first line, or again in its line (15); a line past the last that may be (5, of the count).
+-- the first line, or again in its line (15); a line past the last that may be (5, of the count). A
+-- tag that says nothing is no member, and has no fault of place anywhere.
 abbrev pub misplaced_member : GroupTags → List Field → ℕ → Option TableFault
 misplaced_member group before tag =
-    if not (is_opened group before) then Some (faults.Reason tag 15)
-    else (if is_one_of group.skipped tag then None
+    if is_one_of group.skipped tag then None
+    else (if not (is_opened group before) then Some (faults.Reason tag 15)
     else (if tag == group.first
     then fault_if (nat_le most_lines (lines_begun group before)) (faults.Reason group.count 5)
     else fault_if (lines_begun group before == 0 || has_tag tag (line_before group before))
@@ -179,7 +180,7 @@ abbrev pub is_of_group : ℕ → GroupTags → Bool
 is_of_group tag group = group.count == tag || is_inside group tag
 
 -- whether a field without a row is passed over: in a table that is not strict, and where it is of a
--- group, which judges it by its place
+-- group: its count, or a tag that says nothing
 abbrev pub is_passed : {Kind : Type 0} → Table Kind → ℕ → Bool
 is_passed table tag =
     not table.strict || list_any (is_of_group tag) (group_tags_in table)

@@ -147,7 +147,8 @@ impl<K> RepeatingGroup<K> {
         }
     }
 
-    /// The fault of a member, with the fields before it and what they say of the group.
+    /// The fault of a tag inside the group, with the fields before it and what they say of the
+    /// group. One that says nothing may stand anywhere.
     fn misplaced_member(&self, before: &[Field<'_>], said: Before, tag: u32) -> Option<TableFault>
         requires opened { said.opened
             ≡ is_opened (own_tags self.now) (reverse (seen before.now)) }
@@ -155,11 +156,11 @@ impl<K> RepeatingGroup<K> {
             ≡ lines_begun (own_tags self.now) (reverse (seen before.now)) }
         ensures { result ≡ misplaced_member (own_tags self.now) (reverse (seen before.now)) tag }
     {
-        if !said.opened {
-            return Some(TableFault::Reason { tag, reason: ORDER });
-        }
         if is_among(self.skipped, tag) {
             return None;
+        }
+        if !said.opened {
+            return Some(TableFault::Reason { tag, reason: ORDER });
         }
         if tag == self.first() {
             if said.lines >= MAX_LINES {

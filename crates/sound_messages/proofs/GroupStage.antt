@@ -153,7 +153,7 @@ module _ (g : GroupTags) (plain : IsPlain g) where
       else fault_if (lines_begun g p.before == 0 || has_tag p.field.0 (line_before g p.before))
       (faults.Reason p.field.0 15)) ≡ None
       → misplaced p g ≡ None
-  member_in p count inside stands skipped e = rw (count, inside, stands, skipped) e
+  member_in p count inside stands skipped e = rw (count, inside, skipped, stands) e
 
   first_in : (f : Field) (before after : List Field) (done : ℕ) (line : List Field)
       → (f.0 == g.count) ≡ false → is_one_of g.skipped f.0 ≡ false →
