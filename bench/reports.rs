@@ -193,16 +193,10 @@ impl Report {
         if self.open.is_some_and(|open| open.0 != group) {
             self.end_group(first);
         }
-        if group == 0 {
+        if group == 0 || passed {
             return;
         }
         let place = usize::from(span.0);
-        if passed {
-            if self.open.is_none() {
-                first.keep(Stage::Order, place, Finding::Reason(tag, 15));
-            }
-            return;
-        }
         let is_fault = match (tag, self.parties.last_mut(), self.contras.last_mut()) {
             _ if self.open.is_none() => true,
             (448, ..) => {
@@ -250,12 +244,7 @@ impl Report {
             let slot = slots.get(tag as usize).map_or(NONE, |slot| usize::from(*slot));
             let set = 1 << slot;
             let span = Span(at as u16, start as u16, end as u16);
-            let is_of_group = match tag {
-                802 | 523 | 803 => slots[453] != NONE as u8,
-                655 => slots[382] != NONE as u8,
-                _ => set & MEMBERS != 0,
-            };
-            if self.open.is_some() || is_of_group {
+            if self.open.is_some() || set & MEMBERS != 0 {
                 self.take_in_group(tag, set, span, &mut first);
             }
             if seen & set & ONCE != 0 {

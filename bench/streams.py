@@ -139,6 +139,8 @@ UNKNOWN = [b"115", b"116", b"128", b"129", b"999", b"7000", b"999999999", b"8", 
            b"448", b"447", b"452", b"541", b"1138", b"528", b"789", b"1409", b"1128", b"354", b"96",
            b"355", b"364", b"3", b"511", b"512", b"513", b"640", b"2", b"41", b"21", b"40", b"79",
            b"80", b"336", b"78", b"386", b"110", b"58", b"38", b"60", b"37"]
+# What the lines of parties and contra brokers have, and no report says.
+PASSED_OVER = [b"523", b"655", b"802", b"803"]
 # What stops the fields, and raw data in ways that do not.
 STOPS = [b"=x", b"abc=1", b"055=1", b"0=1", b"1234567890=1", b"55", b"12345678901234567890", b"",
          b"5 5=x", b"-1=x", b"=", b"1234567890", b"01", b"4294967331=D", b"0000000011=x"]
@@ -322,11 +324,11 @@ def miscounted(draw, side, fields):
 
 
 def misplaced(draw, side, fields):
-    """A member of a group somewhere, often in or beside a group."""
+    """A member of a group, or what is passed over in one, somewhere, often in or beside a group."""
     near = [i + draw.randint(0, 3) for i, (tag, _) in enumerate(fields)
             if tag in side.groups or tag in side.members]
     at = draw.choice(near) if near and draw.random() < 0.8 else somewhere(draw, fields)
-    tag = draw.choice(list(side.members))
+    tag = draw.choice(list(side.members) + PASSED_OVER)
     fields.insert(at, (tag, draw.choice([b"", b"7", b"A", b"-1"])))
 
 

@@ -86,6 +86,8 @@ pub record Orders : Type 0 where
       ((453, codes "1") ∷ (448, codes "B0") ∷ (1, codes "A") ∷ (452, codes "1") ∷ []) [] ≡ at 452 15
   pub sub_ids : order ((453, codes "1") ∷ (448, codes "B0") ∷ (802, codes "1") ∷ (523, codes "x")
       ∷ (803, codes "4") ∷ (452, codes "1") ∷ (523, codes "y") ∷ []) [] ≡ None
+  pub sub_ids_alone : order ((523, codes "x") ∷ (803, codes "4") ∷ []) [] ≡ None
+  pub empty_sub_id : order ((802, []) ∷ []) [] ≡ at 802 4
   -- format: empty, known or not; wrong forms and values; of PartyIDSource and OrderCapacity each
   -- byte is one
   pub empty_known : order ((58, []) ∷ []) [] ≡ at 58 4
@@ -163,6 +165,8 @@ orders = record {
   again_in_line = refl;
   parted_group = refl;
   sub_ids = refl;
+  sub_ids_alone = refl;
+  empty_sub_id = refl;
   empty_known = refl;
   empty_unknown = refl;
   no_day = refl;

@@ -308,7 +308,7 @@ impl<K> Table<K> {
     }
 
     /// Whether a field without a row may be passed over: in a table that is not strict, and where
-    /// it is of a group, which judges it by its place.
+    /// it is of a group: its count, or a tag that says nothing.
     pub(crate) fn is_passed(&self, tag: u32) -> bool
         ensures { result ≡ is_passed (table_of (λ k. k) self.now) tag }
     {

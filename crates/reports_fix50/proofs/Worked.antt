@@ -103,7 +103,7 @@ pub record Faults : Type 0 where
   pub twice_then_version : new_report ((1128, codes "8") ∷ []) ((17, codes "E1") ∷ []) ≡ at 17 13
   pub version_then_group : new_report ((437, codes "1") ∷ (1128, codes "8") ∷ []) [] ≡ at 1128 18
   -- groups: a wrong count; a member outside, before the first line, and again in its line; what is
-  -- passed over in a line
+  -- passed over in a line, without its group, and behind a foreign tag, where no line goes on
   pub wrong_count : new_report ((453, codes "3") ∷ (448, codes "B0") ∷ (452, codes "17")
       ∷ (448, codes "B1") ∷ (452, codes "1") ∷ []) [] ≡ at 453 16
   pub wrong_contras : new_report ((382, codes "2") ∷ (375, codes "C") ∷ []) [] ≡ at 382 16
@@ -119,6 +119,12 @@ pub record Faults : Type 0 where
       ∷ (375, codes "D") ∷ (655, codes "y") ∷ []) [] ≡ None
   pub sub_ids : new_report ((453, codes "1") ∷ (448, codes "B0") ∷ (802, codes "1")
       ∷ (523, codes "x") ∷ (803, codes "4") ∷ (452, codes "1") ∷ []) [] ≡ None
+  pub leg_alone : new_report ((655, codes "x") ∷ []) [] ≡ None
+  pub leg_behind : new_report ((382, codes "1") ∷ (375, codes "C") ∷ (1, codes "A")
+      ∷ (655, codes "x") ∷ []) [] ≡ None
+  pub trader_behind : new_report ((382, codes "1") ∷ (375, codes "C") ∷ (1, codes "A")
+      ∷ (655, codes "x") ∷ (337, codes "T") ∷ []) [] ≡ at 337 15
+  pub empty_leg : new_report ((655, []) ∷ []) [] ≡ at 655 4
   -- format: empty, known or not; a code that has to be known, of OrdStatus and of ExecType; reasons
   -- past 9,999
   pub empty_known : new_report ((58, []) ∷ []) [] ≡ at 58 4
@@ -223,6 +229,10 @@ faults = record {
   again_in_line = refl;
   leg = refl;
   sub_ids = refl;
+  leg_alone = refl;
+  leg_behind = refl;
+  trader_behind = refl;
+  empty_leg = refl;
   empty_known = refl;
   empty_unknown = refl;
   no_status = refl;
