@@ -24,6 +24,7 @@ use Rattle.replay_lines.specs.ReplayLines.{drill_lines}
 use Rattle.capture_replay.specs.Replay.{Played, config_with, nothing, end_name}
 use Rattle.capture_replay.specs.Lived.{IsLived, LivesOn}
 use Rattle.capture_replay.specs.Drills.{IsDrilled, Drills, lines_of_drill}
+use Rattle.capture_replay.specs.Rounds.{moment_after}
 use Rattle.drop_taps.proofs.Showing.{seen_none}
 use Rattle.capture_replay.proofs.EachLine.{all_bounded}
 use Rattle.capture_replay.proofs.Shown.{are_shown}
@@ -47,7 +48,7 @@ module _ {T : Type 0} (state : T → TapState) (first count : ℕ) (seen now : L
     (is : config ≡ config_with names heart) (of_names : names ≡ drill_names)
     (of_heart : heart ≡ drill_heart) (of_lines : lines ≡ drill_events first count)
     (go_on : FirstLivesGoOn) (sound : IsCapture (drill_capture first count))
-    (lives : LivesOn state config lines bytes seen now client venue end image) where
+    (lives : LivesOn state config lines 0 bytes seen now client venue end image) where
   same : config ≡ config_with drill_names drill_heart
   same = is ∙ ap (λ (n : Names). config_with n heart) of_names
       ∙ ap (λ (h : ℕ). config_with drill_names h) of_heart
@@ -58,10 +59,10 @@ module _ {T : Type 0} (state : T → TapState) (first count : ℕ) (seen now : L
   day_lived =
       subst (λ (l : List Event). LivesOn state (config_with drill_names drill_heart) l [] seen now
       client venue end image) of_lines
-      (subst (λ (k : Config). LivesOn state k lines [] seen now client venue end image) same
-      (subst (λ (b : List ℕ). LivesOn state config lines b seen now client venue end image) none
+      (subst (λ (k : Config). LivesOn state k lines 0 [] seen now client venue end image) same
+      (subst (λ (b : List ℕ). LivesOn state config lines 0 b seen now client venue end image) none
       lives))
-      nothing (nothing_stands drill_names)
+      nothing refl (nothing_stands drill_names)
       (go_on drill_names (are_shown (drill_capture first count) sound))
 
   -- and leaves a journal
@@ -80,7 +81,13 @@ module _ {T : Type 0} (state : T → TapState) (first count : ℕ) (seen now : L
     (lived : IsLived state (config_with drill_names drill_heart) (drill_events first count) nothing
     seen now client venue end image) where
   abbrev life : Played
-  life = record { did = lived.did; end = end; image = image; entries = lived.entries }
+  life = record {
+    did = lived.did;
+    end = end;
+    image = image;
+    entries = lived.entries;
+    moment = moment_after 0 (drill_events first count);
+  }
 
   is : IsDrilled state first count seen now life
   is = record {

@@ -12,7 +12,8 @@ use Rattle.capture_text.specs.declared.capture.Event.{Event}
 use Rattle.capture_text.specs.declared.capture.Event.TheVariants as event
 use Rattle.capture_text.specs.Capture.{MayStand, AreEvents}
 use Rattle.capture_text.specs.Line.{IsBounded}
-use Rattle.capture_replay.specs.Rounds.{is_round, arrival, told_moment, script_of, moments_from}
+use Rattle.capture_replay.specs.Rounds.{is_round, arrival, told_moment, script_of, moment_after}
+use Rattle.capture_replay.specs.Rounds.{moments_from}
 
 -- ---- bounds
 
@@ -117,27 +118,69 @@ round_next now (event.Text side bytes) life told = refl
 round_next now (event.Frame side body) life told = refl
 
 module _ (life : List Event) (i : ℕ) (line : Event) (within : i < length life)
-    (there : line ≡ get_or life i line) (moments : List ℕ) (now : ℕ)
-    (was : moments ++ moments_from now (drop i life) ≡ moments_from 0 life) where
+    (there : line ≡ get_or life i line) (moments : List ℕ) (from now : ℕ)
+    (was : moments ++ moments_from now (drop i life) ≡ moments_from from life) where
   pub told_more : (ms : ℕ) → told_moment line ≡ Some ms
-      → moments ++ moments_from ms (drop (i + 1) life) ≡ moments_from 0 life
+      → moments ++ moments_from ms (drop (i + 1) life) ≡ moments_from from life
   told_more ms told = ap (λ l. moments ++ l)
       (sym (ap (moments_from now) (drop_at life i line within there)
       ∙ told_next now ms line (drop (i + 1) life) told)) ∙ was
 
   pub round_more : told_moment line ≡ None
-      → (moments ++ now ∷ []) ++ moments_from now (drop (i + 1) life) ≡ moments_from 0 life
+      → (moments ++ now ∷ []) ++ moments_from now (drop (i + 1) life) ≡ moments_from from life
   round_more told = append_assoc moments (now ∷ []) (moments_from now (drop (i + 1) life))
       ∙ ap (λ l. moments ++ l) (sym (ap (moments_from now) (drop_at life i line within there)
       ∙ round_next now line (drop (i + 1) life) told)) ∙ was
 
-pub at_end : (life : List Event) (moments : List ℕ) (now : ℕ)
-    → moments ++ moments_from now (drop (length life) life) ≡ moments_from 0 life
-    → moments ++ now ∷ [] ≡ moments_from 0 life
-at_end life moments now was = ap (λ l. moments ++ moments_from now l) (sym (none_left life)) ∙ was
-  where
-    none_left : (lines : List Event) → drop (length lines) lines ≡ []
-    none_left [] = refl
-    none_left (line ∷ lines) = none_left lines
+none_left : (lines : List Event) → drop (length lines) lines ≡ []
+none_left [] = refl
+none_left (line ∷ lines) = none_left lines
+
+pub at_end : (life : List Event) (moments : List ℕ) (from now : ℕ)
+    → moments ++ moments_from now (drop (length life) life) ≡ moments_from from life
+    → moments ++ now ∷ [] ≡ moments_from from life
+at_end life moments from now was =
+    ap (λ l. moments ++ moments_from now l) (sym (none_left life)) ∙ was
 
 pub ruleset moment_more = (told_more, round_more, at_end)
+
+-- ---- the moment behind lines
+
+after_told : (now ms : ℕ) (line : Event) (life : List Event) → told_moment line ≡ Some ms
+    → moment_after now (line ∷ life) ≡ moment_after ms life
+after_told now ms (event.At at) life told =
+    ap (λ (m : ℕ). moment_after m life) (let e : at ≡ ms = cc told in e)
+after_told now ms event.Tick life told = absurd (cc told)
+after_told now ms (event.Opened side) life told = absurd (cc told)
+after_told now ms (event.Closed side) life told = absurd (cc told)
+after_told now ms (event.Text side bytes) life told = absurd (cc told)
+after_told now ms (event.Frame side body) life told = absurd (cc told)
+
+after_round : (now : ℕ) (line : Event) (life : List Event) → told_moment line ≡ None
+    → moment_after now (line ∷ life) ≡ moment_after now life
+after_round now (event.At at) life told = absurd (cc told)
+after_round now event.Tick life told = refl
+after_round now (event.Opened side) life told = refl
+after_round now (event.Closed side) life told = refl
+after_round now (event.Text side bytes) life told = refl
+after_round now (event.Frame side body) life told = refl
+
+module _ (life : List Event) (i : ℕ) (line : Event) (within : i < length life)
+    (there : line ≡ get_or life i line) (from now : ℕ)
+    (was : moment_after now (drop i life) ≡ moment_after from life) where
+  pub told_on : (ms : ℕ) → told_moment line ≡ Some ms
+      → moment_after ms (drop (i + 1) life) ≡ moment_after from life
+  told_on ms told = sym (ap (moment_after now) (drop_at life i line within there)
+      ∙ after_told now ms line (drop (i + 1) life) told) ∙ was
+
+  pub round_on : told_moment line ≡ None
+      → moment_after now (drop (i + 1) life) ≡ moment_after from life
+  round_on told = sym (ap (moment_after now) (drop_at life i line within there)
+      ∙ after_round now line (drop (i + 1) life) told) ∙ was
+
+pub all_told : (life : List Event) (from now : ℕ)
+    → moment_after now (drop (length life) life) ≡ moment_after from life
+    → now ≡ moment_after from life
+all_told life from now was = ap (moment_after now) (sym (none_left life)) ∙ was
+
+pub ruleset after_more = (told_on, round_on, all_told)

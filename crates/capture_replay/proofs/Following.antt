@@ -29,6 +29,7 @@ use Rattle.replay_lines.specs.ReplayLines.{life_lines, last_lines}
 use Rattle.capture_replay.specs.Replay.{Left, Played, after, nothing, IsPlayed, ArePlayed, config_of}
 use Rattle.capture_replay.specs.Replay.{end_name, lives_lines, entries_left, replay_lines, Replays}
 use Rattle.capture_replay.specs.Lived.{IsLived, LivesOn, left_after, SoFar}
+use Rattle.capture_replay.specs.Rounds.{moment_after}
 
 -- the life of a turn of the loop
 pub there_in : (all lives : List (List Event)) (i : ℕ) (item lines : List Event) → all ≡ lives
@@ -114,9 +115,9 @@ played_more state config left seen between now (first ∷ lives) (one ∷ played
           (omega (arith, within)) there are is goes_on saw,
     )
 
-module _ {T : Type 0} (state : T → TapState) (capture : Capture) (count : ℕ)
-    (seen between now : List T) (image : List ℕ) (old new : Option (List ℕ))
-    (so_far : SoFar state capture count seen between image old new)
+module _ {T : Type 0} (state : T → TapState) (capture : Capture)
+    (count clock : ℕ) (seen between now : List T) (image : List ℕ) (old new : Option (List ℕ))
+    (so_far : SoFar state capture count clock seen between image old new)
     (lines : List Event) (life : Played) (more : List Entry)
     (within : count < length capture.lives) (there : lines ≡ get_or capture.lives count lines)
     (is : IsPlayed (config_of capture) lines (left_after nothing so_far.played) life)
@@ -141,7 +142,7 @@ module _ {T : Type 0} (state : T → TapState) (capture : Capture) (count : ℕ)
   -- it was printed
   pub next_so_far : (next : Option (List ℕ)) → NextLivesGoOn → AreShown capture.names
       → Appends new next (lines_of (count + 1) life)
-      → SoFar state capture (count + 1) seen now life.image old next
+      → SoFar state capture (count + 1) life.moment seen now life.image old next
   next_so_far next go_on shown put =
       let left = is.left in
       record {
@@ -158,6 +159,7 @@ module _ {T : Type 0} (state : T → TapState) (capture : Capture) (count : ℕ)
             (after (left_after nothing so_far.played) life).client
             (after (left_after nothing so_far.played) life).venue) (sym is.entries)
             (go_on capture.names life.image _ _ shown left));
+        moment = ap (λ (l : Left). l.moment) (left_more nothing so_far.played life);
         put = subst (λ (l : List ℕ). Appends old next l) (sym text_longer)
             (Appends-trans old new next (lives_lines 1 so_far.played) (lines_of (count + 1) life)
             so_far.put put);
@@ -200,7 +202,7 @@ module _ {T : Type 0} (state : T → TapState) (capture : Capture) (count : ℕ)
 module _ {T : Type 0} (state : T → TapState) (capture : Capture) where
   -- nothing was played yet
   pub none_yet : (seen : List T) (image : List ℕ) (old : Option (List ℕ)) → FirstLivesGoOn
-      → AreShown capture.names → image ≡ [] → SoFar state capture 0 seen seen image old old
+      → AreShown capture.names → image ≡ [] → SoFar state capture 0 0 seen seen image old old
   none_yet seen image old go_on shown none = record {
     played = [];
     all = refl;
@@ -208,21 +210,24 @@ module _ {T : Type 0} (state : T → TapState) (capture : Capture) where
     journal = subst (λ (i : List ℕ). IsJournal capture.names [] i) (sym none)
         (inr (inl (omega arith), refl));
     goes_on = go_on capture.names shown;
+    moment = refl;
     put = Appends-nil old;
   }
 
-  module _ (count : ℕ) (seen between now : List T) (image : List ℕ) (old new : Option (List ℕ))
-      (so_far : SoFar state capture count seen between image old new) where
+  module _ (count clock : ℕ) (seen between now : List T) (image : List ℕ)
+      (old new : Option (List ℕ))
+      (so_far : SoFar state capture count clock seen between image old new) where
     -- a life over what they have left
     pub lived_on : (config : Config) (lines : List Event) (later : List T)
         (client venue : Option (List WireCall)) (end : LifeEnd) (left : List ℕ)
         → config ≡ config_of capture
-        → LivesOn state config lines image between later client venue end left
+        → LivesOn state config lines clock image between later client venue end left
         → IsLived state (config_of capture) lines (left_after nothing so_far.played) between later
         client venue end left
     lived_on config lines later client venue end left is lives =
-        subst (λ (k : Config). LivesOn state k lines image between later client venue end left) is
-        lives (left_after nothing so_far.played) so_far.journal so_far.goes_on
+        subst (λ (k : Config). LivesOn state k lines clock image between later client venue end
+        left) is lives (left_after nothing so_far.played) so_far.moment so_far.journal
+        so_far.goes_on
 
     module _ (lines : List Event) (client venue : Option (List WireCall)) (end : LifeEnd)
         (left : List ℕ) (client_calls venue_calls : List WireCall) (name : List ℕ)
@@ -231,7 +236,13 @@ module _ {T : Type 0} (state : T → TapState) (capture : Capture) where
         now client venue end left) (of_client : client_calls ≡ calls_told client)
         (of_venue : venue_calls ≡ calls_told venue) (of_end : name ≡ end_name end) where
       abbrev life : Played
-      life = record { did = lived.did; end = end; image = left; entries = lived.entries }
+      life = record {
+        did = lived.did;
+        end = end;
+        image = left;
+        entries = lived.entries;
+        moment = moment_after (left_after nothing so_far.played).moment lines;
+      }
 
       text : life_lines (count + 1) (pieces_of client_calls) (pieces_of venue_calls) name
           ≡ lines_of (count + 1) life
@@ -240,13 +251,16 @@ module _ {T : Type 0} (state : T → TapState) (capture : Capture) where
           (told_is venue venue_calls lived.did.venue of_venue lived.venue_told) of_end
 
       -- it was lived and printed
-      pub gone_on : (next : Option (List ℕ)) → NextLivesGoOn → AreShown capture.names
-          → Appends new next
+      pub gone_on : (later : ℕ) → later ≡ moment_after clock lines → (next : Option (List ℕ))
+          → NextLivesGoOn → AreShown capture.names → Appends new next
           (life_lines (count + 1) (pieces_of client_calls) (pieces_of venue_calls) name)
-          → SoFar state capture (count + 1) seen now left old next
-      gone_on next go_on shown put = next_so_far state capture count seen between now image old new
+          → SoFar state capture (count + 1) later seen now left old next
+      gone_on later is next go_on shown put =
+          subst (λ (m : ℕ). SoFar state capture (count + 1) m seen now left old next)
+          (ap (λ (m : ℕ). moment_after m lines) so_far.moment ∙ sym is)
+          (next_so_far state capture count clock seen between now image old new
           so_far lines life lived.more within there lived.played lived.committed lived.saw next
-          go_on shown (subst (λ (l : List ℕ). Appends new next l) text put)
+          go_on shown (subst (λ (l : List ℕ). Appends new next l) text put))
 
       -- it was lived, and a front of its lines was put
       pub broken_off : (told : Result ⊤ PrintError) → IsErr told → (error : PrintError)
@@ -255,8 +269,8 @@ module _ {T : Type 0} (state : T → TapState) (capture : Capture) where
           (life_lines (count + 1) (pieces_of client_calls) (pieces_of venue_calls) name))
           → (result ≡ Err NoMemory → next ≡ new)
           → Replays state capture seen now told old next
-      broken_off told failed error result next is put kept = cut_off state capture count seen between now image
-          old new so_far lines life lived.more within there lived.played lived.committed lived.saw
+      broken_off told failed error result next is put kept = cut_off state capture count clock seen between now
+          image old new so_far lines life lived.more within there lived.played lived.committed lived.saw
           told failed error result next is
           (λ no. subst (λ (l : List ℕ). PutAppends new next result l) text (put no)) kept
 

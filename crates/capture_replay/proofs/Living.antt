@@ -29,6 +29,7 @@ use Rattle.gateway_life.proofs.Living.{same_journal}
 use Rattle.pair_journal.specs.Laws.{HasOneReading}
 use Rattle.capture_text.specs.declared.capture.Event.{Event}
 use Rattle.capture_replay.specs.Rounds.{is_round, arrival, script_of, moments_from}
+use Rattle.capture_replay.specs.Rounds.{moment_after}
 use Rattle.capture_replay.specs.Replay.{Left, is_fault}
 use Rattle.capture_replay.specs.Lived.{IsLived, LivesOn}
 
@@ -116,7 +117,7 @@ module _ (config : Config) (lines : List Event) (before : Left) (bytes image : L
       → (i : List ℕ) → IsImageOf disk i → LeavesImage config.names i
       (transcript_from client_side d.client) (transcript_from venue_side d.venue))
       → plays client (script_of Client lines) → plays venue (script_of Venue lines)
-      → clock.listed ≡ moments_from 0 lines → rounds ≡ length (filter is_round lines)
+      → clock.listed ≡ moments_from before.moment lines → rounds ≡ length (filter is_round lines)
       → IsImageOf disk image → is_fault end ≡ false
       → IsJournal config.names before.entries bytes
       → GoesOnFrom config.names before.entries before.client before.venue
@@ -141,6 +142,7 @@ module _ (config : Config) (lines : List Event) (before : Left) (bytes image : L
               did image among);
           left = left;
           entries = refl;
+          moment = refl;
           whole = whole;
         };
         more = saw.more;
@@ -177,7 +179,7 @@ module _ {T : Type 0} (state : T → TapState) (seen now : List T) (config : Con
     (lines : List Event) (disk0 disk : DiskState) (client0 client venue0 venue : WireState)
     (clock0 clock : ClockState) (end : LifeEnd) (rounds : ℕ)
     (says : LiveSays state seen now config disk0 disk client0 client venue0 venue clock0 clock end
-    rounds) (bytes fail fail_client fail_venue listed image : List ℕ) (fuse : Fuse)
+    rounds) (from : ℕ) (bytes fail fail_client fail_venue listed image : List ℕ) (fuse : Fuse)
     (client_items venue_items : List Script) where
   -- over fresh forms
   says_fresh : disk0 ≡ fresh bytes fail fuse → client0 ≡ wires.fresh client_items fail_client
@@ -202,13 +204,13 @@ module _ {T : Type 0} (state : T → TapState) (seen now : List T) (config : Con
       → venue0 ≡ wires.fresh venue_items fail_venue
       → clock0 ≡ record { listed = listed; asked = 0 }
       → map item_of client_items ≡ script_of Client lines
-      → map item_of venue_items ≡ script_of Venue lines → listed ≡ moments_from 0 lines
+      → map item_of venue_items ≡ script_of Venue lines → listed ≡ moments_from from lines
       → rounds ≡ length client_items → IsImageOf disk image
       → is_none client.recorded ≡ false → is_none venue.recorded ≡ false
       → is_some (moments_told clock) ≡ true → is_fault end ≡ false
-      → LivesOn state config lines bytes seen now client.recorded venue.recorded end image
+      → LivesOn state config lines from bytes seen now client.recorded venue.recorded end image
   lives_on one is_disk is_client is_venue is_clock client_is venue_is listed_is rounds_is among
-      client_told venue_told clock_told whole before journal goes_on =
+      client_told venue_told clock_told whole before is_from journal goes_on =
       let fresh_says = says_fresh is_disk is_client is_venue is_clock in
       lived config lines before bytes image disk client venue clock end rounds listed client_told
       venue_told clock_told state seen now one fail fuse fresh_says.taps fresh_says.ends
@@ -217,5 +219,6 @@ module _ {T : Type 0} (state : T → TapState) (seen now : List T) (config : Con
       (fresh_says.client_plays (map item_of client_items) refl))
       (subst (λ (s : List Came). plays venue s) venue_is
       (fresh_says.venue_plays (map item_of venue_items) refl))
-      (fresh_says.follows listed refl ∙ listed_is)
+      (fresh_says.follows listed refl ∙ listed_is
+      ∙ ap (λ (m : ℕ). moments_from m lines) (sym is_from))
       (rounds_is ∙ rounds_are Client lines client_items client_is) among whole journal goes_on

@@ -13,6 +13,7 @@ use Rattle.capture_text.specs.declared.capture.Capture.{Capture}
 use Rattle.capture_text.specs.declared.capture.Event.{Event}
 use Rattle.capture_replay.specs.Replay.{Left, Played, IsPlayed, ArePlayed, after, nothing}
 use Rattle.capture_replay.specs.Replay.{config_of, lives_lines}
+use Rattle.capture_replay.specs.Rounds.{moment_after}
 
 -- it is a life of a capture, both wires tell what was done, and the taps saw what was committed
 pub record IsLived {T : Type 0} (state : T → TapState) (config : Config) (lines : List Event)
@@ -27,16 +28,18 @@ pub record IsLived {T : Type 0} (state : T → TapState) (config : Config) (line
     end = end;
     image = image;
     entries = entries;
+    moment = moment_after before.moment lines;
   })
   pub more : List Entry
   pub committed : entries ≡ before.entries ++ more
   pub saw : HaveSeen state seen now more
 
--- such a life is lived over whatever lives before it have left
-abbrev pub LivesOn : {T : Type 0} → (T → TapState) → Config → List Event → (bytes : List ℕ)
-    → (seen now : List T) → (client venue : Option (List WireCall)) → LifeEnd → List ℕ → Type 0
-LivesOn state config lines bytes seen now client venue end image = (before : Left)
-    → IsJournal config.names before.entries bytes
+-- such a life is lived over whatever lives before it have left, with their clock at this moment
+abbrev pub LivesOn : {T : Type 0} → (T → TapState) → Config → List Event → (from : ℕ)
+    → (bytes : List ℕ) → (seen now : List T) → (client venue : Option (List WireCall)) → LifeEnd
+    → List ℕ → Type 0
+LivesOn state config lines from bytes seen now client venue end image = (before : Left)
+    → before.moment ≡ from → IsJournal config.names before.entries bytes
     → GoesOnFrom config.names before.entries before.client before.venue
     → IsLived state config lines before seen now client venue end image
 
@@ -45,8 +48,9 @@ abbrev pub left_after : Left → List Played → Left
 left_after left [] = left
 left_after left (life ∷ played) = left_after (after left life) played
 
--- A REPLAY SO FAR: so many lives were played and printed, and this image was left.
-pub record SoFar {T : Type 0} (state : T → TapState) (capture : Capture) (count : ℕ)
+-- A REPLAY SO FAR: so many lives were played and printed, the clock is at this moment, and this
+-- image was left.
+pub record SoFar {T : Type 0} (state : T → TapState) (capture : Capture) (count clock : ℕ)
     (seen now : List T) (image : List ℕ) (old new : Option (List ℕ)) : Type 0 where
   pub played : List Played
   pub all : length played ≡ count
@@ -54,4 +58,5 @@ pub record SoFar {T : Type 0} (state : T → TapState) (capture : Capture) (coun
   pub journal : IsJournal capture.names (left_after nothing played).entries image
   pub goes_on : GoesOnFrom capture.names (left_after nothing played).entries
       (left_after nothing played).client (left_after nothing played).venue
+  pub moment : (left_after nothing played).moment ≡ clock
   pub put : Appends old new (lives_lines 1 played)

@@ -23,7 +23,7 @@ use Rattle.capture_text.specs.declared.capture.Event.{Event}
 use Rattle.replay_lines.specs.declared.printing.PrintError.{PrintError}
 use Rattle.replay_lines.specs.Pieces.{pieces_of}
 use Rattle.replay_lines.specs.ReplayLines.{life_lines, last_lines}
-use Rattle.capture_replay.specs.Rounds.{is_round, script_of, moments_from}
+use Rattle.capture_replay.specs.Rounds.{is_round, script_of, moment_after, moments_from}
 
 -- how the gateway of a capture is set up: SendingTime may be 120 seconds from the present moment
 abbrev pub config_with : Names → (heart : ℕ) → Config
@@ -32,23 +32,26 @@ config_with names heart = record { names = names; heart = heart; window = 120 }
 abbrev pub config_of : Capture → Config
 config_of capture = config_with capture.names capture.heart
 
--- what lives have left: the entries of the journal, and what was read and written on each
--- connection of both sides
+-- what lives have left: the entries of the journal, what was read and written on each connection of
+-- both sides, and the moment that the clock says
 pub record Left : Type 0 where
   pub entries : List Entry
   pub client : List Connection
   pub venue : List Connection
+  pub moment : ℕ
 
 -- before the first life
 abbrev pub nothing : Left
-nothing = record { entries = []; client = []; venue = [] }
+nothing = record { entries = []; client = []; venue = []; moment = 0 }
 
--- a life: what was done in it, how it ended, the bytes that it left on the disk, and their entries
+-- a life: what was done in it, how it ended, the bytes that it left on the disk, their entries, and
+-- the moment that the clock says behind it
 pub record Played : Type 0 where
   pub did : Done
   pub end : LifeEnd
   pub image : List ℕ
   pub entries : List Entry
+  pub moment : ℕ
 
 -- what is left after a life
 abbrev pub after : Left → Played → Left
@@ -56,6 +59,7 @@ after left life = record {
   entries = life.entries;
   client = transcript_from left.client life.did.client;
   venue = transcript_from left.venue life.did.venue;
+  moment = life.moment;
 }
 
 -- a life that ended by a disk fault or for want of memory
@@ -65,17 +69,19 @@ is_fault ends.NoMemory = true
 is_fault end = false
 
 -- A LIFE OF A CAPTURE, over what lives before it have left. Its wires play what its lines let come,
--- and its clock gives their moments. It ends as `Ends` says, and its image is that journal, lawful,
+-- and its clock, which runs on from the lives before, gives their moments. It ends as `Ends` says, and its image is that journal, lawful,
 -- which justifies all that was read and written, in it and before: whatever of it arrives, each
 -- side takes the beginning of what was committed to it, each message once and in order.
 pub record IsPlayed (config : Config) (lines : List Event) (before : Left) (life : Played)
     : Type 0 where
   pub client : (left : List Came) × Plays false (script_of Client lines) life.did.client left
   pub venue : (left : List Came) × Plays false (script_of Venue lines) life.did.venue left
-  pub moments : (asked : ℕ) × (life.did.moments ≡ moments_given (moments_from 0 lines) asked)
+  pub moments : (asked : ℕ)
+      × (life.did.moments ≡ moments_given (moments_from before.moment lines) asked)
   pub ends : Ends life.end config before.entries (length (filter is_round lines)) life.did life.image
   pub left : LeavesImage config.names life.image (after before life).client (after before life).venue
   pub entries : life.entries ≡ left.entries
+  pub moment : life.moment ≡ moment_after before.moment lines
   pub whole : is_fault life.end ≡ false
 
 -- The first lives of a capture, one after another, over what was left before. The taps saw what

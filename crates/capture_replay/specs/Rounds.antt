@@ -36,6 +36,12 @@ arrival side event = Nothing
 abbrev pub script_of : Side → List Event → List Came
 script_of side life = map (arrival side) (filter is_round life)
 
+-- the moment that the clock says behind lines, from this one on
+abbrev pub moment_after : ℕ → List Event → ℕ
+moment_after now [] = now
+moment_after now (event.At ms ∷ life) = moment_after ms life
+moment_after now (event ∷ life) = moment_after now life
+
 -- the moment of each round, from this one on, and that of the end
 abbrev pub moments_from : ℕ → List Event → List ℕ
 moments_from now [] = now ∷ []

@@ -31,7 +31,8 @@ pub(crate) struct Lived {
     pub(crate) image: Vec<u8>,
 }
 
-/// Lives a life of a capture over a disk of these bytes.
+/// Lives a life of a capture over a disk of these bytes; the clock says this moment before the
+/// first that a line tells.
 ///
 /// # Errors
 /// `AllocError` where memory was refused to the life or to a form in memory.
@@ -39,12 +40,13 @@ pub(crate) fn live_lines(
     alloc: Global,
     config: &Config,
     lines: &[Event],
+    from: u64,
     image: Vec<u8>,
     taps: &mut Vec<Box<dyn Tap>>,
 ) -> Result<Lived, AllocError>
     requires bounded { All IsBounded lines.now }
     ensures lived { IfOk result (λ lived. LivesOn
-        (state_by has_failed entries tally counts_all) config.now lines.now image.items
+        (state_by has_failed entries tally counts_all) config.now lines.now from image.items
         taps.old.items taps.new.items lived.client.recorded lived.venue.recorded lived.end
         lived.image.items) }
     ensures taps { (more : List Entry) × HaveSeen (state_by has_failed entries tally counts_all)
@@ -59,7 +61,7 @@ pub(crate) fn live_lines(
         script_of(alloc, Side::Venue, lines)?,
         Vec::new(alloc),
     );
-    let mut clock = ListClock::new(moments_of(alloc, lines)?);
+    let mut clock = ListClock::new(moments_of(alloc, from, lines)?);
     let mut disk = MemDisk::new(alloc, image, Vec::new(alloc));
     let end = live(
         alloc,

@@ -11,6 +11,7 @@ use crate::config::config_of;
 use crate::ends::end_name;
 use crate::last::left_by;
 use crate::life::live_lines;
+use crate::rounds::moment_after;
 use capture_text::Capture;
 use drop_taps::Tap;
 use gateway_life::laws::lives_follow;
@@ -20,8 +21,8 @@ use std::alloc::Global;
 
 /// Lives the lives of a capture one after another over a disk in memory, the first over an unborn
 /// one. Each side's wire gives what the lines of that side say, round by round, and the clock says
-/// the moments of the `at` lines. The lines of each life are one put, and then those of the journal
-/// that the last has left.
+/// the moments of the `at` lines; it runs on from life to life, from 0 at the first. The lines of
+/// each life are one put, and then those of the journal that the last has left.
 ///
 /// # Errors
 /// `OutputFault` only where the sink's count of faults rose in this call; `NoMemory` for want of
@@ -42,8 +43,10 @@ pub fn replay<O: Sink>(
     lives_follow();
     let config = config_of(capture.names, capture.heart);
     let mut image = Vec::new(alloc);
+    let mut moment = 0;
     for (index, lines) in capture.lives.as_slice().iter().enumerate() {
-        let lived = live_lines(alloc, &config, lines.as_slice(), image, taps)?;
+        let events = lines.as_slice();
+        let lived = live_lines(alloc, &config, events, moment, image, taps)?;
         let life = PlayedLife {
             number: index as u64 + 1,
             client: lived.client.calls(),
@@ -52,6 +55,7 @@ pub fn replay<O: Sink>(
         };
         put_life(alloc, out, &life)?;
         image = lived.image;
+        moment = moment_after(moment, events);
     }
     let (entries, next) = left_by(alloc, image)?;
     put_last(alloc, out, entries, next)

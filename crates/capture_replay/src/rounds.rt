@@ -7,7 +7,7 @@ ghost use Rattle.capture_text.specs.Capture.{kind_of};
 ghost use Rattle.capture_text.specs.Line.{IsBounded};
 ghost use Rattle.wires.specs.Script.{item_of};
 ghost use Rattle.capture_replay.specs.Rounds.{is_round, arrival, told_moment};
-ghost use Rattle.capture_replay.specs.Rounds.{script_of, moments_from};
+ghost use Rattle.capture_replay.specs.Rounds.{script_of, moment_after, moments_from};
 
 use capture_text::Event;
 use frame_grammar::{FrameError, Kind, write_frame};
@@ -87,13 +87,27 @@ pub(crate) fn script_of(
     Ok(script)
 }
 
-/// The moment of each round, and that of the end: 0 before the first that a line tells.
+/// The moment that the clock says behind these lines, from this one on.
+#[tactic(auto, using(crate::proofs::EachLine::after_more))]
+pub(crate) fn moment_after(from: u64, life: &[Event]) -> u64
+    ensures { result ≡ moment_after from life.now }
+{
+    let mut now = from;
+    for event in life {
+        if let Some(ms) = told_moment(event) {
+            now = ms;
+        }
+    }
+    now
+}
+
+/// The moment of each round, and that of the end: this one before the first that a line tells.
 #[tactic(auto, using(crate::proofs::EachLine::moment_more))]
-pub(crate) fn moments_of(alloc: Global, life: &[Event]) -> Result<Vec<u64>, AllocError>
-    ensures { IfOk result (λ v. v.items ≡ moments_from 0 life.now) }
+pub(crate) fn moments_of(alloc: Global, from: u64, life: &[Event]) -> Result<Vec<u64>, AllocError>
+    ensures { IfOk result (λ v. v.items ≡ moments_from from life.now) }
 {
     let mut moments = Vec::new(alloc);
-    let mut now = 0;
+    let mut now = from;
     for event in life {
         if let Some(ms) = told_moment(event) {
             now = ms;

@@ -35,7 +35,7 @@ returns-clause-lived g c =
       venue_plays = live.ensures.venue_plays;
       follows = live.ensures.follows;
     })
-    c.args.image.items c.new-3.result.items c.new.result.items c.new-2.result.items
+    c.args.from c.args.image.items c.new-3.result.items c.new.result.items c.new-2.result.items
     c.in_ok-moments_of.field-0.items c.in_ok-image.image.items Unlit
     c.in_ok-script.script.items c.in_ok-script_of.field-0.items
     c.an_image_has_one_reading.ensures c.new-disk.ensures c.new-client.ensures c.new-venue.ensures

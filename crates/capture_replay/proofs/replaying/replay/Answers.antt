@@ -21,17 +21,18 @@ live_lines-requires g c =
     let lives = c.as_slice-lines-items in
     let index = c.loop-index.index in
     record {
-      bounded = life_bounded c.args.capture.now c.requires index c.as_slice.result.now
+      bounded = life_bounded c.args.capture.now c.requires index c.as_slice-events.result.now
           (within_in lives.result.now c.args.capture.now.lives index lives.ensures
           c.loop-index-test.true)
           (there_in lives.result.now c.args.capture.now.lives index c.lines-item.result
-          c.as_slice.result.now lives.ensures c.as_slice.ensures c.lines-item.is);
+          c.as_slice-events.result.now lives.ensures c.as_slice-events.ensures c.lines-item.is);
     }
 
 pub loop-index-preserved : goal.loop-index-preserved
 loop-index-preserved g c =
     let lives = c.as_slice-lines-items in
     let index = c.loop-index.index in
+    let clock = c.loop-index.moment in
     let capture = c.args.capture.now in
     let seen = c.args.taps.now.items in
     let between = c.loop-index.taps.items in
@@ -40,21 +41,21 @@ loop-index-preserved g c =
     let old = g.O.Sink.bytes c.args.out.now in
     let new = g.O.Sink.bytes c.loop-index.out in
     let so_far = c.loop-index.invariant.so_far in
-    let lines = c.as_slice.result.now in
+    let lines = c.as_slice-events.result.now in
     let lived = c.in_ok-lived.lived in
     record {
-      so_far = gone_on _ capture index seen between now image old new so_far lines
+      so_far = gone_on _ capture index clock seen between now image old new so_far lines
           lived.client.recorded lived.venue.recorded lived.end lived.image.items
           (calls_of c.calls.result.now) (calls_of c.calls-in-loop-index.result.now)
           c.end_name.result.now
           (within_in lives.result.now capture.lives index lives.ensures c.loop-index-test.true)
           (there_in lives.result.now capture.lives index c.lines-item.result lines lives.ensures
-          c.as_slice.ensures c.lines-item.is)
-          (lived_on _ capture index seen between now image old new so_far c.config_of-config.result
+          c.as_slice-events.ensures c.lines-item.is)
+          (lived_on _ capture index clock seen between now image old new so_far c.config_of-config.result
           lines now lived.client.recorded lived.venue.recorded lived.end lived.image.items
           c.config_of-config.ensures c.in_ok-lived.ensures.lived)
           c.calls.ensures c.calls-in-loop-index.ensures c.end_name.ensures
-          (g.O.Sink.bytes c.put_life.new.out) c.lives_follow.ensures.next
+          c.moment_after.result c.moment_after.ensures (g.O.Sink.bytes c.put_life.new.out) c.lives_follow.ensures.next
           (are_shown capture c.requires)
           (c.in_ok-put_life.ensures.lines (λ none. absurd (cc none)));
       faults = (c.in_ok-put_life.ensures.cause (λ none. absurd (cc none))).still
@@ -64,7 +65,8 @@ loop-index-preserved g c =
 pub returns-in_err-lived-clause-replays : goal.returns-in_err-lived-clause-replays
 returns-in_err-lived-clause-replays g c =
     let saw = c.in_err-lived.ensures.taps in
-    stopped _ c.args.capture.now c.loop-index.index c.args.taps.now.items c.loop-index.taps.items
+    stopped _ c.args.capture.now c.loop-index.index c.loop-index.moment c.args.taps.now.items
+    c.loop-index.taps.items
     c.live_lines.new.taps.items c.loop-index.image.items (g.O.Sink.bytes c.args.out.now)
     (g.O.Sink.bytes c.loop-index.out) c.loop-index.invariant.so_far c.from_residual.result
     c.from_residual.ensures.0 saw.0 saw.1
@@ -73,6 +75,7 @@ pub returns-in_err-put_life-clause-replays : goal.returns-in_err-put_life-clause
 returns-in_err-put_life-clause-replays g c =
     let lives = c.as_slice-lines-items in
     let index = c.loop-index.index in
+    let clock = c.loop-index.moment in
     let capture = c.args.capture.now in
     let seen = c.args.taps.now.items in
     let between = c.loop-index.taps.items in
@@ -81,16 +84,16 @@ returns-in_err-put_life-clause-replays g c =
     let old = g.O.Sink.bytes c.args.out.now in
     let new = g.O.Sink.bytes c.loop-index.out in
     let so_far = c.loop-index.invariant.so_far in
-    let lines = c.as_slice.result.now in
+    let lines = c.as_slice-events.result.now in
     let lived = c.in_ok-lived.lived in
-    broken_off _ capture index seen between now image old new so_far lines
+    broken_off _ capture index clock seen between now image old new so_far lines
     lived.client.recorded lived.venue.recorded lived.end lived.image.items
     (calls_of c.calls.result.now) (calls_of c.calls-in-loop-index.result.now)
     c.end_name.result.now
     (within_in lives.result.now capture.lives index lives.ensures c.loop-index-test.true)
     (there_in lives.result.now capture.lives index c.lines-item.result lines lives.ensures
-    c.as_slice.ensures c.lines-item.is)
-    (lived_on _ capture index seen between now image old new so_far c.config_of-config.result
+    c.as_slice-events.ensures c.lines-item.is)
+    (lived_on _ capture index clock seen between now image old new so_far c.config_of-config.result
     lines now lived.client.recorded lived.venue.recorded lived.end lived.image.items
     c.config_of-config.ensures c.in_ok-lived.ensures.lived)
     c.calls.ensures c.calls-in-loop-index.ensures c.end_name.ensures
@@ -104,7 +107,8 @@ left_by-requires g c = (_, _, c.loop-index.invariant.so_far.journal)
 
 pub returns-in_err-entries-clause-replays : goal.returns-in_err-entries-clause-replays
 returns-in_err-entries-clause-replays g c =
-    stopped _ c.args.capture.now c.loop-index.index c.args.taps.now.items c.loop-index.taps.items
+    stopped _ c.args.capture.now c.loop-index.index c.loop-index.moment c.args.taps.now.items
+    c.loop-index.taps.items
     c.loop-index.taps.items c.loop-index.image.items (g.O.Sink.bytes c.args.out.now)
     (g.O.Sink.bytes c.loop-index.out) c.loop-index.invariant.so_far
     c.from_residual-in_err-entries.result c.from_residual-in_err-entries.ensures.0
@@ -113,7 +117,8 @@ returns-in_err-entries-clause-replays g c =
 pub returns-clause-replays : goal.returns-clause-replays
 returns-clause-replays g c =
     let all : c.loop-index.index ≡ length c.as_slice-lines-items.result.now = search rules in
-    ended _ c.args.capture.now c.loop-index.index c.args.taps.now.items c.loop-index.taps.items
+    ended _ c.args.capture.now c.loop-index.index c.loop-index.moment c.args.taps.now.items
+    c.loop-index.taps.items
     c.loop-index.taps.items c.loop-index.image.items (g.O.Sink.bytes c.args.out.now)
     (g.O.Sink.bytes c.loop-index.out) c.loop-index.invariant.so_far c.put_last.result
     (g.O.Sink.bytes c.put_last.new.out) c.in_ok-entries.entries c.in_ok-entries.next

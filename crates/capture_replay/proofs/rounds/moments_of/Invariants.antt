@@ -4,4 +4,4 @@ use Rattle.capture_replay.proofs.rounds.moments_of.Given as goal
 
 abbrev pub invariant-loop-event : goal.invariant-loop-event
 invariant-loop-event l = l.moments.items ++ moments_from l.now (drop l.event-index l.life)
-    ≡ moments_from 0 l.life
+    ≡ moments_from l.from l.life
