@@ -269,9 +269,10 @@ module _ {T : Type 0} (state : T → TapState) (capture : Capture) where
           (life_lines (count + 1) (pieces_of client_calls) (pieces_of venue_calls) name))
           → (result ≡ Err NoMemory → next ≡ new)
           → Replays state capture seen now told old next
-      broken_off told failed error result next is put kept = cut_off state capture count clock seen between now
-          image old new so_far lines life lived.more within there lived.played lived.committed lived.saw
-          told failed error result next is
+      broken_off told failed error result next is put kept =
+          cut_off state capture count clock seen between now image old new so_far lines life
+          lived.more within there lived.played lived.committed lived.saw told failed error result
+          next is
           (λ no. subst (λ (l : List ℕ). PutAppends new next result l) text (put no)) kept
 
     abbrev last_of : List ℕ

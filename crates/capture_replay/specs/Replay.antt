@@ -69,9 +69,10 @@ is_fault ends.NoMemory = true
 is_fault end = false
 
 -- A LIFE OF A CAPTURE, over what lives before it have left. Its wires play what its lines let come,
--- and its clock, which runs on from the lives before, gives their moments. It ends as `Ends` says, and its image is that journal, lawful,
--- which justifies all that was read and written, in it and before: whatever of it arrives, each
--- side takes the beginning of what was committed to it, each message once and in order.
+-- and its clock, which runs on from the lives before, gives their moments. It ends as `Ends` says,
+-- and its image is that journal, lawful, which justifies all that was read and written, in it and
+-- before: whatever of it arrives, each side takes the beginning of what was committed to it, each
+-- message once and in order.
 pub record IsPlayed (config : Config) (lines : List Event) (before : Left) (life : Played)
     : Type 0 where
   pub client : (left : List Came) × Plays false (script_of Client lines) life.did.client left

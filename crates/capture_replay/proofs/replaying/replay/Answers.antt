@@ -51,12 +51,12 @@ loop-index-preserved g c =
           (within_in lives.result.now capture.lives index lives.ensures c.loop-index-test.true)
           (there_in lives.result.now capture.lives index c.lines-item.result lines lives.ensures
           c.as_slice-events.ensures c.lines-item.is)
-          (lived_on _ capture index clock seen between now image old new so_far c.config_of-config.result
-          lines now lived.client.recorded lived.venue.recorded lived.end lived.image.items
-          c.config_of-config.ensures c.in_ok-lived.ensures.lived)
+          (lived_on _ capture index clock seen between now image old new so_far
+          c.config_of-config.result lines now lived.client.recorded lived.venue.recorded lived.end
+          lived.image.items c.config_of-config.ensures c.in_ok-lived.ensures.lived)
           c.calls.ensures c.calls-in-loop-index.ensures c.end_name.ensures
-          c.moment_after.result c.moment_after.ensures (g.O.Sink.bytes c.put_life.new.out) c.lives_follow.ensures.next
-          (are_shown capture c.requires)
+          c.moment_after.result c.moment_after.ensures (g.O.Sink.bytes c.put_life.new.out)
+          c.lives_follow.ensures.next (are_shown capture c.requires)
           (c.in_ok-put_life.ensures.lines (λ none. absurd (cc none)));
       faults = (c.in_ok-put_life.ensures.cause (λ none. absurd (cc none))).still
           ∙ c.loop-index.invariant.faults;
@@ -93,9 +93,9 @@ returns-in_err-put_life-clause-replays g c =
     (within_in lives.result.now capture.lives index lives.ensures c.loop-index-test.true)
     (there_in lives.result.now capture.lives index c.lines-item.result lines lives.ensures
     c.as_slice-events.ensures c.lines-item.is)
-    (lived_on _ capture index clock seen between now image old new so_far c.config_of-config.result
-    lines now lived.client.recorded lived.venue.recorded lived.end lived.image.items
-    c.config_of-config.ensures c.in_ok-lived.ensures.lived)
+    (lived_on _ capture index clock seen between now image old new so_far
+    c.config_of-config.result lines now lived.client.recorded lived.venue.recorded lived.end
+    lived.image.items c.config_of-config.ensures c.in_ok-lived.ensures.lived)
     c.calls.ensures c.calls-in-loop-index.ensures c.end_name.ensures
     c.from_residual-in_err-put_life.result c.from_residual-in_err-put_life.ensures.0
     c.in_err-put_life.field-0.0 c.put_life.result (g.O.Sink.bytes c.put_life.new.out)
