@@ -4,14 +4,14 @@ ghost use Rattle.field_groups.specs.Fields.{SplitsInto};
 ghost use Rattle.frame_grammar.specs.Frame.{IsBody};
 
 use crate::entries::{disk_of, names};
-use crate::texts::{is_body, letter, side_of};
-use crate::words::{behind, bytes_of, number, shown, word};
+use crate::texts::{is_body, letter};
 use field_groups::{Split, split};
 use message_answers::{Answer, Asked, Known, Words, answer_to, chains_of};
 use order_chains::{ChainItem, Chains};
 use order_meaning::{Names, Side};
 use outside::MemDisk;
 use pair_journal::{Journal, JournalError};
+use row_words::{SOH, behind, bytes_of, number, shown, side_of, word};
 use std::alloc::{AllocError, Global};
 
 // The journal on a disk and its chains.
@@ -105,7 +105,7 @@ fn body_answered(
 
 // The answer to the message of these words.
 fn answered(alloc: Global, known: &Known<'_>, given: &str) -> Result<String, AllocError> {
-    let body = bytes_of(alloc, behind(given, 3))?;
+    let body = bytes_of(alloc, &[SOH], behind(given, 3))?;
     match (side_of(word(given, 0)), number(word(given, 1))) {
         (Some(side), Some(number)) => body_answered(alloc, known, side, number, &body),
         _ => format!(in alloc; "no message"),

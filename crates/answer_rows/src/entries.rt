@@ -2,9 +2,9 @@
 //! the next numbers after it, which are four, and the body that it took, where `-` says that it took
 //! or gave out nothing. An out has no content here.
 
-use crate::words::{behind, number, put_text, word};
 use order_meaning::{Name, Names};
 use outside::MemDisk;
+use row_words::{SOH, behind, bytes_of, number, word};
 use std::alloc::{AllocError, Global};
 
 /// The names of the journal: our own to the client, the client's, our own to the venue, the
@@ -62,8 +62,7 @@ fn put_took(alloc: Global, payload: &mut Vec<u8>, text: &str) -> Result<(), Allo
     if side == 0 {
         return Ok(());
     }
-    let mut body = Vec::new(alloc);
-    put_text(&mut body, behind(text, 11))?;
+    let body = bytes_of(alloc, &[SOH], behind(text, 11))?;
     put_number_word(payload, word(text, 2))?;
     put_counted(payload, &body)
 }

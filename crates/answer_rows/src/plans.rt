@@ -5,14 +5,14 @@ ghost use Rattle.frame_grammar.specs.Frame.{IsBody};
 ghost use Rattle.gateway_core.specs.State.{IsNew};
 
 use crate::entries::{disk_of, names};
-use crate::texts::{is_body, letter, side_of};
-use crate::words::{behind, bytes_of, number, shown, word};
+use crate::texts::{is_body, letter};
 use gateway_core::{Config, Core, Event, Plan, PlanError};
 use order_chains::ChainItem;
 use order_meaning::Side::{self, Client, Venue};
 use outside::MemDisk;
 use pair_entries::Out;
 use pair_journal::{Journal, JournalError};
+use row_words::{SOH, bytes_of, number, shown, word};
 use session_core::{ALL_USED, LinkState, Numbers, Session};
 use std::alloc::{AllocError, Global};
 
@@ -173,7 +173,7 @@ pub(crate) fn frame(
     side: Side,
     text: &str,
 ) -> Result<String, AllocError> {
-    let body = bytes_of(alloc, text)?;
+    let body = bytes_of(alloc, &[SOH], text)?;
     frame_of(alloc, core, journal, side, &body)
 }
 
@@ -289,6 +289,6 @@ pub(crate) fn held(
     side: Side,
     text: &str,
 ) -> Result<String, AllocError> {
-    let body = bytes_of(alloc, text)?;
+    let body = bytes_of(alloc, &[SOH], text)?;
     held_body(alloc, core, journal, side, &body)
 }

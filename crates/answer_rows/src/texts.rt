@@ -1,21 +1,10 @@
-//! Sides, bodies, and bytes as texts.
+//! Sides and bodies.
 
 ghost use Rattle.std.specs.Prelude.{◌≡◌, true};
 ghost use Rattle.frame_grammar.specs.Frame.{IsBody};
 
 use frame_grammar::MAX_BODY;
 use order_meaning::Side::{self, Client, Venue};
-
-/// The side of a word.
-pub(crate) fn side_of(word: &str) -> Option<Side> {
-    if word == "Client" {
-        Some(Client)
-    } else if word == "Venue" {
-        Some(Venue)
-    } else {
-        None
-    }
-}
 
 /// The letter of a side.
 pub(crate) fn letter(side: Side) -> &'static str {

@@ -3,11 +3,10 @@
 use crate::answers::{answer, chained};
 use crate::entries::{put_birth, put_entry};
 use crate::plans::{active, closed, frame, held, numbers, opened, restarted};
-use crate::texts::side_of;
-use crate::words::{behind, word};
 use gateway_core::Core;
 use order_meaning::Side;
 use pair_journal::Journal;
+use row_words::{Answers, SOH, behind, bytes_of, side_of, word};
 use std::alloc::{AllocError, Global};
 
 /// The records of a journal, and the journal and the core that were loaded from them.
@@ -94,13 +93,8 @@ impl World {
         }
     }
 
-    /// The answer to a row.
-    pub(crate) fn answer(
-        &mut self,
-        alloc: Global,
-        call: &str,
-        given: &str,
-    ) -> Result<String, AllocError> {
+    // The answer to a row.
+    fn text(&mut self, alloc: Global, call: &str, given: &str) -> Result<String, AllocError> {
         if call == "journal" {
             self.begin(alloc)
         } else if call == "entry" {
@@ -114,5 +108,12 @@ impl World {
         } else {
             self.planned(alloc, call, given)
         }
+    }
+}
+
+impl Answers for World {
+    fn answer(&mut self, alloc: Global, call: &str, given: &str) -> Result<Vec<u8>, AllocError> {
+        let text = self.text(alloc, call, given)?;
+        bytes_of(alloc, &[SOH], &text)
     }
 }

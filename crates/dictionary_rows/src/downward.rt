@@ -3,12 +3,13 @@
 ghost use Rattle.reports_fix50.specs.Readable.{IsReadableReport, IsReadableCancelReject};
 
 use crate::wires::wire;
-use crate::words::{fault_words, first_word, found_words, lack_words};
+use crate::words::{fault_words, found_words, lack_words};
 use exec_translate::{down_cancel_reject, down_report};
 use field_groups::split;
 use report_translate::{ReportTranslator, TranslateError};
 use reports_fix42::{write_cancel_reject, write_report};
 use reports_fix50::{CancelReject50, Report50, read_cancel_reject, read_report};
+use row_words::first_word;
 use std::alloc::{AllocError, Global};
 
 /// What is written of the client's report of a report, or what FIX 4.2 lacks.

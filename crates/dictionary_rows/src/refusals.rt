@@ -1,19 +1,20 @@
 //! Refusals: those that are checked, and what is said of a message that is refused.
 
 use crate::wires::wire;
-use crate::words::{answered, fault_of, fault_words, first_word, found_words, side_of};
+use crate::words::{answered, fault_of, fault_words, found_words};
 use field_groups::{Split, split};
 use order_meaning::Side::{self, Client, Venue};
 use order_meaning::{Fault, Refusal};
 use reject_rules::{Said, away, refusal, renumber, used};
 use report_translate::check_refusal;
+use row_words::{first_word, number, side_of};
 use std::alloc::{AllocError, Global};
 
 /// What a check of a refusal of a side finds.
 pub(crate) fn check(alloc: Global, given: &str) -> Result<Vec<u8>, AllocError> {
     let (side, text) = first_word(given);
     let body = wire(alloc, text)?;
-    let found = check_refusal(alloc, side_of(side), &body);
+    let found = check_refusal(alloc, side_of(side).unwrap_or(Client), &body);
     found_words(alloc, &found)
 }
 
@@ -43,26 +44,27 @@ pub(crate) fn of_fault(alloc: Global, given: &str) -> Result<Vec<u8>, AllocError
     let (side, rest) = first_word(given);
     let (msg_type, words) = first_word(rest);
     let fault = fault_of(words);
-    let said = refusal(alloc, side_of(side), 2, msg_type.as_bytes(), &fault);
+    let said = refusal(
+        alloc,
+        side_of(side).unwrap_or(Client),
+        2,
+        msg_type.as_bytes(),
+        &fault,
+    );
     said_or_none(alloc, &said)
-}
-
-/// The number of a word.
-fn number(word: &str) -> u32 {
-    word.parse::<u32>().unwrap_or(0)
 }
 
 /// What is said of a request of a number and a type whose id was used before.
 pub(crate) fn of_used(alloc: Global, given: &str) -> Result<Vec<u8>, AllocError> {
     let (word, msg_type) = first_word(given);
-    let said = used(alloc, number(word), msg_type.as_bytes());
+    let said = used(alloc, number(word).unwrap_or(0), msg_type.as_bytes());
     said_or_none(alloc, &said)
 }
 
 /// What is said of a request of a number and a type while the venue is away.
 pub(crate) fn of_away(alloc: Global, given: &str) -> Result<Vec<u8>, AllocError> {
     let (word, msg_type) = first_word(given);
-    let said = away(alloc, number(word), msg_type.as_bytes());
+    let said = away(alloc, number(word).unwrap_or(0), msg_type.as_bytes());
     said_or_none(alloc, &said)
 }
 
@@ -90,11 +92,18 @@ pub(crate) fn of_other(alloc: Global, given: &str) -> Result<Vec<u8>, AllocError
     let business = kind == "j";
     let body = wire(alloc, text)?;
     let split = split(alloc, &body)?;
-    let refusal = match read_other(alloc, side_of(side), business, &split) {
+    let refusal = match read_other(alloc, side_of(side).unwrap_or(Client), business, &split) {
         Ok(refusal) => refusal,
         Err(fault) => return fault_words(alloc, &fault),
     };
     let far = far_type.as_bytes();
-    let said = renumber(alloc, side_of(side), business, &refusal, 2, far);
+    let said = renumber(
+        alloc,
+        side_of(side).unwrap_or(Client),
+        business,
+        &refusal,
+        2,
+        far,
+    );
     said_or_none(alloc, &said)
 }

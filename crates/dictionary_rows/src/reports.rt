@@ -1,9 +1,10 @@
 //! Reports and refusals of both versions: what is written of each that is read, or its first fault.
 
 use crate::wires::wire;
-use crate::words::{fault_words, first_word};
+use crate::words::fault_words;
 use field_groups::{Split, split};
 use order_meaning::Fault;
+use row_words::first_word;
 use std::alloc::{AllocError, Global};
 
 /// What is written of the fields of an Execution Report(8) of FIX 4.2.

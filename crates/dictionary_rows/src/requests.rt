@@ -4,10 +4,11 @@ ghost use Rattle.dict_fix42.specs.Readable.{IsReadable42};
 ghost use Rattle.dict_fix50.specs.Readable.{IsReadable50};
 
 use crate::wires::wire;
-use crate::words::{fault_words, first_word};
+use crate::words::fault_words;
 use dict_fix42::{Msg42, read42, type42, write42};
 use dict_fix50::{Msg50, read50, type50, write50};
 use field_groups::split;
+use row_words::first_word;
 use std::alloc::{AllocError, Global};
 
 /// The type of the request of FIX 4.2 that is read, or its first fault.

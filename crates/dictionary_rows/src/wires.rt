@@ -1,62 +1,27 @@
 //! Texts of rows as bytes of the wire.
 
+use row_words::{SOH, Sign, bytes_of};
 use std::alloc::{AllocError, Global};
 
-/// What `<` stands for: the header and the first field of an order of FIX 4.2.
-const HEAD42: &str = "35=D\x0149=CLNT\x0156=GATE\x0134=2\x0152=20240102-10:00:00\x0111=A1\x01";
+/// What the bytes of a text stand for: `$` and `@` for the header and the first field of an order of
+/// FIX 4.2 and of FIX 5.0 SP2, and `&` for the other fields that an order of either must have.
+pub(crate) const SIGNS: [Sign; 4] = [
+    SOH,
+    (
+        b'$',
+        b"35=D\x0149=CLNT\x0156=GATE\x0134=2\x0152=20240102-10:00:00\x0111=A1\x01",
+    ),
+    (
+        b'@',
+        b"35=D\x011128=9\x0149=GATE\x0156=VENU\x0134=2\x0152=20240102-10:00:00.000\x0111=A1\x01",
+    ),
+    (
+        b'&',
+        b"21=1\x0155=IBM\x0154=1\x0160=20240102-10:00:00\x0138=100\x0140=2\x0144=10.5\x01",
+    ),
+];
 
-/// What `{` stands for: the header and the first field of an order of FIX 5.0 SP2.
-const HEAD50: &str =
-    "35=D\x011128=9\x0149=GATE\x0156=VENU\x0134=2\x0152=20240102-10:00:00.000\x0111=A1\x01";
-
-/// What `>` stands for: the other fields that an order of either version must have.
-const TAIL: &str =
-    "21=1\x0155=IBM\x0154=1\x0160=20240102-10:00:00\x0138=100\x0140=2\x0144=10.5\x01";
-
-/// Appends a text with SOH in place of each `|`.
-fn put_text(bytes: &mut Vec<u8>, text: &str) -> Result<(), AllocError> {
-    for byte in text.bytes() {
-        match byte {
-            b'|' => bytes.push(1)?,
-            b'<' => bytes.extend_from_slice(HEAD42.as_bytes())?,
-            b'{' => bytes.extend_from_slice(HEAD50.as_bytes())?,
-            b'>' => bytes.extend_from_slice(TAIL.as_bytes())?,
-            byte => bytes.push(byte)?,
-        }
-    }
-    Ok(())
-}
-
-/// Repeats the last byte, so that it stands there as many times as a number says.
-fn repeat_last(bytes: &mut Vec<u8>, number: &str) -> Result<(), AllocError> {
-    let last = bytes.last().copied().unwrap_or(0);
-    for _ in 1..number.parse::<u32>().unwrap_or(0) {
-        bytes.push(last)?;
-    }
-    Ok(())
-}
-
-/// The bytes of a text, in which `|` stands for SOH, `x*40*` for 40 times `x`, and `<`, `{` and `>`
-/// for parts of an order.
+/// The bytes of a text.
 pub(crate) fn wire(alloc: Global, text: &str) -> Result<Vec<u8>, AllocError> {
-    let mut bytes = Vec::new(alloc);
-    let mut is_text = true;
-    for part in text.split('*') {
-        if is_text {
-            put_text(&mut bytes, part)?;
-        } else {
-            repeat_last(&mut bytes, part)?;
-        }
-        is_text = !is_text;
-    }
-    Ok(bytes)
-}
-
-/// The text of bytes, with `|` for SOH.
-pub(crate) fn shown(alloc: Global, bytes: &[u8]) -> Result<String, AllocError> {
-    let mut text = String::new(alloc);
-    for byte in bytes {
-        text.push(if *byte == 1 { '|' } else { char::from(*byte) })?;
-    }
-    Ok(text)
+    bytes_of(alloc, &SIGNS, text)
 }

@@ -1,7 +1,8 @@
 //! Faults and lacks in words, as the program `fixgate` writes them.
 
-use order_meaning::{Fault, Lack, Side};
+use order_meaning::{Fault, Lack};
 use report_translate::TranslateError;
+use row_words::number_behind;
 use std::alloc::{AllocError, Global};
 
 /// Words, as an answer.
@@ -52,18 +53,6 @@ pub(crate) fn found_words(
     }
 }
 
-/// The number behind a word of a text; none where the word or the number is missing.
-fn number_behind(text: &str, word: &str) -> Option<u32> {
-    let mut is_behind = false;
-    for part in text.split(' ') {
-        if is_behind {
-            return part.parse::<u32>().ok();
-        }
-        is_behind = part == word;
-    }
-    None
-}
-
 /// The fault of these words.
 pub(crate) fn fault_of(words: &str) -> Fault {
     if words == "out of memory" {
@@ -80,18 +69,4 @@ pub(crate) fn fault_of(words: &str) -> Fault {
             None => Fault::NotSupported,
         },
     }
-}
-
-/// The side of this name.
-pub(crate) fn side_of(name: &str) -> Side {
-    if name == "venue" {
-        Side::Venue
-    } else {
-        Side::Client
-    }
-}
-
-/// The first word of a text, and what stands behind it.
-pub(crate) fn first_word(text: &str) -> (&str, &str) {
-    text.split_once(' ').unwrap_or((text, ""))
 }

@@ -3,8 +3,8 @@
 ghost use Rattle.std.specs.Prelude.{IsTrue};
 ghost use Rattle.frame_grammar.specs.Frame.{IsWritable};
 
-use crate::row::show;
 use frame_grammar::{Framer, Garble, Kind, Next, Rest, SOH, write_frame};
+use row_words::show;
 use std::alloc::{AllocError, Global};
 
 /// Pieces one behind the other that are alike: the place of the first, the length of each, the

@@ -1,7 +1,8 @@
 //! Bodies with their fields and groups.
 
-use crate::row::{halves, show};
+use crate::texts::halves;
 use field_groups::{Fields, Group, Shape, put_field, put_number, read_group, split};
+use row_words::show;
 use std::alloc::{AllocError, Global};
 
 /// NoPartyIDs(453) with its PartyID(448), PartyIDSource(447), PartyRole(452) and sub-ids.

@@ -1,7 +1,8 @@
 //! Values of a kind. Of the kinds that list something, `Code` and `Known` are here those of the
 //! bytes `12`, `Codes` that of `1G`, and `Word` that of `CS` and `FUT`.
 
-use crate::row::{halves, show};
+use crate::texts::halves;
+use row_words::show;
 use std::alloc::AllocError;
 use value_kinds::{ValueKind, code, day, day_of_month, has_day, month_year, text};
 

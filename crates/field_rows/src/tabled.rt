@@ -1,6 +1,6 @@
 //! Fields beside a table with a header, rows of each need and a group.
 
-use crate::row::halves;
+use crate::texts::halves;
 use Need::{Fixed, Lenient, Optional, Required, When};
 use field_groups::{Field, split};
 use message_tables::{Found, Item, Mark, Need, RepeatingGroup, Row, Table, TableFault, Test};

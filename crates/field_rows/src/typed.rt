@@ -1,6 +1,6 @@
 //! Values of fields.
 
-use crate::row::show;
+use row_words::show;
 use std::alloc::{AllocError, Global};
 use typed_fields::{
     Day, Dec, FieldFault, FieldValue, Flag, MAX_MILLIS, MAX_SPELLING, MonthYear, Number, Stamp,

@@ -1,10 +1,10 @@
 //! Lives that the command `serve` lives, with taps and without, and what `show` shows of one.
 
-use crate::scripts::Plan;
-use crate::words::lines;
+use crate::scripts::{Plan, failing};
 use drop_taps::{KeepTap, Tap, TotalsTap, clear};
 use gateway_top::{Status, run};
 use outside::{MemDisk, MemSink, MemSource};
+use row_words::shown;
 use std::alloc::{AllocError, Global};
 use wires::{ListClock, MemWire, QuietWire};
 
@@ -58,15 +58,26 @@ fn timed(
     Ok((status, client, venue))
 }
 
-/// How `show` ends over a disk, and what it shows: ` ~ ` and a line each, or the last alone.
-pub(crate) fn shows(
-    alloc: Global,
-    disk: &mut MemDisk,
-    is_last: bool,
-) -> Result<String, AllocError> {
+// Lines as a text, with ` ~ ` before each; or the last alone.
+fn lines(alloc: Global, bytes: &[u8], is_last: bool) -> Result<String, AllocError> {
+    let text = shown(alloc, bytes)?;
+    let mut lines = String::new(alloc);
+    for line in text.lines() {
+        if is_last {
+            lines.clear();
+        }
+        lines.push_str(" ~ ")?;
+        lines.push_str(line)?;
+    }
+    Ok(lines)
+}
+
+/// How `show` ends over a disk, and what it shows: ` ~ ` and a line each, or for `last` the last
+/// alone. Of a word `2` the second put fails.
+pub(crate) fn shows(alloc: Global, disk: &mut MemDisk, word: &str) -> Result<String, AllocError> {
     let words = words(alloc, "show")?;
     let mut input = MemSource::new(Vec::new(alloc), Vec::new(alloc));
-    let mut out = MemSink::new(alloc, Vec::new(alloc));
+    let mut out = MemSink::new(alloc, failing(alloc, word)?);
     let mut client = QuietWire::new();
     let mut venue = QuietWire::new();
     let mut clock = ListClock::new(Vec::new(alloc));
@@ -82,7 +93,7 @@ pub(crate) fn shows(
         &mut clock,
         &mut taps,
     );
-    let text = lines(alloc, out.bytes(), is_last)?;
+    let text = lines(alloc, out.bytes(), word == "last")?;
     format!(in alloc; "{status:?}{text}")
 }
 

@@ -1,6 +1,6 @@
 //! A peer, which takes the messages that it expects.
 
-use crate::words::shown;
+use row_words::{number, shown};
 use std::alloc::{AllocError, Global};
 use wires::MemWire;
 
@@ -12,10 +12,6 @@ struct Message<'a> {
     new_number: u32,
     order: &'a str,
     report: &'a str,
-}
-
-fn number_of(digits: &str) -> u32 {
-    digits.parse::<u32>().unwrap_or(0)
 }
 
 impl<'a> Message<'a> {
@@ -36,9 +32,9 @@ impl<'a> Message<'a> {
         if tag == "35" {
             message.msg_type = value;
         } else if tag == "34" {
-            message.number = number_of(value);
+            message.number = number(value).unwrap_or(0);
         } else if tag == "36" {
-            message.new_number = number_of(value);
+            message.new_number = number(value).unwrap_or(0);
         } else if tag == "11" {
             message.order = value;
         } else if tag == "17" {

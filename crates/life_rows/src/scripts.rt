@@ -1,6 +1,6 @@
 //! What the polls of wires give, and what fails.
 
-use crate::words::{number, put};
+use row_words::{SOH, bytes_of, long_number, put};
 use std::alloc::{AllocError, Global};
 use wires::{MemWire, Script};
 
@@ -24,12 +24,6 @@ impl Poll {
     }
 }
 
-fn bytes_of(alloc: Global, text: &str) -> Result<Vec<u8>, AllocError> {
-    let mut bytes = Vec::new(alloc);
-    put(&mut bytes, text)?;
-    Ok(bytes)
-}
-
 // What a poll gives.
 fn script_item(alloc: Global, item: &str) -> Result<Script, AllocError> {
     if item == "nothing" {
@@ -41,7 +35,7 @@ fn script_item(alloc: Global, item: &str) -> Result<Script, AllocError> {
     } else if item == "empty" {
         Ok(Script::Bytes(Vec::new(alloc)))
     } else {
-        Ok(Script::Bytes(bytes_of(alloc, item)?))
+        Ok(Script::Bytes(bytes_of(alloc, &[SOH], item)?))
     }
 }
 
@@ -61,7 +55,7 @@ pub(crate) fn stream(alloc: Global, polls: &[Poll], name: &str) -> Result<Vec<u8
     let mut bytes = Vec::new(alloc);
     for poll in polls {
         if poll.is_of(name) {
-            put(&mut bytes, &poll.item)?;
+            put(&mut bytes, &[SOH], &poll.item)?;
         }
     }
     Ok(bytes)
@@ -70,7 +64,7 @@ pub(crate) fn stream(alloc: Global, polls: &[Poll], name: &str) -> Result<Vec<u8
 /// The number of the call that fails, where the word is one.
 pub(crate) fn failing(alloc: Global, word: &str) -> Result<Vec<u64>, AllocError> {
     let mut fail = Vec::new(alloc);
-    if let Some(call) = number(word) {
+    if let Some(call) = long_number(word) {
         fail.push(call)?;
     }
     Ok(fail)

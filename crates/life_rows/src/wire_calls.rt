@@ -1,9 +1,9 @@
 //! Calls on a wire in memory, on clocks and on the quiet forms.
 
 use crate::scripts::{Poll, script};
-use crate::words::{number, shown, word};
 use order_meaning::Side;
 use outside::{Failed, Source};
+use row_words::{long_number, shown, side_of, word};
 use std::alloc::{AllocError, Global};
 use wire_sends::hang_up_on;
 use wires::{Arrival, Clock, Connection, ListClock, MemWire, QuietSource, QuietWire, Wire};
@@ -12,7 +12,7 @@ use wires::{Arrival, Clock, Connection, ListClock, MemWire, QuietSource, QuietWi
 fn numbers(alloc: Global, given: &str) -> Result<Vec<u64>, AllocError> {
     let mut numbers = Vec::new(alloc);
     for word in given.split(' ') {
-        if let Some(number) = number(word) {
+        if let Some(number) = long_number(word) {
             numbers.push(number)?;
         }
     }
@@ -75,17 +75,6 @@ fn wire_text(alloc: Global, wire: &MemWire) -> Result<String, AllocError> {
     }
     let refused = if wire.refused() { " refused" } else { "" };
     format!(in alloc; "{text}{refused}")
-}
-
-// The side of a word, where it is one.
-fn side_of(word: &str) -> Option<Side> {
-    if word == "Client" {
-        Some(Side::Client)
-    } else if word == "Venue" {
-        Some(Side::Venue)
-    } else {
-        None
-    }
 }
 
 // Whether the connection still stands by that answer, and whether it does, where the second side is

@@ -5,9 +5,9 @@ use crate::lives::{quiet, shows, tapped};
 use crate::peers::Peer;
 use crate::scripts::{Plan, Poll, stream, written};
 use crate::wire_calls::{clock_text, quiet_text, wire_answer, wire_of};
-use crate::words::{behind, number, shown, word};
 use gateway_top::Status;
 use outside::{Image, MemDisk};
+use row_words::{Answers, SOH, behind, long_number, put, shown, word};
 use std::alloc::{AllocError, Global};
 use wires::MemWire;
 
@@ -38,7 +38,7 @@ fn plans(alloc: Global, polls: &[Poll], given: &str) -> Result<(Plan, Plan), All
 }
 
 fn rounds(given: &str) -> u64 {
-    number(word(given, 2)).unwrap_or(0)
+    long_number(word(given, 2)).unwrap_or(0)
 }
 
 // A life over these bytes of a disk.
@@ -63,7 +63,7 @@ fn watched(
     given: &str,
 ) -> Result<(Left, String), AllocError> {
     let plans = plans(alloc, polls, given)?;
-    let call = number(word(given, 6)).unwrap_or(0);
+    let call = long_number(word(given, 6)).unwrap_or(0);
     let mut disk = disk(alloc, image, word(given, 3))?;
     let (lived, words) = tapped(alloc, &mut disk, plans, rounds(given), call)?;
     let (end, client, venue) = lived;
@@ -256,7 +256,7 @@ impl World {
         } else if call == "connections" {
             self.connections(alloc)
         } else if call == "show" {
-            shows(alloc, &mut disk(alloc, &self.image, "-")?, given == "last")
+            shows(alloc, &mut disk(alloc, &self.image, "-")?, given)
         } else {
             self.wire_answer(alloc, call, given)
         }
@@ -288,13 +288,8 @@ impl World {
         }
     }
 
-    /// The answer to a row.
-    pub(crate) fn answer(
-        &mut self,
-        alloc: Global,
-        call: &str,
-        given: &str,
-    ) -> Result<String, AllocError> {
+    // The answer to a row.
+    fn text(&mut self, alloc: Global, call: &str, given: &str) -> Result<String, AllocError> {
         if call == "poll" {
             self.put(alloc, given)
         } else if call == "empty" {
@@ -308,5 +303,14 @@ impl World {
         } else {
             self.life_answer(alloc, call, given)
         }
+    }
+}
+
+impl Answers for World {
+    fn answer(&mut self, alloc: Global, call: &str, given: &str) -> Result<Vec<u8>, AllocError> {
+        let text = self.text(alloc, call, given)?;
+        let mut bytes = Vec::new(alloc);
+        put(&mut bytes, &[SOH], &text)?;
+        Ok(bytes)
     }
 }

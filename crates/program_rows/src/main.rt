@@ -1,30 +1,18 @@
-//! Rows of the program `fixgate` over inputs and outputs in memory, read from standard input and
-//! tried. It prints each row whose answer is not the expected one, how many rows there were, the
-//! help, and the code and the lines of each status.
+//! Rows of the program `fixgate` over inputs and outputs in memory. Behind them it prints the help, and
+//! the code and the lines of each status.
 #![tactic(auto)]
 
-mod rows;
 mod runs;
 mod texts;
 
 use gateway_config::ConfigKey;
 use gateway_top::{End, Status, code};
 use order_meaning::Side;
-use rows::{Row, row_of};
-use runs::{answer, help};
+use row_words::try_rows;
+use runs::{Runs, help};
 use std::alloc::{AllocError, Global};
 use std::io;
-use texts::{shown, wire};
-
-/// What a row gives in place of what is expected; none where it is as expected.
-fn another(alloc: Global, row: &Row<'_>) -> Result<Option<String>, AllocError> {
-    let answer = answer(alloc, row)?;
-    let expected = wire(alloc, row.expected)?;
-    if answer.as_slice() == expected.as_slice() {
-        return Ok(None);
-    }
-    Ok(Some(shown(alloc, &answer)?))
-}
+use texts::SIGNS;
 
 /// One of each status but that of other names, which a row shows.
 const STATUSES: [Status; 13] = [
@@ -55,17 +43,7 @@ fn status_lines(alloc: Global, status: Status) -> Result<String, AllocError> {
 }
 
 fn main(rt: HostRuntime) -> io::Result<()> {
-    let mut number: u64 = 0;
-    for line in rt.lines(rt.alloc()) {
-        let line = line?;
-        if let Some(row) = row_of(line.as_str()) {
-            number = number.wrapping_add(1);
-            if let Some(answer) = another(rt.alloc(), &row)? {
-                println!(rt; "{line}\n    is {answer}")?;
-            }
-        }
-    }
-    println!(rt; "rows: {number}")?;
+    try_rows(&rt, &SIGNS, &mut Runs)?;
     let help = help(rt.alloc())?;
     print!(rt; "{help}")?;
     for status in STATUSES {

@@ -2,11 +2,11 @@
 
 ghost use Rattle.std.specs.Prelude.{◌≡◌, false};
 
-use crate::rows::{Row, number_behind};
-use crate::texts::{shown, wire};
+use crate::texts::SIGNS;
 use drop_taps::Tap;
 use gateway_top::{Status, run};
 use outside::{MemDisk, MemSink, MemSource};
+use row_words::{Answers, bytes_of, number_behind, shown};
 use std::alloc::{AllocError, Global};
 use wires::{ListClock, QuietWire};
 
@@ -32,7 +32,7 @@ fn words_of(alloc: Global, command: &str) -> Result<Vec<String>, AllocError> {
 fn failing(alloc: Global, fault: &str, kind: &str) -> Result<Vec<u64>, AllocError> {
     let mut calls = Vec::new(alloc);
     if let Some(number) = number_behind(fault, kind) {
-        calls.push(number)?;
+        calls.push(u64::from(number))?;
     }
     Ok(calls)
 }
@@ -89,16 +89,30 @@ fn ended(alloc: Global, status: &Status, put: &[u8]) -> Result<Vec<u8>, AllocErr
     Ok(answer)
 }
 
-/// How the run of a row ends, and what it puts.
-pub(crate) fn answer(alloc: Global, row: &Row<'_>) -> Result<Vec<u8>, AllocError> {
-    let words = words_of(alloc, row.command)?;
-    let input = wire(alloc, row.input)?;
-    let mut source = MemSource::new(input, failing(alloc, row.fault, "read")?);
-    let mut sink = MemSink::new(alloc, failing(alloc, row.fault, "write")?);
-    let on_disk = content(alloc, row.fault)?;
-    let mut disk = MemDisk::new(alloc, on_disk, failing(alloc, row.fault, "disk")?);
+/// How the run of a command ends where these calls fail, and what it puts.
+fn answer(alloc: Global, command: &str, fault: &str, input: &str) -> Result<Vec<u8>, AllocError> {
+    let words = words_of(alloc, command)?;
+    let input = bytes_of(alloc, &SIGNS, input)?;
+    let mut source = MemSource::new(input, failing(alloc, fault, "read")?);
+    let mut sink = MemSink::new(alloc, failing(alloc, fault, "write")?);
+    let on_disk = content(alloc, fault)?;
+    let mut disk = MemDisk::new(alloc, on_disk, failing(alloc, fault, "disk")?);
     let status = ran(alloc, &words, &mut source, &mut sink, &mut disk);
     ended(alloc, &status, sink.bytes())
+}
+
+/// The runs of the program, each a call `fixgate` of which are given the other words of the command
+/// line, what fails and stands on the disk behind a `, `, and the input behind a ` : `.
+#[derive(Drop)]
+pub(crate) struct Runs;
+
+impl Answers for Runs {
+    fn answer(&mut self, alloc: Global, call: &str, given: &str) -> Result<Vec<u8>, AllocError> {
+        let line = format!(in alloc; "{call} {given}")?;
+        let (command, input) = line.split_once(" : ").unwrap_or((line.as_str(), ""));
+        let (command, fault) = command.split_once(", ").unwrap_or((command, ""));
+        answer(alloc, command, fault, input)
+    }
 }
 
 /// What `--help` puts.

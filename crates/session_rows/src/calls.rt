@@ -1,7 +1,7 @@
 //! The calls of rows.
 
-use crate::words::bytes_of;
 use crate::{frames, logons, sessions};
+use row_words::{Answers, SOH, bytes_of};
 use std::alloc::{AllocError, Global};
 
 // The answers that are bytes.
@@ -30,11 +30,16 @@ fn text_answer(alloc: Global, call: &str, given: &str) -> Result<String, AllocEr
     }
 }
 
-/// The answer to a call of which this is given, with SOH where a text has `|`.
-pub(crate) fn answer(alloc: Global, call: &str, given: &str) -> Result<Vec<u8>, AllocError> {
-    if call == "frame" || call == "long" || call == "fill" {
-        return frame_answer(alloc, call, given);
+/// The calls on sessions, messages and frames.
+#[derive(Drop)]
+pub(crate) struct Calls;
+
+impl Answers for Calls {
+    fn answer(&mut self, alloc: Global, call: &str, given: &str) -> Result<Vec<u8>, AllocError> {
+        if call == "frame" || call == "long" || call == "fill" {
+            return frame_answer(alloc, call, given);
+        }
+        let text = text_answer(alloc, call, given)?;
+        bytes_of(alloc, &[SOH], &text)
     }
-    let text = text_answer(alloc, call, given)?;
-    bytes_of(alloc, &text)
 }

@@ -1,10 +1,10 @@
 //! Frames of messages and of gap fills.
 
 use crate::logons::{names, type_and_fields};
-use crate::sessions::side;
-use crate::words::{behind, bytes_of, is_yes, moment, number, word};
+use crate::sessions::is_yes;
 use order_meaning::{Names, Side};
 use pair_entries::{MAX_AT, MAX_CONTENT, MAX_TYPE};
+use row_words::{SOH, behind, bytes_of, long_number, number, side_of, word};
 use session_core::MAX_MSG_SEQ_NUM;
 use session_frames::{FRAME_ROOM, FrameBuf, fill_out, frame_out};
 use std::alloc::{AllocError, Global};
@@ -23,10 +23,10 @@ struct Sending {
 
 fn read_sending(text: &str) -> Option<Sending> {
     Some(Sending {
-        side: side(word(text, 0))?,
+        side: side_of(word(text, 0))?,
         number: number(word(text, 1))?,
-        first: moment(word(text, 2))?,
-        now: moment(word(text, 3))?,
+        first: long_number(word(text, 2))?,
+        now: long_number(word(text, 3))?,
         resend: is_yes(word(text, 4)),
         again: is_yes(word(text, 5)),
     })
@@ -82,7 +82,7 @@ fn frame_of(
     let Some((msg_type, fields)) = type_and_fields(text) else {
         return Vec::from_slice(alloc, b"no type");
     };
-    let content = bytes_of(alloc, fields)?;
+    let content = bytes_of(alloc, &[SOH], fields)?;
     sent(alloc, names, sending, msg_type, &content)
 }
 

@@ -1,10 +1,10 @@
 //! What is read of a message, and what is said. Its type is that of the field 35 which a text
 //! begins with.
 
-use crate::sessions::side;
-use crate::words::{behind, bytes_of, is_yes, moment, number, shown, word};
+use crate::sessions::is_yes;
 use field_groups::split;
 use order_meaning::Side;
+use row_words::{SOH, behind, bytes_of, long_number, number, shown, side_of, word};
 use session_core::{Admin, Head, Why};
 use session_logon::{Name, Names, Said42, check_logon, read_head, say};
 use std::alloc::{AllocError, Global};
@@ -58,7 +58,7 @@ fn head_read(
     now: u64,
     text: &str,
 ) -> Result<String, AllocError> {
-    let body = bytes_of(alloc, text)?;
+    let body = bytes_of(alloc, &[SOH], text)?;
     let Some((msg_type, _)) = type_and_fields(text) else {
         return format!(in alloc; "no type");
     };
@@ -71,9 +71,9 @@ fn head_read(
 /// The head of a message: given are the side, the window in seconds, the moment and the body.
 pub(crate) fn head(alloc: Global, given: &str) -> Result<String, AllocError> {
     match (
-        side(word(given, 0)),
+        side_of(word(given, 0)),
         number(word(given, 1)),
-        moment(word(given, 2)),
+        long_number(word(given, 2)),
     ) {
         (Some(side), Some(window), Some(now)) => {
             head_read(alloc, side, window, now, behind(given, 3))
@@ -84,9 +84,9 @@ pub(crate) fn head(alloc: Global, given: &str) -> Result<String, AllocError> {
 
 /// What a Logon says: given are the side and the fields.
 pub(crate) fn checked(alloc: Global, given: &str) -> Result<String, AllocError> {
-    let fields = bytes_of(alloc, behind(given, 1))?;
+    let fields = bytes_of(alloc, &[SOH], behind(given, 1))?;
     let split = split(alloc, &fields)?;
-    match side(word(given, 0)) {
+    match side_of(word(given, 0)) {
         Some(side) => format!(in alloc; "{:?}", check_logon(side, &split.fields)),
         None => format!(in alloc; "no side"),
     }
@@ -94,7 +94,7 @@ pub(crate) fn checked(alloc: Global, given: &str) -> Result<String, AllocError> 
 
 /// How many fields a body has, and whether it has a fault.
 pub(crate) fn counted(alloc: Global, text: &str) -> Result<String, AllocError> {
-    let body = bytes_of(alloc, text)?;
+    let body = bytes_of(alloc, &[SOH], text)?;
     let split = split(alloc, &body)?;
     format!(in alloc; "{} {}", split.fields.len(), split.fault.is_some())
 }
@@ -209,7 +209,7 @@ fn said_of(
 /// type that it answers, and the message.
 pub(crate) fn said(alloc: Global, given: &str) -> Result<String, AllocError> {
     let about = read_about(behind(given, 1));
-    match (side(word(given, 0)), about, admin(behind(given, 5))) {
+    match (side_of(word(given, 0)), about, admin(behind(given, 5))) {
         (Some(side), Some(about), Some(admin)) => said_of(alloc, side, &admin, &about),
         _ => format!(in alloc; "no message to say"),
     }

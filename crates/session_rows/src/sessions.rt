@@ -8,22 +8,15 @@ ghost use Rattle.std.specs.Prelude.{IfSome};
 ghost use Rattle.session_core.specs.Head.{HasNumbers};
 ghost use Rattle.session_core.specs.Numbers.{IsMsgSeqNum};
 
-use crate::words::{behind, is_yes, moment, number, word};
-use order_meaning::Side;
+use row_words::{behind, long_number, number, side_of, word};
 use session_core::{
     ALL_USED, Ask, Head, LinkState, MAX_MSG_SEQ_NUM, Numbers, Session, Spent, Step, What,
 };
 use std::alloc::{AllocError, Global};
 
-/// The side of a word.
-pub(crate) fn side(word: &str) -> Option<Side> {
-    if word == "Client" {
-        Some(Side::Client)
-    } else if word == "Venue" {
-        Some(Side::Venue)
-    } else {
-        None
-    }
+/// Whether a word is `Y`.
+pub(crate) fn is_yes(word: &str) -> bool {
+    word == "Y"
 }
 
 fn link(word: &str) -> Option<LinkState> {
@@ -59,13 +52,13 @@ pub(crate) fn session(text: &str) -> Option<Session> {
     let next_in = number(word(text, 2))?;
     let next_out = number(word(text, 3))?;
     Some(Session {
-        side: side(word(text, 0))?,
+        side: side_of(word(text, 0))?,
         link: link(word(text, 1))?,
         numbers: numbers(next_in, next_out)?,
         heart: number(word(text, 4))?,
-        seen: moment(word(text, 5))?,
-        said: moment(word(text, 6))?,
-        tested: moment(word(text, 7)),
+        seen: long_number(word(text, 5))?,
+        said: long_number(word(text, 6))?,
+        tested: long_number(word(text, 7)),
         ask: ask(word(text, 8), word(text, 9)),
     })
 }
@@ -254,7 +247,7 @@ fn called(
 
 /// The answer of a session to a call, of which the moment, the session and the message are given.
 pub(crate) fn answer(alloc: Global, call: &str, given: &str) -> Result<String, AllocError> {
-    match (moment(word(given, 0)), session(behind(given, 1))) {
+    match (long_number(word(given, 0)), session(behind(given, 1))) {
         (Some(now), Some(session)) => called(alloc, call, &session, now, behind(given, 11)),
         _ => format!(in alloc; "no session"),
     }
