@@ -14,3 +14,5 @@ mod lines;
 mod logs;
 #[cfg(test)]
 mod taps;
+#[cfg(test)]
+mod texts;
