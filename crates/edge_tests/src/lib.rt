@@ -10,4 +10,10 @@ mod files;
 #[cfg(test)]
 mod lines;
 #[cfg(test)]
+mod narrow;
+#[cfg(test)]
+mod notices;
+#[cfg(test)]
 mod peers;
+#[cfg(test)]
+mod streams;

@@ -2,18 +2,15 @@
 //! words of the command line, and ends as [`gateway_top::End`] says.
 #![tactic(auto)]
 
-mod adapters;
 mod lines;
 mod options;
 mod running;
-#[cfg(test)]
-mod tests;
 
-use crate::adapters::{Reading, Writing};
 use crate::lines::{DatedLines, PlainLines};
 use crate::options::read_options;
 use crate::running::run_words;
 use drop_taps::{LineTap, Tap, TotalsTap, clear};
+use gateway_edge::{Reading, Writing};
 use gateway_top::{End, Status};
 use std::alloc::AllocError;
 use std::process::ExitCode;

@@ -9,14 +9,18 @@ use std::io::{Read, Write};
 
 /// A reader as a source.
 #[derive(Drop)]
-pub(crate) struct Reading<R: Read> {
-    pub(crate) inner: R,
-    pub(crate) ended: bool,
-    pub(crate) faults: u64,
+pub struct Reading<R: Read> {
+    /// The reader.
+    pub inner: R,
+    /// Whether a read with room found the end.
+    pub ended: bool,
+    /// How many reads failed, up to the last value of 64 bits.
+    pub faults: u64,
 }
 
 impl<R: Read> Reading<R> {
-    pub(crate) fn new(inner: R) -> Reading<R>
+    /// No read was made yet.
+    pub fn new(inner: R) -> Reading<R>
         ensures inner { result.inner ≡ inner }
         ensures ended { result.ended ≡ false }
         ensures faults { result.faults ≡ 0 }
@@ -52,13 +56,16 @@ impl<R: Read> Source for Reading<R> {
 
 /// A writer as a sink.
 #[derive(Drop)]
-pub(crate) struct Writing<W: Write> {
-    pub(crate) inner: W,
-    pub(crate) faults: u64,
+pub struct Writing<W: Write> {
+    /// The writer.
+    pub inner: W,
+    /// How many puts failed, up to the last value of 64 bits.
+    pub faults: u64,
 }
 
 impl<W: Write> Writing<W> {
-    pub(crate) fn new(inner: W) -> Writing<W>
+    /// Nothing was put yet.
+    pub fn new(inner: W) -> Writing<W>
         ensures inner { result.inner ≡ inner }
         ensures faults { result.faults ≡ 0 }
     {

@@ -1,6 +1,6 @@
 use Rattle.std.proofs.Common.{◌≡◌, ℕ, ◌≤◌, length, take, drop}
 use Rattle.std.specs.Io.KnownBytes.{Appends}
-use Rattle.gateway_main.proofs.adapters.WritingSink.put.Given as goal
+use Rattle.gateway_edge.proofs.streams.WritingSink.put.Given as goal
 
 -- the first n bytes of the piece were written
 abbrev pub invariant-loop-rest : goal.invariant-loop-rest

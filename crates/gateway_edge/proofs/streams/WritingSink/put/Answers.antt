@@ -4,7 +4,7 @@ use Rattle.std.proofs.Math.Seq.{take-add}
 use Rattle.std.proofs.lemmas.List.{drop-drop, take_all}
 use Rattle.std.specs.Io.KnownBytes.{Appends}
 use Rattle.std.proofs.KnownBytes.{Appends-trans}
-use Rattle.gateway_main.proofs.adapters.WritingSink.put.Goals as goal
+use Rattle.gateway_edge.proofs.streams.WritingSink.put.Goals as goal
 
 -- what `&xs[k..]` is
 rest_of : (xs : List ℕ) (k : ℕ) → take (length xs - k) (drop k xs) ≡ drop k xs
