@@ -1,6 +1,6 @@
 -- How a life begins.
 use Rattle.std.proofs.Common.{◌≡◌, ◌⊎◌, ℕ, false, List, [], refl, sym, subst, Some, None}
-use Rattle.std.proofs.Common.{inl}
+use Rattle.std.proofs.Common.{inl, inr, ◌∙◌}
 use Rattle.std.proofs.Common.{Ok, Err}
 use Rattle.std.specs.Prelude.{Result, IfSome, IfErr, IsErrAnd}
 use Rattle.std.specs.declared.option.Option.{Option}
@@ -20,6 +20,8 @@ use Rattle.gateway_life.specs.declared.end.LifeEnd.{LifeEnd}
 use Rattle.gateway_life.specs.Ended.{end_of}
 use Rattle.gateway_life.specs.Stepped.{IsNotDone}
 use Rattle.gateway_life.specs.Ready.{IsReady}
+use Rattle.gate_log.specs.Log.{OnlyRead}
+use Rattle.gateway_life.specs.Life.{IfRefused, IsForeign}
 use Rattle.gateway_life.specs.Rounds.{Begins}
 
 -- an error of the journal
@@ -127,3 +129,61 @@ pub only_of : {T : Type 0} (r : Result T LifeEnd) (end : LifeEnd) → IsErrAnd r
     → IsNotDone end → IfErr r IsNotDone
 only_of (Ok value) end is only = tt
 only_of (Err e) end is only = subst IsNotDone (sym is) only
+
+-- ---- of a disk that was refused, and of one that was not unborn
+
+pub refused_by : {V : Type 0} (R : Type 0) (r : Result V JournalError) (error : JournalError)
+    → r ≡ Err error → ((at : ℕ) → r ≡ Err (errors.Refused at) → R)
+    → ((kept given : Names) → r ≡ Err (errors.NamesDiffer kept given) → R)
+    → IfRefused (end_of error) R
+refused_by R r errors.DiskFault is at_place differ = tt
+refused_by R r (errors.Refused at) is at_place differ = at_place at is
+refused_by R r (errors.NamesDiffer kept given) is at_place differ = differ kept given is
+refused_by R r errors.Full is at_place differ = tt
+refused_by R r errors.NoMemory is at_place differ = tt
+
+-- an error of a call that only reads is no refusal
+pub refused_never : {V : Type 0} (R : Type 0) (r : Result V JournalError) (error : JournalError)
+    → r ≡ Err error → ReadsOnly r → IfRefused (end_of error) R
+refused_never {V} R r error is only = at error (subst (ReadsOnly {T = V}) is only)
+  where
+    at : (e : JournalError) → ReadsOnly {T = V} (Err e) → IfRefused (end_of e) R
+    at errors.DiskFault h = tt
+    at (errors.Refused place) h = absurd h
+    at (errors.NamesDiffer kept given) h = absurd h
+    at errors.Full h = tt
+    at errors.NoMemory h = tt
+
+pub refused_of : {T : Type 0} (R : Type 0) (r : Result T LifeEnd) (end : LifeEnd)
+    → IsErrAnd r (λ e. e ≡ end) → IfRefused end R → IfErr r (λ e. IfRefused e R)
+refused_of R (Ok value) end is refused = tt
+refused_of R (Err e) end is refused =
+    subst (λ (x : LifeEnd). IfRefused x R) (sym is) refused
+
+pub read_on : (a b c : Option (List ℕ)) (i j k : List ℕ → Type 0)
+    → IfSome a (λ x. JournalOf x Unborn ⊎ OnlyRead a b i j) → OnlyRead b c j k
+    → IfSome a (λ x. JournalOf x Unborn ⊎ OnlyRead a c i k)
+read_on None b c i j k first later = tt
+read_on (Some x) b c i j k (inl unborn) later = inl unborn
+read_on (Some x) b c i j k (inr read) later = inr (record {
+  same = later.same ∙ read.same;
+  images = λ d left. read.images d (later.images d left);
+  kept = λ d left. later.kept d (read.kept d left);
+})
+
+-- a disk that was left alone was only read
+pub untouched : (told : Option (List ℕ)) (image : List ℕ → Type 0)
+    → IfSome told (λ b. JournalOf b Unborn ⊎ OnlyRead told told image image)
+untouched None image = tt
+untouched (Some b) image = inr (record {
+  same = refl;
+  images = λ c left. left;
+  kept = λ c left. left;
+})
+
+-- a disk that is no journal of these names is not unborn, so it was only read
+pub read_foreign : (R : Type 0) (names : Names) (told : Option (List ℕ))
+    → IfSome told (λ b. JournalOf b Unborn ⊎ R) → IfSome told (λ b. IsForeign names b → R)
+read_foreign R names None h = tt
+read_foreign R names (Some b) (inl unborn) = λ foreign. absurd (foreign [] (inr (unborn, refl)))
+read_foreign R names (Some b) (inr read) = λ foreign. read

@@ -4,7 +4,7 @@ use Rattle.std.proofs.Common.{refl}
 use Rattle.std.proofs.Common.{sym, ◌∙◌, ap, subst, append_assoc, Some, None, inl, inr, Ok, Err}
 use Rattle.std.proofs.Common.{arith}
 use Rattle.std.proofs.Common.{zero, suc, ◌+◌, ◌-◌, length-append}
-use Rattle.std.specs.Prelude.{map, is_some, IfSome, fold, Result, OnOk, IfErr}
+use Rattle.std.specs.Prelude.{map, is_some, IfSome, fold, Result, OnOk, OnErr, IfErr}
 use Rattle.std.specs.Prelude.{IsErrAnd}
 use Rattle.std.specs.declared.option.Option.{Option}
 use Rattle.std.specs.Option.{ForSome}
@@ -30,12 +30,13 @@ use Rattle.gateway_life.specs.State.{LifeState}
 use Rattle.gateway_life.specs.Ready.{LeavesOf, world_of}
 use Rattle.gateway_life.specs.Stepped.{Records, records, IsOfEvent, HasCauseOf}
 use Rattle.gateway_life.specs.Life.{Done, begun, moment_of, LivesToEnd, EndsBefore, hung_up, Ends}
-use Rattle.gateway_life.specs.Life.{IsJournal, LastEnds, counted_on, IsAnswered, IsIdle}
-use Rattle.gateway_life.specs.Life.{IsIdleIfRefused, Did}
+use Rattle.gateway_life.specs.Life.{IsJournal, LastEnds, counted_on, IsAnswered}
+use Rattle.gateway_life.specs.Life.{IsIdle, IfRefused, IsForeign, Did}
 use Rattle.gateway_life.specs.Laws.{GoesOnFrom, LeavesImage, EndsLeave}
 use Rattle.gateway_life.specs.Rounds.{StoodFor, AreTold, LifeDone, LifeBroken, BeginsWith}
-use Rattle.gateway_life.specs.Rounds.{Begins, IsUnbegun, LifeWhole, LifeStopped}
+use Rattle.gateway_life.specs.Rounds.{Begins, IsUnbegun, IsUntouched, LifeWhole, LifeStopped}
 use Rattle.wire_sends.proofs.Sendings.{fold-append, grows_none}
+use Rattle.gateway_life.proofs.Beginning.{read_foreign, refused_of}
 
 -- ---- what is told
 
@@ -529,39 +530,80 @@ hung_none (Some a) m b down hung same =
     subst (λ u. GrowsBy (Some a) b (hang_up_if u)) (down a refl)
     (subst (λ (r : Option (List WireCall)). HangUpGrows r b) same hung)
 
-pub idle_ended : (end : LifeEnd) (config : Config) (rounds : ℕ) (told : Option (List ℕ))
-    (i0 i1 : List ℕ → Type 0) (rc0 rcm rc1 rv0 rvm rv1 : Option (List WireCall))
+pub idle_untouched : (disk : Type 0) (rc0 rcm rc1 rv0 rvm rv1 : Option (List WireCall))
     (km0 km1 : Option (List ℕ)) → ForSome rc0 (λ calls. is_within calls ≡ false)
     → ForSome rv0 (λ calls. is_within calls ≡ false) → HangUpGrows rcm rc1 → HangUpGrows rvm rv1
-    → IsUnbegun end config.names told i0 i1 (records rc0 rv0) (records rcm rvm) km0 km1
-    ⊎ LifeStopped end config rounds told i0 i1 (records rc0 rv0) (records rcm rvm) km0 km1
-    → IsIdleIfRefused end rc0 rc1 rv0 rv1 km0 km1
-idle_ended end config rounds told i0 i1 rc0 rcm rc1 rv0 rvm rv1 km0 km1 cd vd ch vh (inl un) =
-    at end
-  where
-    idle : IsIdle rc0 rc1 rv0 rv1 km0 km1
-    idle = record {
-      client = hung_none rc0 rcm rc1 cd ch (ap (λ (r : Records). r.client) un.wires);
-      venue = hung_none rv0 rvm rv1 vd vh (ap (λ (r : Records). r.venue) un.wires);
-      clock = un.clock;
-    }
+    → IsUntouched disk (records rc0 rv0) (records rcm rvm) km0 km1
+    → IsIdle disk rc0 rc1 rv0 rv1 km0 km1
+idle_untouched disk rc0 rcm rc1 rv0 rvm rv1 km0 km1 cd vd ch vh un = record {
+  disk = un.disk;
+  client = hung_none rc0 rcm rc1 cd ch (ap (λ (r : Records). r.client) un.wires);
+  venue = hung_none rv0 rvm rv1 vd vh (ap (λ (r : Records). r.venue) un.wires);
+  clock = un.clock;
+}
 
-    at : (e : LifeEnd) → IsIdleIfRefused e rc0 rc1 rv0 rv1 km0 km1
-    at ends.Done = tt
-    at (ends.JournalRefused place) = idle
-    at (ends.NamesDiffer kept given) = idle
-    at ends.DiskFault = tt
-    at ends.JournalFull = tt
-    at (ends.NumbersSpent side) = tt
-    at ends.NoMemory = tt
-idle_ended end config rounds told i0 i1 rc0 rcm rc1 rv0 rvm rv1 km0 km1 cd vd ch vh (inr stopped) =
-    at end stopped.of_event
-  where
-    at : (e : LifeEnd) → IsOfEvent e → IsIdleIfRefused e rc0 rc1 rv0 rv1 km0 km1
-    at ends.Done of = tt
-    at (ends.JournalRefused place) of = absurd of
-    at (ends.NamesDiffer kept given) of = absurd of
-    at ends.DiskFault of = tt
-    at ends.JournalFull of = tt
-    at (ends.NumbersSpent side) of = tt
-    at ends.NoMemory of = tt
+pub if_refused : (P Q : Type 0) (end : LifeEnd) → (P → Q) → IfRefused end P → IfRefused end Q
+if_refused P Q ends.Done f p = tt
+if_refused P Q (ends.JournalRefused place) f p = f p
+if_refused P Q (ends.NamesDiffer kept given) f p = f p
+if_refused P Q ends.DiskFault f p = tt
+if_refused P Q ends.JournalFull f p = tt
+if_refused P Q (ends.NumbersSpent side) f p = tt
+if_refused P Q ends.NoMemory f p = tt
+
+pub refused_if : (P : Type 0) (end : LifeEnd) → P → IfRefused end P
+refused_if P ends.Done p = tt
+refused_if P (ends.JournalRefused place) p = p
+refused_if P (ends.NamesDiffer kept given) p = p
+refused_if P ends.DiskFault p = tt
+refused_if P ends.JournalFull p = tt
+refused_if P (ends.NumbersSpent side) p = tt
+refused_if P ends.NoMemory p = tt
+
+-- no event is what a disk is refused by
+pub refused_not : (P : Type 0) (end : LifeEnd) → IsOfEvent end → IfRefused end P
+refused_not P ends.Done of = tt
+refused_not P (ends.JournalRefused place) of = absurd of
+refused_not P (ends.NamesDiffer kept given) of = absurd of
+refused_not P ends.DiskFault of = tt
+refused_not P ends.JournalFull of = tt
+refused_not P (ends.NumbersSpent side) of = tt
+refused_not P ends.NoMemory of = tt
+
+pub refused_events : {T : Type 0} (P : Type 0) (r : Result T LifeEnd) → IfErr r IsOfEvent
+    → IfErr r (λ end. IfRefused end P)
+refused_events P (Ok value) of = tt
+refused_events P (Err end) of = refused_not P end of
+
+pub if_foreign : (P Q : Type 0) (names : Names) (told : Option (List ℕ)) → (P → Q)
+    → IfSome told (λ b. IsForeign names b → P) → IfSome told (λ b. IsForeign names b → Q)
+if_foreign P Q names None f h = tt
+if_foreign P Q names (Some b) f h = λ foreign. f (h foreign)
+
+-- bytes with entries of these names are not foreign
+pub not_foreign : (P : Type 0) (names : Names) (told : Option (List ℕ)) (entries : List Entry)
+    → IfSome told (IsJournal names entries) → IfSome told (λ b. IsForeign names b → P)
+not_foreign P names None entries h = tt
+not_foreign P names (Some b) entries h = λ foreign. absurd (foreign entries h)
+
+pub begun_not_foreign : {T : Type 0} (P : Type 0) (r : Result T LifeEnd) (names : Names)
+    (told : Option (List ℕ)) (entries : List Entry) → IfSome told (IsJournal names entries)
+    → OnErr r (IfSome told (λ b. IsForeign names b → P))
+begun_not_foreign P (Ok value) names told entries h = tt
+begun_not_foreign P (Err end) names told entries h = not_foreign P names told entries h
+
+pub unbegun_foreign : {T : Type 0} (R : Type 0) (r : Result T LifeEnd) (names : Names)
+    (told : Option (List ℕ)) (rs : Records) (moments : Option (List ℕ))
+    → IfSome told (λ b. JournalOf b Unborn ⊎ R)
+    → OnErr r (IfSome told (λ b. IsForeign names b → IsUntouched R rs rs moments moments))
+unbegun_foreign R (Ok value) names told rs moments h = tt
+unbegun_foreign R (Err end) names told rs moments h = if_foreign R
+    (IsUntouched R rs rs moments moments) names told
+    (λ read. record { disk = read; wires = refl; clock = refl }) (read_foreign R names told h)
+
+pub unbegun_refused : {T : Type 0} (R : Type 0) (r : Result T LifeEnd) (end : LifeEnd) (rs : Records)
+    (moments : Option (List ℕ)) → IsErrAnd r (λ e. e ≡ end) → IfRefused end R
+    → IfErr r (λ e. IfRefused e (IsUntouched R rs rs moments moments))
+unbegun_refused R r end rs moments is h = refused_of (IsUntouched R rs rs moments moments) r end is
+    (if_refused R (IsUntouched R rs rs moments moments) end
+    (λ read. record { disk = read; wires = refl; clock = refl }) h)

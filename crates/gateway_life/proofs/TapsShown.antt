@@ -15,37 +15,22 @@ use Rattle.gateway_life.specs.declared.end.LifeEnd.TheVariants as ends
 use Rattle.gateway_life.specs.State.{LifeState}
 use Rattle.gateway_life.specs.Ready.{LeavesOf}
 use Rattle.gateway_life.specs.Stepped.{IsOfEvent}
-use Rattle.gateway_life.specs.Life.{IsJournal}
+use Rattle.gateway_life.specs.Life.{IsJournal, IsForeign, IfRefused}
 use Rattle.gateway_life.specs.Rounds.{Begins}
 use Rattle.drop_taps.specs.Shown.{TapState}
-use Rattle.gateway_life.specs.Watched.{Watched, WereCommitted, NoneIfRefused, end_in}
+use Rattle.gateway_life.specs.Watched.{Watched, WereCommitted, end_in}
 use Rattle.gateway_life.specs.Watched.{TapsSaw}
 use Rattle.drop_taps.proofs.Showing.{seen_none}
 use Rattle.gateway_life.proofs.Watching.{were_same}
 use Rattle.gateway_life.proofs.Living.{unbegun_image, same_journal, image_of, leaves_from}
+use Rattle.gateway_life.proofs.Living.{refused_if, refused_not}
 
-none_shown : (end : LifeEnd) → NoneIfRefused end []
-none_shown ends.Done = tt
-none_shown ends.DiskFault = tt
-none_shown (ends.JournalRefused at) = refl
-none_shown (ends.NamesDiffer kept given) = refl
-none_shown ends.JournalFull = tt
-none_shown (ends.NumbersSpent side) = tt
-none_shown ends.NoMemory = tt
+abbrev no_entries : List Entry
+no_entries = []
 
-not_refused : (end : LifeEnd) (more : List Entry) → IsOfEvent end → NoneIfRefused end more
-not_refused ends.Done more of = tt
-not_refused ends.DiskFault more of = tt
-not_refused (ends.JournalRefused at) more of = absurd of
-not_refused (ends.NamesDiffer kept given) more of = absurd of
-not_refused ends.JournalFull more of = tt
-not_refused (ends.NumbersSpent side) more of = tt
-not_refused ends.NoMemory more of = tt
-
-whole_shown : {V : Type 0} (r : Result V LifeEnd) (more : List Entry) → IfErr r IsOfEvent
-    → NoneIfRefused (end_in r) more
-whole_shown (Ok value) more of = tt
-whole_shown (Err end) more of = not_refused end more of
+whole_shown : {V : Type 0} (P : Type 0) (r : Result V LifeEnd) → IfErr r IsOfEvent → IfRefused (end_in r) P
+whole_shown P (Ok value) of = tt
+whole_shown P (Err end) of = refused_not P end of
 
 module _ (one : (image : List ℕ) → HasOneReading image) {T : Type 0} (state : T → TapState) where
   -- a life that did not begin
@@ -55,10 +40,15 @@ module _ (one : (image : List ℕ) → HasOneReading image) {T : Type 0} (state 
   taps_unbegun r taps names told i0 i1 images = record {
     more = [];
     seen = seen_none state taps;
-    idle = none_shown (end_in r);
+    refused = refused_if (no_entries ≡ no_entries) (end_in r) refl;
+    foreign = none told;
     left = at told images;
   }
     where
+      none : (t : Option (List ℕ)) → IfSome t (λ b. IsForeign names b → no_entries ≡ no_entries)
+      none None = tt
+      none (Some b) = λ foreign. refl
+
       at : (t : Option (List ℕ)) → BornOrNot t i0 i1 names → IfSome t (λ bytes. Only bytes i0 →
           (before : List Entry) → IsJournal names before bytes → (image : List ℕ) → i1 image
           → (found : List Entry) × IsJournal names found image
@@ -87,14 +77,16 @@ module _ (one : (image : List ℕ) → HasOneReading image) {T : Type 0} (state 
       stands left of watched = record {
         more = watched.more;
         seen = watched.seen;
-        idle = whole_shown r watched.more of;
+        refused = whole_shown (watched.more ≡ []) r of;
+        foreign = tt;
         left = tt;
       }
   taps_whole {V} r olds news names names' (Some b) t1 t2 i0 i1 i2 old new same begins told kept
       told' kept' stands left of watched = record {
         more = watched.more;
         seen = watched.seen;
-        idle = whole_shown r watched.more of;
+        refused = whole_shown (watched.more ≡ []) r of;
+        foreign = λ foreign. absurd (foreign old.gate.journal.entries begins);
         left = at r kept' stands left;
       }
     where

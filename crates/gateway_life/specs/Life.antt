@@ -162,21 +162,23 @@ pub record Did (client0 client1 venue0 venue1 : Option (List WireCall))
   pub venue : Adds venue0 venue1 did.venue
   pub clock : Adds clock0 clock1 did.moments
 
--- nothing was done on either wire, and the clock was not read
-pub record IsIdle (client0 client1 venue0 venue1 : Option (List WireCall))
+-- a disk that was refused
+abbrev pub IfRefused : LifeEnd → Type 0 → Type 0
+IfRefused (ends.JournalRefused at) holds = holds
+IfRefused (ends.NamesDiffer kept given) holds = holds
+IfRefused end holds = Unit {0}
+
+-- bytes that are no journal of these names
+abbrev pub IsForeign : Names → List ℕ → Type 0
+IsForeign names bytes = (entries : List Entry) → IsJournal names entries bytes → ⊥
+
+-- nothing was done on either wire, the clock was not read, and of the disk this holds
+pub record IsIdle (disk_holds : Type 0) (client0 client1 venue0 venue1 : Option (List WireCall))
     (clock0 clock1 : Option (List ℕ)) : Type 0 where
+  pub disk : disk_holds
   pub client : GrowsBy client0 client1 []
   pub venue : GrowsBy venue0 venue1 []
   pub clock : clock1 ≡ clock0
-
--- the same where the disk was refused
-abbrev pub IsIdleIfRefused : LifeEnd → (client0 client1 venue0 venue1 : Option (List WireCall))
-    → (clock0 clock1 : Option (List ℕ)) → Type 0
-IsIdleIfRefused (ends.JournalRefused at) client0 client1 venue0 venue1 clock0 clock1 =
-    IsIdle client0 client1 venue0 venue1 clock0 clock1
-IsIdleIfRefused (ends.NamesDiffer kept given) client0 client1 venue0 venue1 clock0 clock1 =
-    IsIdle client0 client1 venue0 venue1 clock0 clock1
-IsIdleIfRefused end client0 client1 venue0 venue1 clock0 clock1 = Unit {0}
 
 -- the answer of a whole life as that of its parts
 abbrev pub ended : LifeEnd → Result ⊤ LifeEnd

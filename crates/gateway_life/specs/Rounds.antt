@@ -132,6 +132,13 @@ pub record IsUnbegun (end : LifeEnd) (names : Names) (told : Option (List ℕ))
       Begins {T = LifeState} (λ life. life.gate.journal.entries) names bytes (Err end))
   pub images : BornOrNot told before after names
 
+-- nothing was done on the wires, the clock was not read, and of the disk this holds
+pub record IsUntouched (disk_holds : Type 0) (r0 r1 : Records) (k0 k1 : Option (List ℕ)) : Type 0
+  where
+    pub disk : disk_holds
+    pub wires : r1 ≡ r0
+    pub clock : k1 ≡ k0
+
 -- a life that came to its end
 pub record LifeWhole (config : Config) (rounds : ℕ) (t0 t1 : Option (List ℕ)) (r0 r1 : Records)
     (k0 k1 : Option (List ℕ)) : Type 0 where

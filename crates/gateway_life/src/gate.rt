@@ -1,6 +1,6 @@
 //! One event: what it decides is committed, and then it is sent.
 
-ghost use Rattle.std.specs.Prelude.{◌≡◌, ◌≤◌, ◌++◌, Some, Ok, IfOk, IfErr, IfSome, OnOk, OnErr};
+ghost use Rattle.std.specs.Prelude.{◌≡◌, ◌⊎◌, ◌≤◌, ◌++◌, Some, Ok, IfOk, IfErr, IfSome, OnOk, OnErr};
 ghost use Rattle.std.specs.Prelude.{false, is_some};
 ghost use Rattle.std.specs.Prelude.{IsOkUnless, [], ◌∷◌, true, ◌<◌, ◌-◌, length, take};
 ghost use Rattle.std.specs.Prelude.{if◌then◌else◌};
@@ -10,7 +10,7 @@ ghost use Rattle.wires.specs.Told.{Keeps};
 ghost use Rattle.gate_log.specs.Log.{OnlyReads};
 ghost use Rattle.pair_journal.specs.declared.error.JournalError.TheVariants as errors;
 ghost use Rattle.pair_journal.specs.Calls.{HasDiskCause, BornOrNot};
-ghost use Rattle.pair_journal.specs.Journal.{JournalOf, Born};
+ghost use Rattle.pair_journal.specs.Journal.{JournalOf, Unborn, Born};
 ghost use Rattle.pair_journal.specs.Numbers.{GoesOn, numbers_after, first_numbers};
 ghost use Rattle.pair_entries.specs.Payload.{IsEntry};
 ghost use Rattle.event_decisions.specs.Event.{event_of, IsFramed};
@@ -25,6 +25,7 @@ ghost use Rattle.gateway_life.specs.State.{seen};
 ghost use Rattle.gateway_life.specs.Ready.{IsReady, Ready, world_of, made_of, LeavesOf};
 ghost use Rattle.gateway_life.specs.Stepped.{Stepped, MayStand, Broken, IsWhy, HasCauseOf, records};
 ghost use Rattle.gateway_life.specs.Committed.{OldOrNew, IsFull};
+ghost use Rattle.gateway_life.specs.Life.{IfRefused};
 ghost use Rattle.gateway_life.specs.Rounds.{Begins};
 ghost use Rattle.drop_taps.specs.Shown.{state_by};
 ghost use Rattle.gateway_life.specs.Watched.{Watched, WereCommitted};
@@ -148,6 +149,10 @@ fn load<D: Disk>(alloc: Global, config: &Config, disk: &mut D) -> Result<(Journa
         Begins (λ made. made.0.entries) config.now.names b result) }
     ensures images { BornOrNot (D.bytes disk.old) (D.image disk.old) (D.image disk.new)
         config.now.names }
+    ensures only_unborn_is_written { IfSome (D.bytes disk.old) (λ b.
+        JournalOf b Unborn ⊎ OnlyReads D.bytes D.image disk.old disk.new) }
+    ensures refused_only_reads { IfErr result (λ end.
+        IfRefused end (OnlyReads D.bytes D.image disk.old disk.new)) }
     ensures only { IfErr result IsNotDone }
     ensures told { is_some (D.bytes disk.new) ≡ is_some (D.bytes disk.old) }
     ensures cause { HasCauseOf (D.faults disk.old) (D.faults disk.new) result }
@@ -189,6 +194,10 @@ impl Gate {
             Begins (λ gate. gate.journal.entries) config.now.names b result) }
         ensures images { BornOrNot (D.bytes disk.old) (D.image disk.old) (D.image disk.new)
             config.now.names }
+        ensures only_unborn_is_written { IfSome (D.bytes disk.old) (λ b.
+            JournalOf b Unborn ⊎ OnlyReads D.bytes D.image disk.old disk.new) }
+        ensures refused_only_reads { IfErr result (λ end.
+            IfRefused end (OnlyReads D.bytes D.image disk.old disk.new)) }
         ensures only { IfErr result IsNotDone }
         ensures told { is_some (D.bytes disk.new) ≡ is_some (D.bytes disk.old) }
         ensures cause { HasCauseOf (D.faults disk.old) (D.faults disk.new) result }

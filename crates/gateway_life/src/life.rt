@@ -1,7 +1,7 @@
 //! A whole life, and its parts.
 
 ghost use Rattle.std.specs.Prelude.{◌≡◌, ◌⊎◌, ◌≤◌, ◌++◌, ℕ, List, false, Some, IfOk, IfErr};
-ghost use Rattle.std.specs.Prelude.{IfSome, OnOk, None, is_some, [], ◌∷◌, length};
+ghost use Rattle.std.specs.Prelude.{IfSome, OnOk, OnErr, None, is_some, [], ◌∷◌, length};
 ghost use Rattle.std.specs.Option.{ForSome};
 ghost use Rattle.outside.specs.Causes.{next_count};
 ghost use Rattle.outside.specs.Disk.{HasOneImage, Only};
@@ -10,11 +10,12 @@ ghost use Rattle.wires.specs.Wire.{Connection, is_within};
 ghost use Rattle.life_events.specs.Justified.{transcript_from};
 ghost use Rattle.pair_entries.specs.declared.entry.Entry.{Entry};
 ghost use Rattle.pair_journal.specs.Calls.{BornOrNot};
-ghost use Rattle.pair_journal.specs.Journal.{JournalOf, Born};
+ghost use Rattle.pair_journal.specs.Journal.{JournalOf, Unborn, Born};
 ghost use Rattle.wire_sends.specs.Sent.{Agrees};
 ghost use Rattle.gateway_life.specs.Stepped.{HasCauseOf, AllStepped, Failed, records};
 ghost use Rattle.gateway_life.specs.Life.{Done, IsJournal, Ends, ended, counted_on, begun};
-ghost use Rattle.gateway_life.specs.Life.{moment_of, IsAnswered, IsIdleIfRefused, Did};
+ghost use Rattle.gateway_life.specs.Life.{moment_of, IsAnswered, IfRefused, IsIdle, IsForeign, Did};
+ghost use Rattle.gate_log.specs.Log.{OnlyReads};
 ghost use Rattle.gateway_life.specs.Laws.{GoesOnFrom, LeavesImage};
 ghost use Rattle.gateway_life.specs.Ready.{LeavesOf, world_of};
 ghost use Rattle.gateway_life.specs.Rounds.{IsLive, RoundDone, RoundBroken, ends_of, Begins};
@@ -23,7 +24,7 @@ ghost use Rattle.gateway_life.specs.Rounds.{LifeStopped};
 ghost use Rattle.gateway_life.specs.Stepped.{IsOfEvent, IsNotDone};
 ghost use Rattle.drop_taps.specs.Shown.{state_by};
 ghost use Rattle.gateway_life.specs.Watched.{Watched, WereCommitted, TapsSaw, end_in};
-ghost use Rattle.gateway_life.specs.Rounds.{IsUnbegun};
+ghost use Rattle.gateway_life.specs.Rounds.{IsUnbegun, IsUntouched};
 
 use crate::LifeEnd;
 use crate::gate::Gate;
@@ -87,6 +88,10 @@ impl Life {
             HasOneImage (D.bytes disk.new) (D.image disk.new)) }
         ensures images { BornOrNot (D.bytes disk.old) (D.image disk.old) (D.image disk.new)
             config.now.names }
+        ensures only_unborn_is_written { IfSome (D.bytes disk.old) (λ b.
+            JournalOf b Unborn ⊎ OnlyReads D.bytes D.image disk.old disk.new) }
+        ensures refused_only_reads { IfErr result (λ end.
+            IfRefused end (OnlyReads D.bytes D.image disk.old disk.new)) }
         ensures only { IfErr result IsNotDone }
         ensures told { is_some (D.bytes disk.new) ≡ is_some (D.bytes disk.old) }
         ensures cause { HasCauseOf (D.faults disk.old) (D.faults disk.new) result }
@@ -376,6 +381,16 @@ fn lived<D: Disk, C: Wire, V: Wire, K: Clock>(
     ensures taps { TapsSaw (state_by has_failed entries tally counts_all) taps.old.items
         taps.new.items config.now.names (D.bytes disk.old) (D.image disk.old)
         (D.image disk.new) (end_in result) }
+    ensures foreign { OnErr result (IfSome (D.bytes disk.old) (λ b. IsForeign config.now.names b →
+        IsUntouched (OnlyReads D.bytes D.image disk.old disk.new)
+        (records (C.recorded client.old) (V.recorded venue.old))
+        (records (C.recorded client.new) (V.recorded venue.new))
+        (K.moments clock.old) (K.moments clock.new))) }
+    ensures refused { IfErr result (λ end. IfRefused end (
+        IsUntouched (OnlyReads D.bytes D.image disk.old disk.new)
+        (records (C.recorded client.old) (V.recorded venue.old))
+        (records (C.recorded client.new) (V.recorded venue.new))
+        (K.moments clock.old) (K.moments clock.new))) }
     ensures only { IfErr result IsNotDone }
     ensures told { is_some (D.bytes disk.new) ≡ is_some (D.bytes disk.old) }
     ensures cause { HasCauseOf (D.faults disk.old) (D.faults disk.new) result }
@@ -421,11 +436,19 @@ pub fn live<D: Disk, C: Wire, V: Wire, K: Clock>(
         (image : List ℕ) → D.image disk.new image →
         LeavesImage config.now.names image (transcript_from client_side did.client)
         (transcript_from venue_side did.venue)) }
-    // What is no journal, or one of other names, is refused, and nothing is done.
+    // What is no journal, or one of other names, is refused. It is only read, and nothing is done,
+    // also where a disk fault or want of memory comes first.
     ensures begins { IfSome (D.bytes disk.old) (IsAnswered result config.now.names) }
-    ensures idle { IsIdleIfRefused result (C.recorded client.old) (C.recorded client.new)
-        (V.recorded venue.old) (V.recorded venue.new)
-        (K.moments clock.old) (K.moments clock.new) }
+    ensures idle { IfRefused result (IsIdle (OnlyReads D.bytes D.image disk.old disk.new)
+        (C.recorded client.old) (C.recorded client.new) (V.recorded venue.old)
+        (V.recorded venue.new) (K.moments clock.old) (K.moments clock.new)) }
+    ensures foreign { IfSome (D.bytes disk.old) (λ b. IsForeign config.now.names b →
+        IsIdle (OnlyReads D.bytes D.image disk.old disk.new)
+        (C.recorded client.old) (C.recorded client.new) (V.recorded venue.old)
+        (V.recorded venue.new) (K.moments clock.old) (K.moments clock.new)) }
+    // A life that came to its end leaves one image, from which the next one goes on.
+    ensures durable { result ≡ LifeEnd.Done → HasOneImage (D.bytes disk.old) (D.image disk.old) →
+        HasOneImage (D.bytes disk.new) (D.image disk.new) }
     // Each tap saw the entries that this life committed, in order, and no others: each image is the
     // journal at entry and then what was shown. Only a disk fault may leave one more, not shown.
     ensures taps { TapsSaw (state_by has_failed entries tally counts_all) taps.old.items

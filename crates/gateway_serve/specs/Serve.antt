@@ -2,7 +2,8 @@
 use Rattle.std.specs.Prelude.{◌≡◌, ℕ, ◌+◌, ◌≤◌, List, length, Result, Ok, Err, IfSome}
 use Rattle.std.specs.declared.option.Option.{Option}
 use Rattle.std.specs.Io.KnownBytes.{IsAtEnd}
-use Rattle.outside.specs.Disk.{Only}
+use Rattle.outside.specs.Disk.{Only, HasOneImage}
+use Rattle.gate_log.specs.Log.{OnlyRead}
 use Rattle.order_meaning.specs.declared.Side.TheVariants.{Client, Venue}
 use Rattle.pair_entries.specs.declared.entry.Entry.{Entry}
 use Rattle.event_decisions.specs.Decide.{IsLawful}
@@ -18,7 +19,8 @@ use Rattle.gateway_config.specs.declared.config.ConfigFault.TheVariants as fault
 use Rattle.gateway_config.specs.Reading.{Reads}
 use Rattle.gateway_life.specs.declared.end.LifeEnd.{LifeEnd}
 use Rattle.gateway_life.specs.declared.end.LifeEnd.TheVariants as life
-use Rattle.gateway_life.specs.Life.{Done, Did, Ends, IsJournal, IsAnswered, IsIdleIfRefused}
+use Rattle.gateway_life.specs.Life.{Done, Did, Ends, IsJournal, IsAnswered}
+use Rattle.gateway_life.specs.Life.{IfRefused, IsForeign, IsIdle}
 use Rattle.gateway_life.specs.Life.{counted_on}
 use Rattle.gateway_life.specs.Laws.{LeavesImage}
 use Rattle.gateway_serve.specs.declared.error.ServeError.{ServeError}
@@ -80,9 +82,16 @@ pub record Lived (end : LifeEnd) (config : Config) (rounds : ℕ) (before after 
       Did old.client new.client old.venue new.venue old.moments new.moments did →
       (image : List ℕ) → after image → LeavesImage config.names image
       (transcript_from client_side did.client) (transcript_from venue_side did.venue))
-  -- What is no journal, or one of other names, is refused, and nothing is done.
+  -- What is no journal, or one of other names, is refused. It is only read, and nothing is done,
+  -- also where a disk fault or want of memory comes first.
   pub begins : IfSome old.bytes (IsAnswered end config.names)
-  pub idle : IsIdleIfRefused end old.client new.client old.venue new.venue old.moments new.moments
+  pub idle : IfRefused end (IsIdle (OnlyRead old.bytes new.bytes before after)
+      old.client new.client old.venue new.venue old.moments new.moments)
+  pub foreign : IfSome old.bytes (λ bytes. IsForeign config.names bytes →
+      IsIdle (OnlyRead old.bytes new.bytes before after)
+      old.client new.client old.venue new.venue old.moments new.moments)
+  -- A life that came to its end leaves one image, from which the next one goes on.
+  pub durable : end ≡ life.Done → HasOneImage old.bytes before → HasOneImage new.bytes after
   -- Each wire was polled once a round.
   pub client_polls : end ≡ life.Done → new.client_polls ≡ counted_on rounds old.client_polls
   pub venue_polls : end ≡ life.Done → new.venue_polls ≡ counted_on rounds old.venue_polls

@@ -1,5 +1,6 @@
 -- What holds of the numbers of a command holds of the command.
-use Rattle.std.proofs.Common.{◌≡◌, ℕ, ◌≤◌, sym, ◌∙◌, subst, Some, IfSome}
+use Rattle.std.proofs.Common.{◌≡◌, ℕ, ◌≤◌, sym, ◌∙◌, subst, Some, IfSome, Ok, Err}
+use Rattle.std.specs.Prelude.{Result, OnErr}
 use Rattle.std.specs.declared.option.Option.{Option}
 use Rattle.gateway_top.specs.declared.command.Command.{Command}
 use Rattle.gateway_top.specs.declared.command.Command.TheVariants.{Serve, Replay, Drill}
@@ -21,6 +22,12 @@ pub if_drill : (command known : Option Command) (first count : ℕ) (holds : ℕ
     → IfDrill command holds
 if_drill command known first count holds same is drilled =
     subst (λ (k : Option Command). IfDrill k holds) (sym is ∙ same) drilled
+
+-- five facts of what did not begin
+pub on_err_all : {T E P Q R S V : Type 0} (answer : Result T E) → OnErr answer P → OnErr answer Q
+    → OnErr answer R → OnErr answer S → OnErr answer V → OnErr answer (P × Q × R × S × V)
+on_err_all (Ok value) p q r s v = tt
+on_err_all (Err error) p q r s v = (p, q, r, s, v)
 
 -- the numbers of a drill that was read
 pub within : (known : Option Command) (first count : ℕ) → known ≡ Some (Drill first count)

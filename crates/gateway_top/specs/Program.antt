@@ -1,7 +1,7 @@
 -- Own: what a run of the program did, by the status with which it ended; docs/DECISIONS.md,
 -- "Commands".
 use Rattle.std.specs.Prelude.{◌≡◌, ℕ, ◌+◌, ◌≤◌, Bool, true, false, List, [], ◌++◌, length, take}
-use Rattle.std.specs.Prelude.{◌⊎◌, Some, None, Result, IfSome, ⊤}
+use Rattle.std.specs.Prelude.{◌⊎◌, Some, None, Result, IfSome, OnErr, ⊤}
 use Rattle.std.specs.declared.option.Option.{Option}
 use Rattle.std.specs.Io.KnownBytes.{Appends, Consumes, IsAtEnd}
 use Rattle.outside.specs.Bytes.{AppendsFront}
@@ -133,10 +133,12 @@ IfServe (Some (Serve rounds)) holds = holds rounds
 IfServe command holds = Unit {0}
 
 -- THE GATEWAY SERVED, by the status: what was taken of the input, and what is left; and the life
--- with the configuration that was read, where it began.
-abbrev pub ServedBy : Status → List ℕ → Option (List ℕ) → (Config → LifeEnd → Type 0) → Type 0
-ServedBy status taken left lived = (answer : Result LifeEnd ServeError)
-    × (status ≡ served_status answer) × Served taken left answer lived
+-- with the configuration that was read, where it began. Where none began, what a life would call is
+-- untouched.
+abbrev pub ServedBy : Status → List ℕ → Option (List ℕ) → (untouched : Type 0)
+    → (Config → LifeEnd → Type 0) → Type 0
+ServedBy status taken left untouched lived = (answer : Result LifeEnd ServeError)
+    × (status ≡ served_status answer) × Served taken left answer lived × OnErr answer untouched
 
 -- ---- show
 

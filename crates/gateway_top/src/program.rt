@@ -181,10 +181,14 @@ pub fn run<I: Source, O: Sink, D: Disk, C: Wire, V: Wire, K: Clock>(
     ensures to_the_end { MatchOption (command_of (map string_bytes words.now)) (Unit {0})
         (λ command. ReadsToEnd command result (I.ended input.new)) }
 
-    // What `serve` read, and the life with the configuration that it is read as.
+    // What `serve` read, and the life with the configuration that it is read as; where none began,
+    // the disk, the wires, the clock and the taps are as they were.
     ensures serves { IfServe (command_of (map string_bytes words.now)) (λ rounds.
         (taken : List ℕ) × Consumes (I.left input.old) (I.left input.new) taken
-        × ServedBy result taken (I.left input.new) (λ config end. Lived end config rounds
+        × ServedBy result taken (I.left input.new)
+        ((disk.new ≡ disk.old) × (client.new ≡ client.old) × (venue.new ≡ venue.old)
+        × (clock.new ≡ clock.old) × (taps.new ≡ taps.old))
+        (λ config end. Lived end config rounds
         (D.image disk.old) (D.image disk.new)
         (record {
           bytes = D.bytes disk.old;

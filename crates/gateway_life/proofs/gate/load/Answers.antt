@@ -1,7 +1,7 @@
 use Rattle.std.proofs.Common.{refl}
 use Rattle.pair_journal.specs.State.{JournalState}
 use Rattle.gateway_core.specs.State.{CoreState}
-use Rattle.gateway_life.proofs.Beginning.{begins_ok, born_read}
+use Rattle.gateway_life.proofs.Beginning.{begins_ok, born_read, read_on}
 use Rattle.gateway_life.proofs.gate.load.Goals as goal
 
 pub returns-in_err-core-clause-images : goal.returns-in_err-core-clause-images
@@ -21,3 +21,12 @@ returns-clause-images g c =
     born_read (g.D.Disk.bytes c.args.disk.now) (g.D.Disk.image c.args.disk.now)
     (g.D.Disk.image c.load.new.disk) (g.D.Disk.image c.load-2.new.disk) c.args.config.now.names
     c.load-2.ensures.only_read.images c.load.ensures.images
+
+pub returns-in_err-core-clause-only_unborn_is_written :
+    goal.returns-in_err-core-clause-only_unborn_is_written
+returns-in_err-core-clause-only_unborn_is_written g c = read_on _ _ _ _ _ _
+    c.load.ensures.only_unborn_is_written c.load-2.ensures.only_read
+
+pub returns-clause-only_unborn_is_written : goal.returns-clause-only_unborn_is_written
+returns-clause-only_unborn_is_written g c = read_on _ _ _ _ _ _
+    c.load.ensures.only_unborn_is_written c.load-2.ensures.only_read

@@ -1,5 +1,6 @@
 use Rattle.gateway_life.proofs.Living.{live_done, live_ended, answered_done, answered_ended}
-use Rattle.gateway_life.proofs.Living.{idle_ended, leaves_by}
+use Rattle.gateway_life.proofs.Living.{idle_untouched, leaves_by, if_refused, if_foreign}
+use Rattle.gateway_life.proofs.Living.{not_foreign}
 use Rattle.gateway_life.specs.declared.end.LifeEnd.TheVariants as ends
 use Rattle.gateway_life.proofs.life.live.Goals as goal
 
@@ -27,9 +28,19 @@ returns-in-Err-clause-begins g c =
 
 pub returns-in-Err-clause-idle : goal.returns-in-Err-clause-idle
 returns-in-Err-clause-idle g c =
-    idle_ended c.in-Err.end c.args.config.now c.args.rounds (g.D.Disk.bytes c.args.disk.now) _ _ _ _
-    _ _ _ _ _ _ c.requires.client c.requires.venue c.hang_up.ensures.grows
-    c.hang_up-in-Err.ensures.grows c.in-Err.ensures.ends
+    if_refused _ _ c.in-Err.end (idle_untouched _ _ _ _ _ _ _ _ _ c.requires.client c.requires.venue
+    c.hang_up.ensures.grows c.hang_up-in-Err.ensures.grows) c.in-Err.ensures.refused
+
+pub returns-in-Ok-clause-foreign : goal.returns-in-Ok-clause-foreign
+returns-in-Ok-clause-foreign g c =
+    not_foreign _ c.args.config.now.names (g.D.Disk.bytes c.args.disk.now)
+    c.in-Ok.ensures.done.before c.in-Ok.ensures.done.begins.journal
+
+pub returns-in-Err-clause-foreign : goal.returns-in-Err-clause-foreign
+returns-in-Err-clause-foreign g c =
+    if_foreign _ _ c.args.config.now.names (g.D.Disk.bytes c.args.disk.now)
+    (idle_untouched _ _ _ _ _ _ _ _ _ c.requires.client c.requires.venue
+    c.hang_up.ensures.grows c.hang_up-in-Err.ensures.grows) c.in-Err.ensures.foreign
 
 pub returns-in-Ok-clause-leaves : goal.returns-in-Ok-clause-leaves
 returns-in-Ok-clause-leaves g c =

@@ -1,6 +1,8 @@
 use Rattle.std.proofs.Common.{ap}
 use Rattle.gateway_config.specs.declared.config.Config.{Config}
 use Rattle.gateway_life.proofs.Living.{lived_unbegun, lived_whole, lived_stopped}
+use Rattle.gateway_life.proofs.Living.{unbegun_foreign, begun_not_foreign}
+use Rattle.gateway_life.proofs.Living.{unbegun_refused, refused_events}
 use Rattle.gateway_life.proofs.TapsShown.{taps_unbegun, taps_whole}
 use Rattle.gateway_life.proofs.life.lived.Goals as goal
 
@@ -38,3 +40,21 @@ returns-clause-taps g c =
     c.in_ok-life.ensures.begins c.begin.ensures.told c.in_ok-life.ensures.durable
     c.whole.ensures.told c.whole.ensures.durable c.whole.ensures.stands c.whole.ensures.kept
     c.whole.ensures.only c.whole.ensures.taps
+
+pub returns-in_err-life-clause-foreign : goal.returns-in_err-life-clause-foreign
+returns-in_err-life-clause-foreign g c =
+    unbegun_foreign _ c.from_residual.result c.args.config.now.names (g.D.Disk.bytes c.args.disk.now)
+    _ _ c.begin.ensures.only_unborn_is_written
+
+pub returns-clause-foreign : goal.returns-clause-foreign
+returns-clause-foreign g c =
+    begun_not_foreign _ c.whole.result c.args.config.now.names (g.D.Disk.bytes c.args.disk.now)
+    c.in_ok-life.life.gate.journal.entries c.in_ok-life.ensures.begins
+
+pub returns-in_err-life-clause-refused : goal.returns-in_err-life-clause-refused
+returns-in_err-life-clause-refused g c =
+    unbegun_refused _ c.from_residual.result c.in_err-life.field-0.0 _ _ c.from_residual.ensures.1
+    c.in_err-life.ensures.refused_only_reads
+
+pub returns-clause-refused : goal.returns-clause-refused
+returns-clause-refused g c = refused_events _ c.whole.result c.whole.ensures.only

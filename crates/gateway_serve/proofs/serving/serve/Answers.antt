@@ -23,6 +23,8 @@ returns-clause-serves g c =
                 (c.read_names_are_shown.ensures read.0 config read.2.2) live.leaves;
             begins = live.begins;
             idle = live.idle;
+            foreign = live.foreign;
+            durable = live.durable;
             client_polls = live.client_polls;
             venue_polls = live.venue_polls;
           },

@@ -1,13 +1,22 @@
 use Rattle.std.proofs.Common.{◌∙◌, ap, Some}
-use Rattle.gateway_top.proofs.Serving.{if_serve, if_replay, if_drill, within}
+use Rattle.gateway_top.proofs.Serving.{if_serve, if_replay, if_drill, within, on_err_all}
 use Rattle.gateway_top.proofs.program.run.Goals as goal
 
 pub returns-in-Some-Serve-clause-serves : goal.returns-in-Some-Serve-clause-serves
 returns-in-Some-Serve-clause-serves g c =
     let served = c.serve.ensures.serves in
     if_serve _ c.read_command.result c.in-Some-Serve.rounds _ c.read_command.ensures.command
-    (c.in-Some-Serve.is ∙ ap (λ command. Some command) c.in-Some-Serve.field-0-is)
-    (served.0, served.1, (c.serve.result, c.of_serve.ensures, served.2))
+    (c.in-Some-Serve.is ∙ ap (λ command. Some command) c.in-Some-Serve.field-0-is) (
+      served.0,
+      served.1,
+      (
+        c.serve.result,
+        c.of_serve.ensures,
+        served.2,
+        on_err_all c.serve.result c.serve.ensures.disk c.serve.ensures.client
+            c.serve.ensures.venue c.serve.ensures.clock c.serve.ensures.taps,
+      ),
+    )
 
 pub returns-in-Some-Replay-clause-replays : goal.returns-in-Some-Replay-clause-replays
 returns-in-Some-Replay-clause-replays g c =
