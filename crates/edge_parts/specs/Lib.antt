@@ -1,4 +1,5 @@
 pub mod BackOff
+pub mod EndTime
 pub mod LogonMark
 pub mod Notice
 pub mod Order

@@ -52,6 +52,8 @@ notice_text (notice.Ended peer ending next) =
     peer_text peer ++ codes " connection " ++ ending_text ending ++ next_text next
 notice_text (notice.NotReached at missed) = codes "venue " ++ socket_text at ++ missed_text missed
 notice_text (notice.StopAsked) = codes "the stop file asks for an end"
+notice_text (notice.EndTakes seconds) =
+    codes "an end by the stop file takes " ++ decimal seconds ++ codes " s"
 notice_text (notice.Text text) = text.now
 
 -- how many lines before were lost, where any was

@@ -14,6 +14,7 @@
 mod back_off;
 mod clocks;
 mod counted;
+mod end_time;
 mod fault;
 mod journal;
 mod logon_mark;
@@ -25,6 +26,7 @@ mod shared;
 pub use back_off::BackOff;
 pub use clocks::{moment, ticks};
 pub use counted::{Counted, Peer};
+pub use end_time::{LONG_END, ROUNDS_A_SECOND, long_end};
 pub use fault::Fault;
 pub use journal::{Denial, Refusal, Tally, fill, folder, stop_path};
 pub use logon_mark::LogonMark;

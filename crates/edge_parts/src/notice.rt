@@ -68,6 +68,8 @@ pub enum Notice<'a> {
     NotReached(SocketAddr, Missed<'a>),
     /// The stop file asks for an end.
     StopAsked,
+    /// An end by the stop file takes so many seconds.
+    EndTakes(u64),
     /// Another text.
     Text(&'a str),
 }
@@ -156,6 +158,7 @@ impl fmt::Display for Notice<'_> {
             Notice::Ended(peer, ending, next) => write!(f, "{peer} connection {ending}{next}"),
             Notice::NotReached(at, missed) => write!(f, "venue {at}{missed}"),
             Notice::StopAsked => write!(f, "the stop file asks for an end"),
+            Notice::EndTakes(seconds) => write!(f, "an end by the stop file takes {seconds} s"),
             Notice::Text(text) => write!(f, "{text}"),
         }
     }
