@@ -11,10 +11,14 @@ use Rattle.edge_parts.specs.declared.notice.PeerName.{PeerName}
 use Rattle.edge_parts.specs.declared.notice.PeerName.TheVariants.{Client, Venue}
 use Rattle.edge_parts.specs.declared.notice.Ending.{Ending}
 use Rattle.edge_parts.specs.declared.notice.Ending.TheVariants.{ByPeer, ByUs, ByFailure}
+use Rattle.edge_parts.specs.declared.notice.Ending.TheVariants.{ByPeerBehind, ByUsBehind}
 use Rattle.edge_parts.specs.declared.notice.NextTry.{NextTry}
 use Rattle.edge_parts.specs.declared.notice.NextTry.TheVariants.{Never, AtOnce, After}
+use Rattle.edge_parts.specs.declared.notice.NextTry.TheVariants.{OpensAfter}
 use Rattle.edge_parts.specs.declared.notice.Missed.{Missed}
 use Rattle.edge_parts.specs.declared.notice.RefusedNth.{RefusedNth}
+use Rattle.edge_parts.specs.declared.notice.ClosedNth.{ClosedNth}
+use Rattle.edge_parts.specs.declared.notice.TooLow.{TooLow}
 use Rattle.edge_parts.specs.declared.notice.Notice.{Notice}
 use Rattle.edge_parts.specs.declared.notice.Notice.TheVariants as notice
 
@@ -26,11 +30,15 @@ abbrev pub ending_text : Ending → List ℕ
 ending_text ByPeer = codes "ended by the peer"
 ending_text ByUs = codes "ended by the gateway"
 ending_text (ByFailure reason) = codes "failed: " ++ reason.now
+ending_text (ByPeerBehind what) = codes "ended by the peer: " ++ what.now
+ending_text (ByUsBehind what) = codes "ended by the gateway: " ++ what.now
 
 abbrev pub next_text : NextTry → List ℕ
 next_text Never = []
 next_text AtOnce = codes "; next try at once"
 next_text (After seconds) = codes "; next try in " ++ decimal seconds ++ codes " s"
+next_text (OpensAfter seconds) =
+    codes "; the port opens again in " ++ decimal seconds ++ codes " s"
 
 -- why the venue was not reached, and when it is tried next
 abbrev pub missed_text : Missed → List ℕ
@@ -40,6 +48,14 @@ missed_text missed = codes " not reached: " ++ missed.reason.now ++ next_text mi
 abbrev pub refused_text : RefusedNth → List ℕ
 refused_text nth = codes " refused, since one is connected: number " ++ decimal nth.0
 
+-- why a connection was closed that was no client's yet; it is the so manyth
+abbrev pub closed_text : ClosedNth → List ℕ
+closed_text closed = codes " closed: " ++ closed.why.now ++ codes ": number " ++ decimal closed.nth
+
+-- a number that is too low
+abbrev pub low_text : TooLow → List ℕ
+low_text low = codes "expected " ++ decimal low.expected ++ codes ", got " ++ decimal low.got
+
 -- what a line says
 abbrev pub notice_text : Notice → List ℕ
 notice_text (notice.Listening at) = codes "listening on " ++ socket_text at
@@ -48,6 +64,10 @@ notice_text (notice.NotListening at reason) =
 notice_text (notice.Connected peer at) =
     peer_text peer ++ codes " " ++ socket_text at ++ codes " connected"
 notice_text (notice.Refused at nth) = codes "client " ++ socket_text at ++ refused_text nth
+notice_text (notice.Closed at closed) = codes "client " ++ socket_text at ++ closed_text closed
+notice_text (notice.NumbersLow peer low) =
+    peer_text peer ++ codes " numbers are too low: " ++ low_text low
+    ++ codes "; has it begun a new day?"
 notice_text (notice.Ended peer ending next) =
     peer_text peer ++ codes " connection " ++ ending_text ending ++ next_text next
 notice_text (notice.NotReached at missed) = codes "venue " ++ socket_text at ++ missed_text missed

@@ -1,7 +1,8 @@
 //! When the venue is tried again.
 
-ghost use Rattle.std.specs.Prelude.{◌≡◌, ◌+◌, ◌-◌, ◌≤◌, min, nat_le, if◌then◌else◌};
+ghost use Rattle.std.specs.Prelude.{◌≡◌, ◌+◌, ◌-◌, ◌≤◌, min, nat_le};
 ghost use Rattle.edge_parts.specs.BackOff.{pause_after, later, not_before};
+ghost use Rattle.edge_parts.specs.BackOff.{failed_behind, pause_behind};
 
 use std::marker::Model;
 
@@ -11,9 +12,23 @@ const APART: u64 = 1_000;
 /// So many tries that failed in a row have the longest pause behind them.
 const LONGEST: u8 = 6;
 
-/// When the venue is tried next: at once, then 1, 2, 4 .. 30 s after the last try that failed; at
-/// once after a connection on which the session was active, and 30 s after one without. Two tries
-/// begin at least a second apart.
+/// How a connection to the venue ended, as far as the next try goes by it.
+#[derive(Clone, Copy, Debug, PartialEq, Eq)]
+pub enum Parted {
+    /// The session was active, and both sides said Logout.
+    InOrder,
+    /// The session was active.
+    Active,
+    /// No session was active, and the venue had said something or closed the connection.
+    Refused,
+    /// Nothing came from the venue, not even an end: it was reset, or no answer came.
+    Unheard,
+}
+
+/// When the venue is tried next: at once, then 1, 2, 4 .. 30 s after the last try that failed. After
+/// a connection: 1 s after an orderly Logout, at once where the session was active otherwise, 30 s
+/// where the venue refused it, and as after a try that failed where nothing came. Two tries begin at
+/// least a second apart.
 #[derive(Debug, Drop)]
 pub struct BackOff {
     /// How many tries failed in a row, up to 6.
@@ -98,13 +113,26 @@ impl BackOff {
         self.put_off(now, pause_after(self.failed));
     }
 
-    /// A connection ended, on which the session was active or not.
-    pub fn end(&mut self, now: u64, was_active: bool)
-        ensures failed { self.new.failed ≡ (if was_active then 0 else 6) }
+    /// A connection ended so.
+    pub fn end(&mut self, now: u64, parted: Parted)
+        ensures failed { self.new.failed ≡ failed_behind parted self.old.failed }
         ensures next { self.new.next
-            ≡ not_before self.old.next now (if was_active then 0 else 30_000) }
+            ≡ not_before self.old.next now (pause_behind parted self.old.failed) }
     {
-        self.failed = if was_active { 0 } else { LONGEST };
-        self.put_off(now, pause_after(self.failed));
+        match parted {
+            Parted::InOrder => {
+                self.failed = 0;
+                self.put_off(now, APART);
+            }
+            Parted::Active => {
+                self.failed = 0;
+                self.put_off(now, 0);
+            }
+            Parted::Refused => {
+                self.failed = LONGEST;
+                self.put_off(now, pause_after(LONGEST));
+            }
+            Parted::Unheard => self.fail(now),
+        }
     }
 }

@@ -23,14 +23,16 @@ mod outbox;
 mod pace;
 mod shared;
 
-pub use back_off::BackOff;
+pub use back_off::{BackOff, Parted};
 pub use clocks::{moment, ticks};
 pub use counted::{Counted, Peer};
 pub use end_time::{LONG_END, ROUNDS_A_SECOND, long_end};
 pub use fault::Fault;
 pub use journal::{Denial, Refusal, Tally, fill, folder, stop_path};
 pub use logon_mark::LogonMark;
-pub use notice::{Ending, Lost, Missed, NextTry, Notice, PeerName, RefusedNth, line};
+pub use notice::{
+    ClosedNth, Ending, Lost, Missed, NextTry, Notice, PeerName, RefusedNth, TooLow, line,
+};
 pub use outbox::{Outbox, ROOM};
 pub use pace::Pace;
 pub use shared::{Shared, WAIT, wait_after};

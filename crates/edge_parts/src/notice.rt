@@ -25,6 +25,10 @@ pub enum Ending<'a> {
     ByUs,
     /// It failed, for this reason.
     ByFailure(&'a str),
+    /// The peer closed it before a session stood, behind this.
+    ByPeerBehind(&'a str),
+    /// The gateway hung up before a session stood, behind this.
+    ByUsBehind(&'a str),
 }
 
 /// When the venue is tried next.
@@ -36,6 +40,8 @@ pub enum NextTry {
     AtOnce,
     /// After so many seconds.
     After(u64),
+    /// The client may connect again after so many seconds.
+    OpensAfter(u64),
 }
 
 /// Why the venue was not reached, and when it is tried next.
@@ -51,6 +57,22 @@ pub struct Missed<'a> {
 #[derive(Clone, Copy, Debug, PartialEq, Eq)]
 pub struct RefusedNth(pub u64);
 
+/// Why a connection was closed that was no client's yet, and how many were so far.
+#[derive(Clone, Copy, Debug)]
+pub struct ClosedNth<'a> {
+    /// The reason.
+    pub why: &'a str,
+    /// The number.
+    pub nth: u64,
+}
+
+/// The MsgSeqNum(34) that was expected, and the lower one that came.
+#[derive(Clone, Copy, Debug, PartialEq, Eq)]
+pub struct TooLow {
+    pub expected: u32,
+    pub got: u32,
+}
+
 /// What a line for the operator says. Its `Display` is the text.
 #[derive(Clone, Copy, Debug)]
 pub enum Notice<'a> {
@@ -62,8 +84,12 @@ pub enum Notice<'a> {
     Connected(PeerName, SocketAddr),
     /// A client at this address was closed at once, since one is connected; it is the so manyth.
     Refused(SocketAddr, RefusedNth),
+    /// A connection from this address was closed before a whole Logon had come on it.
+    Closed(SocketAddr, ClosedNth<'a>),
     /// A connection ended.
     Ended(PeerName, Ending<'a>, NextTry),
+    /// A connection ended since this peer's numbers were too low.
+    NumbersLow(PeerName, TooLow),
     /// The venue was not reached.
     NotReached(SocketAddr, Missed<'a>),
     /// The stop file asks for an end.
@@ -99,6 +125,8 @@ impl fmt::Display for Ending<'_> {
             Ending::ByPeer => write!(f, "ended by the peer"),
             Ending::ByUs => write!(f, "ended by the gateway"),
             Ending::ByFailure(reason) => write!(f, "failed: {reason}"),
+            Ending::ByPeerBehind(what) => write!(f, "ended by the peer: {what}"),
+            Ending::ByUsBehind(what) => write!(f, "ended by the gateway: {what}"),
         }
     }
 }
@@ -114,6 +142,7 @@ impl fmt::Display for NextTry {
             NextTry::Never => Ok(()),
             NextTry::AtOnce => write!(f, "; next try at once"),
             NextTry::After(seconds) => write!(f, "; next try in {seconds} s"),
+            NextTry::OpensAfter(seconds) => write!(f, "; the port opens again in {seconds} s"),
         }
     }
 }
@@ -143,6 +172,32 @@ impl fmt::Display for RefusedNth {
     }
 }
 
+impl fmt::Display for ClosedNth<'_> {
+    ghost use Rattle.std.specs.Prelude.{Some};
+    ghost use Rattle.edge_parts.specs.Notice.{closed_text};
+
+    ghost output = { λ closed. Some (closed_text closed) };
+
+    fn fmt<W: fmt::Write>(&self, f: &mut fmt::Formatter<W>) -> fmt::Result {
+        let why = self.why;
+        let nth = self.nth;
+        write!(f, " closed: {why}: number {nth}")
+    }
+}
+
+impl fmt::Display for TooLow {
+    ghost use Rattle.std.specs.Prelude.{Some};
+    ghost use Rattle.edge_parts.specs.Notice.{low_text};
+
+    ghost output = { λ low. Some (low_text low) };
+
+    fn fmt<W: fmt::Write>(&self, f: &mut fmt::Formatter<W>) -> fmt::Result {
+        let expected = self.expected;
+        let got = self.got;
+        write!(f, "expected {expected}, got {got}")
+    }
+}
+
 impl fmt::Display for Notice<'_> {
     ghost use Rattle.std.specs.Prelude.{Some};
     ghost use Rattle.edge_parts.specs.Notice.{notice_text};
@@ -155,6 +210,13 @@ impl fmt::Display for Notice<'_> {
             Notice::NotListening(at, reason) => write!(f, "cannot listen on {at}: {reason}"),
             Notice::Connected(peer, at) => write!(f, "{peer} {at} connected"),
             Notice::Refused(at, nth) => write!(f, "client {at}{nth}"),
+            Notice::Closed(at, closed) => write!(f, "client {at}{closed}"),
+            Notice::NumbersLow(peer, low) => {
+                write!(
+                    f,
+                    "{peer} numbers are too low: {low}; has it begun a new day?"
+                )
+            }
             Notice::Ended(peer, ending, next) => write!(f, "{peer} connection {ending}{next}"),
             Notice::NotReached(at, missed) => write!(f, "venue {at}{missed}"),
             Notice::StopAsked => write!(f, "the stop file asks for an end"),
