@@ -1,0 +1,42 @@
+-- Own: what was said on a connection, as far as its end goes by it; docs/DECISIONS.md, "The edge".
+use Rattle.std.specs.Prelude.{ℕ, Bool, true, false, ◌||◌, ◌++◌, List, [], ◌∷◌, length, nat_le}
+use Rattle.std.specs.Prelude.{Some, None, if◌then◌else◌}
+use Rattle.std.specs.declared.option.Option.{Option}
+use Rattle.edge_parts.specs.Outbox.{has_bytes}
+use Rattle.edge_parts.specs.declared.notice.TooLow.{TooLow}
+use Rattle.edge_parts.specs.declared.back_off.Parted.{Parted}
+use Rattle.edge_parts.specs.declared.back_off.Parted.TheVariants as parted
+use Rattle.edge_waits.specs.Said.{too_low}
+
+-- what came before a session stood, the text of the last Logout that the gateway said, and whether a
+-- session stood
+pub record Spoken : Type 0 where
+  pub heard : List ℕ
+  pub farewell : Option (List ℕ)
+  pub active : Bool
+
+-- what came is kept before a session stands, until 1,024 bytes are
+abbrev pub heard_next : Spoken → List ℕ → List ℕ
+heard_next spoken bytes =
+    if spoken.active || nat_le 1_024 (length spoken.heard) then spoken.heard
+    else spoken.heard ++ bytes
+
+abbrev pub low_in : Option (List ℕ) → Option TooLow
+low_in (Some text) = too_low text
+low_in None = None
+
+-- the numbers that the gateway named, where it said that the peer's number is too low
+abbrev pub low_of : Spoken → Option TooLow
+low_of spoken = low_in spoken.farewell
+
+-- A Logout without a text is the answer to one.
+abbrev pub parted_behind : Option (List ℕ) → Parted
+parted_behind None = parted.Active
+parted_behind (Some []) = parted.InOrder
+parted_behind (Some (byte ∷ text)) = parted.Active
+
+-- how the connection ended, where the peer closed it in order, or not
+abbrev pub parted_of : Spoken → Bool → Parted
+parted_of spoken was_closed =
+    if spoken.active then parted_behind spoken.farewell
+    else (if was_closed || has_bytes spoken.heard then parted.Refused else parted.Unheard)

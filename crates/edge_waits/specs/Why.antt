@@ -1,0 +1,100 @@
+-- Own: why a connection ended before a session stood, as a text; docs/DECISIONS.md, "The edge".
+use Rattle.std.specs.Prelude.{ℕ, Bool, true, false, ◌&&◌, ◌||◌, not, ◌/◌, List, [], ◌∷◌, ◌++◌, map, take}
+use Rattle.std.specs.Prelude.{Some, None, Ok, Err, codes, decimal, nat_le, pos, ◌-ℤ◌, unsigned_abs}
+use Rattle.std.specs.Prelude.{if◌then◌else◌, is_some}
+use Rattle.std.specs.declared.option.Option.{Option}
+use Rattle.std.specs.declared.result.Result.{Result}
+use Rattle.std.specs.Str.{bytes_eq}
+use Rattle.typed_fields.specs.declared.fault.FieldFault.{FieldFault}
+use Rattle.typed_fields.specs.declared.number.Number.{Number}
+use Rattle.typed_fields.specs.declared.stamp.Stamp.{Stamp}
+use Rattle.typed_fields.specs.Number.{read_number}
+use Rattle.typed_fields.specs.Stamp.{read_stamp, stamp_millis}
+use Rattle.edge_waits.specs.declared.why.Wrong.{Wrong}
+use Rattle.edge_waits.specs.declared.why.Wrong.TheVariants as wrong
+use Rattle.edge_waits.specs.Fields.{value_in}
+
+-- `?` stands for what is not from a blank to `~`
+abbrev pub shown : ℕ → ℕ
+shown byte = if nat_le 32 byte && nat_le byte 126 then byte else 63
+
+-- a field that came, up to 256 bytes of its value
+abbrev pub shown_field : List ℕ → Option (List ℕ) → List ℕ
+shown_field name None = []
+shown_field name (Some value) = codes " " ++ name ++ map shown (take 256 value)
+
+-- a number from 1 to 999,999,999
+abbrev pub is_number : Result Number FieldFault → Bool
+is_number (Ok number) = nat_le 1 number.value && nat_le number.value 999_999_999
+is_number (Err fault) = false
+
+abbrev pub has_number : Option (List ℕ) → Bool
+has_number (Some value) = is_number (read_number value)
+has_number None = false
+
+-- by how many whole seconds a stamp is off
+abbrev pub off_by : ℕ → Stamp → ℕ
+off_by now stamp = unsigned_abs (pos now -ℤ stamp_millis stamp) / 1_000
+
+-- what is wrong where the time is off by so many seconds: the time from 120 on, which is how far it
+-- may be off where the configuration does not say it
+abbrev pub wrong_by : ℕ → Wrong
+wrong_by seconds =
+    if nat_le 120 seconds then wrong.Clock seconds
+    else (if nat_le 1 seconds then wrong.NameOrClock seconds else wrong.Name)
+
+abbrev pub wrong_stamp : Result Stamp FieldFault → ℕ → Wrong
+wrong_stamp (Ok stamp) now = wrong_by (off_by now stamp)
+wrong_stamp (Err fault) now = wrong.Stamp
+
+abbrev pub wrong_time : Option (List ℕ) → ℕ → Wrong
+wrong_time (Some value) now = wrong_stamp (read_stamp value) now
+wrong_time None now = wrong.Stamp
+
+-- what is wrong in a Logon with this number and time that was answered by a hang up alone
+abbrev pub wrong_of : Option (List ℕ) → Option (List ℕ) → ℕ → Wrong
+wrong_of number time now = if has_number number then wrong_time time now else wrong.Number
+
+abbrev pub wrong_text : Wrong → List ℕ
+wrong_text wrong.Number = codes "; 34 is missing or no number"
+wrong_text wrong.Stamp = codes "; 52 is no UTC time in seconds or milliseconds"
+wrong_text (wrong.Clock seconds) = codes "; 52 is off by " ++ decimal seconds ++ codes " s"
+wrong_text (wrong.NameOrClock seconds) =
+    codes "; 49 or 56 is not as agreed, or 52 is off by " ++ decimal seconds ++ codes " s"
+wrong_text wrong.Name = codes "; 49 or 56 is not as agreed"
+
+abbrev pub is_logon : Option (List ℕ) → Bool
+is_logon (Some kind) = bytes_eq kind (codes "A")
+is_logon None = false
+
+-- whether a Logon came that is no repeat
+abbrev pub is_new_logon : List ℕ → Bool
+is_new_logon heard =
+    is_logon (value_in (codes "35=") heard) && not (is_some (value_in (codes "43=") heard))
+
+-- a field of what came
+abbrev pub field_in : List ℕ → List ℕ → List ℕ
+field_in name heard = shown_field name (value_in name heard)
+
+-- what is wrong in what came, where that is a Logon that is no repeat
+abbrev pub fault_text : List ℕ → ℕ → List ℕ
+fault_text heard now =
+    if is_new_logon heard
+    then field_in (codes "49=") heard ++ field_in (codes "56=") heard
+    ++ field_in (codes "52=") heard
+    ++ wrong_text (wrong_of (value_in (codes "34=") heard) (value_in (codes "52=") heard) now)
+    else []
+
+-- what the gateway said by a Logout, or what is wrong where it said none
+abbrev pub told_text : List ℕ → Option (List ℕ) → ℕ → List ℕ
+told_text heard (Some text) now = codes "; it was told Logout " ++ map shown (take 256 text)
+told_text heard None now = fault_text heard now
+
+-- why a connection ended on which this came, and this was said last by a Logout
+abbrev pub why_text : List ℕ → Option (List ℕ) → ℕ → List ℕ
+why_text heard farewell now =
+    if is_some (value_in (codes "35=") heard)
+    then codes "it sent" ++ field_in (codes "35=") heard ++ field_in (codes "34=") heard
+    ++ field_in (codes "43=") heard ++ field_in (codes "58=") heard
+    ++ told_text heard farewell now
+    else codes "no message came"

@@ -1,0 +1,39 @@
+//! A field of what came, by its tag.
+
+ghost use Rattle.std.specs.Prelude.{◌≡◌, length, drop, if◌then◌else◌, Some, None, nat_eq};
+ghost use Rattle.std.specs.List.{starts_with};
+ghost use Rattle.std.specs.Option.{option_map};
+ghost use Rattle.edge_waits.specs.Fields.{value_in};
+
+/// The byte that ends a field.
+const SOH: u8 = 1;
+
+// What a field says, where it begins so.
+fn value_at<'a>(name: &[u8], field: &'a [u8]) -> Option<&'a [u8]>
+    ensures { option_map (λ value. value.now) result
+        ≡ (if starts_with nat_eq field.now name.now
+        then Some (drop (length name.now) field.now) else None) }
+{
+    if field.starts_with(name) {
+        return Some(&field[name.len()..]);
+    }
+    None
+}
+
+/// What the first field says that begins with this name, as `58=`, and has come whole, with the SOH
+/// behind it.
+pub fn value_of<'a>(name: &[u8], bytes: &'a [u8]) -> Option<&'a [u8]>
+    ensures { option_map (λ value. value.now) result ≡ value_in name.now bytes.now }
+{
+    let mut start = 0usize;
+    for at in 0..bytes.len() {
+        if bytes[at] == SOH {
+            let value = value_at(name, &bytes[start..at]);
+            if value.is_some() {
+                return value;
+            }
+            start = at + 1;
+        }
+    }
+    None
+}

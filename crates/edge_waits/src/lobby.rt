@@ -1,0 +1,216 @@
+//! Who waits to be the client: whose first message is a whole Logon, and who has to go.
+
+ghost use Rattle.std.specs.Prelude.{◌≡◌, ◌≤◌, ◌==◌, ◌++◌, ◌∷◌, [], IfOk, length, is_some, nat_le};
+ghost use Rattle.std.specs.Option.{option_to_list};
+ghost use Rattle.frame_grammar.specs.Cut.{first_piece};
+ghost use Rattle.frame_grammar.specs.declared.buffer.TheConstants.{CAPACITY};
+ghost use Rattle.edge_waits.specs.Lobby.{first_by, first_of, standing_of};
+
+use frame_grammar::{Framer, Kind, Next};
+use std::alloc::{AllocError, Global};
+use std::fmt;
+use std::marker::Model;
+
+/// How many connections wait for their Logon at most.
+pub const LOBBY: usize = 8;
+
+/// How long one waits at most, in milliseconds.
+const PATIENCE: u64 = 10_000;
+
+/// Past so many bytes that are no whole message a connection is closed.
+const LONGEST: usize = 8_192;
+
+/// What the first piece is that a connection begins with.
+#[derive(Clone, Copy, Debug, PartialEq, Eq)]
+pub enum First {
+    /// It has not come whole.
+    More,
+    /// Garbled bytes.
+    Garbled,
+    /// A whole Logon.
+    Logon,
+    /// Another whole message.
+    Other,
+}
+
+/// Why a connection is closed that is no client's.
+#[derive(Clone, Copy, Debug, PartialEq, Eq)]
+pub enum Stranger {
+    /// Its Logon did not come in 10 s.
+    Late,
+    /// A ninth came, and it had waited longest.
+    Crowded,
+    /// It was closed from the other side.
+    Left,
+    /// Its first message was no Logon.
+    NoLogon,
+    /// So many bytes came and no message.
+    TooLong,
+}
+
+/// How a connection stands that waits.
+#[derive(Clone, Copy, Debug, PartialEq, Eq)]
+pub enum Standing {
+    /// It goes on waiting.
+    Waits,
+    /// It has sent a whole Logon, and may hold the client's place.
+    Holds,
+    /// It is closed.
+    Goes(Stranger),
+}
+
+impl fmt::Display for Stranger {
+    ghost use Rattle.std.specs.Prelude.{Some};
+    ghost use Rattle.edge_waits.specs.Lobby.{stranger_text};
+
+    ghost output = { λ stranger. Some (stranger_text stranger) };
+
+    fn fmt<W: fmt::Write>(&self, f: &mut fmt::Formatter<W>) -> fmt::Result {
+        match *self {
+            Stranger::Late => write!(f, "no Logon came in 10 s"),
+            Stranger::Crowded => write!(f, "eight others wait for their Logon"),
+            Stranger::Left => write!(f, "it went before its Logon"),
+            Stranger::NoLogon => write!(f, "no Logon came first"),
+            Stranger::TooLong => write!(f, "no message came in 8,192 bytes"),
+        }
+    }
+}
+
+/// How a connection stands whose first piece is this, of which so many bytes came, that was closed
+/// or was not from the other side, and has waited so many milliseconds.
+pub fn standing_of(first: First, len: usize, is_closed: bool, waited: u64) -> Standing
+    ensures { result ≡ standing_of first len is_closed waited }
+{
+    match first {
+        First::Logon => Standing::Holds,
+        First::Other | First::Garbled => Standing::Goes(Stranger::NoLogon),
+        First::More => {
+            if is_closed {
+                Standing::Goes(Stranger::Left)
+            } else if len >= LONGEST {
+                Standing::Goes(Stranger::TooLong)
+            } else if waited >= PATIENCE {
+                Standing::Goes(Stranger::Late)
+            } else {
+                Standing::Waits
+            }
+        }
+    }
+}
+
+/// Tells what the first piece of a client's bytes is.
+#[derive(Drop)]
+pub struct Reception {
+    framer: Framer,
+}
+
+// What a whole message is, by its body.
+fn first_by(body: &[u8]) -> First
+    ensures { result ≡ first_by body.now }
+{
+    if body.starts_with(b"35=A\x01") {
+        First::Logon
+    } else {
+        First::Other
+    }
+}
+
+impl Reception {
+    /// Takes the memory that it needs.
+    ///
+    /// # Errors
+    /// For want of memory alone.
+    pub fn new(alloc: Global) -> Result<Reception, AllocError>
+        ensures { IfOk result (λ reception. reception.framer.kind ≡ Kind.Fix42) }
+    {
+        Ok(Reception {
+            framer: Framer::new(alloc, Kind::Fix42)?,
+        })
+    }
+
+    /// What the first piece of these bytes is, at most 16,384, as the client's stream.
+    pub fn first(&mut self, bytes: &[u8]) -> First
+        requires kind { self.old.framer.kind ≡ Kind.Fix42 }
+        requires room { length bytes.now ≤ CAPACITY }
+        ensures first { result ≡ first_of (first_piece Kind.Fix42 bytes.now) }
+        ensures kind { self.new.framer.kind ≡ Kind.Fix42 }
+    {
+        self.framer.restart();
+        self.framer.feed(bytes);
+        match self.framer.next() {
+            Next::Frame { body, .. } => first_by(self.framer.part(body)),
+            Next::Garbled { .. } => First::Garbled,
+            Next::More => First::More,
+        }
+    }
+}
+
+/// Those who wait, at most eight, in the order in which they came.
+#[derive(Drop)]
+pub struct Lobby<V: Drop> {
+    visitors: Vec<V>,
+}
+
+impl<V: Drop> Model for Lobby<V> {
+    ghost use Rattle.std.specs.Prelude.{List, ◌≤◌, vec_len};
+
+    ghost Value = { List V };
+
+    ghost view = { λ lobby. lobby.visitors.items };
+
+    ghost invariant = { λ lobby. vec_len lobby.visitors ≤ 8 };
+}
+
+impl<V: Drop> Lobby<V> {
+    /// Nobody waits.
+    pub fn new(alloc: Global) -> Lobby<V>
+        ensures { result ≡ [] }
+    {
+        Lobby {
+            visitors: Vec::new(alloc),
+        }
+    }
+
+    /// How many wait.
+    pub fn len(&self) -> usize
+        ensures value { result ≡ length self.now }
+        ensures few { result ≤ LOBBY }
+    {
+        self.visitors.len()
+    }
+
+    /// Whether nobody waits.
+    pub fn is_empty(&self) -> bool
+        ensures { result ≡ (length self.now == 0) }
+    {
+        self.visitors.is_empty()
+    }
+
+    /// Takes out the one that has waited longest.
+    pub fn take_oldest(&mut self) -> Option<V>
+        ensures { self.old ≡ option_to_list result ++ self.new }
+    {
+        if self.visitors.is_empty() {
+            return None;
+        }
+        Some(self.visitors.remove(0))
+    }
+
+    /// Lets one more wait, and answers the one that has waited longest where eight wait already.
+    ///
+    /// # Errors
+    /// For want of memory alone.
+    pub fn admit(&mut self, visitor: V) -> Result<Option<V>, AllocError>
+        ensures one { IfOk result (λ oldest.
+            option_to_list oldest ++ self.new ≡ self.old ++ visitor ∷ []) }
+        ensures eight { IfOk result (λ oldest. is_some oldest ≡ nat_le 8 (length self.old)) }
+    {
+        let oldest = if self.len() >= LOBBY {
+            self.take_oldest()
+        } else {
+            None
+        };
+        self.visitors.push(visitor)?;
+        Ok(oldest)
+    }
+}

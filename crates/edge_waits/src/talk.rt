@@ -1,0 +1,149 @@
+//! What was said on a connection, as far as its end goes by it.
+
+ghost use Rattle.std.specs.Prelude.{◌≡◌, ◌++◌, [], OnOk, OnErr, IfOk, None, true, false};
+ghost use Rattle.edge_waits.specs.Said.{logout_text};
+ghost use Rattle.edge_waits.specs.Fields.{or_else};
+ghost use Rattle.edge_waits.specs.Talk.{heard_next, parted_of, low_of};
+ghost use Rattle.edge_waits.specs.Why.{why_text};
+
+use crate::said::{logout_text, too_low};
+use crate::why::put_why;
+use edge_parts::{Parted, TooLow};
+use std::alloc::{AllocError, Global};
+use std::marker::Model;
+
+/// So many bytes that came before a session stood are kept at least.
+const KEPT: usize = 1_024;
+
+/// What came on a connection before a session stood, what the gateway said last by a Logout, and
+/// whether a session stood.
+#[derive(Drop)]
+pub struct Talk {
+    alloc: Global,
+    heard: Vec<u8>,
+    farewell: Option<Vec<u8>>,
+    is_active: bool,
+}
+
+impl Model for Talk {
+    ghost use Rattle.std.specs.Option.{option_map};
+    ghost use Rattle.edge_waits.specs.Talk.{Spoken};
+
+    ghost Value = { Spoken };
+
+    ghost view = { λ t. record {
+      heard = t.heard.items;
+      farewell = option_map (λ text. text.items) t.farewell;
+      active = t.is_active;
+    } };
+}
+
+// A copy of a text.
+fn copy(alloc: Global, text: &[u8]) -> Result<Vec<u8>, AllocError>
+    ensures { IfOk result (λ copy. copy.items ≡ text.now) }
+{
+    let mut copy = Vec::new(alloc);
+    copy.extend_from_slice(text)?;
+    Ok(copy)
+}
+
+impl Talk {
+    /// Nothing was said.
+    pub fn new(alloc: Global) -> Talk
+        ensures { result ≡ record { heard = []; farewell = None; active = false } }
+    {
+        Talk {
+            alloc,
+            heard: Vec::new(alloc),
+            farewell: None,
+            is_active: false,
+        }
+    }
+
+    /// Whether a session stood.
+    pub fn is_active(&self) -> bool
+        ensures { result ≡ self.now.active }
+    {
+        self.is_active
+    }
+
+    /// A session stands.
+    pub fn stand(&mut self)
+        ensures { self.new ≡ record self.old { active = true } }
+    {
+        self.is_active = true;
+    }
+
+    /// These bytes came. They are kept before a session stands, until 1,024 are.
+    ///
+    /// # Errors
+    /// For want of memory alone.
+    pub fn hear(&mut self, bytes: &[u8]) -> Result<(), AllocError>
+        ensures ok { OnOk result (self.new
+            ≡ record self.old { heard = heard_next self.old bytes.now }) }
+        ensures err { OnErr result (self.new ≡ self.old) }
+    {
+        if self.is_active || self.heard.len() >= KEPT {
+            return Ok(());
+        }
+        self.heard.extend_from_slice(bytes)?;
+        Ok(())
+    }
+
+    /// The gateway sends this frame.
+    ///
+    /// # Errors
+    /// For want of memory alone.
+    pub fn say(&mut self, frame: &[u8]) -> Result<(), AllocError>
+        ensures ok { OnOk result (self.new
+            ≡ record self.old { farewell = or_else (logout_text frame.now) self.old.farewell }) }
+        ensures err { OnErr result (self.new ≡ self.old) }
+    {
+        if let Some(text) = logout_text(frame) {
+            self.farewell = Some(copy(self.alloc, text)?);
+        }
+        Ok(())
+    }
+
+    /// The numbers that the gateway named, where it said that the peer's number is too low.
+    pub fn too_low(&self) -> Option<TooLow>
+        ensures { result ≡ low_of self.now }
+    {
+        match &self.farewell {
+            Some(text) => too_low(text.as_slice()),
+            None => None,
+        }
+    }
+
+    /// How the connection ended, for the venue's next try, where the venue closed it in order, or
+    /// not.
+    pub fn parted(&self, was_closed: bool) -> Parted
+        ensures { result ≡ parted_of self.now was_closed }
+    {
+        if self.is_active {
+            match &self.farewell {
+                Some(text) if text.is_empty() => Parted::InOrder,
+                _ => Parted::Active,
+            }
+        } else if was_closed || !self.heard.is_empty() {
+            Parted::Refused
+        } else {
+            Parted::Unheard
+        }
+    }
+
+    /// Appends why the connection ended before a session stood. `now` is the moment, in milliseconds
+    /// since 1970-01-01 00:00 UTC.
+    ///
+    /// # Errors
+    /// For want of memory alone.
+    pub fn put_why(&self, out: &mut Vec<u8>, now: u64) -> Result<(), AllocError>
+        ensures { OnOk result (out.new.items
+            ≡ out.old.items ++ why_text self.now.heard self.now.farewell now) }
+    {
+        match &self.farewell {
+            Some(text) => put_why(out, &self.heard, Some(text.as_slice()), now),
+            None => put_why(out, &self.heard, None, now),
+        }
+    }
+}

@@ -1,0 +1,210 @@
+//! Why a connection ended before a session stood, as a text.
+
+ghost use Rattle.std.specs.Prelude.{◌≡◌, ◌++◌, map, take, decimal, OnOk};
+ghost use Rattle.std.specs.Option.{option_map};
+ghost use Rattle.edge_waits.specs.Fields.{value_in};
+ghost use Rattle.edge_waits.specs.Why.{shown, shown_field, off_by, has_number, wrong_of};
+ghost use Rattle.edge_waits.specs.Why.{wrong_by, wrong_text, told_text, fault_text, why_text};
+
+use crate::fields::value_of;
+use itoa::Buffer;
+use std::alloc::AllocError;
+use typed_fields::{Number, Stamp};
+
+/// A value is shown up to so many bytes.
+const SHOWN: usize = 256;
+
+/// The greatest MsgSeqNum(34).
+const MAX_NUMBER: u32 = 999_999_999;
+
+/// How far SendingTime(52) may be off where the configuration does not say it, in seconds.
+const WINDOW: u128 = 120;
+
+/// What is wrong in a Logon that the gateway answered by a hang up alone.
+#[derive(Clone, Copy, Debug, PartialEq, Eq)]
+enum Wrong {
+    /// MsgSeqNum(34).
+    Number,
+    /// The form of SendingTime(52).
+    Stamp,
+    /// SendingTime(52) is so many seconds off.
+    Clock(u128),
+    /// SenderCompID(49) or TargetCompID(56), or SendingTime(52), which is so many seconds off.
+    NameOrClock(u128),
+    /// SenderCompID(49) or TargetCompID(56).
+    Name,
+}
+
+// A byte as it is shown.
+fn shown(byte: u8) -> u8
+    ensures { result ≡ shown byte }
+{
+    match byte {
+        32..=126 => byte,
+        _ => b'?',
+    }
+}
+
+// Appends a front of a text as it is shown.
+fn put_shown(out: &mut Vec<u8>, text: &[u8]) -> Result<(), AllocError>
+    ensures { OnOk result (out.new.items ≡ out.old.items ++ map shown (take 256 text.now)) }
+{
+    for byte in &text[..text.len().min(SHOWN)] {
+        out.push(shown(*byte))?;
+    }
+    Ok(())
+}
+
+// Appends a field as it is shown, where it came.
+fn put_field(out: &mut Vec<u8>, name: &[u8], heard: &[u8]) -> Result<(), AllocError>
+    ensures { OnOk result (out.new.items
+        ≡ out.old.items ++ shown_field name.now (value_in name.now heard.now)) }
+{
+    if let Some(value) = value_of(name, heard) {
+        out.extend_from_slice(b" ")?;
+        out.extend_from_slice(name)?;
+        put_shown(out, value)?;
+    }
+    Ok(())
+}
+
+fn put_number(out: &mut Vec<u8>, number: u128) -> Result<(), AllocError>
+    ensures { OnOk result (out.new.items ≡ out.old.items ++ decimal number) }
+{
+    out.extend_from_slice(Buffer::new().format(number).as_bytes())?;
+    Ok(())
+}
+
+// Whether there is a MsgSeqNum(34).
+fn has_number(value: Option<&[u8]>) -> bool
+    ensures { result ≡ has_number (option_map (λ value. value.now) value.entry) }
+{
+    match value {
+        Some(value) => match Number::read(value) {
+            Ok(number) => 1 <= number.value && number.value <= MAX_NUMBER,
+            Err(_) => false,
+        },
+        None => false,
+    }
+}
+
+// By how many whole seconds a stamp is off.
+fn off_by(now: u64, stamp: &Stamp) -> u128
+    ensures { result ≡ off_by now stamp.now }
+{
+    let millis = (i128::from(now) - i128::from(stamp.millis())).unsigned_abs();
+    millis / 1_000
+}
+
+// What is wrong where the time is so many seconds off.
+fn wrong_by(seconds: u128) -> Wrong
+    ensures { result ≡ wrong_by seconds }
+{
+    if seconds >= WINDOW {
+        Wrong::Clock(seconds)
+    } else if seconds >= 1 {
+        Wrong::NameOrClock(seconds)
+    } else {
+        Wrong::Name
+    }
+}
+
+// What is wrong in a Logon with these values.
+fn wrong_of(number: Option<&[u8]>, time: Option<&[u8]>, now: u64) -> Wrong
+    ensures { result ≡ wrong_of (option_map (λ value. value.now) number.entry)
+        (option_map (λ value. value.now) time.entry) now }
+{
+    if !has_number(number) {
+        return Wrong::Number;
+    }
+    match time {
+        Some(time) => match Stamp::read(time) {
+            Ok(stamp) => wrong_by(off_by(now, &stamp)),
+            Err(_) => Wrong::Stamp,
+        },
+        None => Wrong::Stamp,
+    }
+}
+
+// Appends what is wrong.
+fn put_wrong(out: &mut Vec<u8>, wrong: Wrong) -> Result<(), AllocError>
+    ensures { OnOk result (out.new.items ≡ out.old.items ++ wrong_text wrong) }
+{
+    match wrong {
+        Wrong::Number => out.extend_from_slice(b"; 34 is missing or no number")?,
+        Wrong::Stamp => out.extend_from_slice(b"; 52 is no UTC time in seconds or milliseconds")?,
+        Wrong::Clock(seconds) => {
+            out.extend_from_slice(b"; 52 is off by ")?;
+            put_number(out, seconds)?;
+            out.extend_from_slice(b" s")?;
+        }
+        Wrong::NameOrClock(seconds) => {
+            out.extend_from_slice(b"; 49 or 56 is not as agreed, or 52 is off by ")?;
+            put_number(out, seconds)?;
+            out.extend_from_slice(b" s")?;
+        }
+        Wrong::Name => out.extend_from_slice(b"; 49 or 56 is not as agreed")?,
+    }
+    Ok(())
+}
+
+// Appends what is wrong in what came, where that is a Logon that is no repeat.
+fn put_fault(out: &mut Vec<u8>, heard: &[u8], now: u64) -> Result<(), AllocError>
+    ensures { OnOk result (out.new.items ≡ out.old.items ++ fault_text heard.now now) }
+{
+    if value_of(b"35=", heard) != Some(b"A".as_slice()) || value_of(b"43=", heard).is_some() {
+        return Ok(());
+    }
+    put_field(out, b"49=", heard)?;
+    put_field(out, b"56=", heard)?;
+    put_field(out, b"52=", heard)?;
+    let number = value_of(b"34=", heard);
+    let time = value_of(b"52=", heard);
+    put_wrong(out, wrong_of(number, time, now))
+}
+
+// Appends what the gateway said by a Logout, or what is wrong where it said none.
+fn put_told(
+    out: &mut Vec<u8>,
+    heard: &[u8],
+    farewell: Option<&[u8]>,
+    now: u64,
+) -> Result<(), AllocError>
+    ensures { OnOk result (out.new.items ≡ out.old.items
+        ++ told_text heard.now (option_map (λ text. text.now) farewell.entry) now) }
+{
+    match farewell {
+        Some(text) => {
+            out.extend_from_slice(b"; it was told Logout ")?;
+            put_shown(out, text)
+        }
+        None => put_fault(out, heard, now),
+    }
+}
+
+/// Appends why a connection ended before a session stood: what came on it, by the fields of the
+/// first message, and what the gateway said to it by a Logout, or which field was wrong. `now` is
+/// the moment, in milliseconds since 1970-01-01 00:00 UTC.
+///
+/// # Errors
+/// For want of memory alone.
+pub fn put_why(
+    out: &mut Vec<u8>,
+    heard: &[u8],
+    farewell: Option<&[u8]>,
+    now: u64,
+) -> Result<(), AllocError>
+    ensures { OnOk result (out.new.items ≡ out.old.items
+        ++ why_text heard.now (option_map (λ text. text.now) farewell.entry) now) }
+{
+    if value_of(b"35=", heard).is_none() {
+        out.extend_from_slice(b"no message came")?;
+        return Ok(());
+    }
+    out.extend_from_slice(b"it sent")?;
+    put_field(out, b"35=", heard)?;
+    put_field(out, b"34=", heard)?;
+    put_field(out, b"43=", heard)?;
+    put_field(out, b"58=", heard)?;
+    put_told(out, heard, farewell, now)
+}
