@@ -92,6 +92,19 @@ fn cannot_say<P: Peer>(wire: &mut Counted<P>) -> bool {
     wire.send(b"9=5") == Err(Failed) && before < wire.faults()
 }
 
+/// The least frame that is a Logon.
+const LOGON: &[u8; 26] = b"8=FIX.4.2\x019=5\x0135=A\x0110=178\x01";
+
+/// Whether a connection without a Logon is not told.
+fn waits_for_a_logon<P: Peer>(
+    rt: &HostRuntime,
+    client: &mut Counted<P>,
+    address: SocketAddr,
+) -> io::Result<bool> {
+    let _stranger = TcpStream::connect(rt, address)?;
+    Ok(client.poll(&mut [0u8; 64]) == Ok(Arrival::Nothing))
+}
+
 /// Whether a peer's connection is told, and carries bytes both ways while another is refused.
 fn talks_to_a_client<P: Peer, K: Clock>(
     rt: &HostRuntime,
@@ -100,8 +113,10 @@ fn talks_to_a_client<P: Peer, K: Clock>(
     address: SocketAddr,
 ) -> io::Result<bool> {
     let mut peer = TcpStream::connect(rt, address)?;
+    peer.write_all(LOGON)?;
     Ok(
         is_next(client, clock, Ok(Arrival::Opened))
+            && is_next(client, clock, Ok(Arrival::Bytes(LOGON.len())))
             && hears(client, clock, &mut peer)?
             && says(client, &mut peer)?
             && closes_another(rt, client, address)?,
@@ -118,6 +133,7 @@ fn serves_a_client<P: Peer + Drop, K: Clock + Drop>(
 ) -> io::Result<bool> {
     Ok(
         client.poll(&mut [0u8; 64]) == Ok(Arrival::Nothing)
+            && waits_for_a_logon(rt, &mut client, address)?
             && talks_to_a_client(rt, &mut client, &mut clock, address)?
             && lines.have(b" refused, since one is connected: number 1\n")
             && is_next(&mut client, &mut clock, Ok(Arrival::Closed))
@@ -159,7 +175,10 @@ fn hangs_up<P: Peer>(
     lines: &Lines,
 ) -> io::Result<bool> {
     venue.hang_up();
-    Ok(lines.have(b" venue connection ended by the gateway; next try in ") && gets(peer, b"")?)
+    Ok(
+        lines.have(b" venue connection ended by the gateway: no message came; next try in ")
+            && gets(peer, b"")?,
+    )
 }
 
 /// Whether the venue's wire calls a venue, from its first poll to a hang up.

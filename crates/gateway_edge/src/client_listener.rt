@@ -1,4 +1,5 @@
-//! The client's side: a port that is listened on, and one connection at a time.
+//! The client's side: a port that is listened on, those who wait for their Logon, and one connection
+//! at a time that holds the client's place.
 
 ghost use Rattle.std.specs.Prelude.{◌≡◌, ◌<◌, ◌&&◌, length, false, is_ok, is_some, IfOk};
 ghost use Rattle.std.specs.Prelude.{None, true};
@@ -9,12 +10,17 @@ use crate::link::Link;
 use crate::parting::{Parting, is_parted};
 use crate::system::System;
 use crate::teller::Teller;
-use edge_parts::{Ending, Fault, NextTry, Notice, Pace, Peer, PeerName, RefusedNth, Shared, ticks};
+use crate::visitor::Visitor;
+use edge_parts::{
+    ClosedNth, Ending, Fault, NextTry, Notice, Pace, Peer, PeerName, RefusedNth, Shared, moment,
+    ticks,
+};
+use edge_waits::{Held, Lobby, PutOff, Reception, Standing, Stranger, Talk};
 use mio::net::{TcpListener, TcpStream};
 use mio::{Interest, Registry, Token};
 use std::io::{ErrorKind, Write};
 use std::net::SocketAddr;
-use std::{io, mem};
+use std::{io, mem, str};
 use wires::Arrival;
 
 /// How many connections are taken in one poll.
@@ -34,7 +40,17 @@ pub struct ClientListener<'a, R: System, W: Write + Drop> {
     refused: u64,
     /// When a line says again that a client was refused.
     lines: Pace,
+    lobby: Lobby<Visitor>,
+    reception: Reception,
+    strangers: u64,
+    /// When a line says again that a connection was closed that was no client's.
+    stranger_lines: Pace,
+    /// How long no client may come, since its numbers were too low.
+    put_off: PutOff,
     parting: Option<Parting>,
+    /// What the client said before it had the place.
+    held: Held,
+    talk: Talk,
     link: Option<Link>,
 }
 
@@ -47,6 +63,7 @@ impl<'a, R: System, W: Write + Drop> ClientListener<'a, R, W> {
         registry: Registry,
         shared: &'a Shared,
         teller: Teller<W>,
+        reception: Reception,
     ) -> ClientListener<'a, R, W>
         ensures { result.link ≡ None }
     {
@@ -60,7 +77,14 @@ impl<'a, R: System, W: Write + Drop> ClientListener<'a, R, W> {
             tries: Pace::new(),
             refused: 0,
             lines: Pace::new(),
+            lobby: Lobby::new(rt.alloc()),
+            reception,
+            strangers: 0,
+            stranger_lines: Pace::new(),
+            put_off: PutOff::new(),
             parting: None,
+            held: Held::none(rt.alloc()),
+            talk: Talk::new(rt.alloc()),
             link: None,
         }
     }
@@ -71,11 +95,20 @@ impl<'a, R: System, W: Write + Drop> ClientListener<'a, R, W> {
         self.teller.tell(self.rt, notice);
     }
 
-    // Says how the connection ended.
-    fn tell_end(&mut self, ending: Ending<'_>)
+    // The connection has ended so: it says so, and where its numbers were too low the port is closed
+    // for a while.
+    fn end(&mut self, ending: Ending<'_>)
         ensures { self.new.link ≡ self.old.link }
     {
-        self.tell(Notice::Ended(PeerName::Client, ending, NextTry::Never));
+        let Some(low) = self.talk.too_low() else {
+            self.tell(Notice::Ended(PeerName::Client, ending, NextTry::Never));
+            return;
+        };
+        let now = ticks(self.rt);
+        self.put_off.begin(now);
+        let left = self.put_off.left(now).div_ceil(1_000);
+        self.tell(Notice::NumbersLow(PeerName::Client, low));
+        self.tell(Notice::Ended(PeerName::Client, ending, NextTry::OpensAfter(left)));
     }
 
     // Says that the connection failed.
@@ -83,9 +116,40 @@ impl<'a, R: System, W: Write + Drop> ClientListener<'a, R, W> {
         ensures { self.new.link ≡ self.old.link }
     {
         match format!(in self.rt.alloc(); "{fault}") {
-            Ok(reason) => self.tell_end(Ending::ByFailure(reason.as_str())),
-            Err(_) => self.tell_end(Ending::ByFailure("out of memory")),
+            Ok(reason) => self.end(Ending::ByFailure(reason.as_str())),
+            Err(_) => self.end(Ending::ByFailure("out of memory")),
         }
+    }
+
+    // Why a connection ended before a session stood.
+    fn why(&self) -> Vec<u8> {
+        let mut why = Vec::new(self.rt.alloc());
+        let _ = self.talk.put_why(&mut why, moment(self.rt).unwrap_or(0)); // what there was memory for
+        why
+    }
+
+    // Says that the peer closed the connection.
+    fn tell_closed(&mut self)
+        ensures { self.new.link ≡ self.old.link }
+    {
+        if self.talk.is_active() {
+            self.end(Ending::ByPeer);
+            return;
+        }
+        let why = self.why();
+        self.end(Ending::ByPeerBehind(str::from_utf8(&why).unwrap_or("")));
+    }
+
+    // Says that the gateway has ended the connection.
+    fn tell_hung_up(&mut self)
+        ensures { self.new.link ≡ self.old.link }
+    {
+        if self.talk.is_active() {
+            self.end(Ending::ByUs);
+            return;
+        }
+        let why = self.why();
+        self.end(Ending::ByUsBehind(str::from_utf8(&why).unwrap_or("")));
     }
 
     fn bind(&self) -> io::Result<TcpListener> {
@@ -150,7 +214,7 @@ impl<'a, R: System, W: Write + Drop> ClientListener<'a, R, W> {
         }
     }
 
-    // Closes those that wait, since one is connected.
+    // Closes those that come, since one is connected.
     fn refuse_all(&mut self)
         ensures { self.new.link ≡ self.old.link }
     {
@@ -160,37 +224,138 @@ impl<'a, R: System, W: Write + Drop> ClientListener<'a, R, W> {
                     drop(stream);
                     self.refuse(from);
                 }
-                _ => break,
+                _ => return,
             }
+        }
+        self.shared.note_activity(); // more may wait, of which the system does not tell again
+    }
+
+    // Closes a connection that is no client's, of which a line a second at most says so, with the
+    // number so far.
+    fn close(&mut self, visitor: Visitor, why: Stranger)
+        ensures { self.new.link ≡ self.old.link }
+    {
+        self.strangers = self.strangers.saturating_add(1);
+        if !self.stranger_lines.take(ticks(self.rt)) {
+            return;
+        }
+        let nth = self.strangers;
+        if let Ok(why) = format!(in self.rt.alloc(); "{why}") {
+            let why = why.as_str();
+            self.tell(Notice::Closed(visitor.from, ClosedNth { why, nth }));
         }
     }
 
-    fn admit(&self, mut stream: TcpStream) -> Result<Link, Fault> {
+    // Lets a connection wait; the one that has waited longest goes where there are too many.
+    fn keep(&mut self, visitor: Visitor)
+        ensures { self.new.link ≡ self.old.link }
+    {
+        if let Ok(Some(oldest)) = self.lobby.admit(visitor) {
+            self.close(oldest, Stranger::Crowded);
+        }
+    }
+
+    // Hears a connection that waits. It is given back where its Logon has come.
+    fn hear_visitor(&mut self, mut visitor: Visitor) -> Option<Visitor>
+        ensures { self.new.link ≡ self.old.link }
+    {
+        let Ok((stands, came)) = visitor.listen(&mut self.reception, ticks(self.rt)) else {
+            return None;
+        };
+        if came {
+            self.shared.note_activity();
+        }
+        match stands {
+            Standing::Holds => return Some(visitor),
+            Standing::Waits => self.keep(visitor),
+            Standing::Goes(why) => self.close(visitor, why),
+        }
+        None
+    }
+
+    // Hears those who wait, up to the first whose Logon has come.
+    fn hear_lobby(&mut self) -> Option<Visitor>
+        ensures { self.new.link ≡ self.old.link }
+    {
+        for _ in 0..self.lobby.len() {
+            let visitor = self.lobby.take_oldest()?;
+            let ready = self.hear_visitor(visitor);
+            if ready.is_some() {
+                return ready;
+            }
+        }
+        None
+    }
+
+    fn admit(&self, mut stream: TcpStream, from: SocketAddr) -> Result<Visitor, Fault> {
         self.registry.register(
             &mut stream,
             Token(2),
             Interest::READABLE | Interest::WRITABLE,
         )?;
-        Link::new(self.rt, stream)
+        Visitor::new(self.rt, stream, from, ticks(self.rt))
     }
 
-    // Begins a connection.
-    fn welcome(&mut self, stream: TcpStream, from: SocketAddr) -> Result<(), Fault>
-        requires { self.old.link ≡ None }
-        ensures { is_some self.new.link ≡ is_ok result }
+    // Takes those who come, up to the first whose Logon has come.
+    fn take_all(&mut self) -> Result<Option<Visitor>, Fault>
+        ensures { self.new.link ≡ self.old.link }
     {
-        match self.admit(stream) {
-            Ok(link) => {
-                self.link = Some(link);
-                self.shared.note_activity();
-                self.tell(Notice::Connected(PeerName::Client, from));
-                Ok(())
-            }
-            Err(fault) => {
-                self.tell_fault(&fault);
-                Err(fault)
+        for _ in 0..TAKEN {
+            let taken = match self.accept() {
+                Ok(Some(taken)) => taken,
+                Ok(None) => return Ok(None),
+                Err(error) => return Err(self.leave(error)),
+            };
+            if let Ok(visitor) = self.admit(taken.0, taken.1) {
+                let ready = self.hear_visitor(visitor);
+                if ready.is_some() {
+                    return Ok(ready);
+                }
             }
         }
+        self.shared.note_activity(); // more may wait, of which the system does not tell again
+        Ok(None)
+    }
+
+    // Gives the client's place to a connection, and closes those that wait.
+    fn welcome(&mut self, visitor: Visitor)
+        ensures { is_some self.new.link ≡ true }
+    {
+        for _ in 0..self.lobby.len() {
+            if let Some(other) = self.lobby.take_oldest() {
+                self.refuse(other.from);
+            }
+        }
+        self.tell(Notice::Connected(PeerName::Client, visitor.from));
+        self.shared.note_activity();
+        self.talk = Talk::new(self.rt.alloc());
+        self.held = Held::new(visitor.heard);
+        self.link = Some(visitor.link);
+    }
+
+    // Closes the port, and all that wait, while the client is put off.
+    fn shut(&mut self)
+        ensures { self.new.link ≡ self.old.link }
+    {
+        self.listener = None;
+        self.tries = Pace::new();
+        self.lobby = Lobby::new(self.rt.alloc());
+    }
+
+    // The next connection that has sent a whole Logon.
+    fn next(&mut self) -> Result<Option<Visitor>, Fault>
+        ensures { self.new.link ≡ self.old.link }
+    {
+        if !self.put_off.is_over(ticks(self.rt)) {
+            self.shut();
+            return Ok(None);
+        }
+        self.listen()?;
+        let ready = self.hear_lobby();
+        if ready.is_some() {
+            return Ok(ready);
+        }
+        self.take_all()
     }
 
     // Takes the next client.
@@ -199,14 +364,12 @@ impl<'a, R: System, W: Write + Drop> ClientListener<'a, R, W> {
         ensures fits { IfOk result (λ arrived. Fits arrived buf.now) }
         ensures order { InOrder false (is_some self.new.link) result buf.now }
     {
-        self.listen()?;
-        match self.accept() {
-            Ok(Some((stream, from))) => {
-                self.welcome(stream, from)?;
+        match self.next()? {
+            Some(visitor) => {
+                self.welcome(visitor);
                 Ok(Arrival::Opened)
             }
-            Ok(None) => Ok(Arrival::Nothing),
-            Err(error) => Err(self.leave(error)),
+            None => Ok(Arrival::Nothing),
         }
     }
 
@@ -220,6 +383,34 @@ impl<'a, R: System, W: Write + Drop> ClientListener<'a, R, W> {
         self.link = Some(link);
     }
 
+    // Hands on what the client said before it had the place.
+    #[tactic(auto, using(crate::proofs::Come::bytes_come))]
+    fn hand_on(&mut self, link: Link, buf: &mut [u8]) -> Arrival
+        requires link { self.old.link ≡ None }
+        requires room { 0 < length buf.old }
+        ensures fits { Fits result buf.new }
+        ensures order { InOrder true (is_some self.new.link) (Ok {E = Fault} result) buf.new }
+    {
+        let count = self.held.hand_on(buf);
+        self.shared.note_activity();
+        let _ = self.talk.hear(&buf[..count]); // what there is no memory for is not told
+        self.link = Some(link);
+        if count == 0 {
+            return Arrival::Nothing;
+        }
+        Arrival::Bytes(count)
+    }
+
+    // The connection stands behind its Logon.
+    fn stand(&mut self)
+        ensures { self.new.link ≡ self.old.link }
+    {
+        if !self.talk.is_active() {
+            self.talk.stand();
+            self.put_off.forget();
+        }
+    }
+
     // What came on the connection, which is kept but at its end.
     fn hear(&mut self, mut link: Link, buf: &mut [u8]) -> Result<Arrival, Fault>
         requires link { self.old.link ≡ None }
@@ -227,9 +418,13 @@ impl<'a, R: System, W: Write + Drop> ClientListener<'a, R, W> {
         ensures fits { IfOk result (λ arrived. Fits arrived buf.new) }
         ensures order { InOrder true (is_some self.new.link) result buf.new }
     {
+        if !self.held.is_empty() {
+            return Ok(self.hand_on(link, buf));
+        }
+        self.stand();
         match link.receive(buf, ticks(self.rt)) {
             Ok(Arrival::Closed) => {
-                self.tell_end(Ending::ByPeer);
+                self.tell_closed();
                 Ok(Arrival::Closed)
             }
             Ok(Arrival::Bytes(count)) => {
@@ -271,6 +466,7 @@ impl<'a, R: System, W: Write + Drop> Peer for ClientListener<'a, R, W> {
         let Some(mut link) = mem::replace(&mut self.link, None) else {
             return Err(Fault::NotConnected);
         };
+        let _ = self.talk.say(piece); // what there is no memory for is not told
         match link.send(piece, ticks(self.rt)) {
             Ok(()) => {
                 self.hold(link);
@@ -287,7 +483,7 @@ impl<'a, R: System, W: Write + Drop> Peer for ClientListener<'a, R, W> {
         if let Some(link) = mem::replace(&mut self.link, None) {
             self.parting = Some(Parting::new(link, ticks(self.rt)));
             self.is_parted();
-            self.tell_end(Ending::ByUs);
+            self.tell_hung_up();
         }
     }
 

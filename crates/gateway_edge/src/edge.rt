@@ -7,6 +7,7 @@ use crate::teller::Teller;
 use crate::venue_connector::VenueConnector;
 use crate::waiting_clock::WaitingClock;
 use edge_parts::{Counted, Shared, ticks};
+use edge_waits::Reception;
 use mio::{Events, Poll};
 use std::io::Write;
 use std::net::SocketAddr;
@@ -67,6 +68,7 @@ impl<'a, R: System + Files, W: Write + Copy + Drop> Edge<'a, R, W> {
             for_client,
             shared,
             Teller::new(rt, lines)?,
+            Reception::new(rt.alloc())?,
         );
         let venue = VenueConnector::new(
             rt,

@@ -20,6 +20,7 @@ mod streams;
 mod system;
 mod teller;
 mod venue_connector;
+mod visitor;
 mod waiting_clock;
 
 pub use client_listener::ClientListener;

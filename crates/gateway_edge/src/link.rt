@@ -77,6 +77,11 @@ impl Link {
         }
     }
 
+    /// Whether the system tells that the connection was reset.
+    pub(crate) fn was_reset(&self) -> bool {
+        !matches!(self.stream.take_error(), Ok(None))
+    }
+
     /// Says that nothing more comes.
     pub(crate) fn shut(&self) {
         let _ = self.stream.shutdown(Shutdown::Write); // where it fails the connection is gone

@@ -10,13 +10,15 @@ use crate::parting::{Parting, is_parted};
 use crate::system::System;
 use crate::teller::Teller;
 use edge_parts::{
-    BackOff, Ending, Fault, LogonMark, Missed, NextTry, Notice, Peer, PeerName, Shared, ticks,
+    BackOff, Ending, Fault, LogonMark, Missed, NextTry, Notice, Peer, PeerName, Shared, moment,
+    ticks,
 };
+use edge_waits::{PutOff, Talk};
 use mio::net::TcpStream;
 use mio::{Interest, Registry, Token};
 use std::io::Write;
 use std::net::SocketAddr;
-use std::{io, mem};
+use std::{io, mem, str};
 use wires::Arrival;
 
 /// How long a connect may take, in milliseconds.
@@ -42,10 +44,12 @@ pub struct VenueConnector<'a, R: System, W: Write + Drop> {
     shared: &'a Shared,
     teller: Teller<W>,
     back_off: BackOff,
+    /// How long the venue is not tried, since its numbers were too low.
+    put_off: PutOff,
     mark: LogonMark,
-    /// Whether a Logon has come and the connection stood at the next poll: a Logon that is refused
-    /// is answered by a hang up before that.
-    is_active: bool,
+    /// A session stands once a Logon has come and the connection stood at the next poll: a Logon
+    /// that is refused is answered by a hang up before that.
+    talk: Talk,
     parting: Option<Parting>,
     stage: Stage,
 }
@@ -86,8 +90,9 @@ impl<'a, R: System, W: Write + Drop> VenueConnector<'a, R, W> {
             shared,
             teller,
             back_off: BackOff::new(),
+            put_off: PutOff::new(),
             mark: LogonMark::new(),
-            is_active: false,
+            talk: Talk::new(rt.alloc()),
             parting: None,
             stage: Stage::Off,
         }
@@ -95,7 +100,8 @@ impl<'a, R: System, W: Write + Drop> VenueConnector<'a, R, W> {
 
     // When the next try comes, in whole seconds.
     fn next_try(&self) -> NextTry {
-        match self.back_off.left(ticks(self.rt)) {
+        let now = ticks(self.rt);
+        match self.back_off.left(now).max(self.put_off.left(now)) {
             0 => NextTry::AtOnce,
             left => NextTry::After(left.div_ceil(1_000)),
         }
@@ -107,13 +113,55 @@ impl<'a, R: System, W: Write + Drop> VenueConnector<'a, R, W> {
         self.teller.tell(self.rt, notice);
     }
 
-    // The connection has ended so.
-    fn end(&mut self, ending: Ending<'_>)
+    // The connection has ended so, in order by the venue or not.
+    fn end(&mut self, ending: Ending<'_>, was_closed: bool)
         ensures { self.new.stage ≡ self.old.stage }
     {
-        self.back_off.end(ticks(self.rt), self.is_active);
+        let now = ticks(self.rt);
+        self.back_off.end(now, self.talk.parted(was_closed));
+        if let Some(low) = self.talk.too_low() {
+            self.put_off.begin(now);
+            self.tell(Notice::NumbersLow(PeerName::Venue, low));
+        }
         let next = self.next_try();
         self.tell(Notice::Ended(PeerName::Venue, ending, next));
+    }
+
+    // Why a connection ended before a session stood.
+    fn why(&self) -> Vec<u8> {
+        let mut why = Vec::new(self.rt.alloc());
+        let _ = self.talk.put_why(&mut why, moment(self.rt).unwrap_or(0)); // what there was memory for
+        why
+    }
+
+    // The venue has closed the connection, in order or not.
+    fn end_closed(&mut self, was_closed: bool)
+        ensures { self.new.stage ≡ self.old.stage }
+    {
+        if self.talk.is_active() {
+            self.end(Ending::ByPeer, was_closed);
+            return;
+        }
+        let why = self.why();
+        self.end(
+            Ending::ByPeerBehind(str::from_utf8(&why).unwrap_or("")),
+            was_closed,
+        );
+    }
+
+    // The gateway has ended the connection.
+    fn end_hung_up(&mut self)
+        ensures { self.new.stage ≡ self.old.stage }
+    {
+        if self.talk.is_active() {
+            self.end(Ending::ByUs, false);
+            return;
+        }
+        let why = self.why();
+        self.end(
+            Ending::ByUsBehind(str::from_utf8(&why).unwrap_or("")),
+            false,
+        );
     }
 
     // The connection has failed.
@@ -121,8 +169,8 @@ impl<'a, R: System, W: Write + Drop> VenueConnector<'a, R, W> {
         ensures { self.new.stage ≡ self.old.stage }
     {
         match format!(in self.rt.alloc(); "{fault}") {
-            Ok(reason) => self.end(Ending::ByFailure(reason.as_str())),
-            Err(_) => self.end(Ending::ByFailure("out of memory")),
+            Ok(reason) => self.end(Ending::ByFailure(reason.as_str()), false),
+            Err(_) => self.end(Ending::ByFailure("out of memory"), false),
         }
     }
 
@@ -162,7 +210,7 @@ impl<'a, R: System, W: Write + Drop> VenueConnector<'a, R, W> {
         ensures order { InOrder false (is_on self.new.stage) result buf.now }
     {
         let now = ticks(self.rt);
-        if !self.back_off.is_due(now) {
+        if !self.back_off.is_due(now) || !self.put_off.is_over(now) {
             return Ok(Arrival::Nothing);
         }
         self.back_off.begin(now);
@@ -189,7 +237,7 @@ impl<'a, R: System, W: Write + Drop> VenueConnector<'a, R, W> {
             Ok(link) => {
                 self.stage = Stage::On(link);
                 self.mark = LogonMark::new();
-                self.is_active = false;
+                self.talk = Talk::new(self.rt.alloc());
                 self.shared.note_activity();
                 self.tell(Notice::Connected(PeerName::Venue, self.address));
                 Ok(Arrival::Opened)
@@ -230,6 +278,25 @@ impl<'a, R: System, W: Write + Drop> VenueConnector<'a, R, W> {
         self.stage = Stage::On(link);
     }
 
+    // A session stands once a Logon has come.
+    fn stand(&mut self)
+        ensures { self.new.stage ≡ self.old.stage }
+    {
+        if self.mark.has_come() && !self.talk.is_active() {
+            self.talk.stand();
+            self.put_off.forget();
+        }
+    }
+
+    // Notes what came.
+    fn note(&mut self, bytes: &[u8])
+        ensures { self.new.stage ≡ self.old.stage }
+    {
+        self.shared.note_activity();
+        self.mark.note(bytes);
+        let _ = self.talk.hear(bytes); // what there is no memory for is not told
+    }
+
     // What came on the connection, which is kept but at its end.
     fn hear(&mut self, mut link: Link, buf: &mut [u8]) -> Result<Arrival, Fault>
         requires stage { is_on self.old.stage ≡ false }
@@ -237,15 +304,14 @@ impl<'a, R: System, W: Write + Drop> VenueConnector<'a, R, W> {
         ensures fits { IfOk result (λ arrived. Fits arrived buf.new) }
         ensures order { InOrder true (is_on self.new.stage) result buf.new }
     {
-        self.is_active = self.mark.has_come();
+        self.stand();
         match link.receive(buf, ticks(self.rt)) {
             Ok(Arrival::Closed) => {
-                self.end(Ending::ByPeer);
+                self.end_closed(!link.was_reset());
                 Ok(Arrival::Closed)
             }
             Ok(Arrival::Bytes(count)) => {
-                self.shared.note_activity();
-                self.mark.note(&buf[..count]);
+                self.note(&buf[..count]);
                 self.stage = Stage::On(link);
                 Ok(Arrival::Bytes(count))
             }
@@ -278,6 +344,7 @@ impl<'a, R: System, W: Write + Drop> Peer for VenueConnector<'a, R, W> {
     }
 
     fn say(&mut self, piece: &[u8]) -> Result<(), Fault> {
+        let _ = self.talk.say(piece); // what there is no memory for is not told
         match mem::replace(&mut self.stage, Stage::Off) {
             Stage::On(mut link) => match link.send(piece, ticks(self.rt)) {
                 Ok(()) => {
@@ -301,7 +368,7 @@ impl<'a, R: System, W: Write + Drop> Peer for VenueConnector<'a, R, W> {
             Stage::On(link) => {
                 self.parting = Some(Parting::new(link, ticks(self.rt)));
                 self.is_parted();
-                self.end(Ending::ByUs);
+                self.end_hung_up();
             }
             stage => self.stage = stage,
         }
