@@ -1,2 +1,3 @@
-mod Fields
-mod First
+mod Pieces
+mod Search
+mod Worked

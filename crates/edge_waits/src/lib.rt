@@ -16,7 +16,7 @@ mod why;
 
 pub use fields::value_of;
 pub use held::Held;
-pub use lobby::{First, LOBBY, Lobby, Reception, Standing, Stranger, standing_of};
+pub use lobby::{First, LOBBY, Lobby, Standing, Stranger, first_in, standing_of};
 pub use put_off::PutOff;
 pub use said::{logout_text, too_low};
 pub use talk::Talk;

@@ -1,12 +1,12 @@
 //! Who waits to be the client: whose first message is a whole Logon, and who has to go.
 
-ghost use Rattle.std.specs.Prelude.{◌≡◌, ◌≤◌, ◌==◌, ◌++◌, ◌∷◌, [], IfOk, length, is_some, nat_le};
+ghost use Rattle.std.specs.Prelude.{◌≡◌, ◌==◌, ◌++◌, ◌∷◌, [], IfOk, length, is_some, nat_le, take};
 ghost use Rattle.std.specs.Option.{option_to_list};
 ghost use Rattle.frame_grammar.specs.Cut.{first_piece};
 ghost use Rattle.frame_grammar.specs.declared.buffer.TheConstants.{CAPACITY};
 ghost use Rattle.edge_waits.specs.Lobby.{first_by, first_of, standing_of};
 
-use frame_grammar::{Framer, Kind, Next};
+use frame_grammar::{Framer, Next};
 use std::alloc::{AllocError, Global};
 use std::fmt;
 use std::marker::Model;
@@ -98,12 +98,6 @@ pub fn standing_of(first: First, len: usize, is_closed: bool, waited: u64) -> St
     }
 }
 
-/// Tells what the first piece of a client's bytes is.
-#[derive(Drop)]
-pub struct Reception {
-    framer: Framer,
-}
-
 // What a whole message is, by its body.
 fn first_by(body: &[u8]) -> First
     ensures { result ≡ first_by body.now }
@@ -115,33 +109,18 @@ fn first_by(body: &[u8]) -> First
     }
 }
 
-impl Reception {
-    /// Takes the memory that it needs.
-    ///
-    /// # Errors
-    /// For want of memory alone.
-    pub fn new(alloc: Global) -> Result<Reception, AllocError>
-        ensures { IfOk result (λ reception. reception.framer.kind ≡ Kind.Fix42) }
-    {
-        Ok(Reception {
-            framer: Framer::new(alloc, Kind::Fix42)?,
-        })
-    }
-
-    /// What the first piece of these bytes is, at most 16,384, as the client's stream.
-    pub fn first(&mut self, bytes: &[u8]) -> First
-        requires kind { self.old.framer.kind ≡ Kind.Fix42 }
-        requires room { length bytes.now ≤ CAPACITY }
-        ensures first { result ≡ first_of (first_piece Kind.Fix42 bytes.now) }
-        ensures kind { self.new.framer.kind ≡ Kind.Fix42 }
-    {
-        self.framer.restart();
-        self.framer.feed(bytes);
-        match self.framer.next() {
-            Next::Frame { body, .. } => first_by(self.framer.part(body)),
-            Next::Garbled { .. } => First::Garbled,
-            Next::More => First::More,
-        }
+/// What the first piece of these bytes is, of which the first 16,384 are looked at. The framer is
+/// begun anew.
+pub fn first_in(framer: &mut Framer, bytes: &[u8]) -> First
+    ensures first { result ≡ first_of (first_piece framer.old.kind (take CAPACITY bytes.now)) }
+    ensures kind { framer.new.kind ≡ framer.old.kind }
+{
+    framer.restart();
+    framer.feed(bytes);
+    match framer.next() {
+        Next::Frame { body, .. } => first_by(framer.part(body)),
+        Next::Garbled { .. } => First::Garbled,
+        Next::More => First::More,
     }
 }
 

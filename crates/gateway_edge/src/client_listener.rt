@@ -6,16 +6,14 @@ ghost use Rattle.std.specs.Prelude.{None, true};
 ghost use Rattle.wires.specs.Wire.{Fits, may_come, came_of};
 ghost use Rattle.edge_parts.specs.Order.{InOrder};
 
-use crate::link::Link;
-use crate::parting::{Parting, is_parted};
-use crate::system::System;
 use crate::teller::Teller;
-use crate::visitor::Visitor;
+use edge_links::{Link, Parting, System, Visitor, is_parted};
 use edge_parts::{
     ClosedNth, Ending, Fault, NextTry, Notice, Pace, Peer, PeerName, RefusedNth, Shared, moment,
     ticks,
 };
-use edge_waits::{Held, Lobby, PutOff, Reception, Standing, Stranger, Talk};
+use edge_waits::{Held, Lobby, PutOff, Standing, Stranger, Talk};
+use frame_grammar::Framer;
 use mio::net::{TcpListener, TcpStream};
 use mio::{Interest, Registry, Token};
 use std::io::{ErrorKind, Write};
@@ -41,7 +39,8 @@ pub struct ClientListener<'a, R: System, W: Write + Drop> {
     /// When a line says again that a client was refused.
     lines: Pace,
     lobby: Lobby<Visitor>,
-    reception: Reception,
+    /// Finds the first message of those who wait.
+    framer: Framer,
     strangers: u64,
     /// When a line says again that a connection was closed that was no client's.
     stranger_lines: Pace,
@@ -63,7 +62,7 @@ impl<'a, R: System, W: Write + Drop> ClientListener<'a, R, W> {
         registry: Registry,
         shared: &'a Shared,
         teller: Teller<W>,
-        reception: Reception,
+        framer: Framer,
     ) -> ClientListener<'a, R, W>
         ensures { result.link ≡ None }
     {
@@ -78,7 +77,7 @@ impl<'a, R: System, W: Write + Drop> ClientListener<'a, R, W> {
             refused: 0,
             lines: Pace::new(),
             lobby: Lobby::new(rt.alloc()),
-            reception,
+            framer,
             strangers: 0,
             stranger_lines: Pace::new(),
             put_off: PutOff::new(),
@@ -259,7 +258,7 @@ impl<'a, R: System, W: Write + Drop> ClientListener<'a, R, W> {
     fn hear_visitor(&mut self, mut visitor: Visitor) -> Option<Visitor>
         ensures { self.new.link ≡ self.old.link }
     {
-        let Ok((stands, came)) = visitor.listen(&mut self.reception, ticks(self.rt)) else {
+        let Ok((stands, came)) = visitor.listen(&mut self.framer, ticks(self.rt)) else {
             return None;
         };
         if came {
@@ -384,7 +383,7 @@ impl<'a, R: System, W: Write + Drop> ClientListener<'a, R, W> {
     }
 
     // Hands on what the client said before it had the place.
-    #[tactic(auto, using(crate::proofs::Come::bytes_come))]
+    #[tactic(auto, using(edge_links::proofs::Come::bytes_come))]
     fn hand_on(&mut self, link: Link, buf: &mut [u8]) -> Arrival
         requires link { self.old.link ≡ None }
         requires room { 0 < length buf.old }
@@ -447,7 +446,7 @@ impl<'a, R: System, W: Write + Drop> ClientListener<'a, R, W> {
 impl<'a, R: System, W: Write + Drop> Peer for ClientListener<'a, R, W> {
     ghost within = { λ client. is_some client.link };
 
-    #[tactic(auto, using(crate::proofs::Come::in_order_from))]
+    #[tactic(auto, using(edge_links::proofs::Come::in_order_from))]
     fn arrive(&mut self, buf: &mut [u8]) -> Result<Arrival, Fault> {
         if self.shared.is_ending() {
             return Ok(Arrival::Nothing);

@@ -2,12 +2,12 @@
 
 use crate::client_listener::ClientListener;
 use crate::stop_file::StopFile;
-use crate::system::System;
 use crate::teller::Teller;
 use crate::venue_connector::VenueConnector;
 use crate::waiting_clock::WaitingClock;
+use edge_links::System;
 use edge_parts::{Counted, Shared, ticks};
-use edge_waits::Reception;
+use frame_grammar::{Framer, Kind};
 use mio::{Events, Poll};
 use std::io::Write;
 use std::net::SocketAddr;
@@ -68,7 +68,7 @@ impl<'a, R: System + Files, W: Write + Copy + Drop> Edge<'a, R, W> {
             for_client,
             shared,
             Teller::new(rt, lines)?,
-            Reception::new(rt.alloc())?,
+            Framer::new(rt.alloc(), Kind::Fix42)?,
         );
         let venue = VenueConnector::new(
             rt,

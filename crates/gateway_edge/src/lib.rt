@@ -13,22 +13,18 @@
 mod client_listener;
 mod edge;
 mod journal_file;
-mod link;
-mod parting;
 mod stop_file;
 mod streams;
-mod system;
 mod teller;
 mod venue_connector;
-mod visitor;
 mod waiting_clock;
 
 pub use client_listener::ClientListener;
 pub use edge::{Addresses, ClientWire, Edge, VenueWire};
+pub use edge_links::System;
 pub use journal_file::JournalFile;
 pub use stop_file::StopFile;
 pub use streams::{Reading, Writing};
-pub use system::System;
 pub use teller::Teller;
 pub use venue_connector::VenueConnector;
 pub use waiting_clock::WaitingClock;

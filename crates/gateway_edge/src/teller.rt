@@ -1,6 +1,6 @@
 //! Lines for the operator, which never wait for their reader.
 
-use crate::system::System;
+use edge_links::System;
 use edge_parts::{Lost, Notice, line, moment};
 use mio::unix::SourceFd;
 use mio::{Events, Interest, Poll, Token};

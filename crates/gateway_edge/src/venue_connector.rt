@@ -5,10 +5,8 @@ ghost use Rattle.wires.specs.Wire.{Fits};
 ghost use Rattle.edge_parts.specs.Order.{InOrder};
 ghost use Rattle.gateway_edge.specs.Stage.{is_on};
 
-use crate::link::Link;
-use crate::parting::{Parting, is_parted};
-use crate::system::System;
 use crate::teller::Teller;
+use edge_links::{Link, Parting, System, is_parted};
 use edge_parts::{
     BackOff, Ending, Fault, LogonMark, Missed, NextTry, Notice, Peer, PeerName, Shared, moment,
     ticks,
@@ -330,7 +328,7 @@ impl<'a, R: System, W: Write + Drop> VenueConnector<'a, R, W> {
 impl<'a, R: System, W: Write + Drop> Peer for VenueConnector<'a, R, W> {
     ghost within = { λ venue. is_on venue.stage };
 
-    #[tactic(auto, using(crate::proofs::Come::in_order_from))]
+    #[tactic(auto, using(edge_links::proofs::Come::in_order_from))]
     fn arrive(&mut self, buf: &mut [u8]) -> Result<Arrival, Fault> {
         if self.shared.is_ending() {
             return Ok(Arrival::Nothing);

@@ -3,8 +3,8 @@
 ghost use Rattle.std.specs.Prelude.{None};
 
 use crate::stop_file::StopFile;
-use crate::system::System;
 use crate::teller::Teller;
+use edge_links::System;
 use edge_parts::{Notice, Pace, Shared, moment, ticks, wait_after};
 use mio::{Events, Poll};
 use std::alloc::Global;

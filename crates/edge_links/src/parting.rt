@@ -9,7 +9,7 @@ const FAREWELL: u64 = 2_000;
 /// shut, and what the peer says is read off until it ends its own: a socket that is closed over
 /// bytes that were not read resets, and the peer may lose what it has not read itself.
 #[derive(Drop)]
-pub(crate) struct Parting {
+pub struct Parting {
     link: Link,
     until: u64,
     is_shut: bool,
@@ -17,7 +17,7 @@ pub(crate) struct Parting {
 
 impl Parting {
     /// A connection that ends now.
-    pub(crate) fn new(link: Link, now: u64) -> Parting {
+    pub fn new(link: Link, now: u64) -> Parting {
         Parting {
             link,
             until: now.saturating_add(FAREWELL),
@@ -26,7 +26,7 @@ impl Parting {
     }
 
     /// Goes on with it, and answers whether it is over.
-    pub(crate) fn go_on(&mut self, now: u64) -> bool {
+    pub fn go_on(&mut self, now: u64) -> bool {
         if now >= self.until {
             return true;
         }
@@ -45,7 +45,7 @@ impl Parting {
 }
 
 /// Goes on with a connection that was ended, where one is left, and answers whether it is over.
-pub(crate) fn is_parted(parting: &mut Option<Parting>, now: u64) -> bool {
+pub fn is_parted(parting: &mut Option<Parting>, now: u64) -> bool {
     let over = match parting {
         Some(parting) => parting.go_on(now),
         None => true,

@@ -12,7 +12,7 @@ use wires::Arrival;
 
 /// A connection that does not block.
 #[derive(Drop)]
-pub(crate) struct Link {
+pub struct Link {
     stream: TcpStream,
     outbox: Outbox,
 }
@@ -22,7 +22,7 @@ impl Link {
     ///
     /// # Errors
     /// The system's.
-    pub(crate) fn new<R: System>(rt: &R, stream: TcpStream) -> Result<Link, Fault> {
+    pub fn new<R: System>(rt: &R, stream: TcpStream) -> Result<Link, Fault> {
         stream.set_nodelay(true)?;
         Ok(Link {
             stream,
@@ -34,12 +34,12 @@ impl Link {
     ///
     /// # Errors
     /// The system's, and [`Fault::NoRoom`].
-    pub(crate) fn send(&mut self, piece: &[u8], now: u64) -> Result<(), Fault> {
+    pub fn send(&mut self, piece: &[u8], now: u64) -> Result<(), Fault> {
         self.outbox.send(&mut &self.stream, piece, now)
     }
 
     /// Whether something waits to be written.
-    pub(crate) fn has_waiting(&self) -> bool {
+    pub fn has_waiting(&self) -> bool {
         !self.outbox.is_empty()
     }
 
@@ -47,7 +47,7 @@ impl Link {
     ///
     /// # Errors
     /// The system's.
-    pub(crate) fn flush(&mut self, now: u64) -> Result<bool, Fault> {
+    pub fn flush(&mut self, now: u64) -> Result<bool, Fault> {
         self.outbox.flush(&mut &self.stream, now)?;
         Ok(self.outbox.is_empty())
     }
@@ -57,7 +57,7 @@ impl Link {
     /// # Errors
     /// The system's, and [`Fault::TookNothing`] where the peer has taken nothing for 5 s.
     #[tactic(auto, using(crate::proofs::Come::bytes_come))]
-    pub(crate) fn receive(&mut self, buf: &mut [u8], now: u64) -> Result<Arrival, Fault>
+    pub fn receive(&mut self, buf: &mut [u8], now: u64) -> Result<Arrival, Fault>
         requires room { 0 < length buf.old }
         ensures fits { IfOk result (λ arrived. Fits arrived buf.new) }
         ensures within { may_come true (came_of result buf.new) ≡ true }
@@ -78,17 +78,17 @@ impl Link {
     }
 
     /// Whether the system tells that the connection was reset.
-    pub(crate) fn was_reset(&self) -> bool {
+    pub fn was_reset(&self) -> bool {
         !matches!(self.stream.take_error(), Ok(None))
     }
 
     /// Says that nothing more comes.
-    pub(crate) fn shut(&self) {
+    pub fn shut(&self) {
         let _ = self.stream.shutdown(Shutdown::Write); // where it fails the connection is gone
     }
 
     /// Reads off what is there, and answers whether the peer has ended its side.
-    pub(crate) fn drain(&self) -> bool {
+    pub fn drain(&self) -> bool {
         let mut buf = [0u8; 4096];
         for _ in 0..64u32 {
             match (&self.stream).read(&mut buf) {

@@ -3,7 +3,8 @@
 use crate::link::Link;
 use crate::system::System;
 use edge_parts::Fault;
-use edge_waits::{Reception, Standing, standing_of};
+use edge_waits::{Standing, first_in, standing_of};
+use frame_grammar::Framer;
 use mio::net::TcpStream;
 use std::alloc::AllocError;
 use std::net::SocketAddr;
@@ -14,11 +15,11 @@ const PIECE: usize = 4_096;
 
 /// A connection that waits for its Logon.
 #[derive(Drop)]
-pub(crate) struct Visitor {
-    pub(crate) link: Link,
-    pub(crate) from: SocketAddr,
+pub struct Visitor {
+    pub link: Link,
+    pub from: SocketAddr,
     /// What it has said.
-    pub(crate) heard: Vec<u8>,
+    pub heard: Vec<u8>,
     since: u64,
     is_closed: bool,
 }
@@ -28,7 +29,7 @@ impl Visitor {
     ///
     /// # Errors
     /// The system's.
-    pub(crate) fn new<R: System>(
+    pub fn new<R: System>(
         rt: &R,
         stream: TcpStream,
         from: SocketAddr,
@@ -63,13 +64,13 @@ impl Visitor {
     ///
     /// # Errors
     /// For want of memory alone.
-    pub(crate) fn listen(
+    pub fn listen(
         &mut self,
-        reception: &mut Reception,
+        framer: &mut Framer,
         now: u64,
     ) -> Result<(Standing, bool), AllocError> {
         let came = self.read(now)?;
-        let first = reception.first(&self.heard);
+        let first = first_in(framer, &self.heard);
         let waited = now.saturating_sub(self.since);
         let stands = standing_of(first, self.heard.len(), self.is_closed, waited);
         Ok((stands, came))

@@ -1,0 +1,16 @@
+//! One connection of the gateway over a socket: what waits to be written on it, its last words, and
+//! its wait for a Logon.
+//!
+//! What the system does with its calls is trusted: no clause can speak of it. Proved is that what
+//! comes on a connection is some bytes or its end, within the buffer, whatever the system answers.
+#![tactic(auto)]
+
+mod link;
+mod parting;
+mod system;
+mod visitor;
+
+pub use link::Link;
+pub use parting::{Parting, is_parted};
+pub use system::System;
+pub use visitor::Visitor;
