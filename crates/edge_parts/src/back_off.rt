@@ -25,10 +25,10 @@ pub enum Parted {
     Unheard,
 }
 
-/// When the venue is tried next: at once, then 1, 2, 4 .. 30 s after the last try that failed. After
-/// a connection: 1 s after an orderly Logout, at once where the session was active otherwise, 30 s
-/// where the venue refused it, and as after a try that failed where nothing came. Two tries begin at
-/// least a second apart.
+/// When the venue is tried next: at once, then 1, 2, 4 .. 30 s after the last try that failed.
+/// After a connection: 1 s after an orderly Logout, at once where the session was active otherwise,
+/// 30 s where the venue refused it, and as after a try that failed where nothing came. Two tries
+/// begin at least a second apart.
 #[derive(Debug, Drop)]
 pub struct BackOff {
     /// How many tries failed in a row, up to 6.

@@ -1,12 +1,13 @@
 -- Standard: FIX 4.2 and FIXT 1.1, "Message Format": a field is `tag=value`, ended by SOH.
-use Rattle.std.specs.Prelude.{ℕ, Bool, true, false, ◌==◌, List, [], ◌∷◌, ◌++◌, length, drop}
+use Rattle.std.specs.Prelude.{ℕ, ◌==◌, List, [], ◌∷◌, ◌++◌, length, drop}
 use Rattle.std.specs.Prelude.{Some, None, nat_eq, if◌then◌else◌}
 use Rattle.std.specs.declared.option.Option.{Option}
 use Rattle.std.specs.List.{starts_with}
 
 -- what a field says that begins with this name
 abbrev pub value_at : List ℕ → List ℕ → Option (List ℕ)
-value_at name field = if starts_with nat_eq field name then Some (drop (length name) field) else None
+value_at name field =
+    if starts_with nat_eq field name then Some (drop (length name) field) else None
 
 -- the first answer, where there is one
 abbrev pub or_else : Option (List ℕ) → Option (List ℕ) → Option (List ℕ)

@@ -1,8 +1,8 @@
 -- Own: how long a side whose numbers were too low is put off; docs/DECISIONS.md, "The edge".
 use Rattle.std.specs.Prelude.{ℕ, zero, suc, ◌*◌, ◌^◌, min}
 
--- the pause by how often in a row a number was too low, in milliseconds: 30 s, 60 s and so on, up to
--- 10 minutes
+-- the pause by how often in a row a number was too low, in milliseconds: 30 s, 60 s and so on, up
+-- to 10 minutes
 abbrev pub pause_of : ℕ → ℕ
 pause_of zero = 0
 pause_of (suc times) = min (30_000 * 2 ^ times) 600_000

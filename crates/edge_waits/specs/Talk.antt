@@ -8,8 +8,8 @@ use Rattle.edge_parts.specs.declared.back_off.Parted.{Parted}
 use Rattle.edge_parts.specs.declared.back_off.Parted.TheVariants as parted
 use Rattle.edge_waits.specs.Said.{too_low}
 
--- what came before a session stood, the text of the last Logout that the gateway said, and whether a
--- session stood
+-- what came before a session stood, the text of the last Logout that the gateway said, and whether
+-- a session stood
 pub record Spoken : Type 0 where
   pub heard : List ℕ
   pub farewell : Option (List ℕ)

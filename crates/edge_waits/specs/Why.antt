@@ -1,5 +1,5 @@
 -- Own: why a connection ended before a session stood, as a text; docs/DECISIONS.md, "The edge".
-use Rattle.std.specs.Prelude.{ℕ, Bool, true, false, ◌&&◌, ◌||◌, not, ◌/◌, List, [], ◌∷◌, ◌++◌, map, take}
+use Rattle.std.specs.Prelude.{ℕ, Bool, false, ◌&&◌, not, ◌/◌, List, [], ◌++◌, map, take}
 use Rattle.std.specs.Prelude.{Some, None, Ok, Err, codes, decimal, nat_le, pos, ◌-ℤ◌, unsigned_abs}
 use Rattle.std.specs.Prelude.{if◌then◌else◌, is_some}
 use Rattle.std.specs.declared.option.Option.{Option}

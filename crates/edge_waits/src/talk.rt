@@ -132,8 +132,8 @@ impl Talk {
         }
     }
 
-    /// Appends why the connection ended before a session stood. `now` is the moment, in milliseconds
-    /// since 1970-01-01 00:00 UTC.
+    /// Appends why the connection ended before a session stood. `now` is the moment, in
+    /// milliseconds since 1970-01-01 00:00 UTC.
     ///
     /// # Errors
     /// For want of memory alone.

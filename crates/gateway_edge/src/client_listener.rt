@@ -1,5 +1,5 @@
-//! The client's side: a port that is listened on, those who wait for their Logon, and one connection
-//! at a time that holds the client's place.
+//! The client's side: a port that is listened on, those who wait for their Logon, and one
+//! connection at a time that holds the client's place.
 
 ghost use Rattle.std.specs.Prelude.{◌≡◌, ◌<◌, ◌&&◌, length, false, is_ok, is_some, IfOk};
 ghost use Rattle.std.specs.Prelude.{None, true};
@@ -94,8 +94,7 @@ impl<'a, R: System, W: Write + Drop> ClientListener<'a, R, W> {
         self.teller.tell(self.rt, notice);
     }
 
-    // The connection has ended so: it says so, and where its numbers were too low the port is closed
-    // for a while.
+    // The connection has ended so. Where its numbers were too low the port is closed for a while.
     fn end(&mut self, ending: Ending<'_>)
         ensures { self.new.link ≡ self.old.link }
     {
@@ -123,7 +122,8 @@ impl<'a, R: System, W: Write + Drop> ClientListener<'a, R, W> {
     // Why a connection ended before a session stood.
     fn why(&self) -> Vec<u8> {
         let mut why = Vec::new(self.rt.alloc());
-        let _ = self.talk.put_why(&mut why, moment(self.rt).unwrap_or(0)); // what there was memory for
+        let now = moment(self.rt).unwrap_or(0);
+        let _ = self.talk.put_why(&mut why, now); // as far as there is memory
         why
     }
 

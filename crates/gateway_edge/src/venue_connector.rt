@@ -128,7 +128,8 @@ impl<'a, R: System, W: Write + Drop> VenueConnector<'a, R, W> {
     // Why a connection ended before a session stood.
     fn why(&self) -> Vec<u8> {
         let mut why = Vec::new(self.rt.alloc());
-        let _ = self.talk.put_why(&mut why, moment(self.rt).unwrap_or(0)); // what there was memory for
+        let now = moment(self.rt).unwrap_or(0);
+        let _ = self.talk.put_why(&mut why, now); // as far as there is memory
         why
     }
 
