@@ -1,3 +1,4 @@
+mod Parts
 mod Pieces
 mod Search
 mod Worked

@@ -30,10 +30,13 @@ abbrev pub low_of : Spoken → Option TooLow
 low_of spoken = low_in spoken.farewell
 
 -- A Logout without a text is the answer to one.
+abbrev pub parted_by : List ℕ → Parted
+parted_by [] = parted.InOrder
+parted_by (byte ∷ text) = parted.Active
+
 abbrev pub parted_behind : Option (List ℕ) → Parted
 parted_behind None = parted.Active
-parted_behind (Some []) = parted.InOrder
-parted_behind (Some (byte ∷ text)) = parted.Active
+parted_behind (Some text) = parted_by text
 
 -- how the connection ended, where the peer closed it in order, or not
 abbrev pub parted_of : Spoken → Bool → Parted

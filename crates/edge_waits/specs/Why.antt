@@ -55,13 +55,27 @@ wrong_time None now = wrong.Stamp
 abbrev pub wrong_of : Option (List ℕ) → Option (List ℕ) → ℕ → Wrong
 wrong_of number time now = if has_number number then wrong_time time now else wrong.Number
 
+-- what is said of it, before the seconds
+abbrev pub words_of : Wrong → List ℕ
+words_of wrong.Number = codes "; 34 is missing or no number"
+words_of wrong.Stamp = codes "; 52 is no UTC time in seconds or milliseconds"
+words_of (wrong.Clock seconds) = codes "; 52 is off by "
+words_of (wrong.NameOrClock seconds) = codes "; 49 or 56 is not as agreed, or 52 is off by "
+words_of wrong.Name = codes "; 49 or 56 is not as agreed"
+
+abbrev pub seconds_of : Wrong → Option ℕ
+seconds_of wrong.Number = None
+seconds_of wrong.Stamp = None
+seconds_of (wrong.Clock seconds) = Some seconds
+seconds_of (wrong.NameOrClock seconds) = Some seconds
+seconds_of wrong.Name = None
+
+abbrev pub seconds_text : Option ℕ → List ℕ
+seconds_text (Some seconds) = decimal seconds ++ codes " s"
+seconds_text None = []
+
 abbrev pub wrong_text : Wrong → List ℕ
-wrong_text wrong.Number = codes "; 34 is missing or no number"
-wrong_text wrong.Stamp = codes "; 52 is no UTC time in seconds or milliseconds"
-wrong_text (wrong.Clock seconds) = codes "; 52 is off by " ++ decimal seconds ++ codes " s"
-wrong_text (wrong.NameOrClock seconds) =
-    codes "; 49 or 56 is not as agreed, or 52 is off by " ++ decimal seconds ++ codes " s"
-wrong_text wrong.Name = codes "; 49 or 56 is not as agreed"
+wrong_text wrong = words_of wrong ++ seconds_text (seconds_of wrong)
 
 abbrev pub is_logon : Option (List ℕ) → Bool
 is_logon (Some kind) = bytes_eq kind (codes "A")

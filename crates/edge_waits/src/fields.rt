@@ -22,6 +22,7 @@ fn value_at<'a>(name: &[u8], field: &'a [u8]) -> Option<&'a [u8]>
 
 /// What the first field says that begins with this name, as `58=`, and has come whole, with the SOH
 /// behind it.
+#[tactic(auto, unfolding(crate::specs::Fields::value_in))]
 pub fn value_of<'a>(name: &[u8], bytes: &'a [u8]) -> Option<&'a [u8]>
     ensures { option_map (λ value. value.now) result ≡ value_in name.now bytes.now }
 {

@@ -1,8 +1,8 @@
 //! What came of a client before it had the place, to be handed on first.
 
-ghost use Rattle.std.specs.Prelude.{◌≡◌, length, take, drop, min, [], not};
-ghost use Rattle.edge_parts.specs.Outbox.{has_bytes};
+ghost use Rattle.std.specs.Prelude.{◌≡◌, ◌==◌, length, take, drop, min, []};
 
+use outside::fill;
 use std::alloc::Global;
 use std::marker::Model;
 
@@ -42,22 +42,28 @@ impl Held {
         Held { bytes, gone: 0 }
     }
 
+    /// How many bytes are left.
+    #[tactic(auto, using(crate::proofs::Parts::of_len))]
+    pub fn len(&self) -> usize
+        ensures { result ≡ length self.now }
+    {
+        self.bytes.len() - self.gone
+    }
+
     /// Whether nothing is left.
     pub fn is_empty(&self) -> bool
-        ensures { has_bytes self.now ≡ not result }
+        ensures { result ≡ (length self.now == 0) }
     {
-        self.gone == self.bytes.len()
+        self.len() == 0
     }
 
     /// Hands on a front, as far as the buffer has room, and answers how many bytes it has.
     pub fn hand_on(&mut self, buf: &mut [u8]) -> usize
-        ensures count { result ≡ min (length self.old) (length buf.old) }
+        ensures count { result ≡ min (length buf.old) (length self.old) }
         ensures given { take result buf.new ≡ take result self.old }
         ensures left { self.new ≡ drop result self.old }
     {
-        let rest = &self.bytes[self.gone..];
-        let count = rest.len().min(buf.len());
-        buf[..count].copy_from_slice(&rest[..count]);
+        let count = fill(buf, &self.bytes[self.gone..]);
         self.gone += count;
         count
     }

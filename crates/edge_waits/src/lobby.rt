@@ -1,6 +1,7 @@
 //! Who waits to be the client: whose first message is a whole Logon, and who has to go.
 
-ghost use Rattle.std.specs.Prelude.{◌≡◌, ◌==◌, ◌++◌, ◌∷◌, [], IfOk, length, is_some, nat_le, take};
+ghost use Rattle.std.specs.Prelude.{◌≡◌, ◌<◌, ◌==◌, ◌++◌, ◌∷◌, [], IfOk, length, is_some, nat_le};
+ghost use Rattle.std.specs.Prelude.{take};
 ghost use Rattle.std.specs.Option.{option_to_list};
 ghost use Rattle.frame_grammar.specs.Cut.{first_piece};
 ghost use Rattle.frame_grammar.specs.declared.buffer.TheConstants.{CAPACITY};
@@ -166,13 +167,29 @@ impl<V: Drop> Lobby<V> {
     }
 
     /// Takes out the one that has waited longest.
+    #[tactic(auto, using(crate::proofs::Parts::first_out))]
     pub fn take_oldest(&mut self) -> Option<V>
-        ensures { self.old ≡ option_to_list result ++ self.new }
+        ensures one { self.old ≡ option_to_list result ++ self.new }
+        ensures some { is_some result ≡ nat_le 1 (length self.old) }
     {
         if self.visitors.is_empty() {
             return None;
         }
         Some(self.visitors.remove(0))
+    }
+
+    // Takes out the one that has waited longest, where eight wait.
+    #[tactic(auto, using(crate::proofs::Parts::of_len))]
+    fn make_room(&mut self) -> Option<V>
+        ensures one { self.old ≡ option_to_list result ++ self.new }
+        ensures some { is_some result ≡ nat_le 8 (length self.old) }
+        ensures room { length self.new < 8 }
+    {
+        if self.visitors.len() >= LOBBY {
+            self.take_oldest()
+        } else {
+            None
+        }
     }
 
     /// Lets one more wait, and answers the one that has waited longest where eight wait already.
@@ -184,11 +201,7 @@ impl<V: Drop> Lobby<V> {
             option_to_list oldest ++ self.new ≡ self.old ++ visitor ∷ []) }
         ensures eight { IfOk result (λ oldest. is_some oldest ≡ nat_le 8 (length self.old)) }
     {
-        let oldest = if self.len() >= LOBBY {
-            self.take_oldest()
-        } else {
-            None
-        };
+        let oldest = self.make_room();
         self.visitors.push(visitor)?;
         Ok(oldest)
     }

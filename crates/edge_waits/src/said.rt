@@ -1,6 +1,6 @@
 //! What the gateway says by a Logout, of which the edge sees the bytes.
 
-ghost use Rattle.std.specs.Prelude.{◌≡◌, length, drop, codes, take_while};
+ghost use Rattle.std.specs.Prelude.{◌≡◌, ◌≤◌, length};
 ghost use Rattle.std.specs.List.{prefix_len};
 ghost use Rattle.std.specs.Char.{is_ascii_digit};
 ghost use Rattle.std.specs.Option.{option_map};
@@ -17,6 +17,7 @@ const TOO_LOW: &[u8] = b"MsgSeqNum too low, expecting ";
 const BUT: &[u8] = b" but received ";
 
 /// The Text(58) of a frame that is a Logout, empty where it has none; `None` of any other frame.
+#[tactic(auto, unfolding(crate::specs::Said::logout_text))]
 pub fn logout_text(frame: &[u8]) -> Option<&[u8]>
     ensures { option_map (λ text. text.now) result ≡ logout_text frame.now }
 {
@@ -31,7 +32,8 @@ pub fn logout_text(frame: &[u8]) -> Option<&[u8]>
 
 // How many digits the bytes begin with.
 fn digits(bytes: &[u8]) -> usize
-    ensures { result ≡ prefix_len is_ascii_digit bytes.now }
+    ensures value { result ≡ prefix_len is_ascii_digit bytes.now }
+    ensures within { result ≤ length bytes.now }
 {
     bytes
         .iter()
@@ -53,6 +55,7 @@ fn low_numbers(text: &[u8]) -> Option<TooLow>
 }
 
 /// The numbers that the text of a Logout names, where it says that the peer's number is too low.
+#[tactic(auto, unfolding(crate::specs::Said::too_low))]
 pub fn too_low(text: &[u8]) -> Option<TooLow>
     ensures { result ≡ too_low text.now }
 {

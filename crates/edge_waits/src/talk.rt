@@ -3,7 +3,7 @@
 ghost use Rattle.std.specs.Prelude.{◌≡◌, ◌++◌, [], OnOk, OnErr, IfOk, None, true, false};
 ghost use Rattle.edge_waits.specs.Said.{logout_text};
 ghost use Rattle.edge_waits.specs.Fields.{or_else};
-ghost use Rattle.edge_waits.specs.Talk.{heard_next, parted_of, low_of};
+ghost use Rattle.edge_waits.specs.Talk.{heard_next, parted_by, parted_of, low_of};
 ghost use Rattle.edge_waits.specs.Why.{why_text};
 
 use crate::said::{logout_text, too_low};
@@ -45,6 +45,16 @@ fn copy(alloc: Global, text: &[u8]) -> Result<Vec<u8>, AllocError>
     let mut copy = Vec::new(alloc);
     copy.extend_from_slice(text)?;
     Ok(copy)
+}
+
+// How a session ended behind a Logout with this text.
+fn parted_by(text: &[u8]) -> Parted
+    ensures { result ≡ parted_by text.now }
+{
+    match text {
+        [] => Parted::InOrder,
+        _ => Parted::Active,
+    }
 }
 
 impl Talk {
@@ -122,8 +132,8 @@ impl Talk {
     {
         if self.is_active {
             match &self.farewell {
-                Some(text) if text.is_empty() => Parted::InOrder,
-                _ => Parted::Active,
+                Some(text) => parted_by(text.as_slice()),
+                None => Parted::Active,
             }
         } else if was_closed || !self.heard.is_empty() {
             Parted::Refused

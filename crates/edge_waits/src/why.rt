@@ -4,7 +4,8 @@ ghost use Rattle.std.specs.Prelude.{◌≡◌, ◌++◌, map, take, decimal, OnO
 ghost use Rattle.std.specs.Option.{option_map};
 ghost use Rattle.edge_waits.specs.Fields.{value_in};
 ghost use Rattle.edge_waits.specs.Why.{shown, shown_field, off_by, has_number, wrong_of};
-ghost use Rattle.edge_waits.specs.Why.{wrong_by, wrong_text, told_text, fault_text, why_text};
+ghost use Rattle.edge_waits.specs.Why.{wrong_by, words_of, seconds_of, seconds_text, wrong_text};
+ghost use Rattle.edge_waits.specs.Why.{is_logon, is_new_logon, told_text, fault_text, why_text};
 
 use crate::fields::value_of;
 use itoa::Buffer;
@@ -45,11 +46,20 @@ fn shown(byte: u8) -> u8
     }
 }
 
-// Appends a front of a text as it is shown.
-fn put_shown(out: &mut Vec<u8>, text: &[u8]) -> Result<(), AllocError>
-    ensures { OnOk result (out.new.items ≡ out.old.items ++ map shown (take 256 text.now)) }
+// The front of a text that is shown.
+#[tactic(auto, using(crate::proofs::Parts::front_is))]
+fn front(text: &[u8]) -> &[u8]
+    ensures { result.now ≡ take 256 text.now }
 {
-    for byte in &text[..text.len().min(SHOWN)] {
+    let count = text.len().min(SHOWN);
+    &text[..count]
+}
+
+// Appends a text as it is shown.
+fn put_shown(out: &mut Vec<u8>, text: &[u8]) -> Result<(), AllocError>
+    ensures { OnOk result (out.new.items ≡ out.old.items ++ map shown text.now) }
+{
+    for byte in text {
         out.push(shown(*byte))?;
     }
     Ok(())
@@ -63,7 +73,7 @@ fn put_field(out: &mut Vec<u8>, name: &[u8], heard: &[u8]) -> Result<(), AllocEr
     if let Some(value) = value_of(name, heard) {
         out.extend_from_slice(b" ")?;
         out.extend_from_slice(name)?;
-        put_shown(out, value)?;
+        put_shown(out, front(value))?;
     }
     Ok(())
 }
@@ -126,33 +136,71 @@ fn wrong_of(number: Option<&[u8]>, time: Option<&[u8]>, now: u64) -> Wrong
     }
 }
 
+// What is said of it, before the seconds.
+fn words_of(wrong: Wrong) -> &'static [u8]
+    ensures { result.now ≡ words_of wrong }
+{
+    match wrong {
+        Wrong::Number => b"; 34 is missing or no number",
+        Wrong::Stamp => b"; 52 is no UTC time in seconds or milliseconds",
+        Wrong::Clock(_) => b"; 52 is off by ",
+        Wrong::NameOrClock(_) => b"; 49 or 56 is not as agreed, or 52 is off by ",
+        Wrong::Name => b"; 49 or 56 is not as agreed",
+    }
+}
+
+// The seconds.
+fn seconds_of(wrong: Wrong) -> Option<u128>
+    ensures { result ≡ seconds_of wrong }
+{
+    match wrong {
+        Wrong::Clock(seconds) => Some(seconds),
+        Wrong::NameOrClock(seconds) => Some(seconds),
+        _ => None,
+    }
+}
+
+// Appends the seconds.
+fn put_seconds(out: &mut Vec<u8>, seconds: Option<u128>) -> Result<(), AllocError>
+    ensures { OnOk result (out.new.items ≡ out.old.items ++ seconds_text seconds) }
+{
+    if let Some(seconds) = seconds {
+        put_number(out, seconds)?;
+        out.extend_from_slice(b" s")?;
+    }
+    Ok(())
+}
+
 // Appends what is wrong.
 fn put_wrong(out: &mut Vec<u8>, wrong: Wrong) -> Result<(), AllocError>
     ensures { OnOk result (out.new.items ≡ out.old.items ++ wrong_text wrong) }
 {
-    match wrong {
-        Wrong::Number => out.extend_from_slice(b"; 34 is missing or no number")?,
-        Wrong::Stamp => out.extend_from_slice(b"; 52 is no UTC time in seconds or milliseconds")?,
-        Wrong::Clock(seconds) => {
-            out.extend_from_slice(b"; 52 is off by ")?;
-            put_number(out, seconds)?;
-            out.extend_from_slice(b" s")?;
-        }
-        Wrong::NameOrClock(seconds) => {
-            out.extend_from_slice(b"; 49 or 56 is not as agreed, or 52 is off by ")?;
-            put_number(out, seconds)?;
-            out.extend_from_slice(b" s")?;
-        }
-        Wrong::Name => out.extend_from_slice(b"; 49 or 56 is not as agreed")?,
+    out.extend_from_slice(words_of(wrong))?;
+    put_seconds(out, seconds_of(wrong))
+}
+
+// Whether a message of this type is a Logon.
+fn is_logon(kind: Option<&[u8]>) -> bool
+    ensures { result ≡ is_logon (option_map (λ kind. kind.now) kind.entry) }
+{
+    match kind {
+        Some(b"A") => true,
+        _ => false,
     }
-    Ok(())
+}
+
+// Whether a Logon came that is no repeat.
+fn is_new_logon(heard: &[u8]) -> bool
+    ensures { result ≡ is_new_logon heard.now }
+{
+    is_logon(value_of(b"35=", heard)) && value_of(b"43=", heard).is_none()
 }
 
 // Appends what is wrong in what came, where that is a Logon that is no repeat.
 fn put_fault(out: &mut Vec<u8>, heard: &[u8], now: u64) -> Result<(), AllocError>
     ensures { OnOk result (out.new.items ≡ out.old.items ++ fault_text heard.now now) }
 {
-    if value_of(b"35=", heard) != Some(b"A".as_slice()) || value_of(b"43=", heard).is_some() {
+    if !is_new_logon(heard) {
         return Ok(());
     }
     put_field(out, b"49=", heard)?;
@@ -176,7 +224,7 @@ fn put_told(
     match farewell {
         Some(text) => {
             out.extend_from_slice(b"; it was told Logout ")?;
-            put_shown(out, text)
+            put_shown(out, front(text))
         }
         None => put_fault(out, heard, now),
     }

@@ -1,0 +1,7 @@
+use Rattle.std.proofs.Common.{◌≡◌, ◌++◌, map, take}
+use Rattle.edge_waits.specs.Why.{shown}
+use Rattle.edge_waits.proofs.why.put_shown.Given as goal
+
+abbrev pub invariant-loop-byte : goal.invariant-loop-byte
+invariant-loop-byte l =
+    l.out.items ≡ l.fn.out.items ++ map shown (take l.byte-index l.text)
