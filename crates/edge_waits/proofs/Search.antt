@@ -1,7 +1,9 @@
 -- One byte further in the search for a field.
 use Rattle.std.proofs.Common.{◌≡◌, ℕ, ◌+◌, ◌-◌, ◌<◌, ◌≤◌, List, [], ◌∷◌, ◌++◌, length, take, drop}
 use Rattle.std.proofs.Common.{slice_range, true, false, eqb, get_or, Some, None}
-use Rattle.std.proofs.Common.{refl, sym, ap, ◌∙◌, arith, length-drop}
+use Rattle.std.proofs.Common.{refl, sym, ap, ◌∙◌, arith, length-drop, is_some}
+use Rattle.std.specs.declared.option.Option.{Option}
+use Rattle.std.specs.Option.{option_map}
 use Rattle.std.proofs.lemmas.List.{drop_more, take_more, get_or-drop}
 use Rattle.edge_waits.specs.Fields.{value_at, value_behind, or_else}
 
@@ -27,20 +29,25 @@ part_none : (bytes : List ℕ) (at : ℕ) → slice_range bytes at at ≡ []
 part_none bytes at = let none : at - at ≡ 0 = omega arith in rw none refl
 
 -- the field that ends here has the name
-pub found_here : (name bytes value : List ℕ) (start at : ℕ) → at < length bytes
-    → get_or bytes at 0 ≡ 1 → value_at name (slice_range bytes start at) ≡ Some value
-    → value_behind name (slice_range bytes start at) (drop at bytes) ≡ Some value
-found_here name bytes value start at within is found =
-    here name (slice_range bytes start at) bytes at within ∙ rw (is, found) refl
+pub found_here : {X : Type 0} (f : X → List ℕ) (o : Option X) (name bytes : List ℕ)
+    (start at : ℕ) → at < length bytes → get_or bytes at 0 ≡ 1
+    → option_map f o ≡ value_at name (slice_range bytes start at) → is_some o ≡ true
+    → option_map f o ≡ value_behind name (slice_range bytes start at) (drop at bytes)
+found_here f None name bytes start at within is said some = absurd cc
+found_here f (Some x) name bytes start at within is said some =
+    said ∙ sym (here name (slice_range bytes start at) bytes at within
+    ∙ rw (is, sym said) refl)
 
 -- it has another
-pub next_field : (name bytes : List ℕ) (start at : ℕ) → at < length bytes
-    → get_or bytes at 0 ≡ 1 → value_at name (slice_range bytes start at) ≡ None
+pub next_field : {X : Type 0} (f : X → List ℕ) (o : Option X) (name bytes : List ℕ)
+    (start at : ℕ) → at < length bytes → get_or bytes at 0 ≡ 1
+    → option_map f o ≡ value_at name (slice_range bytes start at) → is_some o ≡ false
     → value_behind name (slice_range bytes start at) (drop at bytes)
     ≡ value_behind name (slice_range bytes (at + 1) (at + 1)) (drop (at + 1) bytes)
-next_field name bytes start at within is none =
+next_field f (Some x) name bytes start at within is said none = absurd cc
+next_field f None name bytes start at within is said none =
     here name (slice_range bytes start at) bytes at within
-    ∙ rw (is, none) (ap (λ front. value_behind name front (drop (at + 1) bytes))
+    ∙ rw (is, sym said) (ap (λ front. value_behind name front (drop (at + 1) bytes))
     (sym (part_none bytes (at + 1))))
 
 -- no field ends here

@@ -1,18 +1,15 @@
 //! A field of what came, by its tag.
 
-ghost use Rattle.std.specs.Prelude.{◌≡◌, length, drop, if◌then◌else◌, Some, None, nat_eq};
-ghost use Rattle.std.specs.List.{starts_with};
+ghost use Rattle.std.specs.Prelude.{◌≡◌};
 ghost use Rattle.std.specs.Option.{option_map};
-ghost use Rattle.edge_waits.specs.Fields.{value_in};
+ghost use Rattle.edge_waits.specs.Fields.{value_at, value_in};
 
 /// The byte that ends a field.
 const SOH: u8 = 1;
 
 // What a field says, where it begins so.
 fn value_at<'a>(name: &[u8], field: &'a [u8]) -> Option<&'a [u8]>
-    ensures { option_map (λ value. value.now) result
-        ≡ (if starts_with nat_eq field.now name.now
-        then Some (drop (length name.now) field.now) else None) }
+    ensures { option_map (λ value. value.now) result ≡ value_at name.now field.now }
 {
     if field.starts_with(name) {
         return Some(&field[name.len()..]);

@@ -384,20 +384,20 @@ impl<'a, R: System, W: Write + Drop> ClientListener<'a, R, W> {
 
     // Hands on what the client said before it had the place.
     #[tactic(auto, using(edge_links::proofs::Come::bytes_come))]
-    fn hand_on(&mut self, link: Link, buf: &mut [u8]) -> Arrival
+    fn hand_on(&mut self, link: Link, buf: &mut [u8]) -> Result<Arrival, Fault>
         requires link { self.old.link ≡ None }
         requires room { 0 < length buf.old }
-        ensures fits { Fits result buf.new }
-        ensures order { InOrder true (is_some self.new.link) (Ok {E = Fault} result) buf.new }
+        ensures fits { IfOk result (λ arrived. Fits arrived buf.new) }
+        ensures order { InOrder true (is_some self.new.link) result buf.new }
     {
         let count = self.held.hand_on(buf);
         self.shared.note_activity();
         let _ = self.talk.hear(&buf[..count]); // what there is no memory for is not told
         self.link = Some(link);
         if count == 0 {
-            return Arrival::Nothing;
+            return Ok(Arrival::Nothing);
         }
-        Arrival::Bytes(count)
+        Ok(Arrival::Bytes(count))
     }
 
     // The connection stands behind its Logon.
@@ -418,7 +418,7 @@ impl<'a, R: System, W: Write + Drop> ClientListener<'a, R, W> {
         ensures order { InOrder true (is_some self.new.link) result buf.new }
     {
         if !self.held.is_empty() {
-            return Ok(self.hand_on(link, buf));
+            return self.hand_on(link, buf);
         }
         self.stand();
         match link.receive(buf, ticks(self.rt)) {
