@@ -1,12 +1,11 @@
 -- Worked rows of a drill, by computation alone.
 use Rattle.std.proofs.Common.{◌≡◌, ℕ, List, [], ◌∷◌, ◌++◌, map, refl}
-use Rattle.std.specs.Prelude.{codes}
+use Rattle.std.specs.Prelude.{◌==◌, if◌then◌else◌, codes}
 use Rattle.std.specs.Fmt.{digits}
 use Rattle.order_meaning.specs.declared.Side.{Side}
 use Rattle.order_meaning.specs.declared.Side.TheVariants.{Client, Venue}
 use Rattle.capture_text.specs.declared.capture.Event.{Event}
 use Rattle.capture_text.specs.declared.capture.Event.TheVariants as event
-use Rattle.capture_text.specs.Capture.{written}
 use Rattle.drill_day.specs.declared.order.OrderKind.TheVariants.{Filled, Busted}
 use Rattle.drill_day.specs.Drill.{next, orders_from, kinds_of, drill_events}
 
@@ -32,8 +31,11 @@ still = refl
 
 -- The life of four orders from 7 on, one of each kind; `|` stands for SOH. The draws and the
 -- messages were computed apart from these definitions.
+abbrev soh : ℕ → ℕ
+soh byte = if byte == 124 then 1 else byte
+
 abbrev frame : Side → List ℕ → Event
-frame side body = event.Frame side (map written body)
+frame side body = event.Frame side (map soh body)
 
 life : drill_events 7 4
     ≡ event.At 1704189600000 ∷ event.Opened Venue

@@ -43,7 +43,7 @@ fn numbers(next_in: u32, next_out: u32) -> Option<Numbers> {
 fn ask(top: &str, since: &str) -> Option<Ask> {
     Some(Ask {
         top: number(top)?,
-        since: moment(since)?,
+        since: long_number(since)?,
     })
 }
 
