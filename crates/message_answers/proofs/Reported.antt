@@ -47,14 +47,13 @@ use Rattle.message_answers.proofs.Joins.{joins_report}
 -- ---- an execution report
 
 report_goes : (any : AnyKnown) (a : GivenAsked) (m : Report50) (r : Report42)
-    (content : List ℕ) (answer : GivenAnswer) → readable42.IsReadableReport r → IsMapped m r
+    (answer : GivenAnswer) → readable42.IsReadableReport r → IsMapped m r
     → readable50.IsReadableReport m → IsWritten m r
     → report42 (said42.report_says r) ≡ report50 (report_says m)
-    → content ≡ body_of (report_content r)
-    → IsForwarded a (codes "8") m.resend content None answer
+    → IsForwarded a (codes "8") m.resend (body_of (report_content r)) None answer
     → IsSpelled a Venue (original_of any (report_says m)) (report_says m)
     (lack_of_report any (report_says m)) None answer
-report_goes any a m r content answer readable mapped told rows means same forwarded =
+report_goes any a m r answer readable mapped told rows means forwarded =
     Goes (report_content r) (lacks_nothing any m r means) (inl (record {
       venue = m;
       said = refl;
@@ -66,8 +65,7 @@ report_goes any a m r content answer readable mapped told rows means same forwar
       means = means;
       content = refl;
     }))
-    (subst (λ (bytes : List ℕ). IsForwarded a (codes "8") m.resend bytes None answer) same
-    forwarded)
+    forwarded
 
 report_lacks : (any : AnyKnown) (a : GivenAsked) (m : Report50) (lack : Lack)
     (answer : GivenAnswer)
@@ -83,16 +81,15 @@ report_lacks any a m (lacks.Tag tag) answer read lacking is =
 
 -- where the last step answers at all
 pub report_sent : {E : Type 0} (any : AnyKnown) (a : GivenAsked) (m : Report50) (r : Report42)
-    (content : List ℕ) (result : Result GivenAnswer E) → readable42.IsReadableReport r
+    (result : Result GivenAnswer E) → readable42.IsReadableReport r
     → IsMapped m r → readable50.IsReadableReport m → IsWritten m r
     → report42 (said42.report_says r) ≡ report50 (report_says m)
-    → content ≡ body_of (report_content r)
-    → IfOk result (IsForwarded a (codes "8") m.resend content None)
+    → IfOk result (IsForwarded a (codes "8") m.resend (body_of (report_content r)) None)
     → IfOk result (IsSpelled a Venue (original_of any (report_says m)) (report_says m)
     (lack_of_report any (report_says m)) None)
-report_sent any a m r content (Ok answer) readable mapped told rows means same forwarded =
-    report_goes any a m r content answer readable mapped told rows means same forwarded
-report_sent any a m r content (Err error) readable mapped told rows means same forwarded = tt
+report_sent any a m r (Ok answer) readable mapped told rows means forwarded =
+    report_goes any a m r answer readable mapped told rows means forwarded
+report_sent any a m r (Err error) readable mapped told rows means forwarded = tt
 
 pub report_refused : {E : Type 0} (any : AnyKnown) (a : GivenAsked) (m : Report50) (lack : Lack)
     (result : Result GivenAnswer E)
@@ -108,17 +105,16 @@ report_refused any a m lack (Err error) read lacking is = tt
 
 module _ (k : GivenKnown) (a : GivenAsked) (m : CancelReject50) (orig : Option (List ℕ))
     (known : orig ≡ original_of (known_in k) (cancel_reject_says m)) where
-  reject_goes : (r : CancelReject42) (content : List ℕ) (answer : GivenAnswer)
+  reject_goes : (r : CancelReject42) (answer : GivenAnswer)
       → readable42.IsReadableCancelReject r → r.ord_status ≡ m.ord_status
       → readable50.IsReadableCancelReject m → IsWrittenReject m r.orig_id r
       → report42 (said42.cancel_reject_says r)
       ≡ option_map (filled orig) (report50 (cancel_reject_says m))
       → or_known m.orig_id orig ≡ Some r.orig_id
-      → content ≡ body_of (cancel_reject_content r)
-      → IsForwarded a (codes "9") m.resend content None answer
+      → IsForwarded a (codes "9") m.resend (body_of (cancel_reject_content r)) None answer
       → IsSpelled a Venue (original_of (known_in k) (cancel_reject_says m)) (cancel_reject_says m)
       (lack_of_report (known_in k) (cancel_reject_says m)) None answer
-  reject_goes r content answer readable status read rows means told same forwarded =
+  reject_goes r answer readable status read rows means told forwarded =
       Goes (cancel_reject_content r)
       (has_original (known_in k) m r.orig_id
       (ap (or_known m.orig_id) (sym known) ∙ told))
@@ -135,8 +131,7 @@ module _ (k : GivenKnown) (a : GivenAsked) (m : CancelReject50) (orig : Option (
             option_map (filled o) (report50 (cancel_reject_says m))) known;
         content = refl;
       }))
-      (subst (λ (bytes : List ℕ). IsForwarded a (codes "9") m.resend bytes None answer) same
-      forwarded)
+      forwarded
 
   reject_lacks : (lack : Lack) (answer : GivenAnswer) → LacksOriginal m.orig_id orig lack
       → IsLacking a lack answer
@@ -148,20 +143,19 @@ module _ (k : GivenKnown) (a : GivenAsked) (m : CancelReject50) (orig : Option (
       (lacks_original (known_in k) m lacking.1 (sym known ∙ lacking.2)
       ∙ ap (λ (t : ℕ). Some t) (sym lacking.0)) is
 
-  pub reject_sent : {E : Type 0} (r : CancelReject42) (content : List ℕ)
+  pub reject_sent : {E : Type 0} (r : CancelReject42)
       (result : Result GivenAnswer E) → readable42.IsReadableCancelReject r
       → r.ord_status ≡ m.ord_status
       → readable50.IsReadableCancelReject m → IsWrittenReject m r.orig_id r
       → report42 (said42.cancel_reject_says r)
       ≡ option_map (filled orig) (report50 (cancel_reject_says m))
       → or_known m.orig_id orig ≡ Some r.orig_id
-      → content ≡ body_of (cancel_reject_content r)
-      → IfOk result (IsForwarded a (codes "9") m.resend content None)
+      → IfOk result (IsForwarded a (codes "9") m.resend (body_of (cancel_reject_content r)) None)
       → IfOk result (IsSpelled a Venue (original_of (known_in k) (cancel_reject_says m))
       (cancel_reject_says m) (lack_of_report (known_in k) (cancel_reject_says m)) None)
-  reject_sent r content (Ok answer) readable status read rows means told same forwarded =
-      reject_goes r content answer readable status read rows means told same forwarded
-  reject_sent r content (Err error) readable status read rows means told same forwarded = tt
+  reject_sent r (Ok answer) readable status read rows means told forwarded =
+      reject_goes r answer readable status read rows means told forwarded
+  reject_sent r (Err error) readable status read rows means told forwarded = tt
 
   pub reject_refused : {E : Type 0} (lack : Lack) (result : Result GivenAnswer E)
       → LacksOriginal m.orig_id orig lack → IfOk result (IsLacking a lack)

@@ -12,7 +12,7 @@ ghost use Rattle.message_answers.specs.Answer.{lack_of_report, original_of};
 ghost use Rattle.message_answers.specs.Known.{Known as AnyKnown};
 ghost use Rattle.message_answers.specs.Message.{is_refusal_type};
 ghost use Rattle.message_answers.specs.Seen.{IsSplit, IsAnswer, Joins, IsSpelled, known_in};
-ghost use Rattle.message_answers.specs.Seen.{IsFitAnswer};
+ghost use Rattle.message_answers.specs.Seen.{IsFitAnswer, IsForwarded};
 
 use crate::answer::{Answer, forwarded, lacking, refused};
 use crate::asking::{Asked, Known};
@@ -42,6 +42,38 @@ fn reject_content(alloc: Global, reject: &CancelReject42) -> Result<Vec<u8>, All
     Ok(content)
 }
 
+/// An Execution Report(8) goes on in the form of FIX 4.2.
+fn report_sent(
+    alloc: Global,
+    asked: &Asked<'_>,
+    resend: bool,
+    written: &Report42,
+) -> Result<Answer, AllocError>
+    requires { readable42.IsReadableReport written.now }
+    ensures forwarded { IfOk result (IsForwarded asked.now (codes "8") resend
+        (body_of (report_content written.now)) None) }
+    ensures fit { IfOk result IsFitAnswer }
+{
+    let content = report_content(alloc, written)?;
+    forwarded(alloc, asked, b"8", resend, &content, None)
+}
+
+/// An Order Cancel Reject(9) goes on in the form of FIX 4.2.
+fn reject_sent(
+    alloc: Global,
+    asked: &Asked<'_>,
+    resend: bool,
+    written: &CancelReject42,
+) -> Result<Answer, AllocError>
+    requires { readable42.IsReadableCancelReject written.now }
+    ensures forwarded { IfOk result (IsForwarded asked.now (codes "9") resend
+        (body_of (cancel_reject_content written.now)) None) }
+    ensures fit { IfOk result IsFitAnswer }
+{
+    let content = reject_content(alloc, written)?;
+    forwarded(alloc, asked, b"9", resend, &content, None)
+}
+
 /// An Execution Report(8) goes on, or has no counterpart, whatever is known.
 fn executed(alloc: Global, asked: &Asked<'_>, report: &Report50) -> Result<Answer, AllocError>
     requires readable { IsReadableReport report.now }
@@ -53,10 +85,7 @@ fn executed(alloc: Global, asked: &Asked<'_>, report: &Report50) -> Result<Answe
     ensures fit { IfOk result IsFitAnswer }
 {
     match down_report(alloc, report) {
-        Ok(written) => {
-            let content = report_content(alloc, &written)?;
-            forwarded(alloc, asked, b"8", report.resend, &content, None)
-        }
+        Ok(written) => report_sent(alloc, asked, report.resend, &written),
         Err(lack) => lacking(alloc, asked, lack),
     }
 }
@@ -78,10 +107,7 @@ fn not_canceled(
 {
     let original = known.chains.orig_of(reject.cl_ord_id.as_slice());
     match down_cancel_reject(alloc, reject, original) {
-        Ok(written) => {
-            let content = reject_content(alloc, &written)?;
-            forwarded(alloc, asked, b"9", reject.resend, &content, None)
-        }
+        Ok(written) => reject_sent(alloc, asked, reject.resend, &written),
         Err(lack) => lacking(alloc, asked, lack),
     }
 }
