@@ -1,9 +1,10 @@
-//! What the journal's file needs beside the file: its counts, why a call on it failed, and the
-//! lines of that.
+//! What the journal's file needs beside the file: how it may begin, its counts, why a call on it
+//! failed, and the lines of that.
 
 ghost use Rattle.std.specs.Prelude.{◌≡◌, ◌++◌, IfOk, MatchResult, IsErr, codes, string_bytes};
 ghost use Rattle.std.specs.Io.{ReadsAtMost};
 ghost use Rattle.outside.specs.Causes.{HasCause, next_count, faults_after};
+ghost use Rattle.edge_parts.specs.Head.{may_be_journal};
 ghost use Rattle.edge_parts.specs.declared.journal.Denial.TheVariants as denial;
 
 use outside::Failed;
@@ -13,6 +14,21 @@ use std::marker::Model;
 use std::os::unix::fs::FileExt;
 use std::path::Path;
 use std::{fmt, io};
+
+/// How many bytes of a file [`may_be_journal`] looks at.
+pub const HEAD: usize = 16;
+
+/// What every journal has behind its first byte: the length of its birth record, and its name.
+const BIRTH: &[u8] = b"\x00\x00\x00\x9bFIXGATEWAY1";
+
+/// Whether a file that begins so may be a journal, or what a crash left of the birth of one. Such a
+/// birth writes byte 0 first, and byte 1 over it once the record behind it is stable; so a file of
+/// two bytes or more that begins with neither is one only where that record stands behind.
+pub fn may_be_journal(head: &[u8]) -> bool
+    ensures { result ≡ may_be_journal head.now }
+{
+    head.len() <= 1 || head[0] <= 1 || head[1..].starts_with(BIRTH)
+}
 
 /// Why a gateway cannot have its journal. Its `Display` is the line, without its LF.
 #[derive(Clone, Copy, Debug)]
@@ -85,6 +101,8 @@ pub fn fill<F: FileExt>(file: &F, at: u64, buf: &mut [u8]) -> io::Result<usize>
 pub enum Denial {
     /// Another process has locked the file.
     InUse,
+    /// The file holds something else.
+    NoJournal,
     /// The system's reason.
     System(io::Error),
 }
@@ -105,9 +123,17 @@ impl Denial {
     pub fn line(&self, alloc: Global, path: &str) -> Result<String, AllocError>
         ensures in_use { self.now ≡ denial.InUse → IfOk result (λ line. string_bytes line
             ≡ codes "fixgate: journal " ++ path.now ++ codes " is in use") }
+        ensures no_journal { self.now ≡ denial.NoJournal → IfOk result (λ line. string_bytes line
+            ≡ codes "fixgate: journal " ++ path.now
+            ++ codes ": is no journal: it begins with neither byte 0 nor byte 1") }
     {
         match self {
             Denial::InUse => format!(in alloc; "fixgate: journal {path} is in use"),
+            Denial::NoJournal => {
+                format!(in alloc;
+                    "fixgate: journal {path}: is no journal: it begins with neither byte 0 nor byte 1"
+                )
+            }
             Denial::System(error) => {
                 let reason = format!(in alloc; "{error}")?;
                 let refusal = Refusal::Failed(path, reason.as_str());

@@ -28,10 +28,10 @@ pub use clocks::{moment, ticks};
 pub use counted::{Counted, Peer};
 pub use end_time::{LONG_END, ROUNDS_A_SECOND, long_end};
 pub use fault::Fault;
-pub use journal::{Denial, Refusal, Tally, fill, folder, stop_path};
+pub use journal::{Denial, HEAD, Refusal, Tally, fill, folder, may_be_journal, stop_path};
 pub use logon_mark::LogonMark;
 pub use notice::{
-    ClosedNth, Ending, Lost, Missed, NextTry, Notice, PeerName, RefusedNth, TooLow, line,
+    ClosedNth, Ending, Lost, Missed, NextTry, Notice, PeerName, RefusedNth, TooLow, line, put_stamp,
 };
 pub use outbox::{Outbox, ROOM};
 pub use pace::Pace;

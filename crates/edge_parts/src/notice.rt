@@ -1,9 +1,10 @@
 //! What the lines for the operator say.
 
-ghost use Rattle.std.specs.Prelude.{◌≡◌, ◌++◌, IfOk, ◌/◌, ◌+◌};
+ghost use Rattle.std.specs.Prelude.{◌≡◌, ◌++◌, IfOk, OnOk, ◌/◌, ◌+◌, codes, min};
+ghost use Rattle.typed_fields.specs.Stamp.{stamp_text, stamp_at};
 ghost use Rattle.edge_parts.specs.Notice.{line_text};
 
-use std::alloc::Global;
+use std::alloc::{AllocError, Global};
 use std::io::Write;
 use std::net::SocketAddr;
 use std::{fmt, io};
@@ -242,6 +243,20 @@ impl fmt::Display for Lost {
             lost => write!(f, " ({lost} lines before this were lost)"),
         }
     }
+}
+
+/// Appends a moment in milliseconds since 1970-01-01 00:00 UTC, as each line begins: a UTCTimestamp
+/// and a blank.
+///
+/// # Errors
+/// For want of memory alone.
+pub fn put_stamp(lines: &mut Vec<u8>, moment: u64) -> Result<(), AllocError>
+    ensures { OnOk result (lines.new.items
+        ≡ lines.old.items ++ stamp_text (stamp_at (min moment 4_102_444_799_999)) ++ codes " ") }
+{
+    lines.extend_from_slice(&Stamp::text_of_millis(moment.min(MAX_MILLIS)))?;
+    lines.extend_from_slice(b" ")?;
+    Ok(())
 }
 
 /// The line of a notice at a moment in milliseconds since 1970-01-01 00:00 UTC, with the number of

@@ -1,9 +1,9 @@
-//! The journal's file: made for its owner alone, and locked for this process.
+//! The journal's file: made for its owner alone, or only read, and locked for this process.
 
 ghost use Rattle.std.specs.Prelude.{◌≡◌, None};
 ghost use Rattle.std.specs.Io.{ReadsAtMost};
 
-use edge_parts::{Denial, Tally, fill, folder};
+use edge_parts::{Denial, HEAD, Tally, fill, folder, may_be_journal};
 use outside::{Disk, Failed};
 use std::alloc::{AllocError, Global};
 use std::fs::{File, OpenOptions, TryLockError};
@@ -14,11 +14,21 @@ use std::{io, mem};
 /// The owner may read and write, and nobody else.
 const OWNER_ALONE: u32 = 0o600;
 
+/// What the file is opened for.
+#[derive(Clone, Copy, Debug, PartialEq, Eq)]
+enum Access {
+    /// To be read and written. It is made where it is not there.
+    Write,
+    /// To be read alone.
+    Read,
+}
+
 // The file, opened at the first call that needs it.
 #[derive(Drop)]
 struct Lazy<'a, R: Files<File = File>> {
     rt: &'a R,
     path: &'a str,
+    access: Access,
     file: Option<File>,
 }
 
@@ -54,10 +64,31 @@ fn settle<R: Files<File = File>>(rt: &R, path: &str, file: &File) -> io::Result<
     File::open(rt, folder(path))?.sync_all()
 }
 
-fn open<R: Files<File = File>>(rt: &R, path: &str) -> Result<File, Denial> {
+// Refuses a file that can be no journal, before anything is written to it.
+fn judge(file: &File) -> Result<(), Denial> {
+    let mut head = [0u8; HEAD];
+    let count = fill(file, 0, &mut head)?;
+    if may_be_journal(&head[..count]) {
+        Ok(())
+    } else {
+        Err(Denial::NoJournal)
+    }
+}
+
+// The file as one that is written.
+fn open_to_write<R: Files<File = File>>(rt: &R, path: &str) -> Result<File, Denial> {
     let file = make(rt, path)?;
     lock(&file)?;
+    judge(&file)?;
     settle(rt, path, &file)?;
+    Ok(file)
+}
+
+// The file as one that is only read: it is not made, and need not be writable.
+fn open_to_read<R: Files<File = File>>(rt: &R, path: &str) -> Result<File, Denial> {
+    let file = File::open(rt, path)?;
+    lock(&file)?;
+    judge(&file)?;
     Ok(file)
 }
 
@@ -66,7 +97,10 @@ impl<'a, R: Files<File = File>> Lazy<'a, R> {
     fn file(&mut self) -> Result<&File, Denial> {
         let file = match mem::replace(&mut self.file, None) {
             Some(file) => file,
-            None => open(self.rt, self.path)?,
+            None => match self.access {
+                Access::Write => open_to_write(self.rt, self.path)?,
+                Access::Read => open_to_read(self.rt, self.path)?,
+            },
         };
         Ok(self.file.insert(file))
     }
@@ -92,22 +126,37 @@ impl<'a, R: Files<File = File>> Lazy<'a, R> {
 }
 
 impl<'a, R: Files<File = File>> JournalFile<'a, R> {
-    /// The file at this path, which is opened, or made, at the first call that needs it.
-    pub fn new(rt: &'a R, path: &'a str) -> JournalFile<'a, R>
+    // The file at this path.
+    fn with_access(rt: &'a R, path: &'a str, access: Access) -> JournalFile<'a, R>
         ensures { result.tally ≡ record { reads = 0; faults = 0 } }
     {
         JournalFile {
             lazy: Lazy {
                 rt,
                 path,
+                access,
                 file: None,
             },
             tally: Tally::new(),
         }
     }
 
-    /// The line that says why the last call failed, where it did: that the journal is in use, or
-    /// its path and the system's reason.
+    /// The file at this path, which is opened, or made, at the first call that needs it.
+    pub fn new(rt: &'a R, path: &'a str) -> JournalFile<'a, R>
+        ensures { result.tally ≡ record { reads = 0; faults = 0 } }
+    {
+        JournalFile::with_access(rt, path, Access::Write)
+    }
+
+    /// The file at this path, to be read alone: it is not made, and a write fails.
+    pub fn to_read(rt: &'a R, path: &'a str) -> JournalFile<'a, R>
+        ensures { result.tally ≡ record { reads = 0; faults = 0 } }
+    {
+        JournalFile::with_access(rt, path, Access::Read)
+    }
+
+    /// The line that says why the last call failed, where it did: that the journal is in use, that
+    /// its path is that of another file, or its path and the system's reason.
     ///
     /// # Errors
     /// For want of memory alone.
@@ -116,6 +165,11 @@ impl<'a, R: Files<File = File>> JournalFile<'a, R> {
             Some(denial) => Ok(Some(denial.line(alloc, self.lazy.path)?)),
             None => Ok(None),
         }
+    }
+
+    /// Whether the last call failed because the file is no journal.
+    pub fn is_no_journal(&self) -> bool {
+        matches!(self.tally.denial(), Some(Denial::NoJournal))
     }
 }
 
