@@ -1,1 +1,3 @@
+pub mod OrderLines
+pub mod Shown
 pub mod TextLines

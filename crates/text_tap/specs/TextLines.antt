@@ -1,5 +1,5 @@
--- Own: the lines of an entry that tell a text; docs/DEFINITIONS.md, "Taps and lines".
-use Rattle.std.specs.Prelude.{ℕ, Bool, ◌||◌, ◌&&◌, ◌==◌, nat_le, List, [], ◌∷◌, ◌++◌, map, take}
+-- Own: the lines of the texts, orders and reports of an entry; docs/DEFINITIONS.md, "Taps and lines".
+use Rattle.std.specs.Prelude.{ℕ, Bool, ◌||◌, List, [], ◌∷◌, ◌++◌, map, take}
 use Rattle.std.specs.Prelude.{codes, bytes_eq, if◌then◌else◌}
 use Rattle.std.specs.Fmt.{decimal}
 use Rattle.std.specs.List.{flat_map}
@@ -9,6 +9,8 @@ use Rattle.pair_entries.specs.declared.entry.Took.{Took}
 use Rattle.pair_entries.specs.declared.entry.Out.{Out}
 use Rattle.pair_entries.specs.declared.entry.Entry.{Entry}
 use Rattle.entry_lines.specs.EntryLine.{side_name}
+use Rattle.text_tap.specs.Shown.{shown}
+use Rattle.text_tap.specs.OrderLines.{is_named, letter, letter_in, order_words}
 
 -- the types whose texts an operator wants to read: Reject, Logout and BusinessMessageReject
 abbrev pub is_told : List ℕ → Bool
@@ -24,18 +26,18 @@ abbrev pub is_told_body : List ℕ → Bool
 is_told_body body =
     begins body (codes "35=3") || (begins body (codes "35=5") || begins body (codes "35=j"))
 
--- `|` stands for SOH, and `?` for what is not from a blank to `~`
-abbrev pub shown : ℕ → ℕ
-shown byte = if byte == 1 then 124 else if nat_le 32 byte && nat_le byte 126 then byte else 63
-
 -- `client:2`
 abbrev pub place_words : Side → ℕ → List ℕ
 place_words side number = side_name side ++ codes ":" ++ decimal number
 
+-- `client:2 taken order 11=A1`
 abbrev pub took_line : Took → List ℕ
 took_line took =
     if is_told_body took.raw
     then place_words took.side took.number ++ codes " taken " ++ map shown took.raw ++ codes "\n"
+    else if is_named (letter_in took.raw)
+    then place_words took.side took.number ++ codes " taken "
+    ++ order_words (letter_in took.raw) took.raw
     else []
 
 abbrev pub out_line : Out → List ℕ
@@ -43,6 +45,9 @@ out_line out =
     if is_told out.msg_type
     then place_words out.side out.number ++ codes " said 35=" ++ out.msg_type ++ codes "|"
     ++ map shown out.content ++ codes "\n"
+    else if is_named (letter out.msg_type)
+    then place_words out.side out.number ++ codes " said "
+    ++ order_words (letter out.msg_type) out.content
     else []
 
 abbrev pub text_lines : Entry → List ℕ

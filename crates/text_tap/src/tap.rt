@@ -1,4 +1,4 @@
-//! A tap that puts the texts of each entry.
+//! A tap that puts the lines of each entry.
 
 ghost use Rattle.std.specs.Prelude.{◌≡◌, [], None, false, is_err, Err};
 ghost use Rattle.outside.specs.Bytes.{PutAppends};
@@ -12,8 +12,9 @@ use outside::Sink;
 use pair_entries::Entry;
 use std::alloc::Global;
 
-/// A tap that puts a line to a sink for each Reject(3), Logout(5) and BusinessMessageReject(j) that
-/// an entry took or gives out, with all of its fields. Nothing is put for an entry without one.
+/// A tap that puts a line to a sink for each order and each report that an entry took or gives out,
+/// with its kind, its ClOrdID(11) and its ExecID(17), and for each Reject(3), Logout(5) and
+/// BusinessMessageReject(j), with all of its fields. Nothing is put for an entry without one.
 ///
 /// It fails only where the sink fails, or for want of memory.
 #[derive(Debug, Drop)]

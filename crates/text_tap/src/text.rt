@@ -1,12 +1,15 @@
-//! The lines of an entry that have a text.
+//! The lines of an entry that have a text, an order or a report.
 
 ghost use Rattle.std.specs.Prelude.{◌≡◌, ◌++◌, map, codes, OnOk};
 ghost use Rattle.std.specs.List.{flat_map};
 ghost use Rattle.std.specs.Option.{option_to_list};
 ghost use Rattle.entry_lines.specs.EntryLine.{side_name};
-ghost use Rattle.text_tap.specs.TextLines.{is_told, is_told_body, shown, took_line, out_line};
+ghost use Rattle.text_tap.specs.Shown.{shown};
+ghost use Rattle.text_tap.specs.OrderLines.{order_words};
+ghost use Rattle.text_tap.specs.TextLines.{is_told, is_told_body, took_line, out_line};
 ghost use Rattle.text_tap.specs.TextLines.{place_words, text_lines};
 
+use crate::orders::{is_named, letter, letter_in, put_order};
 use itoa::Buffer;
 use order_meaning::Side;
 use pair_entries::{Entry, Out, Took};
@@ -42,7 +45,7 @@ fn shown(byte: u8) -> u8
 }
 
 /// Appends bytes as they are shown.
-fn put_shown(lines: &mut Vec<u8>, bytes: &[u8]) -> Result<(), AllocError>
+pub(crate) fn put_shown(lines: &mut Vec<u8>, bytes: &[u8]) -> Result<(), AllocError>
     ensures { OnOk result (lines.new.items ≡ lines.old.items ++ map shown bytes.now) }
 {
     for byte in bytes {
@@ -70,27 +73,33 @@ fn put_place(lines: &mut Vec<u8>, side: Side, number: u32) -> Result<(), AllocEr
     Ok(())
 }
 
-/// Appends the line of a message that was taken, if it has a text.
+/// Appends the line of a message that was taken, if it has one.
 fn put_took(lines: &mut Vec<u8>, took: &Took) -> Result<(), AllocError>
     ensures { OnOk result (lines.new.items ≡ lines.old.items ++ took_line took.now) }
 {
-    if !is_told_body(took.raw.as_slice()) {
+    let raw = took.raw.as_slice();
+    if is_told_body(raw) {
+        put_place(lines, took.side, took.number)?;
+        lines.extend_from_slice(b" taken ")?;
+        put_shown(lines, raw)?;
+        lines.extend_from_slice(b"\n")?;
+        return Ok(());
+    }
+    let msg_type = letter_in(raw);
+    if !is_named(msg_type) {
         return Ok(());
     }
     put_place(lines, took.side, took.number)?;
     lines.extend_from_slice(b" taken ")?;
-    put_shown(lines, took.raw.as_slice())?;
-    lines.extend_from_slice(b"\n")?;
-    Ok(())
+    put_order(lines, msg_type, raw)
 }
 
-/// Appends the line of a message that was given out, if it has a text.
-fn put_out(lines: &mut Vec<u8>, out: &Out) -> Result<(), AllocError>
-    ensures { OnOk result (lines.new.items ≡ lines.old.items ++ out_line out.now) }
+/// Appends the text of a message that was given out.
+fn put_said(lines: &mut Vec<u8>, out: &Out) -> Result<(), AllocError>
+    ensures { OnOk result (lines.new.items ≡ lines.old.items
+        ++ (place_words out.now.side out.now.number ++ codes " said 35=" ++ out.now.msg_type
+        ++ codes "|" ++ map shown out.now.content ++ codes "\n")) }
 {
-    if !is_told(out.msg_type.as_slice()) {
-        return Ok(());
-    }
     put_place(lines, out.side, out.number)?;
     lines.extend_from_slice(b" said 35=")?;
     lines.extend_from_slice(out.msg_type.as_slice())?;
@@ -98,6 +107,22 @@ fn put_out(lines: &mut Vec<u8>, out: &Out) -> Result<(), AllocError>
     put_shown(lines, out.content.as_slice())?;
     lines.extend_from_slice(b"\n")?;
     Ok(())
+}
+
+/// Appends the line of a message that was given out, if it has one.
+fn put_out(lines: &mut Vec<u8>, out: &Out) -> Result<(), AllocError>
+    ensures { OnOk result (lines.new.items ≡ lines.old.items ++ out_line out.now) }
+{
+    if is_told(out.msg_type.as_slice()) {
+        return put_said(lines, out);
+    }
+    let msg_type = letter(out.msg_type.as_slice());
+    if !is_named(msg_type) {
+        return Ok(());
+    }
+    put_place(lines, out.side, out.number)?;
+    lines.extend_from_slice(b" said ")?;
+    put_order(lines, msg_type, out.content.as_slice())
 }
 
 /// Appends the lines of messages that were given out.

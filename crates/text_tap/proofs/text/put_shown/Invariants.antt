@@ -1,5 +1,5 @@
 use Rattle.std.proofs.Common.{◌≡◌, ◌++◌, map, take}
-use Rattle.text_tap.specs.TextLines.{shown}
+use Rattle.text_tap.specs.Shown.{shown}
 use Rattle.text_tap.proofs.text.put_shown.Given as goal
 
 abbrev pub invariant-loop-byte : goal.invariant-loop-byte
