@@ -1,13 +1,14 @@
 //! Standard error as a sink of lines, which never waits for its reader.
 //!
-//! A tap is kept in a box, which holds no set of sockets: so each line makes its own teller, but
-//! for the line of an entry where standard error is a file, which takes every line at once.
+//! A tap is kept in a box, which holds no set of sockets: so the lines of an entry make their own
+//! teller, but where standard error is a file, which takes every line at once.
 
 ghost use Rattle.std.specs.Prelude.{None};
 
-use edge_parts::Notice;
+use edge_parts::{moment, put_stamp};
 use gateway_edge::Teller;
 use outside::{Failed, Sink};
+use std::alloc::AllocError;
 use std::io::Write;
 
 /// Lines as they are. One that would not be taken at once is lost.
@@ -48,20 +49,32 @@ impl Sink for PlainLines {
     }
 }
 
-/// Lines with the time before each, in UTC. One that would not be taken at once, or is no UTF-8, is
-/// lost.
+/// Lines with the time before each, in UTC. What would not be taken at once is lost.
 #[derive(Drop)]
 pub(crate) struct DatedLines {
-    pub(crate) rt: HostRuntime,
+    plain: PlainLines,
+    // The lines of one put, with their times; kept for its memory.
+    dated: Vec<u8>,
 }
 
-// Writes each of these lines.
-fn tell(rt: &HostRuntime, text: &str) {
-    let Ok(mut teller) = Teller::new(rt, rt.stderr()) else {
-        return;
-    };
-    for line in text.lines() {
-        teller.tell(rt, Notice::Text(line));
+impl DatedLines {
+    /// Lines to standard error.
+    pub(crate) fn new(rt: HostRuntime) -> DatedLines {
+        DatedLines {
+            plain: PlainLines::new(rt),
+            dated: Vec::new(rt.alloc()),
+        }
+    }
+
+    // Puts the time before each of these lines, which end with LF.
+    fn date(&mut self, lines: &[u8]) -> Result<(), AllocError> {
+        let now = moment(&self.plain.rt).unwrap_or(0);
+        self.dated.clear();
+        for line in lines.split_inclusive(|byte| *byte == b'\n') {
+            put_stamp(&mut self.dated, now)?;
+            self.dated.extend_from_slice(line)?;
+        }
+        Ok(())
     }
 }
 
@@ -71,8 +84,8 @@ impl Sink for DatedLines {
     ghost faults = { λ _. 0 };
 
     fn put(&mut self, piece: &[u8]) -> Result<(), Failed> {
-        if let Ok(text) = std::str::from_utf8(piece) {
-            tell(&self.rt, text);
+        if self.date(piece).is_ok() {
+            self.plain.write(&self.dated);
         }
         Ok(())
     }

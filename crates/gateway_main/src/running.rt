@@ -12,13 +12,22 @@ use gateway_top::{Status, run};
 use outside::{Disk, MemDisk, Sink, Source};
 use std::fmt;
 use std::fs::File;
-use std::io::Write;
+use std::io::{self, Write};
 use std::rt::Files;
 use wires::{Clock, ListClock, QuietWire, Wire};
 
 // Prints a line to standard error. Nothing is left to say where that fails too.
 fn tell<W: Write + Copy, T: fmt::Display + Drop>(mut lines: W, what: T) {
     let _ = writeln!(lines, "{what}");
+}
+
+// The system refuses what both wires and the clock need, of which a line is printed.
+fn no_sockets<W: Write + Copy>(mut lines: W, error: &io::Error) -> Status {
+    if error.kind() == io::ErrorKind::OutOfMemory {
+        return Status::NoMemory;
+    }
+    let _ = writeln!(lines, "fixgate: no sockets: {error}");
+    Status::DiskFault
 }
 
 // A run between two peers at these addresses. Behind it the peers are given what was said last, and
@@ -47,8 +56,9 @@ fn run_between<
         return Status::NoMemory;
     };
     let stop = StopFile::new(&path);
-    let Ok(mut edge) = Edge::new(&rt, &shared, addresses, stop, lines) else {
-        return Status::NoMemory;
+    let mut edge = match Edge::new(&rt, &shared, addresses, stop, lines) {
+        Ok(edge) => edge,
+        Err(error) => return no_sockets(lines, &error),
     };
     let mut client = edge.client;
     let mut venue = edge.venue;
@@ -149,6 +159,11 @@ fn stop_lies<R: Files, W: Write + Copy>(rt: &R, lines: W, path: &str) -> bool {
     }
 }
 
+// Whether these words only read the journal.
+fn is_show(words: &[String]) -> bool {
+    matches!(words, [word] if word.as_str() == "show")
+}
+
 // A run over the journal at this path. A gateway between two peers does not start where a stop file
 // lies beside it.
 fn run_with_journal<
@@ -171,7 +186,11 @@ fn run_with_journal<
     let (Ok(path), Ok(stop)) = (String::from_str(alloc, journal), stop_path(alloc, journal)) else {
         return Status::NoMemory;
     };
-    let mut disk = JournalFile::new(&rt, &path);
+    let mut disk = if is_show(options.words) {
+        JournalFile::to_read(&rt, &path)
+    } else {
+        JournalFile::new(&rt, &path)
+    };
     let status = match options.addresses {
         Some(addresses) => {
             if stop_lies(&rt, lines, &stop) {
@@ -194,6 +213,9 @@ fn run_with_journal<
     if status == Status::DiskFault {
         if let Ok(Some(reason)) = disk.refusal(alloc) {
             tell(lines, reason);
+        }
+        if disk.is_no_journal() {
+            return Status::JournalRefused { at: 0 };
         }
     }
     status
