@@ -1,13 +1,22 @@
 -- A step that does nothing and changes no number decides nothing but its session.
 use Rattle.std.proofs.Common.{◌≡◌, ℕ, Bool, true, List, [], Some, None, Result, Ok}
 use Rattle.std.proofs.Common.{if◌then◌else◌, ap, sym, ◌∙◌, ◌∷◌, ◌<◌, length}
-use Rattle.std.proofs.Common.{refl, arith}
+use Rattle.std.proofs.Common.{refl, arith, false, eq-eqb}
+use Rattle.std.specs.Prelude.{◌&&◌}
 use Rattle.order_meaning.specs.declared.Side.{Side}
+use Rattle.order_meaning.specs.declared.Side.TheVariants.{Client, Venue}
+use Rattle.pair_entries.specs.declared.entry.Entry.{Entry}
 use Rattle.session_core.specs.declared.act.Act.{Act}
+use Rattle.session_core.specs.declared.session.Session.{Session}
 use Rattle.session_core.specs.declared.session.Step.{Step}
+use Rattle.session_core.specs.Table as session
+use Rattle.event_decisions.specs.Event.{Tick}
+use Rattle.message_answers.specs.Answer.{Answers}
 use Rattle.event_decisions.specs.Decide.{Sessions, Given, Decision, session_of, with_session}
-use Rattle.event_decisions.specs.Decide.{numbers_of, same_numbers, says_of}
+use Rattle.event_decisions.specs.Decide.{numbers_of, same_numbers, says_of, Decides}
 use Rattle.gateway_core.specs.Planning.{silent, entry_by, decision_by, turned}
+use Rattle.gateway_core.specs.State.{CoreState, sessions_in, going_on as goes_on}
+use Rattle.gateway_core.proofs.Planned.{quiet_plans}
 
 pub none_below : (acts : List Act) → length acts < 1 → acts ≡ []
 none_below [] short = refl
@@ -40,3 +49,56 @@ module _ (s : Sessions) (side : Side) (step : Step) (now : ℕ) where
   still_comes after nothing is same = ap at nothing
       ∙ ap with (ap (λ (x : Sessions). same_numbers (numbers_of s) (numbers_of x)) (sym is) ∙ same)
       ∙ ap going_on (sym is)
+
+-- ---- a tick
+
+same_of : (s : Sessions) (side : Side) (next : Session)
+    → next.numbers.next_in ≡ (session_of side s).numbers.next_in
+    → next.numbers.next_out ≡ (session_of side s).numbers.next_out
+    → same_numbers (numbers_of s) (numbers_of (with_session side next s)) ≡ true
+same_of s side next ins outs = ap (same_numbers (numbers_of s)) (by side ins outs) ∙ itself
+  where
+    by : (side : Side) → next.numbers.next_in ≡ (session_of side s).numbers.next_in
+        → next.numbers.next_out ≡ (session_of side s).numbers.next_out
+        → numbers_of (with_session side next s) ≡ numbers_of s
+    by Client ins outs = λ i. (
+      ins i,
+      outs i,
+      s.venue.numbers.next_in,
+      s.venue.numbers.next_out,
+    )
+    by Venue ins outs = λ i. (
+      s.client.numbers.next_in,
+      s.client.numbers.next_out,
+      ins i,
+      outs i,
+    )
+
+    both : (a b : Bool) → a ≡ true → b ≡ true → (a && b) ≡ true
+    both true b is and = and
+    both false b is and = absurd (cc is)
+
+    itself : same_numbers (numbers_of s) (numbers_of s) ≡ true
+    itself = both _ _ (eq-eqb s.client.numbers.next_in _ refl) (both _ _
+        (eq-eqb s.client.numbers.next_out _ refl) (both _ _ (eq-eqb s.venue.numbers.next_in _ refl)
+        (eq-eqb s.venue.numbers.next_out _ refl)))
+
+pub ticks_on : (core : CoreState) (entries : List Entry) (side : Side) (now : ℕ) (step : Step)
+    → session.step (session_of side (sessions_in core)) session.Tick now ≡ Ok step
+    → step.acts ≡ []
+    → step.next.numbers.next_in ≡ (session_of side (sessions_in core)).numbers.next_in
+    → step.next.numbers.next_out ≡ (session_of side (sessions_in core)).numbers.next_out
+    → Decides Answers core.config.names core.config.window entries (sessions_in core) (Tick side)
+    now (Ok (goes_on core side step.next))
+ticks_on core entries side now step is nothing ins outs =
+    let s : Sessions = sessions_in core in
+    let after : Sessions = with_session side step.next s in
+    quiet_plans core entries (Tick side) now (Ok step) (Ok (record {
+      entry = None;
+      item = None;
+      client = after.client;
+      venue = after.venue;
+      resend = None;
+      hang_up = None;
+    })) tt (sym is)
+    (still_comes s side step now after nothing refl (same_of s side step.next ins outs))

@@ -18,7 +18,7 @@ use Rattle.gateway_core.specs.declared.plan.Plan.{Plan}
 use Rattle.gateway_core.specs.declared.plan.PlanError.{PlanError}
 use Rattle.gateway_core.specs.declared.plan.PlanError.TheVariants as errors
 use Rattle.message_answers.specs.Chains.{chains_of, new_item}
-use Rattle.event_decisions.specs.Decide.{Sessions, Decision, Decides}
+use Rattle.event_decisions.specs.Decide.{Sessions, Decision, Decides, with_session}
 use Rattle.message_answers.specs.Answer.{Answers}
 use Rattle.event_decisions.specs.Event.{Event}
 
@@ -59,6 +59,15 @@ pub record Stand (core : CoreState) (journal entries : List Entry) : Type 0 wher
   pub chains : chains_of entries ≡ core.chains
   pub sources : (side : Side) (number : ℕ) →
       source_of side number entries ≡ source_of side number journal
+
+-- a decision of nothing but that the session of this side goes on so
+abbrev pub going_on : CoreState → Side → Session → Decision
+going_on core side next = record {
+  entry = None;
+  sessions = with_session side next (sessions_in core);
+  repeat = None;
+  hang_up = None;
+}
 
 -- an item whose id is not in the chains
 abbrev pub IsNew : List ChainItem → Option ChainItem → Type 0

@@ -14,8 +14,10 @@ ghost use Rattle.pair_entries.specs.Payload.{IsTook, IsOut, AreOuts};
 ghost use Rattle.session_core.specs.Numbers.{AreNextNumbers};
 ghost use Rattle.session_core.specs.Table.{Message, step, number_of};
 ghost use Rattle.event_decisions.specs.Body.{reading_of, fields_of};
-ghost use Rattle.event_decisions.specs.Event.{event_of, IsFramed, Frame};
-ghost use Rattle.event_decisions.specs.Decide.{session_of, says_of, head_in};
+ghost use Rattle.event_decisions.specs.Event.{event_of, IsFramed, Frame, Tick};
+ghost use Rattle.event_decisions.specs.Decide.{session_of, says_of, head_in, Decides};
+ghost use Rattle.event_decisions.specs.Decide.{with_session};
+ghost use Rattle.message_answers.specs.Answer.{Answers};
 ghost use Rattle.message_answers.specs.Chains.{new_item};
 ghost use Rattle.message_answers.specs.Seen.{IsFit};
 ghost use Rattle.gateway_core.specs.Planning.{IsSayable, StepsAreSayable, heard_by};
@@ -23,7 +25,7 @@ ghost use Rattle.gateway_core.specs.Planning.{words_by, given_by, entry_by, deci
 ghost use Rattle.gateway_core.specs.Planning.{quiet_by, silent, Comes, JoinsWith, IsAnswered};
 ghost use Rattle.message_answers.specs.Seen.{IsSplit};
 ghost use Rattle.gateway_core.specs.State.{loaded, Stand, IsNew, Plans, HasItem, Grows};
-ghost use Rattle.gateway_core.specs.State.{sessions_in, decision_of};
+ghost use Rattle.gateway_core.specs.State.{sessions_in, decision_of, going_on};
 
 use crate::acting::{hangs_up, is_active, is_asked, repeat_of, took_of};
 use crate::entries::{committed, entry_of, same_numbers, with_entry};
@@ -161,6 +163,44 @@ impl Core {
         match side {
             Side::Client => &self.client,
             Side::Venue => &self.venue,
+        }
+    }
+
+    /// The session of a side after a tick at this moment that does nothing else: no message is said,
+    /// nothing is hung up, and no number changes. None where the tick does more. It takes no memory,
+    /// and is a quick [`Core::plan`].
+    pub fn after_tick(&self, side: Side, now: u64) -> Option<Session>
+        ensures decides { IfSome result (λ next. (entries : List Entry) →
+            Decides Answers self.now.config.names self.now.config.window entries
+            (sessions_in self.now) (Tick side) now (Ok (going_on self.now side next))) }
+        ensures same { IfSome result (λ next. let s = session_of side (sessions_in self.now) in
+            (next.side ≡ s.side) × (next.numbers.next_in ≡ s.numbers.next_in)
+            × (next.numbers.next_out ≡ s.numbers.next_out)) }
+    {
+        let session = self.session(side);
+        let Ok(step) = session.on_tick(now) else {
+            return None;
+        };
+        let Step { acts, next } = step;
+        let (before, after) = (&session.numbers, &next.numbers);
+        if after.next_in != before.next_in || after.next_out != before.next_out {
+            return None;
+        }
+        match acts.as_slice() {
+            [] => Some(next),
+            _ => None,
+        }
+    }
+
+    /// Sets the session of a side. It takes no memory.
+    pub fn set(&mut self, side: Side, next: Session)
+        ensures sessions { sessions_in self.new ≡ with_session side next (sessions_in self.old) }
+        ensures config { self.new.config ≡ self.old.config }
+        ensures chains { self.new.chains ≡ self.old.chains }
+    {
+        match side {
+            Side::Client => self.client = next,
+            Side::Venue => self.venue = next,
         }
     }
 

@@ -1,6 +1,7 @@
 mod Standing
 mod Deciding
 mod Acting
+mod Passing
 mod Cutting
 mod Turning
 mod Failing

@@ -13,8 +13,8 @@ ghost use Rattle.pair_journal.specs.Calls.{HasDiskCause, BornOrNot};
 ghost use Rattle.pair_journal.specs.Journal.{JournalOf, Unborn, Born};
 ghost use Rattle.pair_journal.specs.Numbers.{GoesOn, numbers_after, first_numbers};
 ghost use Rattle.pair_entries.specs.Payload.{IsEntry};
-ghost use Rattle.event_decisions.specs.Event.{event_of, IsFramed};
-ghost use Rattle.event_decisions.specs.Decide.{Decides};
+ghost use Rattle.event_decisions.specs.Event.{event_of, IsFramed, Tick};
+ghost use Rattle.event_decisions.specs.Decide.{Decides, with_session};
 ghost use Rattle.message_answers.specs.Answer.{Answers};
 ghost use Rattle.gateway_core.specs.State.{sessions_in, loaded};
 ghost use Rattle.life_events.specs.Happens.{pieces_to, both_standing};
@@ -41,6 +41,7 @@ use order_meaning::{Names, Side};
 use outside::Disk;
 use pair_entries::{Entry, MAX_AT, Prepared};
 use pair_journal::{Journal, JournalError, OutBuf};
+use session_core::Session;
 use session_frames::FrameBuf;
 use std::alloc::Global;
 use wire_sends::{hang_up_on, outs_on, repeat_on};
@@ -421,5 +422,71 @@ impl Gate {
         let names = self.journal.names();
         self.act(disk, client, venue, &names, event, &made, now)?;
         Ok(())
+    }
+
+    // The session of a side goes on so, and those without a connection are down.
+    fn pass(&mut self, side: Side, next: Session)
+        ensures journal { self.new.journal ≡ self.old.journal }
+        ensures up { (self.new.client_up ≡ self.old.client_up)
+            × (self.new.venue_up ≡ self.old.venue_up) }
+        ensures config { self.new.core.config ≡ self.old.core.config }
+        ensures chains { self.new.core.chains ≡ self.old.core.chains }
+        ensures sessions { sessions_in self.new.core ≡ both_standing self.old.client_up
+            self.old.venue_up (with_session side next (sessions_in self.old.core)) }
+    {
+        self.core.set(side, next);
+        let client = standing(self.client_up, Side::Client, &self.core);
+        let venue = standing(self.venue_up, Side::Venue, &self.core);
+        self.core.apply(client, venue);
+    }
+
+    /// A tick of a side: as the event, with a quick way for one at which nothing is to be done.
+    pub(crate) fn tick<D: Disk, C: Wire, V: Wire>(
+        &mut self,
+        disk: &mut D,
+        client: &mut C,
+        venue: &mut V,
+        taps: &mut Vec<Box<dyn Tap>>,
+        side: Side,
+        now: u64,
+    ) -> Result<(), LifeEnd>
+        requires ready { Ready (seen self.old) (D.bytes disk.old)
+            (C.recorded client.old) (V.recorded venue.old) }
+        requires moment { now ≤ MAX_AT }
+        ensures config { self.new.core.config ≡ self.old.core.config }
+        ensures ready { OnOk result (Ready (seen self.new) (D.bytes disk.new)
+            (C.recorded client.new) (V.recorded venue.new)) }
+        ensures happens { OnOk result (Stepped self.old.core.config (world_of (seen self.old))
+            (Tick side) now (world_of (seen self.new))
+            (records (C.recorded client.old) (V.recorded venue.old))
+            (records (C.recorded client.new) (V.recorded venue.new))) }
+        ensures durable { OnOk result (HasOneImage (D.bytes disk.old) (D.image disk.old) →
+            HasOneImage (D.bytes disk.new) (D.image disk.new)) }
+        ensures ends { IfErr result (λ end. LeavesOf (D.bytes disk.old) (D.image disk.old)
+            (D.image disk.new) self.old.core.config.names (Broken end self.old.core.config
+            (world_of (seen self.old)) (Tick side) now
+            (records (C.recorded client.old) (V.recorded venue.old))
+            (records (C.recorded client.new) (V.recorded venue.new)))) }
+        ensures taps { Watched (state_by has_failed entries tally counts_all)
+            taps.old.items taps.new.items self.old.journal.entries
+            self.new.journal.entries }
+        ensures kept { IfErr result (λ end. LeavesOf (D.bytes disk.old) (D.image disk.old)
+            (D.image disk.new) self.old.core.config.names
+            (WereCommitted end self.new.journal.entries)) }
+        ensures only { IfErr result IsOfEvent }
+        ensures told { is_some (D.bytes disk.new) ≡ is_some (D.bytes disk.old) }
+        ensures cause { HasCauseOf (D.faults disk.old) (D.faults disk.new) result }
+        ensures client_polls { C.polls client.new ≡ C.polls client.old }
+        ensures venue_polls { V.polls venue.new ≡ V.polls venue.old }
+        ensures client_plays { Keeps (C.plays client.old) (C.plays client.new) }
+        ensures venue_plays { Keeps (V.plays venue.old) (V.plays venue.new) }
+    {
+        match self.core.after_tick(side, now) {
+            Some(next) => {
+                self.pass(side, next);
+                Ok(())
+            }
+            None => self.event(disk, client, venue, taps, &Event::Tick(side), now),
+        }
     }
 }

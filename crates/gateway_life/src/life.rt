@@ -48,6 +48,8 @@ pub struct Life {
     gate: Gate,
     client: Framer,
     venue: Framer,
+    // What a poll fills.
+    buf: [u8; POLL_LEN],
 }
 
 impl Model for Life {
@@ -103,6 +105,7 @@ impl Life {
             gate,
             client,
             venue,
+            buf: [0; POLL_LEN],
         })
     }
 
@@ -158,7 +161,6 @@ impl Life {
         ensures cause { HasCauseOf (D.faults disk.old) (D.faults disk.new) result }
     {
         let now = moment(clock);
-        let mut buf = [0u8; POLL_LEN];
         turn(
             &mut self.gate,
             disk,
@@ -167,7 +169,7 @@ impl Life {
             taps,
             &mut self.client,
             Side::Client,
-            &mut buf,
+            &mut self.buf,
             now,
         )?;
         turn(
@@ -178,7 +180,7 @@ impl Life {
             taps,
             &mut self.venue,
             Side::Venue,
-            &mut buf,
+            &mut self.buf,
             now,
         )
     }

@@ -335,5 +335,5 @@ pub(crate) fn turn<D: Disk, C: Wire, V: Wire>(
     arrived(
         gate, disk, client, venue, taps, framer, side, found, buf, now,
     )?;
-    gate.event(disk, client, venue, taps, &Event::Tick(side), now)
+    gate.tick(disk, client, venue, taps, side, now)
 }

@@ -56,19 +56,19 @@ returns-clause-turn g c =
     let r1 = records (g.C.Wire.recorded poll.new.client) (g.V.Wire.recorded poll.new.venue) in
     let grew = poll.ensures.grew in
     let x = world_of (seen c.arrived.new.gate) in
-    let y = world_of (seen c.event.new.self) in
+    let y = world_of (seen c.tick.new.self) in
     let r2 = records (g.C.Wire.recorded c.arrived.new.client)
     (g.V.Wire.recorded c.arrived.new.venue) in
-    let r3 = records (g.C.Wire.recorded c.event.new.client) (g.V.Wire.recorded c.event.new.venue) in
+    let r3 = records (g.C.Wire.recorded c.tick.new.client) (g.V.Wire.recorded c.tick.new.venue) in
     let found = subst (λ (k : Config). Arrived c.args.framer.now c.arrived.new.framer came k polled
     side c.args.now x r1 r2) at c.in_ok-arrived.ensures.arrived in
-    ok_map c.event.result
+    ok_map c.tick.result
     (Stepped c.arrived.new.gate.core.config x (Tick side) c.args.now y r2 r3)
     (Turned side c.args.framer.now c.arrived.new.framer config w c.args.now y r0 r3)
-    (λ tick. turned config side came w polled c.args.now r0 r1 poll.ensures.may grew is
+    (λ one. turned config side came w polled c.args.now r0 r1 poll.ensures.may grew is
     c.args.framer.now c.arrived.new.framer x y r2 r3 found
     (subst (λ (k : Config). Stepped k x (Tick side) c.args.now y r2 r3)
-    (c.arrived.ensures.config ∙ at) tick)) c.event.ensures.happens
+    (c.arrived.ensures.config ∙ at) one)) c.tick.ensures.happens
 
 pub returns-clause-ends : goal.returns-clause-ends
 returns-clause-ends g c =
@@ -85,13 +85,13 @@ returns-clause-ends g c =
     let r1 = records (g.C.Wire.recorded poll.new.client) (g.V.Wire.recorded poll.new.venue) in
     let grew = poll.ensures.grew in
     let x = world_of (seen c.arrived.new.gate) in
-    let y = world_of (seen c.event.new.self) in
+    let y = world_of (seen c.tick.new.self) in
     let r2 = records (g.C.Wire.recorded c.arrived.new.client)
     (g.V.Wire.recorded c.arrived.new.venue) in
-    let r3 = records (g.C.Wire.recorded c.event.new.client) (g.V.Wire.recorded c.event.new.venue) in
+    let r3 = records (g.C.Wire.recorded c.tick.new.client) (g.V.Wire.recorded c.tick.new.venue) in
     let found = subst (λ (k : Config). Arrived c.args.framer.now c.arrived.new.framer came k polled
     side c.args.now x r1 r2) at c.in_ok-arrived.ensures.arrived in
-    last_leaves c.event.result (g.D.Disk.bytes c.args.disk.now) (g.D.Disk.bytes c.arrived.new.disk)
+    last_leaves c.tick.result (g.D.Disk.bytes c.args.disk.now) (g.D.Disk.bytes c.arrived.new.disk)
     _ _ _ _ _
     (λ end. Broken end c.arrived.new.gate.core.config x (Tick side) c.args.now r2 r3)
     (λ end. TurnBroken end side c.args.framer.now config w c.args.now r0 r3)
@@ -100,7 +100,7 @@ returns-clause-ends g c =
     (λ end xs broken. turn_tick config side came w polled c.args.now r0 r1
     poll.ensures.may grew is end c.args.framer.now c.arrived.new.framer x r2 r3 xs found
     (subst (λ (k : Config). Broken end k x (Tick side) c.args.now r2 r3 xs)
-    (c.arrived.ensures.config ∙ at) broken)) c.event.ensures.ends
+    (c.arrived.ensures.config ∙ at) broken)) c.tick.ensures.ends
 
 pub returns-in_err-arrived-clause-taps : goal.returns-in_err-arrived-clause-taps
 returns-in_err-arrived-clause-taps g c =
@@ -120,11 +120,11 @@ returns-clause-taps g c =
     watched_append _ _ _ _ c.args.gate.now.journal.entries _ _
     (watched_from _ _ _ c.args.gate.now.journal.entries _ _
     (ap (λ (j : JournalState). j.entries) c.poll-found.ensures.same.0)
-    c.in_ok-arrived.ensures.taps) c.event.ensures.taps
+    c.in_ok-arrived.ensures.taps) c.tick.ensures.taps
 
 pub returns-clause-kept : goal.returns-clause-kept
 returns-clause-kept g c =
-    kept_last c.event.result (g.D.Disk.bytes c.args.disk.now) (g.D.Disk.bytes c.arrived.new.disk)
-    _ _ _ _ _ c.event.new.self.journal.entries c.arrived.ensures.told
+    kept_last c.tick.result (g.D.Disk.bytes c.args.disk.now) (g.D.Disk.bytes c.arrived.new.disk)
+    _ _ _ _ _ c.tick.new.self.journal.entries c.arrived.ensures.told
     c.in_ok-arrived.ensures.durable (ap (λ (k : Config). k.names) (c.arrived.ensures.config
-    ∙ ap (λ (k : CoreState). k.config) c.poll-found.ensures.same.1)) c.event.ensures.kept
+    ∙ ap (λ (k : CoreState). k.config) c.poll-found.ensures.same.1)) c.tick.ensures.kept

@@ -1,0 +1,13 @@
+use Rattle.std.proofs.Common.{rules, ap, sym, ◌∙◌}
+use Rattle.session_core.specs.declared.session.Session.{Session}
+use Rattle.session_core.specs.Table as session
+use Rattle.gateway_core.proofs.Still.{none_below, ticks_on}
+use Rattle.gateway_core.proofs.planning.Core.after_tick.Goals as goal
+
+pub returns-in-empty-clause-decides : goal.returns-in-empty-clause-decides
+returns-in-empty-clause-decides c = λ entries.
+    ticks_on c.args.self.now entries c.args.side c.args.now c.in-Ok.step
+    (ap (λ (s : Session). session.step s session.Tick c.args.now) (sym c.session-session.ensures)
+    ∙ sym c.on_tick.ensures.step ∙ c.in-Ok.is)
+    (sym c.as_slice.ensures.items ∙ none_below _ c.in-empty.len_below)
+    (search rules) (search rules)
