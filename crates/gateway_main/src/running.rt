@@ -6,8 +6,8 @@ ghost use Rattle.wires.specs.Wire.{is_within};
 
 use crate::options::Options;
 use drop_taps::Tap;
-use edge_parts::{Shared, stop_path};
-use gateway_edge::{Addresses, Edge, JournalFile, StopFile, System};
+use edge_parts::{Notice, Shared, long_end, stop_path};
+use gateway_edge::{Addresses, Edge, JournalFile, StopFile, System, Teller};
 use gateway_top::{Status, run};
 use outside::{Disk, MemDisk, Sink, Source};
 use std::fmt;
@@ -164,6 +164,20 @@ fn is_show(words: &[String]) -> bool {
     matches!(words, [word] if word.as_str() == "show")
 }
 
+// Says how long an end by the stop file takes, where a gateway is to live for so many rounds that it
+// is long.
+fn tell_long_end<R: System, W: Write + Copy + Drop>(rt: &R, lines: W, words: &[String]) {
+    let [word, rounds] = words else {
+        return;
+    };
+    let (true, Ok(rounds)) = (word.as_str() == "serve", rounds.parse::<u64>()) else {
+        return;
+    };
+    if let (Some(seconds), Ok(mut teller)) = (long_end(rounds), Teller::new(rt, lines)) {
+        teller.tell(rt, Notice::EndTakes(seconds));
+    }
+}
+
 // A run over the journal at this path. A gateway between two peers does not start where a stop file
 // lies beside it.
 fn run_with_journal<
@@ -196,6 +210,7 @@ fn run_with_journal<
             if stop_lies(&rt, lines, &stop) {
                 return Status::DiskFault;
             }
+            tell_long_end(&rt, lines, options.words);
             run_between(
                 rt,
                 lines,
