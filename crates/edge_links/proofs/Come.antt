@@ -3,7 +3,7 @@ use Rattle.std.proofs.Common.{◌≡◌, ℕ, zero, suc, ◌≤◌, Bool, true, 
 use Rattle.std.proofs.Common.{Result, subst, sym, arith}
 use Rattle.wires.specs.declared.wire.Arrival.{Arrival}
 use Rattle.wires.specs.Wire.{Bytes, may_come}
-use Rattle.edge_parts.specs.Order.{InOrder}
+use Rattle.edge_logic.specs.Order.{InOrder}
 
 pub bytes_come : (n : ℕ) (buf : List ℕ)
     → 1 ≤ n → n ≤ length buf → may_come true (Bytes (take n buf)) ≡ true

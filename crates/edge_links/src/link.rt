@@ -4,7 +4,7 @@ ghost use Rattle.std.specs.Prelude.{◌≡◌, ◌<◌, length, true, IfOk};
 ghost use Rattle.wires.specs.Wire.{Fits, may_come, came_of};
 
 use crate::system::System;
-use edge_parts::{Fault, Outbox};
+use edge_logic::{Fault, Outbox};
 use mio::net::TcpStream;
 use std::io::{ErrorKind, Read};
 use std::net::Shutdown;

@@ -2,7 +2,7 @@
 
 use crate::link::Link;
 use crate::system::System;
-use edge_parts::Fault;
+use edge_logic::Fault;
 use edge_waits::{Standing, first_in, standing_of};
 use frame_grammar::Framer;
 use mio::net::TcpStream;

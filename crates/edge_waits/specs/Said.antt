@@ -6,7 +6,7 @@ use Rattle.std.specs.List.{starts_with, prefix_len}
 use Rattle.std.specs.Char.{is_ascii_digit}
 use Rattle.std.specs.Str.{bytes_eq}
 use Rattle.field_groups.specs.HeadValues.{number_in}
-use Rattle.edge_parts.specs.declared.notice.TooLow.{TooLow}
+use Rattle.edge_logic.specs.declared.notice.TooLow.{TooLow}
 use Rattle.edge_waits.specs.Fields.{value_in}
 
 abbrev pub or_nothing : Option (List ℕ) → List ℕ

@@ -2,10 +2,10 @@
 use Rattle.std.specs.Prelude.{ℕ, Bool, true, false, ◌||◌, ◌++◌, List, [], ◌∷◌, length, nat_le}
 use Rattle.std.specs.Prelude.{Some, None, if◌then◌else◌}
 use Rattle.std.specs.declared.option.Option.{Option}
-use Rattle.edge_parts.specs.Outbox.{has_bytes}
-use Rattle.edge_parts.specs.declared.notice.TooLow.{TooLow}
-use Rattle.edge_parts.specs.declared.back_off.Parted.{Parted}
-use Rattle.edge_parts.specs.declared.back_off.Parted.TheVariants as parted
+use Rattle.edge_logic.specs.Outbox.{has_bytes}
+use Rattle.edge_logic.specs.declared.notice.TooLow.{TooLow}
+use Rattle.edge_logic.specs.declared.back_off.Parted.{Parted}
+use Rattle.edge_logic.specs.declared.back_off.Parted.TheVariants as parted
 use Rattle.edge_waits.specs.Said.{too_low}
 
 -- what came before a session stood, the text of the last Logout that the gateway said, and whether

@@ -3,7 +3,7 @@
 //! hold the client's place, and how long a side whose numbers were too low is put off.
 //!
 //! All of it goes by bytes that came or went, and by moments as numbers, so each clause is exact.
-//! The sockets stand above, in `gateway_edge`.
+//! The sockets stand above, in `edge_system`.
 #![tactic(auto)]
 
 mod fields;

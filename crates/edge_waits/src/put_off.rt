@@ -1,7 +1,7 @@
 //! How long a side whose numbers were too low is put off.
 
 ghost use Rattle.std.specs.Prelude.{◌≡◌, ◌+◌, ◌-◌, ◌≤◌, min, nat_le};
-ghost use Rattle.edge_parts.specs.BackOff.{later};
+ghost use Rattle.edge_logic.specs.BackOff.{later};
 ghost use Rattle.edge_waits.specs.PutOff.{pause_of};
 
 use std::marker::Model;

@@ -7,7 +7,7 @@ ghost use Rattle.std.specs.Option.{option_map};
 ghost use Rattle.edge_waits.specs.Said.{logout_text, too_low, low_numbers};
 
 use crate::fields::value_of;
-use edge_parts::TooLow;
+use edge_logic::TooLow;
 use field_groups::number_in;
 
 /// What the text of the Logout begins with that a number which is too low is answered by.

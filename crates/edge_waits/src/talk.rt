@@ -8,7 +8,7 @@ ghost use Rattle.edge_waits.specs.Why.{why_text};
 
 use crate::said::{logout_text, too_low};
 use crate::why::put_why;
-use edge_parts::{Parted, TooLow};
+use edge_logic::{Parted, TooLow};
 use std::alloc::{AllocError, Global};
 use std::marker::Model;
 

@@ -3,8 +3,8 @@
 ghost use Rattle.gateway_life.specs.Laws.{LivesLeave, LivesThatEndLeave, EndsLeave};
 ghost use Rattle.gateway_life.specs.Laws.{FirstLivesGoOn, NextLivesGoOn, ReadNamesAreShown};
 
-use heard_laws::laws::client_books_follow;
 use event_decisions::laws::bodies_are_read;
+use heard_laws::laws::client_books_follow;
 use life_events::{Answering, laws as lives};
 use message_answers::laws::answers_are_given_out;
 

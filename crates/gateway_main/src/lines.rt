@@ -5,8 +5,8 @@
 
 ghost use Rattle.std.specs.Prelude.{None};
 
-use edge_parts::{moment, put_stamp};
-use gateway_edge::Teller;
+use edge_logic::{moment, put_stamp};
+use edge_system::Teller;
 use outside::{Failed, Sink};
 use std::alloc::AllocError;
 use std::io::Write;

@@ -2,7 +2,7 @@
 
 ghost use Rattle.std.specs.Prelude.{◌≤◌, length, IfOk};
 
-use gateway_edge::Addresses;
+use edge_system::Addresses;
 use std::fmt;
 use std::net::SocketAddr;
 

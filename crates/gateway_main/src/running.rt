@@ -6,8 +6,8 @@ ghost use Rattle.wires.specs.Wire.{is_within};
 
 use crate::options::Options;
 use drop_taps::Tap;
-use edge_parts::{Notice, Shared, long_end, stop_path};
-use gateway_edge::{Addresses, Edge, JournalFile, StopFile, System, Teller};
+use edge_logic::{Notice, Shared, long_end, stop_path};
+use edge_system::{Addresses, Edge, JournalFile, StopFile, System, Teller};
 use gateway_top::{Status, run};
 use outside::{Disk, MemDisk, Sink, Source};
 use std::fmt;

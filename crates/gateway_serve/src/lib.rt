@@ -1,4 +1,4 @@
-//! The gateway serves: it lives with the configuration that its input is read as.
+//! The gateway serves: it reads its configuration from its input, and runs one life with it.
 #![tactic(auto)]
 
 mod error;

@@ -56,7 +56,7 @@ pub fn serve<I: Source, D: Disk, C: Wire, V: Wire, K: Clock>(
     requires input { I.ended input.old ≡ false }
     requires client { ForSome (C.recorded client.old) (λ calls. is_within calls ≡ false) }
     requires venue { ForSome (V.recorded venue.old) (λ calls. is_within calls ≡ false) }
-    // What was read, and the life with the configuration that it is read as.
+    // What was read as the configuration, and the life with it.
     ensures serves { (taken : List ℕ) × Consumes (I.left input.old) (I.left input.new) taken
         × Served taken (I.left input.new) result (λ config end. Lived end config rounds
         (D.image disk.old) (D.image disk.new)

@@ -54,8 +54,8 @@ Usage: fixgate [OPTIONS] COMMAND
   check client    reads a stream of FIX 4.2 and prints a line for each frame and
                   each garbled piece, with the first fault of each request
   check venue     the same of a stream of FIXT 1.1 and of each report
-  replay          reads a capture from standard input, lives its lives over a
-                  journal in memory, and prints what was written in each
+  replay          reads a capture from standard input, runs each of its lives
+                  over a journal in memory, and prints what was written in it
   drill FIRST COUNT
                   lives a day of COUNT orders, 1 to 10,000, that is made from the
                   number FIRST, 0 to 65,536, and prints a summary
@@ -183,7 +183,7 @@ pub fn run<I: Source, O: Sink, D: Disk, C: Wire, V: Wire, K: Clock>(
     ensures to_the_end { MatchOption (command_of (map string_bytes words.now)) (Unit {0})
         (λ command. ReadsToEnd command result (I.ended input.new)) }
 
-    // What `serve` read, and the life with the configuration that it is read as; where none began,
+    // What `serve` read as its configuration, and the life with it; where none began,
     // the disk, the wires, the clock and the taps are as they were.
     ensures serves { IfServe (command_of (map string_bytes words.now)) (λ rounds.
         (taken : List ℕ) × Consumes (I.left input.old) (I.left input.new) taken
@@ -217,7 +217,7 @@ pub fn run<I: Source, O: Sink, D: Disk, C: Wire, V: Wire, K: Clock>(
     ensures only_reads { IfShow (command_of (map string_bytes words.now))
         (OnlyReads D.bytes D.image disk.old disk.new) }
 
-    // What `replay` read, and the lives of the capture that it is read as.
+    // What `replay` read as its capture, and the lives of that.
     ensures replays { IfReplay (command_of (map string_bytes words.now))
         ((taken : List ℕ) × Consumes (I.left input.old) (I.left input.new) taken
         × ReplayedBy result (λ answer. Replayed

@@ -177,7 +177,7 @@ fn told(
     })
 }
 
-/// The answer to what is to be a refusal.
+/// The answer to a message of a refusal's type.
 fn refusal_heard(alloc: Global, known: &Known<'_>, asked: &Asked<'_>) -> Result<Answer, AllocError>
     requires split { IsSplit asked.now }
     requires refusal { is_refusal_type asked.now.msg_type.now ≡ true }

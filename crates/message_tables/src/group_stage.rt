@@ -80,7 +80,7 @@ impl<K> RepeatingGroup<K> {
         false
     }
 
-    /// How many of the last of these fields, as far as they are inside the group, begin a line.
+    /// The number of lines that begin in the run of the group's fields at the end of `before`.
     fn lines_before(&self, before: &[Field<'_>]) -> usize
         ensures { result ≡ lines_begun (own_tags self.now) (reverse (seen before.now)) }
     {

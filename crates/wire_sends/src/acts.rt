@@ -25,7 +25,7 @@ use session_frames::FrameBuf;
 use wires::Wire;
 
 /// Sends again what is asked for, where it is of this side, and answers whether the connection
-/// still stands. `resend` is of whom, and the first and the last number.
+/// still stands. `resend` names the side and the first and the last number that are sent again.
 ///
 /// # Errors
 ///

@@ -1,6 +1,0 @@
-use Rattle.std.proofs.Common.{◌≤◌, length}
-use Rattle.edge_parts.proofs.journal.fill.Given as goal
-
--- what was got fits
-abbrev pub invariant-loop : goal.invariant-loop
-invariant-loop g l = l.got ≤ length l.buf

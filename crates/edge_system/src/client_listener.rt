@@ -1,0 +1,492 @@
+//! The client's side: a port that is listened on, those who wait for their Logon, and one
+//! connection at a time that holds the client's place.
+
+ghost use Rattle.std.specs.Prelude.{◌≡◌, ◌<◌, ◌&&◌, length, false, is_ok, is_some, IfOk};
+ghost use Rattle.std.specs.Prelude.{None, true};
+ghost use Rattle.wires.specs.Wire.{Fits, may_come, came_of};
+ghost use Rattle.edge_logic.specs.Order.{InOrder};
+
+use crate::teller::Teller;
+use edge_links::{Link, Parting, System, Visitor, is_parted};
+use edge_logic::{
+    ClosedNth, Ending, Fault, NextTry, Notice, Pace, Peer, PeerName, RefusedNth, Shared, moment,
+    ticks,
+};
+use edge_waits::{Held, Lobby, PutOff, Standing, Stranger, Talk};
+use frame_grammar::Framer;
+use mio::net::{TcpListener, TcpStream};
+use mio::{Interest, Registry, Token};
+use std::io::{ErrorKind, Write};
+use std::net::SocketAddr;
+use std::{io, mem, str};
+use wires::Arrival;
+
+/// How many connections are taken in one poll.
+const TAKEN: u32 = 16;
+
+/// The client's side.
+#[derive(Drop)]
+pub struct ClientListener<'a, R: System, W: Write + Drop> {
+    rt: &'a R,
+    address: SocketAddr,
+    registry: Registry,
+    shared: &'a Shared,
+    teller: Teller<W>,
+    listener: Option<TcpListener>,
+    /// When the port is tried again.
+    tries: Pace,
+    refused: u64,
+    /// When a line says again that a client was refused.
+    lines: Pace,
+    lobby: Lobby<Visitor>,
+    /// Finds the first message of those who wait.
+    framer: Framer,
+    strangers: u64,
+    /// When a line says again that a connection was closed that was no client's.
+    stranger_lines: Pace,
+    /// How long no client may come, since its numbers were too low.
+    put_off: PutOff,
+    parting: Option<Parting>,
+    /// What the client said before it had the place.
+    held: Held,
+    talk: Talk,
+    link: Option<Link>,
+}
+
+impl<'a, R: System, W: Write + Drop> ClientListener<'a, R, W> {
+    /// The client's side at this address, whose sockets are waited for by the registry's set. The
+    /// port is opened at the first poll.
+    pub(crate) fn new(
+        rt: &'a R,
+        address: SocketAddr,
+        registry: Registry,
+        shared: &'a Shared,
+        teller: Teller<W>,
+        framer: Framer,
+    ) -> ClientListener<'a, R, W>
+        ensures { result.link ≡ None }
+    {
+        ClientListener {
+            rt,
+            address,
+            registry,
+            shared,
+            teller,
+            listener: None,
+            tries: Pace::new(),
+            refused: 0,
+            lines: Pace::new(),
+            lobby: Lobby::new(rt.alloc()),
+            framer,
+            strangers: 0,
+            stranger_lines: Pace::new(),
+            put_off: PutOff::new(),
+            parting: None,
+            held: Held::none(rt.alloc()),
+            talk: Talk::new(rt.alloc()),
+            link: None,
+        }
+    }
+
+    fn tell(&mut self, notice: Notice<'_>)
+        ensures { self.new.link ≡ self.old.link }
+    {
+        self.teller.tell(self.rt, notice);
+    }
+
+    // The connection has ended so. Where its numbers were too low the port is closed for a while.
+    fn end(&mut self, ending: Ending<'_>)
+        ensures { self.new.link ≡ self.old.link }
+    {
+        let Some(low) = self.talk.too_low() else {
+            self.tell(Notice::Ended(PeerName::Client, ending, NextTry::Never));
+            return;
+        };
+        let now = ticks(self.rt);
+        self.put_off.begin(now);
+        let left = self.put_off.left(now).div_ceil(1_000);
+        self.tell(Notice::NumbersLow(PeerName::Client, low));
+        self.tell(Notice::Ended(PeerName::Client, ending, NextTry::OpensAfter(left)));
+    }
+
+    // Says that the connection failed.
+    fn tell_fault(&mut self, fault: &Fault)
+        ensures { self.new.link ≡ self.old.link }
+    {
+        match format!(in self.rt.alloc(); "{fault}") {
+            Ok(reason) => self.end(Ending::ByFailure(reason.as_str())),
+            Err(_) => self.end(Ending::ByFailure("out of memory")),
+        }
+    }
+
+    // Why a connection ended before a session stood.
+    fn why(&self) -> Vec<u8> {
+        let mut why = Vec::new(self.rt.alloc());
+        let now = moment(self.rt).unwrap_or(0);
+        let _ = self.talk.put_why(&mut why, now); // as far as there is memory
+        why
+    }
+
+    // Says that the peer closed the connection.
+    fn tell_closed(&mut self)
+        ensures { self.new.link ≡ self.old.link }
+    {
+        if self.talk.is_active() {
+            self.end(Ending::ByPeer);
+            return;
+        }
+        let why = self.why();
+        self.end(Ending::ByPeerBehind(str::from_utf8(&why).unwrap_or("")));
+    }
+
+    // Says that the gateway has ended the connection.
+    fn tell_hung_up(&mut self)
+        ensures { self.new.link ≡ self.old.link }
+    {
+        if self.talk.is_active() {
+            self.end(Ending::ByUs);
+            return;
+        }
+        let why = self.why();
+        self.end(Ending::ByUsBehind(str::from_utf8(&why).unwrap_or("")));
+    }
+
+    fn bind(&self) -> io::Result<TcpListener> {
+        let mut listener = TcpListener::bind(self.rt, self.address)?;
+        self.registry
+            .register(&mut listener, Token(1), Interest::READABLE)?;
+        Ok(listener)
+    }
+
+    // The port cannot be had.
+    fn leave(&mut self, error: io::Error) -> Fault
+        ensures { self.new.link ≡ self.old.link }
+    {
+        self.listener = None;
+        match format!(in self.rt.alloc(); "{error}") {
+            Ok(reason) => self.tell(Notice::NotListening(self.address, reason.as_str())),
+            Err(_) => self.tell(Notice::NotListening(self.address, "out of memory")),
+        }
+        Fault::System(error)
+    }
+
+    // Opens the port, where that was not done, with a try a second at most.
+    fn listen(&mut self) -> Result<(), Fault>
+        ensures { self.new.link ≡ self.old.link }
+    {
+        if self.listener.is_some() || !self.tries.take(ticks(self.rt)) {
+            return Ok(());
+        }
+        match self.bind() {
+            Ok(listener) => {
+                self.listener = Some(listener);
+                self.tell(Notice::Listening(self.address));
+                Ok(())
+            }
+            Err(error) => Err(self.leave(error)),
+        }
+    }
+
+    // The next connection that waits, if any does.
+    fn accept(&self) -> io::Result<Option<(TcpStream, SocketAddr)>> {
+        let Some(listener) = &self.listener else {
+            return Ok(None);
+        };
+        match listener.accept() {
+            Ok(taken) => Ok(Some(taken)),
+            Err(error) => match error.kind() {
+                ErrorKind::WouldBlock | ErrorKind::Interrupted | ErrorKind::ConnectionAborted => {
+                    Ok(None)
+                }
+                _ => Err(error),
+            },
+        }
+    }
+
+    // Says that a client was closed at once: a line a second at most, with the number so far.
+    fn refuse(&mut self, from: SocketAddr)
+        ensures { self.new.link ≡ self.old.link }
+    {
+        self.refused = self.refused.saturating_add(1);
+        if self.lines.take(ticks(self.rt)) {
+            self.tell(Notice::Refused(from, RefusedNth(self.refused)));
+        }
+    }
+
+    // Closes those that come, since one is connected.
+    fn refuse_all(&mut self)
+        ensures { self.new.link ≡ self.old.link }
+    {
+        for _ in 0..TAKEN {
+            match self.accept() {
+                Ok(Some((stream, from))) => {
+                    drop(stream);
+                    self.refuse(from);
+                }
+                _ => return,
+            }
+        }
+        self.shared.note_activity(); // more may wait, of which the system does not tell again
+    }
+
+    // Closes a connection that is no client's, of which a line a second at most says so, with the
+    // number so far.
+    fn close(&mut self, visitor: Visitor, why: Stranger)
+        ensures { self.new.link ≡ self.old.link }
+    {
+        self.strangers = self.strangers.saturating_add(1);
+        if !self.stranger_lines.take(ticks(self.rt)) {
+            return;
+        }
+        let nth = self.strangers;
+        if let Ok(why) = format!(in self.rt.alloc(); "{why}") {
+            let why = why.as_str();
+            self.tell(Notice::Closed(visitor.from, ClosedNth { why, nth }));
+        }
+    }
+
+    // Lets a connection wait; the one that has waited longest goes where there are too many.
+    fn keep(&mut self, visitor: Visitor)
+        ensures { self.new.link ≡ self.old.link }
+    {
+        if let Ok(Some(oldest)) = self.lobby.admit(visitor) {
+            self.close(oldest, Stranger::Crowded);
+        }
+    }
+
+    // Hears a connection that waits. It is given back where its Logon has come.
+    fn hear_visitor(&mut self, mut visitor: Visitor) -> Option<Visitor>
+        ensures { self.new.link ≡ self.old.link }
+    {
+        let Ok((stands, came)) = visitor.listen(&mut self.framer, ticks(self.rt)) else {
+            return None;
+        };
+        if came {
+            self.shared.note_activity();
+        }
+        match stands {
+            Standing::Holds => return Some(visitor),
+            Standing::Waits => self.keep(visitor),
+            Standing::Goes(why) => self.close(visitor, why),
+        }
+        None
+    }
+
+    // Hears those who wait, up to the first whose Logon has come.
+    fn hear_lobby(&mut self) -> Option<Visitor>
+        ensures { self.new.link ≡ self.old.link }
+    {
+        for _ in 0..self.lobby.len() {
+            let visitor = self.lobby.take_oldest()?;
+            let ready = self.hear_visitor(visitor);
+            if ready.is_some() {
+                return ready;
+            }
+        }
+        None
+    }
+
+    fn admit(&self, mut stream: TcpStream, from: SocketAddr) -> Result<Visitor, Fault> {
+        self.registry.register(
+            &mut stream,
+            Token(2),
+            Interest::READABLE | Interest::WRITABLE,
+        )?;
+        Visitor::new(self.rt, stream, from, ticks(self.rt))
+    }
+
+    // Takes those who come, up to the first whose Logon has come.
+    fn take_all(&mut self) -> Result<Option<Visitor>, Fault>
+        ensures { self.new.link ≡ self.old.link }
+    {
+        for _ in 0..TAKEN {
+            let taken = match self.accept() {
+                Ok(Some(taken)) => taken,
+                Ok(None) => return Ok(None),
+                Err(error) => return Err(self.leave(error)),
+            };
+            if let Ok(visitor) = self.admit(taken.0, taken.1) {
+                let ready = self.hear_visitor(visitor);
+                if ready.is_some() {
+                    return Ok(ready);
+                }
+            }
+        }
+        self.shared.note_activity(); // more may wait, of which the system does not tell again
+        Ok(None)
+    }
+
+    // Gives the client's place to a connection, and closes those that wait.
+    fn welcome(&mut self, visitor: Visitor)
+        ensures { is_some self.new.link ≡ true }
+    {
+        for _ in 0..self.lobby.len() {
+            if let Some(other) = self.lobby.take_oldest() {
+                self.refuse(other.from);
+            }
+        }
+        self.tell(Notice::Connected(PeerName::Client, visitor.from));
+        self.shared.note_activity();
+        self.talk = Talk::new(self.rt.alloc());
+        self.held = Held::new(visitor.heard);
+        self.link = Some(visitor.link);
+    }
+
+    // Closes the port, and all that wait, while the client is put off.
+    fn shut(&mut self)
+        ensures { self.new.link ≡ self.old.link }
+    {
+        self.listener = None;
+        self.tries = Pace::new();
+        self.lobby = Lobby::new(self.rt.alloc());
+    }
+
+    // The next connection that has sent a whole Logon.
+    fn next(&mut self) -> Result<Option<Visitor>, Fault>
+        ensures { self.new.link ≡ self.old.link }
+    {
+        if !self.put_off.is_over(ticks(self.rt)) {
+            self.shut();
+            return Ok(None);
+        }
+        self.listen()?;
+        let ready = self.hear_lobby();
+        if ready.is_some() {
+            return Ok(ready);
+        }
+        self.take_all()
+    }
+
+    // Takes the next client.
+    fn open(&mut self, buf: &[u8]) -> Result<Arrival, Fault>
+        requires { self.old.link ≡ None }
+        ensures fits { IfOk result (λ arrived. Fits arrived buf.now) }
+        ensures order { InOrder false (is_some self.new.link) result buf.now }
+    {
+        match self.next()? {
+            Some(visitor) => {
+                self.welcome(visitor);
+                Ok(Arrival::Opened)
+            }
+            None => Ok(Arrival::Nothing),
+        }
+    }
+
+    // Keeps the connection behind a send. What waits is written at the next poll, without a wait.
+    fn hold(&mut self, link: Link)
+        ensures { is_some self.new.link ≡ true }
+    {
+        if link.has_waiting() {
+            self.shared.note_activity();
+        }
+        self.link = Some(link);
+    }
+
+    // Hands on what the client said before it had the place.
+    #[tactic(auto, using(edge_links::proofs::Come::bytes_come))]
+    fn hand_on(&mut self, link: Link, buf: &mut [u8]) -> Result<Arrival, Fault>
+        requires link { self.old.link ≡ None }
+        requires room { 0 < length buf.old }
+        ensures fits { IfOk result (λ arrived. Fits arrived buf.new) }
+        ensures order { InOrder true (is_some self.new.link) result buf.new }
+    {
+        let count = self.held.hand_on(buf);
+        self.shared.note_activity();
+        let _ = self.talk.hear(&buf[..count]); // what there is no memory for is not told
+        self.link = Some(link);
+        if count == 0 {
+            return Ok(Arrival::Nothing);
+        }
+        Ok(Arrival::Bytes(count))
+    }
+
+    // The connection stands behind its Logon.
+    fn stand(&mut self)
+        ensures { self.new.link ≡ self.old.link }
+    {
+        if !self.talk.is_active() {
+            self.talk.stand();
+            self.put_off.forget();
+        }
+    }
+
+    // What came on the connection, which is kept but at its end.
+    fn hear(&mut self, mut link: Link, buf: &mut [u8]) -> Result<Arrival, Fault>
+        requires link { self.old.link ≡ None }
+        requires room { 0 < length buf.old }
+        ensures fits { IfOk result (λ arrived. Fits arrived buf.new) }
+        ensures order { InOrder true (is_some self.new.link) result buf.new }
+    {
+        if !self.held.is_empty() {
+            return self.hand_on(link, buf);
+        }
+        self.stand();
+        match link.receive(buf, ticks(self.rt)) {
+            Ok(Arrival::Closed) => {
+                self.tell_closed();
+                Ok(Arrival::Closed)
+            }
+            Ok(Arrival::Bytes(count)) => {
+                self.shared.note_activity();
+                self.link = Some(link);
+                Ok(Arrival::Bytes(count))
+            }
+            Ok(Arrival::Nothing | Arrival::Opened) => {
+                self.link = Some(link);
+                Ok(Arrival::Nothing)
+            }
+            Err(fault) => {
+                self.tell_fault(&fault);
+                Err(fault)
+            }
+        }
+    }
+}
+
+impl<'a, R: System, W: Write + Drop> Peer for ClientListener<'a, R, W> {
+    ghost within = { λ client. is_some client.link };
+
+    #[tactic(auto, using(edge_links::proofs::Come::in_order_from))]
+    fn arrive(&mut self, buf: &mut [u8]) -> Result<Arrival, Fault> {
+        if self.shared.is_ending() {
+            return Ok(Arrival::Nothing);
+        }
+        self.is_parted();
+        match mem::replace(&mut self.link, None) {
+            None => self.open(buf),
+            Some(link) => {
+                self.refuse_all();
+                self.hear(link, buf)
+            }
+        }
+    }
+
+    fn say(&mut self, piece: &[u8]) -> Result<(), Fault> {
+        let Some(mut link) = mem::replace(&mut self.link, None) else {
+            return Err(Fault::NotConnected);
+        };
+        let _ = self.talk.say(piece); // what there is no memory for is not told
+        match link.send(piece, ticks(self.rt)) {
+            Ok(()) => {
+                self.hold(link);
+                Ok(())
+            }
+            Err(fault) => {
+                self.tell_fault(&fault);
+                Err(fault)
+            }
+        }
+    }
+
+    fn part(&mut self) {
+        if let Some(link) = mem::replace(&mut self.link, None) {
+            self.parting = Some(Parting::new(link, ticks(self.rt)));
+            self.is_parted();
+            self.tell_hung_up();
+        }
+    }
+
+    fn is_parted(&mut self) -> bool {
+        is_parted(&mut self.parting, ticks(self.rt))
+    }
+}

@@ -1,0 +1,102 @@
+//! Both wires and the clock over one set of sockets.
+
+use crate::client_listener::ClientListener;
+use crate::stop_file::StopFile;
+use crate::teller::Teller;
+use crate::venue_connector::VenueConnector;
+use crate::waiting_clock::WaitingClock;
+use edge_links::System;
+use edge_logic::{Counted, Shared, ticks};
+use frame_grammar::{Framer, Kind};
+use mio::{Events, Poll};
+use std::io::Write;
+use std::net::SocketAddr;
+use std::rt::Files;
+use std::time::Duration;
+use std::{io, thread};
+
+/// How long the last words to both peers may take, in milliseconds.
+const FAREWELL: u64 = 1_000;
+
+/// How long a turn of that wait takes, in milliseconds.
+const TURN: u64 = 5;
+
+/// The client's wire.
+pub type ClientWire<'a, R, W> = Counted<ClientListener<'a, R, W>>;
+
+/// The venue's wire.
+pub type VenueWire<'a, R, W> = Counted<VenueConnector<'a, R, W>>;
+
+/// Both wires, and the clock that waits for them.
+#[derive(Drop)]
+pub struct Edge<'a, R: System + Files, W: Write + Copy + Drop> {
+    rt: &'a R,
+    pub client: ClientWire<'a, R, W>,
+    pub venue: VenueWire<'a, R, W>,
+    pub clock: WaitingClock<'a, R, W>,
+}
+
+/// The two addresses, each an IP address and a port.
+#[derive(Clone, Copy, Debug)]
+pub struct Addresses {
+    /// Where the gateway waits for the client.
+    pub listen: SocketAddr,
+    /// Where the venue is.
+    pub connect: SocketAddr,
+}
+
+impl<'a, R: System + Files, W: Write + Copy + Drop> Edge<'a, R, W> {
+    /// The wires and the clock at these addresses, with lines for the operator to `lines`, which is
+    /// standard error. No port is opened and no connect begun before the first polls.
+    ///
+    /// # Errors
+    /// The system's, and for want of memory.
+    pub fn new(
+        rt: &'a R,
+        shared: &'a Shared,
+        addresses: Addresses,
+        stop: StopFile<'a>,
+        lines: W,
+    ) -> io::Result<Edge<'a, R, W>> {
+        let poll = Poll::new(rt)?;
+        let for_client = poll.registry().try_clone()?;
+        let for_venue = poll.registry().try_clone()?;
+        let events = Events::with_capacity(rt.alloc(), 8)?;
+        let client = ClientListener::new(
+            rt,
+            addresses.listen,
+            for_client,
+            shared,
+            Teller::new(rt, lines)?,
+            Framer::new(rt.alloc(), Kind::Fix42)?,
+        );
+        let venue = VenueConnector::new(
+            rt,
+            addresses.connect,
+            for_venue,
+            shared,
+            Teller::new(rt, lines)?,
+        );
+        let clock = WaitingClock::new(rt, poll, events, shared, stop, Teller::new(rt, lines)?);
+        Ok(Edge {
+            rt,
+            client: Counted::new(client),
+            venue: Counted::new(venue),
+            clock,
+        })
+    }
+
+    /// Waits, behind the last hang up, until both peers have what was said to them, a second at
+    /// most. The program calls it before it ends.
+    pub fn part(&mut self) {
+        let until = ticks(self.rt).saturating_add(FAREWELL);
+        for _ in 0..FAREWELL {
+            let client = self.client.is_parted();
+            let venue = self.venue.is_parted();
+            if client && venue || ticks(self.rt) >= until {
+                break;
+            }
+            thread::sleep(self.rt, Duration::from_millis(TURN));
+        }
+    }
+}

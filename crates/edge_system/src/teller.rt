@@ -1,0 +1,111 @@
+//! Lines for the operator, which never wait for their reader.
+
+use edge_links::System;
+use edge_logic::{Lost, Notice, line, moment};
+use mio::unix::SourceFd;
+use mio::{Events, Interest, Poll, Token};
+use std::alloc::Global;
+use std::io;
+use std::io::Write;
+use std::time::Duration;
+
+/// The descriptor of standard error.
+const STANDARD_ERROR: i32 = 2;
+
+/// What a pipe that takes anything takes without a wait, in bytes: `PIPE_BUF` of POSIX, on Linux.
+const PIPE_BUF: usize = 4_096;
+
+/// Writes lines for the operator. A line that standard error would not take at once is lost, and
+/// counted; the next line says how many were. A line of more than 4,096 bytes is written in parts,
+/// and cut where standard error takes no more.
+#[derive(Drop)]
+pub struct Teller<W: Write + Drop> {
+    out: W,
+    /// Reports whether standard error takes a part; none where it always does, as a file.
+    ready: Option<Poll>,
+    /// Whether standard error is a file, which the system does not watch.
+    is_file: bool,
+    events: Events<Global>,
+    lost: u64,
+}
+
+impl<W: Write + Drop> Teller<W> {
+    /// A teller over standard error, whose writer is `out`.
+    ///
+    /// # Errors
+    /// The system's, and for want of memory.
+    pub fn new<R: System>(rt: &R, out: W) -> io::Result<Teller<W>> {
+        let poll = Poll::new(rt)?;
+        let events = Events::with_capacity(rt.alloc(), 1)?;
+        let watched = poll.registry().register(
+            &mut SourceFd(&STANDARD_ERROR),
+            Token(0),
+            Interest::WRITABLE,
+        );
+        let (ready, is_file) = match watched {
+            Ok(()) => (Some(poll), false),
+            Err(error) => (None, error.kind() == io::ErrorKind::PermissionDenied),
+        };
+        Ok(Teller {
+            out,
+            ready,
+            is_file,
+            events,
+            lost: 0,
+        })
+    }
+
+    /// Whether standard error is a file, which takes each line at once.
+    pub fn tells_a_file(&self) -> bool {
+        self.is_file
+    }
+
+    // Whether a part of a line can be written without a wait. What is ready is reported to a
+    // registration that is made anew.
+    fn takes_part(&mut self) -> bool {
+        let Some(poll) = &mut self.ready else {
+            return true;
+        };
+        let watched = poll.registry().reregister(
+            &mut SourceFd(&STANDARD_ERROR),
+            Token(0),
+            Interest::WRITABLE,
+        );
+        watched.is_ok()
+            && poll.poll(&mut self.events, Some(Duration::ZERO)).is_ok()
+            && !self.events.is_empty()
+    }
+
+    // Writes what can be written without a wait, which is asked before each part.
+    fn write_at_once(&mut self, lines: &[u8]) -> io::Result<()> {
+        for part in lines.chunks(PIPE_BUF) {
+            if !self.takes_part() {
+                return Err(io::Error::from(io::ErrorKind::WouldBlock));
+            }
+            self.out.write_all(part)?;
+        }
+        Ok(())
+    }
+
+    // Writes the line of a notice.
+    fn write<R: System>(&mut self, rt: &R, notice: Notice<'_>) -> io::Result<()> {
+        let now = moment(rt).unwrap_or(0);
+        let line = line(rt.alloc(), now, notice, Lost(self.lost))?;
+        self.write_at_once(&line)
+    }
+
+    /// Writes the line of a notice, or loses it.
+    pub fn tell<R: System>(&mut self, rt: &R, notice: Notice<'_>) {
+        match self.write(rt, notice) {
+            Ok(()) => self.lost = 0,
+            Err(_) => self.lost = self.lost.saturating_add(1),
+        }
+    }
+
+    /// Writes lines as they are, or loses them.
+    pub fn put(&mut self, lines: &[u8]) {
+        if self.write_at_once(lines).is_err() {
+            self.lost = self.lost.saturating_add(1);
+        }
+    }
+}
