@@ -1,7 +1,7 @@
 //! Who waits to be the client: whose first message is a whole Logon, and who has to go.
 
 ghost use Rattle.std.specs.Prelude.{◌≡◌, ◌<◌, ◌==◌, ◌++◌, ◌∷◌, [], IfOk, length, is_some, nat_le};
-ghost use Rattle.std.specs.Prelude.{take};
+ghost use Rattle.std.specs.Prelude.{◌≤◌, take};
 ghost use Rattle.std.specs.Option.{option_to_list};
 ghost use Rattle.frame_grammar.specs.Cut.{first_piece};
 ghost use Rattle.frame_grammar.specs.declared.buffer.TheConstants.{CAPACITY};
