@@ -3,8 +3,8 @@
 ghost use Rattle.std.specs.Prelude.{◌≡◌};
 ghost use Rattle.edge_logic.specs.EndTime.{long_end};
 
-/// So many rounds go by in a second behind a stop file, by measure.
-pub const ROUNDS_A_SECOND: u64 = 5_000_000;
+/// So many rounds at least go by in a second behind a stop file, by measure.
+pub const ROUNDS_A_SECOND: u64 = 2_000_000;
 
 /// An end that takes longer, in seconds, is told of at the start.
 pub const LONG_END: u64 = 5;

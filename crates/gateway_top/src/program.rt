@@ -44,7 +44,7 @@ Usage: fixgate [OPTIONS] COMMAND
   serve ROUNDS    reads a configuration from standard input and serves both
                   sessions for so many rounds, 1 to 1,000,000,000: an hour in
                   which nothing comes has 72,000, and behind a stop file
-                  5,000,000 go by in a second
+                  2,000,000 or more go by in a second
   show            prints a line for each entry of the journal
   translate up    reads FIX 4.2 order requests from standard input and writes
                   them to standard output as the venue takes them; ends at the
