@@ -11,10 +11,15 @@ const KNOWN: [(&str, &[&str]); 4] = [
     ("gate", &["window"]),
 ];
 
+// Whether a name is one of these.
+fn is_one_of(name: &str, known: &[&str]) -> bool {
+    known.iter().any(|key| *key == name)
+}
+
 // The first key of a table that is none of these.
 fn other_key<'a>(table: &'a Table, known: &[&str]) -> Option<&'a str> {
     for key in table.keys() {
-        if !known.contains(&key.as_str()) {
+        if !is_one_of(key.as_str(), known) {
             return Some(key.as_str());
         }
     }
