@@ -18,10 +18,14 @@ use Rattle.edge_waits.specs.Fields.{value_in}
 abbrev pub shown : ℕ → ℕ
 shown byte = if nat_le 32 byte && nat_le byte 126 then byte else 63
 
+-- up to 256 bytes of a text, behind its name
+abbrev pub named_text : List ℕ → List ℕ → List ℕ
+named_text name text = name ++ map shown (take 256 text)
+
 -- a field that came, up to 256 bytes of its value
 abbrev pub shown_field : List ℕ → Option (List ℕ) → List ℕ
 shown_field name None = []
-shown_field name (Some value) = codes " " ++ name ++ map shown (take 256 value)
+shown_field name (Some value) = codes " " ++ named_text name value
 
 -- a number from 1 to 999,999,999
 abbrev pub is_number : Result Number FieldFault → Bool
@@ -101,7 +105,7 @@ fault_text heard now =
 
 -- what the gateway said by a Logout, or what is wrong where it said none
 abbrev pub told_text : List ℕ → Option (List ℕ) → ℕ → List ℕ
-told_text heard (Some text) now = codes "; it was told Logout " ++ map shown (take 256 text)
+told_text heard (Some text) now = named_text (codes "; it was told Logout ") text
 told_text heard None now = fault_text heard now
 
 -- why a connection ended on which this came, and this was said last by a Logout

@@ -3,9 +3,10 @@
 ghost use Rattle.std.specs.Prelude.{◌≡◌, ◌++◌, map, take, decimal, OnOk};
 ghost use Rattle.std.specs.Option.{option_map};
 ghost use Rattle.edge_waits.specs.Fields.{value_in};
-ghost use Rattle.edge_waits.specs.Why.{shown, shown_field, off_by, has_number, wrong_of};
-ghost use Rattle.edge_waits.specs.Why.{wrong_by, words_of, seconds_of, seconds_text, wrong_text};
-ghost use Rattle.edge_waits.specs.Why.{is_logon, is_new_logon, told_text, fault_text, why_text};
+ghost use Rattle.edge_waits.specs.Why.{shown, named_text, shown_field, off_by, has_number};
+ghost use Rattle.edge_waits.specs.Why.{wrong_of, wrong_by, words_of, seconds_of, seconds_text};
+ghost use Rattle.edge_waits.specs.Why.{wrong_text, is_logon, is_new_logon, fault_text, told_text};
+ghost use Rattle.edge_waits.specs.Why.{why_text};
 
 use crate::fields::value_of;
 use itoa::Buffer;
@@ -65,6 +66,14 @@ fn put_shown(out: &mut Vec<u8>, text: &[u8]) -> Result<(), AllocError>
     Ok(())
 }
 
+// Appends the front of a text as it is shown, behind its name.
+fn put_named(out: &mut Vec<u8>, name: &[u8], text: &[u8]) -> Result<(), AllocError>
+    ensures { OnOk result (out.new.items ≡ out.old.items ++ named_text name.now text.now) }
+{
+    out.extend_from_slice(name)?;
+    put_shown(out, front(text))
+}
+
 // Appends a field as it is shown, where it came.
 fn put_field(out: &mut Vec<u8>, name: &[u8], heard: &[u8]) -> Result<(), AllocError>
     ensures { OnOk result (out.new.items
@@ -72,8 +81,7 @@ fn put_field(out: &mut Vec<u8>, name: &[u8], heard: &[u8]) -> Result<(), AllocEr
 {
     if let Some(value) = value_of(name, heard) {
         out.extend_from_slice(b" ")?;
-        out.extend_from_slice(name)?;
-        put_shown(out, front(value))?;
+        put_named(out, name, value)?;
     }
     Ok(())
 }
@@ -222,10 +230,7 @@ fn put_told(
         ++ told_text heard.now (option_map (λ text. text.now) farewell.entry) now) }
 {
     match farewell {
-        Some(text) => {
-            out.extend_from_slice(b"; it was told Logout ")?;
-            put_shown(out, front(text))
-        }
+        Some(text) => put_named(out, b"; it was told Logout ", text),
         None => put_fault(out, heard, now),
     }
 }

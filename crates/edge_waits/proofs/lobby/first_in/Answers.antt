@@ -6,10 +6,10 @@ use Rattle.edge_waits.proofs.lobby.first_in.Goals as goal
 pub returns-in-Frame-clause-first : goal.returns-in-Frame-clause-first
 returns-in-Frame-clause-first c =
     c.first_by.ensures
-    ∙ told_frame c.next.new.framer c.args.framer.now.kind (take CAPACITY c.args.bytes.now)
+    ∙ told_frame c.next.new.self c.args.framer.now.kind (take CAPACITY c.args.bytes.now)
     (take c.feed.result c.args.bytes.now) c.part.result.now c.next.result c.in-Frame.at
     c.in-Frame.len c.in-Frame.body
-    (all_fed c.args.bytes.now c.feed.result c.restart.new.framer c.args.framer.now.kind
+    (all_fed c.args.bytes.now c.feed.result c.restart.new.self c.args.framer.now.kind
     c.restart.ensures.fresh c.feed.ensures.taken)
     (c.next.ensures.kind ∙ ap (λ h. h.kind) c.feed.ensures.same
     ∙ ap (λ h. h.kind) c.restart.ensures.fresh)
@@ -19,10 +19,10 @@ returns-in-Frame-clause-first c =
 
 pub returns-in-Garbled-clause-first : goal.returns-in-Garbled-clause-first
 returns-in-Garbled-clause-first c =
-    told_garbled c.next.new.framer c.args.framer.now.kind (take CAPACITY c.args.bytes.now)
+    told_garbled c.next.new.self c.args.framer.now.kind (take CAPACITY c.args.bytes.now)
     (take c.feed.result c.args.bytes.now) c.next.result c.in-Garbled.at c.in-Garbled.len
     c.in-Garbled.cause
-    (all_fed c.args.bytes.now c.feed.result c.restart.new.framer c.args.framer.now.kind
+    (all_fed c.args.bytes.now c.feed.result c.restart.new.self c.args.framer.now.kind
     c.restart.ensures.fresh c.feed.ensures.taken)
     (c.next.ensures.kind ∙ ap (λ h. h.kind) c.feed.ensures.same
     ∙ ap (λ h. h.kind) c.restart.ensures.fresh)
@@ -32,9 +32,9 @@ returns-in-Garbled-clause-first c =
 
 pub returns-in-More-clause-first : goal.returns-in-More-clause-first
 returns-in-More-clause-first c =
-    told_more c.next.new.framer c.args.framer.now.kind (take CAPACITY c.args.bytes.now)
+    told_more c.next.new.self c.args.framer.now.kind (take CAPACITY c.args.bytes.now)
     (take c.feed.result c.args.bytes.now) c.next.result
-    (all_fed c.args.bytes.now c.feed.result c.restart.new.framer c.args.framer.now.kind
+    (all_fed c.args.bytes.now c.feed.result c.restart.new.self c.args.framer.now.kind
     c.restart.ensures.fresh c.feed.ensures.taken)
     (c.next.ensures.kind ∙ ap (λ h. h.kind) c.feed.ensures.same
     ∙ ap (λ h. h.kind) c.restart.ensures.fresh)
