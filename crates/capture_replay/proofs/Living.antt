@@ -29,7 +29,6 @@ use Rattle.gateway_life.proofs.Living.{same_journal}
 use Rattle.pair_journal.specs.Laws.{HasOneReading}
 use Rattle.capture_text.specs.declared.capture.Event.{Event}
 use Rattle.capture_replay.specs.Rounds.{is_round, arrival, script_of, moments_from}
-use Rattle.capture_replay.specs.Rounds.{moment_after}
 use Rattle.capture_replay.specs.Replay.{Left, is_fault}
 use Rattle.capture_replay.specs.Lived.{IsLived, LivesOn}
 
