@@ -57,7 +57,7 @@ module _ {T : Type 0} (state : T → TapState) (first count : ℕ) (seen now : L
   pub day_lived : IsLived state (config_with drill_names drill_heart) (drill_events first count)
       nothing seen now client venue end image
   day_lived =
-      subst (λ (l : List Event). LivesOn state (config_with drill_names drill_heart) l [] seen now
+      subst (λ (l : List Event). LivesOn state (config_with drill_names drill_heart) l 0 [] seen now
       client venue end image) of_lines
       (subst (λ (k : Config). LivesOn state k lines 0 [] seen now client venue end image) same
       (subst (λ (b : List ℕ). LivesOn state config lines 0 b seen now client venue end image) none

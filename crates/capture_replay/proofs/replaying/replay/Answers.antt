@@ -55,8 +55,9 @@ loop-index-preserved g c =
           c.config_of-config.result lines now lived.client.recorded lived.venue.recorded lived.end
           lived.image.items c.config_of-config.ensures c.in_ok-lived.ensures.lived)
           c.calls.ensures c.calls-in-loop-index.ensures c.end_name.ensures
-          c.moment_after.result c.moment_after.ensures (g.O.Sink.bytes c.put_life.new.out)
-          c.lives_follow.ensures.next (are_shown capture c.requires)
+          c.moment_after-moment.result c.moment_after-moment.ensures
+          (g.O.Sink.bytes c.put_life.new.out) c.lives_follow.ensures.next
+          (are_shown capture c.requires)
           (c.in_ok-put_life.ensures.lines (λ none. absurd (cc none)));
       faults = (c.in_ok-put_life.ensures.cause (λ none. absurd (cc none))).still
           ∙ c.loop-index.invariant.faults;
