@@ -19,9 +19,9 @@ fn own_path(rt: &HostRuntime, end: &str) -> io::Result<String> {
     Ok(format!(in rt.alloc(); "{}/edge-{id}{end}", env::temp_dir(rt)?.as_str())?)
 }
 
-/// Whether a new journal is empty, and takes six bytes.
+/// Whether a new journal is empty, and takes six bytes, of which the first may begin one.
 fn takes<R: Files<File = File>>(disk: &mut JournalFile<'_, R>) -> bool {
-    disk.len() == Ok(0) && disk.write_at(0, b"abcdef") == Ok(()) && disk.sync() == Ok(())
+    disk.len() == Ok(0) && disk.write_at(0, b"\x01bcdef") == Ok(()) && disk.sync() == Ok(())
 }
 
 /// Whether a disk has these bytes from a place on, and no more.
