@@ -24,10 +24,11 @@ if_drill command known first count holds same is drilled =
     subst (λ (k : Option Command). IfDrill k holds) (sym is ∙ same) drilled
 
 -- five facts of what did not begin
-pub on_err_all : {T E P Q R S V : Type 0} (answer : Result T E) → OnErr answer P → OnErr answer Q
-    → OnErr answer R → OnErr answer S → OnErr answer V → OnErr answer (P × Q × R × S × V)
-on_err_all (Ok value) p q r s v = tt
-on_err_all (Err error) p q r s v = (p, q, r, s, v)
+pub on_err_all : {T E : Type 0} (P Q R S V : Type 0) (answer : Result T E) → OnErr answer P
+    → OnErr answer Q → OnErr answer R → OnErr answer S → OnErr answer V
+    → OnErr answer (P × Q × R × S × V)
+on_err_all P Q R S V (Ok value) p q r s v = tt
+on_err_all P Q R S V (Err error) p q r s v = (p, q, r, s, v)
 
 -- the numbers of a drill that was read
 pub within : (known : Option Command) (first count : ℕ) → known ≡ Some (Drill first count)

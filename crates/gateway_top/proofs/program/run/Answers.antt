@@ -1,4 +1,4 @@
-use Rattle.std.proofs.Common.{◌∙◌, ap, Some}
+use Rattle.std.proofs.Common.{◌≡◌, ◌∙◌, ap, Some}
 use Rattle.gateway_top.proofs.Serving.{if_serve, if_replay, if_drill, within, on_err_all}
 use Rattle.gateway_top.proofs.program.run.Goals as goal
 
@@ -13,8 +13,10 @@ returns-in-Some-Serve-clause-serves g c =
         c.serve.result,
         c.of_serve.ensures,
         served.2,
-        on_err_all c.serve.result c.serve.ensures.disk c.serve.ensures.client
-            c.serve.ensures.venue c.serve.ensures.clock c.serve.ensures.taps,
+        on_err_all (c.serve.new.disk ≡ c.args.disk.now) (c.serve.new.client ≡ c.args.client.now)
+            (c.serve.new.venue ≡ c.args.venue.now) (c.serve.new.clock ≡ c.args.clock.now)
+            (c.serve.new.taps ≡ c.args.taps.now) c.serve.result c.serve.ensures.disk
+            c.serve.ensures.client c.serve.ensures.venue c.serve.ensures.clock c.serve.ensures.taps,
       ),
     )
 
