@@ -1,5 +1,5 @@
-//! The texts of entries, as a tap tells them: those of Reject(3), Logout(5) and
-//! BusinessMessageReject(j), taken or said.
+//! The lines of entries, as a tap tells them: those of orders, and the texts of Reject(3), Logout(5)
+//! and BusinessMessageReject(j), taken or said.
 
 use crate::entries::{Message, entry_of, is_entry};
 use drop_taps::{Tap, TapFailed};
@@ -18,7 +18,8 @@ type Said = (Side, u32, &'static [u8], &'static [u8]);
 const ROWS: [(Option<Message>, &[Said], &[u8]); 6] = [
     (None, &[], b""),
     (Some((Side::Client, 2, b"35=D\x0134=2\x0111=A1\x01")),
-        &[(Side::Venue, 2, b"D", b"11=A1\x01")], b""),
+        &[(Side::Venue, 2, b"D", b"11=A1\x01")],
+        b"client:2 taken order 11=A1\nvenue:2 said order 11=A1\n"),
     (Some((Side::Client, 9, b"35=j\x0134=9\x0145=4\x01372=8\x01380=0\x0158=n \xe9\x01")),
         &[(Side::Venue, 5, b"j", b"45=7\x01372=8\x01380=0\x01")],
         b"client:9 taken 35=j|34=9|45=4|372=8|380=0|58=n ?|\n\
