@@ -3,12 +3,11 @@ use Rattle.std.specs.Prelude.{◌≡◌, List, [], ◌∷◌, codes}
 use Rattle.std.specs.Prelude.{unwrap_or, IfSome}
 use Rattle.std.specs.Option.{option_map}
 use Rattle.value_kinds.specs.ValueKind.{Id, Text, OneByte, Code, Codes, Word, Currency, Flag}
-use Rattle.value_kinds.specs.ValueKind.{Qty, Price, Stamp, Day}
+use Rattle.value_kinds.specs.ValueKind.{Qty, Price, Stamp, Day, code_text}
 use Rattle.typed_fields.specs.Dec.{dec_text}
 use Rattle.typed_fields.specs.Day.{day_text}
 use Rattle.typed_fields.specs.Stamp.{stamp_text}
 use Rattle.typed_fields.specs.Flag.{flag_text}
-use Rattle.value_kinds.specs.CodeKinds.{code_text}
 use Rattle.field_groups.specs.Field.{Field}
 use Rattle.message_tables.specs.Tables.{Said}
 use Rattle.dict_fix42.specs.declared.groups.Groups.{Groups}

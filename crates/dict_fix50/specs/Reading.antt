@@ -2,9 +2,8 @@
 use Rattle.std.specs.Prelude.{◌≡◌, List, [], ◌∷◌}
 use Rattle.std.specs.Prelude.{codes, unwrap_or, IfSome}
 use Rattle.std.specs.Option.{option_map}
-use Rattle.value_kinds.specs.ValueKind.{Id, Text, Word, Currency, Codes, Flag, Day, Qty}
-use Rattle.value_kinds.specs.ValueKind.{Price}
-use Rattle.value_kinds.specs.ValueKind.{Stamp, Code}
+use Rattle.value_kinds.specs.ValueKind.{Id, Text, Word, Currency, Codes, Flag, Day, Qty, Price}
+use Rattle.value_kinds.specs.ValueKind.{Stamp, Code, code_text}
 use Rattle.typed_fields.specs.Dec.{dec_text}
 use Rattle.typed_fields.specs.Day.{day_text}
 use Rattle.typed_fields.specs.Stamp.{stamp_text}
@@ -19,7 +18,6 @@ use Rattle.dict_fix50.specs.declared.requests.Status50.{Status50}
 use Rattle.row_values.specs.Kinds.{Value, Byte, TimeBeside, said, resend_of}
 use Rattle.rows_fix50.specs.Maturity.{IsMaturity}
 use Rattle.row_values.specs.Groups.{AreParties, AreAllocs, AreSessions}
-use Rattle.value_kinds.specs.CodeKinds.{code_text}
 
 pub record AreGroups (fields : List Field) (groups : Groups) : Type 0 where
   pub parties : AreParties fields groups.parties

@@ -6,10 +6,9 @@ use Rattle.typed_fields.specs.Dec.{dec_text}
 use Rattle.typed_fields.specs.Day.{day_text}
 use Rattle.typed_fields.specs.Stamp.{stamp_text}
 use Rattle.typed_fields.specs.Flag.{flag_text}
-use Rattle.value_kinds.specs.CodeKinds.{code_text}
+use Rattle.value_kinds.specs.ValueKind.{code_text}
 use Rattle.message_tables.specs.Tables.{Tag, Role, Message}
-use Rattle.row_values.specs.Lines.{month_text, party_cells, alloc_cells, session_cells}
-use Rattle.row_values.specs.Writing.{date_text}
+use Rattle.row_values.specs.Lines.{month_text, party_cells, alloc_cells, session_cells, date_text}
 use Rattle.rows_fix50.specs.Meaning.{id_of}
 use Rattle.dict_fix50.specs.declared.requests.New50.{New50}
 use Rattle.dict_fix50.specs.declared.requests.Cancel50.{Cancel50}

@@ -2,7 +2,7 @@
 
 ghost use Rattle.std.specs.Prelude.{◌≡◌, codes};
 ghost use Rattle.std.specs.Option.{option_map};
-ghost use Rattle.value_kinds.specs.CodeKinds.{code_text};
+ghost use Rattle.value_kinds.specs.ValueKind.{code_text};
 ghost use Rattle.row_values.specs.Kinds.{Byte, said};
 
 use field_groups::Fields;

@@ -9,8 +9,7 @@ use Rattle.field_groups.specs.Field.{Field}
 use Rattle.message_tables.specs.Tables.{Spells, is_listed, is_one_of}
 use Rattle.message_tables.specs.Tables.{value_at}
 use Rattle.order_meaning.specs.Request.{OrderType}
-use Rattle.value_kinds.specs.ValueKind.{is_code, listed_word, spelling}
-use Rattle.value_kinds.specs.CodeKinds.{code_text}
+use Rattle.value_kinds.specs.ValueKind.{is_code, listed_word, spelling, code_text}
 use Rattle.row_values.specs.Kinds.{TimeBeside, counted, is_at_close, judge, verdict_of}
 use Rattle.rows_fix42.specs.Meaning.{is_on_close, time_of}
 use Rattle.rows_fix50.specs.Meaning.{terms_of as terms50}

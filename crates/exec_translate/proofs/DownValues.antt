@@ -33,13 +33,11 @@ use Rattle.message_tables.specs.Tables.{Said, Cell, Place, Tag, ◌>>=◌, first
 use Rattle.message_tables.specs.Tables.{is_place, or_else, party_in, said_at, text_in, value_at}
 use Rattle.message_tables.specs.Content.{line_fields}
 use Rattle.message_tables.proofs.Clean.{stands}
-use Rattle.value_kinds.specs.ValueKind.{Id, Text, Reason, Day, MonthYear}
+use Rattle.value_kinds.specs.ValueKind.{Id, Text, Reason, Day, MonthYear, two_digit_text}
 use Rattle.value_kinds.specs.ValueKind.{spelling, spelt, if_in_range, number_of_two, formed}
-use Rattle.value_kinds.specs.CodeKinds.{two_digit_text}
 use Rattle.row_values.specs.Kinds.{Value, DayOf, in_month, judge, month_at, row, verdict_of}
 use Rattle.row_values.specs.Groups.{parties}
-use Rattle.row_values.specs.Lines.{month_text, IsReadableMaturity}
-use Rattle.row_values.specs.Writing.{date_text, month_day_text}
+use Rattle.row_values.specs.Lines.{month_text, IsReadableMaturity, date_text, month_day_text}
 use Rattle.row_values.specs.declared.lines.Maturity.{Maturity}
 use Rattle.rows_fix42.specs.Header.{has_day}
 use Rattle.reports_fix50.specs.Sense.{reason_told, reason_within, telling}
@@ -48,7 +46,8 @@ use Rattle.sound_messages.proofs.Each.{either}
 use Rattle.sound_messages.proofs.Judged50.{clear_front}
 use Rattle.sound_messages.proofs.RowsSaid.{optional_said, needed_said, same_value}
 use Rattle.sound_messages.proofs.SpelledAgain.{clear_joined, digits_clear}
-use Rattle.exec_translate.specs.Written.{dated, told_text, value_in, within}
+use Rattle.exec_translate.specs.FromFields.{told_text}
+use Rattle.exec_translate.specs.Written.{dated, value_in, within}
 use Rattle.exec_translate.proofs.Values.{padded_number, two_number}
 
 -- ---- parties

@@ -9,9 +9,8 @@ use Rattle.typed_fields.specs.Dec.{dec_text}
 use Rattle.typed_fields.specs.Day.{day_text}
 use Rattle.typed_fields.specs.Number.{number_text}
 use Rattle.typed_fields.specs.Stamp.{stamp_text}
-use Rattle.value_kinds.specs.CodeKinds.{code_text}
+use Rattle.value_kinds.specs.ValueKind.{code_text, Price, Qty}
 use Rattle.value_kinds.specs.ValueKind.{ValueKind, Id, Text, Code, Known, Currency, Day, Stamp}
-use Rattle.value_kinds.specs.ValueKind.{Price, Qty}
 use Rattle.field_groups.specs.Field.{Field, body_of}
 use Rattle.message_tables.specs.TableLaws.{IsStrict}
 use Rattle.message_tables.specs.Tables.{Need, Required, Optional, When, Is, One, Table, Said, Tag}
@@ -20,8 +19,8 @@ use Rattle.message_tables.specs.FirstFault.{first_fault}
 use Rattle.message_tables.specs.Content.{cell_fields, group_fields}
 use Rattle.row_values.specs.Contras.{contra_cells}
 use Rattle.row_values.specs.Kinds.{Kind, Value, judge}
-use Rattle.row_values.specs.Lines.{month_text}
-use Rattle.row_values.specs.Writing.{dec_at, month_day_text}
+use Rattle.row_values.specs.Lines.{month_text, month_day_text}
+use Rattle.row_values.specs.Writing.{dec_at}
 use Rattle.row_values.proofs.ByTable.{says}
 use Rattle.row_values.proofs.SaidRows.{full, full_text}
 use Rattle.row_values.proofs.Texts.{day_said, price_said, qty_at_said, stamp_said}

@@ -17,8 +17,7 @@ use Rattle.order_meaning.specs.Request.{OrderType, NeutralMaturity}
 use Rattle.order_meaning.specs.Report.{ExecutionReport, Executed, NotCanceled, filled, or_known}
 use Rattle.row_values.specs.Amounts.{amount_of, contra_of}
 use Rattle.row_values.specs.Contras.{contra_cells}
-use Rattle.row_values.specs.Lines.{month_text}
-use Rattle.row_values.specs.Writing.{month_day_text}
+use Rattle.row_values.specs.Lines.{month_text, month_day_text}
 use Rattle.row_values.specs.declared.contras.ContraLine.{ContraLine}
 use Rattle.row_values.specs.declared.lines.Maturity.{Maturity}
 use Rattle.rows_fix42.specs.Meaning as meaning42

@@ -5,8 +5,7 @@ use Rattle.std.proofs.Common.{if◌then◌else◌}
 use Rattle.std.specs.Prelude.{IsSome, IfSome}
 use Rattle.typed_fields.specs.Dec.{dec_text}
 use Rattle.order_meaning.specs.declared.party.Three.{Three}
-use Rattle.value_kinds.specs.CodeKinds.{code_text}
-use Rattle.value_kinds.specs.ValueKind.{Code, Known, Text}
+use Rattle.value_kinds.specs.ValueKind.{code_text, Code, Known, Text}
 use Rattle.field_groups.specs.Field.{Field}
 use Rattle.message_tables.specs.Tables.{Said, ◌>>=◌, code_of}
 use Rattle.row_values.specs.Kinds.{Value, said}

@@ -16,11 +16,9 @@ use Rattle.message_tables.specs.Tables.{groups_of, is_listed, is_needed, is_one_
 use Rattle.message_tables.specs.Tables.{party_in, said_at, value_at}
 use Rattle.message_tables.specs.Content.{content}
 use Rattle.value_kinds.specs.ValueKind.{ValueKind, Id, Text, Code, Known, Reason, Qty, Price}
-use Rattle.value_kinds.specs.ValueKind.{spelling}
-use Rattle.value_kinds.specs.CodeKinds.{code_text}
+use Rattle.value_kinds.specs.ValueKind.{spelling, code_text}
 use Rattle.row_values.specs.Kinds.{Kind, Value, DayOf, judge, row}
-use Rattle.row_values.specs.Lines.{month_text}
-use Rattle.row_values.specs.Writing.{month_day_text}
+use Rattle.row_values.specs.Lines.{month_text, month_day_text}
 use Rattle.row_values.specs.declared.lines.Maturity.{Maturity}
 use Rattle.row_values.specs.Contras.{contra_cells, contras as contras50}
 use Rattle.rows_fix50.specs.Header.{completed}

@@ -20,10 +20,8 @@ use Rattle.typed_fields.specs.MonthYear.{month_year_text}
 use Rattle.typed_fields.specs.Number.{IsNumber, number_text}
 use Rattle.typed_fields.proofs.DigitsLemmas.{numerals, zero_padded_two}
 use Rattle.typed_fields.proofs.SpellingLemmas.{two_back}
-use Rattle.value_kinds.specs.CodeKinds.{two_digit_text}
-use Rattle.row_values.specs.Lines.{month_text}
-use Rattle.row_values.specs.Writing.{month_day_text, date_text}
-use Rattle.value_kinds.specs.ValueKind.{number_of_two}
+use Rattle.value_kinds.specs.ValueKind.{two_digit_text, number_of_two}
+use Rattle.row_values.specs.Lines.{month_text, month_day_text, date_text}
 use Rattle.row_values.specs.declared.lines.Maturity.{Maturity}
 use Rattle.rows_fix42.specs.Meaning.{maturity_of as maturity42}
 use Rattle.rows_fix50.specs.Meaning.{maturity_of as maturity50}

@@ -3,6 +3,7 @@
 use Rattle.std.specs.Prelude.{◌≡◌, ◌++◌, ◌==◌, ◌||◌, ℕ, Bool, List, [], ◌∷◌, codes, Option, Some}
 use Rattle.std.specs.Prelude.{None, pos}
 use Rattle.std.specs.Prelude.{IfSome, option_and_then, unwrap_or, if◌then◌else◌}
+use Rattle.std.specs.Fmt.{decimal}
 use Rattle.std.specs.Option.{option_map}
 use Rattle.std.specs.Result.{result_ok}
 use Rattle.typed_fields.specs.declared.dec.Dec.{Dec}
@@ -13,8 +14,7 @@ use Rattle.typed_fields.specs.Dec.{IsDec, dec_text}
 use Rattle.typed_fields.specs.Day.{read_day}
 use Rattle.typed_fields.specs.Number.{IsNumber, number_text}
 use Rattle.typed_fields.specs.Stamp.{read_stamp}
-use Rattle.value_kinds.specs.CodeKinds.{code_text}
-use Rattle.value_kinds.specs.ValueKind.{ValueKind, Id, Text, Code, Known, Word, Currency}
+use Rattle.value_kinds.specs.ValueKind.{code_text, ValueKind, Id, Text, Code, Known, Word, Currency}
 use Rattle.value_kinds.specs.ValueKind.{Qty, Reason}
 use Rattle.field_groups.specs.Field.{Field, body_of}
 use Rattle.message_tables.specs.Tables.{Said, ◌>>=◌, code_of, value_at}
@@ -70,6 +70,18 @@ security_types = codes "CS" ∷ codes "PS" ∷ codes "FUT" ∷ []
 -- what OrdStatus(39) may be
 abbrev pub statuses : List ℕ
 statuses = codes "0123456789ABCDE"
+
+-- a reason with its tag, as a text tells it
+abbrev pub told_text : ℕ → ℕ → List ℕ
+told_text tag reason = codes " [" ++ decimal tag ++ codes "=" ++ decimal reason ++ codes "]"
+
+-- the texts that both versions say alike
+abbrev pub report_texts : Report50 → List Said
+report_texts m =
+    Some m.order_id
+    ∷ m.secondary_id ∷ m.cl_ord_id ∷ m.orig_id ∷ m.ref_id ∷ m.account ∷ Some m.symbol
+    ∷ m.symbol_sfx ∷ m.security_id ∷ m.security_type ∷ m.security_exchange ∷ m.currency
+    ∷ m.last_mkt ∷ []
 
 -- no amount at all
 abbrev pub zero_amount : Dec

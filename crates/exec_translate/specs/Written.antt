@@ -1,12 +1,11 @@
--- Inside: how each row of a report is written in FIX 4.2, on the structs of the two versions.
-use Rattle.std.specs.Prelude.{◌≡◌, ℕ, ◌%◌, List, [], ◌∷◌, ◌==◌, ◌||◌, ◌++◌, codes, Option, Some}
+-- Own: how each row of a report of FIX 5.0 SP2 is written in FIX 4.2; docs/REPORTS.md.
+use Rattle.std.specs.Prelude.{◌≡◌, ℕ, ◌%◌, List, ◌==◌, ◌||◌, ◌++◌, codes, Option}
 use Rattle.std.specs.Prelude.{if◌then◌else◌}
 use Rattle.std.specs.Option.{option_map}
-use Rattle.std.specs.Fmt.{decimal}
 use Rattle.typed_fields.specs.declared.number.Number.{Number}
-use Rattle.message_tables.specs.Tables.{Said, ◌>>=◌, code_of}
+use Rattle.message_tables.specs.Tables.{◌>>=◌, code_of}
 use Rattle.order_meaning.specs.Request.{OrderType}
-use Rattle.value_kinds.specs.CodeKinds.{code_text}
+use Rattle.value_kinds.specs.ValueKind.{code_text}
 use Rattle.row_values.specs.declared.lines.Maturity.{Maturity}
 use Rattle.reports_fix42.specs.Sense.{phase_of as phase42}
 use Rattle.rows_fix42.specs.Meaning.{order_type_of, time_of, is_on_close}
@@ -22,7 +21,7 @@ use Rattle.reports_fix42.specs.declared.reports.CancelReject42.{CancelReject42}
 use Rattle.reports_fix50.specs.declared.reports.Report50.{Report50}
 use Rattle.reports_fix50.specs.declared.reports.CancelReject50.{CancelReject50}
 
--- a code, by its spelling
+-- what a code is, by its spelling
 abbrev pub coded : Option ℕ → Option ℕ
 coded code = option_map code_text code >>= code_of
 
@@ -30,25 +29,21 @@ coded code = option_map code_text code >>= code_of
 abbrev pub terms42 : Option ℕ → Option ℕ → Option OrderType × Option ℕ
 terms42 ord_type time = (ord_type >>= order_type_of, time_of (is_on_close ord_type) time)
 
--- a day of the month has two digits
+-- a day of the month is written by its last two digits
 abbrev pub dated : Option Maturity → Option Maturity
 dated maturity =
     option_map (λ m. record { month = m.month; day = option_map (λ day. day % 100) m.day }) maturity
 
--- the number that a reason is
+-- a reason as a number
 abbrev pub value_in : Option Number → Option ℕ
 value_in reason = option_map (λ n. n.value) reason
 
--- a reason of FIX 4.2 in place of one that it lacks
+-- a reason; in place of one above the last one of FIX 4.2 stands the one for others
 abbrev pub within : ℕ → ℕ → Option Number → Option Number
 within last other reason =
     option_map (λ n. record { value = reason_within last other n.value }) reason
 
--- a reason with its tag, as a text tells it
-abbrev pub told_text : ℕ → ℕ → List ℕ
-told_text tag reason = codes " [" ++ decimal tag ++ codes "=" ++ decimal reason ++ codes "]"
-
--- an execution report
+-- the execution report of the client (r) in which that of the venue (m) is written
 pub record IsWritten (m : Report50) (r : Report42) : Type 0 where
   pub resend : r.resend ≡ m.resend
   pub order_id : r.order_id ≡ m.order_id
@@ -61,6 +56,7 @@ pub record IsWritten (m : Report50) (r : Report42) : Type 0 where
   pub contras : r.contras ≡ m.contras
   pub exec_id : r.exec_id
       ≡ (if m.exec_type == 73 || m.exec_type == 76 then codes "0" else m.exec_id)
+  -- ExecTransType(20) 3, Status, stands for ExecType(150) I, Order Status, and L, Triggered
   pub status : (r.trans_type == 51) ≡ (m.exec_type == 73 || m.exec_type == 76)
   pub ref_id : r.ref_id ≡ m.ref_id
   pub ord_status : phase42 r.ord_status ≡ phase50 m.ord_status
@@ -101,15 +97,7 @@ pub record IsWritten (m : Report50) (r : Report42) : Type 0 where
   pub text : r.text ≡ telling m.text (reason_told 103 LAST_REJ_REASON (value_in m.rej_reason)
       ++ reason_told 378 LAST_RESTATE_REASON (value_in m.restate_reason))
 
--- the texts that both versions say alike
-abbrev pub report_texts : Report50 → List Said
-report_texts m =
-    Some m.order_id
-    ∷ m.secondary_id ∷ m.cl_ord_id ∷ m.orig_id ∷ m.ref_id ∷ m.account ∷ Some m.symbol
-    ∷ m.symbol_sfx ∷ m.security_id ∷ m.security_type ∷ m.security_exchange ∷ m.currency
-    ∷ m.last_mkt ∷ []
-
--- a cancel reject of the order that had this id
+-- the same of a cancel reject, of the order that had this id
 pub record IsWrittenReject (m : CancelReject50) (original : List ℕ) (r : CancelReject42) : Type 0
   where
     pub resend : r.resend ≡ m.resend

@@ -7,7 +7,7 @@ ghost use Rattle.std.specs.Prelude.{◌≡◌, ◌==◌, IfErr, IfOk, IfSome, Is
 ghost use Rattle.std.specs.Prelude.{codes, if◌then◌else◌};
 ghost use Rattle.std.specs.List.{AllByRecursion, flat_map};
 ghost use Rattle.typed_fields.specs.Number.{IsNumber};
-ghost use Rattle.value_kinds.specs.CodeKinds.{code_text};
+ghost use Rattle.value_kinds.specs.ValueKind.{code_text};
 ghost use Rattle.value_kinds.specs.ValueKind as kinds;
 ghost use Rattle.message_tables.specs.Content.{cell_fields};
 ghost use Rattle.message_tables.specs.FirstFault.{first_fault};

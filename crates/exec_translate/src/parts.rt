@@ -9,9 +9,9 @@ ghost use Rattle.message_tables.specs.Tables.{is_one_of};
 ghost use Rattle.rows_fix42.specs.Meaning.{is_on_close};
 ghost use Rattle.rows_fix50.specs.Meaning.{terms_of as terms50};
 ghost use Rattle.reports_fix50.specs.Sense.{most_before_reasons, reason_told, telling};
-ghost use Rattle.exec_translate.specs.Written.{coded, dated, terms42, told_text, value_in};
+ghost use Rattle.exec_translate.specs.Written.{coded, dated, terms42, value_in};
 ghost use Rattle.exec_translate.specs.Written.{within};
-ghost use Rattle.exec_translate.specs.FromFields.{if_told};
+ghost use Rattle.exec_translate.specs.FromFields.{if_told, told_text};
 
 use crate::reasons::{LAST_CXL_REASON, LAST_REJ_REASON, LAST_RESTATE_REASON};
 use field_groups::put_tag;

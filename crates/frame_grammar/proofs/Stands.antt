@@ -17,8 +17,9 @@ use Rattle.frame_grammar.specs.declared.pieces.Rest.TheVariants as rest
 use Rattle.frame_grammar.specs.Found.{Whole, Short, Broken, found}
 use Rattle.frame_grammar.specs.Cut.{start_in, Piece, Good, Bad, bytes_of, piece_at, first_piece}
 use Rattle.frame_grammar.specs.Cut.{ComeFirst, Cut}
-use Rattle.frame_grammar.specs.Held.{Held, capped, past, lost_by, found_by}
-use Rattle.frame_grammar.specs.Framer.{place_after, IsLost, KeepsPlaces, StandsFor, Answers, EndsIn}
+use Rattle.frame_grammar.specs.Held.{Held, past, lost_by, found_by}
+use Rattle.frame_grammar.specs.Places.{capped, place_after, EndsIn}
+use Rattle.frame_grammar.specs.Framer.{IsLost, KeepsPlaces, StandsFor, Answers}
 use Rattle.frame_grammar.proofs.Join.{come_later, joined}
 use Rattle.std.specs.Prelude.{Ok, Err}
 use Rattle.std.specs.declared.result.Result.{Result}

@@ -1,6 +1,6 @@
 -- Inside: the stream and the answered pieces that a framer stands for, and what it answers for each
 -- such stream and list; no clause of run rests on it.
-use Rattle.std.specs.Prelude.{◌≡◌, ◌≢◌, ℕ, ◌+◌, ◌<◌, ◌≤◌, List, [], ◌∷◌, ◌++◌, length, drop}
+use Rattle.std.specs.Prelude.{◌≡◌, ℕ, ◌+◌, ◌<◌, ◌≤◌, List, [], ◌∷◌, ◌++◌, length, drop}
 use Rattle.std.specs.Prelude.{slice_range, Some, None}
 use Rattle.std.specs.declared.option.Option.{Option}
 use Rattle.std.specs.List.{flat_map}
@@ -9,15 +9,10 @@ use Rattle.frame_grammar.specs.declared.frame.Garble.{Garble}
 use Rattle.frame_grammar.specs.declared.pieces.Lost.{Lost}
 use Rattle.frame_grammar.specs.declared.pieces.Next.{Next}
 use Rattle.frame_grammar.specs.declared.pieces.Next.TheVariants as next
-use Rattle.frame_grammar.specs.declared.pieces.Rest.{Rest}
-use Rattle.frame_grammar.specs.declared.pieces.Rest.TheVariants as rest
-use Rattle.frame_grammar.specs.Found.{Short, Broken, found}
+use Rattle.frame_grammar.specs.Found.{Broken, found}
 use Rattle.frame_grammar.specs.Cut.{start_in, Piece, Good, Bad, bytes_of, ComeFirst, Cut}
-use Rattle.frame_grammar.specs.Held.{Held, capped}
-
--- where the piece after these begins
-abbrev pub place_after : List Piece → ℕ
-place_after pieces = capped (length (flat_map bytes_of pieces))
+use Rattle.frame_grammar.specs.Held.{Held}
+use Rattle.frame_grammar.specs.Places.{capped, place_after}
 
 -- Whatever is added to them, these bytes begin with a garbled piece of this cause, which does not
 -- end inside the first n.
@@ -61,13 +56,3 @@ abbrev pub HoldsPart : Next → Held → Type 0
 HoldsPart (next.Frame at len part) held = part.start + part.len ≤ length held.read
 HoldsPart (next.Garbled at len cause) held = Unit {0}
 HoldsPart next.More held = Unit {0}
-
--- How a stream ends in this rest, at this place, if nothing follows: in nothing, inside a frame, or
--- in a garbled piece.
-abbrev pub EndsIn : Rest → Kind → ℕ → List ℕ → Type 0
-EndsIn rest.Clean kind place bytes = bytes ≡ []
-EndsIn (rest.Inside at len) kind place bytes = (bytes ≢ []) × (found kind bytes ≡ Short)
-    × (at ≡ place) × (len ≡ length bytes)
-EndsIn (rest.Garbled at len cause) kind place bytes = ((after : List ℕ)
-    × (found kind bytes ≡ Broken cause after))
-    × (at ≡ place) × (len ≡ capped (length bytes))

@@ -1,15 +1,12 @@
 -- Inside: what a framer holds, as contracts see it; no clause of run rests on it.
-use Rattle.std.specs.Prelude.{ℕ, ◌+◌, ◌-◌, ◌^◌, List, [], ◌++◌, length, take, drop, min, Some, None}
+use Rattle.std.specs.Prelude.{ℕ, ◌+◌, ◌-◌, List, [], ◌++◌, length, take, drop, Some, None}
 use Rattle.std.specs.declared.option.Option.{Option}
 use Rattle.frame_grammar.specs.declared.buffer.TheConstants.{CAPACITY}
 use Rattle.frame_grammar.specs.declared.frame.Kind.{Kind}
 use Rattle.frame_grammar.specs.declared.pieces.Lost.{Lost}
 use Rattle.frame_grammar.specs.declared.pieces.Next.{Next}
 use Rattle.frame_grammar.specs.declared.pieces.Next.TheVariants as next
-
--- a place or a length, as far as it is counted
-abbrev pub capped : ℕ → ℕ
-capped n = min n (2 ^ 64 - 1)
+use Rattle.frame_grammar.specs.Places.{capped}
 
 -- what a buffer holds
 pub record Window : Type 0 where

@@ -1,6 +1,7 @@
 pub mod Frame
 pub mod Found
 pub mod Cut
+pub mod Places
 pub mod Held
 pub mod Framer
 pub mod Scan

@@ -3,7 +3,8 @@ ghost use Rattle.std.specs.Prelude.{◌≡◌, ◌≢◌, ◌+◌, ◌-◌, ◌<
 ghost use Rattle.std.specs.Prelude.{Some, None, MatchOption, length, min, take, drop, slice_range};
 ghost use Rattle.frame_grammar.specs.Cut.{Piece, Cut, start_in};
 ghost use Rattle.frame_grammar.specs.Held.{fresh, past, pending, room, lost_by, found_by};
-ghost use Rattle.frame_grammar.specs.Framer.{StandsFor, Answers, HoldsPart, EndsIn, place_after};
+ghost use Rattle.frame_grammar.specs.Framer.{StandsFor, Answers, HoldsPart};
+ghost use Rattle.frame_grammar.specs.Places.{EndsIn, place_after};
 
 use crate::buffer::{Buffer, CAPACITY};
 use crate::pieces::Lost;

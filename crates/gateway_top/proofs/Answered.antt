@@ -4,7 +4,7 @@ use Rattle.std.proofs.Common.{length, append-nil, Ok, Err, Result}
 use Rattle.std.specs.Prelude.{OnOk, OnErr, IfOk, IfErr}
 use Rattle.std.specs.declared.alloc.AllocError.{AllocError}
 use Rattle.frame_grammar.specs.Cut.{Piece, Good}
-use Rattle.frame_grammar.specs.Framer.{place_after}
+use Rattle.frame_grammar.specs.Places.{place_after}
 use Rattle.order_meaning.specs.declared.fault.Fault.{Fault}
 use Rattle.order_meaning.specs.declared.fault.Fault.TheVariants as faults
 use Rattle.translation.specs.declared.error.TranslateError.{TranslateError}

@@ -13,7 +13,8 @@ use Rattle.frame_grammar.specs.declared.frame.Kind.{Kind}
 use Rattle.frame_grammar.specs.declared.pieces.Rest.{Rest}
 use Rattle.frame_grammar.specs.Held.{Held}
 use Rattle.frame_grammar.specs.Cut.{Piece, ComeFirst, Cut}
-use Rattle.frame_grammar.specs.Framer.{StandsFor, EndsIn, place_after}
+use Rattle.frame_grammar.specs.Framer.{StandsFor}
+use Rattle.frame_grammar.specs.Places.{EndsIn, place_after}
 use Rattle.gateway_top.specs.declared.task.Task.{Task}
 use Rattle.gateway_top.specs.declared.task.Task.TheVariants.{TranslateUp, TranslateDown}
 use Rattle.gateway_top.specs.declared.task.Task.TheVariants.{CheckClient, CheckVenue}

@@ -5,8 +5,7 @@ use Rattle.std.specs.declared.option.Option.{Option}
 use Rattle.frame_grammar.specs.declared.pieces.Rest.{Rest}
 use Rattle.frame_grammar.specs.declared.pieces.Rest.TheVariants as rests
 use Rattle.frame_grammar.specs.Cut.{Piece, Good, Bad}
-use Rattle.frame_grammar.specs.Held.{capped}
-use Rattle.frame_grammar.specs.Framer.{place_after}
+use Rattle.frame_grammar.specs.Places.{capped, place_after}
 use Rattle.translation.specs.declared.error.TranslateError.{TranslateError}
 use Rattle.request_translate.specs.Translation as up
 use Rattle.report_translate.specs.Translation as down

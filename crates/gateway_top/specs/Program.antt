@@ -7,7 +7,7 @@ use Rattle.std.specs.Io.KnownBytes.{Appends, Consumes, IsAtEnd}
 use Rattle.outside.specs.Bytes.{AppendsFront}
 use Rattle.frame_grammar.specs.declared.pieces.Rest.{Rest}
 use Rattle.frame_grammar.specs.Cut.{Piece, ComeFirst, Cut}
-use Rattle.frame_grammar.specs.Framer.{place_after, EndsIn}
+use Rattle.frame_grammar.specs.Places.{place_after, EndsIn}
 use Rattle.gateway_top.specs.Judge.{JudgesAll, end_said, unfinished}
 use Rattle.gateway_top.specs.Task.{kind_of, stops, has_ended, first_of}
 use Rattle.whole_input.specs.declared.reading.TheConstants.{MAX_INPUT, MAX_READ}

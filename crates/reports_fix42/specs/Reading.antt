@@ -3,12 +3,11 @@ use Rattle.std.specs.Prelude.{◌≡◌, List, [], ◌∷◌, codes, None, unwra
 use Rattle.std.specs.Option.{option_map}
 use Rattle.std.specs.List.{AllZip}
 use Rattle.value_kinds.specs.ValueKind.{Id, Text, Code, Word, Currency, Number, Reason, Qty, Price}
-use Rattle.value_kinds.specs.ValueKind.{Stamp, Day}
+use Rattle.value_kinds.specs.ValueKind.{Stamp, Day, code_text}
 use Rattle.typed_fields.specs.Dec.{dec_text}
 use Rattle.typed_fields.specs.Day.{day_text}
 use Rattle.typed_fields.specs.Number.{number_text}
 use Rattle.typed_fields.specs.Stamp.{stamp_text}
-use Rattle.value_kinds.specs.CodeKinds.{code_text}
 use Rattle.field_groups.specs.Field.{Field}
 use Rattle.message_tables.specs.Tables.{Said, lines_in, tags_in}
 use Rattle.row_values.specs.declared.contras.ContraLine.{ContraLine}

@@ -5,11 +5,10 @@ use Rattle.typed_fields.specs.Dec.{dec_text}
 use Rattle.typed_fields.specs.Day.{day_text}
 use Rattle.typed_fields.specs.Stamp.{stamp_text}
 use Rattle.typed_fields.specs.Number.{number_text}
-use Rattle.value_kinds.specs.CodeKinds.{code_text}
+use Rattle.value_kinds.specs.ValueKind.{code_text}
 use Rattle.message_tables.specs.Tables.{Tag, Message}
 use Rattle.row_values.specs.Contras.{contra_cells}
-use Rattle.row_values.specs.Lines.{month_text}
-use Rattle.row_values.specs.Writing.{month_day_text}
+use Rattle.row_values.specs.Lines.{month_text, month_day_text}
 use Rattle.reports_fix42.specs.declared.reports.Report42.{Report42}
 use Rattle.reports_fix42.specs.declared.reports.CancelReject42.{CancelReject42}
 

@@ -4,7 +4,8 @@
 //! is a line of the literal.
 
 ghost use Rattle.std.specs.Prelude.{◌≡◌, IfOk, IfSome, IsTrue};
-ghost use Rattle.value_kinds.specs.CodeKinds.{code_text, is_byte_kind, value_kind_of};
+ghost use Rattle.value_kinds.specs.ValueKind.{code_text};
+ghost use Rattle.value_kinds.specs.CodeKinds.{is_byte_kind, value_kind_of};
 ghost use Rattle.row_values.specs.Kinds.{Value, said};
 ghost use Rattle.reports_fix42.specs.Readable.{IsReadableCancelReject, IsReadableReport};
 ghost use Rattle.reports_fix42.specs.Reading.{AreContras, AreTexts, IsCancelReject, IsReport};

@@ -2,7 +2,7 @@
 use Rattle.std.specs.Prelude.{◌≡◌, List, [], ◌∷◌, codes, unwrap_or, IfSome}
 use Rattle.std.specs.Option.{option_map}
 use Rattle.value_kinds.specs.ValueKind.{Id, Text, Word, Currency, Number, Reason, Day, Qty, Price}
-use Rattle.value_kinds.specs.ValueKind.{Stamp, Code, Known}
+use Rattle.value_kinds.specs.ValueKind.{Stamp, Code, Known, code_text}
 use Rattle.typed_fields.specs.Dec.{dec_text, IsDec}
 use Rattle.typed_fields.specs.Day.{day_text, IsDay}
 use Rattle.typed_fields.specs.Number.{number_text}
@@ -10,7 +10,6 @@ use Rattle.typed_fields.specs.Stamp.{stamp_text, IsStamp}
 use Rattle.field_groups.specs.Field.{Field}
 use Rattle.message_tables.specs.Tables.{Said}
 use Rattle.row_values.specs.Kinds.{Value, TimeBeside, said, resend_of}
-use Rattle.value_kinds.specs.CodeKinds.{code_text}
 use Rattle.row_values.specs.Contras.{AreContras}
 use Rattle.row_values.specs.Groups.{AreParties}
 use Rattle.row_values.specs.Lines.{IsReadableMaturity}

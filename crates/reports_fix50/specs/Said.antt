@@ -6,10 +6,9 @@ use Rattle.typed_fields.specs.Day.{day_text}
 use Rattle.typed_fields.specs.Number.{number_text}
 use Rattle.typed_fields.specs.Stamp.{stamp_text}
 use Rattle.message_tables.specs.Tables.{Tag, Role, Message}
-use Rattle.value_kinds.specs.CodeKinds.{code_text}
+use Rattle.value_kinds.specs.ValueKind.{code_text}
 use Rattle.row_values.specs.Contras.{contra_cells}
-use Rattle.row_values.specs.Lines.{month_text, party_cells}
-use Rattle.row_values.specs.Writing.{date_text}
+use Rattle.row_values.specs.Lines.{month_text, party_cells, date_text}
 use Rattle.rows_fix50.specs.Meaning.{id_of}
 use Rattle.reports_fix50.specs.declared.reports.Report50.{Report50}
 use Rattle.reports_fix50.specs.declared.reports.CancelReject50.{CancelReject50}

@@ -4,7 +4,7 @@
 //! table is a line of the literal.
 
 ghost use Rattle.std.specs.Prelude.{◌≡◌, IfOk, IfSome};
-ghost use Rattle.value_kinds.specs.CodeKinds.{code_text};
+ghost use Rattle.value_kinds.specs.ValueKind.{code_text};
 ghost use Rattle.reports_fix50.specs.Readable.{IsReadableCancelReject, IsReadableReport};
 ghost use Rattle.reports_fix50.specs.Reading.{AreGroups, IsCancelReject, IsOrderPart};
 ghost use Rattle.reports_fix50.specs.Reading.{IsReadableOrderPart, IsReport, cancel_reject_texts};

@@ -5,8 +5,7 @@ use Rattle.std.specs.List.{slice_get}
 use Rattle.typed_fields.specs.Day.{day_text}
 use Rattle.typed_fields.specs.Stamp.{stamp_text}
 use Rattle.typed_fields.specs.Flag.{flag_text}
-use Rattle.value_kinds.specs.CodeKinds.{code_text}
-use Rattle.value_kinds.specs.ValueKind.{ValueKind, Id, Code, Stamp, Day, Flag}
+use Rattle.value_kinds.specs.ValueKind.{code_text, ValueKind, Id, Code, Stamp, Day, Flag}
 use Rattle.field_groups.specs.Field.{Field}
 use Rattle.message_tables.specs.Tables.{Need, Required, Optional, One, Table, all_rows, row_at}
 use Rattle.message_tables.specs.Tables.{value_at}

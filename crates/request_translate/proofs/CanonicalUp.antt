@@ -21,9 +21,9 @@ use Rattle.dict_fix50.specs.declared.requests.Status50.{Status50}
 use Rattle.row_values.specs.declared.lines.Maturity.{Maturity}
 use Rattle.dict_fix42.specs.declared.requests.Msg42.{Msg42}
 use Rattle.dict_fix42.specs.declared.requests.Msg42.TheVariants as messages
-use Rattle.request_translate.specs.Canonical.{party_lines, IsCanonical}
+use Rattle.request_translate.specs.Canonical.{party_lines, IsCanonical, parties_up}
 use Rattle.request_translate.specs.Up.{IsSound42}
-use Rattle.request_translate.specs.Written.{IsNew, IsCancel, IsReplace, IsStatus, parties_up}
+use Rattle.request_translate.specs.Written.{IsNew, IsCancel, IsReplace, IsStatus}
 use Rattle.order_meaning.specs.Request.{Request}
 use Rattle.dict_fix42.specs.Sense as sense42
 use Rattle.dict_fix50.specs.Sense as sense50
@@ -34,14 +34,13 @@ use Rattle.request_translate.proofs.SoundUp.{new_kept_sound, cancel_kept_sound, 
 use Rattle.request_translate.proofs.SoundUp.{status_kept_sound, new_whole, cancel_whole}
 use Rattle.request_translate.proofs.SoundUp.{replace_whole, status_whole, new_day, cancel_day}
 use Rattle.request_translate.proofs.SoundUp.{replace_day, status_day}
-use Rattle.row_values.specs.Writing as row_parts
 use Rattle.row_values.specs.Lines as row_lines
 use Rattle.request_translate.proofs.SoundUp.{new_alike, cancel_alike, replace_alike, status_alike}
 
 -- the month is that of the date
 month_is : (maturity : Option Maturity) →
     option_map row_lines.month_text maturity ≡ month_by
-    (option_and_then row_parts.date_text maturity) (option_map row_lines.month_text maturity)
+    (option_and_then row_lines.date_text maturity) (option_map row_lines.month_text maturity)
 unfolding zero_padded
 month_is None = refl
 month_is (Some m) = by m.month m.day

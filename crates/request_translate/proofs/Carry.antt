@@ -7,10 +7,9 @@ use Rattle.std.specs.List.{AllByRecursion, slice_get, list_any}
 use Rattle.typed_fields.specs.declared.fault.FieldFault.{FieldFault}
 use Rattle.value_kinds.specs.ValueKind as kinds
 use Rattle.value_kinds.specs.ValueKind.{ValueKind, Spelling, spelling, spelt, is_code, listed_word}
-use Rattle.value_kinds.specs.ValueKind.{formed, number_of_two}
+use Rattle.value_kinds.specs.ValueKind.{formed, number_of_two, two_digit_text, code_text}
 use Rattle.typed_fields.specs.declared.day.Day.{Day as DayValue}
 use Rattle.typed_fields.specs.declared.month_year.MonthYear.{MonthYear}
-use Rattle.value_kinds.specs.CodeKinds.{two_digit_text, code_text}
 use Rattle.std.specs.Char.{is_ascii_digit}
 use Rattle.typed_fields.specs.MonthYear.{month_year_text, read_month_year}
 use Rattle.typed_fields.specs.MonthYear as months
@@ -41,7 +40,6 @@ use Rattle.request_translate.specs.Written.{coded, is_type50, IsTimeCode, IsTime
 use Rattle.request_translate.specs.Lack.{lacks_capacity}
 use Rattle.sound_messages.proofs.SpelledAgain.{clear_joined, digits_clear}
 use Rattle.sound_messages.proofs.ShortDays.{IsShort, short_by, two_number, padded_number}
-use Rattle.row_values.specs.Writing as row_parts
 use Rattle.row_values.specs.Groups as row_groups
 use Rattle.row_values.specs.Lines as row_lines
 
@@ -180,7 +178,7 @@ short_day fields day h =
     (is_ascii_digit (48 + day % 10)) (month_at 200 fields) (two_digit_text day) h
 
 pub short_said : (fields : List Field) (maturity : Option Maturity) →
-    IfSome (option_and_then row_parts.month_day_text maturity)
+    IfSome (option_and_then row_lines.month_day_text maturity)
     (λ text. judge fields (DayOf 200) text ≡ Spells text) →
     IfSome (option_and_then (λ m. m.day) maturity) IsShort
 short_said fields None h = tt
@@ -236,8 +234,8 @@ module _ (fields42 fields50 : List Field) where
 
   -- the month, beside the date where there is a day
   pub month_said : (maturity : Option Maturity)
-      → value_at 541 fields50 ≡ option_and_then row_parts.date_text maturity →
-      IfSome (option_and_then row_parts.date_text maturity)
+      → value_at 541 fields50 ≡ option_and_then row_lines.date_text maturity →
+      IfSome (option_and_then row_lines.date_text maturity)
       (λ text. judge fields50 (Value kinds.Day) text ≡ Spells text) →
       IfSome (option_map row_lines.month_text maturity)
       (λ text. judge fields42 (Value kinds.MonthYear) text ≡ Spells text) →
@@ -269,10 +267,10 @@ module _ (fields42 fields50 : List Field) where
       → value_at 200 fields42 ≡ option_map row_lines.month_text maturity →
       IfSome (option_map row_lines.month_text maturity)
       (λ text. judge fields42 (Value kinds.MonthYear) text ≡ Spells text) →
-      IfSome (option_and_then row_parts.month_day_text maturity)
+      IfSome (option_and_then row_lines.month_day_text maturity)
       (λ text. judge fields42 (DayOf 200) text ≡ Spells text) →
       IsSaid judge fields50 (row_kinds.row Optional 541 kinds.Day)
-      (option_and_then row_parts.date_text maturity)
+      (option_and_then row_lines.date_text maturity)
   date_said None at month day = optional_said fields50 541 (Value kinds.Day) None tt tt
   date_said (Some m) at month day = by m.month m.day at month day
     where

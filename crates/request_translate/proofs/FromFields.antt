@@ -4,8 +4,7 @@ use Rattle.std.proofs.Common.{codes, map, option_map, option_and_then, unwrap_or
 use Rattle.std.specs.Prelude.{IsSome, Ok}
 use Rattle.typed_fields.specs.declared.dec.Dec.{Dec}
 use Rattle.typed_fields.specs.Dec.{dec_text}
-use Rattle.value_kinds.specs.CodeKinds.{code_text}
-use Rattle.value_kinds.specs.ValueKind.{Text, Codes, Word, Currency, Qty}
+use Rattle.value_kinds.specs.ValueKind.{code_text, Text, Codes, Word, Currency, Qty}
 use Rattle.field_groups.specs.Field.{Field, AreFields}
 use Rattle.message_tables.specs.Tables.{Optional, Required, Said, Tag, value_at}
 use Rattle.message_tables.specs.FirstFault.{first_fault}
@@ -14,8 +13,8 @@ use Rattle.order_meaning.specs.declared.party.PartyLine.{PartyLine}
 use Rattle.row_values.specs.declared.lines.Maturity.{Maturity}
 use Rattle.row_values.specs.Kinds.{Value, judge, said}
 use Rattle.row_values.specs.Maturity.{IsMaturity}
-use Rattle.row_values.specs.Lines.{alloc_cells, month_text, party_cells, session_cells}
-use Rattle.row_values.specs.Writing.{date_text, dec_at, qty_at}
+use Rattle.row_values.specs.Lines.{alloc_cells, month_text, party_cells, session_cells, date_text}
+use Rattle.row_values.specs.Writing.{dec_at, qty_at}
 use Rattle.row_values.proofs.ByTable.{says}
 use Rattle.row_values.proofs.Texts.{qty_at_said}
 use Rattle.sound_messages.proofs.AsTheyStand.{qty_stands}
@@ -31,7 +30,8 @@ use Rattle.dict_fix42.specs.declared.requests.Msg42.TheVariants as messages42
 use Rattle.dict_fix50.specs.declared.requests.Msg50.TheVariants as messages50
 use Rattle.translation.specs.Header.{type_of}
 use Rattle.translation.specs.Judged.{AreGoodBy}
-use Rattle.request_translate.specs.Written.{IsNew, IsCancel, IsReplace, IsStatus, parties_up}
+use Rattle.request_translate.specs.Written.{IsNew, IsCancel, IsReplace, IsStatus}
+use Rattle.request_translate.specs.Canonical.{parties_up}
 use Rattle.request_translate.specs.Writing.{IsRequestOf}
 use Rattle.request_translate.specs.declared.from_fields.Order.{Order}
 use Rattle.request_translate.specs.FromFields.{IsOrderOf, id_if, security_types, zero}

@@ -6,7 +6,7 @@ use Rattle.typed_fields.specs.declared.flag.Flag.{Flag as FlagValue}
 use Rattle.typed_fields.specs.Dec.{dec_text}
 use Rattle.typed_fields.specs.Flag.{flag_text}
 use Rattle.typed_fields.specs.Digits.{zero_padded}
-use Rattle.value_kinds.specs.CodeKinds.{two_digit_text}
+use Rattle.value_kinds.specs.ValueKind.{two_digit_text}
 use Rattle.typed_fields.specs.MonthYear.{month_year_text}
 use Rattle.typed_fields.specs.declared.month_year.MonthYear.{MonthYear}
 use Rattle.std.specs.Prelude.{IfSome, unwrap_or}
@@ -36,9 +36,9 @@ use Rattle.dict_fix50.specs.declared.requests.Replace50.{Replace50}
 use Rattle.dict_fix42.specs.declared.requests.Status42.{Status42}
 use Rattle.dict_fix50.specs.declared.requests.Status50.{Status50}
 use Rattle.sound_messages.proofs.ShortDays.{IsShort, two_number, padded_number}
-use Rattle.request_translate.specs.Written.{parties_up, coded, IsNew, IsCancel, IsReplace}
+use Rattle.request_translate.specs.Canonical.{parties_up}
+use Rattle.request_translate.specs.Written.{coded, IsNew, IsCancel, IsReplace}
 use Rattle.request_translate.specs.Written.{IsStatus}
-use Rattle.row_values.specs.Writing as row_parts
 use Rattle.row_values.specs.Lines as row_lines
 
 abbrev amount_as : Option DecValue → Option Amount
@@ -47,7 +47,7 @@ amount_as d = option_map dec_text d >>= amount_of
 -- a maturity of FIX 5.0 SP2, by its two spellings
 abbrev maturity_as : Option Maturity → Option NeutralMaturity
 maturity_as maturity = meaning50.maturity_of
-    (option_map row_lines.month_text maturity) (option_and_then row_parts.date_text maturity)
+    (option_map row_lines.month_text maturity) (option_and_then row_lines.date_text maturity)
 
 dated : (month : MonthYear) (day : ℕ) →
     maturity_as (Some (record { month = month; day = Some day })) ≡ Some
@@ -61,7 +61,7 @@ HasShortDay maturity = IfSome (option_and_then (λ m. m.day) maturity) IsShort
 
 same_maturity : (maturity : Option Maturity) → HasShortDay maturity →
     maturity_as maturity ≡ meaning42.maturity_of
-    (option_map row_lines.month_text maturity) (option_and_then row_parts.month_day_text maturity)
+    (option_map row_lines.month_text maturity) (option_and_then row_lines.month_day_text maturity)
 same_maturity None short = refl
 same_maturity (Some m) short = by m.month m.day short
   where

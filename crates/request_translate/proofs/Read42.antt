@@ -3,8 +3,7 @@ use Rattle.std.proofs.Common.{◌≡◌, ℕ, List, Option, Some, None, refl, co
 use Rattle.std.proofs.Common.{unwrap_or}
 use Rattle.std.specs.Prelude.{IfSome}
 use Rattle.typed_fields.specs.Dec.{dec_text}
-use Rattle.value_kinds.specs.CodeKinds.{code_text}
-use Rattle.value_kinds.specs.ValueKind.{Text, Codes, Word, Currency}
+use Rattle.value_kinds.specs.ValueKind.{code_text, Text, Codes, Word, Currency}
 use Rattle.field_groups.specs.Field.{Field}
 use Rattle.message_tables.specs.Tables.{Said}
 use Rattle.row_values.specs.declared.lines.Maturity.{Maturity}

@@ -24,7 +24,7 @@ use Rattle.dict_fix50.specs.declared.requests.Status50.{Status50}
 use Rattle.dict_fix42.specs.declared.requests.Msg42.{Msg42}
 use Rattle.dict_fix42.specs.declared.requests.Msg42.TheVariants as messages
 use Rattle.request_translate.specs.Written.{IsNew, IsCancel, IsReplace, IsStatus}
-use Rattle.request_translate.specs.Written.{parties_up}
+use Rattle.request_translate.specs.Canonical.{parties_up}
 use Rattle.row_values.specs.Lines as row_lines
 
 roles : (client broker firm : Option (List ℕ))

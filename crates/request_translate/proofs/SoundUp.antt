@@ -7,9 +7,8 @@ use Rattle.typed_fields.specs.Day.{day_text}
 use Rattle.typed_fields.specs.Stamp.{stamp_text}
 use Rattle.typed_fields.specs.Flag.{flag_text}
 use Rattle.value_kinds.specs.ValueKind as kinds
-use Rattle.value_kinds.specs.CodeKinds.{code_text}
+use Rattle.value_kinds.specs.ValueKind.{code_text}
 use Rattle.row_values.specs.Kinds.{row, Kind, Value, Byte, DayOf, MonthBeside, TimeBeside, judge}
-use Rattle.row_values.specs.Writing as row_parts
 use Rattle.row_values.specs.Groups as row_groups
 use Rattle.row_values.specs.Lines as row_lines
 use Rattle.row_values.specs.declared.lines.Maturity.{Maturity}
@@ -40,7 +39,8 @@ use Rattle.request_translate.specs.declared.parts.Terms.{Terms}
 use Rattle.sound_messages.specs.Sound.{IsSaid, IsGroup, IsSound, IsItem}
 use Rattle.request_translate.specs.Up.{IsSound42}
 use Rattle.request_translate.specs.Written.{IsNew, IsCancel, IsReplace, IsStatus, AreTerms}
-use Rattle.request_translate.specs.Written.{parties_up, is_type42, IsTime42}
+use Rattle.request_translate.specs.Canonical.{parties_up}
+use Rattle.request_translate.specs.Written.{is_type42, IsTime42}
 use Rattle.sound_messages.proofs.ContentValues.{groups_said, value_said, is_alone, GroupSaid}
 use Rattle.request_translate.proofs.Carry as carry
 use Rattle.request_translate.proofs.Carry.{party_id, RolesSaid, roles_said}
@@ -68,8 +68,8 @@ roles_carried client broker firm lines e = let P : List PartyLine → Type 0 =
 module _ (fields42 fields50 : List Field) where
   month_carried : (maturity : Option Maturity) (same : Option Maturity)
       → same ≡ maturity →
-      value_at 541 fields50 ≡ option_and_then row_parts.date_text same →
-      IfSome (option_and_then row_parts.date_text same)
+      value_at 541 fields50 ≡ option_and_then row_lines.date_text same →
+      IfSome (option_and_then row_lines.date_text same)
       (λ text. judge fields50 (Value kinds.Day) text ≡ Spells text) →
       IfSome (option_map row_lines.month_text maturity)
       (λ text. judge fields42 (Value kinds.MonthYear) text ≡ Spells text) →
@@ -83,8 +83,8 @@ module _ (fields42 fields50 : List Field) where
         need = Lenient;
       }) (option_map row_lines.month_text m) in
       subst P (sym e) (carry.month_said fields42 fields50
-      maturity (at ∙ ap (λ (m : Option Maturity). option_and_then row_parts.date_text m) e)
-      (let Q : Option Maturity → Type 0 = λ m. IfSome (option_and_then row_parts.date_text m)
+      maturity (at ∙ ap (λ (m : Option Maturity). option_and_then row_lines.date_text m) e)
+      (let Q : Option Maturity → Type 0 = λ m. IfSome (option_and_then row_lines.date_text m)
       (λ text. judge fields50 (Value kinds.Day) text ≡ Spells text) in subst Q e d) h)
 
   date_carried : (maturity : Option Maturity) (same : Option Maturity)
@@ -92,13 +92,13 @@ module _ (fields42 fields50 : List Field) where
       value_at 200 fields42 ≡ option_map row_lines.month_text maturity →
       IfSome (option_map row_lines.month_text maturity)
       (λ text. judge fields42 (Value kinds.MonthYear) text ≡ Spells text) →
-      IfSome (option_and_then row_parts.month_day_text maturity)
+      IfSome (option_and_then row_lines.month_day_text maturity)
       (λ text. judge fields42 (DayOf 200) text ≡ Spells text) →
       IsSaid judge
-      fields50 (row Optional 541 kinds.Day) (option_and_then row_parts.date_text same)
+      fields50 (row Optional 541 kinds.Day) (option_and_then row_lines.date_text same)
   date_carried maturity same e at h d =
       let P : Option Maturity → Type 0 = λ m. IsSaid judge
-      fields50 (row Optional 541 kinds.Day) (option_and_then row_parts.date_text m) in
+      fields50 (row Optional 541 kinds.Day) (option_and_then row_lines.date_text m) in
       subst P (sym e) (carry.date_said fields42 fields50 maturity at h d)
 
 -- ---- what FIX 5.0 SP2 says otherwise
@@ -114,7 +114,7 @@ abbrev month_if : Option Maturity → Said
 month_if maturity = option_map row_lines.month_text maturity
 
 abbrev date_if : Option Maturity → Said
-date_if maturity = option_and_then row_parts.date_text maturity
+date_if maturity = option_and_then row_lines.date_text maturity
 
 abbrev PartiesSaid : List PartyLine → Type 0
 PartiesSaid lines = IsGroup judge row_groups.parties (map row_lines.party_cells lines)
@@ -130,7 +130,7 @@ module _ (fields : List Field) (maturity : Option Maturity) where
 
   abbrev IsDay42 : Type 0
   IsDay42 =
-      IsAt fields Optional 205 (DayOf 200) (option_and_then row_parts.month_day_text maturity)
+      IsAt fields Optional 205 (DayOf 200) (option_and_then row_lines.month_day_text maturity)
 
   abbrev IsMonth50 : Type 0
   IsMonth50 = IsAt fields Lenient 200 (MonthBeside 541) (month_if maturity)

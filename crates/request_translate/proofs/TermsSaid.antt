@@ -2,8 +2,7 @@
 use Rattle.std.proofs.Common.{◌≡◌, ℕ, List, [], ◌∷◌, Option, Some, None, Bool, true, false, refl}
 use Rattle.std.proofs.Common.{sym, ap, ◌∙◌, codes, option_map}
 use Rattle.std.specs.Prelude.{IsSome, IfSome, Ok}
-use Rattle.value_kinds.specs.CodeKinds.{code_text}
-use Rattle.value_kinds.specs.ValueKind.{Code, listed_word, spelling}
+use Rattle.value_kinds.specs.ValueKind.{code_text, Code, listed_word, spelling}
 use Rattle.field_groups.specs.Field.{Field}
 use Rattle.message_tables.specs.Tables.{Said, ◌>>=◌, is_one_of, text_of, value_at}
 use Rattle.order_meaning.specs.declared.fault.Lack.{Lack}

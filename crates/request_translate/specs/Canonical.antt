@@ -11,10 +11,16 @@ use Rattle.dict_fix50.specs.declared.requests.Msg50.{Msg50}
 use Rattle.dict_fix50.specs.declared.requests.Msg50.TheVariants as messages
 use Rattle.sound_messages.specs.Sound.{IsSound}
 use Rattle.sound_messages.specs.Complete.{HasMonthOfDate}
-use Rattle.request_translate.specs.Written.{parties_up}
+use Rattle.order_meaning.specs.declared.party.PartyLine.{PartyLine}
+use Rattle.party_translate.specs.Parties.{parties_of}
 use Rattle.row_values.specs.Lines as row_lines
 
--- the lines of the parties of the roles 3, 1 and 4
+-- the parties of ClientID(109), ExecBroker(76) and ClearingFirm(439), of the roles 3, 1 and 4
+abbrev pub parties_up : Said → Said → Said → List PartyLine
+parties_up client broker firm =
+    parties_of (record { client = client; broker = broker; firm = firm })
+
+-- and the lines in which they are written
 abbrev pub party_lines : Said → Said → Said → List (List Cell)
 party_lines client broker firm = map row_lines.party_cells (parties_up client broker firm)
 

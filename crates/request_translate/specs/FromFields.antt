@@ -12,8 +12,7 @@ use Rattle.typed_fields.specs.Dec.{IsDec, dec_text}
 use Rattle.typed_fields.specs.Day.{read_day}
 use Rattle.typed_fields.specs.Stamp.{read_stamp}
 use Rattle.typed_fields.specs.Flag.{read_flag}
-use Rattle.value_kinds.specs.ValueKind.{ValueKind, Id, Text, Code, Codes, Word, Currency}
-use Rattle.value_kinds.specs.ValueKind.{Qty}
+use Rattle.value_kinds.specs.ValueKind.{ValueKind, Id, Text, Code, Codes, Word, Currency, Qty}
 use Rattle.field_groups.specs.declared.fault.SplitFault.{SplitFault}
 use Rattle.field_groups.specs.Field.{Field, body_of}
 use Rattle.message_tables.specs.Tables.{Said, ◌>>=◌, code_of, value_at}
@@ -31,7 +30,7 @@ use Rattle.request_translate.specs.declared.from_fields.Order.{Order}
 use Rattle.dict_fix50.specs.Content.{content50}
 use Rattle.dict_fix50.specs.declared.requests.Msg50.{Msg50}
 use Rattle.request_translate.specs.Writing.{AreTermsOf, IsRequestOf}
-use Rattle.request_translate.specs.Written.{parties_up}
+use Rattle.request_translate.specs.Canonical.{parties_up}
 
 -- ---- values
 

@@ -3,8 +3,7 @@ use Rattle.std.specs.Prelude.{◌≡◌, ℕ, List, codes, Option, Some, None, O
 use Rattle.std.specs.Option.{option_map}
 use Rattle.field_groups.specs.declared.fault.SplitFault.{SplitFault}
 use Rattle.field_groups.specs.Field.{Field}
-use Rattle.value_kinds.specs.CodeKinds.{code_text}
-use Rattle.value_kinds.specs.ValueKind.{Code, OneByte}
+use Rattle.value_kinds.specs.ValueKind.{code_text, Code, OneByte}
 use Rattle.message_tables.specs.Tables.{Message, Said, ◌>>=◌, code_of}
 use Rattle.dict_fix42.specs.Message.{message42}
 use Rattle.dict_fix42.specs.Sense.{request42}

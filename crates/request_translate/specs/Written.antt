@@ -2,7 +2,7 @@
 use Rattle.std.specs.Prelude.{◌≡◌, ℕ, List, [], ◌∷◌, map, codes, Bool, true, false, not, ◌||◌}
 use Rattle.std.specs.Prelude.{Option, Some, None, IfSome}
 use Rattle.std.specs.Option.{option_map}
-use Rattle.value_kinds.specs.CodeKinds.{code_text}
+use Rattle.value_kinds.specs.ValueKind.{code_text}
 use Rattle.message_tables.specs.Tables.{Said, ◌>>=◌, code_of, is_one_of}
 use Rattle.order_meaning.specs.Request.{OrderType}
 use Rattle.row_values.specs.Kinds.{is_at_close}
@@ -16,9 +16,8 @@ use Rattle.dict_fix50.specs.declared.requests.New50.{New50}
 use Rattle.dict_fix50.specs.declared.requests.Cancel50.{Cancel50}
 use Rattle.dict_fix50.specs.declared.requests.Replace50.{Replace50}
 use Rattle.dict_fix50.specs.declared.requests.Status50.{Status50}
-use Rattle.order_meaning.specs.declared.party.PartyLine.{PartyLine}
-use Rattle.party_translate.specs.Parties.{parties_of}
 use Rattle.request_translate.specs.declared.parts.Terms.{Terms}
+use Rattle.request_translate.specs.Canonical.{parties_up}
 use Rattle.request_translate.specs.Lack.{lacks_time, lacks_capacity}
 use Rattle.row_values.specs.Lines as row_lines
 
@@ -65,11 +64,6 @@ pub record AreTerms (ord_type : ℕ) (time code : Option ℕ) (terms : Terms) : 
   pub on_close : AreOnClose ord_type time terms.ord_type terms.time_in_force
   pub capacity : terms.capacity ≡ code
   pub said : lacks_capacity (coded code) ≡ false
-
--- the lines of the parties
-abbrev pub parties_up : Option (List ℕ) → Option (List ℕ) → Option (List ℕ) → List PartyLine
-parties_up client broker firm =
-    parties_of (record { client = client; broker = broker; firm = firm })
 
 -- a new order, New Order - Single(D)
 pub record IsNew (m : New42) (written : New50) : Type 0 where

@@ -1,7 +1,8 @@
 //! Requests to cancel (F), each row as FIX 5.0 SP2 writes it.
 
 ghost use Rattle.std.specs.Prelude.{◌≡◌, None, IfOk};
-ghost use Rattle.request_translate.specs.Written.{IsCancel, cancel_texts, parties_up};
+ghost use Rattle.request_translate.specs.Written.{IsCancel, cancel_texts};
+ghost use Rattle.request_translate.specs.Canonical.{parties_up};
 
 use crate::parts::{TEXTS, parties};
 use dict_fix42::Cancel42;

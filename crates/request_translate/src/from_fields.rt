@@ -22,7 +22,7 @@ ghost use Rattle.dict_fix50.specs.Said as said50;
 ghost use Rattle.request_translate.specs.FromFields.{Appends, IsOrderOf, IsReadableOrder};
 ghost use Rattle.request_translate.specs.FromFields.{cancel50, id_if, new50, replace50, status50};
 ghost use Rattle.request_translate.specs.Writing.{AreTermsOf, Refuses};
-ghost use Rattle.request_translate.specs.Written.{parties_up};
+ghost use Rattle.request_translate.specs.Canonical.{parties_up};
 ghost use Rattle.translation.specs.Header.{type_of};
 ghost use Rattle.translation.specs.Judged.{AreGoodBy};
 

@@ -5,7 +5,8 @@ ghost use Rattle.std.specs.Prelude.{◌≡◌, [], map, IfOk, IfErr, MatchOption
 ghost use Rattle.std.specs.Option.{option_map};
 ghost use Rattle.request_translate.specs.Lack.{lacks_time, lacks_capacity, IsLackIn};
 ghost use Rattle.request_translate.specs.Written.{AreOnClose, AreTerms, IsTime42, coded, is_type42};
-ghost use Rattle.request_translate.specs.Written.{parties_up, type42, time42};
+ghost use Rattle.request_translate.specs.Canonical.{parties_up};
+ghost use Rattle.request_translate.specs.Written.{type42, time42};
 ghost use Rattle.row_values.specs.Lines as row_lines;
 
 use order_meaning::{Bytes, Lack, Lines, Three};

@@ -3,7 +3,8 @@
 ghost use Rattle.std.specs.Prelude.{◌≡◌, map, IfOk};
 ghost use Rattle.dict_fix42.specs.Said as said42;
 ghost use Rattle.dict_fix50.specs.Said as said50;
-ghost use Rattle.request_translate.specs.Written.{AreTerms, IsReplace, replace_texts, parties_up};
+ghost use Rattle.request_translate.specs.Written.{AreTerms, IsReplace, replace_texts};
+ghost use Rattle.request_translate.specs.Canonical.{parties_up};
 ghost use Rattle.row_values.specs.Lines as row_lines;
 
 use crate::parts::{Groups, TEXTS, Terms, allocs, parties, sessions};

@@ -12,8 +12,7 @@ use Rattle.message_tables.specs.Tables.{text_of, value_at, has_tag, row_at, all_
 use Rattle.message_tables.specs.FirstFault.{first_fault}
 use Rattle.message_tables.proofs.Clean.{is_said, value_at-none}
 use Rattle.value_kinds.specs.ValueKind.{DayOfMonth, MonthYear, Spelling, spelling, number_of_two}
-use Rattle.value_kinds.specs.ValueKind.{text_of as spelled_text}
-use Rattle.value_kinds.specs.CodeKinds.{two_digit_text}
+use Rattle.value_kinds.specs.ValueKind.{text_of as spelled_text, two_digit_text}
 use Rattle.row_values.specs.Kinds.{Kind, Value, DayOf, judge, verdict_of, month_at, in_month, said}
 use Rattle.row_values.proofs.Marks.{number_is}
 use Rattle.row_values.proofs.SaidRows.{not_none}

@@ -4,7 +4,8 @@ use Rattle.std.specs.Prelude.{Some, None, Ok, Err, is_some, if◌then◌else◌,
 use Rattle.std.specs.declared.option.Option.{Option}
 use Rattle.std.specs.Option.{option_map}
 use Rattle.std.specs.List.{list_any}
-use Rattle.value_kinds.specs.CodeKinds.{judged, code_text, two_digit_text}
+use Rattle.value_kinds.specs.CodeKinds.{judged}
+use Rattle.value_kinds.specs.ValueKind.{code_text, two_digit_text}
 use Rattle.row_values.specs.CodeKinds.{day_mark}
 use Rattle.value_kinds.specs.ValueKind.{Spelling, Code, MonthYear, is_code, listed_word, spelling}
 use Rattle.value_kinds.specs.ValueKind.{spelled, text_of as spelled_text, number_of_two}

@@ -1,10 +1,12 @@
 -- Own: what the lines of an order's groups say, and what maturities say; and those whose values can
 -- be read.
-use Rattle.std.specs.Prelude.{◌≡◌, ℕ, ◌≤◌, List, [], ◌∷◌, codes, Some, unwrap_or, IfSome}
+use Rattle.std.specs.Prelude.{◌≡◌, ℕ, ◌≤◌, List, [], ◌∷◌, ◌++◌, codes, Option, Some, unwrap_or}
+use Rattle.std.specs.Prelude.{IfSome}
 use Rattle.std.specs.Option.{option_map}
 use Rattle.std.specs.List.{AllByRecursion}
 use Rattle.std.specs.Fmt.{decimal}
 use Rattle.typed_fields.specs.Dec.{dec_text, IsDec}
+use Rattle.typed_fields.specs.Digits.{zero_padded}
 use Rattle.typed_fields.specs.MonthYear.{month_year_text, IsMonthYear}
 use Rattle.field_groups.specs.Field.{Field}
 use Rattle.message_tables.specs.Tables.{Tag, Cell}
@@ -12,13 +14,20 @@ use Rattle.order_meaning.specs.declared.party.PartyLine.{PartyLine}
 use Rattle.row_values.specs.declared.lines.AllocLine.{AllocLine}
 use Rattle.row_values.specs.declared.lines.SessionLine.{SessionLine}
 use Rattle.row_values.specs.declared.lines.Maturity.{Maturity}
-use Rattle.value_kinds.specs.ValueKind.{Id, Qty, Number}
+use Rattle.value_kinds.specs.ValueKind.{Id, Qty, Number, two_digit_text}
 use Rattle.row_values.specs.Kinds.{Value, said}
 
 -- ---- what is said
 
+-- a maturity: its month; the day of the month, where there is one; and with it the date
 abbrev pub month_text : Maturity → List ℕ
 month_text maturity = month_year_text maturity.month
+
+abbrev pub month_day_text : Maturity → Option (List ℕ)
+month_day_text maturity = option_map two_digit_text maturity.day
+
+abbrev pub date_text : Maturity → Option (List ℕ)
+date_text maturity = option_map (λ day. month_text maturity ++ zero_padded 2 day) maturity.day
 
 -- a party's PartyID, PartyIDSource (447) D, proprietary, and PartyRole
 abbrev pub party_cells : PartyLine → List Cell

@@ -5,8 +5,7 @@ use Rattle.field_groups.specs.Field.{Field}
 use Rattle.row_values.specs.declared.lines.Maturity.{Maturity}
 use Rattle.value_kinds.specs.ValueKind.{MonthYear}
 use Rattle.row_values.specs.Kinds.{Value, DayOf, said}
-use Rattle.row_values.specs.Lines.{month_text}
-use Rattle.row_values.specs.Writing.{month_day_text}
+use Rattle.row_values.specs.Lines.{month_text, month_day_text}
 
 -- a maturity says what the fields say, where a day has its month
 pub record IsMaturity (fields : List Field) (maturity : Option Maturity) : Type 0 where

@@ -1,5 +1,5 @@
 -- Inside: the parts in which a content is written.
-use Rattle.std.specs.Prelude.{ℕ, ◌++◌, zero, suc, List, [], ◌∷◌, map, Option, Some, IfSome}
+use Rattle.std.specs.Prelude.{ℕ, zero, suc, List, [], ◌∷◌, map, Option, Some, IfSome}
 use Rattle.std.specs.Prelude.{None, not, option_and_then, if◌then◌else◌}
 use Rattle.std.specs.Int.{is_negative}
 use Rattle.std.specs.Option.{option_map}
@@ -8,30 +8,21 @@ use Rattle.std.specs.Result.{result_ok}
 use Rattle.typed_fields.specs.declared.dec.Dec.{Dec}
 use Rattle.typed_fields.specs.Dec.{dec_text, read_dec, IsDec}
 use Rattle.typed_fields.specs.Day.{day_text, IsDay}
-use Rattle.typed_fields.specs.Digits.{zero_padded}
 use Rattle.typed_fields.specs.Stamp.{stamp_text, IsStamp}
 use Rattle.typed_fields.specs.Flag.{flag_text}
 use Rattle.typed_fields.specs.Number.{number_text, IsNumber}
 use Rattle.field_groups.specs.Field.{Field}
 use Rattle.message_tables.specs.Tables.{Tag, Said, value_at}
 use Rattle.message_tables.specs.Content.{cell_fields, group_fields}
-use Rattle.row_values.specs.declared.lines.Maturity.{Maturity}
 use Rattle.row_values.specs.declared.writing.Value.{Value}
 use Rattle.row_values.specs.declared.writing.Value.TheVariants as values
 use Rattle.row_values.specs.declared.writing.Part.{Part}
 use Rattle.row_values.specs.declared.writing.Part.TheVariants as parts
-use Rattle.value_kinds.specs.CodeKinds.{code_text, two_digit_text}
+use Rattle.value_kinds.specs.ValueKind.{code_text}
 use Rattle.row_values.specs.Contras.{contra_cells, AreReadableContras}
-use Rattle.row_values.specs.Lines.{month_text, party_cells, alloc_cells, session_cells}
+use Rattle.row_values.specs.Lines.{month_text, month_day_text, date_text, party_cells}
+use Rattle.row_values.specs.Lines.{alloc_cells, session_cells}
 use Rattle.row_values.specs.Lines.{IsReadableMaturity, AreReadableParties, AreReadableAllocs}
-
--- the day of the month, where there is one
-abbrev pub month_day_text : Maturity → Option (List ℕ)
-month_day_text maturity = option_map two_digit_text maturity.day
-
--- the date, where there is a day
-abbrev pub date_text : Maturity → Option (List ℕ)
-date_text maturity = option_map (λ day. month_text maturity ++ zero_padded 2 day) maturity.day
 
 -- what a row says
 abbrev pub value_text : Value → Said

@@ -4,7 +4,7 @@ ghost use Rattle.std.specs.Prelude.{◌≡◌, ◌≤◌, Some, None, IfSome, if
 ghost use Rattle.std.specs.Option.{option_map};
 ghost use Rattle.typed_fields.specs.Day.{is_date};
 ghost use Rattle.typed_fields.specs.MonthYear.{IsMonthYear};
-ghost use Rattle.value_kinds.specs.CodeKinds.{two_digit_text};
+ghost use Rattle.value_kinds.specs.ValueKind.{two_digit_text};
 ghost use Rattle.row_values.specs.Kinds.{DayOf, month_at, said};
 ghost use Rattle.row_values.specs.Lines.{IsReadableMaturity};
 ghost use Rattle.row_values.specs.Maturity.{IsMaturity};

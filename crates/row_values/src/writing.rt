@@ -12,10 +12,10 @@ ghost use Rattle.typed_fields.specs.MonthYear.{IsMonthYear, month_year_text};
 ghost use Rattle.field_groups.specs.Field.{body_of, field_bytes};
 ghost use Rattle.message_tables.specs.Tables.{Tag, value_at};
 ghost use Rattle.message_tables.specs.Content.{cell_fields, group_fields};
-ghost use Rattle.value_kinds.specs.CodeKinds.{two_digit_text};
-ghost use Rattle.row_values.specs.Lines.{IsReadableMaturity, month_text};
-ghost use Rattle.row_values.specs.Writing.{IsPart, IsValue, count_fields, date_text};
-ghost use Rattle.row_values.specs.Writing.{dec_at, month_day_text, part_fields, value_text};
+ghost use Rattle.value_kinds.specs.ValueKind.{two_digit_text};
+ghost use Rattle.row_values.specs.Lines.{IsReadableMaturity, month_text, date_text, month_day_text};
+ghost use Rattle.row_values.specs.Writing.{IsPart, IsValue, count_fields};
+ghost use Rattle.row_values.specs.Writing.{dec_at, part_fields, value_text};
 
 use crate::contras::Contras;
 use crate::lines::{Allocs, GroupLine, Maturity, Sessions};

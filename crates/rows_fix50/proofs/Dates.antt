@@ -14,9 +14,8 @@ use Rattle.typed_fields.specs.Reading.{judged}
 use Rattle.typed_fields.specs.Digits.{has_pattern, have_marks, number_of, zero_padded}
 use Rattle.typed_fields.specs.Day.{read_day, spells_date}
 use Rattle.typed_fields.specs.MonthYear.{month_year_text}
-use Rattle.value_kinds.specs.CodeKinds.{two_digit_text}
+use Rattle.value_kinds.specs.ValueKind.{two_digit_text, spelt, text_of as spelled_text}
 use Rattle.value_kinds.specs.ValueKind.{Day, MonthYear, DayOfMonth, Spelling, spelling, spelled}
-use Rattle.value_kinds.specs.ValueKind.{spelt, text_of as spelled_text}
 use Rattle.field_groups.specs.Field.{Field}
 use Rattle.message_tables.specs.Tables.{Said, ◌>>=◌, text_of, value_at}
 use Rattle.row_values.specs.Kinds.{Value, MonthBeside, filled, if_spelled, judge, month_beside}

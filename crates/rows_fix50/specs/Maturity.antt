@@ -6,8 +6,7 @@ use Rattle.value_kinds.specs.ValueKind.{Day, MonthYear, DayOfMonth, spelled}
 use Rattle.field_groups.specs.Field.{Field}
 use Rattle.row_values.specs.declared.lines.Maturity.{Maturity}
 use Rattle.row_values.specs.Kinds.{Value, MonthBeside, said}
-use Rattle.row_values.specs.Lines.{month_text}
-use Rattle.row_values.specs.Writing.{date_text}
+use Rattle.row_values.specs.Lines.{month_text, date_text}
 use Rattle.rows_fix50.specs.Header.{month_by}
 
 -- the parts of a date

@@ -3,11 +3,9 @@
 ghost use Rattle.std.specs.Prelude.{◌≡◌, Some, option_and_then, IfSome};
 ghost use Rattle.std.specs.Option.{option_map};
 ghost use Rattle.value_kinds.specs.ValueKind as kinds;
-ghost use Rattle.value_kinds.specs.ValueKind.{spelled};
-ghost use Rattle.value_kinds.specs.CodeKinds.{code_text};
+ghost use Rattle.value_kinds.specs.ValueKind.{spelled, code_text};
 ghost use Rattle.row_values.specs.Kinds.{TimeBeside, Value, month_in_date, said};
-ghost use Rattle.row_values.specs.Lines.{IsReadableMaturity, month_text};
-ghost use Rattle.row_values.specs.Writing.{date_text};
+ghost use Rattle.row_values.specs.Lines.{IsReadableMaturity, month_text, date_text};
 ghost use Rattle.rows_fix50.specs.Maturity.{IsDate, IsMaturity};
 
 use field_groups::Fields;

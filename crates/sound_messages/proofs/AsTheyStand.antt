@@ -8,11 +8,10 @@ use Rattle.typed_fields.specs.declared.fault.FieldFault.{FieldFault}
 use Rattle.typed_fields.specs.declared.fault.FieldFault.TheVariants.{Range}
 use Rattle.typed_fields.specs.declared.dec.Dec.{Dec}
 use Rattle.typed_fields.specs.Dec.{dec_text, read_dec}
-use Rattle.value_kinds.specs.CodeKinds.{code_text}
+use Rattle.value_kinds.specs.ValueKind.{code_text, if_in_range, known, listed_word, is_code}
 use Rattle.value_kinds.specs.ValueKind.{ValueKind, Filled, Id, Text, OneByte, Code, Known, Codes}
 use Rattle.value_kinds.specs.ValueKind.{Word, Currency, Flag, Number, Reason, Qty, Price, Stamp}
 use Rattle.value_kinds.specs.ValueKind.{Day, MonthYear, DayOfMonth, Spelling, spelling, spelt}
-use Rattle.value_kinds.specs.ValueKind.{if_in_range, known, listed_word, is_code}
 use Rattle.field_groups.specs.Field.{Field}
 use Rattle.message_tables.specs.TableLaws.{IsStrict}
 use Rattle.message_tables.specs.Tables.{Need, Table, Said, ◌>>=◌, all_rows, code_of, is_one_of}

@@ -9,7 +9,7 @@ use Rattle.message_tables.specs.Tables.{Verdict, Spells, Required, Optional, Len
 use Rattle.message_tables.specs.Tables.{Condition, When, Row, Item, One, Party, Lines, Message, Tag}
 use Rattle.message_tables.specs.Tables.{is_needed, is_one_of, said_at, text_of}
 use Rattle.value_kinds.specs.ValueKind.{ValueKind, Code, Known, known, listed_word, spelling}
-use Rattle.value_kinds.specs.CodeKinds.{code_text}
+use Rattle.value_kinds.specs.ValueKind.{code_text}
 use Rattle.row_values.specs.Kinds.{Kind, Value, judge, verdict_of}
 use Rattle.sound_messages.specs.Sound.{IsClear, IsSaid, IsItem}
 use Rattle.sound_messages.proofs.Each.{both}

@@ -4,8 +4,7 @@ use Rattle.std.specs.Char.{is_ascii_digit}
 use Rattle.std.specs.Str.Parse.{digits_value}
 use Rattle.std.proofs.lemmas.Bool.Decides.{nat_tests}
 use Rattle.typed_fields.specs.Digits.{zero_padded, number_of}
-use Rattle.value_kinds.specs.CodeKinds.{two_digit_text}
-use Rattle.value_kinds.specs.ValueKind.{number_of_two}
+use Rattle.value_kinds.specs.ValueKind.{two_digit_text, number_of_two}
 use Rattle.typed_fields.proofs.DigitsLemmas.{zero_padded_two}
 use Rattle.typed_fields.proofs.SpellingLemmas.{two_back}
 

@@ -1,5 +1,5 @@
--- Inside: words of std for texts of digits, which the definitions of the types share: the numbers
--- that they spell, those that spell a number, and the patterns of dates and times.
+-- Own: what the forms of the types say of digits: the number that they spell, the digits of a
+-- number, zeros that are needless, and the patterns of dates and times.
 use Rattle.std.specs.Prelude.{ℕ, zero, suc, ◌+◌, ◌/◌, ◌%◌, ◌^◌, Bool, List, [], ◌∷◌, length, ◌==◌}
 use Rattle.std.specs.Prelude.{◌&&◌, if◌then◌else◌}
 use Rattle.std.specs.Char.{is_ascii_digit, is_ascii_alphabetic}

@@ -8,7 +8,8 @@ use Rattle.std.specs.Prelude.{if◌then◌else◌}
 use Rattle.std.specs.Char.{is_ascii_digit, is_ascii_uppercase}
 use Rattle.std.specs.List.{list_any, list_all, slice_get}
 use Rattle.std.specs.Str.{bytes_eq}
-use Rattle.value_kinds.specs.CodeKinds.{judged, is_good, is_verbatim, is_byte_kind, code_text}
+use Rattle.value_kinds.specs.CodeKinds.{judged, is_good, is_verbatim, is_byte_kind}
+use Rattle.value_kinds.specs.ValueKind.{code_text, text_of, if_in_range, formed, known, listed_word}
 use Rattle.std.specs.declared.option.Option.{Option}
 use Rattle.std.specs.Int.{is_negative}
 use Rattle.std.specs.Option.{option_map}
@@ -20,7 +21,6 @@ use Rattle.typed_fields.specs.declared.dec.Dec.{Dec}
 use Rattle.value_kinds.specs.ValueKind.{ValueKind, Filled, Id, Text, OneByte, Code, Known, Codes}
 use Rattle.value_kinds.specs.ValueKind.{Word, Currency, Flag, Number, Reason, Qty, Price, Stamp}
 use Rattle.value_kinds.specs.ValueKind.{Day, MonthYear, DayOfMonth, spelling, spelled, spelt}
-use Rattle.value_kinds.specs.ValueKind.{text_of, if_in_range, formed, known, listed_word}
 use Rattle.value_kinds.specs.ValueKind.{are_parted, are_codes}
 use Rattle.typed_fields.specs.Number.{read_number, number_text}
 use Rattle.typed_fields.specs.Flag.{read_flag, flag_text}

@@ -1,6 +1,5 @@
 -- Inside: the kind that a kind of the code is, and what its judgement says.
-use Rattle.std.specs.Prelude.{ℕ, ◌+◌, ◌/◌, ◌%◌, List, [], ◌∷◌, Bool, true, false, map, Result, Ok}
-use Rattle.std.specs.Prelude.{Err, is_some}
+use Rattle.std.specs.Prelude.{Bool, true, false, map, Result, Ok, Err, is_some}
 use Rattle.typed_fields.specs.declared.fault.FieldFault.{FieldFault}
 use Rattle.value_kinds.specs.declared.value_kind.ValueKind.{ValueKind as CodeKind}
 use Rattle.value_kinds.specs.declared.value_kind.ValueKind.TheVariants as kinds
@@ -54,10 +53,3 @@ is_byte_kind OneByte = true
 is_byte_kind (Code listed) = true
 is_byte_kind (Known listed) = true
 is_byte_kind kind = false
-
--- the spellings of a code and of a day of a month
-abbrev pub code_text : ℕ → List ℕ
-code_text code = code ∷ []
-
-abbrev pub two_digit_text : ℕ → List ℕ
-two_digit_text n = (48 + n / 10) ∷ (48 + n % 10) ∷ []

@@ -1,7 +1,7 @@
 -- Own: the kinds of values of which the tables of messages speak, by the data types of FIX 4.2 and
 -- FIX 5.0 SP2, and what bytes are as a value of a kind.
-use Rattle.std.specs.Prelude.{ℕ, ℤ, ◌+◌, ◌-◌, ◌*◌, Bool, true, false, List, [], ◌∷◌, length, nat_le}
-use Rattle.std.specs.Prelude.{not, ◌==◌, ◌&&◌, if◌then◌else◌, Some, None, Result, Ok, Err}
+use Rattle.std.specs.Prelude.{ℕ, ℤ, ◌+◌, ◌-◌, ◌*◌, ◌/◌, ◌%◌, Bool, true, false, List, [], ◌∷◌}
+use Rattle.std.specs.Prelude.{length, nat_le, not, ◌==◌, ◌&&◌, if◌then◌else◌, Some, None, Result, Ok, Err}
 use Rattle.std.specs.declared.option.Option.{Option}
 use Rattle.std.specs.Int.{is_negative}
 use Rattle.std.specs.Option.{option_map}
@@ -117,6 +117,13 @@ two_digits bytes = Err Form
 abbrev pub number_of_two : List ℕ → ℕ
 number_of_two (ten ∷ one ∷ []) = 10 * (ten - 48) + (one - 48)
 number_of_two bytes = 0
+
+-- the spellings of a code, which is one byte, and of a day of a month, which is two digits
+abbrev pub code_text : ℕ → List ℕ
+code_text code = code ∷ []
+
+abbrev pub two_digit_text : ℕ → List ℕ
+two_digit_text n = (48 + n / 10) ∷ (48 + n % 10) ∷ []
 
 -- What bytes are as a value of a kind. Days, months and moments have one spelling each.
 unfoldable pub spelling : ValueKind → List ℕ → Spelling

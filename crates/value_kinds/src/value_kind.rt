@@ -18,9 +18,9 @@ ghost use Rattle.typed_fields.specs.Flag.{flag_text};
 ghost use Rattle.value_kinds.specs.ValueKind as kinds;
 ghost use Rattle.value_kinds.specs.ValueKind.{Qty, Price, Reason, DayOfMonth, spelling, spelled};
 ghost use Rattle.value_kinds.specs.ValueKind.{spelt, if_in_range, is_code, are_parted, are_codes};
-ghost use Rattle.value_kinds.specs.ValueKind.{codes_among, two_digits};
+ghost use Rattle.value_kinds.specs.ValueKind.{codes_among, two_digits, code_text, two_digit_text};
 ghost use Rattle.value_kinds.specs.CodeKinds.{value_kind_of, judged, is_good, is_verbatim};
-ghost use Rattle.value_kinds.specs.CodeKinds.{is_byte_kind, code_text, two_digit_text};
+ghost use Rattle.value_kinds.specs.CodeKinds.{is_byte_kind};
 
 use jiff::civil::Date;
 use typed_fields::laws::spellings_are_plain;

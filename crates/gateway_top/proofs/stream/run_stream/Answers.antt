@@ -6,7 +6,7 @@ use Rattle.std.proofs.KnownBytes.{Appends-nil, Appends-trans, Consumes-nil}
 use Rattle.outside.proofs.Fronts.{appended_front}
 use Rattle.frame_grammar.specs.declared.frame.Kind.{Kind}
 use Rattle.frame_grammar.specs.Cut.{Cut}
-use Rattle.frame_grammar.specs.Framer.{EndsIn, place_after}
+use Rattle.frame_grammar.specs.Places.{EndsIn, place_after}
 use Rattle.gateway_top.specs.declared.task.Task.{Task}
 use Rattle.gateway_top.specs.Pass.{Advances, Ends}
 use Rattle.gateway_top.specs.Task.{has_ended, stops}

@@ -1,7 +1,6 @@
 use Rattle.std.proofs.Common.{sym, ap, ◌∙◌}
 use Rattle.std.specs.Option.{option_map}
-use Rattle.value_kinds.specs.ValueKind.{DayOfMonth, spelled, spelling}
-use Rattle.value_kinds.specs.CodeKinds.{two_digit_text}
+use Rattle.value_kinds.specs.ValueKind.{DayOfMonth, spelled, spelling, two_digit_text}
 use Rattle.row_values.proofs.Days.{day_in_month, no_day, said_day}
 use Rattle.row_values.proofs.maturity.month_day.Goals as goal
 

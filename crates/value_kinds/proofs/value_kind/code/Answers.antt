@@ -1,6 +1,7 @@
 use Rattle.std.proofs.Common.{ap, ◌∙◌}
 use Rattle.std.specs.Option.{option_map}
-use Rattle.value_kinds.specs.CodeKinds.{value_kind_of, is_good, code_text}
+use Rattle.value_kinds.specs.CodeKinds.{value_kind_of, is_good}
+use Rattle.value_kinds.specs.ValueKind.{code_text}
 use Rattle.value_kinds.proofs.Spelled.{code_good, code_bad}
 use Rattle.value_kinds.proofs.value_kind.code.Goals as goal
 

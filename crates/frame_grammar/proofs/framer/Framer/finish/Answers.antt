@@ -10,7 +10,8 @@ use Rattle.std.proofs.lemmas.Bool.Decides.{nat_tests}
 use Rattle.frame_grammar.specs.declared.frame.Kind.{Kind}
 use Rattle.frame_grammar.specs.declared.scan.Stop.TheVariants as stop
 use Rattle.frame_grammar.specs.Found.{Broken, found}
-use Rattle.frame_grammar.specs.Held.{Held, capped}
+use Rattle.frame_grammar.specs.Held.{Held}
+use Rattle.frame_grammar.specs.Places.{capped}
 use Rattle.frame_grammar.specs.Scan.{IsStop, IsFound}
 use Rattle.frame_grammar.proofs.Stands.{lost_ends, broken_ends, short_ends, left_unread}
 use Rattle.frame_grammar.proofs.framer.Framer.finish.Goals as goal
