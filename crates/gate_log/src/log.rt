@@ -379,7 +379,7 @@ impl Log {
         ensures only { (result ≡ Err LogError.Full) → ⊥ }
         ensures not_foreign { (at : ℕ) → (result ≡ Err (LogError.Foreign at)) → ⊥ }
     {
-        let _ = disk; // The payloads are in memory, and no caller sees that.
+        let _ = disk; // It is not read: the payloads are in memory.
         out.clear();
         out.extend_from_slice(self.payload_kept(place))?;
         Ok(())

@@ -178,7 +178,7 @@ impl Journal {
         ensures cause { HasDiskCause (D.faults disk.old) (D.faults disk.new) result }
         ensures only { ReadsOnly result }
     {
-        let _ = disk; // The entries are in memory, and no caller sees that.
+        let _ = disk; // It is not read: the entries are in memory.
         Ok(self.entries[index as usize].duplicate()?)
     }
 
@@ -253,7 +253,7 @@ impl Journal {
         ensures cause { HasDiskCause (D.faults disk.old) (D.faults disk.new) result }
         ensures only { IsOkUnless result errors.DiskFault }
     {
-        let _ = disk; // The entries are in memory, and no caller sees that.
+        let _ = disk; // It is not read: the entries are in memory.
         let Some((entry, out)) = given(side, number, &self.entries) else {
             return Ok(()); // Each number below the next out was given out.
         };
