@@ -31,7 +31,7 @@ use Rattle.capture_replay.specs.Replay.{end_name, lives_lines, entries_left, rep
 use Rattle.capture_replay.specs.Lived.{IsLived, LivesOn, left_after, SoFar}
 use Rattle.capture_replay.specs.Rounds.{moment_after}
 
--- the life of a turn of the loop
+-- the life of one pass of the loop
 pub there_in : (all lives : List (List Event)) (i : ℕ) (item lines : List Event) → all ≡ lives
     → lines ≡ item → item ≡ get_or all i item → lines ≡ get_or lives i lines
 there_in all lives i item lines same is at =

@@ -17,7 +17,7 @@ use Rattle.wires.specs.Clock.{ClockState, moments_given, moments_told}
 use Rattle.wires.specs.MemWire.{WireState, calls_told, plays}
 use Rattle.wires.specs.MemWire as wires
 use Rattle.wires.specs.declared.script.Script.{Script}
-use Rattle.life_events.specs.Justified.{transcript_from}
+use Rattle.life_laws.specs.Justified.{transcript_from}
 use Rattle.gateway_config.specs.declared.config.Config.{Config}
 use Rattle.gateway_life.specs.declared.end.LifeEnd.{LifeEnd}
 use Rattle.gateway_life.specs.Life.{Done, Did, Ends, IsJournal}

@@ -11,7 +11,7 @@ use Rattle.pair_journal.specs.Numbers.{first_numbers, numbers_after}
 use Rattle.wires.specs.Wire.{Came, Connection}
 use Rattle.wires.specs.Script.{Plays}
 use Rattle.wires.specs.Clock.{moments_given}
-use Rattle.life_events.specs.Justified.{transcript_from}
+use Rattle.life_laws.specs.Justified.{transcript_from}
 use Rattle.gateway_config.specs.declared.config.Config.{Config}
 use Rattle.gateway_life.specs.declared.end.LifeEnd.{LifeEnd}
 use Rattle.gateway_life.specs.declared.end.LifeEnd.TheVariants as ends

@@ -16,8 +16,8 @@ use Rattle.capture_text.specs.Capture.{AreEvents}
 use Rattle.capture_text.specs.Life.{behind, Begun, Follows}
 use Rattle.capture_text.proofs.Bytes.{differ}
 
-abbrev pub Lines : Type 0
-Lines = List (List ℕ)
+abbrev pub Texts : Type 0
+Texts = List (List ℕ)
 
 abbrev end : List ℕ
 end = codes "end"
@@ -36,11 +36,11 @@ not_end (event.Frame Client body) is = differ 0 is refl
 not_end (event.Frame Venue body) is = differ 0 is refl
 
 -- what the first line and the others of two equal lists are
-tail_same : (x y : List ℕ) (xs ys : Lines) → x ∷ xs ≡ y ∷ ys → (x ≡ y) × (xs ≡ ys)
+tail_same : (x y : List ℕ) (xs ys : Texts) → x ∷ xs ≡ y ∷ ys → (x ≡ y) × (xs ≡ ys)
 tail_same x y xs ys is = (cc is, cc is)
 
 -- the end of a life stands once behind its events
-pub ends_once : (events others : List Event) (x y : Lines)
+pub ends_once : (events others : List Event) (x y : Texts)
     → map line_of events ++ end ∷ x ≡ map line_of others ++ end ∷ y → x ≡ y
 ends_once [] [] x y is = (tail_same end end x y is).1
 ends_once [] (o ∷ others) x y is =
@@ -52,7 +52,7 @@ ends_once (e ∷ events) (o ∷ others) x y is = ends_once events others x y
     (map line_of others ++ end ∷ y) is).1)
 
 -- lines behind whole lives are lives
-pub behind_lives : (lives all : List (List Event)) (more : Lines)
+pub behind_lives : (lives all : List (List Event)) (more : Texts)
     → All (AreEvents []) all → flat_map life_lines all ≡ flat_map life_lines lives ++ more
     → (left : List (List Event)) × All (AreEvents []) left × (flat_map life_lines left ≡ more)
 behind_lives [] all more sound is = (all, sound, is)
@@ -65,10 +65,10 @@ behind_lives (life ∷ lives) (top ∷ all) more sound is =
     ∙ append_assoc (life_lines life) (flat_map life_lines lives) more
     ∙ sym (straight life (flat_map life_lines lives ++ more)))).1)
   where
-    straight : (events : List Event) (rest : Lines)
+    straight : (events : List Event) (rest : Texts)
         → codes "life" ∷ map line_of events ++ end ∷ rest ≡ life_lines events ++ rest
     straight events rest =
-        ap (λ (ls : Lines). codes "life" ∷ ls)
+        ap (λ (ls : Texts). codes "life" ∷ ls)
         (sym (append_assoc (map line_of events) (end ∷ []) rest))
 
 -- ---- which sides are open is read off the lines
@@ -127,7 +127,7 @@ same_next before other e o same is side =
     ∙ sym (effect_is side o other)
 
 -- behind events of a life a line ends it, or is that of an event that may stand there
-goes_on : (events all before other : List Event) (line : List ℕ) (x y : Lines)
+goes_on : (events all before other : List Event) (line : List ℕ) (x y : Texts)
     → Same before other → AreEvents other all
     → map line_of events ++ line ∷ x ≡ map line_of all ++ end ∷ y
     → (line ≡ end)
@@ -148,7 +148,7 @@ goes_on (e ∷ events) (o ∷ all) before other line x y same (may, sound) is =
     (same_next before other e o same both.0) sound both.1
 
 -- events alone do not end a life
-never_whole : (events all : List Event) (y : Lines)
+never_whole : (events all : List Event) (y : Texts)
     → map line_of events ≡ map line_of all ++ end ∷ y → ⊥
 never_whole [] [] y is = absurd (cc is)
 never_whole [] (o ∷ all) y is = absurd (cc is)
@@ -158,15 +158,15 @@ never_whole (e ∷ events) (o ∷ all) y is = never_whole events all y
 
 -- ---- what may stand behind whole lives
 
-abbrev pub within : List (List Event) → List Event → Lines
+abbrev pub within : List (List Event) → List Event → Texts
 within lives events = flat_map life_lines lives ++ codes "life" ∷ map line_of events
 
-lives_more : (lives more : List (List Event)) (rest : Lines)
+lives_more : (lives more : List (List Event)) (rest : Texts)
     → flat_map life_lines more ≡ rest
     → flat_map life_lines (lives ++ more) ≡ flat_map life_lines lives ++ rest
 lives_more lives more rest is =
     flat_map-append life_lines lives more
-    ∙ ap (λ (ls : Lines). flat_map life_lines lives ++ ls) is
+    ∙ ap (λ (ls : Texts). flat_map life_lines lives ++ ls) is
 
 pub begun_between : (lives : List (List Event)) → All (AreEvents []) lives
     → Begun (flat_map life_lines lives)

@@ -21,7 +21,7 @@ use Rattle.capture_text.specs.Life.{AreLives, AreNone, Breaking, IsNoLine, Lives
 use Rattle.capture_text.specs.declared.reading.CaptureFault.{CaptureFault}
 use Rattle.capture_text.specs.declared.reading.CaptureFault.TheVariants.{Line, NoMemory}
 use Rattle.capture_text.proofs.Parts.{some_part}
-use Rattle.capture_text.proofs.Grammar.{Lines, within, begun_between, begun_within, outside_between}
+use Rattle.capture_text.proofs.Grammar.{Texts, within, begun_between, begun_within, outside_between}
 use Rattle.capture_text.proofs.Grammar.{outside_within, not_whole}
 
 abbrev pub next : ℕ → ℕ
@@ -47,13 +47,13 @@ are_more : (before events : List Event) (e : Event)
 are_more before [] e are may = (may, tt)
 are_more before (o ∷ events) e (one, are) may = (one, are_more (o ∷ before) events e are may)
 
-lines_more : (events : List Event) (e : Event) (line : List ℕ) (rest after : Lines)
+lines_more : (events : List Event) (e : Event) (line : List ℕ) (rest after : Texts)
     → rest ≡ line ∷ after → line ≡ line_of e
     → map line_of events ++ rest ≡ map line_of (events ++ e ∷ []) ++ after
 lines_more events e line rest after is says =
-    ap (λ (ls : Lines). map line_of events ++ ls) (is ∙ ap (λ (l : List ℕ). l ∷ after) says)
+    ap (λ (ls : Texts). map line_of events ++ ls) (is ∙ ap (λ (l : List ℕ). l ∷ after) says)
     ∙ sym (append_assoc (map line_of events) (line_of e ∷ []) after)
-    ∙ ap (λ (ls : Lines). ls ++ after) (sym (map-append line_of events (e ∷ [])))
+    ∙ ap (λ (ls : Texts). ls ++ after) (sym (map-append line_of events (e ∷ [])))
 
 pub passed_none : (text : List ℕ) (before : ℕ) → before ≤ 2 ^ 32 - 1
     → Passed text before [] text before
@@ -80,12 +80,12 @@ pub passed_end : (text rest line after : List ℕ) (before number : ℕ) (life :
     → line ≡ codes "end" → IsLife text before life after (next number)
 passed_end text rest line after before number life passed is ends = record {
   events = passed.events;
-  lines = passed.lines ∙ ap (λ (ls : Lines). map line_of life ++ ls)
+  lines = passed.lines ∙ ap (λ (ls : Texts). map line_of life ++ ls)
       (is ∙ ap (λ (l : List ℕ). l ∷ parts after) ends);
   place = omega (arith, passed.place);
 }
 
-breaks_by : (events : List Event) (part : List ℕ) (after : Lines)
+breaks_by : (events : List Event) (part : List ℕ) (after : Texts)
     → part ≢ codes "end" → Follows part (behind [] events) None → Breaks events part after
 breaks_by events part [] other follows = tt
 breaks_by events part (next ∷ after) other follows = (other, follows)
@@ -99,7 +99,7 @@ passed_broken text rest line after before number life passed is other follows = 
   part = line;
   after = parts after;
   sound = passed.events;
-  split = passed.lines ∙ ap (λ (ls : Lines). map line_of life ++ ls) is;
+  split = passed.lines ∙ ap (λ (ls : Texts). map line_of life ++ ls) is;
   place = omega (arith, passed.place);
   breaks = breaks_by life line (parts after) other follows;
 }
@@ -112,7 +112,7 @@ passed_short text rest part before number life passed is = record {
   part = part;
   after = [];
   sound = passed.events;
-  split = passed.lines ∙ ap (λ (ls : Lines). map line_of life ++ ls) is;
+  split = passed.lines ∙ ap (λ (ls : Texts). map line_of life ++ ls) is;
   place = omega (arith, passed.place);
   breaks = tt;
 }
@@ -145,15 +145,15 @@ pub record Between (text : List ℕ) (lives : List (List Event)) (rest : List �
 pub between_none : (text : List ℕ) → Between text [] text 2
 between_none text = record { sound = All-nil (AreEvents []); lines = refl; place = refl }
 
-lives_more : (lives : List (List Event)) (life : List Event) (more : Lines)
+lives_more : (lives : List (List Event)) (life : List Event) (more : Texts)
     → flat_map life_lines lives ++ (codes "life" ∷ map line_of life ++ codes "end" ∷ more)
     ≡ flat_map life_lines (lives ++ life ∷ []) ++ more
 lives_more lives life more =
-    ap (λ (ls : Lines). flat_map life_lines lives ++ codes "life" ∷ ls)
+    ap (λ (ls : Texts). flat_map life_lines lives ++ codes "life" ∷ ls)
     (sym (append_assoc (map line_of life) (codes "end" ∷ []) more))
     ∙ sym (append_assoc (flat_map life_lines lives) (life_lines life) more)
-    ∙ ap (λ (ls : Lines). ls ++ more) (
-    ap (λ (ls : Lines). flat_map life_lines lives ++ ls) (sym (append-nil (life_lines life)))
+    ∙ ap (λ (ls : Texts). ls ++ more) (
+    ap (λ (ls : Texts). flat_map life_lines lives ++ ls) (sym (append-nil (life_lines life)))
     ∙ sym (flat_map-append life_lines lives (life ∷ []))
     )
 
@@ -169,10 +169,10 @@ length_more : (lives : List (List Event)) (life : List Event)
     → length (flat_map life_lines (lives ++ life ∷ []))
     ≡ length (flat_map life_lines lives) + length life + 2
 length_more lives life =
-    ap (λ (ls : Lines). length ls) (flat_map-append life_lines lives (life ∷ []))
+    ap (λ (ls : Texts). length ls) (flat_map-append life_lines lives (life ∷ []))
     ∙ length-append (flat_map life_lines lives) (life_lines life ++ [])
     ∙ ap (λ n. length (flat_map life_lines lives) + n)
-    (ap (λ (ls : Lines). length ls) (append-nil (life_lines life)) ∙ length_life life)
+    (ap (λ (ls : Texts). length ls) (append-nil (life_lines life)) ∙ length_life life)
     ∙ omega arith
 
 pub between_more : (text rest line after behind : List ℕ) (number last : ℕ)
@@ -184,15 +184,15 @@ between_more text rest line after behind number last lives life between is begin
   sound = All-append (AreEvents []) lives (life ∷ []) between.sound
       (All-cons (AreEvents []) life [] one.events (All-nil (AreEvents [])));
   lines = between.lines
-      ∙ ap (λ (ls : Lines). flat_map life_lines lives ++ ls) (is
+      ∙ ap (λ (ls : Texts). flat_map life_lines lives ++ ls) (is
       ∙ ap (λ (l : List ℕ). l ∷ parts after) begins
-      ∙ ap (λ (ls : Lines). codes "life" ∷ ls) one.lines)
+      ∙ ap (λ (ls : Texts). codes "life" ∷ ls) one.lines)
       ∙ lives_more lives life (parts behind);
   place = subst (λ n. last ≡ counted (n + 2)) (sym (length_more lives life))
       (omega (arith, between.place, one.place));
 }
 
-no_line : (lives : List (List Event)) (part : List ℕ) (after : Lines) (text : List ℕ)
+no_line : (lives : List (List Event)) (part : List ℕ) (after : Texts) (text : List ℕ)
     → part ≢ codes "life" → parts text ≡ after → IsNoLine (flat_map life_lines lives) part after
 no_line lives part [] text other is =
     absurd (cc (is, (some_part text).2))
@@ -206,13 +206,13 @@ between_other text rest line after number lives between is other = record {
   before = flat_map life_lines lives;
   part = line;
   after = parts after;
-  split = between.lines ∙ ap (λ (ls : Lines). flat_map life_lines lives ++ ls) is;
+  split = between.lines ∙ ap (λ (ls : Texts). flat_map life_lines lives ++ ls) is;
   place = omega (arith, between.place);
   begins = begun_between lives between.sound;
   outside = no_line lives line (parts after) after other refl;
 }
 
-no_event : (lives : List (List Event)) (events : List Event) (part : List ℕ) (after : Lines)
+no_event : (lives : List (List Event)) (events : List Event) (part : List ℕ) (after : Texts)
     → Breaks events part after → IsNoLine (within lives events) part after
 no_event lives events part [] breaks = λ all sound some is.
     absurd (not_whole lives events all sound is)
@@ -237,9 +237,9 @@ between_broken text rest line after number last lives between is begins broken =
   part = broken.part;
   after = broken.after;
   split = between.lines
-      ∙ ap (λ (ls : Lines). flat_map life_lines lives ++ ls) (is
+      ∙ ap (λ (ls : Texts). flat_map life_lines lives ++ ls) (is
       ∙ ap (λ (l : List ℕ). l ∷ parts after) begins
-      ∙ ap (λ (ls : Lines). codes "life" ∷ ls) broken.split)
+      ∙ ap (λ (ls : Texts). codes "life" ∷ ls) broken.split)
       ∙ sym (append_assoc (flat_map life_lines lives) (codes "life" ∷ map line_of broken.events)
       (broken.part ∷ broken.after));
   place = subst (λ n. last ≡ counted (n + 3)) (sym (length_within lives broken.events))
@@ -256,7 +256,7 @@ between_short text rest number lives between is why = record {
   before = flat_map life_lines lives;
   part = rest;
   after = [];
-  split = between.lines ∙ ap (λ (ls : Lines). flat_map life_lines lives ++ ls) is;
+  split = between.lines ∙ ap (λ (ls : Texts). flat_map life_lines lives ++ ls) is;
   place = omega (arith, between.place);
   begins = begun_between lives between.sound;
   outside = outside why;
@@ -278,7 +278,7 @@ pub between_whole : (text rest : List ℕ) (number : ℕ) (lives : List (List Ev
 between_whole text rest number lives between is empty some = record {
   sound = between.sound;
   some = some;
-  lines = between.lines ∙ ap (λ (ls : Lines). flat_map life_lines lives ++ ls)
+  lines = between.lines ∙ ap (λ (ls : Texts). flat_map life_lines lives ++ ls)
       (is ∙ ap (λ (part : List ℕ). part ∷ []) empty);
 }
 

@@ -12,10 +12,10 @@ use Rattle.capture_text.specs.Capture.{title, names_line, lines_of, life_lines, 
 use Rattle.capture_text.specs.Capture.{IsCapture, IsName}
 use Rattle.capture_text.specs.Reading.{parts, IsTextOf, Begins, IsOutside, FirstOutside, Reads}
 use Rattle.capture_text.specs.Header.{AreNames, IsHeader, NamesLine, Faults}
-use Rattle.capture_text.proofs.Grammar.{Lines}
+use Rattle.capture_text.proofs.Grammar.{Texts}
 use Rattle.capture_text.specs.Life.{Begun, IsNoLine, AreLives, AreNone, LivesSay}
 
-same_tail : (x y : List ℕ) (xs ys : Lines) → x ∷ xs ≡ y ∷ ys → (x ≡ y) × (xs ≡ ys)
+same_tail : (x y : List ℕ) (xs ys : Texts) → x ∷ xs ≡ y ∷ ys → (x ≡ y) × (xs ≡ ys)
 same_tail x y xs ys is = (cc is, cc is)
 
 abbrev pub capture_of : Names → ℕ → List (List Event) → Capture
@@ -35,7 +35,7 @@ is_capture names heart lives named short some sound = record {
 }
 
 -- a capture of these lines has these lives
-begun_in : (names : Names) (heart : ℕ) (lines : Lines)
+begun_in : (names : Names) (heart : ℕ) (lines : Texts)
     → Begins (title ∷ names_line names heart ∷ lines) → Begun lines
 begun_in names heart lines (capture, rest, sound, split) = record {
   lives = capture.lives;
@@ -45,7 +45,7 @@ begun_in names heart lines (capture, rest, sound, split) = record {
   split = (same_tail _ _ _ _ (same_tail _ _ _ _ split).1).1;
 }
 
-outside_in : (names : Names) (heart : ℕ) (before : Lines) (part : List ℕ) (after : Lines)
+outside_in : (names : Names) (heart : ℕ) (before : Texts) (part : List ℕ) (after : Texts)
     → IsNoLine before part after
     → IsOutside (title ∷ names_line names heart ∷ before) part after
 outside_in names heart before part (next ∷ after) outside =
@@ -60,7 +60,7 @@ pub is_text : (text rest : List ℕ) (names : Names) (heart : ℕ) (lives : List
     → IsTextOf text (capture_of names heart lives)
 is_text text rest names heart lives header are = record {
   sound = is_capture names heart lives header.named header.short are.some are.sound;
-  lines = header.lines ∙ ap (λ (ls : Lines). title ∷ names_line names heart ∷ ls) are.lines;
+  lines = header.lines ∙ ap (λ (ls : Texts). title ∷ names_line names heart ∷ ls) are.lines;
 }
 
 -- the first line outside of the lives is that of the text
@@ -70,14 +70,14 @@ is_outside text rest names heart number header none = record {
   before = title ∷ names_line names heart ∷ none.before;
   part = none.part;
   after = none.after;
-  split = header.lines ∙ ap (λ (ls : Lines). title ∷ names_line names heart ∷ ls) none.split;
+  split = header.lines ∙ ap (λ (ls : Texts). title ∷ names_line names heart ∷ ls) none.split;
   place = none.place ∙ omega arith;
   begins = (
     capture_of names heart none.begins.lives,
     none.begins.rest,
     is_capture names heart none.begins.lives header.named header.short none.begins.some
         none.begins.sound,
-    ap (λ (ls : Lines). title ∷ names_line names heart ∷ ls) none.begins.split,
+    ap (λ (ls : Texts). title ∷ names_line names heart ∷ ls) none.begins.split,
   );
   outside = outside_in names heart none.before none.part none.after none.outside;
 }
@@ -136,13 +136,13 @@ begins_title = (
   refl,
 )
 
-outside_first : (part : List ℕ) (after : Lines) → part ≢ title → IsOutside [] part after
+outside_first : (part : List ℕ) (after : Texts) → part ≢ title → IsOutside [] part after
 outside_first part (next ∷ after) other = λ (capture, rest, sound, is).
     other (sym (same_tail _ _ _ _ is).0)
 outside_first part [] other = λ capture sound is. absurd (cc is)
 
 -- the first line is none
-pub first_is_none : (text : List ℕ) (part : List ℕ) (after : Lines)
+pub first_is_none : (text : List ℕ) (part : List ℕ) (after : Texts)
     → parts text ≡ part ∷ after → part ≢ title → FirstOutside text 1
 first_is_none text part after split other = record {
   before = [];
@@ -174,7 +174,7 @@ names_in capture sound = record {
   venue_peer = sound.venue_peer;
 }
 
-outside_second : (part : List ℕ) (after : Lines) → NamesLine part None
+outside_second : (part : List ℕ) (after : Texts) → NamesLine part None
     → IsOutside (title ∷ []) part after
 outside_second part (next ∷ after) other = λ (capture, rest, sound, is).
     other capture.names capture.heart (names_in capture sound) sound.heart
@@ -182,7 +182,7 @@ outside_second part (next ∷ after) other = λ (capture, rest, sound, is).
 outside_second part [] other = λ capture sound is. absurd (cc (same_tail _ _ _ _ is).1)
 
 -- the second line is none
-pub second_is_none : (text : List ℕ) (part : List ℕ) (after : Lines)
+pub second_is_none : (text : List ℕ) (part : List ℕ) (after : Texts)
     → parts text ≡ title ∷ part ∷ after → NamesLine part None → FirstOutside text 2
 second_is_none text part after split other = record {
   before = title ∷ [];
@@ -201,7 +201,7 @@ no_second text line behind split is end = record {
   before = title ∷ [];
   part = behind;
   after = [];
-  split = split ∙ ap (λ (l : List ℕ). l ∷ parts behind) is ∙ ap (λ (ls : Lines). title ∷ ls) end;
+  split = split ∙ ap (λ (l : List ℕ). l ∷ parts behind) is ∙ ap (λ (ls : Texts). title ∷ ls) end;
   place = refl;
   begins = begins_title;
   outside = λ capture sound is. absurd (cc (same_tail _ _ _ _ is).1);

@@ -5,12 +5,12 @@
 //! comes on a connection is some bytes or its end, within the buffer, whatever the system answers.
 #![tactic(auto)]
 
+mod hung_up;
 mod link;
-mod parting;
 mod system;
 mod visitor;
 
+pub use hung_up::{HungUp, is_gone};
 pub use link::Link;
-pub use parting::{Parting, is_parted};
 pub use system::System;
 pub use visitor::Visitor;

@@ -1,7 +1,8 @@
 -- Own: when the venue is tried again; docs/DECISIONS.md, "The edge".
 use Rattle.std.specs.Prelude.{ℕ, zero, suc, ◌+◌, ◌-◌, ◌*◌, ◌^◌, max, min}
-use Rattle.edge_logic.specs.declared.back_off.Parted.{Parted}
-use Rattle.edge_logic.specs.declared.back_off.Parted.TheVariants.{InOrder, Active, Refused, Unheard}
+use Rattle.edge_logic.specs.declared.back_off.LinkEnd.{LinkEnd}
+use Rattle.edge_logic.specs.declared.back_off.LinkEnd.TheVariants.{InOrder, Active, Refused}
+use Rattle.edge_logic.specs.declared.back_off.LinkEnd.TheVariants.{Unheard}
 
 -- the pause before a try, in milliseconds, by how many failed in a row before it: none at first,
 -- then 1 s, 2 s, 4 s and so on, up to 30 s
@@ -10,14 +11,14 @@ pause_after zero = 0
 pause_after (suc failed) = min (1000 * 2 ^ failed) 30_000
 
 -- how many tries count as failed behind a connection that ended so, where so many did before it
-abbrev pub failed_behind : Parted → ℕ → ℕ
+abbrev pub failed_behind : LinkEnd → ℕ → ℕ
 failed_behind InOrder failed = 0
 failed_behind Active failed = 0
 failed_behind Refused failed = 6
 failed_behind Unheard failed = min (failed + 1) 6
 
 -- the pause behind it: 1 s behind an orderly Logout, else by how many count as failed
-abbrev pub pause_behind : Parted → ℕ → ℕ
+abbrev pub pause_behind : LinkEnd → ℕ → ℕ
 pause_behind InOrder failed = 1_000
 pause_behind Active failed = 0
 pause_behind Refused failed = 30_000

@@ -14,7 +14,7 @@ const LONGEST: u8 = 6;
 
 /// How a connection to the venue ended, as far as the next try goes by it.
 #[derive(Clone, Copy, Debug, PartialEq, Eq)]
-pub enum Parted {
+pub enum LinkEnd {
     /// The session was active, and both sides said Logout.
     InOrder,
     /// The session was active.
@@ -114,25 +114,25 @@ impl BackOff {
     }
 
     /// A connection ended so.
-    pub fn end(&mut self, now: u64, parted: Parted)
-        ensures failed { self.new.failed ≡ failed_behind parted self.old.failed }
+    pub fn end(&mut self, now: u64, link_end: LinkEnd)
+        ensures failed { self.new.failed ≡ failed_behind link_end self.old.failed }
         ensures next { self.new.next
-            ≡ not_before self.old.next now (pause_behind parted self.old.failed) }
+            ≡ not_before self.old.next now (pause_behind link_end self.old.failed) }
     {
-        match parted {
-            Parted::InOrder => {
+        match link_end {
+            LinkEnd::InOrder => {
                 self.failed = 0;
                 self.put_off(now, APART);
             }
-            Parted::Active => {
+            LinkEnd::Active => {
                 self.failed = 0;
                 self.put_off(now, 0);
             }
-            Parted::Refused => {
+            LinkEnd::Refused => {
                 self.failed = LONGEST;
                 self.put_off(now, pause_after(LONGEST));
             }
-            Parted::Unheard => self.fail(now),
+            LinkEnd::Unheard => self.fail(now),
         }
     }
 }

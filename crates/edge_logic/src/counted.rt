@@ -35,11 +35,11 @@ pub trait Peer {
         ensures within { within self.new ≡ (within self.old && is_ok result) };
 
     /// Ends the connection.
-    fn part(&mut self)
+    fn hang_up(&mut self)
         ensures within { within self.new ≡ false };
 
     /// Goes on with what a hang up left, and answers whether it is over.
-    fn is_parted(&mut self) -> bool
+    fn is_gone(&mut self) -> bool
         ensures within { within self.new ≡ within self.old };
 }
 
@@ -73,11 +73,11 @@ impl<P: Peer> Counted<P> {
     }
 
     /// Goes on with what a hang up left to say, and answers whether it is over.
-    pub fn is_parted(&mut self) -> bool
+    pub fn is_gone(&mut self) -> bool
         ensures polls { self.new.polls ≡ self.old.polls }
         ensures faults { self.new.faults ≡ self.old.faults }
     {
-        self.peer.is_parted()
+        self.peer.is_gone()
     }
 }
 
@@ -122,6 +122,6 @@ impl<P: Peer> Wire for Counted<P> {
     }
 
     fn hang_up(&mut self) {
-        self.peer.part();
+        self.peer.hang_up();
     }
 }

@@ -23,7 +23,7 @@ mod outbox;
 mod pace;
 mod shared;
 
-pub use back_off::{BackOff, Parted};
+pub use back_off::{BackOff, LinkEnd};
 pub use clocks::{moment, ticks};
 pub use counted::{Counted, Peer};
 pub use end_time::{LONG_END, ROUNDS_A_SECOND, long_end};

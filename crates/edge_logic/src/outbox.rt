@@ -161,7 +161,7 @@ impl Outbox {
     }
 
     // Moves on to the bytes that were collected, once all before them have gone out.
-    fn turn(&mut self)
+    fn move_on(&mut self)
         ensures { self.new ≡ self.old }
     {
         self.pass(0, 0);
@@ -192,7 +192,7 @@ impl Outbox {
         ensures since { self.new.since ≡ (if length self.new.bytes == length self.old.bytes
             then self.old.since else now) }
     {
-        self.turn();
+        self.move_on();
         let count = self.write_front(out)?;
         self.pass(count, now);
         Ok(())

@@ -7,7 +7,7 @@ ghost use Rattle.wires.specs.Wire.{Fits, may_come, came_of};
 ghost use Rattle.edge_logic.specs.Order.{InOrder};
 
 use crate::teller::Teller;
-use edge_links::{Link, Parting, System, Visitor, is_parted};
+use edge_links::{HungUp, Link, System, Visitor, is_gone};
 use edge_logic::{
     ClosedNth, Ending, Fault, NextTry, Notice, Pace, Peer, PeerName, RefusedNth, Shared, moment,
     ticks,
@@ -46,7 +46,7 @@ pub struct ClientListener<'a, R: System, W: Write + Drop> {
     stranger_lines: Pace,
     /// How long no client may come, since its numbers were too low.
     put_off: PutOff,
-    parting: Option<Parting>,
+    hung_up: Option<HungUp>,
     /// What the client said before it had the place.
     held: Held,
     talk: Talk,
@@ -81,7 +81,7 @@ impl<'a, R: System, W: Write + Drop> ClientListener<'a, R, W> {
             strangers: 0,
             stranger_lines: Pace::new(),
             put_off: PutOff::new(),
-            parting: None,
+            hung_up: None,
             held: Held::none(rt.alloc()),
             talk: Talk::new(rt.alloc()),
             link: None,
@@ -451,7 +451,7 @@ impl<'a, R: System, W: Write + Drop> Peer for ClientListener<'a, R, W> {
         if self.shared.is_ending() {
             return Ok(Arrival::Nothing);
         }
-        self.is_parted();
+        self.is_gone();
         match mem::replace(&mut self.link, None) {
             None => self.open(buf),
             Some(link) => {
@@ -478,15 +478,15 @@ impl<'a, R: System, W: Write + Drop> Peer for ClientListener<'a, R, W> {
         }
     }
 
-    fn part(&mut self) {
+    fn hang_up(&mut self) {
         if let Some(link) = mem::replace(&mut self.link, None) {
-            self.parting = Some(Parting::new(link, ticks(self.rt)));
-            self.is_parted();
+            self.hung_up = Some(HungUp::new(link, ticks(self.rt)));
+            self.is_gone();
             self.tell_hung_up();
         }
     }
 
-    fn is_parted(&mut self) -> bool {
-        is_parted(&mut self.parting, ticks(self.rt))
+    fn is_gone(&mut self) -> bool {
+        is_gone(&mut self.hung_up, ticks(self.rt))
     }
 }

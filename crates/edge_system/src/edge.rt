@@ -18,8 +18,8 @@ use std::{io, thread};
 /// How long the last words to both peers may take, in milliseconds.
 const FAREWELL: u64 = 1_000;
 
-/// How long a turn of that wait takes, in milliseconds.
-const TURN: u64 = 5;
+/// How long a pause within that wait takes, in milliseconds.
+const PAUSE: u64 = 5;
 
 /// The client's wire.
 pub type ClientWire<'a, R, W> = Counted<ClientListener<'a, R, W>>;
@@ -88,15 +88,15 @@ impl<'a, R: System + Files, W: Write + Copy + Drop> Edge<'a, R, W> {
 
     /// Waits, behind the last hang up, until both peers have what was said to them, a second at
     /// most. The program calls it before it ends.
-    pub fn part(&mut self) {
+    pub fn wait_for_peers(&mut self) {
         let until = ticks(self.rt).saturating_add(FAREWELL);
         for _ in 0..FAREWELL {
-            let client = self.client.is_parted();
-            let venue = self.venue.is_parted();
+            let client = self.client.is_gone();
+            let venue = self.venue.is_gone();
             if client && venue || ticks(self.rt) >= until {
                 break;
             }
-            thread::sleep(self.rt, Duration::from_millis(TURN));
+            thread::sleep(self.rt, Duration::from_millis(PAUSE));
         }
     }
 }

@@ -6,7 +6,7 @@ ghost use Rattle.edge_logic.specs.Order.{InOrder};
 ghost use Rattle.edge_system.specs.Stage.{is_on};
 
 use crate::teller::Teller;
-use edge_links::{Link, Parting, System, is_parted};
+use edge_links::{HungUp, Link, System, is_gone};
 use edge_logic::{
     BackOff, Ending, Fault, LogonMark, Missed, NextTry, Notice, Peer, PeerName, Shared, moment,
     ticks,
@@ -48,7 +48,7 @@ pub struct VenueConnector<'a, R: System, W: Write + Drop> {
     /// A session stands once a Logon has come and the connection stood at the next poll: a Logon
     /// that is refused is answered by a hang up before that.
     talk: Talk,
-    parting: Option<Parting>,
+    hung_up: Option<HungUp>,
     stage: Stage,
 }
 
@@ -91,7 +91,7 @@ impl<'a, R: System, W: Write + Drop> VenueConnector<'a, R, W> {
             put_off: PutOff::new(),
             mark: LogonMark::new(),
             talk: Talk::new(rt.alloc()),
-            parting: None,
+            hung_up: None,
             stage: Stage::Off,
         }
     }
@@ -116,7 +116,7 @@ impl<'a, R: System, W: Write + Drop> VenueConnector<'a, R, W> {
         ensures { self.new.stage ≡ self.old.stage }
     {
         let now = ticks(self.rt);
-        self.back_off.end(now, self.talk.parted(was_closed));
+        self.back_off.end(now, self.talk.link_end(was_closed));
         if let Some(low) = self.talk.too_low() {
             self.put_off.begin(now);
             self.tell(Notice::NumbersLow(PeerName::Venue, low));
@@ -334,7 +334,7 @@ impl<'a, R: System, W: Write + Drop> Peer for VenueConnector<'a, R, W> {
         if self.shared.is_ending() {
             return Ok(Arrival::Nothing);
         }
-        self.is_parted();
+        self.is_gone();
         match mem::replace(&mut self.stage, Stage::Off) {
             Stage::Off => self.ask(buf),
             Stage::Asked(stream, since) => self.wait(stream, since, buf),
@@ -362,18 +362,18 @@ impl<'a, R: System, W: Write + Drop> Peer for VenueConnector<'a, R, W> {
         }
     }
 
-    fn part(&mut self) {
+    fn hang_up(&mut self) {
         match mem::replace(&mut self.stage, Stage::Off) {
             Stage::On(link) => {
-                self.parting = Some(Parting::new(link, ticks(self.rt)));
-                self.is_parted();
+                self.hung_up = Some(HungUp::new(link, ticks(self.rt)));
+                self.is_gone();
                 self.end_hung_up();
             }
             stage => self.stage = stage,
         }
     }
 
-    fn is_parted(&mut self) -> bool {
-        is_parted(&mut self.parting, ticks(self.rt))
+    fn is_gone(&mut self) -> bool {
+        is_gone(&mut self.hung_up, ticks(self.rt))
     }
 }

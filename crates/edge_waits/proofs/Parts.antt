@@ -17,5 +17,5 @@ first_out (x ∷ xs) new v some is rest =
 -- a front of at most so many bytes
 pub front_is : (n : ℕ) (bytes : List ℕ) → take (min (length bytes) n) bytes ≡ take n bytes
 front_is n bytes =
-    let turned : min (length bytes) n ≡ min n (length bytes) = omega arith in
-    ap (λ m. take m bytes) turned ∙ take_min n bytes
+    let swapped : min (length bytes) n ≡ min n (length bytes) = omega arith in
+    ap (λ m. take m bytes) swapped ∙ take_min n bytes

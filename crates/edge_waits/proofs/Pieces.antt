@@ -39,8 +39,8 @@ pub all_fed : (bytes : List ℕ) (n : ℕ) (held : Held) (k : Kind) → held ≡
 all_fed bytes n held k empty count =
     let room : n ≡ min (length bytes) CAPACITY =
     count ∙ ap (λ h. min (length bytes) (CAPACITY - length h.unread)) empty in
-    let turned : min (length bytes) CAPACITY ≡ min CAPACITY (length bytes) = omega arith in
-    ap (λ m. take m bytes) (room ∙ turned) ∙ take_min CAPACITY bytes
+    let swapped : min (length bytes) CAPACITY ≡ min CAPACITY (length bytes) = omega arith in
+    ap (λ m. take m bytes) (room ∙ swapped) ∙ take_min CAPACITY bytes
 
 -- the same by the answer of the call
 at_kind : (held : Held) (k : Kind) (bytes : List ℕ) → held.kind ≡ k

@@ -4,8 +4,8 @@ use Rattle.std.specs.Prelude.{Some, None, if◌then◌else◌}
 use Rattle.std.specs.declared.option.Option.{Option}
 use Rattle.edge_logic.specs.Outbox.{has_bytes}
 use Rattle.edge_logic.specs.declared.notice.TooLow.{TooLow}
-use Rattle.edge_logic.specs.declared.back_off.Parted.{Parted}
-use Rattle.edge_logic.specs.declared.back_off.Parted.TheVariants as parted
+use Rattle.edge_logic.specs.declared.back_off.LinkEnd.{LinkEnd}
+use Rattle.edge_logic.specs.declared.back_off.LinkEnd.TheVariants as link_end
 use Rattle.edge_waits.specs.Said.{too_low}
 
 -- what came before a session stood, the text of the last Logout that the gateway said, and whether
@@ -30,16 +30,16 @@ abbrev pub low_of : Spoken → Option TooLow
 low_of spoken = low_in spoken.farewell
 
 -- A Logout without a text is the answer to one.
-abbrev pub parted_by : List ℕ → Parted
-parted_by [] = parted.InOrder
-parted_by (byte ∷ text) = parted.Active
+abbrev pub link_end_by : List ℕ → LinkEnd
+link_end_by [] = link_end.InOrder
+link_end_by (byte ∷ text) = link_end.Active
 
-abbrev pub parted_behind : Option (List ℕ) → Parted
-parted_behind None = parted.Active
-parted_behind (Some text) = parted_by text
+abbrev pub link_end_behind : Option (List ℕ) → LinkEnd
+link_end_behind None = link_end.Active
+link_end_behind (Some text) = link_end_by text
 
 -- how the connection ended, where the peer closed it in order, or not
-abbrev pub parted_of : Spoken → Bool → Parted
-parted_of spoken was_closed =
-    if spoken.active then parted_behind spoken.farewell
-    else (if was_closed || has_bytes spoken.heard then parted.Refused else parted.Unheard)
+abbrev pub link_end_of : Spoken → Bool → LinkEnd
+link_end_of spoken was_closed =
+    if spoken.active then link_end_behind spoken.farewell
+    else (if was_closed || has_bytes spoken.heard then link_end.Refused else link_end.Unheard)

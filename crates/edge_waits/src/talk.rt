@@ -3,12 +3,12 @@
 ghost use Rattle.std.specs.Prelude.{◌≡◌, ◌++◌, [], OnOk, OnErr, IfOk, None, true, false};
 ghost use Rattle.edge_waits.specs.Said.{logout_text};
 ghost use Rattle.edge_waits.specs.Fields.{or_else};
-ghost use Rattle.edge_waits.specs.Talk.{heard_next, parted_by, parted_of, low_of};
+ghost use Rattle.edge_waits.specs.Talk.{heard_next, link_end_by, link_end_of, low_of};
 ghost use Rattle.edge_waits.specs.Why.{why_text};
 
 use crate::said::{logout_text, too_low};
 use crate::why::put_why;
-use edge_logic::{Parted, TooLow};
+use edge_logic::{LinkEnd, TooLow};
 use std::alloc::{AllocError, Global};
 use std::marker::Model;
 
@@ -48,12 +48,12 @@ fn copy(alloc: Global, text: &[u8]) -> Result<Vec<u8>, AllocError>
 }
 
 // How a session ended behind a Logout with this text.
-fn parted_by(text: &[u8]) -> Parted
-    ensures { result ≡ parted_by text.now }
+fn link_end_by(text: &[u8]) -> LinkEnd
+    ensures { result ≡ link_end_by text.now }
 {
     match text {
-        [] => Parted::InOrder,
-        _ => Parted::Active,
+        [] => LinkEnd::InOrder,
+        _ => LinkEnd::Active,
     }
 }
 
@@ -127,18 +127,18 @@ impl Talk {
 
     /// How the connection ended, for the venue's next try, where the venue closed it in order, or
     /// not.
-    pub fn parted(&self, was_closed: bool) -> Parted
-        ensures { result ≡ parted_of self.now was_closed }
+    pub fn link_end(&self, was_closed: bool) -> LinkEnd
+        ensures { result ≡ link_end_of self.now was_closed }
     {
         if self.is_active {
             match &self.farewell {
-                Some(text) => parted_by(text.as_slice()),
-                None => Parted::Active,
+                Some(text) => link_end_by(text.as_slice()),
+                None => LinkEnd::Active,
             }
         } else if was_closed || !self.heard.is_empty() {
-            Parted::Refused
+            LinkEnd::Refused
         } else {
-            Parted::Unheard
+            LinkEnd::Unheard
         }
     }
 

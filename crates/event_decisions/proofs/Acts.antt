@@ -147,10 +147,10 @@ says_break [] = false
 says_break (Say (admin.Reject tag reason) ∷ acts) = is_breaking tag reason || says_break acts
 says_break (act ∷ acts) = says_break acts
 
--- what the acts are at a message: the application's turn, a Reject of it, another Reject, or
+-- what the acts are at a message: what the application gets, a Reject of it, another Reject, or
 -- messages of the session alone
 pub data Tells (w : What) (acts : List Act) : Type 0 where
-  Turns : acts ≡ Take ∷ [] → is_for_application w ≡ true → Tells w acts
+  Gets : acts ≡ Take ∷ [] → is_for_application w ≡ true → Tells w acts
   Rejected : (tag reason : ℕ) → acts ≡ Take ∷ Say (admin.Reject tag reason) ∷ [] → Tells w acts
   Broken : says_break acts ≡ true → Tells w acts
   Sessions : (takes acts ≡ true → is_for_application w ≡ false) → says_admin acts ≡ true
@@ -226,19 +226,19 @@ rows_tell (S27 to) w m n now s p = own w _ (ap is_for_application p.0) refl
 rows_tell S28 w m n now s p = Broken refl
 rows_tell (S29 tag reason) w m n now s p = Rejected tag reason refl
 rows_tell S30 w m n now s p = own w _ p.0.session refl
-rows_tell S31 w m n now s p = Turns refl p.1
+rows_tell S31 w m n now s p = Gets refl p.1
 rows_tell S34 w m n now s p =
     ticks w (is_test_due now s) (is_heartbeat_due now s) (is_ask_due s.ask now s.heart) s
 rows_tell other w m n now s p = skips w _ refl refl
 
 -- ---- rows by which nothing is taken
 
-no_turn : (x y z : Bool) (s : Session) → takes (only x (Say admin.TestRequest)
+none_taken : (x y z : Bool) (s : Session) → takes (only x (Say admin.TestRequest)
     ++ only y (Say (admin.Heartbeat false)) ++ only z (asking s)) ≡ false
-no_turn true y z s = refl
-no_turn false true z s = refl
-no_turn false false true s = refl
-no_turn false false false s = refl
+none_taken true y z s = refl
+none_taken false true z s = refl
+none_taken false false true s = refl
+none_taken false false false s = refl
 
 no_skip : (b : Bool) → takes (only b Skip) ≡ false
 no_skip true = refl
@@ -248,7 +248,7 @@ pub idle_takes : (r : Row) (n now : ℕ) (s : Session) → IsIdle r
     → takes (effect_of r n now s).acts ≡ false
 idle_takes (S4 b) n now s is = no_skip b
 idle_takes S34 n now s is =
-    no_turn (is_test_due now s) (is_heartbeat_due now s) (is_ask_due s.ask now s.heart) s
+    none_taken (is_test_due now s) (is_heartbeat_due now s) (is_ask_due s.ask now s.heart) s
 idle_takes S1 n now s is = refl
 idle_takes S2 n now s is = refl
 idle_takes S3 n now s is = refl
@@ -277,31 +277,32 @@ idle_picks S36 w n expected is = tt
 idle_picks Quiet w n expected is = tt
 idle_picks other w n expected is = absurd is
 
--- ---- what is taken is in turn
+-- ---- what is taken was expected
 
 -- it counts by what it is; or it counts one, where its head is wrong
-abbrev pub IsInTurn : What → (n before after : ℕ) → List Act → Type 0
-IsInTurn w n before after acts = Takes (taking_by w) n before after
+abbrev pub WasExpected : What → (n before after : ℕ) → List Act → Type 0
+WasExpected w n before after acts = Takes (taking_by w) n before after
     ⊎ ((n ≡ before) × (after ≡ n + 1) × (says_break acts ≡ true))
 
-in_turn : (w : What) (n before : ℕ) → IsPlain w → n ≡ before → Takes (taking_by w) n before (n + 1)
-in_turn w n before is same =
+was_expected : (w : What) (n before : ℕ) → IsPlain w → n ≡ before
+    → Takes (taking_by w) n before (n + 1)
+was_expected w n before is same =
     subst (λ (t : Taking). Takes t n before (n + 1)) (sym is.counts) (same, refl)
 
 counts_one : (w : What) (n before : ℕ) (b : Bool) (acts : List Act) (s : Session)
     → (n == s.numbers.next_in) ≡ b → IsPlain w
     → takes ((if b then Take else Skip) ∷ acts) ≡ true
-    → IsInTurn w n s.numbers.next_in
+    → WasExpected w n s.numbers.next_in
     (down (if b then expects (n + 1) s else s)).numbers.next_in
     ((if b then Take else Skip) ∷ acts)
 counts_one w n before true acts s at is some =
-    inl (in_turn w n s.numbers.next_in is (eqb-true n s.numbers.next_in at))
+    inl (was_expected w n s.numbers.next_in is (eqb-true n s.numbers.next_in at))
 counts_one w n before false acts s at is some = absurd (cc some)
 
 breaks_one : (w : What) (n : ℕ) (b : Bool) (acts : List Act) (s : Session)
     → (n == s.numbers.next_in) ≡ b → says_break acts ≡ true
     → takes ((if b then Take else Skip) ∷ acts) ≡ true
-    → IsInTurn w n s.numbers.next_in
+    → WasExpected w n s.numbers.next_in
     (down (if b then expects (n + 1) s else s)).numbers.next_in
     ((if b then Take else Skip) ∷ acts)
 breaks_one w n true acts s at is some = inr (eqb-true n s.numbers.next_in at, refl, is)
@@ -309,25 +310,25 @@ breaks_one w n false acts s at is some = absurd (cc some)
 
 by_what : (w v : What) (n before after : ℕ) → w ≡ v → Takes (taking_by v) n before after
     → Takes (taking_by w) n before after
-by_what w v n before after is turn =
-    subst (λ (u : What). Takes (taking_by u) n before after) (sym is) turn
+by_what w v n before after is expected =
+    subst (λ (u : What). Takes (taking_by u) n before after) (sym is) expected
 
 pub rows_take : (r : Row) (w : What) (n now : ℕ) (s : Session) → Picked r w n s.numbers.next_in
     → takes (effect_of r n now s).acts ≡ true
-    → IsInTurn w n s.numbers.next_in (effect_of r n now s).next.numbers.next_in
+    → WasExpected w n s.numbers.next_in (effect_of r n now s).next.numbers.next_in
     (effect_of r n now s).acts
 rows_take (S4 b) w n now s p some = absurd (cc (no_skip b, some))
 rows_take (S6 tag) w n now s p some =
     counts_one w n 0 (n == s.numbers.next_in) _ s refl p some
-rows_take (S9 heart reset) w n now s p some = inl (in_turn w n s.numbers.next_in p.0 p.1)
-rows_take S11 w n now s p some = inl (in_turn w n s.numbers.next_in p.0 p.1)
+rows_take (S9 heart reset) w n now s p some = inl (was_expected w n s.numbers.next_in p.0 p.1)
+rows_take S11 w n now s p some = inl (was_expected w n s.numbers.next_in p.0 p.1)
 rows_take (S14 tag) w n now s p some = breaks_one w n (n == s.numbers.next_in) _ s refl refl some
 rows_take (S15 reason) w n now s p some = breaks_one w n (n == s.numbers.next_in) _ s refl
     (ap (λ b. b || false) (breaks_by_tag (reason == 9))) some
 rows_take (S16 to) w n now s p some =
     inl (by_what w (what.Reset to) n s.numbers.next_in to p.0 (refl, p.1))
-rows_take S24 w n now s p some = inl (in_turn w n s.numbers.next_in p.0 p.1)
-rows_take S25 w n now s p some = inl (in_turn w n s.numbers.next_in p.0 p.1)
+rows_take S24 w n now s p some = inl (was_expected w n s.numbers.next_in p.0 p.1)
+rows_take S25 w n now s p some = inl (was_expected w n s.numbers.next_in p.0 p.1)
 rows_take (S26 from to) w n now s p some =
     inl (by_what w (what.ResendRequest from to) n s.numbers.next_in (n + 1) p.0 (p.1, refl))
 rows_take (S27 to) w n now s p some =
@@ -336,11 +337,11 @@ rows_take S28 w n now s p some =
     inl (by_what w (what.GapFill p.0) n s.numbers.next_in (n + 1) p.1 (p.2, inr refl))
 rows_take (S29 tag reason) w n now s p some =
     inl (by_what w (what.Faulty tag reason) n s.numbers.next_in (n + 1) p.0 (p.1, refl))
-rows_take S30 w n now s p some = inl (in_turn w n s.numbers.next_in p.0 p.1)
+rows_take S30 w n now s p some = inl (was_expected w n s.numbers.next_in p.0 p.1)
 rows_take S31 w n now s p some =
     inl (subst (λ (t : Taking). Takes t n s.numbers.next_in (n + 1)) (sym p.0) (p.2, refl))
 rows_take S34 w n now s p some = absurd (cc (
-  no_turn (is_test_due now s) (is_heartbeat_due now s)
+  none_taken (is_test_due now s) (is_heartbeat_due now s)
       (is_ask_due s.ask now s.heart) s,
   some,
 ))

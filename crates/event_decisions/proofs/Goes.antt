@@ -27,7 +27,7 @@ use Rattle.event_decisions.specs.Decide.{Sessions, AreSides, session_of, with_se
 use Rattle.event_decisions.specs.Decide.{Heard, says_of, out_of, Words, Given, give}
 use Rattle.event_decisions.specs.Decide.{numbered, took_of, took_if, takes, input_of, head_in}
 use Rattle.event_decisions.specs.Laws.{AreWords}
-use Rattle.event_decisions.proofs.Steps.{IsStep, TakesTurn}
+use Rattle.event_decisions.proofs.Steps.{IsStep, TakesExpected}
 
 -- ---- outs that go on
 
@@ -314,9 +314,9 @@ took_stays x side body false None next s after stays none same =
 
 -- what is taken has a number
 pub is_numbered : (w : What) (number : Option ℕ) (before : ℕ) (t : Step)
-    → TakesTurn w number before t → number ≡ None → takes t.acts ≡ false
-is_numbered w None before t turn is = turn
-is_numbered w (Some n) before t turn is = absurd (cc is)
+    → TakesExpected w number before t → number ≡ None → takes t.acts ≡ false
+is_numbered w None before t expected is = expected
+is_numbered w (Some n) before t expected is = absurd (cc is)
 
 pub event_stays : (names : Names) (window : ℕ) (x : Side) (s : Sessions) (event : Event) (now : ℕ)
     (t : Step) (after : Next)
@@ -326,12 +326,12 @@ pub event_stays : (names : Names) (window : ℕ) (x : Side) (s : Sessions) (even
 event_stays names window x s (Frame side body) now t after is same =
     let head : Head = head_in names window side body now in
     took_stays x side body (takes t.acts) head.number t.next s after is.stays
-    (is_numbered head.what head.number (session_of side s).numbers.next_in t is.turn) same
+    (is_numbered head.what head.number (session_of side s).numbers.next_in t is.expected) same
 event_stays names window x s (Opened side) now t after is same =
-    same ∙ with_stays x side t.next s (is.stays is.turn)
+    same ∙ with_stays x side t.next s (is.stays is.expected)
 event_stays names window x s (Closed side) now t after is same =
-    same ∙ with_stays x side t.next s (is.stays is.turn)
+    same ∙ with_stays x side t.next s (is.stays is.expected)
 event_stays names window x s (Tick side) now t after is same =
-    same ∙ with_stays x side t.next s (is.stays is.turn)
+    same ∙ with_stays x side t.next s (is.stays is.expected)
 event_stays names window x s (End side) now t after is same =
-    same ∙ with_stays x side t.next s (is.stays is.turn)
+    same ∙ with_stays x side t.next s (is.stays is.expected)

@@ -32,9 +32,9 @@ use Rattle.event_decisions.specs.Laws.{IsMade, Answers, Rejects, Breaking, Rests
 use Rattle.event_decisions.specs.Laws.{DecisionsMake, Breaks, AreAdmin, IsOfSession}
 use Rattle.event_decisions.specs.Laws.{AreWords, IsNumbered, IsSilent, asked_about, taking_of}
 use Rattle.event_decisions.specs.Laws.{taking_by, counts, is_breaking, what_of}
-use Rattle.event_decisions.proofs.Acts.{Tells, Turns, Rejected, Broken, Sessions as OfSession}
-use Rattle.event_decisions.proofs.Acts.{says_admin, says_break, IsInTurn}
-use Rattle.event_decisions.proofs.Steps.{IsStep, TakesTurn}
+use Rattle.event_decisions.proofs.Acts.{Tells, Gets, Rejected, Broken, Sessions as OfSession}
+use Rattle.event_decisions.proofs.Acts.{says_admin, says_break, WasExpected}
+use Rattle.event_decisions.proofs.Steps.{IsStep, TakesExpected}
 use Rattle.event_decisions.proofs.Goes.{IsGiven}
 use Rattle.event_decisions.proofs.Continues.{IsBy, by, entry_by, entry_is, own_outs}
 
@@ -122,9 +122,9 @@ not_asked took = refl
 
 -- what is taken has the number of its body
 some_number : (w : What) (number : Option ℕ) (before : ℕ) (t : Step)
-    → TakesTurn w number before t → takes t.acts ≡ true → (n : ℕ) × (number ≡ Some n)
-some_number w None before t turn some = absurd (cc (turn, some))
-some_number w (Some n) before t turn some = (n, refl)
+    → TakesExpected w number before t → takes t.acts ≡ true → (n : ℕ) × (number ≡ Some n)
+some_number w None before t expected some = absurd (cc (expected, some))
+some_number w (Some n) before t expected some = (n, refl)
 
 number_is : (number : Option ℕ) (n : ℕ) → number ≡ Some n → (head : Head) → head.number ≡ number
     → session.number_of (session.Message head) ≡ n
@@ -148,7 +148,7 @@ numbered_took side body true (Some n) is = sym is
 numbered_took side body true None is = tt
 numbered_took side body false number is = tt
 
--- the turn of the application
+-- what the application gets
 asked_is : (b : Bool) (took : Option Took) (x : Took) → b ≡ true → took ≡ Some x
     → asked_if b took ≡ Some (asked_about x)
 asked_is b took x some is = rw (some, is) refl
@@ -157,7 +157,7 @@ asked_is b took x some is = rw (some, is) refl
 record IsFramed (names : Names) (window : ℕ) (s : Sessions) (now : ℕ) (words : Option Words)
     (side : Side) (body : List ℕ) (t : Step) (given : List Out) : Type 0 where
   tells : Tells (head_in names window side body now).what t.acts
-  turn : TakesTurn (head_in names window side body now).what
+  expected : TakesExpected (head_in names window side body now).what
       (head_in names window side body now).number (session_of side s).numbers.next_in t
   words_are : AreWords words given
   silent : IsSilent (asked_if (asks (session.Message (head_in names window side body now)) t.acts)
@@ -203,9 +203,9 @@ frame_made names window s now words side body t given next f = by t.acts refl f.
         ∙ append-nil (own_outs names window s (Frame side body) now t)
 
     by : (acts : List Act) → t.acts ≡ acts → Tells head.what t.acts → IsMade asked words e
-    by acts same (Turns are is) =
+    by acts same (Gets are is) =
         let some : takes t.acts ≡ true = ap takes are in
-        let n = some_number head.what head.number (session_of side s).numbers.next_in t f.turn
+        let n = some_number head.what head.number (session_of side s).numbers.next_in t f.expected
         some in
         let took : Took = record { side = side; number = n.0; raw = body } in
         let is_took : e.took ≡ Some took =
@@ -218,7 +218,7 @@ frame_made names window s now words side body t given next f = by t.acts refl f.
         (session_of side s).numbers.next_out l ++ given) are)) f.words_are)
     by acts same (Rejected tag reason are) =
         let some : takes t.acts ≡ true = ap takes are in
-        let n = some_number head.what head.number (session_of side s).numbers.next_in t f.turn
+        let n = some_number head.what head.number (session_of side s).numbers.next_in t f.expected
         some in
         let took : Took = record { side = side; number = n.0; raw = body } in
         let asks_none : asks (session.Message head) t.acts ≡ false =
@@ -260,15 +260,16 @@ TakenBy taking took before after = elim took [
 frame_taken : (side : Side) (body : List ℕ) (b : Bool) (number : Option ℕ) (w : What)
     (acts : List Act) (before after : Next) (outs : List Out)
     → ((n : ℕ) → number ≡ Some n → b ≡ true
-    → IsInTurn w n (next_in side before) (next_in side after) acts)
+    → WasExpected w n (next_in side before) (next_in side after) acts)
     → taking_of side body ≡ taking_by w → (says_break acts ≡ true → Breaks outs)
     → TakenBy taking_of (took_if b side body number) before after
     ⊎ (TakenBy counts (took_if b side body number) before after × Breaks outs)
-frame_taken side body true None w acts before after outs turn is breaks = inl tt
-frame_taken side body false number w acts before after outs turn is breaks = inl tt
-frame_taken side body true (Some n) w acts before after outs turn is breaks = by (turn n refl refl)
+frame_taken side body true None w acts before after outs expected is breaks = inl tt
+frame_taken side body false number w acts before after outs expected is breaks = inl tt
+frame_taken side body true (Some n) w acts before after outs expected is breaks =
+    by (expected n refl refl)
   where
-    by : IsInTurn w n (next_in side before) (next_in side after) acts
+    by : WasExpected w n (next_in side before) (next_in side after) acts
         → TakenBy taking_of (Some (record { side = side; number = n; raw = body })) before after
         ⊎ (TakenBy counts (Some (record { side = side; number = n; raw = body })) before after
         × Breaks outs)
@@ -276,13 +277,13 @@ frame_taken side body true (Some n) w acts before after outs turn is breaks = by
         (next_in side after)) (sym is) takes)
     by (inr one) = inr ((one.0, one.1), breaks one.2)
 
-turn_of : (w : What) (number : Option ℕ) (before : ℕ) (t : Step) → TakesTurn w number before t
-    → (n : ℕ) → number ≡ Some n → takes t.acts ≡ true
-    → IsInTurn w n before t.next.numbers.next_in t.acts
-turn_of w None before t turn n is some = absurd (cc is)
-turn_of w (Some m) before t turn n is some =
+expected_of : (w : What) (number : Option ℕ) (before : ℕ) (t : Step)
+    → TakesExpected w number before t → (n : ℕ) → number ≡ Some n → takes t.acts ≡ true
+    → WasExpected w n before t.next.numbers.next_in t.acts
+expected_of w None before t expected n is some = absurd (cc is)
+expected_of w (Some m) before t expected n is some =
     let same : m ≡ n = cc is in
-    subst (λ (k : ℕ). IsInTurn w k before t.next.numbers.next_in t.acts) same (turn some)
+    subst (λ (k : ℕ). WasExpected w k before t.next.numbers.next_in t.acts) same (expected some)
 
 -- ---- every entry
 
@@ -295,7 +296,7 @@ none_made : (asked : Option Asked) (words : Option Words) (w : What) (e : Entry)
     (own given : List Out) → e.took ≡ None → e.outs ≡ own ++ given → given ≡ []
     → takes acts ≡ false → Tells w acts → (says_admin acts ≡ true → AreAdmin own)
     → (says_break acts ≡ true → Breaks (own ++ given)) → IsMade asked words e
-none_made asked words w e acts own given took outs none idle (Turns are is) admins breaks =
+none_made asked words w e acts own given took outs none idle (Gets are is) admins breaks =
     absurd (cc (ap takes are, idle))
 none_made asked words w e acts own given took outs none idle (Rejected tag reason are) admins
     breaks = absurd (cc (ap takes are, idle))
@@ -335,29 +336,30 @@ made_at names window s now words (Frame side body) t g step given silent =
     record {
       made = frame_made names window s now words side body t g.outs e.next (record {
         tells = step.tells;
-        turn = step.turn;
+        expected = step.expected;
         words_are = given.gives;
         silent = silent;
       });
       taken = frame_taken side body (takes t.acts) head.number head.what t.acts (numbers_of s)
           e.next e.outs (λ n is some. rw (in_of_side side s, after)
-          (turn_of head.what head.number (session_of side s).numbers.next_in t step.turn n is some))
+          (expected_of head.what head.number (session_of side s).numbers.next_in t
+          step.expected n is some))
           refl (broken_outs side t.next.heart (heard_in (Frame side body) (session.Message head))
           (session_of side s).numbers.next_out t.acts g.outs);
       numbered = numbered_took side body (takes t.acts) head.number refl;
     }
 made_at names window s now words (Opened side) t g step given silent =
     made_none s words _ side t.next.heart (heard_in (Opened side) session.Opened) _ t g.outs _ refl
-    refl given.gives silent step.turn step.tells
+    refl given.gives silent step.expected step.tells
 made_at names window s now words (Closed side) t g step given silent =
     made_none s words _ side t.next.heart (heard_in (Closed side) session.Closed) _ t g.outs _ refl
-    refl given.gives silent step.turn step.tells
+    refl given.gives silent step.expected step.tells
 made_at names window s now words (Tick side) t g step given silent =
     made_none s words _ side t.next.heart (heard_in (Tick side) session.Tick) _ t g.outs _ refl
-    refl given.gives silent step.turn step.tells
+    refl given.gives silent step.expected step.tells
 made_at names window s now words (End side) t g step given silent =
     made_none s words _ side t.next.heart (heard_in (End side) session.End) _ t g.outs _ refl refl
-    given.gives silent step.turn step.tells
+    given.gives silent step.expected step.tells
 
 pub decisions_make : DecisionsMake
 decisions_make names window s event now words d e are silent decided is =

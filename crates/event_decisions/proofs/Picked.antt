@@ -75,7 +75,7 @@ logon_picks link (what.Logon heart true) true Greater dup n expected same = tt
 logon_picks link (what.Logon heart false) fresh Greater dup n expected same = tt
 logon_picks link other fresh place dup n expected same = tt
 
--- a SequenceReset that is no gap fill never comes to its turn by its number
+-- a SequenceReset that is no gap fill is never expected by its number
 abbrev GoesByNumber : What → Type 0
 GoesByNumber (what.Reset to) = ⊥
 GoesByNumber (what.FaultyReset tag reason) = ⊥

@@ -15,7 +15,7 @@ use Rattle.event_decisions.specs.Decide.{takes, repeat_of}
 use Rattle.event_decisions.proofs.Picked.{Picked, PickedBy, message_picks, opened_idle}
 use Rattle.event_decisions.proofs.Picked.{tick_idle, end_idle}
 use Rattle.event_decisions.proofs.Acts.{Keeps, rows_keep, rows_stay, Repeats, rows_repeat, Tells}
-use Rattle.event_decisions.proofs.Acts.{rows_tell, idle_takes, idle_picks, IsInTurn, rows_take}
+use Rattle.event_decisions.proofs.Acts.{rows_tell, idle_takes, idle_picks, WasExpected, rows_take}
 
 -- what an input is
 abbrev pub what_in : Input → What
@@ -26,11 +26,11 @@ abbrev pub number_in : Input → Option ℕ
 number_in (Message head) = head.number
 number_in other = None
 
--- what is taken has a number, and is in turn
-abbrev pub TakesTurn : What → Option ℕ → (before : ℕ) → Step → Type 0
-TakesTurn w None before t = takes t.acts ≡ false
-TakesTurn w (Some n) before t =
-    takes t.acts ≡ true → IsInTurn w n before t.next.numbers.next_in t.acts
+-- what is taken has a number, and was expected
+abbrev pub TakesExpected : What → Option ℕ → (before : ℕ) → Step → Type 0
+TakesExpected w None before t = takes t.acts ≡ false
+TakesExpected w (Some n) before t =
+    takes t.acts ≡ true → WasExpected w n before t.next.numbers.next_in t.acts
 
 pub record IsStep (s : Session) (input : Input) (t : Step) : Type 0 where
   pub side : t.next.side ≡ s.side
@@ -39,7 +39,7 @@ pub record IsStep (s : Session) (input : Input) (t : Step) : Type 0 where
   pub repeats : (side : Side)
       → Repeats side (what_in input) s.numbers.next_out (repeat_of side t.acts)
   pub tells : Tells (what_in input) t.acts
-  pub turn : TakesTurn (what_in input) (number_in input) s.numbers.next_in t
+  pub expected : TakesExpected (what_in input) (number_in input) s.numbers.next_in t
 
 -- the step that is answered
 counts : (now : ℕ) (e : Step) (b : Bool) (t : Step)
@@ -53,14 +53,14 @@ settles : (now : ℕ) (e t : Step) → settled now e ≡ Ok t
 settles now e t is = counts now e (is_spent e.next.numbers.next_out (says e.acts)) t is
 
 -- by the row, where it was picked
-turn_by : (r : Row) (w : What) (number : Option ℕ) (m now : ℕ) (s : Session)
+expected_by : (r : Row) (w : What) (number : Option ℕ) (m now : ℕ) (s : Session)
     → PickedBy r w number s.numbers.next_in → ((n : ℕ) → number ≡ Some n → m ≡ n)
     → let e = effect_of r m now s in
-    TakesTurn w number s.numbers.next_in (does e.acts (counted now (says e.acts) e.next))
-turn_by r w None m now s p same = idle_takes r m now s p
-turn_by r w (Some n) m now s p same = λ some.
+    TakesExpected w number s.numbers.next_in (does e.acts (counted now (says e.acts) e.next))
+expected_by r w None m now s p same = idle_takes r m now s p
+expected_by r w (Some n) m now s p same = λ some.
     subst (λ (k : ℕ). takes (effect_of r k now s).acts ≡ true
-    → IsInTurn w n s.numbers.next_in (effect_of r k now s).next.numbers.next_in
+    → WasExpected w n s.numbers.next_in (effect_of r k now s).next.numbers.next_in
     (effect_of r k now s).acts) (sym (same n refl)) (rows_take r w n now s p) some
 
 picked_as : (r : Row) (w : What) (number : Option ℕ) (expected : ℕ)
@@ -86,7 +86,7 @@ by_row r w number m now s p same input is numbered =
           (rows_repeat side r w picked.0 m now s picked.1);
       tells = subst (λ (v : What). Tells v (effect_of r m now s).acts) (sym is)
           (rows_tell r w picked.0 m now s picked.1);
-      turn = rw (is, numbered) (turn_by r w number m now s p same);
+      expected = rw (is, numbered) (expected_by r w number m now s p same);
     }
 
 of_message : (number : Option ℕ) (head : Head) → head.number ≡ number
@@ -119,7 +119,7 @@ is_step s (Message head) now t is =
       stays = at_h.stays;
       repeats = at_h.repeats;
       tells = at_h.tells;
-      turn = at_h.turn;
+      expected = at_h.expected;
     }
 is_step s Tick now t is = subst (IsStep s Tick)
     (settles now (effect_of (tick_row s.link now s) 0 now s) t is)

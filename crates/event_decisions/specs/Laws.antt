@@ -132,7 +132,7 @@ counts side raw = Counts
 pub record Makes (before : Sessions) (asked : Option Asked) (words : Option Words) (e : Entry)
     : Type 0 where
   pub made : IsMade asked words e
-  -- the took was in turn and counts by its body; or its head was wrong, and it counts one
+  -- the took was expected and counts by its body; or its head was wrong, and it counts one
   pub taken : TookGoesOn taking_of (numbers_of before) e
       ⊎ (TookGoesOn counts (numbers_of before) e × Breaks e.outs)
   pub numbered : IsNumbered e.took

@@ -14,7 +14,7 @@ pub fn decisions_continue()
 {}
 
 /// The entry that an event decides is an answer to what it took, a session's Reject, or messages of
-/// the sessions alone; and what it took was in turn.
+/// the sessions alone; and what it took was expected.
 pub fn decisions_make()
     ensures { DecisionsMake }
 {}

@@ -13,7 +13,7 @@ use Rattle.value_kinds.specs.ValueKind.{is_code, listed_word, spelling, code_tex
 use Rattle.row_values.specs.Kinds.{TimeBeside, counted, is_at_close, judge, verdict_of}
 use Rattle.rows_fix42.specs.Meaning.{is_on_close, time_of}
 use Rattle.rows_fix50.specs.Meaning.{terms_of as terms50}
-use Rattle.sound_messages.proofs.RowsSaid.{among}
+use Rattle.sound_laws.proofs.RowsSaid.{among}
 use Rattle.exec_translate.specs.declared.mapping.ExecCodes.{ExecCodes}
 use Rattle.exec_translate.specs.Mapping.{is_event, mapped}
 use Rattle.exec_translate.specs.Written.{coded, terms42}

@@ -9,10 +9,10 @@ use Rattle.message_tables.specs.Tables.{Message, Said, Tag, is_one_of, said_at}
 use Rattle.value_kinds.specs.ValueKind.{ValueKind}
 use Rattle.row_values.specs.Kinds.{Kind, Value, Byte, DayOf, MonthBeside, TimeBeside, Version}
 use Rattle.row_values.specs.Kinds.{judge}
-use Rattle.sound_messages.specs.Sound.{IsSaid, IsItem}
-use Rattle.sound_messages.proofs.ApartRows.{same_at, carried, others, RowSaid, carried_of, put_back}
-use Rattle.sound_messages.proofs.Each.{both}
-use Rattle.sound_messages.proofs.RowsSaid.{required_said, optional_said, same_value}
+use Rattle.sound_laws.specs.Sound.{IsSaid, IsItem}
+use Rattle.sound_laws.proofs.ApartRows.{same_at, carried, others, RowSaid, carried_of, put_back}
+use Rattle.sound_laws.proofs.Each.{both}
+use Rattle.sound_laws.proofs.RowsSaid.{required_said, optional_said, same_value}
 
 -- DisplayQty (1138) is MaxFloor (111), and OrderCapacity (528) is Rule80A (47)
 abbrev pub down_tag : ℕ → ℕ

@@ -41,11 +41,11 @@ use Rattle.row_values.specs.Lines.{month_text, IsReadableMaturity, date_text, mo
 use Rattle.row_values.specs.declared.lines.Maturity.{Maturity}
 use Rattle.rows_fix42.specs.Header.{has_day}
 use Rattle.reports_fix50.specs.Sense.{reason_told, reason_within, telling}
-use Rattle.sound_messages.specs.Sound.{IsClear, IsSaid, IsLine}
-use Rattle.sound_messages.proofs.Each.{either}
-use Rattle.sound_messages.proofs.Judged50.{clear_front}
-use Rattle.sound_messages.proofs.RowsSaid.{optional_said, needed_said, same_value}
-use Rattle.sound_messages.proofs.SpelledAgain.{clear_joined, digits_clear}
+use Rattle.sound_laws.specs.Sound.{IsClear, IsSaid, IsLine}
+use Rattle.sound_laws.proofs.Each.{either}
+use Rattle.sound_laws.proofs.Judged50.{clear_front}
+use Rattle.sound_laws.proofs.RowsSaid.{optional_said, needed_said, same_value}
+use Rattle.sound_laws.proofs.SpelledAgain.{clear_joined, digits_clear}
 use Rattle.exec_translate.specs.FromFields.{told_text}
 use Rattle.exec_translate.specs.Written.{dated, value_in, within}
 use Rattle.exec_translate.proofs.Values.{padded_number, two_number}

@@ -26,7 +26,7 @@ use Rattle.row_values.proofs.SaidRows.{full, full_text}
 use Rattle.row_values.proofs.Texts.{day_said, price_said, qty_at_said, stamp_said}
 use Rattle.reports_fix42.specs.Content.{cancel_reject_content, report_content}
 use Rattle.reports_fix50.specs.Message.{cancel_reject_table, report_table}
-use Rattle.sound_messages.proofs.AsTheyStand.{as_said, is_own, qty_stands}
+use Rattle.sound_laws.proofs.AsTheyStand.{as_said, is_own, qty_stands}
 use Rattle.exec_translate.specs.declared.from_fields.Execution.{Execution}
 use Rattle.exec_translate.specs.declared.from_fields.Reject.{Reject}
 use Rattle.exec_translate.specs.FromFields.{AppendsReject, AppendsReport, IsExecutionOf, IsRejectOf}

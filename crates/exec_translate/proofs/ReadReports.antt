@@ -21,17 +21,17 @@ use Rattle.first_faults.specs.Faults.{told}
 use Rattle.rows_fix50.specs.Header.{completed, completed_by}
 use Rattle.reports_fix50.specs.Message.{report_by, report_table, cancel_reject_table}
 use Rattle.reports_fix50.specs.Reports.{execution_report, cancel_reject}
-use Rattle.sound_messages.specs.Sound.{IsSound}
-use Rattle.sound_messages.proofs.ContentValues.{GroupSaid, value_said}
-use Rattle.sound_messages.proofs.Each.{both, not_true}
-use Rattle.sound_messages.proofs.Judged50.{AreAlike, date_kept, judged_again, judged_clear}
-use Rattle.sound_messages.proofs.Judged50.{ours_kind, type_kept}
-use Rattle.sound_messages.proofs.PlainRows.{contras_apart, contras_plain}
-use Rattle.sound_messages.proofs.PlainRows.{parties_apart, parties_plain, plain_items}
-use Rattle.sound_messages.proofs.PlainRows.{plain_stables, spelled, unfixed}
-use Rattle.sound_messages.proofs.ReadSound.{IsClearField, IsStableRow, IsStableItem}
-use Rattle.sound_messages.proofs.ReadSound.{read_sound}
-use Rattle.sound_messages.proofs.SpelledAgain.{own_bytes}
+use Rattle.sound_laws.specs.Sound.{IsSound}
+use Rattle.sound_laws.proofs.ContentValues.{GroupSaid, value_said}
+use Rattle.sound_laws.proofs.Each.{both, not_true}
+use Rattle.sound_laws.proofs.Judged50.{AreAlike, date_kept, judged_again, judged_clear}
+use Rattle.sound_laws.proofs.Judged50.{ours_kind, type_kept}
+use Rattle.sound_laws.proofs.PlainRows.{contras_apart, contras_plain}
+use Rattle.sound_laws.proofs.PlainRows.{parties_apart, parties_plain, plain_items}
+use Rattle.sound_laws.proofs.PlainRows.{plain_stables, spelled, unfixed}
+use Rattle.sound_laws.proofs.ReadSound.{IsClearField, IsStableRow, IsStableItem}
+use Rattle.sound_laws.proofs.ReadSound.{read_sound}
+use Rattle.sound_laws.proofs.SpelledAgain.{own_bytes}
 use Rattle.exec_translate.proofs.SoundDown.{IsRead}
 
 -- ---- the rows of an execution report

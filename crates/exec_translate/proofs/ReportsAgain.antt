@@ -13,14 +13,14 @@ use Rattle.reports_fix42.specs.Said as said42
 use Rattle.reports_fix50.specs.Message as tables50
 use Rattle.reports_fix50.specs.Message.{message50}
 use Rattle.reports_fix50.specs.Said as said50
-use Rattle.sound_messages.specs.Complete.{IsComplete}
-use Rattle.sound_messages.specs.Sound.{without_resend}
-use Rattle.sound_messages.proofs.Completed.{completed_again}
-use Rattle.sound_messages.proofs.ContentAgain.{read_again}
-use Rattle.sound_messages.proofs.Lookups.{places_apart}
-use Rattle.sound_messages.proofs.Stages.{item_tags}
-use Rattle.sound_messages.proofs.TableFits as fits
-use Rattle.sound_messages.proofs.TableFits.{table_fits}
+use Rattle.sound_laws.specs.Complete.{IsComplete}
+use Rattle.sound_laws.specs.Sound.{without_resend}
+use Rattle.sound_laws.proofs.Completed.{completed_again}
+use Rattle.sound_laws.proofs.ContentAgain.{read_again}
+use Rattle.sound_laws.proofs.Lookups.{places_apart}
+use Rattle.sound_laws.proofs.Stages.{item_tags}
+use Rattle.sound_laws.proofs.TableFits as fits
+use Rattle.sound_laws.proofs.TableFits.{table_fits}
 use Rattle.exec_translate.specs.Laws.{WrittenReportsAreReadAgain}
 
 -- a complete message of FIX 5.0 SP2 is read again as it was

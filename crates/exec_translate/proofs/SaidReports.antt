@@ -17,7 +17,7 @@ use Rattle.reports_fix42.specs.Readable as readable42
 use Rattle.reports_fix50.specs.Readable as readable50
 use Rattle.reports_fix50.specs.Reading.{IsCancelReject, IsReport}
 use Rattle.reports_fix50.specs.Sense.{telling}
-use Rattle.sound_messages.proofs.AsTheyStand.{code_back, known_back, said_or}
+use Rattle.sound_laws.proofs.AsTheyStand.{code_back, known_back, said_or}
 use Rattle.exec_translate.specs.declared.from_fields.Execution.{Execution}
 use Rattle.exec_translate.specs.declared.from_fields.Reject.{Reject}
 use Rattle.exec_translate.specs.Down.{IsMapped}

@@ -36,13 +36,13 @@ use Rattle.reports_fix50.specs.Message.{report_table, cancel_reject_table as rej
 use Rattle.reports_fix50.specs.Readable as readable50
 use Rattle.reports_fix50.specs.Reports as reports50
 use Rattle.reports_fix50.specs.Said as said50
-use Rattle.sound_messages.specs.Sound.{IsClear, IsSaid, IsGroup, IsItem, IsSound}
-use Rattle.sound_messages.proofs.Completed.{other_said}
-use Rattle.sound_messages.proofs.ContentValues.{GroupSaid, groups_said, is_alone, value_said}
-use Rattle.sound_messages.proofs.ApartRows.{others}
-use Rattle.sound_messages.proofs.Each.{both, not_true, ◌&◌}
-use Rattle.sound_messages.proofs.RowsSaid.{row_of_tag, row_said, required_said, needed_said}
-use Rattle.sound_messages.proofs.RowsSaid.{same_value, code_said, codes_said, known_code}
+use Rattle.sound_laws.specs.Sound.{IsClear, IsSaid, IsGroup, IsItem, IsSound}
+use Rattle.sound_laws.proofs.Completed.{other_said}
+use Rattle.sound_laws.proofs.ContentValues.{GroupSaid, groups_said, is_alone, value_said}
+use Rattle.sound_laws.proofs.ApartRows.{others}
+use Rattle.sound_laws.proofs.Each.{both, not_true, ◌&◌}
+use Rattle.sound_laws.proofs.RowsSaid.{row_of_tag, row_said, required_said, needed_said}
+use Rattle.sound_laws.proofs.RowsSaid.{same_value, code_said, codes_said, known_code}
 use Rattle.exec_translate.specs.declared.mapping.ExecCodes.{ExecCodes}
 use Rattle.exec_translate.specs.Down.{IsMapped}
 use Rattle.exec_translate.specs.Written.{IsWritten, IsWrittenReject, dated, value_in, within}

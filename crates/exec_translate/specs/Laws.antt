@@ -6,8 +6,8 @@ use Rattle.message_tables.specs.Tables.{Message}
 use Rattle.order_meaning.specs.Book.{Book}
 use Rattle.order_meaning.specs.Report.{filled}
 use Rattle.row_values.specs.Kinds.{judge}
-use Rattle.sound_messages.specs.Complete.{IsComplete}
-use Rattle.sound_messages.specs.Sound.{IsSound, without_resend}
+use Rattle.sound_laws.specs.Complete.{IsComplete}
+use Rattle.sound_laws.specs.Sound.{IsSound, without_resend}
 use Rattle.reports_fix42.specs.declared.reports.Report42.{Report42}
 use Rattle.reports_fix42.specs.declared.reports.CancelReject42.{CancelReject42}
 use Rattle.reports_fix42.specs.Content as content42

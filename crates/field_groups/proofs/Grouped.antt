@@ -37,8 +37,8 @@ joined_are first (m ∷ ms) =
 
 -- ---- one more member of a line
 
-turned : (a b : ℕ) → (a == b) ≡ false → (b == a) ≡ false
-turned a b h = grind (arith, nat_tests)
+swapped : (a b : ℕ) → (a == b) ≡ false → (b == a) ≡ false
+swapped a b h = grind (arith, nat_tests)
 
 no_more : (tag : ℕ) (line : List Member) (m : Member)
     → has_member tag line ≡ false → (m.0 == tag) ≡ false → has_member tag (line ++ m ∷ []) ≡ false
@@ -60,7 +60,7 @@ once_more (a ∷ line) m once none = by_test (a.0 == m.0) refl none (once_more l
         → (has_member m.0 line ≡ false → IsOnce (line ++ m ∷ [])) → IsOnce ((a ∷ line) ++ m ∷ [])
     by_test true same given later = absurd (false≢true (sym given))
     by_test false other given later =
-        (no_more a.0 line m once.0 (turned a.0 m.0 other), later given)
+        (no_more a.0 line m once.0 (swapped a.0 m.0 other), later given)
 
 begun_more : (first : ℕ) (line : List Member) (m : Member)
     → begins first line ≡ true → begins first (line ++ m ∷ []) ≡ true

@@ -79,14 +79,14 @@ holds before behind rest at n place split test room within =
     )
 
 -- what a record that stands there says of the length in front
-pub record Told (at n : ℕ) (rest : List ℕ) : Type 0 where
+pub record Fitting (at n : ℕ) (rest : List ℕ) : Type 0 where
   pub test : fits_at at n ≡ true
   pub room : n < length rest
   pub within : at + 5 + n < MAX_DISK
 
 pub told : (before : List (List ℕ)) (behind rest payload : List ℕ) (at n : ℕ)
     → at ≡ length (blocks before) → behind ≡ to_be_bytes w32 n ++ rest
-    → n < 2 ^ 32 → HoldsRecord before behind payload → Told at n rest
+    → n < 2 ^ 32 → HoldsRecord before behind payload → Fitting at n rest
 told before behind rest payload at n place split small record_there =
     let h = record_there in
     let whole : to_be_bytes w32 n
@@ -226,7 +226,7 @@ found image sizes payload at passed h is_shut =
 pub rest_of : (xs : List ℕ) (k : ℕ) → take (length xs - k) (drop k xs) ≡ drop k xs
 rest_of xs k = take_all _ _ (omega (arith, length-drop k xs))
 
--- one turn of the pass, in the words of the code
+-- one step of the pass, in the words of the code
 module _ (image sizes slice : List ℕ)
     (at len : ℕ) (passed : Passed image sizes at) (is : slice ≡ drop (at + 1) image) where
   pub breaks_at : 1 < length image
@@ -237,28 +237,28 @@ module _ (image sizes slice : List ℕ)
         (λ payload h. none payload (subst (λ l. HoldsRecord passed.payloads l payload) (sym is) h)),
   )
 
-  module _ (next : List ℕ) (pushed : next ≡ sizes ++ len ∷ []) (turn : (payload : List ℕ)
+  module _ (next : List ℕ) (pushed : next ≡ sizes ++ len ∷ []) (step : (payload : List ℕ)
       × HoldsRecord passed.payloads slice payload × (len ≡ length payload)) where
-    there : HoldsRecord passed.payloads (drop (at + 1) image) turn.0
-    there = subst (λ l. HoldsRecord passed.payloads l turn.0) is turn.1
+    there : HoldsRecord passed.payloads (drop (at + 1) image) step.0
+    there = subst (λ l. HoldsRecord passed.payloads l step.0) is step.1
 
-    sized : next ≡ sizes ++ length turn.0 ∷ []
-    sized = pushed ∙ ap (λ n. sizes ++ n ∷ []) turn.2
+    sized : next ≡ sizes ++ length step.0 ∷ []
+    sized = pushed ∙ ap (λ n. sizes ++ n ∷ []) step.2
 
     pub within : at + (5 + len) < length image
     within = subst (λ n. at + (5 + n) < length image)
-        (sym turn.2) (next_within image sizes turn.0 at passed there)
+        (sym step.2) (next_within image sizes step.0 at passed there)
 
     pub passed_next : get_or image (at + (5 + len)) 0 ≡ 1 → Passed image next (at + (5 + len))
     passed_next is_open =
         subst (λ l. Passed image l (at + (5 + len))) (sym sized)
-        (subst (λ n. Passed image (sizes ++ length turn.0 ∷ []) (at + (5 + n))) (sym turn.2)
+        (subst (λ n. Passed image (sizes ++ length step.0 ∷ []) (at + (5 + n))) (sym step.2)
         (pass image sizes
-        turn.0 at passed there (subst (λ n. get_or image (at + (5 + n)) 0 ≡ 1) turn.2 is_open)))
+        step.0 at passed there (subst (λ n. get_or image (at + (5 + n)) 0 ≡ 1) step.2 is_open)))
 
     pub found_next : get_or image (at + (5 + len)) 0 ≢ 1 → HasRecords image next (at + (5 + len))
     found_next is_shut =
         subst (λ l. HasRecords image l (at + (5 + len))) (sym sized)
-        (subst (λ n. HasRecords image (sizes ++ length turn.0 ∷ []) (at + (5 + n))) (sym turn.2)
+        (subst (λ n. HasRecords image (sizes ++ length step.0 ∷ []) (at + (5 + n))) (sym step.2)
         (found image sizes
-        turn.0 at passed there (subst (λ n. get_or image (at + (5 + n)) 0 ≢ 1) turn.2 is_shut)))
+        step.0 at passed there (subst (λ n. get_or image (at + (5 + n)) 0 ≢ 1) step.2 is_shut)))

@@ -12,7 +12,7 @@ use Rattle.event_decisions.specs.Decide.{with_session, numbers_of, says_of, give
 use Rattle.message_answers.specs.Chains.{new_item}
 use Rattle.gateway_core.specs.declared.sessions.Given.{Given as CodeGiven}
 use Rattle.gateway_core.specs.declared.plan.Plan.{Plan}
-use Rattle.gateway_core.specs.Planning.{JoinsWith, gave, given_by, entry_by, decision_by, turned}
+use Rattle.gateway_core.specs.Planning.{JoinsWith, gave, given_by, entry_by, decision_by, resolved}
 use Rattle.gateway_core.specs.Planning.{concluded_by}
 use Rattle.gateway_core.specs.State.{decision_of}
 use Rattle.gateway_core.proofs.Planned.{gives_words}
@@ -44,7 +44,7 @@ module _ (s : Sessions) (side : Side) (h : Heard) (took : Option Took) (words : 
       → r ≡ Ok given → acts ≡ step.acts
       → own ≡ says_of side step.next.heart h (session_of side s).numbers.next_out step.acts
       → decision_of plan ≡ decision_by s side acts took own (given_by given) now
-      → turned s side h took words step now ≡ Ok (decision_of plan)
+      → resolved s side h took words step now ≡ Ok (decision_of plan)
   comes_so given plan acts own is same own_is decided =
       ap (concluded_by s side h took step now) (given_is given is)
       ∙ ap (λ (o : List Out). so (decision_by s side step.acts took o (given_by given) now))
@@ -54,5 +54,5 @@ module _ (s : Sessions) (side : Side) (h : Heard) (took : Option Took) (words : 
 
   -- or no number is left
   pub comes_spent : (spent : Side) → r ≡ Err spent
-      → turned s side h took words step now ≡ Err spent
+      → resolved s side h took words step now ≡ Err spent
   comes_spent spent is = ap (concluded_by s side h took step now) (sym gives ∙ ap gave is)

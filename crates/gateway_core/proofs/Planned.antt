@@ -48,7 +48,7 @@ use Rattle.gateway_core.specs.declared.plan.PlanError.TheVariants as errors
 use Rattle.message_answers.specs.Answer.{Answers}
 use Rattle.message_answers.specs.Chains.{joining, joining_letter, if_new, item_of}
 use Rattle.message_answers.specs.Message.{message_of}
-use Rattle.gateway_core.specs.Planning.{concluded_by, turned, quiet_by, Comes, JoinsWith}
+use Rattle.gateway_core.specs.Planning.{concluded_by, resolved, quiet_by, Comes, JoinsWith}
 use Rattle.gateway_core.specs.Planning.{with_entry, IsSayable}
 use Rattle.gateway_core.specs.Planning.{StepsAreSayable}
 use Rattle.gateway_core.specs.State.{CoreState, sessions_in, Plans}
@@ -306,7 +306,7 @@ concluded_as names window s event now step (Ok given) = refl
 decided_as : (names : Names) (window : ℕ) (s : Sessions) (event : Event) (now : ℕ)
     (words : Option Words) (step : Step) → stepped names window s event now ≡ Ok step
     → decide names window s event now words
-    ≡ turned s (side_of event) (heard_in event (input_of names window event now))
+    ≡ resolved s (side_of event) (heard_in event (input_of names window event now))
     (took_of event (input_of names window event now) step.acts) words step now
 decided_as names window s event now words step is =
     ap (decide_by names window s event now words) is
@@ -430,7 +430,7 @@ FramePlans core entries side body now words r step head =
     → Answers entries (is_active core.venue.link)
     (asked_if (asks (session.Message head) step.acts)
     (took_if (takes step.acts) side body head.number)) words
-    → Comes (turned (sessions_in core) side (heard_in (Frame side body) (session.Message head))
+    → Comes (resolved (sessions_in core) side (heard_in (Frame side body) (session.Message head))
     (took_if (takes step.acts) side body head.number) words step now) r
     → Plans core entries (Frame side body) now r
 

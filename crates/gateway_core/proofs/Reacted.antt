@@ -30,7 +30,7 @@ use Rattle.message_answers.specs.Seen.{IsSplit}
 use Rattle.gateway_core.specs.declared.plan.Plan.{Plan}
 use Rattle.gateway_core.specs.declared.plan.PlanError.{PlanError}
 use Rattle.gateway_core.specs.declared.plan.PlanError.TheVariants as errors
-use Rattle.gateway_core.specs.Planning.{is_asked, words_by, IsAnswered, JoinsWith, Comes, turned}
+use Rattle.gateway_core.specs.Planning.{is_asked, words_by, IsAnswered, JoinsWith, Comes, resolved}
 use Rattle.gateway_core.specs.Planning.{IsSayable, StepsAreSayable}
 use Rattle.gateway_core.specs.State.{CoreState, Stand, Plans, sessions_in}
 use Rattle.gateway_core.proofs.Asked.{answers_as, joins_as}
@@ -133,7 +133,7 @@ module _ (core : CoreState) (journal : List Entry) (a : GivenAsked) (head : Head
       → head ≡ head_in core.config.names core.config.window a.side a.body.now now
       → session.step (session_of a.side (sessions_in core)) (session.Message head) now ≡ Ok step
       → h ≡ heard_in (Frame a.side a.body.now) (session.Message head)
-      → Comes (turned (sessions_in core) a.side h took (words_by answer.words) step now) r
+      → Comes (resolved (sessions_in core) a.side h took (words_by answer.words) step now) r
       → Stand core journal entries → Plans core entries (Frame a.side a.body.now) now r
   reacts_plan entries now step h r same named is heard comes stand =
       let took_as : took ≡ took_if (takes step.acts) a.side a.body.now head.number =
@@ -143,10 +143,10 @@ module _ (core : CoreState) (journal : List Entry) (a : GivenAsked) (head : Head
       (subst (λ (x : List Act). AnsweredAt entries x) same
       (answers_as a head acts reacts.number core journal entries b answer stand asked_is
       reacts.answered))
-      (subst (λ (t : Option Took). Comes (turned (sessions_in core) a.side
+      (subst (λ (t : Option Took). Comes (resolved (sessions_in core) a.side
       (heard_in (Frame a.side a.body.now) (session.Message head)) t (words_by answer.words) step
       now) r) took_as
-      (subst (λ (x : Heard). Comes (turned (sessions_in core) a.side x took
+      (subst (λ (x : Heard). Comes (resolved (sessions_in core) a.side x took
       (words_by answer.words) step now) r) heard comes))
 
 -- what a session answers, as the code has it

@@ -14,7 +14,7 @@ use Rattle.event_decisions.specs.Event.{Tick}
 use Rattle.message_answers.specs.Answer.{Answers}
 use Rattle.event_decisions.specs.Decide.{Sessions, Given, Decision, session_of, with_session}
 use Rattle.event_decisions.specs.Decide.{numbers_of, same_numbers, says_of, Decides}
-use Rattle.gateway_core.specs.Planning.{silent, entry_by, decision_by, turned}
+use Rattle.gateway_core.specs.Planning.{silent, entry_by, decision_by, resolved}
 use Rattle.gateway_core.specs.State.{CoreState, sessions_in, going_on as goes_on}
 use Rattle.gateway_core.proofs.Planned.{quiet_plans}
 
@@ -45,7 +45,7 @@ module _ (s : Sessions) (side : Side) (step : Step) (now : ℕ) where
   pub still_comes : (after : Sessions) → step.acts ≡ []
       → after ≡ with_session side step.next s
       → same_numbers (numbers_of s) (numbers_of after) ≡ true
-      → turned s side silent None None step now ≡ going_on after
+      → resolved s side silent None None step now ≡ going_on after
   still_comes after nothing is same = ap at nothing
       ∙ ap with (ap (λ (x : Sessions). same_numbers (numbers_of s) (numbers_of x)) (sym is) ∙ same)
       ∙ ap going_on (sym is)

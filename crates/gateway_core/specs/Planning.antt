@@ -125,10 +125,10 @@ concluded_by s side heard took step now (Err spent) = Err spent
 concluded_by s side heard took step now (Ok given) = Ok (decision_by s side step.acts took
     (says_of side step.next.heart heard (session_of side s).numbers.next_out step.acts) given now)
 
--- a step with what is taken and what is answered
-abbrev pub turned : Sessions → Side → Heard → Option Took → Option Words → Step → ℕ
+-- what a step settles with what is taken and what is answered
+abbrev pub resolved : Sessions → Side → Heard → Option Took → Option Words → Step → ℕ
     → Result Decision Side
-turned s side heard took words step now = concluded_by s side heard took step now
+resolved s side heard took words step now = concluded_by s side heard took step now
     (give now (with_session side step.next s) words)
 
 abbrev pub silent : Heard
@@ -137,7 +137,7 @@ silent = record { number = 0; msg_type = []; echo = [] }
 -- a step at which no message comes
 abbrev pub quiet_by : Sessions → Side → ℕ → Result Step Spent → Result Decision Side
 quiet_by s side now (Err spent) = Err side
-quiet_by s side now (Ok step) = turned s side silent None None step now
+quiet_by s side now (Ok step) = resolved s side silent None None step now
 
 -- this is decided, or there is no memory
 abbrev pub Comes : Result Decision Side → Result Plan PlanError → Type 0

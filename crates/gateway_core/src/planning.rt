@@ -21,7 +21,7 @@ ghost use Rattle.message_answers.specs.Answer.{Answers};
 ghost use Rattle.message_answers.specs.Chains.{new_item};
 ghost use Rattle.message_answers.specs.Seen.{IsFit};
 ghost use Rattle.gateway_core.specs.Planning.{IsSayable, StepsAreSayable, heard_by};
-ghost use Rattle.gateway_core.specs.Planning.{words_by, given_by, entry_by, decision_by, turned};
+ghost use Rattle.gateway_core.specs.Planning.{words_by, given_by, entry_by, decision_by, resolved};
 ghost use Rattle.gateway_core.specs.Planning.{quiet_by, silent, Comes, JoinsWith, IsAnswered};
 ghost use Rattle.message_answers.specs.Seen.{IsSplit};
 ghost use Rattle.gateway_core.specs.State.{loaded, Stand, IsNew, Plans, HasItem, Grows};
@@ -166,9 +166,9 @@ impl Core {
         }
     }
 
-    /// The session of a side after a tick at this moment that does nothing else: no message is said,
-    /// nothing is hung up, and no number changes. None where the tick does more. It takes no memory,
-    /// and is a quick [`Core::plan`].
+    /// The session of a side after a tick at this moment that does nothing else: no message is
+    /// said, nothing is hung up, and no number changes. None where the tick does more. It takes no
+    /// memory, and is a quick [`Core::plan`].
     pub fn after_tick(&self, side: Side, now: u64) -> Option<Session>
         ensures decides { IfSome result (λ next. (entries : List Entry) →
             Decides Answers self.now.config.names self.now.config.window entries
@@ -247,7 +247,7 @@ struct Reaction {
 
 // What an event brings beside the step of its session.
 #[derive(Drop)]
-struct Turn<'a> {
+struct Facts<'a> {
     side: Side,
     heard: Heard<'a>,
     took: Option<Took>,
@@ -256,7 +256,7 @@ struct Turn<'a> {
 
 // What an entry is made of, and the request that joins with it.
 #[derive(Drop)]
-struct Told {
+struct Draft {
     took: Option<Took>,
     // The messages of the event's own session.
     own: Outs,
@@ -264,10 +264,10 @@ struct Told {
     item: Option<ChainItem>,
 }
 
-impl<'a> Turn<'a> {
+impl<'a> Facts<'a> {
     // An event of a side at which no message comes.
-    fn silent(side: Side) -> Turn<'a>
-        ensures turn { result ≡ record {
+    fn silent(side: Side) -> Facts<'a>
+        ensures facts { result ≡ record {
           side = side;
           heard = result.heard;
           took = None;
@@ -276,7 +276,7 @@ impl<'a> Turn<'a> {
         ensures heard { heard_by result.heard ≡ silent }
         ensures echo { result.heard.echo.now ≡ [] }
     {
-        Turn {
+        Facts {
             side,
             heard: Heard::nothing(),
             took: None,
@@ -350,7 +350,7 @@ impl Core {
         match step {
             Ok(step) => match self.still(side, &step) {
                 Some(plan) => Ok(plan),
-                None => self.concluded(alloc, Turn::silent(side), step, now),
+                None => self.concluded(alloc, Facts::silent(side), step, now),
             },
             Err(_) => Err(PlanError::NumbersSpent { side }),
         }
@@ -359,7 +359,7 @@ impl Core {
     // The plan of a step that does nothing and changes no number: its session goes on.
     fn still(&self, side: Side, step: &Step) -> Option<Plan>
         ensures plan { IfSome result (λ plan. (now : ℕ) →
-            turned (sessions_in self.now) side silent None None step.now now
+            resolved (sessions_in self.now) side silent None None step.now now
             ≡ Ok (decision_of plan)) }
         ensures item { IfSome result (HasItem self.now) }
     {
@@ -467,13 +467,13 @@ impl Core {
             msg_type: asked.msg_type,
             echo: echo_of(asked),
         };
-        let turn = Turn {
+        let facts = Facts {
             side: asked.side,
             heard,
             took,
             answer,
         };
-        self.concluded(alloc, turn, step, now)
+        self.concluded(alloc, facts, step, now)
     }
 
     // The answer to a message, if it is asked about.
@@ -507,30 +507,30 @@ impl Core {
     fn concluded(
         &self,
         alloc: Global,
-        turn: Turn<'_>,
+        facts: Facts<'_>,
         step: Step,
         now: u64,
     ) -> Result<Plan, PlanError>
         requires moment { now ≤ MAX_AT }
-        requires took { IfSome turn.took IsTook }
+        requires took { IfSome facts.took IsTook }
         requires sayable { IsSayable
-            (session_of turn.side (sessions_in self.now)).numbers.next_out step.acts
-            turn.heard.echo.now }
-        requires fit { IfSome turn.answer.words (λ w. IsFit w.said) }
-        requires joins { JoinsWith self.now.chains turn.took (says_of turn.side step.next.heart
-            (heard_by turn.heard) (session_of turn.side (sessions_in self.now)).numbers.next_out
-            step.acts) (words_by turn.answer.words) turn.answer.item }
-        ensures plan { Comes (turned (sessions_in self.now) turn.entry.side
-            (heard_by turn.entry.heard) turn.entry.took (words_by turn.entry.answer.words) step now)
-            result }
+            (session_of facts.side (sessions_in self.now)).numbers.next_out step.acts
+            facts.heard.echo.now }
+        requires fit { IfSome facts.answer.words (λ w. IsFit w.said) }
+        requires joins { JoinsWith self.now.chains facts.took (says_of facts.side step.next.heart
+            (heard_by facts.heard) (session_of facts.side (sessions_in self.now)).numbers.next_out
+            step.acts) (words_by facts.answer.words) facts.answer.item }
+        ensures plan { Comes (resolved (sessions_in self.now) facts.entry.side
+            (heard_by facts.entry.heard) facts.entry.took (words_by facts.entry.answer.words)
+            step now) result }
         ensures item { IfOk result (HasItem self.now) }
     {
-        let Turn {
+        let Facts {
             side,
             heard,
             took,
             answer: Answer { words, item },
-        } = turn;
+        } = facts;
         let Step { acts, next } = step;
         let speaker = Speaker {
             side,
@@ -540,13 +540,13 @@ impl Core {
         let own = self.own_outs(alloc, &speaker, acts.as_slice())?;
         match self.sessions().with(side, next).give(words, now) {
             Ok(given) => {
-                let told = Told {
+                let draft = Draft {
                     took,
                     own,
                     given,
                     item,
                 };
-                let plan = self.decided(alloc, side, acts.as_slice(), told, now)?;
+                let plan = self.decided(alloc, side, acts.as_slice(), draft, now)?;
                 Ok(plan)
             }
             Err(side) => Err(PlanError::NumbersSpent { side }),
@@ -588,26 +588,26 @@ impl Core {
         alloc: Global,
         side: Side,
         acts: &[Act],
-        told: Told,
+        draft: Draft,
         now: u64,
     ) -> Result<Plan, AllocError>
         requires moment { now ≤ MAX_AT }
-        requires took { IfSome told.took IsTook }
-        requires few { length told.own ≤ 2 }
-        requires outs { AreOuts told.own }
-        requires out { IfSome told.given.out IsOut }
-        requires item { told.item ≡ new_item self.now.chains
-            (entry_by told.took told.own (given_by told.given) now) }
+        requires took { IfSome draft.took IsTook }
+        requires few { length draft.own ≤ 2 }
+        requires outs { AreOuts draft.own }
+        requires out { IfSome draft.given.out IsOut }
+        requires item { draft.item ≡ new_item self.now.chains
+            (entry_by draft.took draft.own (given_by draft.given) now) }
         ensures plan { IfOk result (λ plan. decision_of plan ≡ decision_by (sessions_in self.now)
-            side acts.now told.took told.own (given_by told.given) now) }
+            side acts.now draft.took draft.own (given_by draft.given) now) }
         ensures item { IfOk result (HasItem self.now) }
     {
-        let Told {
+        let Draft {
             took,
             own,
             given: Given { out, sessions },
             item,
-        } = told;
+        } = draft;
         let entry = entry_of(now, took, own, out, sessions.numbers())?;
         let entry = committed(alloc, self.sessions().numbers(), entry)?;
         let item = with_entry(item, &entry);

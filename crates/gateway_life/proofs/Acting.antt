@@ -21,16 +21,16 @@ use Rattle.message_answers.specs.Chains.{chains_of}
 use Rattle.gateway_core.specs.State.{sessions_in}
 use Rattle.gateway_config.specs.declared.config.Config.{Config}
 use Rattle.wires.specs.Wire.{WireCall}
-use Rattle.life_events.specs.Forms.{Form}
-use Rattle.life_events.specs.Sends.{Sends, Part, hang_up_if}
-use Rattle.life_events.specs.Happens.{World, nothing, pieces_to, hangs}
-use Rattle.life_events.specs.Happens.{standing, both_standing}
+use Rattle.life_laws.specs.Forms.{Form}
+use Rattle.life_laws.specs.Sends.{Sends, Front, hang_up_if}
+use Rattle.life_laws.specs.Happens.{World, nothing, pieces_to, hangs}
+use Rattle.life_laws.specs.Happens.{standing, both_standing}
 use Rattle.gateway_life.specs.declared.end.LifeEnd.{LifeEnd}
 use Rattle.gateway_life.specs.declared.end.LifeEnd.TheVariants as ends
 use Rattle.gateway_life.specs.Ended.{end_of}
-use Rattle.wire_sends.specs.Sent.{Agrees, Sent, PartSent, Hung}
+use Rattle.wire_sends.specs.Sent.{Agrees, Sent, FrontSent, Hung}
 use Rattle.gateway_life.specs.Acted.{Acted}
-use Rattle.gateway_life.specs.State.{GateState}
+use Rattle.gateway_life.specs.State.{EngineState}
 use Rattle.gateway_life.specs.Ready.{LeavesOf, IsReady, Ready}
 use Rattle.gateway_life.specs.Stepped.{Records, records, Grew, Stepped, MayStand, FailsBy, Broken}
 use Rattle.gateway_life.specs.Stepped.{IsWhy}
@@ -61,7 +61,7 @@ acted a b c d up mid still after hang_up frame xs ys first second hung =
     }
 
 pub part_front : (a b : Option (List WireCall)) (up : Bool) (frame : Form → List ℕ)
-    (xs ys : List Form) → PartSent a b up (map frame xs) → PartSent a b up (map frame (xs ++ ys))
+    (xs ys : List Form) → FrontSent a b up (map frame xs) → FrontSent a b up (map frame (xs ++ ys))
 part_front a b up frame xs ys part = record {
   front = part.front;
   rest = part.rest ++ map frame ys;
@@ -73,7 +73,7 @@ part_front a b up frame xs ys part = record {
 
 pub part_whole : (a b : Option (List WireCall)) (up mid : Bool) (frame : Form → List ℕ)
     (xs ys : List Form) → Sent a b up (map frame xs) mid
-    → PartSent a b up (map frame (xs ++ ys))
+    → FrontSent a b up (map frame (xs ++ ys))
 part_whole a b up mid frame xs ys sent = record {
   front = map frame xs;
   rest = map frame ys;
@@ -83,7 +83,7 @@ part_whole a b up mid frame xs ys sent = record {
 }
 
 pub part_none : (a : Option (List WireCall)) (up : Bool) (pieces : List (List ℕ))
-    → PartSent a a up pieces
+    → FrontSent a a up pieces
 part_none a up pieces =
     record { front = []; rest = pieces; joined = refl; after = up; sent = sent_none a up }
 
@@ -111,7 +111,7 @@ both_numbers client_up venue_up s =
 -- ---- an event, whole or not
 
 abbrev part_of : (a b : Option (List WireCall)) (up : Bool) (pieces : List (List ℕ))
-    (sent : PartSent a b up pieces) → Part up pieces sent.sent.calls
+    (sent : FrontSent a b up pieces) → Front up pieces sent.sent.calls
 part_of a b up pieces sent = record {
   front = sent.front;
   rest = sent.rest;
@@ -205,8 +205,8 @@ pub broken_parts : (told : Option (List ℕ)) (before' after' : List ℕ → Typ
     → entries ≡ before.entries ++ option_to_list d.entry
     → Decides Answers config.names config.window before.entries before.sessions event now (Ok d)
     → ((bytes : List ℕ) → after' bytes → before' bytes)
-    → PartSent c0 c1 cu (pieces_to names Client entries event now d)
-    → PartSent v0 v1 vu (pieces_to names Venue entries event now d)
+    → FrontSent c0 c1 cu (pieces_to names Client entries event now d)
+    → FrontSent v0 v1 vu (pieces_to names Venue entries event now d)
     → (image0 : List ℕ → Type 0)
     → LeavesOf told image0 before' config.names (λ found. found ≡ entries)
     → LeavesOf told image0 after' config.names
@@ -214,15 +214,15 @@ pub broken_parts : (told : Option (List ℕ)) (before' after' : List ℕ → Typ
 broken_parts told before' after' config before event now d names entries cu vu c0 c1 v0 v1 sn sc
     sv se decides among client' venue' image0 only = at told only
   where
-    client : PartSent c0 c1 before.client_up (pieces_to config.names Client entries event now d)
-    client = subst (λ n. PartSent c0 c1 before.client_up
+    client : FrontSent c0 c1 before.client_up (pieces_to config.names Client entries event now d)
+    client = subst (λ n. FrontSent c0 c1 before.client_up
         (pieces_to n Client entries event now d)) sn
-        (subst (λ u. PartSent c0 c1 u (pieces_to names Client entries event now d)) sc client')
+        (subst (λ u. FrontSent c0 c1 u (pieces_to names Client entries event now d)) sc client')
 
-    venue : PartSent v0 v1 before.venue_up (pieces_to config.names Venue entries event now d)
-    venue = subst (λ n. PartSent v0 v1 before.venue_up
+    venue : FrontSent v0 v1 before.venue_up (pieces_to config.names Venue entries event now d)
+    venue = subst (λ n. FrontSent v0 v1 before.venue_up
         (pieces_to n Venue entries event now d)) sn
-        (subst (λ u. PartSent v0 v1 u (pieces_to names Venue entries event now d)) sv venue')
+        (subst (λ u. FrontSent v0 v1 u (pieces_to names Venue entries event now d)) sv venue')
 
     broken : (found : List Entry) → found ≡ entries
         → Broken ends.DiskFault config before event now (records c0 v0) (records c1 v1) found
@@ -254,9 +254,9 @@ broken_parts told before' after' config before event now d names entries cu vu c
           broken found.0 found.2,
         )
 
--- ---- a gate that has acted
+-- ---- a engine that has acted
 
-pub ready_acted : (old new : GateState) (t0 t1 : Option (List ℕ))
+pub ready_acted : (old new : EngineState) (t0 t1 : Option (List ℕ))
     (c1 v1 : Option (List WireCall)) → IsReady old t0 → t1 ≡ t0
     → new.journal ≡ old.journal → new.core.config ≡ old.core.config
     → new.core.chains ≡ old.core.chains

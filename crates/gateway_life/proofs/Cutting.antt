@@ -16,7 +16,7 @@ use Rattle.frame_grammar.specs.Cut.{Piece, Good, Bad, bytes_of, start_in, piece_
 use Rattle.frame_grammar.specs.Cut.{ComeFirst, Cut}
 use Rattle.frame_grammar.proofs.Only.{frame_found}
 use Rattle.frame_grammar.proofs.Every.{every_stream}
-use Rattle.life_events.specs.Bodies.{pieces_within, body_of, bodies_of}
+use Rattle.life_laws.specs.Bodies.{pieces_within, body_of, bodies_of}
 
 frame_some : (kind : Kind) (body bytes : List ℕ) → IsFrame kind body bytes → 1 ≤ length bytes
 frame_some kind body bytes f =

@@ -33,13 +33,13 @@ use Rattle.message_answers.specs.Chains.{chains_of}
 use Rattle.gateway_config.specs.declared.config.Config.{Config}
 use Rattle.gateway_core.specs.declared.plan.Plan.{Plan}
 use Rattle.gateway_core.specs.State.{CoreState, Stand, sessions_in, decision_of}
-use Rattle.life_events.specs.Happens.{World}
+use Rattle.life_laws.specs.Happens.{World}
 use Rattle.gateway_life.specs.declared.end.LifeEnd.{LifeEnd}
 use Rattle.gateway_life.specs.declared.end.LifeEnd.TheVariants as ends
 use Rattle.gateway_life.specs.Ended.{end_of}
 use Rattle.wire_sends.specs.Sent.{AreSendable}
 use Rattle.wire_sends.specs.Again.{IsGiven, repeat_in}
-use Rattle.gateway_life.specs.State.{GateState}
+use Rattle.gateway_life.specs.State.{EngineState}
 use Rattle.gateway_life.specs.Ready.{LeavesOf, IsReady, world_of}
 use Rattle.gateway_life.specs.Stepped.{MayStand, IsWhy}
 use Rattle.gateway_life.specs.Committed.{OldOrNew, IsFull}
@@ -370,7 +370,7 @@ undone old held new item flag is_flag is_held is_new = (
       ∙ undone_chains old.chains item,
 )
 
-pub world_same : (old new : GateState) → new.journal.entries ≡ old.journal.entries
+pub world_same : (old new : EngineState) → new.journal.entries ≡ old.journal.entries
     → sessions_in new.core ≡ sessions_in old.core → new.client_up ≡ old.client_up
     → new.venue_up ≡ old.venue_up → world_of new ≡ world_of old
 world_same old new entries sessions client venue = λ i. record {
@@ -416,8 +416,8 @@ refused_why error end config before event now d journal is names entries decides
     subst (λ e. IsWhy e config before event now) (sym is)
     (why_of error config before event now d journal names entries decides full)
 
--- a gate that has decided
-pub ready_decided : (old : GateState) (t0 t1 : Option (List ℕ)) (journal : JournalState)
+-- a engine that has decided
+pub ready_decided : (old : EngineState) (t0 t1 : Option (List ℕ)) (journal : JournalState)
     (held core : CoreState) (plan : Plan) (cu vu : Bool) → IsReady old t0
     → journal.names ≡ old.journal.names → journal.broken ≡ false
     → journal.entries ≡ old.journal.entries ++ option_to_list plan.entry

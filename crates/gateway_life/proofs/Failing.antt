@@ -5,9 +5,9 @@ use Rattle.pair_entries.specs.declared.entry.Entry.{Entry}
 use Rattle.event_decisions.specs.Event.{Event}
 use Rattle.message_answers.specs.Answer.{Answers}
 use Rattle.gateway_config.specs.declared.config.Config.{Config}
-use Rattle.life_events.specs.Happens.{World, Added, nothing, Fails}
-use Rattle.life_events.specs.Turn.{both, counts, AllHappen}
-use Rattle.life_events.specs.Ends.{OneFails}
+use Rattle.life_laws.specs.Happens.{World, Added, nothing, Fails}
+use Rattle.life_laws.specs.Turn.{both, counts, AllHappen}
+use Rattle.life_laws.specs.Ends.{OneFails}
 use Rattle.gateway_life.specs.declared.end.LifeEnd.{LifeEnd}
 use Rattle.gateway_life.specs.declared.end.LifeEnd.TheVariants as ends
 use Rattle.gateway_life.specs.Stepped.{Records, Grew, Failed, FailsBy, IsWhy}

@@ -56,9 +56,9 @@ use Rattle.event_decisions.specs.Decide.{LawfulAfter, IsLawful}
 use Rattle.event_decisions.specs.Laws.{BodiesAreRead}
 use Rattle.message_answers.specs.Answer.{Answers}
 use Rattle.message_answers.specs.Laws.{AnswersAreGivenOut, AreNumbered, IsNumbered, IsGivenOut}
-use Rattle.life_events.specs.Forms.{Placed, placed_at, all_placed}
-use Rattle.life_events.specs.Receiver.{is_in_header, is_administrative, AreSent}
-use Rattle.life_events.specs.Standing.{NumberedFrom}
+use Rattle.life_laws.specs.Forms.{Placed, placed_at, all_placed}
+use Rattle.life_laws.specs.Receiver.{is_in_header, is_administrative, AreSent}
+use Rattle.life_laws.specs.Standing.{NumberedFrom}
 use Rattle.gateway_life.specs.Laws.{AreShown}
 
 -- ---- bytes without SOH

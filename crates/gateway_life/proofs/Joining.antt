@@ -15,7 +15,7 @@ use Rattle.event_decisions.specs.Event.{End}
 use Rattle.gateway_config.specs.declared.config.Config.{Config}
 use Rattle.wires.specs.Told.{GrowsBy}
 use Rattle.wires.specs.Wire.{WireCall}
-use Rattle.life_events.specs.Happens.{World}
+use Rattle.life_laws.specs.Happens.{World}
 use Rattle.gateway_life.specs.declared.end.LifeEnd.{LifeEnd}
 use Rattle.gateway_life.specs.State.{LifeState}
 use Rattle.gateway_life.specs.Ready.{LeavesOf, world_of}
@@ -70,10 +70,10 @@ pub end_done : {T : Type 0} (r : Result T LifeEnd) (config config' : Config)
     → config' ≡ config → length given ≡ all → GrowsBy k0 k1 given
     → RoundsDone config old mid given r0 r1
     → OnOk r ((m : ℕ) × GrowsBy k1 k2 (m ∷ [])
-    × AllStepped config' (world_of mid.gate) ends_of (moment_of m) (world_of new.gate) r1 r2)
+    × AllStepped config' (world_of mid.engine) ends_of (moment_of m) (world_of new.engine) r1 r2)
     → OnOk r ((given : List ℕ) × (last : ℕ) × (length given ≡ all)
     × GrowsBy k0 k2 (given ++ last ∷ [])
-    × LifeDone config old given last r0 r2 new.gate.journal.entries)
+    × LifeDone config old given last r0 r2 new.engine.journal.entries)
 end_done (Err end) config config' old mid new given all k0 k1 k2 r0 r1 r2 same count grows done
     ends = tt
 end_done (Ok value) config config' old mid new given all k0 k1 k2 r0 r1 r2 same count grows done
@@ -82,9 +82,9 @@ end_done (Ok value) config config' old mid new given all k0 k1 k2 r0 r1 r2 same 
       ends.0,
       count,
       grows_append k0 k1 k2 given (ends.0 ∷ []) grows ends.1,
-      life_done config old mid given ends.0 (world_of new.gate) r0 r1 r2 done
-          (subst (λ (k : Config). AllStepped k (world_of mid.gate) ends_of (moment_of ends.0)
-          (world_of new.gate) r1 r2) same ends.2),
+      life_done config old mid given ends.0 (world_of new.engine) r0 r1 r2 done
+          (subst (λ (k : Config). AllStepped k (world_of mid.engine) ends_of (moment_of ends.0)
+          (world_of new.engine) r1 r2) same ends.2),
     )
 
 pub end_ends : {T : Type 0} (r : Result T LifeEnd) (config config' : Config) (old mid : LifeState)
@@ -93,7 +93,7 @@ pub end_ends : {T : Type 0} (r : Result T LifeEnd) (config config' : Config) (ol
     → RoundsDone config old mid given r0 r1 → is_some t1 ≡ is_some t0
     → (HasOneImage t0 i0 → HasOneImage t1 i1)
     → IfErr r (λ end. (m : ℕ) × GrowsBy k1 k2 (m ∷ []) × LeavesOf t1 i1 i2 config'.names
-    (Failed end config' (world_of mid.gate) ends_of (moment_of m) r1 r2))
+    (Failed end config' (world_of mid.engine) ends_of (moment_of m) r1 r2))
     → EndsWith r config old all k0 k2 t0 i0 i2 r0 r2
 end_ends (Ok value) config config' old mid given all k0 k1 k2 t0 t1 i0 i1 i2 r0 r1 r2 same count
     grows done told one ends = tt
@@ -104,12 +104,12 @@ end_ends (Err end) config config' old mid given all k0 k1 k2 t0 t1 i0 i1 i2 r0 r
       omega (arith, count),
       grows_append k0 k1 k2 given (ends.0 ∷ []) grows ends.1,
       leaves_from t0 t1 i0 i1 i2 config.names config'.names
-          (Failed end config' (world_of mid.gate) ends_of (moment_of ends.0) r1 r2)
+          (Failed end config' (world_of mid.engine) ends_of (moment_of ends.0) r1 r2)
           (LifeBroken end config old given ends.0 r0 r2) told one
           (ap (λ (k : Config). k.names) same)
           (λ xs broken. life_end config end old mid given ends.0 r0 r1 r2 xs done
           (subst (λ (k : Config).
-          Failed end k (world_of mid.gate) ends_of (moment_of ends.0) r1 r2 xs)
+          Failed end k (world_of mid.engine) ends_of (moment_of ends.0) r1 r2 xs)
           same broken)) ends.2,
     )
 
@@ -118,8 +118,8 @@ end_ends (Err end) config config' old mid given all k0 k1 k2 t0 t1 i0 i1 i2 r0 r
 pub round_ok : {T : Type 0} (r : Result T LifeEnd) (config config' : Config) (old new : LifeState)
     (mid : World) (now m : ℕ) (k0 k1 : Option (List ℕ)) (r0 r1 r2 : Records) → config' ≡ config
     → now ≡ moment_of m → GrowsBy k0 k1 (m ∷ [])
-    → Turned Client old.client new.client config (world_of old.gate) now mid r0 r1
-    → OnOk r (Turned Venue old.venue new.venue config' mid now (world_of new.gate) r1 r2)
+    → Turned Client old.client new.client config (world_of old.engine) now mid r0 r1
+    → OnOk r (Turned Venue old.venue new.venue config' mid now (world_of new.engine) r1 r2)
     → OnOk r ((given : ℕ) × GrowsBy k0 k1 (given ∷ [])
     × RoundDone config old new (moment_of given) r0 r2)
 round_ok (Err end) config config' old new mid now m k0 k1 r0 r1 r2 same is grows client venue = tt
@@ -128,7 +128,7 @@ round_ok (Ok value) config config' old new mid now m k0 k1 r0 r1 r2 same is grow
   grows,
   subst (λ n. RoundDone config old new n r0 r2) is
       (round_done config old new mid now r0 r1 r2 client
-      (subst (λ (k : Config). Turned Venue old.venue new.venue k mid now (world_of new.gate) r1 r2)
+      (subst (λ (k : Config). Turned Venue old.venue new.venue k mid now (world_of new.engine) r1 r2)
       same venue)),
 )
 
@@ -144,14 +144,14 @@ pub client_ends : {T : Type 0} (r : Result T LifeEnd) (error : LifeEnd) (config 
     (old : LifeState) (now m : ℕ) (k0 k1 told : Option (List ℕ)) (i0 i1 : List ℕ → Type 0)
     (r0 r1 : Records) → IsErrAnd r (λ e. e ≡ error) → now ≡ moment_of m → GrowsBy k0 k1 (m ∷ [])
     → LeavesOf told i0 i1 config.names
-    (TurnBroken error Client old.client config (world_of old.gate) now r0 r1)
+    (TurnBroken error Client old.client config (world_of old.engine) now r0 r1)
     → RoundEndsWith r config old k0 k1 told i0 i1 r0 r1
 client_ends (Ok value) error config old now m k0 k1 told i0 i1 r0 r1 is at grows ends = tt
 client_ends (Err end) error config old now m k0 k1 told i0 i1 r0 r1 is at grows ends = (
   m,
   grows,
   leaves_from told told i0 i0 i1 config.names config.names
-      (TurnBroken error Client old.client config (world_of old.gate) now r0 r1)
+      (TurnBroken error Client old.client config (world_of old.engine) now r0 r1)
       (RoundBroken end config old (moment_of m) r0 r1) refl (λ one. one) refl
       (λ xs broken. subst (λ (e : LifeEnd). RoundBroken e config old (moment_of m) r0 r1 xs)
       (sym is)
@@ -163,7 +163,7 @@ pub venue_ends : {T : Type 0} (r : Result T LifeEnd) (config config' : Config) (
     (next : Held) (mid : World) (now m : ℕ) (k0 k1 t0 t1 : Option (List ℕ))
     (i0 i1 i2 : List ℕ → Type 0) (r0 r1 r2 : Records) → config' ≡ config → now ≡ moment_of m
     → GrowsBy k0 k1 (m ∷ []) → is_some t1 ≡ is_some t0 → (HasOneImage t0 i0 → HasOneImage t1 i1)
-    → Turned Client old.client next config (world_of old.gate) now mid r0 r1
+    → Turned Client old.client next config (world_of old.engine) now mid r0 r1
     → IfErr r (λ end. LeavesOf t1 i1 i2 config'.names
     (TurnBroken end Venue old.venue config' mid now r1 r2))
     → RoundEndsWith r config old k0 k1 t0 i0 i2 r0 r2
@@ -257,10 +257,10 @@ finish_venue (Err end) config config' w mid now m k0 k1 t0 t1 i0 i1 i2 r0 r1 r2 
 
 -- what stands on the disk between the parts
 pub stands_live : {T : Type 0} (r : Result T LifeEnd) (config : Config) (life : LifeState)
-    (told : Option (List ℕ)) (c v : Option (List WireCall)) → life.gate.core.config ≡ config
+    (told : Option (List ℕ)) (c v : Option (List WireCall)) → life.engine.core.config ≡ config
     → OnOk r (IsLive life told c v)
-    → OnOk r (ForSome told (λ b. JournalOf b (Born config.names life.gate.journal.entries)))
+    → OnOk r (ForSome told (λ b. JournalOf b (Born config.names life.engine.journal.entries)))
 stands_live (Err end) config life told c v same live = tt
 stands_live (Ok value) config life told c v same live =
-    subst (λ (n : Names). ForSome told (λ b. JournalOf b (Born n life.gate.journal.entries)))
+    subst (λ (n : Names). ForSome told (λ b. JournalOf b (Born n life.engine.journal.entries)))
     (live.ready.ready.names ∙ ap (λ (k : Config). k.names) same) live.ready.ready.stands

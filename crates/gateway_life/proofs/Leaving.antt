@@ -14,13 +14,13 @@ use Rattle.message_answers.specs.Laws.{AnswersAreGivenOut}
 use Rattle.gateway_config.specs.declared.config.Config.{Config}
 use Rattle.gateway_core.specs.State.{loaded, sessions_in}
 use Rattle.wires.specs.Wire.{WireCall, Connection, is_within}
-use Rattle.life_events.specs.Sends.{hang_up_if}
-use Rattle.life_events.specs.Justified.{IsJustified, transcript_from, Leaves}
-use Rattle.life_events.specs.Receiver.{read_body, message_of_out, AreSent}
-use Rattle.life_events.specs.Forms.{all_placed}
-use Rattle.life_events.specs.Standing.{Holds, NumberedFrom}
-use Rattle.life_events.specs.Turn.{Reads, last_read}
-use Rattle.life_events.specs.Laws as lives
+use Rattle.life_laws.specs.Sends.{hang_up_if}
+use Rattle.life_laws.specs.Justified.{IsJustified, transcript_from, Leaves}
+use Rattle.life_laws.specs.Receiver.{read_body, message_of_out, AreSent}
+use Rattle.life_laws.specs.Forms.{all_placed}
+use Rattle.life_laws.specs.Standing.{Holds, NumberedFrom}
+use Rattle.life_laws.specs.Turn.{Reads, last_read}
+use Rattle.life_laws.specs.Laws as lives
 use Rattle.gateway_life.specs.declared.end.LifeEnd.{LifeEnd}
 use Rattle.gateway_life.specs.declared.end.LifeEnd.TheVariants as ends
 use Rattle.gateway_life.specs.Life.{begun, hung_up, moment_of, Done, IsJournal, Ends, EndsBefore}

@@ -19,11 +19,11 @@ use Rattle.message_answers.specs.Answer.{Answers}
 use Rattle.gateway_config.specs.declared.config.Config.{Config}
 use Rattle.wires.specs.Told.{GrowsBy}
 use Rattle.wires.specs.Wire.{WireCall, Connection, HangUpGrows, is_within, within_after}
-use Rattle.life_events.specs.Sends.{hang_up_if}
-use Rattle.life_events.specs.Happens.{World}
-use Rattle.life_events.specs.Justified.{transcript_from}
-use Rattle.life_events.specs.Turn.{Reads, Lives}
-use Rattle.life_events.specs.Ends.{LifeFails}
+use Rattle.life_laws.specs.Sends.{hang_up_if}
+use Rattle.life_laws.specs.Happens.{World}
+use Rattle.life_laws.specs.Justified.{transcript_from}
+use Rattle.life_laws.specs.Turn.{Reads, Lives}
+use Rattle.life_laws.specs.Ends.{LifeFails}
 use Rattle.gateway_life.specs.declared.end.LifeEnd.{LifeEnd}
 use Rattle.gateway_life.specs.declared.end.LifeEnd.TheVariants as ends
 use Rattle.gateway_life.specs.State.{LifeState}
@@ -170,7 +170,7 @@ module _ (one : (image : List ℕ) → HasOneReading image) where
     }
 
     world_is : (xs : List Entry) (old : LifeState) → BeginsWith config (Some bytes) xs old
-        → world_of old.gate ≡ begun config before
+        → world_of old.engine ≡ begun config before
     world_is xs old begins = begins.world
         ∙ ap (begun config) (same_journal config.names bytes xs before begins.journal journal)
 
@@ -281,7 +281,7 @@ module _ (one : (image : List ℕ) → HasOneReading image) where
         left = let found = un.images only image here in
             unbegun_image config.names bytes image before journal found.0 found.1
 
-        at : (e : LifeEnd) → Begins {T = LifeState} (λ life. life.gate.journal.entries) config.names
+        at : (e : LifeEnd) → Begins {T = LifeState} (λ life. life.engine.journal.entries) config.names
             bytes (Err e)
             → Ends e config before rounds did image
         at ends.Done begins = absurd begins
@@ -409,7 +409,7 @@ module _ (one : (image : List ℕ) → HasOneReading image) where
 pub lived_unbegun : {T : Type 0} (r : Result T LifeEnd) (error : LifeEnd) (names : Names)
     (told : Option (List ℕ)) (i0 i1 : List ℕ → Type 0) (r0 : Records) (k0 : Option (List ℕ))
     (Q : LifeEnd → Type 0) → IsErrAnd r (λ e. e ≡ error)
-    → IfSome told (λ b. Begins {T = LifeState} (λ life. life.gate.journal.entries) names b
+    → IfSome told (λ b. Begins {T = LifeState} (λ life. life.engine.journal.entries) names b
     (Err error)) → BornOrNot told i0 i1 names
     → IfErr r (λ end. IsUnbegun end names told i0 i1 r0 r0 k0 k0 ⊎ Q end)
 lived_unbegun (Ok value) error names told i0 i1 r0 k0 Q is begins images = tt
@@ -417,44 +417,44 @@ lived_unbegun (Err end) error names told i0 i1 r0 k0 Q is begins images = inl (r
   wires = refl;
   clock = refl;
   begins = subst (λ (e : LifeEnd). IfSome told (λ b.
-      Begins {T = LifeState} (λ life. life.gate.journal.entries) names b (Err e))) (sym is) begins;
+      Begins {T = LifeState} (λ life. life.engine.journal.entries) names b (Err e))) (sym is) begins;
   images = images;
 })
 
 pub lived_whole : {T : Type 0} (r : Result T LifeEnd) (config config' : Config) (rounds : ℕ)
     (t0 t2 : Option (List ℕ)) (old new : LifeState) (r0 r1 : Records)
     (k0 k1 : Option (List ℕ)) → config' ≡ config
-    → world_of old.gate ≡ begun config old.gate.journal.entries
-    → IfSome t0 (λ b. Begins {T = LifeState} (λ life. life.gate.journal.entries) config.names b
+    → world_of old.engine ≡ begun config old.engine.journal.entries
+    → IfSome t0 (λ b. Begins {T = LifeState} (λ life. life.engine.journal.entries) config.names b
     (Ok old))
-    → OnOk r (ForSome t2 (λ b. JournalOf b (Born config'.names new.gate.journal.entries)))
+    → OnOk r (ForSome t2 (λ b. JournalOf b (Born config'.names new.engine.journal.entries)))
     → OnOk r ((given : List ℕ) × (last : ℕ) × (length given ≡ rounds)
     × GrowsBy k0 k1 (given ++ last ∷ [])
-    × LifeDone config' old given last r0 r1 new.gate.journal.entries)
+    × LifeDone config' old given last r0 r1 new.engine.journal.entries)
     → OnOk r (LifeWhole config rounds t0 t2 r0 r1 k0 k1)
 lived_whole (Err end) config config' rounds t0 t2 old new r0 r1 k0 k1 same world begins stands
     done = tt
 lived_whole (Ok value) config config' rounds t0 t2 old new r0 r1 k0 k1 same world begins stands
     done = record {
-      before = old.gate.journal.entries;
+      before = old.engine.journal.entries;
       old = old;
       begins = record { world = world; journal = begins };
-      entries = new.gate.journal.entries;
+      entries = new.engine.journal.entries;
       stands = subst (λ (k : Config).
-          ForSome t2 (λ b. JournalOf b (Born k.names new.gate.journal.entries))) same stands;
+          ForSome t2 (λ b. JournalOf b (Born k.names new.engine.journal.entries))) same stands;
       given = done.0;
       last = done.1;
       each = done.2;
       moments = done.3;
-      done = subst (λ (k : Config). LifeDone k old done.0 done.1 r0 r1 new.gate.journal.entries)
+      done = subst (λ (k : Config). LifeDone k old done.0 done.1 r0 r1 new.engine.journal.entries)
           same done.4;
     }
 
 pub lived_stopped : {T : Type 0} (r : Result T LifeEnd) (config config' : Config) (rounds : ℕ)
     (t0 t1 : Option (List ℕ)) (i0 i1 i2 : List ℕ → Type 0) (old : LifeState) (r0 r1 : Records)
     (k0 k1 : Option (List ℕ)) (Q : LifeEnd → Type 0) → config' ≡ config
-    → world_of old.gate ≡ begun config old.gate.journal.entries
-    → IfSome t0 (λ b. Begins {T = LifeState} (λ life. life.gate.journal.entries) config.names b
+    → world_of old.engine ≡ begun config old.engine.journal.entries
+    → IfSome t0 (λ b. Begins {T = LifeState} (λ life. life.engine.journal.entries) config.names b
     (Ok old)) → is_some t1 ≡ is_some t0 → (HasOneImage t0 i0 → HasOneImage t1 i1)
     → IfErr r IsOfEvent → IfErr r (λ end. (given : List ℕ) × (last : ℕ) × (length given ≤ rounds)
     × GrowsBy k0 k1 (given ++ last ∷ [])
@@ -465,7 +465,7 @@ lived_stopped (Ok value) config config' rounds t0 t1 i0 i1 i2 old r0 r1 k0 k1 Q 
 lived_stopped (Err end) config config' rounds t0 t1 i0 i1 i2 old r0 r1 k0 k1 Q same world begins
     told one of_event ends = inr (record {
       of_event = of_event;
-      entries = old.gate.journal.entries;
+      entries = old.engine.journal.entries;
       old = old;
       begins = record { world = world; journal = begins };
       given = ends.0;
@@ -488,7 +488,7 @@ answered_done names None entries h = tt
 answered_done names (Some bytes) entries h = (entries, h)
 
 by_begin : (end : LifeEnd) (names : Names) (bytes : List ℕ)
-    → Begins {T = LifeState} (λ life. life.gate.journal.entries) names bytes (Err end)
+    → Begins {T = LifeState} (λ life. life.engine.journal.entries) names bytes (Err end)
     → IsAnswered end names bytes
 by_begin ends.Done names bytes h = absurd h
 by_begin (ends.JournalRefused at) names bytes h = h

@@ -12,12 +12,12 @@ use Rattle.event_decisions.specs.Decide.{with_session}
 use Rattle.message_answers.specs.Answer.{Answers}
 use Rattle.gateway_core.specs.State.{CoreState, sessions_in, going_on}
 use Rattle.wires.specs.Wire.{WireCall}
-use Rattle.life_events.specs.Sends.{hang_up_if}
-use Rattle.life_events.specs.Happens.{World, both_standing}
+use Rattle.life_laws.specs.Sends.{hang_up_if}
+use Rattle.life_laws.specs.Happens.{World, both_standing}
 use Rattle.wire_sends.specs.Sent.{Agrees}
 use Rattle.wire_sends.proofs.Sendings.{grows_none}
 use Rattle.gateway_life.specs.Acted.{Acted}
-use Rattle.gateway_life.specs.State.{GateState}
+use Rattle.gateway_life.specs.State.{EngineState}
 use Rattle.gateway_life.specs.Ready.{IsReady, Ready, world_of}
 use Rattle.gateway_life.specs.Stepped.{records, Stepped}
 use Rattle.gateway_life.proofs.Acting.{stepped, ready_acted}
@@ -69,7 +69,7 @@ numbers_on s Venue next keeps = λ i. (
   keeps.next_out i,
 )
 
-pub passed : (old new : GateState) (side : Side) (next : Session) (now : ℕ)
+pub passed : (old new : EngineState) (side : Side) (next : Session) (now : ℕ)
     (client venue : Option (List WireCall)) → new.journal ≡ old.journal
     → new.client_up ≡ old.client_up → new.venue_up ≡ old.venue_up
     → Decides Answers old.core.config.names old.core.config.window old.journal.entries
@@ -87,7 +87,7 @@ passed old new side next now client venue journal cu vu decides sessions =
     (with_session side next (sessions_in old.core))))
     (idle client old.client_up new.client_up cu) (idle venue old.venue_up new.venue_up vu)
 
-pub ready_passed : (old new : GateState) (side : Side) (next : Session)
+pub ready_passed : (old new : EngineState) (side : Side) (next : Session)
     (told : Option (List ℕ)) (client venue : Option (List WireCall))
     → Ready old told client venue → new.journal ≡ old.journal
     → new.client_up ≡ old.client_up → new.venue_up ≡ old.venue_up
@@ -98,7 +98,7 @@ pub ready_passed : (old new : GateState) (side : Side) (next : Session)
 ready_passed old new side next told client venue ready journal cu vu config chains sessions keeps =
     let s : Sessions = with_session side next (sessions_in old.core) in
     let core : CoreState = record old.core { client = s.client; venue = s.venue } in
-    let on : GateState = record old { core = core } in
+    let on : EngineState = record old { core = core } in
     let is_on : IsReady on told = record {
       names = ready.ready.names;
       whole = ready.ready.whole;

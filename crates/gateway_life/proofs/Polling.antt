@@ -17,13 +17,13 @@ use Rattle.event_decisions.specs.Event.{Event, Opened, Frame, Closed, Tick}
 use Rattle.gateway_config.specs.declared.config.Config.{Config}
 use Rattle.wires.specs.Wire as wire
 use Rattle.wires.specs.Wire.{Came, may_come}
-use Rattle.life_events.specs.Happens.{World, up_on}
-use Rattle.life_events.specs.Turn.{on_side, with_up, up_after, AreNew, events_of}
+use Rattle.life_laws.specs.Happens.{World, up_on}
+use Rattle.life_laws.specs.Turn.{on_side, with_up, up_after, AreNew, events_of}
 use Rattle.gateway_life.specs.declared.end.LifeEnd.{LifeEnd}
 use Rattle.gateway_life.specs.Ready.{LeavesOf}
 use Rattle.gateway_life.specs.Stepped.{Records, Grew, Stepped, Broken}
-use Rattle.gateway_life.specs.Turned.{Arrived, ArrivedPart, Turned, TurnBroken, TakenAll, TakenPart}
-use Rattle.gateway_life.specs.Turned.{record_on}
+use Rattle.gateway_life.specs.Turned.{Arrived, ArrivedFront, Turned, TurnBroken, TakenAll}
+use Rattle.gateway_life.specs.Turned.{TakenFront, record_on}
 use Rattle.gateway_life.proofs.Turning.{grew_append, all_more, counted, failed_at, failed_one}
 use Rattle.gateway_life.proofs.Turning.{arrived_as, arrived_broken, arrived_closed, arrived_opened}
 use Rattle.gateway_life.proofs.Turning.{arrived_bytes, arrived_part}
@@ -105,12 +105,12 @@ module _ (config : Config) (side : Side) (came : Came) (w polled : World) (now :
       }
 
   pub turn_part : (end : LifeEnd) (old : Held) (r2 : Records) (entries : List Entry)
-      → ArrivedPart end old came config polled side now r1 r2 entries
+      → ArrivedFront end old came config polled side now r1 r2 entries
       → TurnBroken end side old config w now r0 r2 entries
   turn_part end old r2 entries found =
       let after = with_up side (up_after (up_on side w) came) w in
-      let part : ArrivedPart end old came config after side now r1 r2 entries =
-      subst (λ (p : World). ArrivedPart end old came config p side now r1 r2 entries) is found in
+      let part : ArrivedFront end old came config after side now r1 r2 entries =
+      subst (λ (p : World). ArrivedFront end old came config p side now r1 r2 entries) is found in
       record {
         came = came;
         may = may;
@@ -177,9 +177,9 @@ module _ (config : Config) (side : Side) (held : Held) (w : World) (now : ℕ) (
 
   pub part_broken : (end : LifeEnd) (entries : List Entry) → came ≡ wire.Broken
       → Broken end config w (Closed side) now r0 r1 entries
-      → ArrivedPart end held came config w side now r0 r1 entries
+      → ArrivedFront end held came config w side now r0 r1 entries
   part_broken end entries is broken =
-      subst (λ (k : Came). ArrivedPart end held k config w side now r0 r1 entries) (sym is)
+      subst (λ (k : Came). ArrivedFront end held k config w side now r0 r1 entries) (sym is)
       (record {
         first = [];
         failed = failed_one config end w (Closed side) now r0 r1 entries refl broken;
@@ -188,9 +188,9 @@ module _ (config : Config) (side : Side) (held : Held) (w : World) (now : ℕ) (
 
   pub part_closed : (end : LifeEnd) (entries : List Entry) → came ≡ wire.Closed
       → Broken end config w (Closed side) now r0 r1 entries
-      → ArrivedPart end held came config w side now r0 r1 entries
+      → ArrivedFront end held came config w side now r0 r1 entries
   part_closed end entries is broken =
-      subst (λ (k : Came). ArrivedPart end held k config w side now r0 r1 entries) (sym is)
+      subst (λ (k : Came). ArrivedFront end held k config w side now r0 r1 entries) (sym is)
       (record {
         first = [];
         failed = failed_one config end w (Closed side) now r0 r1 entries refl broken;
@@ -199,9 +199,9 @@ module _ (config : Config) (side : Side) (held : Held) (w : World) (now : ℕ) (
 
   pub part_opened : (end : LifeEnd) (entries : List Entry) → came ≡ wire.Opened
       → Broken end config w (Opened side) now r0 r1 entries
-      → ArrivedPart end held came config w side now r0 r1 entries
+      → ArrivedFront end held came config w side now r0 r1 entries
   part_opened end entries is broken =
-      subst (λ (k : Came). ArrivedPart end held k config w side now r0 r1 entries) (sym is)
+      subst (λ (k : Came). ArrivedFront end held k config w side now r0 r1 entries) (sym is)
       (record {
         first = [];
         failed = failed_one config end w (Opened side) now r0 r1 entries refl broken;
@@ -232,8 +232,8 @@ module _ (config : Config) (side : Side) (old fed : Held) (w : World) (now : ℕ
       (arrived_bytes config old fed new bytes w x side now r0 r1 kind after feed taken)
 
   pub part_bytes : (end : LifeEnd) (entries : List Entry) → fed.kind ≡ kind_of side
-      → TakenPart end fed config w side now r0 r1 entries
-      → ArrivedPart end old came config w side now r0 r1 entries
+      → TakenFront end fed config w side now r0 r1 entries
+      → ArrivedFront end old came config w side now r0 r1 entries
   part_bytes end entries after taken =
-      subst (λ (k : Came). ArrivedPart end old k config w side now r0 r1 entries) (sym is)
+      subst (λ (k : Came). ArrivedFront end old k config w side now r0 r1 entries) (sym is)
       (arrived_part config end old fed bytes w side now r0 r1 entries kind after feed taken)

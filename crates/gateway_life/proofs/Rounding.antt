@@ -14,12 +14,12 @@ use Rattle.gateway_config.specs.declared.config.Config.{Config}
 use Rattle.wires.specs.Told.{GrowsBy}
 use Rattle.wires.specs.Wire as wire
 use Rattle.wires.specs.Wire.{WireCall, Came, may_come}
-use Rattle.life_events.specs.Sends.{Sends, Acts}
-use Rattle.life_events.specs.Happens.{World, Added, nothing, up_on}
-use Rattle.life_events.specs.Turn.{both, on_side, with_up, up_after, read_after, events_of}
-use Rattle.life_events.specs.Turn.{Reads, counts, HappensIf, HappensOrNot, AllHappen, Turn, Round}
-use Rattle.life_events.specs.Turn.{Rounds}
-use Rattle.life_events.specs.Ends.{TurnFails, LifeFails}
+use Rattle.life_laws.specs.Sends.{Sends, Acts}
+use Rattle.life_laws.specs.Happens.{World, Added, nothing, up_on}
+use Rattle.life_laws.specs.Turn.{both, on_side, with_up, up_after, read_after, events_of}
+use Rattle.life_laws.specs.Turn.{Reads, counts, HappensIf, HappensOrNot, AllHappen, Turn, Round}
+use Rattle.life_laws.specs.Turn.{Rounds}
+use Rattle.life_laws.specs.Ends.{TurnFails, LifeFails}
 use Rattle.gateway_life.specs.declared.end.LifeEnd.{LifeEnd}
 use Rattle.gateway_life.specs.State.{LifeState}
 use Rattle.gateway_life.specs.Ready.{world_of}
@@ -154,8 +154,8 @@ module _ (config : Config) where
   -- ---- a round
 
   pub round_done : (old new : LifeState) (mid : World) (now : ℕ) (r0 r1 r2 : Records)
-      → Turned Client old.client new.client config (world_of old.gate) now mid r0 r1
-      → Turned Venue old.venue new.venue config mid now (world_of new.gate) r1 r2
+      → Turned Client old.client new.client config (world_of old.engine) now mid r0 r1
+      → Turned Venue old.venue new.venue config mid now (world_of new.engine) r1 r2
       → RoundDone config old new now r0 r2
   unfolding turn_of
   round_done old new mid now r0 r1 r2 c v = record {
@@ -176,9 +176,9 @@ module _ (config : Config) where
             mid = mid;
             client_added = both (on_side Client (wire.Poll c.came ∷ [])) c.rest;
             venue_added = both (on_side Venue (wire.Poll v.came ∷ [])) v.rest;
-            client = turn_of Client old.client new.client (world_of old.gate) mid now r0 r1 c
+            client = turn_of Client old.client new.client (world_of old.engine) mid now r0 r1 c
                 reads.client told0.client whole.client;
-            venue = turn_of Venue old.venue new.venue mid (world_of new.gate) now r1 r2 v
+            venue = turn_of Venue old.venue new.venue mid (world_of new.engine) now r1 r2 v
                 reads.venue told1.venue venue_whole;
             all = refl;
             read = refl;
@@ -186,9 +186,9 @@ module _ (config : Config) where
             venue_may = v.may told1.venue;
           },
           record {
-            client = λ up. turn_stood Client old.client new.client (world_of old.gate) mid now r0 r1
+            client = λ up. turn_stood Client old.client new.client (world_of old.engine) mid now r0 r1
                 c reads.client whole.client (other_venue _ _ _ _ _ _ _ v up);
-            venue = λ up. turn_stood Venue old.venue new.venue mid (world_of new.gate) now r1 r2 v
+            venue = λ up. turn_stood Venue old.venue new.venue mid (world_of new.engine) now r1 r2 v
                 reads.venue venue_whole up;
           },
         );
@@ -238,24 +238,24 @@ module _ (config : Config) where
 
   pub round_client : (end : LifeEnd) (old : LifeState) (now : ℕ) (r0 r1 : Records)
       (entries : List Entry)
-      → TurnBroken end Client old.client config (world_of old.gate) now r0 r1 entries
+      → TurnBroken end Client old.client config (world_of old.engine) now r0 r1 entries
       → RoundBroken end config old now r0 r1 entries
   round_client end old now r0 r1 entries t =
-      let grew = turn_fails_grew end Client old.client (world_of old.gate) now r0 r1 entries t in
+      let grew = turn_fails_grew end Client old.client (world_of old.engine) now r0 r1 entries t in
       record {
         added = both (on_side Client (wire.Poll t.came ∷ []))
             (both t.failed.all.added t.failed.broken.added);
         grew = grew;
         ends = λ told reads whole.
             let told0 = are_told_back r0 r1 _ grew told in
-            let fails = turn_fails end Client old.client (world_of old.gate) now r0 r1 entries t
+            let fails = turn_fails end Client old.client (world_of old.engine) now r0 r1 entries t
             reads.client told0.client whole.client in
             inl (fails.0, fails.1);
       }
 
   pub round_venue : (end : LifeEnd) (old : LifeState) (next : Held) (mid : World) (now : ℕ)
       (r0 r1 r2 : Records) (entries : List Entry)
-      → Turned Client old.client next config (world_of old.gate) now mid r0 r1
+      → Turned Client old.client next config (world_of old.engine) now mid r0 r1
       → TurnBroken end Venue old.venue config mid now r1 r2 entries
       → RoundBroken end config old now r0 r2 entries
   unfolding turn_of
@@ -279,7 +279,7 @@ module _ (config : Config) where
                 mid = mid;
                 first = client_added;
                 rest = venue_added;
-                client = turn_of Client old.client next (world_of old.gate) mid now r0 r1 c
+                client = turn_of Client old.client next (world_of old.engine) mid now r0 r1 c
                     reads.client told0.client whole.client;
                 client_may = c.may told0.client;
                 venue = fails.0;
@@ -335,11 +335,11 @@ module _ (config : Config) where
         let before = first.rounds (are_told_back r1 r2 one.added one.grew told) reads whole in
         let here = one.round told before.0 before.2 in (
           here.0,
-          subst (λ (l : List ℕ). Rounds Answers config.names config.window reads (world_of old.gate)
-              l (both first.added one.added) here.0 (world_of new.gate))
+          subst (λ (l : List ℕ). Rounds Answers config.names config.window reads (world_of old.engine)
+              l (both first.added one.added) here.0 (world_of new.engine))
               (sym (map-append moment_of given (m ∷ [])))
               (rounds_push (map moment_of given) (moment_of m) reads before.0 here.0
-              (world_of old.gate) (world_of mid.gate) (world_of new.gate) first.added one.added
+              (world_of old.engine) (world_of mid.engine) (world_of new.engine) first.added one.added
               before.1 here.1),
           here.2,
         );
@@ -349,7 +349,7 @@ module _ (config : Config) where
 
   pub life_done : (old mid : LifeState) (given : List ℕ) (last : ℕ) (x : World)
       (r0 r1 r2 : Records) → RoundsDone config old mid given r0 r1
-      → AllStepped config (world_of mid.gate) ends_of (moment_of last) x r1 r2
+      → AllStepped config (world_of mid.engine) ends_of (moment_of last) x r1 r2
       → LifeDone config old given last r0 r2 x.entries
   life_done old mid given last x r0 r1 r2 first ends = record {
     added = both first.added ends.added;
@@ -359,7 +359,7 @@ module _ (config : Config) where
     lives = λ told reads whole.
         let before = first.rounds (are_told_back r1 r2 ends.added ends.grew told) reads whole in
         record {
-          mid = world_of mid.gate;
+          mid = world_of mid.engine;
           read = before.0;
           first = first.added;
           rest = ends.added;
@@ -382,15 +382,15 @@ module _ (config : Config) where
   }
     where
       at : (reads reads' : Reads)
-          → Rounds Answers config.names config.window reads (world_of old.gate)
-          (map moment_of given) first.added reads' (world_of mid.gate)
-          → RoundEnds end config reads' (world_of mid.gate) (moment_of last) broken.added entries
-          → (fails : LifeFails Answers config.names config.window reads (world_of old.gate)
+          → Rounds Answers config.names config.window reads (world_of old.engine)
+          (map moment_of given) first.added reads' (world_of mid.engine)
+          → RoundEnds end config reads' (world_of mid.engine) (moment_of last) broken.added entries
+          → (fails : LifeFails Answers config.names config.window reads (world_of old.engine)
           (map moment_of given) (moment_of last) (both first.added broken.added) entries)
           × LastEnds end config fails.read fails.mid (moment_of last) fails.rest entries fails.fails
       at reads reads' rounds (inl client) = (
         record {
-          mid = world_of mid.gate;
+          mid = world_of mid.engine;
           read = reads';
           first = first.added;
           rest = broken.added;
@@ -402,7 +402,7 @@ module _ (config : Config) where
       )
       at reads reads' rounds (inr venue) = (
         record {
-          mid = world_of mid.gate;
+          mid = world_of mid.engine;
           read = reads';
           first = first.added;
           rest = broken.added;
@@ -415,14 +415,14 @@ module _ (config : Config) where
 
   pub life_end : (end : LifeEnd) (old mid : LifeState) (given : List ℕ) (last : ℕ)
       (r0 r1 r2 : Records) (entries : List Entry) → RoundsDone config old mid given r0 r1
-      → Failed end config (world_of mid.gate) ends_of (moment_of last) r1 r2 entries
+      → Failed end config (world_of mid.engine) ends_of (moment_of last) r1 r2 entries
       → LifeBroken end config old given last r0 r2 entries
   life_end end old mid given last r0 r1 r2 entries first failed =
       let added = both failed.all.added failed.broken.added in
-      let grew = failed_grew config end (world_of mid.gate) ends_of (moment_of last) r1 r2 entries
+      let grew = failed_grew config end (world_of mid.engine) ends_of (moment_of last) r1 r2 entries
       failed in
-      let fails : FailsFor config end (world_of mid.gate) ends_of (moment_of last) added entries =
-      failed_fails config end (world_of mid.gate) ends_of [] (moment_of last) r1 r2 entries
+      let fails : FailsFor config end (world_of mid.engine) ends_of (moment_of last) added entries =
+      failed_fails config end (world_of mid.engine) ends_of [] (moment_of last) r1 r2 entries
       failed in
       record {
         added = both first.added added;
@@ -430,7 +430,7 @@ module _ (config : Config) where
         ends = λ told reads whole.
             let before = first.rounds (are_told_back r1 r2 added grew told) reads whole in (
               record {
-                mid = world_of mid.gate;
+                mid = world_of mid.engine;
                 read = before.0;
                 first = first.added;
                 rest = added;

@@ -5,7 +5,7 @@ use Rattle.session_core.specs.declared.session.Session.{Session}
 use Rattle.session_core.specs.declared.session.Spent.{Spent}
 use Rattle.session_core.specs.declared.session.Step.{Step}
 use Rattle.session_core.specs.Table as session
-use Rattle.life_events.specs.Happens.{standing}
+use Rattle.life_laws.specs.Happens.{standing}
 
 next_of : Session → Result Step Spent → Session
 next_of s (Ok t) = t.next

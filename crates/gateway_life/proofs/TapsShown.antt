@@ -65,13 +65,13 @@ module _ (one : (image : List ℕ) → HasOneReading image) {T : Type 0} (state 
   pub taps_whole : {V : Type 0} (r : Result V LifeEnd) (olds news : List T) (names names' : Names)
       (t0 t1 t2 : Option (List ℕ)) (i0 i1 i2 : List ℕ → Type 0) (old new : LifeState)
       → names' ≡ names
-      → IfSome t0 (λ b. Begins {T = LifeState} (λ life. life.gate.journal.entries) names b (Ok old))
+      → IfSome t0 (λ b. Begins {T = LifeState} (λ life. life.engine.journal.entries) names b (Ok old))
       → is_some t1 ≡ is_some t0 → (HasOneImage t0 i0 → HasOneImage t1 i1)
       → is_some t2 ≡ is_some t1 → OnOk r (HasOneImage t1 i1 → HasOneImage t2 i2)
-      → OnOk r (ForSome t2 (λ b. JournalOf b (Born names' new.gate.journal.entries)))
-      → IfErr r (λ end. LeavesOf t1 i1 i2 names' (WereCommitted end new.gate.journal.entries))
+      → OnOk r (ForSome t2 (λ b. JournalOf b (Born names' new.engine.journal.entries)))
+      → IfErr r (λ end. LeavesOf t1 i1 i2 names' (WereCommitted end new.engine.journal.entries))
       → IfErr r IsOfEvent
-      → Watched state olds news old.gate.journal.entries new.gate.journal.entries
+      → Watched state olds news old.engine.journal.entries new.engine.journal.entries
       → TapsSaw state olds news names t0 i0 i2 (end_in r)
   taps_whole r olds news names names' None t1 t2 i0 i1 i2 old new same begins told kept told' kept'
       stands left of watched = record {
@@ -86,32 +86,32 @@ module _ (one : (image : List ℕ) → HasOneReading image) {T : Type 0} (state 
         more = watched.more;
         seen = watched.seen;
         refused = whole_shown (watched.more ≡ []) r of;
-        foreign = λ foreign. absurd (foreign old.gate.journal.entries begins);
+        foreign = λ foreign. absurd (foreign old.engine.journal.entries begins);
         left = at r kept' stands left;
       }
     where
       grown : (before : List Entry) → IsJournal names before b
-          → new.gate.journal.entries ≡ before ++ watched.more
+          → new.engine.journal.entries ≡ before ++ watched.more
       grown before journal = watched.goes_on ∙ ap (λ l. l ++ watched.more)
-          (same_journal one names b old.gate.journal.entries before begins journal)
+          (same_journal one names b old.engine.journal.entries before begins journal)
 
       at : (q : Result V LifeEnd) → OnOk q (HasOneImage t1 i1 → HasOneImage t2 i2)
-          → OnOk q (ForSome t2 (λ c. JournalOf c (Born names' new.gate.journal.entries)))
-          → IfErr q (λ end. LeavesOf t1 i1 i2 names' (WereCommitted end new.gate.journal.entries))
+          → OnOk q (ForSome t2 (λ c. JournalOf c (Born names' new.engine.journal.entries)))
+          → IfErr q (λ end. LeavesOf t1 i1 i2 names' (WereCommitted end new.engine.journal.entries))
           → Only b i0 → (before : List Entry) → IsJournal names before b → (image : List ℕ)
           → i2 image → (found : List Entry) × IsJournal names found image
           × WereCommitted (end_in q) (before ++ watched.more) found
       at (Ok value) durable here left = λ only before journal image at_exit. (
-        new.gate.journal.entries,
-        inl (subst (λ n. JournalOf image (Born n new.gate.journal.entries)) same
-            (image_of t2 i2 (λ c. JournalOf c (Born names' new.gate.journal.entries)) image
+        new.engine.journal.entries,
+        inl (subst (λ n. JournalOf image (Born n new.engine.journal.entries)) same
+            (image_of t2 i2 (λ c. JournalOf c (Born names' new.engine.journal.entries)) image
             (told' ∙ told) here (durable (kept only)) at_exit)),
         grown before journal,
       )
       at (Err end) durable here left = λ only before journal image at_exit.
           let found = leaves_from (Some b) t1 i0 i1 i2 names names'
-          (WereCommitted end new.gate.journal.entries)
-          (WereCommitted end new.gate.journal.entries) told kept same (λ xs h. h) left only image
+          (WereCommitted end new.engine.journal.entries)
+          (WereCommitted end new.engine.journal.entries) told kept same (λ xs h. h) left only image
           at_exit in (
             found.0,
             inl found.1,

@@ -19,15 +19,15 @@ use Rattle.gateway_config.specs.declared.config.Config.{Config}
 use Rattle.session_frames.specs.Frames.{kind_of}
 use Rattle.wires.specs.Wire as wire
 use Rattle.wires.specs.Wire.{Came}
-use Rattle.life_events.specs.Bodies.{bodies_of, body_of}
-use Rattle.life_events.specs.Happens.{World, Added, nothing, up_on}
-use Rattle.life_events.specs.Turn.{both, counts, HappensIf, HappensOrNot, AllHappen}
+use Rattle.life_laws.specs.Bodies.{bodies_of, body_of}
+use Rattle.life_laws.specs.Happens.{World, Added, nothing, up_on}
+use Rattle.life_laws.specs.Turn.{both, counts, HappensIf, HappensOrNot, AllHappen}
 use Rattle.gateway_life.specs.declared.end.LifeEnd.{LifeEnd}
 use Rattle.gateway_life.specs.Ready.{LeavesOf}
 use Rattle.gateway_life.specs.Stepped.{Records, Grew, Stepped, SteppedOrNot, AllStepped, Broken}
 use Rattle.gateway_life.specs.Stepped.{BrokenIf, Failed}
-use Rattle.gateway_life.specs.Turned.{Taken, TakenAll, TakenPart, Arrived}
-use Rattle.gateway_life.specs.Turned.{ArrivedPart}
+use Rattle.gateway_life.specs.Turned.{Taken, TakenAll, TakenFront, Arrived}
+use Rattle.gateway_life.specs.Turned.{ArrivedFront}
 use Rattle.wire_sends.proofs.Sendings.{grows_append, grows_none}
 use Rattle.gateway_life.proofs.Cutting.{bodies_cut, bodies_more, bodies_come, none_first}
 
@@ -215,7 +215,7 @@ module _ (config : Config) where
       → ((stream : List ℕ) (answered : List Piece) → StandsFor mid stream answered
       → (bytes : List ℕ) × StandsFor new stream (answered ++ Good body bytes ∷ []))
       → new.kind ≡ old.kind → BrokenIf end config m (Frame side body) now r1 r2 entries
-      → TakenPart end old config w side now r0 r2 entries
+      → TakenFront end old config w side now r0 r2 entries
   taken_part end old mid new w m side body now r0 r1 r2 entries taken found kind broken = record {
     first = taken.bodies ++ body ∷ [];
     failed = subst (λ es. Failed end config w es now r0 r2 entries)
@@ -320,8 +320,8 @@ module _ (config : Config) where
       → fed.kind ≡ kind_of side
       → ((stream : List ℕ) (answered : List Piece) → StandsFor old stream answered
       → StandsFor fed (stream ++ bytes) answered)
-      → TakenPart end fed config w side now r0 r1 entries
-      → ArrivedPart end old (wire.Bytes bytes) config w side now r0 r1 entries
+      → TakenFront end fed config w side now r0 r1 entries
+      → ArrivedFront end old (wire.Bytes bytes) config w side now r0 r1 entries
   arrived_part end old fed bytes w side now r0 r1 entries kind kind' feed taken = record {
     first = taken.first;
     failed = taken.failed;

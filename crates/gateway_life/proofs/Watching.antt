@@ -11,7 +11,7 @@ use Rattle.drop_taps.specs.Shown.{TapState}
 use Rattle.drop_taps.proofs.Showing.{seen_none, seen_append}
 use Rattle.event_decisions.specs.Event.{Event}
 use Rattle.gateway_config.specs.declared.config.Config.{Config}
-use Rattle.life_events.specs.Happens.{World}
+use Rattle.life_laws.specs.Happens.{World}
 use Rattle.gateway_life.specs.declared.end.LifeEnd.{LifeEnd}
 use Rattle.gateway_life.specs.declared.end.LifeEnd.TheVariants as ends
 use Rattle.gateway_life.specs.Ready.{LeavesOf}

@@ -12,11 +12,11 @@ use Rattle.message_answers.specs.Answer.{Answers}
 use Rattle.gateway_config.specs.declared.config.Config.{Config}
 use Rattle.gateway_config.specs.Reading.{Reads}
 use Rattle.wires.specs.Wire.{Connection}
-use Rattle.life_events.specs.Forms.{all_placed}
-use Rattle.life_events.specs.Repeats.{repeat_forms}
-use Rattle.life_events.specs.Justified.{IsJustified, transcript_from, Leaves}
-use Rattle.life_events.specs.Receiver.{read_body, message_of_out}
-use Rattle.life_events.specs.Taken.{TakesInOrder, take_more, read_of_form, AreReadAsForms}
+use Rattle.life_laws.specs.Forms.{all_placed}
+use Rattle.life_laws.specs.Repeats.{repeat_forms}
+use Rattle.life_laws.specs.Justified.{IsJustified, transcript_from, Leaves}
+use Rattle.life_laws.specs.Receiver.{read_body, message_of_out}
+use Rattle.life_laws.specs.Taken.{TakesInOrder, take_more, read_of_form, AreReadAsForms}
 use Rattle.heard_laws.specs.Laws.{TakesTheBook}
 use Rattle.gateway_life.specs.declared.end.LifeEnd.{LifeEnd}
 use Rattle.gateway_life.specs.Life.{Done, LivesToEnd, EndsBefore, IsJournal, Ends}

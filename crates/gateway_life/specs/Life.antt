@@ -15,10 +15,10 @@ use Rattle.gateway_config.specs.declared.config.Config.{Config}
 use Rattle.gateway_core.specs.State.{loaded, sessions_in}
 use Rattle.wires.specs.Told.{GrowsBy}
 use Rattle.wires.specs.Wire.{WireCall, is_within}
-use Rattle.life_events.specs.Sends.{hang_up_if}
-use Rattle.life_events.specs.Happens.{World, Added}
-use Rattle.life_events.specs.Turn.{Reads, Lives}
-use Rattle.life_events.specs.Ends.{OneFails, LastFails, LifeFails}
+use Rattle.life_laws.specs.Sends.{hang_up_if}
+use Rattle.life_laws.specs.Happens.{World, Added}
+use Rattle.life_laws.specs.Turn.{Reads, Lives}
+use Rattle.life_laws.specs.Ends.{OneFails, LastFails, LifeFails}
 use Rattle.gateway_life.specs.declared.end.LifeEnd.{LifeEnd}
 use Rattle.gateway_life.specs.declared.end.LifeEnd.TheVariants as ends
 use Rattle.gateway_life.specs.Stepped.{IsWhy}

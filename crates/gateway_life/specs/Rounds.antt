@@ -14,9 +14,9 @@ use Rattle.message_answers.specs.Answer.{Answers}
 use Rattle.gateway_config.specs.declared.config.Config.{Config}
 use Rattle.wires.specs.Told.{GrowsBy}
 use Rattle.wires.specs.Wire.{WireCall}
-use Rattle.life_events.specs.Happens.{World, Added}
-use Rattle.life_events.specs.Turn.{Reads, Round, Rounds, Lives}
-use Rattle.life_events.specs.Ends.{TurnFails, VenueFails, LifeFails}
+use Rattle.life_laws.specs.Happens.{World, Added}
+use Rattle.life_laws.specs.Turn.{Reads, Round, Rounds, Lives}
+use Rattle.life_laws.specs.Ends.{TurnFails, VenueFails, LifeFails}
 use Rattle.gateway_life.specs.declared.end.LifeEnd.{LifeEnd}
 use Rattle.gateway_life.specs.declared.end.LifeEnd.TheVariants as ends
 use Rattle.gateway_life.specs.Life.{IsJournal, OneEnds, LastEnds, begun, moment_of}
@@ -28,14 +28,14 @@ use Rattle.gateway_life.specs.Turned.{StandsWhole, IsDrained}
 -- what holds of a life between its rounds
 pub record IsLive (life : LifeState) (disk : Option (List ℕ))
     (client_told venue_told : Option (List WireCall)) : Type 0 where
-  pub ready : Ready life.gate disk client_told venue_told
+  pub ready : Ready life.engine disk client_told venue_told
   pub client : IsDrained Client life.client
   pub venue : IsDrained Venue life.venue
 
 -- the framers stand for what was read on the connections that stand
 pub record StoodFor (life : LifeState) (reads : Reads) : Type 0 where
-  pub client : life.gate.client_up ≡ true → StandsWhole life.client reads.client
-  pub venue : life.gate.venue_up ≡ true → StandsWhole life.venue reads.venue
+  pub client : life.engine.client_up ≡ true → StandsWhole life.client reads.client
+  pub venue : life.engine.venue_up ≡ true → StandsWhole life.venue reads.venue
 
 -- both wires tell their records
 pub record AreTold (r : Records) : Type 0 where
@@ -49,8 +49,8 @@ pub record RoundDone (config : Config) (old new : LifeState) (now : ℕ) (r0 r1 
   pub grew : Grew r0 r1 added
   pub round : AreTold r1 → (reads : Reads) → StoodFor old reads
       → (reads' : Reads)
-      × Round Answers config.names config.window reads (world_of old.gate) now added reads'
-      (world_of new.gate)
+      × Round Answers config.names config.window reads (world_of old.engine) now added reads'
+      (world_of new.engine)
       × StoodFor new reads'
 
 -- An event of a round failed, the client's or the venue's, and why that ended the life.
@@ -67,7 +67,7 @@ pub record RoundBroken (end : LifeEnd) (config : Config) (old : LifeState) (now 
   pub added : Added
   pub grew : Grew r0 r1 added
   pub ends : AreTold r1 → (reads : Reads) → StoodFor old reads
-      → RoundEnds end config reads (world_of old.gate) now added entries
+      → RoundEnds end config reads (world_of old.engine) now added entries
 
 -- rounds one after another, whole, at these moments
 pub record RoundsDone (config : Config) (old new : LifeState) (given : List ℕ) (r0 r1 : Records)
@@ -76,8 +76,8 @@ pub record RoundsDone (config : Config) (old new : LifeState) (given : List ℕ)
   pub grew : Grew r0 r1 added
   pub rounds : AreTold r1 → (reads : Reads) → StoodFor old reads
       → (reads' : Reads)
-      × Rounds Answers config.names config.window reads (world_of old.gate)
-      (map moment_of given) added reads' (world_of new.gate)
+      × Rounds Answers config.names config.window reads (world_of old.engine)
+      (map moment_of given) added reads' (world_of new.engine)
       × StoodFor new reads'
 
 -- rounds and the end of both sides, whole, which leave these entries
@@ -88,7 +88,7 @@ pub record LifeDone (config : Config) (old : LifeState) (given : List ℕ) (last
   pub after : World
   pub left : entries ≡ after.entries
   pub lives : AreTold r1 → (reads : Reads) → StoodFor old reads
-      → Lives Answers config.names config.window reads (world_of old.gate)
+      → Lives Answers config.names config.window reads (world_of old.engine)
       (map moment_of given) (moment_of last) added after
 
 -- the same up to an event that failed, and why that ended the life
@@ -97,14 +97,14 @@ pub record LifeBroken (end : LifeEnd) (config : Config) (old : LifeState) (given
   pub added : Added
   pub grew : Grew r0 r1 added
   pub ends : AreTold r1 → (reads : Reads) → StoodFor old reads
-      → (fails : LifeFails Answers config.names config.window reads (world_of old.gate)
+      → (fails : LifeFails Answers config.names config.window reads (world_of old.engine)
       (map moment_of given) (moment_of last) added entries)
       × LastEnds end config fails.read fails.mid (moment_of last) fails.rest entries fails.fails
 
 -- how a life begins, over these entries of the disk
 pub record BeginsWith (config : Config) (told : Option (List ℕ)) (before : List Entry)
     (old : LifeState) : Type 0 where
-  pub world : world_of old.gate ≡ begun config before
+  pub world : world_of old.engine ≡ begun config before
   pub journal : IfSome told (IsJournal config.names before)
 
 -- the end of both sides
@@ -129,7 +129,7 @@ pub record IsUnbegun (end : LifeEnd) (names : Names) (told : Option (List ℕ))
   pub wires : r1 ≡ r0
   pub clock : k1 ≡ k0
   pub begins : IfSome told (λ bytes.
-      Begins {T = LifeState} (λ life. life.gate.journal.entries) names bytes (Err end))
+      Begins {T = LifeState} (λ life. life.engine.journal.entries) names bytes (Err end))
   pub images : BornOrNot told before after names
 
 -- nothing was done on the wires, the clock was not read, and of the disk this holds

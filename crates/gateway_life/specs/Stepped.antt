@@ -15,8 +15,8 @@ use Rattle.message_answers.specs.Answer.{Answers}
 use Rattle.gateway_config.specs.declared.config.Config.{Config}
 use Rattle.wires.specs.Told.{GrowsBy}
 use Rattle.wires.specs.Wire.{WireCall}
-use Rattle.life_events.specs.Happens.{World, Added, nothing, Happens, Fails}
-use Rattle.life_events.specs.Turn.{HappensOrNot, AllHappen, counts}
+use Rattle.life_laws.specs.Happens.{World, Added, nothing, Happens, Fails}
+use Rattle.life_laws.specs.Turn.{HappensOrNot, AllHappen, counts}
 use Rattle.gateway_life.specs.declared.end.LifeEnd.{LifeEnd}
 use Rattle.gateway_life.specs.declared.end.LifeEnd.TheVariants as ends
 

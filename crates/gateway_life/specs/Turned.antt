@@ -16,10 +16,10 @@ use Rattle.event_decisions.specs.Event.{Event, Frame, Tick}
 use Rattle.message_answers.specs.Answer.{Answers}
 use Rattle.gateway_config.specs.declared.config.Config.{Config}
 use Rattle.wires.specs.Wire.{Came, WireCall, Poll, Opened, Bytes, may_come}
-use Rattle.life_events.specs.Bodies.{body_of}
-use Rattle.life_events.specs.Happens.{World, Added, up_on}
-use Rattle.life_events.specs.Turn.{on_side, both, with_up, up_after, AreNew, events_of, read_after}
-use Rattle.life_events.specs.Turn.{AllHappen}
+use Rattle.life_laws.specs.Bodies.{body_of}
+use Rattle.life_laws.specs.Happens.{World, Added, up_on}
+use Rattle.life_laws.specs.Turn.{on_side, both, with_up, up_after, AreNew, events_of, read_after}
+use Rattle.life_laws.specs.Turn.{AllHappen}
 use Rattle.gateway_life.specs.declared.end.LifeEnd.{LifeEnd}
 use Rattle.gateway_life.specs.Stepped.{Records, Grew, AllStepped, Failed}
 
@@ -59,7 +59,7 @@ pub record TakenAll (old new : Held) (config : Config) (before : World) (side : 
   pub answered : AnsweredAll old new bodies
 
 -- a frame ended the life: behind it there may have been more
-pub record TakenPart (end : LifeEnd) (old : Held) (config : Config) (before : World) (side : Side)
+pub record TakenFront (end : LifeEnd) (old : Held) (config : Config) (before : World) (side : Side)
     (now : ℕ) (r0 r1 : Records) (entries : List Entry) : Type 0 where
   pub first : List (List ℕ)
   pub failed : Failed end config before (map (Frame side) first) now r0 r1 entries
@@ -87,7 +87,7 @@ pub record Arrived (old next : Held) (came : Came) (config : Config) (before : W
       → StandsWhole next (read_after read came)
 
 -- One of its events ended the life.
-pub record ArrivedPart (end : LifeEnd) (old : Held) (came : Came) (config : Config)
+pub record ArrivedFront (end : LifeEnd) (old : Held) (came : Came) (config : Config)
     (before : World) (side : Side) (now : ℕ) (r0 r1 : Records) (entries : List Entry)
     : Type 0 where
   pub first : List (List ℕ)

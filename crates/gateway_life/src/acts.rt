@@ -4,7 +4,7 @@ ghost use Rattle.std.specs.Prelude.{◌≡◌};
 ghost use Rattle.event_decisions.specs.Event.{event_of, side_of};
 ghost use Rattle.event_decisions.specs.Decide.{session_of};
 ghost use Rattle.gateway_core.specs.State.{sessions_in};
-ghost use Rattle.life_events.specs.Happens.{is_sent, standing};
+ghost use Rattle.life_laws.specs.Happens.{is_sent, standing};
 
 use event_decisions::Event;
 use gateway_core::Core;

@@ -5,7 +5,7 @@ ghost use Rattle.gateway_life.specs.Laws.{FirstLivesGoOn, NextLivesGoOn, ReadNam
 
 use event_decisions::laws::bodies_are_read;
 use heard_laws::laws::client_books_follow;
-use life_events::{Answering, laws as lives};
+use life_laws::{Answering, laws as lives};
 use message_answers::laws::answers_are_given_out;
 
 /// What answers the messages of a life: the answer of message_answers.

@@ -7,7 +7,7 @@ ghost use Rattle.outside.specs.Causes.{next_count};
 ghost use Rattle.outside.specs.Disk.{HasOneImage, Only};
 ghost use Rattle.wires.specs.Told.{GrowsBy, Keeps};
 ghost use Rattle.wires.specs.Wire.{Connection, is_within};
-ghost use Rattle.life_events.specs.Justified.{transcript_from};
+ghost use Rattle.life_laws.specs.Justified.{transcript_from};
 ghost use Rattle.pair_entries.specs.declared.entry.Entry.{Entry};
 ghost use Rattle.pair_journal.specs.Calls.{BornOrNot};
 ghost use Rattle.pair_journal.specs.Journal.{JournalOf, Unborn, Born};
@@ -27,7 +27,7 @@ ghost use Rattle.gateway_life.specs.Watched.{Watched, WereCommitted, TapsSaw, en
 ghost use Rattle.gateway_life.specs.Rounds.{IsUnbegun, IsUntouched};
 
 use crate::LifeEnd;
-use crate::gate::Gate;
+use crate::engine::Engine;
 use crate::laws::lives_leave;
 use crate::turn::turn;
 use drop_taps::Tap;
@@ -45,7 +45,7 @@ use wires::{Clock, POLL_LEN, Wire};
 /// One life of the gateway, between its rounds.
 #[derive(Drop)]
 pub struct Life {
-    gate: Gate,
+    engine: Engine,
     client: Framer,
     venue: Framer,
     // What a poll fills.
@@ -57,7 +57,7 @@ impl Model for Life {
 
     ghost Value = { LifeState };
 
-    ghost view = { λ l. record { gate = seen l.gate; client = l.client; venue = l.venue } };
+    ghost view = { λ l. record { engine = seen l.engine; client = l.client; venue = l.venue } };
 }
 
 // The present moment; one that no timestamp has counts as the last that has one.
@@ -82,10 +82,10 @@ impl Life {
     pub fn begin<D: Disk>(alloc: Global, config: &Config, disk: &mut D) -> Result<Life, LifeEnd>
         ensures live { IfOk result (λ life. IsLive life (D.bytes disk.new) None None) }
         ensures begun { IfOk result (λ life.
-            world_of life.gate ≡ begun config.now life.gate.journal.entries) }
-        ensures config { IfOk result (λ life. life.gate.core.config ≡ config.now) }
+            world_of life.engine ≡ begun config.now life.engine.journal.entries) }
+        ensures config { IfOk result (λ life. life.engine.core.config ≡ config.now) }
         ensures begins { IfSome (D.bytes disk.old) (λ b.
-            Begins (λ life. life.gate.journal.entries) config.now.names b result) }
+            Begins (λ life. life.engine.journal.entries) config.now.names b result) }
         ensures durable { OnOk result (HasOneImage (D.bytes disk.old) (D.image disk.old) →
             HasOneImage (D.bytes disk.new) (D.image disk.new)) }
         ensures images { BornOrNot (D.bytes disk.old) (D.image disk.old) (D.image disk.new)
@@ -100,9 +100,9 @@ impl Life {
     {
         let client = Framer::new(alloc, Kind::Fix42)?;
         let venue = Framer::new(alloc, Kind::Fixt11)?;
-        let gate = Gate::new(alloc, config, disk)?;
+        let engine = Engine::new(alloc, config, disk)?;
         Ok(Life {
-            gate,
+            engine,
             client,
             venue,
             buf: [0; POLL_LEN],
@@ -128,18 +128,18 @@ impl Life {
     ) -> Result<(), LifeEnd>
         requires live { IsLive self.old (D.bytes disk.old)
             (C.recorded client.old) (V.recorded venue.old) }
-        ensures config { self.new.gate.core.config ≡ self.old.gate.core.config }
+        ensures config { self.new.engine.core.config ≡ self.old.engine.core.config }
         ensures live { OnOk result (IsLive self.new (D.bytes disk.new)
             (C.recorded client.new) (V.recorded venue.new)) }
         ensures round { OnOk result ((m : ℕ)
             × GrowsBy (K.moments clock.old) (K.moments clock.new) (m ∷ [])
-            × RoundDone self.old.gate.core.config self.old self.new (moment_of m)
+            × RoundDone self.old.engine.core.config self.old self.new (moment_of m)
             (records (C.recorded client.old) (V.recorded venue.old))
             (records (C.recorded client.new) (V.recorded venue.new))) }
         ensures ends { IfErr result (λ end. (m : ℕ)
             × GrowsBy (K.moments clock.old) (K.moments clock.new) (m ∷ [])
             × LeavesOf (D.bytes disk.old) (D.image disk.old) (D.image disk.new)
-            self.old.gate.core.config.names (RoundBroken end self.old.gate.core.config self.old
+            self.old.engine.core.config.names (RoundBroken end self.old.engine.core.config self.old
             (moment_of m) (records (C.recorded client.old) (V.recorded venue.old))
             (records (C.recorded client.new) (V.recorded venue.new)))) }
         ensures client_polls { OnOk result
@@ -151,18 +151,18 @@ impl Life {
         ensures durable { OnOk result (HasOneImage (D.bytes disk.old) (D.image disk.old) →
             HasOneImage (D.bytes disk.new) (D.image disk.new)) }
         ensures taps { Watched (state_by has_failed entries tally counts_all)
-            taps.old.items taps.new.items self.old.gate.journal.entries
-            self.new.gate.journal.entries }
+            taps.old.items taps.new.items self.old.engine.journal.entries
+            self.new.engine.journal.entries }
         ensures kept { IfErr result (λ end. LeavesOf (D.bytes disk.old) (D.image disk.old)
-            (D.image disk.new) self.old.gate.core.config.names
-            (WereCommitted end self.new.gate.journal.entries)) }
+            (D.image disk.new) self.old.engine.core.config.names
+            (WereCommitted end self.new.engine.journal.entries)) }
         ensures only { IfErr result IsOfEvent }
         ensures told { is_some (D.bytes disk.new) ≡ is_some (D.bytes disk.old) }
         ensures cause { HasCauseOf (D.faults disk.old) (D.faults disk.new) result }
     {
         let now = moment(clock);
         turn(
-            &mut self.gate,
+            &mut self.engine,
             disk,
             client,
             venue,
@@ -173,7 +173,7 @@ impl Life {
             now,
         )?;
         turn(
-            &mut self.gate,
+            &mut self.engine,
             disk,
             client,
             venue,
@@ -201,19 +201,19 @@ impl Life {
     ) -> Result<(), LifeEnd>
         requires live { IsLive self.old (D.bytes disk.old)
             (C.recorded client.old) (V.recorded venue.old) }
-        ensures config { self.new.gate.core.config ≡ self.old.gate.core.config }
+        ensures config { self.new.engine.core.config ≡ self.old.engine.core.config }
         ensures live { OnOk result (IsLive self.new (D.bytes disk.new)
             (C.recorded client.new) (V.recorded venue.new)) }
         ensures finish { OnOk result ((m : ℕ)
             × GrowsBy (K.moments clock.old) (K.moments clock.new) (m ∷ [])
-            × AllStepped self.old.gate.core.config (world_of self.old.gate) ends_of (moment_of m)
-            (world_of self.new.gate) (records (C.recorded client.old) (V.recorded venue.old))
+            × AllStepped self.old.engine.core.config (world_of self.old.engine) ends_of (moment_of m)
+            (world_of self.new.engine) (records (C.recorded client.old) (V.recorded venue.old))
             (records (C.recorded client.new) (V.recorded venue.new))) }
         ensures ends { IfErr result (λ end. (m : ℕ)
             × GrowsBy (K.moments clock.old) (K.moments clock.new) (m ∷ [])
             × LeavesOf (D.bytes disk.old) (D.image disk.old) (D.image disk.new)
-            self.old.gate.core.config.names (Failed end self.old.gate.core.config
-            (world_of self.old.gate) ends_of (moment_of m)
+            self.old.engine.core.config.names (Failed end self.old.engine.core.config
+            (world_of self.old.engine) ends_of (moment_of m)
             (records (C.recorded client.old) (V.recorded venue.old))
             (records (C.recorded client.new) (V.recorded venue.new)))) }
         ensures client_polls { C.polls client.new ≡ C.polls client.old }
@@ -224,19 +224,19 @@ impl Life {
         ensures durable { OnOk result (HasOneImage (D.bytes disk.old) (D.image disk.old) →
             HasOneImage (D.bytes disk.new) (D.image disk.new)) }
         ensures taps { Watched (state_by has_failed entries tally counts_all)
-            taps.old.items taps.new.items self.old.gate.journal.entries
-            self.new.gate.journal.entries }
+            taps.old.items taps.new.items self.old.engine.journal.entries
+            self.new.engine.journal.entries }
         ensures kept { IfErr result (λ end. LeavesOf (D.bytes disk.old) (D.image disk.old)
-            (D.image disk.new) self.old.gate.core.config.names
-            (WereCommitted end self.new.gate.journal.entries)) }
+            (D.image disk.new) self.old.engine.core.config.names
+            (WereCommitted end self.new.engine.journal.entries)) }
         ensures only { IfErr result IsOfEvent }
         ensures told { is_some (D.bytes disk.new) ≡ is_some (D.bytes disk.old) }
         ensures cause { HasCauseOf (D.faults disk.old) (D.faults disk.new) result }
     {
         let now = moment(clock);
-        self.gate
+        self.engine
             .event(disk, client, venue, taps, &Event::End(Side::Client), now)?;
-        self.gate
+        self.engine
             .event(disk, client, venue, taps, &Event::End(Side::Venue), now)
     }
 
@@ -252,19 +252,19 @@ impl Life {
     ) -> Result<(), LifeEnd>
         requires live { IsLive self.old (D.bytes disk.old)
             (C.recorded client.old) (V.recorded venue.old) }
-        ensures config { self.new.gate.core.config ≡ self.old.gate.core.config }
+        ensures config { self.new.engine.core.config ≡ self.old.engine.core.config }
         ensures live { OnOk result (IsLive self.new (D.bytes disk.new)
             (C.recorded client.new) (V.recorded venue.new)) }
         ensures done { OnOk result ((given : List ℕ) × (length given ≡ rounds)
             × GrowsBy (K.moments clock.old) (K.moments clock.new) given
-            × RoundsDone self.old.gate.core.config self.old self.new given
+            × RoundsDone self.old.engine.core.config self.old self.new given
             (records (C.recorded client.old) (V.recorded venue.old))
             (records (C.recorded client.new) (V.recorded venue.new))) }
         ensures ends { IfErr result (λ end. (given : List ℕ) × (last : ℕ)
             × (length given ≤ rounds)
             × GrowsBy (K.moments clock.old) (K.moments clock.new) (given ++ last ∷ [])
             × LeavesOf (D.bytes disk.old) (D.image disk.old) (D.image disk.new)
-            self.old.gate.core.config.names (LifeBroken end self.old.gate.core.config self.old
+            self.old.engine.core.config.names (LifeBroken end self.old.engine.core.config self.old
             given last (records (C.recorded client.old) (V.recorded venue.old))
             (records (C.recorded client.new) (V.recorded venue.new)))) }
         ensures client_polls { OnOk result
@@ -277,11 +277,11 @@ impl Life {
         ensures durable { OnOk result (HasOneImage (D.bytes disk.old) (D.image disk.old) →
             HasOneImage (D.bytes disk.new) (D.image disk.new)) }
         ensures taps { Watched (state_by has_failed entries tally counts_all)
-            taps.old.items taps.new.items self.old.gate.journal.entries
-            self.new.gate.journal.entries }
+            taps.old.items taps.new.items self.old.engine.journal.entries
+            self.new.engine.journal.entries }
         ensures kept { IfErr result (λ end. LeavesOf (D.bytes disk.old) (D.image disk.old)
-            (D.image disk.new) self.old.gate.core.config.names
-            (WereCommitted end self.new.gate.journal.entries)) }
+            (D.image disk.new) self.old.engine.core.config.names
+            (WereCommitted end self.new.engine.journal.entries)) }
         ensures only { IfErr result IsOfEvent }
         ensures told { is_some (D.bytes disk.new) ≡ is_some (D.bytes disk.old) }
         ensures cause { HasCauseOf (D.faults disk.old) (D.faults disk.new) result }
@@ -307,18 +307,18 @@ impl Life {
         requires live { IsLive self.old (D.bytes disk.old)
             (C.recorded client.old) (V.recorded venue.old) }
         ensures stands { OnOk result (ForSome (D.bytes disk.new) (λ b. JournalOf b
-            (Born self.old.gate.core.config.names self.new.gate.journal.entries))) }
+            (Born self.old.engine.core.config.names self.new.engine.journal.entries))) }
         ensures done { OnOk result ((given : List ℕ) × (last : ℕ) × (length given ≡ rounds)
             × GrowsBy (K.moments clock.old) (K.moments clock.new) (given ++ last ∷ [])
-            × LifeDone self.old.gate.core.config self.old given last
+            × LifeDone self.old.engine.core.config self.old given last
             (records (C.recorded client.old) (V.recorded venue.old))
             (records (C.recorded client.new) (V.recorded venue.new))
-            self.new.gate.journal.entries) }
+            self.new.engine.journal.entries) }
         ensures ends { IfErr result (λ end. (given : List ℕ) × (last : ℕ)
             × (length given ≤ rounds)
             × GrowsBy (K.moments clock.old) (K.moments clock.new) (given ++ last ∷ [])
             × LeavesOf (D.bytes disk.old) (D.image disk.old) (D.image disk.new)
-            self.old.gate.core.config.names (LifeBroken end self.old.gate.core.config self.old
+            self.old.engine.core.config.names (LifeBroken end self.old.engine.core.config self.old
             given last (records (C.recorded client.old) (V.recorded venue.old))
             (records (C.recorded client.new) (V.recorded venue.new)))) }
         ensures client_polls { OnOk result
@@ -331,11 +331,11 @@ impl Life {
         ensures durable { OnOk result (HasOneImage (D.bytes disk.old) (D.image disk.old) →
             HasOneImage (D.bytes disk.new) (D.image disk.new)) }
         ensures taps { Watched (state_by has_failed entries tally counts_all)
-            taps.old.items taps.new.items self.old.gate.journal.entries
-            self.new.gate.journal.entries }
+            taps.old.items taps.new.items self.old.engine.journal.entries
+            self.new.engine.journal.entries }
         ensures kept { IfErr result (λ end. LeavesOf (D.bytes disk.old) (D.image disk.old)
-            (D.image disk.new) self.old.gate.core.config.names
-            (WereCommitted end self.new.gate.journal.entries)) }
+            (D.image disk.new) self.old.engine.core.config.names
+            (WereCommitted end self.new.engine.journal.entries)) }
         ensures only { IfErr result IsOfEvent }
         ensures told { is_some (D.bytes disk.new) ≡ is_some (D.bytes disk.old) }
         ensures cause { HasCauseOf (D.faults disk.old) (D.faults disk.new) result }

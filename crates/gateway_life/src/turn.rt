@@ -13,20 +13,20 @@ ghost use Rattle.event_decisions.specs.Event.{Frame};
 ghost use Rattle.wires.specs.Told.{Keeps};
 ghost use Rattle.wires.specs.declared.wire.TheConstants.{POLL_LEN};
 ghost use Rattle.wires.specs.Wire.{Poll, Fits, came_of, may_come};
-ghost use Rattle.life_events.specs.Happens.{up_on};
-ghost use Rattle.life_events.specs.Turn.{on_side, with_up, up_after};
+ghost use Rattle.life_laws.specs.Happens.{up_on};
+ghost use Rattle.life_laws.specs.Turn.{on_side, with_up, up_after};
 ghost use Rattle.wire_sends.specs.Sent.{Agrees};
 ghost use Rattle.gateway_life.specs.Ready.{Ready, world_of, LeavesOf};
 ghost use Rattle.gateway_life.specs.State.{seen};
 ghost use Rattle.gateway_life.specs.Stepped.{SteppedOrNot, BrokenIf, HasCauseOf, Grew, records};
-ghost use Rattle.gateway_life.specs.Turned.{IsDrained, TakenAll, TakenPart, Arrived, ArrivedPart};
+ghost use Rattle.gateway_life.specs.Turned.{IsDrained, TakenAll, TakenFront, Arrived, ArrivedFront};
 ghost use Rattle.gateway_life.specs.Turned.{Turned, TurnBroken, record_on, polls_after};
 ghost use Rattle.gateway_life.specs.Stepped.{IsOfEvent};
 ghost use Rattle.drop_taps.specs.Shown.{state_by};
 ghost use Rattle.gateway_life.specs.Watched.{Watched, WereCommitted};
 
 use crate::LifeEnd;
-use crate::gate::Gate;
+use crate::engine::Engine;
 use drop_taps::Tap;
 use event_decisions::Event;
 use frame_grammar::{Framer, Next};
@@ -36,18 +36,18 @@ use pair_entries::MAX_AT;
 use wires::{Arrival, Wire};
 
 // Whether a connection stands on a side.
-fn is_up(gate: &Gate, side: Side) -> bool
-    ensures { result ≡ up_on side (world_of (seen gate.now)) }
+fn is_up(engine: &Engine, side: Side) -> bool
+    ensures { result ≡ up_on side (world_of (seen engine.now)) }
 {
     match side {
-        Side::Client => gate.client_up,
-        Side::Venue => gate.venue_up,
+        Side::Client => engine.client_up,
+        Side::Venue => engine.venue_up,
     }
 }
 
 // Deals with a frame, while its connection stands.
 fn frame_event<D: Disk, C: Wire, V: Wire>(
-    gate: &mut Gate,
+    engine: &mut Engine,
     disk: &mut D,
     client: &mut C,
     venue: &mut V,
@@ -56,30 +56,30 @@ fn frame_event<D: Disk, C: Wire, V: Wire>(
     body: &[u8],
     now: u64,
 ) -> Result<(), LifeEnd>
-    requires ready { Ready (seen gate.old) (D.bytes disk.old)
+    requires ready { Ready (seen engine.old) (D.bytes disk.old)
         (C.recorded client.old) (V.recorded venue.old) }
     requires moment { now ≤ MAX_AT }
     requires body { IsBody body.now }
-    ensures config { gate.new.core.config ≡ gate.old.core.config }
-    ensures ready { OnOk result (Ready (seen gate.new) (D.bytes disk.new)
+    ensures config { engine.new.core.config ≡ engine.old.core.config }
+    ensures ready { OnOk result (Ready (seen engine.new) (D.bytes disk.new)
         (C.recorded client.new) (V.recorded venue.new)) }
-    ensures happens { OnOk result (SteppedOrNot gate.old.core.config (world_of (seen gate.old))
-        (Frame side body.now) now (world_of (seen gate.new))
+    ensures happens { OnOk result (SteppedOrNot engine.old.core.config (world_of (seen engine.old))
+        (Frame side body.now) now (world_of (seen engine.new))
         (records (C.recorded client.old) (V.recorded venue.old))
         (records (C.recorded client.new) (V.recorded venue.new))) }
     ensures durable { OnOk result (HasOneImage (D.bytes disk.old) (D.image disk.old) →
         HasOneImage (D.bytes disk.new) (D.image disk.new)) }
     ensures ends { IfErr result (λ end. LeavesOf (D.bytes disk.old) (D.image disk.old)
-        (D.image disk.new) gate.old.core.config.names (BrokenIf end gate.old.core.config
-        (world_of (seen gate.old)) (Frame side body.now) now
+        (D.image disk.new) engine.old.core.config.names (BrokenIf end engine.old.core.config
+        (world_of (seen engine.old)) (Frame side body.now) now
         (records (C.recorded client.old) (V.recorded venue.old))
         (records (C.recorded client.new) (V.recorded venue.new)))) }
     ensures taps { Watched (state_by has_failed entries tally counts_all)
-        taps.old.items taps.new.items gate.old.journal.entries
-        gate.new.journal.entries }
+        taps.old.items taps.new.items engine.old.journal.entries
+        engine.new.journal.entries }
     ensures kept { IfErr result (λ end. LeavesOf (D.bytes disk.old) (D.image disk.old)
-        (D.image disk.new) gate.old.core.config.names
-        (WereCommitted end gate.new.journal.entries)) }
+        (D.image disk.new) engine.old.core.config.names
+        (WereCommitted end engine.new.journal.entries)) }
     ensures only { IfErr result IsOfEvent }
     ensures told { is_some (D.bytes disk.new) ≡ is_some (D.bytes disk.old) }
     ensures cause { HasCauseOf (D.faults disk.old) (D.faults disk.new) result }
@@ -88,15 +88,15 @@ fn frame_event<D: Disk, C: Wire, V: Wire>(
     ensures client_plays { Keeps (C.plays client.old) (C.plays client.new) }
     ensures venue_plays { Keeps (V.plays venue.old) (V.plays venue.new) }
 {
-    if !is_up(gate, side) {
+    if !is_up(engine, side) {
         return Ok(());
     }
-    gate.event(disk, client, venue, taps, &Event::Frame(side, body), now)
+    engine.event(disk, client, venue, taps, &Event::Frame(side, body), now)
 }
 
 // Deals with each whole frame that came, in order.
 fn take_frames<D: Disk, C: Wire, V: Wire>(
-    gate: &mut Gate,
+    engine: &mut Engine,
     disk: &mut D,
     client: &mut C,
     venue: &mut V,
@@ -105,35 +105,35 @@ fn take_frames<D: Disk, C: Wire, V: Wire>(
     side: Side,
     now: u64,
 ) -> Result<(), LifeEnd>
-    requires ready { Ready (seen gate.old) (D.bytes disk.old)
+    requires ready { Ready (seen engine.old) (D.bytes disk.old)
         (C.recorded client.old) (V.recorded venue.old) }
     requires moment { now ≤ MAX_AT }
     requires stands { (stream : List ℕ) × (answered : List Piece)
         × StandsFor framer.old stream answered }
-    ensures config { gate.new.core.config ≡ gate.old.core.config }
-    ensures ready { OnOk result (Ready (seen gate.new) (D.bytes disk.new)
+    ensures config { engine.new.core.config ≡ engine.old.core.config }
+    ensures ready { OnOk result (Ready (seen engine.new) (D.bytes disk.new)
         (C.recorded client.new) (V.recorded venue.new)) }
     ensures kind { framer.new.kind ≡ framer.old.kind }
     ensures stands { OnOk result ((stream : List ℕ) × (answered : List Piece)
         × StandsFor framer.new stream answered) }
     ensures room { OnOk result (LEAST_ROOM ≤ room framer.new) }
-    ensures taken { OnOk result (TakenAll framer.old framer.new gate.old.core.config
-        (world_of (seen gate.old)) side now (world_of (seen gate.new))
+    ensures taken { OnOk result (TakenAll framer.old framer.new engine.old.core.config
+        (world_of (seen engine.old)) side now (world_of (seen engine.new))
         (records (C.recorded client.old) (V.recorded venue.old))
         (records (C.recorded client.new) (V.recorded venue.new))) }
     ensures durable { OnOk result (HasOneImage (D.bytes disk.old) (D.image disk.old) →
         HasOneImage (D.bytes disk.new) (D.image disk.new)) }
     ensures ends { IfErr result (λ end. LeavesOf (D.bytes disk.old) (D.image disk.old)
-        (D.image disk.new) gate.old.core.config.names (TakenPart end framer.old
-        gate.old.core.config (world_of (seen gate.old)) side now
+        (D.image disk.new) engine.old.core.config.names (TakenFront end framer.old
+        engine.old.core.config (world_of (seen engine.old)) side now
         (records (C.recorded client.old) (V.recorded venue.old))
         (records (C.recorded client.new) (V.recorded venue.new)))) }
     ensures taps { Watched (state_by has_failed entries tally counts_all)
-        taps.old.items taps.new.items gate.old.journal.entries
-        gate.new.journal.entries }
+        taps.old.items taps.new.items engine.old.journal.entries
+        engine.new.journal.entries }
     ensures kept { IfErr result (λ end. LeavesOf (D.bytes disk.old) (D.image disk.old)
-        (D.image disk.new) gate.old.core.config.names
-        (WereCommitted end gate.new.journal.entries)) }
+        (D.image disk.new) engine.old.core.config.names
+        (WereCommitted end engine.new.journal.entries)) }
     ensures only { IfErr result IsOfEvent }
     ensures told { is_some (D.bytes disk.new) ≡ is_some (D.bytes disk.old) }
     ensures cause { HasCauseOf (D.faults disk.old) (D.faults disk.new) result }
@@ -147,7 +147,7 @@ fn take_frames<D: Disk, C: Wire, V: Wire>(
             Next::More => return Ok(()),
             Next::Garbled { .. } => {}
             Next::Frame { body, .. } => frame_event(
-                gate,
+                engine,
                 disk,
                 client,
                 venue,
@@ -160,9 +160,9 @@ fn take_frames<D: Disk, C: Wire, V: Wire>(
     }
 }
 
-// Deals with what a poll of a side found. The gate knows already whether the connection stands.
+// Deals with what a poll of a side found. The engine knows already whether the connection stands.
 fn arrived<D: Disk, C: Wire, V: Wire>(
-    gate: &mut Gate,
+    engine: &mut Engine,
     disk: &mut D,
     client: &mut C,
     venue: &mut V,
@@ -173,33 +173,33 @@ fn arrived<D: Disk, C: Wire, V: Wire>(
     buf: &[u8],
     now: u64,
 ) -> Result<(), LifeEnd>
-    requires ready { Ready (seen gate.old) (D.bytes disk.old)
+    requires ready { Ready (seen engine.old) (D.bytes disk.old)
         (C.recorded client.old) (V.recorded venue.old) }
     requires moment { now ≤ MAX_AT }
     requires fits { IfOk found (λ arrived. Fits arrived buf.now) }
     requires short { length buf.now ≤ LEAST_ROOM }
     requires drained { IsDrained side framer.old }
-    ensures config { gate.new.core.config ≡ gate.old.core.config }
-    ensures ready { OnOk result (Ready (seen gate.new) (D.bytes disk.new)
+    ensures config { engine.new.core.config ≡ engine.old.core.config }
+    ensures ready { OnOk result (Ready (seen engine.new) (D.bytes disk.new)
         (C.recorded client.new) (V.recorded venue.new)) }
     ensures drained { OnOk result (IsDrained side framer.new) }
     ensures arrived { OnOk result (Arrived framer.old framer.new (came_of found buf.now)
-        gate.old.core.config (world_of (seen gate.old)) side now (world_of (seen gate.new))
+        engine.old.core.config (world_of (seen engine.old)) side now (world_of (seen engine.new))
         (records (C.recorded client.old) (V.recorded venue.old))
         (records (C.recorded client.new) (V.recorded venue.new))) }
     ensures durable { OnOk result (HasOneImage (D.bytes disk.old) (D.image disk.old) →
         HasOneImage (D.bytes disk.new) (D.image disk.new)) }
     ensures ends { IfErr result (λ end. LeavesOf (D.bytes disk.old) (D.image disk.old)
-        (D.image disk.new) gate.old.core.config.names (ArrivedPart end framer.old
-        (came_of found buf.now) gate.old.core.config (world_of (seen gate.old)) side now
+        (D.image disk.new) engine.old.core.config.names (ArrivedFront end framer.old
+        (came_of found buf.now) engine.old.core.config (world_of (seen engine.old)) side now
         (records (C.recorded client.old) (V.recorded venue.old))
         (records (C.recorded client.new) (V.recorded venue.new)))) }
     ensures taps { Watched (state_by has_failed entries tally counts_all)
-        taps.old.items taps.new.items gate.old.journal.entries
-        gate.new.journal.entries }
+        taps.old.items taps.new.items engine.old.journal.entries
+        engine.new.journal.entries }
     ensures kept { IfErr result (λ end. LeavesOf (D.bytes disk.old) (D.image disk.old)
-        (D.image disk.new) gate.old.core.config.names
-        (WereCommitted end gate.new.journal.entries)) }
+        (D.image disk.new) engine.old.core.config.names
+        (WereCommitted end engine.new.journal.entries)) }
     ensures only { IfErr result IsOfEvent }
     ensures told { is_some (D.bytes disk.new) ≡ is_some (D.bytes disk.old) }
     ensures cause { HasCauseOf (D.faults disk.old) (D.faults disk.new) result }
@@ -210,19 +210,19 @@ fn arrived<D: Disk, C: Wire, V: Wire>(
 {
     let arrival = match found {
         Ok(arrival) => arrival,
-        Err(_) => return gate.event(disk, client, venue, taps, &Event::Closed(side), now),
+        Err(_) => return engine.event(disk, client, venue, taps, &Event::Closed(side), now),
     };
     match arrival {
         Arrival::Nothing => Ok(()),
         Arrival::Opened => {
             framer.restart();
-            gate.event(disk, client, venue, taps, &Event::Opened(side), now)
+            engine.event(disk, client, venue, taps, &Event::Opened(side), now)
         }
         Arrival::Bytes(count) => {
             framer.feed(&buf[..count]);
-            take_frames(gate, disk, client, venue, taps, framer, side, now)
+            take_frames(engine, disk, client, venue, taps, framer, side, now)
         }
-        Arrival::Closed => gate.event(disk, client, venue, taps, &Event::Closed(side), now),
+        Arrival::Closed => engine.event(disk, client, venue, taps, &Event::Closed(side), now),
     }
 }
 
@@ -242,28 +242,28 @@ fn up_after(up: bool, found: Result<Arrival, Failed>) -> bool
 
 // Looks for what is new from a side.
 fn poll<C: Wire, V: Wire>(
-    gate: &mut Gate,
+    engine: &mut Engine,
     client: &mut C,
     venue: &mut V,
     side: Side,
     buf: &mut [u8],
 ) -> Result<Arrival, Failed>
     requires room { length buf.old ≡ POLL_LEN }
-    requires client_agrees { Agrees (C.recorded client.old) gate.old.client_up }
-    requires venue_agrees { Agrees (V.recorded venue.old) gate.old.venue_up }
+    requires client_agrees { Agrees (C.recorded client.old) engine.old.client_up }
+    requires venue_agrees { Agrees (V.recorded venue.old) engine.old.venue_up }
     ensures fits { IfOk result (λ arrival. Fits arrival buf.new) }
-    ensures same { (gate.new.journal ≡ gate.old.journal) × (gate.new.core ≡ gate.old.core) }
-    ensures world { world_of (seen gate.new) ≡ with_up side
-        (up_after (up_on side (world_of (seen gate.old))) (came_of result buf.new))
-        (world_of (seen gate.old)) }
+    ensures same { (engine.new.journal ≡ engine.old.journal) × (engine.new.core ≡ engine.old.core) }
+    ensures world { world_of (seen engine.new) ≡ with_up side
+        (up_after (up_on side (world_of (seen engine.old))) (came_of result buf.new))
+        (world_of (seen engine.old)) }
     ensures grew { Grew (records (C.recorded client.old) (V.recorded venue.old))
         (records (C.recorded client.new) (V.recorded venue.new))
         (on_side side (Poll (came_of result buf.new) ∷ [])) }
     ensures may { is_some (record_on side (records (C.recorded client.old)
         (V.recorded venue.old))) ≡ true →
-        may_come (up_on side (world_of (seen gate.old))) (came_of result buf.new) ≡ true }
-    ensures client_agrees { Agrees (C.recorded client.new) gate.new.client_up }
-    ensures venue_agrees { Agrees (V.recorded venue.new) gate.new.venue_up }
+        may_come (up_on side (world_of (seen engine.old))) (came_of result buf.new) ≡ true }
+    ensures client_agrees { Agrees (C.recorded client.new) engine.new.client_up }
+    ensures venue_agrees { Agrees (V.recorded venue.new) engine.new.venue_up }
     ensures client_polls { C.polls client.new
         ≡ polls_after Side.Client side (C.polls client.old) }
     ensures venue_polls { V.polls venue.new ≡ polls_after Side.Venue side (V.polls venue.old) }
@@ -273,12 +273,12 @@ fn poll<C: Wire, V: Wire>(
     match side {
         Side::Client => {
             let found = client.poll(buf);
-            gate.client_up = up_after(gate.client_up, found);
+            engine.client_up = up_after(engine.client_up, found);
             found
         }
         Side::Venue => {
             let found = venue.poll(buf);
-            gate.venue_up = up_after(gate.venue_up, found);
+            engine.venue_up = up_after(engine.venue_up, found);
             found
         }
     }
@@ -286,7 +286,7 @@ fn poll<C: Wire, V: Wire>(
 
 /// A side's turn. Its poll fills `buf`.
 pub(crate) fn turn<D: Disk, C: Wire, V: Wire>(
-    gate: &mut Gate,
+    engine: &mut Engine,
     disk: &mut D,
     client: &mut C,
     venue: &mut V,
@@ -296,32 +296,32 @@ pub(crate) fn turn<D: Disk, C: Wire, V: Wire>(
     buf: &mut [u8],
     now: u64,
 ) -> Result<(), LifeEnd>
-    requires ready { Ready (seen gate.old) (D.bytes disk.old)
+    requires ready { Ready (seen engine.old) (D.bytes disk.old)
         (C.recorded client.old) (V.recorded venue.old) }
     requires moment { now ≤ MAX_AT }
     requires drained { IsDrained side framer.old }
     requires room { length buf.old ≡ POLL_LEN }
-    ensures config { gate.new.core.config ≡ gate.old.core.config }
-    ensures ready { OnOk result (Ready (seen gate.new) (D.bytes disk.new)
+    ensures config { engine.new.core.config ≡ engine.old.core.config }
+    ensures ready { OnOk result (Ready (seen engine.new) (D.bytes disk.new)
         (C.recorded client.new) (V.recorded venue.new)) }
     ensures drained { OnOk result (IsDrained side framer.new) }
-    ensures turn { OnOk result (Turned side framer.old framer.new gate.old.core.config
-        (world_of (seen gate.old)) now (world_of (seen gate.new))
+    ensures turn { OnOk result (Turned side framer.old framer.new engine.old.core.config
+        (world_of (seen engine.old)) now (world_of (seen engine.new))
         (records (C.recorded client.old) (V.recorded venue.old))
         (records (C.recorded client.new) (V.recorded venue.new))) }
     ensures durable { OnOk result (HasOneImage (D.bytes disk.old) (D.image disk.old) →
         HasOneImage (D.bytes disk.new) (D.image disk.new)) }
     ensures ends { IfErr result (λ end. LeavesOf (D.bytes disk.old) (D.image disk.old)
-        (D.image disk.new) gate.old.core.config.names (TurnBroken end side
-        framer.old gate.old.core.config (world_of (seen gate.old)) now
+        (D.image disk.new) engine.old.core.config.names (TurnBroken end side
+        framer.old engine.old.core.config (world_of (seen engine.old)) now
         (records (C.recorded client.old) (V.recorded venue.old))
         (records (C.recorded client.new) (V.recorded venue.new)))) }
     ensures taps { Watched (state_by has_failed entries tally counts_all)
-        taps.old.items taps.new.items gate.old.journal.entries
-        gate.new.journal.entries }
+        taps.old.items taps.new.items engine.old.journal.entries
+        engine.new.journal.entries }
     ensures kept { IfErr result (λ end. LeavesOf (D.bytes disk.old) (D.image disk.old)
-        (D.image disk.new) gate.old.core.config.names
-        (WereCommitted end gate.new.journal.entries)) }
+        (D.image disk.new) engine.old.core.config.names
+        (WereCommitted end engine.new.journal.entries)) }
     ensures only { IfErr result IsOfEvent }
     ensures told { is_some (D.bytes disk.new) ≡ is_some (D.bytes disk.old) }
     ensures cause { HasCauseOf (D.faults disk.old) (D.faults disk.new) result }
@@ -331,9 +331,9 @@ pub(crate) fn turn<D: Disk, C: Wire, V: Wire>(
     ensures client_plays { Keeps (C.plays client.old) (C.plays client.new) }
     ensures venue_plays { Keeps (V.plays venue.old) (V.plays venue.new) }
 {
-    let found = poll(gate, client, venue, side, &mut *buf);
+    let found = poll(engine, client, venue, side, &mut *buf);
     arrived(
-        gate, disk, client, venue, taps, framer, side, found, buf, now,
+        engine, disk, client, venue, taps, framer, side, found, buf, now,
     )?;
-    gate.tick(disk, client, venue, taps, side, now)
+    engine.tick(disk, client, venue, taps, side, now)
 }

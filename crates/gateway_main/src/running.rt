@@ -77,7 +77,7 @@ fn run_between<
     edge.client = client;
     edge.venue = venue;
     edge.clock = clock;
-    edge.part();
+    edge.wait_for_peers();
     if shared.is_ending() {
         if let Err(error) = stop.remove(&rt) {
             tell(lines, error);

@@ -9,7 +9,7 @@ use Rattle.pair_entries.specs.declared.entry.Entry.{Entry}
 use Rattle.event_decisions.specs.Decide.{IsLawful}
 use Rattle.message_answers.specs.Answer.{Answers}
 use Rattle.wires.specs.Wire.{Connection}
-use Rattle.life_events.specs.Justified.{IsJustified, transcript_from}
+use Rattle.life_laws.specs.Justified.{IsJustified, transcript_from}
 use Rattle.gateway_life.specs.Life.{Done, IsJournal}
 use Rattle.gateway_life.specs.Laws.{AreShown, GoesOnFrom, LeavesImage}
 

@@ -9,7 +9,7 @@ use Rattle.pair_entries.specs.declared.entry.Entry.{Entry}
 use Rattle.event_decisions.specs.Decide.{IsLawful}
 use Rattle.message_answers.specs.Answer.{Answers}
 use Rattle.wires.specs.Wire.{WireCall, Connection}
-use Rattle.life_events.specs.Justified.{IsJustified, transcript_from}
+use Rattle.life_laws.specs.Justified.{IsJustified, transcript_from}
 use Rattle.whole_input.specs.declared.reading.TheConstants.{MAX_INPUT}
 use Rattle.whole_input.specs.declared.reading.InputError.{InputError}
 use Rattle.whole_input.specs.declared.reading.InputError.TheVariants as inputs

@@ -22,15 +22,15 @@ use Rattle.reports_fix50.specs.Step.{step50}
 use Rattle.event_decisions.specs.Decide.{LawfulAfter}
 use Rattle.message_answers.specs.Answer.{Answers}
 use Rattle.message_answers.specs.Laws.{AnswersAreGivenOut, AreNumbered, IsNumbered}
-use Rattle.life_events.specs.Forms.{Placed, placed_at, all_placed}
-use Rattle.life_events.specs.Receiver.{message_of_out}
-use Rattle.life_events.specs.Standing.{NumberedFrom}
+use Rattle.life_laws.specs.Forms.{Placed, placed_at, all_placed}
+use Rattle.life_laws.specs.Receiver.{message_of_out}
+use Rattle.life_laws.specs.Standing.{NumberedFrom}
 use Rattle.heard_laws.specs.Heard.{book_after}
 use Rattle.heard_laws.specs.Laws.{AnswersAreHeard}
 use Rattle.heard_laws.specs.Books.{book_with, report_in}
 use Rattle.heard_laws.specs.Laws.{BooksFollow}
 use Rattle.heard_laws.proofs.Quiet.{after_one, after_out}
-use Rattle.heard_laws.proofs.Told.{entry_follows}
+use Rattle.heard_laws.proofs.EntryFollows.{entry_follows}
 
 -- ---- the outs of a side are numbered from 1 on
 

@@ -11,5 +11,5 @@ mod Reports
 mod Texts
 mod Session
 mod Quiet
-mod Told
+mod EntryFollows
 mod Followed

@@ -8,7 +8,7 @@ use Rattle.order_meaning.specs.declared.Side.{Side}
 use Rattle.order_meaning.specs.declared.Side.TheVariants.{Client, Venue}
 use Rattle.order_meaning.specs.declared.fault.Fault.{Fault}
 use Rattle.row_values.specs.Kinds.{resend_of}
-use Rattle.sound_messages.specs.Sound.{without_resend}
+use Rattle.sound_laws.specs.Sound.{without_resend}
 use Rattle.message_answers.specs.Answer.{other}
 use Rattle.message_answers.specs.Laws as answers
 use Rattle.message_answers.specs.Message.{is_refusal}

@@ -21,7 +21,7 @@ use Rattle.pair_entries.specs.declared.entry.Out.{Out}
 use Rattle.pair_journal.specs.Numbers.{is_side}
 use Rattle.reports_fix42.specs.Step.{step42}
 use Rattle.event_decisions.specs.Decide.{Heard, says_of}
-use Rattle.life_events.specs.Receiver.{message_of_out}
+use Rattle.life_laws.specs.Receiver.{message_of_out}
 use Rattle.heard_laws.specs.Heard.{message_to, with_resend, book_after, is_among, report_types}
 use Rattle.heard_laws.specs.Heard.{is_reject, sort_of, refusal_sort, request_types}
 use Rattle.heard_laws.specs.Heard.{Request, Report, Plain}

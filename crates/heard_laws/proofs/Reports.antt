@@ -9,7 +9,7 @@ use Rattle.exec_translate.specs.Laws.{BooksChangeAlike, WrittenReportsAreReadAga
 use Rattle.reports_fix42.specs.Said.{cancel_reject_says, report_says}
 use Rattle.reports_fix50.specs.Message as reports50
 use Rattle.reports_fix50.specs.Sense.{report50}
-use Rattle.sound_messages.proofs.PlainFields.{clear_fields}
+use Rattle.sound_laws.proofs.PlainFields.{clear_fields}
 use Rattle.event_decisions.specs.Body.{first_value, reading_of}
 use Rattle.event_decisions.proofs.Bodies.{bodies_are_read}
 use Rattle.message_answers.specs.Message.{message_of}

@@ -16,13 +16,13 @@ use Rattle.dict_fix42.specs.Sense.{request42, request_of as asked_in}
 use Rattle.dict_fix50.specs.Message.{message50}
 use Rattle.dict_fix50.specs.Requests.{new_order, cancel_request, replace_request, status_request}
 use Rattle.dict_fix50.specs.Sense.{request50, request_of}
-use Rattle.sound_messages.specs.Sound.{without_resend}
-use Rattle.sound_messages.proofs.Completed.{completed_again}
-use Rattle.sound_messages.proofs.ContentAgain.{read_again}
-use Rattle.sound_messages.proofs.Lookups.{places_apart}
-use Rattle.sound_messages.proofs.Stages.{item_tags}
-use Rattle.sound_messages.proofs.TableFits as fits
-use Rattle.sound_messages.proofs.TableFits.{table_fits}
+use Rattle.sound_laws.specs.Sound.{without_resend}
+use Rattle.sound_laws.proofs.Completed.{completed_again}
+use Rattle.sound_laws.proofs.ContentAgain.{read_again}
+use Rattle.sound_laws.proofs.Lookups.{places_apart}
+use Rattle.sound_laws.proofs.Stages.{item_tags}
+use Rattle.sound_laws.proofs.TableFits as fits
+use Rattle.sound_laws.proofs.TableFits.{table_fits}
 use Rattle.request_translate.specs.Canonical.{IsCanonical}
 use Rattle.request_translate.specs.Translation.{IsRequest, News, Cancels, Replaces, Statuses}
 use Rattle.message_answers.specs.Chains.{joining}

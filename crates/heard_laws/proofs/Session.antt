@@ -21,12 +21,12 @@ use Rattle.session_logon.specs.Head.{sequence_reset_kind, test_request_kind}
 use Rattle.session_logon.specs.Logon.{is_yes, logon_of}
 use Rattle.session_logon.specs.Reasons.{read_between, read_zero_or_from, required, text_fault}
 use Rattle.pair_journal.specs.Numbers.{Taking, Counts, Fills, Resets}
-use Rattle.sound_messages.proofs.Each.{both}
+use Rattle.sound_laws.proofs.Each.{both}
 use Rattle.event_decisions.specs.Body.{fields_of, type_of}
 use Rattle.event_decisions.specs.Laws.{taking_by, taking_of}
-use Rattle.life_events.specs.Receiver.{is_administrative, message_by, read_as, read_body}
-use Rattle.life_events.specs.Receiver.{read_reset}
-use Rattle.life_events.specs.Taken.{Read, GapFill, Reset, Other}
+use Rattle.life_laws.specs.Receiver.{is_administrative, message_by, read_as, read_body}
+use Rattle.life_laws.specs.Receiver.{read_reset}
+use Rattle.life_laws.specs.Taken.{Read, GapFill, Reset, Other}
 use Rattle.heard_laws.specs.Heard.{Sort, Plain, sort_of}
 use Rattle.heard_laws.specs.Laws.{BodiesAreReadAlike, HasNumber}
 use Rattle.heard_laws.specs.Laws.{SessionsAreHeardPlain, SentSessionsAreHeardPlain}

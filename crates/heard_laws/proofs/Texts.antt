@@ -37,7 +37,7 @@ use Rattle.heard_laws.specs.Heard.{Heard, Carries, book_after, cl_ord_id_in, hea
 use Rattle.heard_laws.specs.Heard.{heard_out, is_reject, message_to, number_named_in, said_out}
 use Rattle.heard_laws.specs.Heard.{sort_of, with_resend}
 use Rattle.heard_laws.specs.Laws.{AnswersAreHeard, HasItsId, IsHeard, IsHeardOn, IsRefusalOf}
-use Rattle.heard_laws.specs.Laws.{Off, On, Told}
+use Rattle.heard_laws.specs.Laws.{Off, On, Returned}
 use Rattle.heard_laws.proofs.Answered.{NamesFirst, IsAnswer, Nears, Tells, Goes, answer_is}
 use Rattle.heard_laws.proofs.Answered.{told_names}
 use Rattle.heard_laws.proofs.Contents.{content_read, number_named}
@@ -146,7 +146,7 @@ module _ (books : BooksChangeAlike) (again : WrittenReportsAreReadAgain)
       let good : IsGoodSource (number, letter) =
       subst (λ (o : Option (ℕ × ℕ)). IfSome o IsGoodSource) source
       (named_good before numbered asked.side (refusal_in m)) in
-      subst AreHeard (sym is) (λ given. Told refl (record {
+      subst AreHeard (sym is) (λ given. Returned refl (record {
         m = m;
         read = reads;
         refusal = refusal;

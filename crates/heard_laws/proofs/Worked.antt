@@ -26,7 +26,7 @@ use Rattle.reports_fix42.specs.Step.{step42}
 use Rattle.reports_fix50.specs.Message.{message50 as report50}
 use Rattle.reports_fix50.specs.Step.{step50}
 use Rattle.event_decisions.specs.Body.{reading_of}
-use Rattle.life_events.specs.Taken as receiver
+use Rattle.life_laws.specs.Taken as receiver
 use Rattle.heard_laws.specs.Heard.{Sort, Request, Report, Refusal, FaultyRefusal, Plain}
 use Rattle.heard_laws.specs.Heard.{Heard, heard_body, heard_out}
 use Rattle.heard_laws.specs.Books.{book_of_reports, book_of_taken, reports_below}

@@ -16,7 +16,7 @@ use Rattle.pair_journal.specs.Numbers.{is_side}
 use Rattle.reports_fix42.specs.Step.{step42}
 use Rattle.reports_fix50.specs.Step.{step50}
 use Rattle.message_answers.specs.Message.{message_of}
-use Rattle.life_events.specs.Taken as receiver
+use Rattle.life_laws.specs.Taken as receiver
 use Rattle.heard_laws.specs.Heard.{message_to, with_resend, book_after, is_among, report_types}
 
 -- ---- the client's book

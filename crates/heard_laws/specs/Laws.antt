@@ -22,11 +22,11 @@ use Rattle.message_answers.specs.Known.{known_of, named}
 use Rattle.message_answers.specs.Laws.{AreNumbered}
 use Rattle.message_answers.specs.Message.{is_refusal, message_of, refusal_in}
 use Rattle.wires.specs.Wire.{Connection}
-use Rattle.life_events.specs.Receiver.{IsSent, is_administrative, message_of_out, read_body}
-use Rattle.life_events.specs.Receiver.{read_reset}
-use Rattle.life_events.specs.Taken as receiver
-use Rattle.life_events.specs.Taken.{Read, GapFill, Reset, Other}
-use Rattle.life_events.specs.Taken.{AreFronts, committed_below, taken_from}
+use Rattle.life_laws.specs.Receiver.{IsSent, is_administrative, message_of_out, read_body}
+use Rattle.life_laws.specs.Receiver.{read_reset}
+use Rattle.life_laws.specs.Taken as receiver
+use Rattle.life_laws.specs.Taken.{Read, GapFill, Reset, Other}
+use Rattle.life_laws.specs.Taken.{AreFronts, committed_below, taken_from}
 use Rattle.heard_laws.specs.Books.{book_of_reports, book_of_taken, reports_below}
 use Rattle.heard_laws.specs.Heard.{Sort, Request, Report, Refusal, Plain, is_reject, Heard}
 use Rattle.heard_laws.specs.Heard.{heard_body, heard_out, Carries}
@@ -62,8 +62,8 @@ pub record IsRefusalOf (number : ℕ) (heard : Heard) : Type 0 where
   pub reject : is_reject heard.sort ≡ true
   pub named : heard.number_named ≡ Some number
 
--- A refusal is told to the other side, whose own number it names there.
-pub record IsTold (before : List Entry) (asked : Asked) (heard : Heard) : Type 0 where
+-- A refusal is returned to the other side, whose own number it names there.
+pub record IsReturned (before : List Entry) (asked : Asked) (heard : Heard) : Type 0 where
   pub m : Message
   pub read : message_of asked.side asked.body ≡ Ok m
   pub refusal : is_refusal m ≡ true
@@ -103,7 +103,7 @@ heard_words words number = heard_out (out_of words.to number words.resend words.
 pub data IsHeard (before : List Entry) (asked : Asked) (words : Words) (number : ℕ) : Type 0 where
   Off : words.to ≡ asked.side → IsRefusalOf asked.number (heard_words words number)
       → IsHeard before asked words number
-  Told : words.to ≡ other asked.side → IsTold before asked (heard_words words number)
+  Returned : words.to ≡ other asked.side → IsReturned before asked (heard_words words number)
       → IsHeard before asked words number
   On : words.to ≡ other asked.side
       → IsHeardOn asked.side (heard_asked asked) (heard_words words number)

@@ -1,3 +1,3 @@
-pub mod Lines
+pub mod JournalLines
 pub mod Shown
 pub mod Worked

@@ -47,8 +47,8 @@ use Rattle.row_values.specs.Kinds.{Byte, DayOf, Kind, MonthBeside, TimeBeside, V
 use Rattle.row_values.specs.Kinds.{counted}
 use Rattle.row_values.specs.Kinds.{date_at, filled, if_spelled, in_month, is_at_close, judge}
 use Rattle.row_values.specs.Kinds.{month_at, month_beside, verdict_of}
-use Rattle.sound_messages.proofs.Each.{both}
-use Rattle.sound_messages.proofs.PlainFields.{has_good_tags, is_good_tag}
+use Rattle.sound_laws.proofs.Each.{both}
+use Rattle.sound_laws.proofs.PlainFields.{has_good_tags, is_good_tag}
 use Rattle.reject_rules.specs.Laws.{HasWords}
 use Rattle.event_decisions.specs.Body.{reading_of}
 use Rattle.event_decisions.proofs.Bodies.{bodies_are_read}

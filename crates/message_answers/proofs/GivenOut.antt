@@ -23,8 +23,8 @@ use Rattle.session_core.specs.declared.tag.TheConstants.{REF_SEQ_NUM}
 use Rattle.pair_entries.specs.declared.TheConstants.{MAX_CONTENT, MAX_NUMBER}
 use Rattle.pair_entries.specs.declared.entry.Entry.{Entry}
 use Rattle.row_values.specs.Kinds.{judge}
-use Rattle.sound_messages.proofs.Each.{both, not_true}
-use Rattle.sound_messages.proofs.PlainFields.{all_of, clear_fields, is_good_tag, plain_field}
+use Rattle.sound_laws.proofs.Each.{both, not_true}
+use Rattle.sound_laws.proofs.PlainFields.{all_of, clear_fields, is_good_tag, plain_field}
 use Rattle.reject_rules.specs.Content.{reject, business_reject}
 use Rattle.reject_rules.specs.Laws.{HasWords, IsOf, IsRefusalField, IsShort, refusal_tags}
 use Rattle.reject_rules.specs.Refusals.{away_refusal, business_refusal, no_counterpart}

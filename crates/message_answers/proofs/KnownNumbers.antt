@@ -23,8 +23,8 @@ use Rattle.pair_journal.specs.Given.{Given, given, has_letter, is_source, letter
 use Rattle.pair_journal.specs.Given.{numbered, source_in, source_of}
 use Rattle.pair_journal.specs.Numbers.{is_side, outs_to}
 use Rattle.row_values.specs.Kinds.{judge}
-use Rattle.sound_messages.proofs.Each.{each_joined, not_true}
-use Rattle.sound_messages.proofs.PlainFields.{clear_fields}
+use Rattle.sound_laws.proofs.Each.{each_joined, not_true}
+use Rattle.sound_laws.proofs.PlainFields.{clear_fields}
 use Rattle.event_decisions.specs.Body.{first_value, reading_of}
 use Rattle.event_decisions.proofs.Bodies.{bodies_are_read}
 use Rattle.message_answers.specs.Chains.{chains_after, chains_of, if_new, item_in, item_of, joining}

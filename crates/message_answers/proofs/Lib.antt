@@ -2,7 +2,7 @@ mod Worked
 mod Joined
 mod Refusals
 mod Bounded
-mod Told
+mod Back
 mod Fits
 pub mod Letters
 mod Typed

@@ -27,7 +27,7 @@ use Rattle.reports_fix42.specs.Message.{message42 as report42}
 use Rattle.reports_fix42.specs.Message as reports42
 use Rattle.reports_fix50.specs.Message.{message50}
 use Rattle.reports_fix50.specs.Message as reports50
-use Rattle.sound_messages.proofs.PlainFields.{has_good_tags}
+use Rattle.sound_laws.proofs.PlainFields.{has_good_tags}
 use Rattle.reject_rules.specs.Laws.{HasWords}
 use Rattle.message_answers.specs.Message.{is_refusal, is_refusal_type, refusal_in, said_by}
 use Rattle.message_answers.proofs.FaultWords.{fault_words}

@@ -18,8 +18,8 @@ use Rattle.order_meaning.specs.declared.refusal.Refusal.{Refusal}
 use Rattle.value_kinds.specs.ValueKind.{Id, Text, spelling}
 use Rattle.row_values.specs.Amounts.{number_if}
 use Rattle.row_values.specs.Kinds.{Value, judge, verdict_of}
-use Rattle.sound_messages.proofs.Good.{held}
-use Rattle.sound_messages.proofs.ReadSound.{IsClearField}
+use Rattle.sound_laws.proofs.Good.{held}
+use Rattle.sound_laws.proofs.ReadSound.{IsClearField}
 use Rattle.exec_translate.proofs.DownValues.{IsId}
 use Rattle.reject_rules.specs.Laws.{HasNoSoh, HasTexts, IsBounded, IsWord, most_id}
 use Rattle.event_decisions.specs.Body.{first_value, reading_of, type_of}

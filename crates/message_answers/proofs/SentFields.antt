@@ -24,13 +24,13 @@ use Rattle.reports_fix50.specs.Message as reports50
 use Rattle.reports_fix50.specs.Readable as reports50_readable
 use Rattle.reports_fix50.specs.Reports.{cancel_reject}
 use Rattle.reports_fix50.specs.Said as said50
-use Rattle.sound_messages.specs.Sound.{IsSound}
-use Rattle.sound_messages.proofs.Completed.{other_said}
-use Rattle.sound_messages.proofs.Each.{both, not_true}
-use Rattle.sound_messages.proofs.Found.{items_of}
-use Rattle.sound_messages.proofs.PlainFields.{all_of, few_of, has_good_tags, most_of, times}
-use Rattle.sound_messages.proofs.RowsSaid.{optional_said}
-use Rattle.sound_messages.proofs.Stages.{AreOf, item_tags}
+use Rattle.sound_laws.specs.Sound.{IsSound}
+use Rattle.sound_laws.proofs.Completed.{other_said}
+use Rattle.sound_laws.proofs.Each.{both, not_true}
+use Rattle.sound_laws.proofs.Found.{items_of}
+use Rattle.sound_laws.proofs.PlainFields.{all_of, few_of, has_good_tags, most_of, times}
+use Rattle.sound_laws.proofs.RowsSaid.{optional_said}
+use Rattle.sound_laws.proofs.Stages.{AreOf, item_tags}
 use Rattle.request_translate.specs.Translation.{IsRequest, News, Cancels, Replaces, Statuses}
 use Rattle.exec_translate.specs.Written.{IsWrittenReject}
 use Rattle.exec_translate.proofs.DownRows.{GoDown, SaysAlike, items_down}

@@ -34,7 +34,7 @@ fn is_reject_type(msg_type: &[u8]) -> bool
 }
 
 /// What a refusal of FIX 4.2 says, or its first fault.
-#[tactic(auto, using(crate::proofs::Told::of), unfolding(reports_fix42::specs::Message::message42))]
+#[tactic(auto, using(crate::proofs::Back::of), unfolding(reports_fix42::specs::Message::message42))]
 fn read42(alloc: Global, business: bool, split: &Split<'_>) -> Result<Refusal, Fault>
     ensures says { Gives (refusal_says business) result
         (said_by Side.Client (refusal_type business) split.now.fields split.now.fault) }
@@ -49,7 +49,7 @@ fn read42(alloc: Global, business: bool, split: &Split<'_>) -> Result<Refusal, F
 }
 
 /// What a refusal of FIX 5.0 SP2 says, or its first fault.
-#[tactic(auto, using(crate::proofs::Told::of), unfolding(reports_fix50::specs::Message::message50))]
+#[tactic(auto, using(crate::proofs::Back::of), unfolding(reports_fix50::specs::Message::message50))]
 fn read50(alloc: Global, business: bool, split: &Split<'_>) -> Result<Refusal, Fault>
     ensures says { Gives (refusal_says business) result
         (said_by Side.Venue (refusal_type business) split.now.fields split.now.fault) }

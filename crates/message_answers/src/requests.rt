@@ -172,7 +172,7 @@ fn near_away(alloc: Global, asked: &Asked<'_>) -> Result<Answer, AllocError>
 }
 
 /// The answer to a request that was read.
-fn in_turn(
+fn request_read(
     alloc: Global,
     known: &Known<'_>,
     asked: &Asked<'_>,
@@ -220,7 +220,7 @@ pub(crate) fn requested(
 {
     read_is_sound();
     match read42(alloc, asked.msg_type, asked.split) {
-        Ok(request) => in_turn(alloc, known, asked, &request),
+        Ok(request) => request_read(alloc, known, asked, &request),
         Err(fault) => refused(alloc, asked, &fault),
     }
 }

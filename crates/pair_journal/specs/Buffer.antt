@@ -3,10 +3,10 @@ use Rattle.std.specs.Prelude.{◌≤◌, take, drop, length}
 use Rattle.std.specs.Vec.{vec_capacity}
 use Rattle.pair_journal.specs.declared.out_buf.TheConstants.{OUT_ROOM}
 use Rattle.pair_journal.specs.declared.out_buf.OutBuf.TheInside.{Inside}
-use Rattle.pair_journal.specs.OutBuf.{Told}
+use Rattle.pair_journal.specs.OutBuf.{OutAt}
 
-abbrev pub told_by : Inside → Told
-told_by buf = record {
+abbrev pub out_kept : Inside → OutAt
+out_kept buf = record {
   at = buf.at;
   admin = buf.admin;
   resend = buf.resend;

@@ -1,11 +1,11 @@
--- Own: what a buffer tells of an out.
+-- Own: an out with the moment of its entry, as a buffer holds it.
 use Rattle.std.specs.Prelude.{◌≡◌, ℕ, ◌≤◌, List, Bool, length, Some, None}
 use Rattle.std.specs.declared.option.Option.{Option}
 use Rattle.pair_journal.specs.Given.{Given}
 use Rattle.pair_entries.specs.declared.TheConstants.{MAX_AT, MAX_TYPE, MAX_CONTENT}
 use Rattle.pair_entries.specs.declared.entry.Out.{Out}
 
-pub record Told : Type 0 where
+pub record OutAt : Type 0 where
   -- the moment of its entry
   pub at : ℕ
   pub admin : Bool
@@ -13,8 +13,8 @@ pub record Told : Type 0 where
   pub msg_type : List ℕ
   pub content : List ℕ
 
-abbrev pub told : ℕ → Out → Told
-told at out = record {
+abbrev pub out_at : ℕ → Out → OutAt
+out_at at out = record {
   at = at;
   admin = out.admin;
   resend = out.resend;
@@ -22,13 +22,13 @@ told at out = record {
   content = out.content;
 }
 
--- this out, which there is, is told
-abbrev pub Tells : Option Given → Told → Type 0
-Tells None what = ⊥
-Tells (Some one) what = what ≡ told one.entry.at one.out
+-- this out, which there is
+abbrev pub IsGivenAs : Option Given → OutAt → Type 0
+IsGivenAs None what = ⊥
+IsGivenAs (Some one) what = what ≡ out_at one.entry.at one.out
 
--- the bounds of what is told
-pub record IsTold (what : Told) : Type 0 where
+-- its bounds
+pub record IsOutAt (what : OutAt) : Type 0 where
   pub at : what.at ≤ MAX_AT
   pub typed : 1 ≤ length what.msg_type
   pub short : length what.msg_type ≤ MAX_TYPE

@@ -14,7 +14,7 @@ ghost use Rattle.pair_journal.specs.Birth.{AreNames};
 ghost use Rattle.pair_journal.specs.Numbers.{GoesOn, first_numbers, numbers_after, next_out};
 ghost use Rattle.pair_journal.specs.Journal.{JournalOf, Unborn, Born, Spells, AreEntries};
 ghost use Rattle.pair_journal.specs.Given.{given, source_of};
-ghost use Rattle.pair_journal.specs.OutBuf.{Tells, IsTold};
+ghost use Rattle.pair_journal.specs.OutBuf.{IsGivenAs, IsOutAt};
 ghost use Rattle.pair_journal.specs.Calls.{HasDiskCause, ReadsOnly, Looks, Loads, BornOrNot};
 ghost use Rattle.pair_journal.specs.Calls.{Commits, KeepsJournal};
 ghost use Rattle.pair_journal.specs.Loading.{HasNames, Misreads};
@@ -247,8 +247,8 @@ impl Journal {
         requires below { number < next_out side (numbers_after first_numbers self.now.entries) }
         requires stands { ForSome (D.bytes disk.old) (λ b.
             JournalOf b (Born self.now.names self.now.entries)) }
-        ensures out { OnOk result (Tells (given side number self.now.entries) into.new) }
-        ensures bounds { OnOk result (IsTold into.new) }
+        ensures out { OnOk result (IsGivenAs (given side number self.now.entries) into.new) }
+        ensures bounds { OnOk result (IsOutAt into.new) }
         ensures only_read { OnlyReads D.bytes D.image disk.old disk.new }
         ensures cause { HasDiskCause (D.faults disk.old) (D.faults disk.new) result }
         ensures only { IsOkUnless result errors.DiskFault }

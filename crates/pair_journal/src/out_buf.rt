@@ -1,7 +1,7 @@
 //! Room for one out that is read from a journal.
 
 ghost use Rattle.std.specs.Prelude.{◌≡◌, ◌+◌, ◌≤◌, [], length, IfOk};
-ghost use Rattle.pair_journal.specs.OutBuf.{told};
+ghost use Rattle.pair_journal.specs.OutBuf.{out_at};
 
 use gate_log::extend_reserved;
 use pair_entries::Out;
@@ -23,12 +23,12 @@ pub struct OutBuf {
 }
 
 impl Model for OutBuf {
-    ghost use Rattle.pair_journal.specs.OutBuf.{Told};
-    ghost use Rattle.pair_journal.specs.Buffer.{told_by, IsRoomy};
+    ghost use Rattle.pair_journal.specs.OutBuf.{OutAt};
+    ghost use Rattle.pair_journal.specs.Buffer.{out_kept, IsRoomy};
 
-    ghost Value = { Told };
+    ghost Value = { OutAt };
 
-    ghost view = { told_by };
+    ghost view = { out_kept };
 
     ghost invariant = { IsRoomy };
 }
@@ -53,7 +53,7 @@ impl OutBuf {
     /// Takes in an out, and the moment of its entry.
     pub(crate) fn tell(&mut self, at: u64, out: &Out)
         requires { length out.now.msg_type + length out.now.content ≤ OUT_ROOM }
-        ensures { self.new ≡ told at out.now }
+        ensures { self.new ≡ out_at at out.now }
     {
         let (msg_type, content) = (out.msg_type.as_slice(), out.content.as_slice());
         self.bytes.clear();

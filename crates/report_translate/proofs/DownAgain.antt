@@ -28,11 +28,11 @@ use Rattle.reports_fix50.specs.declared.reports.Report50.{Report50}
 use Rattle.reports_fix50.specs.declared.reports.CancelReject50.{CancelReject50}
 use Rattle.reports_fix50.specs.Message.{report_table, cancel_reject_table}
 use Rattle.reports_fix50.specs.Said as said50
-use Rattle.sound_messages.specs.Sound.{IsSound}
-use Rattle.sound_messages.proofs.Each.{◌&◌}
-use Rattle.sound_messages.proofs.PlainFields.{AreFew, clear_fields, few_of, times}
-use Rattle.sound_messages.proofs.ReadSound.{IsClearField}
-use Rattle.sound_messages.proofs.TableFits.{table_fits}
+use Rattle.sound_laws.specs.Sound.{IsSound}
+use Rattle.sound_laws.proofs.Each.{◌&◌}
+use Rattle.sound_laws.proofs.PlainFields.{AreFew, clear_fields, few_of, times}
+use Rattle.sound_laws.proofs.ReadSound.{IsClearField}
+use Rattle.sound_laws.proofs.TableFits.{table_fits}
 use Rattle.exec_translate.proofs.SoundDown.{report_sound, reject_sound}
 use Rattle.translation.specs.Header.{type_of, carried, with_content}
 use Rattle.translation.proofs.BehindHeader.{IsHead, front, items_behind, read_behind}

@@ -18,7 +18,7 @@ use Rattle.report_translate.specs.Translation.{IsRefused, IsRefusedByCheck}
 use Rattle.report_translate.specs.Writing.{AreRead, IsReportOf, IsCheckedOf, RefusesCheck}
 use Rattle.report_translate.specs.Writing.{IsDownOf, RefusesDown}
 use Rattle.row_values.specs.Kinds.{judge}
-use Rattle.sound_messages.proofs.PlainFields.{clear_fields}
+use Rattle.sound_laws.proofs.PlainFields.{clear_fields}
 use Rattle.report_translate.proofs.DownAgain.{reads_again, splits_again}
 use Rattle.report_translate.proofs.Lacks.{lack_of_codes}
 use Rattle.report_translate.proofs.OfType.{type_is}

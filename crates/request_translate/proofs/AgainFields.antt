@@ -11,7 +11,7 @@ use Rattle.rows_fix50.specs.Header.{table}
 use Rattle.translation.specs.Header.{type_of, with_content}
 use Rattle.request_translate.specs.Translation.{IsRequest}
 use Rattle.request_translate.proofs.Outcomes.{kind_in, letter_asked, items_asked, of_kind}
-use Rattle.sound_messages.proofs.PlainFields.{has_good_tags, most_of, times, AreFew, few_of}
+use Rattle.sound_laws.proofs.PlainFields.{has_good_tags, most_of, times, AreFew, few_of}
 use Rattle.translation.proofs.SplitAgain.{fields_again}
 use Rattle.translation.proofs.Writable.{IsType}
 

@@ -14,7 +14,7 @@ use Rattle.row_values.specs.Kinds.{Kind, Value, judge, said}
 use Rattle.row_values.proofs.ByTable.{says}
 use Rattle.row_values.proofs.SaidRows.{full, full_text}
 use Rattle.row_values.proofs.Texts.{day_said, flag_said, stamp_said}
-use Rattle.sound_messages.proofs.AsTheyStand.{as_said, code_back, is_own, said_or}
+use Rattle.sound_laws.proofs.AsTheyStand.{as_said, code_back, is_own, said_or}
 use Rattle.request_translate.specs.FromFields.{code, code_if, day_if, epoch, flag_if, id, id_if}
 use Rattle.request_translate.specs.FromFields.{stamp, stamp_if, text_if}
 

@@ -11,10 +11,10 @@ use Rattle.message_tables.specs.Tables.{One, Party, Lines, Message, Said, Tag, i
 use Rattle.value_kinds.specs.ValueKind.{ValueKind, Code, Codes, Word}
 use Rattle.row_values.specs.Kinds.{Kind, Value, Byte, DayOf, MonthBeside, TimeBeside, Version}
 use Rattle.row_values.specs.Kinds.{judge}
-use Rattle.sound_messages.specs.Sound.{IsSaid, IsItem}
-use Rattle.sound_messages.proofs.Each.{both}
-use Rattle.sound_messages.proofs.ApartRows.{same_at, carried, others, RowSaid, carried_of, put_back}
-use Rattle.sound_messages.proofs.RowsSaid.{required_said, optional_said, lenient_said, same_value}
+use Rattle.sound_laws.specs.Sound.{IsSaid, IsItem}
+use Rattle.sound_laws.proofs.Each.{both}
+use Rattle.sound_laws.proofs.ApartRows.{same_at, carried, others, RowSaid, carried_of, put_back}
+use Rattle.sound_laws.proofs.RowsSaid.{required_said, optional_said, lenient_said, same_value}
 
 -- ---- a row of FIX 4.2 as the row of FIX 5.0 SP2 that says the same
 

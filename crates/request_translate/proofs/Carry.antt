@@ -33,13 +33,13 @@ use Rattle.rows_fix50.specs.Meaning as meaning50
 use Rattle.row_values.specs.declared.lines.Maturity.{Maturity}
 use Rattle.order_meaning.specs.declared.party.PartyLine.{PartyLine}
 use Rattle.party_translate.specs.Parties.{parties_of}
-use Rattle.sound_messages.specs.Sound.{IsClear, IsSaid, IsLine, IsGroup}
-use Rattle.sound_messages.proofs.RowsSaid.{required_said, optional_said, lenient_said, same_value}
-use Rattle.sound_messages.proofs.RowsSaid.{listed_clear}
+use Rattle.sound_laws.specs.Sound.{IsClear, IsSaid, IsLine, IsGroup}
+use Rattle.sound_laws.proofs.RowsSaid.{required_said, optional_said, lenient_said, same_value}
+use Rattle.sound_laws.proofs.RowsSaid.{listed_clear}
 use Rattle.request_translate.specs.Written.{coded, is_type50, IsTimeCode, IsTime50}
 use Rattle.request_translate.specs.Lack.{lacks_capacity}
-use Rattle.sound_messages.proofs.SpelledAgain.{clear_joined, digits_clear}
-use Rattle.sound_messages.proofs.ShortDays.{IsShort, short_by, two_number, padded_number}
+use Rattle.sound_laws.proofs.SpelledAgain.{clear_joined, digits_clear}
+use Rattle.sound_laws.proofs.ShortDays.{IsShort, short_by, two_number, padded_number}
 use Rattle.row_values.specs.Groups as row_groups
 use Rattle.row_values.specs.Lines as row_lines
 

@@ -16,14 +16,14 @@ use Rattle.value_kinds.specs.ValueKind.{Day, spelling}
 use Rattle.row_values.specs.Kinds.{Kind, Value, Byte, DayOf, MonthBeside, TimeBeside, Version}
 use Rattle.row_values.specs.Kinds.{judge, verdict_of, date_at}
 use Rattle.rows_fix50.specs.Header.{completed, month_by}
-use Rattle.sound_messages.specs.Sound.{IsClear, IsSaid, IsItem, IsSound, places_of}
-use Rattle.sound_messages.specs.Complete.{HasMonthOfDate}
-use Rattle.sound_messages.proofs.Each.{both}
-use Rattle.sound_messages.proofs.ContentValues.{value_at-append, row_value}
-use Rattle.sound_messages.proofs.ReadSound.{text_again}
-use Rattle.sound_messages.proofs.Completed.{other_said, month_said, same_places}
-use Rattle.sound_messages.proofs.Judged50.{ours_kind, AreAlike, judged_again, month_of_date}
-use Rattle.sound_messages.proofs.Judged50.{clear_front}
+use Rattle.sound_laws.specs.Sound.{IsClear, IsSaid, IsItem, IsSound, places_of}
+use Rattle.sound_laws.specs.Complete.{HasMonthOfDate}
+use Rattle.sound_laws.proofs.Each.{both}
+use Rattle.sound_laws.proofs.ContentValues.{value_at-append, row_value}
+use Rattle.sound_laws.proofs.ReadSound.{text_again}
+use Rattle.sound_laws.proofs.Completed.{other_said, month_said, same_places}
+use Rattle.sound_laws.proofs.Judged50.{ours_kind, AreAlike, judged_again, month_of_date}
+use Rattle.sound_laws.proofs.Judged50.{clear_front}
 
 -- ---- the rows
 

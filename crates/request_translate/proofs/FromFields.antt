@@ -17,7 +17,7 @@ use Rattle.row_values.specs.Lines.{alloc_cells, month_text, party_cells, session
 use Rattle.row_values.specs.Writing.{dec_at, qty_at}
 use Rattle.row_values.proofs.ByTable.{says}
 use Rattle.row_values.proofs.Texts.{qty_at_said}
-use Rattle.sound_messages.proofs.AsTheyStand.{qty_stands}
+use Rattle.sound_laws.proofs.AsTheyStand.{qty_stands}
 use Rattle.rows_fix42.specs.Header.{table as table42}
 use Rattle.rows_fix50.specs.Header.{table as table50}
 use Rattle.dict_fix42.specs.Message.{message42, table_of}

@@ -35,7 +35,7 @@ use Rattle.dict_fix42.specs.declared.requests.Replace42.{Replace42}
 use Rattle.dict_fix50.specs.declared.requests.Replace50.{Replace50}
 use Rattle.dict_fix42.specs.declared.requests.Status42.{Status42}
 use Rattle.dict_fix50.specs.declared.requests.Status50.{Status50}
-use Rattle.sound_messages.proofs.ShortDays.{IsShort, two_number, padded_number}
+use Rattle.sound_laws.proofs.ShortDays.{IsShort, two_number, padded_number}
 use Rattle.request_translate.specs.Canonical.{parties_up}
 use Rattle.request_translate.specs.Written.{coded, IsNew, IsCancel, IsReplace}
 use Rattle.request_translate.specs.Written.{IsStatus}

@@ -15,11 +15,11 @@ use Rattle.rows_fix50.specs.Header.{table}
 use Rattle.dict_fix50.specs.Requests.{new_order, cancel_request, replace_request, status_request}
 use Rattle.dict_fix50.specs.Sense.{request50, request_of}
 use Rattle.row_values.specs.Amounts.{amount_of}
-use Rattle.sound_messages.specs.Sound.{IsItem}
+use Rattle.sound_laws.specs.Sound.{IsItem}
 use Rattle.request_translate.specs.Canonical.{party_lines, IsCanonical, HaveOneContent}
-use Rattle.sound_messages.proofs.ContentValues.{is_alone, groups_said, value_said}
+use Rattle.sound_laws.proofs.ContentValues.{is_alone, groups_said, value_said}
 use Rattle.request_translate.proofs.Carry.{item_at}
-use Rattle.sound_messages.proofs.Each.{◌&◌}
+use Rattle.sound_laws.proofs.Each.{◌&◌}
 use Rattle.request_translate.proofs.SameRows as same
 
 abbrev at : Message → ℕ → Said

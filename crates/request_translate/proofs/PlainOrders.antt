@@ -35,16 +35,16 @@ use Rattle.translation.specs.declared.error.TranslateError.{TranslateError}
 use Rattle.translation.specs.declared.error.TranslateError.TheVariants as errors
 use Rattle.request_translate.specs.Canonical.{IsCanonical, party_lines}
 use Rattle.request_translate.specs.Lack.{lack_if}
-use Rattle.sound_messages.specs.Sound.{IsClear, IsSaid, IsGroup}
+use Rattle.sound_laws.specs.Sound.{IsClear, IsSaid, IsGroup}
 use Rattle.translation.specs.Header.{with_content}
 use Rattle.request_translate.specs.Translation.{News, StandsFor, IsOutcome, IsTooLong}
 use Rattle.request_translate.specs.Plain.{PlainOrder, IsValue, HasPlainValues, client_field}
 use Rattle.request_translate.specs.Plain.{client_party, terms, plain_fields, translated_fields}
 use Rattle.request_translate.specs.Plain.{PlainOrdersAreTranslated}
-use Rattle.sound_messages.proofs.PlainFields.{plain_field, all_of}
-use Rattle.sound_messages.proofs.RowsSaid.{optional_said, lenient_said, required_said}
+use Rattle.sound_laws.proofs.PlainFields.{plain_field, all_of}
+use Rattle.sound_laws.proofs.RowsSaid.{optional_said, lenient_said, required_said}
 use Rattle.request_translate.proofs.Carry.{IsPartyId, parties_said}
-use Rattle.sound_messages.proofs.Each.{◌&◌, both, each_joined}
+use Rattle.sound_laws.proofs.Each.{◌&◌, both, each_joined}
 use Rattle.request_translate.proofs.Outcomes.{good_not_faulty, good_not_lacking, same_content}
 use Rattle.request_translate.proofs.Outcomes.{same_up}
 

@@ -21,7 +21,7 @@ use Rattle.request_translate.specs.FromFields.{IsOrderOf, code, code_if, day_if,
 use Rattle.request_translate.specs.FromFields.{id_if, security_types, stamp, stamp_if, text_if}
 use Rattle.request_translate.specs.FromFields.{zero}
 use Rattle.request_translate.specs.Writing.{AreTermsOf}
-use Rattle.sound_messages.proofs.AsTheyStand.{said_or}
+use Rattle.sound_laws.proofs.AsTheyStand.{said_or}
 use Rattle.request_translate.proofs.AsTheyStand.{code_is, full_code, full_stamp}
 
 full_is : (text : Said) (code : ℕ) → Some (code_text code) ≡ text

@@ -15,7 +15,7 @@ use Rattle.translation.specs.Header.{type_of}
 use Rattle.translation.specs.Writing.{IsWritten, IsUnwritten}
 use Rattle.request_translate.specs.Up.{IsSound42}
 use Rattle.row_values.specs.Kinds.{judge}
-use Rattle.sound_messages.proofs.PlainFields.{clear_fields}
+use Rattle.sound_laws.proofs.PlainFields.{clear_fields}
 use Rattle.request_translate.proofs.Sound42.{read_is_sound}
 
 pub sound : (fields : List Field) (m : Msg42) → AreFields None fields

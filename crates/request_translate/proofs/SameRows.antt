@@ -41,7 +41,7 @@ use Rattle.row_values.specs.Groups.{allocs, sessions}
 use Rattle.dict_fix50.specs.Sense.{alloc_of, session_of}
 use Rattle.row_values.specs.Amounts.{amount_of}
 use Rattle.rows_fix50.specs.Meaning.{terms_of, day_of, maturity_of}
-use Rattle.sound_messages.specs.Sound.{IsLine}
+use Rattle.sound_laws.specs.Sound.{IsLine}
 
 -- ---- texts
 

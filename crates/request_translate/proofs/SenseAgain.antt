@@ -24,14 +24,14 @@ use Rattle.dict_fix50.specs.Message as read50
 use Rattle.rows_fix50.specs.Header.{table, completed, completed_by}
 use Rattle.dict_fix50.specs.Requests.{new_order, cancel_request, replace_request, status_request}
 use Rattle.dict_fix50.specs.Sense.{sense50, request50}
-use Rattle.sound_messages.specs.Sound.{places_of}
-use Rattle.sound_messages.proofs.Completed.{completed_again}
-use Rattle.sound_messages.proofs.Each.{◌&◌}
-use Rattle.sound_messages.proofs.Lookups.{places_apart}
-use Rattle.sound_messages.proofs.ReadSound.{IsClearField}
-use Rattle.sound_messages.proofs.RowsSaid.{optional_said}
-use Rattle.sound_messages.proofs.TableFits as fits
-use Rattle.sound_messages.proofs.TableFits.{table_fits}
+use Rattle.sound_laws.specs.Sound.{places_of}
+use Rattle.sound_laws.proofs.Completed.{completed_again}
+use Rattle.sound_laws.proofs.Each.{◌&◌}
+use Rattle.sound_laws.proofs.Lookups.{places_apart}
+use Rattle.sound_laws.proofs.ReadSound.{IsClearField}
+use Rattle.sound_laws.proofs.RowsSaid.{optional_said}
+use Rattle.sound_laws.proofs.TableFits as fits
+use Rattle.sound_laws.proofs.TableFits.{table_fits}
 use Rattle.translation.specs.Header.{carried}
 use Rattle.translation.proofs.BehindHeader.{IsHead, front, items_behind, read_behind, whole}
 use Rattle.translation.proofs.CarriedHeader.{IsOwnHead, HasHeader, head_is_own, head_value}

@@ -30,15 +30,15 @@ use Rattle.dict_fix42.specs.Requests.{new_order, cancel_request, replace_request
 use Rattle.dict_fix42.specs.Said.{says as says42}
 use Rattle.dict_fix42.specs.declared.requests.Msg42.{Msg42}
 use Rattle.dict_fix42.specs.declared.requests.Msg42.TheVariants as messages
-use Rattle.sound_messages.specs.Sound.{IsClear, IsSound}
+use Rattle.sound_laws.specs.Sound.{IsClear, IsSound}
 use Rattle.request_translate.specs.Up.{IsSound42}
-use Rattle.sound_messages.proofs.Each.{both, not_true}
-use Rattle.sound_messages.proofs.ContentValues.{is_alone, value_said}
-use Rattle.sound_messages.proofs.PlainRows.{value_again, value_clear, HasPlainRows, allocs_plain}
-use Rattle.sound_messages.proofs.PlainRows.{sessions_plain, allocs_apart, sessions_apart}
-use Rattle.sound_messages.proofs.PlainRows.{unfixed, plain_items, of_message}
-use Rattle.sound_messages.proofs.ReadSound.{IsClearField, IsStableRow, IsStableItem, IsTable}
-use Rattle.sound_messages.proofs.ReadSound.{read_sound}
+use Rattle.sound_laws.proofs.Each.{both, not_true}
+use Rattle.sound_laws.proofs.ContentValues.{is_alone, value_said}
+use Rattle.sound_laws.proofs.PlainRows.{value_again, value_clear, HasPlainRows, allocs_plain}
+use Rattle.sound_laws.proofs.PlainRows.{sessions_plain, allocs_apart, sessions_apart}
+use Rattle.sound_laws.proofs.PlainRows.{unfixed, plain_items, of_message}
+use Rattle.sound_laws.proofs.ReadSound.{IsClearField, IsStableRow, IsStableItem, IsTable}
+use Rattle.sound_laws.proofs.ReadSound.{read_sound}
 
 -- ---- the values of FIX 4.2
 

@@ -20,18 +20,18 @@ use Rattle.dict_fix50.specs.Requests.{new_order, cancel_request, replace_request
 use Rattle.dict_fix50.specs.Said.{says as says50}
 use Rattle.dict_fix50.specs.declared.requests.Msg50.{Msg50}
 use Rattle.dict_fix50.specs.declared.requests.Msg50.TheVariants as messages
-use Rattle.sound_messages.specs.Sound.{IsClear, IsSound, places_of}
-use Rattle.sound_messages.specs.Complete.{IsComplete}
+use Rattle.sound_laws.specs.Sound.{IsClear, IsSound, places_of}
+use Rattle.sound_laws.specs.Complete.{IsComplete}
 use Rattle.request_translate.specs.Up.{IsSound50}
-use Rattle.sound_messages.proofs.Each.{both, not_true}
-use Rattle.sound_messages.proofs.ContentValues.{is_alone, value_said, groups_said, GroupSaid}
-use Rattle.sound_messages.proofs.PlainRows.{HasPlainRows, parties_plain, allocs_plain}
-use Rattle.sound_messages.proofs.PlainRows.{sessions_plain, parties_apart, allocs_apart}
-use Rattle.sound_messages.proofs.PlainRows.{sessions_apart, unfixed, plain_items, of_message}
-use Rattle.sound_messages.proofs.ReadSound.{IsClearField, IsStableRow, IsStableItem, IsTable}
-use Rattle.sound_messages.proofs.ReadSound.{read_sound}
-use Rattle.sound_messages.proofs.Judged50.{AreAlike, judged_again, judged_clear, clear_date}
-use Rattle.sound_messages.proofs.Judged50.{date_said, type_said, date_kept, type_kept}
+use Rattle.sound_laws.proofs.Each.{both, not_true}
+use Rattle.sound_laws.proofs.ContentValues.{is_alone, value_said, groups_said, GroupSaid}
+use Rattle.sound_laws.proofs.PlainRows.{HasPlainRows, parties_plain, allocs_plain}
+use Rattle.sound_laws.proofs.PlainRows.{sessions_plain, parties_apart, allocs_apart}
+use Rattle.sound_laws.proofs.PlainRows.{sessions_apart, unfixed, plain_items, of_message}
+use Rattle.sound_laws.proofs.ReadSound.{IsClearField, IsStableRow, IsStableItem, IsTable}
+use Rattle.sound_laws.proofs.ReadSound.{read_sound}
+use Rattle.sound_laws.proofs.Judged50.{AreAlike, judged_again, judged_clear, clear_date}
+use Rattle.sound_laws.proofs.Judged50.{date_said, type_said, date_kept, type_kept}
 use Rattle.request_translate.proofs.CompletedSound.{is_ours, is_ours_row, ours, ours_need}
 use Rattle.request_translate.proofs.CompletedSound.{kept_need, completed_sound}
 use Rattle.request_translate.proofs.CompletedSound.{completed_month}

@@ -36,17 +36,17 @@ use Rattle.dict_fix50.specs.declared.requests.Status50.{Status50}
 use Rattle.dict_fix42.specs.declared.requests.Msg42.{Msg42}
 use Rattle.dict_fix42.specs.declared.requests.Msg42.TheVariants as messages
 use Rattle.request_translate.specs.declared.parts.Terms.{Terms}
-use Rattle.sound_messages.specs.Sound.{IsSaid, IsGroup, IsSound, IsItem}
+use Rattle.sound_laws.specs.Sound.{IsSaid, IsGroup, IsSound, IsItem}
 use Rattle.request_translate.specs.Up.{IsSound42}
 use Rattle.request_translate.specs.Written.{IsNew, IsCancel, IsReplace, IsStatus, AreTerms}
 use Rattle.request_translate.specs.Canonical.{parties_up}
 use Rattle.request_translate.specs.Written.{is_type42, IsTime42}
-use Rattle.sound_messages.proofs.ContentValues.{groups_said, value_said, is_alone, GroupSaid}
+use Rattle.sound_laws.proofs.ContentValues.{groups_said, value_said, is_alone, GroupSaid}
 use Rattle.request_translate.proofs.Carry as carry
 use Rattle.request_translate.proofs.Carry.{party_id, RolesSaid, roles_said}
 use Rattle.request_translate.proofs.CarriedRows.{SaysAlike, GoUp, apart50, apart42, items_up}
-use Rattle.sound_messages.proofs.ApartRows.{others, others_of}
-use Rattle.sound_messages.proofs.RowsSaid.{listed_code, listed_codes}
+use Rattle.sound_laws.proofs.ApartRows.{others, others_of}
+use Rattle.sound_laws.proofs.RowsSaid.{listed_code, listed_codes}
 use Rattle.request_translate.proofs.Means.{HasShortDay}
 use Rattle.std.specs.List.{AllByRecursion, flat_map}
 

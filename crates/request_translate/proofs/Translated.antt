@@ -23,7 +23,7 @@ use Rattle.dict_fix50.specs.Sense.{sense50}
 use Rattle.request_translate.proofs.AgainFields.{split_again}
 use Rattle.request_translate.proofs.SenseAgain.{same_sense}
 use Rattle.row_values.specs.Kinds.{judge}
-use Rattle.sound_messages.proofs.PlainFields.{clear_fields}
+use Rattle.sound_laws.proofs.PlainFields.{clear_fields}
 use Rattle.request_translate.proofs.Writable.{type_is}
 use Rattle.translation.proofs.Writable.{writable}
 

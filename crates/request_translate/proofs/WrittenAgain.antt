@@ -19,15 +19,15 @@ use Rattle.dict_fix50.specs.Requests as requests50
 use Rattle.dict_fix50.specs.Said as said50
 use Rattle.dict_fix50.specs.declared.requests.Msg50.{Msg50}
 use Rattle.dict_fix50.specs.declared.requests.Msg50.TheVariants as messages50
-use Rattle.sound_messages.specs.Sound.{without_resend}
-use Rattle.sound_messages.specs.Complete.{IsComplete}
+use Rattle.sound_laws.specs.Sound.{without_resend}
+use Rattle.sound_laws.specs.Complete.{IsComplete}
 use Rattle.request_translate.specs.Laws.{IsReadAgain42, IsReadAgain50}
-use Rattle.sound_messages.proofs.ContentAgain.{read_again}
-use Rattle.sound_messages.proofs.Stages.{item_tags}
-use Rattle.sound_messages.proofs.TableFits as fits
-use Rattle.sound_messages.proofs.TableFits.{table_fits}
-use Rattle.sound_messages.proofs.Completed.{completed_again}
-use Rattle.sound_messages.proofs.Lookups.{places_apart}
+use Rattle.sound_laws.proofs.ContentAgain.{read_again}
+use Rattle.sound_laws.proofs.Stages.{item_tags}
+use Rattle.sound_laws.proofs.TableFits as fits
+use Rattle.sound_laws.proofs.TableFits.{table_fits}
+use Rattle.sound_laws.proofs.Completed.{completed_again}
+use Rattle.sound_laws.proofs.Lookups.{places_apart}
 
 -- ---- FIX 4.2
 

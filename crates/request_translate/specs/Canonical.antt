@@ -9,8 +9,8 @@ use Rattle.dict_fix50.specs.Said as said50
 use Rattle.dict_fix50.specs.Sense.{request50}
 use Rattle.dict_fix50.specs.declared.requests.Msg50.{Msg50}
 use Rattle.dict_fix50.specs.declared.requests.Msg50.TheVariants as messages
-use Rattle.sound_messages.specs.Sound.{IsSound}
-use Rattle.sound_messages.specs.Complete.{HasMonthOfDate}
+use Rattle.sound_laws.specs.Sound.{IsSound}
+use Rattle.sound_laws.specs.Complete.{HasMonthOfDate}
 use Rattle.order_meaning.specs.declared.party.PartyLine.{PartyLine}
 use Rattle.party_translate.specs.Parties.{parties_of}
 use Rattle.row_values.specs.Lines as row_lines

@@ -13,7 +13,7 @@ use Rattle.dict_fix50.specs.Said.{says as says50}
 use Rattle.dict_fix50.specs.declared.requests.Msg50.{Msg50}
 use Rattle.dict_fix50.specs.Sense.{sense50}
 use Rattle.dict_fix50.specs.Requests.{new_order, cancel_request, replace_request, status_request}
-use Rattle.sound_messages.specs.Sound.{without_resend}
+use Rattle.sound_laws.specs.Sound.{without_resend}
 use Rattle.request_translate.specs.Canonical.{HaveOneContent, IsCanonical50}
 use Rattle.translation.specs.declared.error.TranslateError.{TranslateError}
 use Rattle.request_translate.specs.Lack.{lack_of}

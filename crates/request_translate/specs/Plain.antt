@@ -7,7 +7,7 @@ use Rattle.frame_grammar.specs.Frame.{frame_of}
 use Rattle.field_groups.specs.Field.{Field, body_of}
 use Rattle.value_kinds.specs.ValueKind.{ValueKind, Id, Code, Stamp, Qty, Price, spelling}
 use Rattle.translation.specs.declared.error.TranslateError.{TranslateError}
-use Rattle.sound_messages.specs.Sound.{IsClear}
+use Rattle.sound_laws.specs.Sound.{IsClear}
 use Rattle.request_translate.specs.Translation.{IsOutcome}
 
 -- the values of a plain order

@@ -10,8 +10,8 @@ use Rattle.dict_fix50.specs.Requests as requests50
 use Rattle.dict_fix50.specs.Said as said50
 use Rattle.dict_fix50.specs.declared.requests.Msg50.{Msg50}
 use Rattle.dict_fix50.specs.declared.requests.Msg50.TheVariants as messages50
-use Rattle.sound_messages.specs.Sound.{IsSound}
-use Rattle.sound_messages.specs.Complete.{IsComplete}
+use Rattle.sound_laws.specs.Sound.{IsSound}
+use Rattle.sound_laws.specs.Complete.{IsComplete}
 
 abbrev pub IsSound42 : Msg42 → Type 0
 IsSound42 (messages42.New m) = IsSound judge (table42 68 requests42.new_order) (said42.new_says m)

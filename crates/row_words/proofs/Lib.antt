@@ -1,3 +1,3 @@
-pub mod Parted
+pub mod Split
 pub mod OneMore
 mod Worked

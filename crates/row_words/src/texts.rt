@@ -66,7 +66,7 @@ fn put_run(alloc: Global, out: &mut Vec<u8>, signs: &[Sign], part: &str) -> Resu
 /// # Errors
 ///
 /// `AllocError` for want of memory.
-#[tactic(auto, using(crate::proofs::Parted::cut))]
+#[tactic(auto, using(crate::proofs::Split::cut))]
 pub fn bytes_of(alloc: Global, signs: &[Sign], text: &str) -> Result<Vec<u8>, AllocError>
     ensures { IsPlain text.now → IfOk result (λ bytes. bytes.items ≡ meant signs.now text.now) }
 {

@@ -6,7 +6,7 @@ ghost use Rattle.row_words.specs.Words.{first_of, rest_of, behind, side_of};
 use order_meaning::Side;
 
 /// The first word of a text, and what stands behind the space after it.
-#[tactic(auto, using(crate::proofs::Parted::parted))]
+#[tactic(auto, using(crate::proofs::Split::split_at))]
 pub fn first_word(text: &str) -> (&str, &str)
     ensures first { result.0.now ≡ first_of text.now }
     ensures rest { result.1.now ≡ rest_of text.now }
@@ -18,7 +18,7 @@ pub fn first_word(text: &str) -> (&str, &str)
 }
 
 /// What stands behind so many words; nothing where there are fewer.
-#[tactic(auto, using(crate::proofs::Parted::one_behind))]
+#[tactic(auto, using(crate::proofs::Split::one_behind))]
 pub fn behind(text: &str, words: usize) -> &str
     ensures { result.now ≡ behind words text.now }
 {

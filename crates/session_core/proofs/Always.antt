@@ -41,14 +41,14 @@ use Rattle.session_core.proofs.Kept.{if_settled}
 use Rattle.session_core.proofs.ByRows.{no_message, opened_premise, tick_premise, end_premise}
 use Rattle.session_core.proofs.ByRows.{by_rows, ByRows, found, only_other, tick_other}
 
--- ---- a message is taken in turn
+-- ---- a message that is taken was expected
 
 abbrev pub is_take : Act → Bool
 is_take Take = true
 is_take act = false
 
-abbrev TakenInTurn : Session → Head → Type 0
-TakenInTurn s head = Numbered s.numbers.next_in head ⊎ ResetsFrom s.numbers.next_in head.what
+abbrev WasExpected : Session → Head → Type 0
+WasExpected s head = Numbered s.numbers.next_in head ⊎ ResetsFrom s.numbers.next_in head.what
 
 -- the number is the expected one where it is not passed over
 taken_number : (n : ℕ) (s : Session)
@@ -59,7 +59,7 @@ taken_number n s h =
     [ true ↦ λ e _. eqb-true n s.numbers.next_in e | false ↦ λ e h'. absurd (cc h') ] refl h
 
 taken_head : (head : Head) (s : Session) → ((n : ℕ) × Numbered n head)
-    → list_any is_take (take_or_skip (number_of (Message head)) s ∷ []) ≡ true → TakenInTurn s head
+    → list_any is_take (take_or_skip (number_of (Message head)) s ∷ []) ≡ true → WasExpected s head
 taken_head head s p h =
     let same : number_of (Message head) ≡ s.numbers.next_in =
     taken_number (number_of (Message head)) s h in
@@ -67,7 +67,7 @@ taken_head head s p h =
 
 taken_row : (r : Row) (now : ℕ) (s : Session) (head : Head) → Premise r s.numbers.next_in head
     → list_any is_take (effect_of r (number_of (Message head)) now s).acts ≡ true
-    → TakenInTurn s head
+    → WasExpected s head
 taken_row (S4 true) now s head p h = absurd (cc h)
 taken_row (S4 false) now s head p h = absurd (cc h)
 taken_row (S6 tag) now s head p h = taken_head head s p h
@@ -95,28 +95,28 @@ taken_row S34 now s head p h = let none : list_any is_take (tick_acts now s) ≡
 taken_row other now s head p h = absurd (cc h)
 
 -- where there is no message nothing is taken
-none_taken : (s : Session) → TakenInTurn s no_message → ⊥
+none_taken : (s : Session) → WasExpected s no_message → ⊥
 none_taken s h = elim h [ inl e ↦ absurd (cc e) | inr e ↦ e ]
 
-pub takes_in_turn : Always
+pub takes_expected : Always
     (λ s input now t. Contains t.acts Take → IsExpected s input ⊎ IsReset s input)
-takes_in_turn s Opened now =
+takes_expected s Opened now =
     if_settled now (effect_of (opened_row s.side) 0 now s) (λ t. Contains t.acts Take → ⊥ ⊎ ⊥)
     (λ c. absurd (none_taken s (taken_row (opened_row s.side)
     now s no_message (opened_premise s.side s.numbers.next_in) (found is_take _ Take refl c))))
-takes_in_turn s Closed now = if_settled now (effect_of S3 0 now s)
+takes_expected s Closed now = if_settled now (effect_of S3 0 now s)
     (λ t. Contains t.acts Take → ⊥ ⊎ ⊥) (λ c. absurd (cc (found is_take [] Take refl c)))
-takes_in_turn s (Message head) now =
+takes_expected s (Message head) now =
     let h : Session = heard (Message head) now s in
     if_settled now (effect_of (message_row h.link head h) (number_of (Message head)) now h)
-    (λ t. Contains t.acts Take → TakenInTurn s head)
+    (λ t. Contains t.acts Take → WasExpected s head)
     (λ c. taken_row (message_row h.link head h)
     now h head (message_premise h.link head h) (found is_take _ Take refl c))
-takes_in_turn s Tick now =
+takes_expected s Tick now =
     if_settled now (effect_of (tick_row s.link now s) 0 now s) (λ t. Contains t.acts Take → ⊥ ⊎ ⊥)
     (λ c. absurd (none_taken s (taken_row (tick_row s.link now s)
     now s no_message (tick_premise s.link now s) (found is_take _ Take refl c))))
-takes_in_turn s End now =
+takes_expected s End now =
     if_settled now (effect_of (end_row s.link) 0 now s) (λ t. Contains t.acts Take → ⊥ ⊎ ⊥)
     (λ c. absurd (none_taken s (taken_row (end_row s.link)
     now s no_message (end_premise s.link s.numbers.next_in) (found is_take _ Take refl c))))
@@ -512,7 +512,7 @@ skips s head now down =
     if_settled now (effect_of (message_row h.link head h) (number_of (Message head)) now h)
     (λ t. t.acts ≡ Skip ∷ []) (skips_row h.link head now h down)
 
--- ---- the application gets a message in turn alone
+-- ---- the application gets what was expected alone
 
 place_of : (w : What) (place : Ordering) (dup : Bool) (m n now : ℕ) (s : Session)
     → IsForApplication w
@@ -528,53 +528,54 @@ place_of what.Reject Greater dup m n now s a h = absurd (cc h)
 place_of what.Reject Equal dup m n now s a h = refl
 place_of other place dup m n now s a h = absurd a
 
-active_turn : (number comp time : Option ℕ) (w : What) (dup : Bool) (n now : ℕ) (s : Session)
+active_expected : (number comp time : Option ℕ) (w : What) (dup : Bool) (n now : ℕ) (s : Session)
     → IsForApplication w
     → (effect_of (active_case number comp time w dup s) n now s).acts ≡ Take ∷ []
     → (comp ≡ None) × (time ≡ None) × (number ≡ Some s.numbers.next_in)
-active_turn None comp time w dup n now s a h = absurd (cc h)
-active_turn (Some m) (Some tag) time w dup n now s a h = absurd (cc h)
-active_turn (Some m) None (Some reason) w dup n now s a h = absurd (cc h)
-active_turn (Some m) None None w dup n now s a h =
+active_expected None comp time w dup n now s a h = absurd (cc h)
+active_expected (Some m) (Some tag) time w dup n now s a h = absurd (cc h)
+active_expected (Some m) None (Some reason) w dup n now s a h = absurd (cc h)
+active_expected (Some m) None None w dup n now s a h =
     let at_it : nat_cmp m s.numbers.next_in ≡ Equal =
     place_of w (nat_cmp m s.numbers.next_in) dup m n now s a h in
     (refl, refl, ap Some (exact_unsigned m s.numbers.next_in at_it))
 
-waiting_turn : (number comp time : Option ℕ) (w : What) (dup : Bool) (n now : ℕ) (s : Session)
+waiting_expected : (number comp time : Option ℕ) (w : What) (dup : Bool) (n now : ℕ) (s : Session)
     → IsForApplication w
     → (effect_of (waiting_case number comp time w dup s) n now s).acts ≡ Take ∷ [] → ⊥
-waiting_turn None comp time w dup n now s a h = absurd (cc h)
-waiting_turn (Some m) (Some tag) time w dup n now s a h = absurd (cc h)
-waiting_turn (Some m) None (Some reason) w dup n now s a h = absurd (cc h)
-waiting_turn (Some m) None None what.App dup n now s a h = absurd (cc h)
-waiting_turn (Some m) None None what.Reject dup n now s a h = absurd (cc h)
-waiting_turn (Some m) None None other dup n now s a h = absurd a
+waiting_expected None comp time w dup n now s a h = absurd (cc h)
+waiting_expected (Some m) (Some tag) time w dup n now s a h = absurd (cc h)
+waiting_expected (Some m) None (Some reason) w dup n now s a h = absurd (cc h)
+waiting_expected (Some m) None None what.App dup n now s a h = absurd (cc h)
+waiting_expected (Some m) None None what.Reject dup n now s a h = absurd (cc h)
+waiting_expected (Some m) None None other dup n now s a h = absurd a
 
-message_turn : (link : LinkState) (head : Head) (now : ℕ) (s : Session) → IsForApplication head.what
+message_expected : (link : LinkState) (head : Head) (now : ℕ) (s : Session)
+    → IsForApplication head.what
     → (effect_of (message_row link head s) (number_of (Message head)) now s).acts ≡ Take ∷ []
     → (link ≡ Active)
     × (head.comp ≡ None) × (head.time ≡ None) × (head.number ≡ Some s.numbers.next_in)
-message_turn Down head now s a h = absurd (cc h)
-message_turn Wait head now s a h = absurd (waiting_turn
+message_expected Down head now s a h = absurd (cc h)
+message_expected Wait head now s a h = absurd (waiting_expected
     head.number head.comp head.time head.what head.dup (number_of (Message head)) now s a h)
-message_turn Asked head now s a h = absurd (waiting_turn
+message_expected Asked head now s a h = absurd (waiting_expected
     head.number head.comp head.time head.what head.dup (number_of (Message head)) now s a h)
-message_turn Active head now s a h =
-    let turn : (head.comp ≡ None) × (head.time ≡ None) × (head.number ≡ Some s.numbers.next_in) =
-    active_turn
+message_expected Active head now s a h =
+    let is : (head.comp ≡ None) × (head.time ≡ None) × (head.number ≡ Some s.numbers.next_in) =
+    active_expected
     head.number head.comp head.time head.what head.dup (number_of (Message head)) now s a h in
-    (refl, turn.0, turn.1, turn.2)
+    (refl, is.0, is.1, is.2)
 
-pub in_turn : (s : Session) (head : Head) (now : ℕ) → IsForApplication head.what
+pub was_expected : (s : Session) (head : Head) (now : ℕ) → IsForApplication head.what
     → IfOk (step s (Message head) now) (λ t. t.acts ≡ Take ∷ []
     → (s.link ≡ Active)
     × (head.comp ≡ None) × (head.time ≡ None) × (head.number ≡ Some s.numbers.next_in))
-in_turn s head now a =
+was_expected s head now a =
     let h : Session = heard (Message head) now s in
     if_settled now (effect_of (message_row h.link head h) (number_of (Message head)) now h)
     (λ t. t.acts ≡ Take ∷ [] → (s.link ≡ Active)
     × (head.comp ≡ None) × (head.time ≡ None) × (head.number ≡ Some s.numbers.next_in))
-    (message_turn h.link head now h a)
+    (message_expected h.link head now h a)
 
 -- ---- five acts at most
 

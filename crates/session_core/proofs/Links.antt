@@ -375,34 +375,35 @@ is_active_by s End now =
     now (effect_of (end_row s.link) 0 now s) (λ t. t.next.link ≡ Active → (s.link ≡ Active) ⊎ ⊥)
     (λ e. inl (stays_row (end_row s.link) 0 now s (end_no_logon s.link) e))
 
--- ---- a message of the application has its turn, or the session ends
+-- ---- the application gets its message, or the session ends
 
-abbrev TurnOrEnd : List Act → Type 0
-TurnOrEnd acts = list_any is_take acts ≡ true → (acts ≡ Take ∷ []) ⊎ Contains acts HangUp
+abbrev TakenOrEnds : List Act → Type 0
+TakenOrEnds acts = list_any is_take acts ≡ true → (acts ≡ Take ∷ []) ⊎ Contains acts HangUp
 
-early_turn : (dup : Bool) (n now : ℕ) (s : Session) → TurnOrEnd (effect_of (S23 dup) n now s).acts
-early_turn dup n now s h =
+early_expected : (dup : Bool) (n now : ℕ) (s : Session)
+    → TakenOrEnds (effect_of (S23 dup) n now s).acts
+early_expected dup n now s h =
     let none : list_any is_take (only (is_asked_for dup s.ask) (asking s)) ≡ false =
     only_other is_take (is_asked_for dup s.ask) (asking s) refl in absurd (cc (none, h))
 
-numbered_turn : (w : What) (place : Ordering) (dup : Bool) (m n now : ℕ) (s : Session)
+numbered_expected : (w : What) (place : Ordering) (dup : Bool) (m n now : ℕ) (s : Session)
     → IsForApplication w
-    → TurnOrEnd (effect_of (numbered_row w place dup m s.numbers.next_in) n now s).acts
-numbered_turn what.App Less true m n now s a h = absurd (cc h)
-numbered_turn what.App Less false m n now s a h = absurd (cc h)
-numbered_turn what.App Greater dup m n now s a h = early_turn dup n now s h
-numbered_turn what.App Equal dup m n now s a h = inl refl
-numbered_turn what.Reject Less true m n now s a h = absurd (cc h)
-numbered_turn what.Reject Less false m n now s a h = absurd (cc h)
-numbered_turn what.Reject Greater dup m n now s a h = early_turn dup n now s h
-numbered_turn what.Reject Equal dup m n now s a h = inl refl
-numbered_turn other place dup m n now s a h = absurd a
+    → TakenOrEnds (effect_of (numbered_row w place dup m s.numbers.next_in) n now s).acts
+numbered_expected what.App Less true m n now s a h = absurd (cc h)
+numbered_expected what.App Less false m n now s a h = absurd (cc h)
+numbered_expected what.App Greater dup m n now s a h = early_expected dup n now s h
+numbered_expected what.App Equal dup m n now s a h = inl refl
+numbered_expected what.Reject Less true m n now s a h = absurd (cc h)
+numbered_expected what.Reject Less false m n now s a h = absurd (cc h)
+numbered_expected what.Reject Greater dup m n now s a h = early_expected dup n now s h
+numbered_expected what.Reject Equal dup m n now s a h = inl refl
+numbered_expected other place dup m n now s a h = absurd a
 
 -- a wrong head ends the session
-ends_turn : (n : ℕ) (s : Session) (rejects : Act) (w : Why)
+ends_expected : (n : ℕ) (s : Session) (rejects : Act) (w : Why)
     → (take_or_skip n s ∷ rejects ∷ logout w ∷ HangUp ∷ [] ≡ Take ∷ [])
     ⊎ Contains (take_or_skip n s ∷ rejects ∷ logout w ∷ HangUp ∷ []) HangUp
-ends_turn n s rejects w =
+ends_expected n s rejects w =
     let acts : List Act = rejects ∷ logout w ∷ HangUp ∷ []
     in inr (hangs_up (take_or_skip n s ∷ acts) (hangs_after n s acts (found_last rejects w)))
   where
@@ -413,54 +414,56 @@ ends_turn n s rejects w =
     found_last HangUp w = refl
     found_last (Resend from to) w = refl
 
-active_turn : (number comp time : Option ℕ) (w : What) (dup : Bool) (n now : ℕ) (s : Session)
+active_expected : (number comp time : Option ℕ) (w : What) (dup : Bool) (n now : ℕ) (s : Session)
     → IsForApplication w
-    → TurnOrEnd (effect_of (active_case number comp time w dup s) n now s).acts
-active_turn None comp time w dup n now s a h = absurd (cc h)
-active_turn (Some m) (Some tag) time w dup n now s a h =
-    ends_turn n s (reject tag COMP_ID_PROBLEM) why.CompId
-active_turn (Some m) None (Some reason) w dup n now s a h =
-    ends_turn n s (reject SENDING_TIME reason) why.Clock
-active_turn (Some m) None None w dup n now s a h =
-    numbered_turn w (nat_cmp m s.numbers.next_in) dup m n now s a h
+    → TakenOrEnds (effect_of (active_case number comp time w dup s) n now s).acts
+active_expected None comp time w dup n now s a h = absurd (cc h)
+active_expected (Some m) (Some tag) time w dup n now s a h =
+    ends_expected n s (reject tag COMP_ID_PROBLEM) why.CompId
+active_expected (Some m) None (Some reason) w dup n now s a h =
+    ends_expected n s (reject SENDING_TIME reason) why.Clock
+active_expected (Some m) None None w dup n now s a h =
+    numbered_expected w (nat_cmp m s.numbers.next_in) dup m n now s a h
 
-waiting_turn : (number comp time : Option ℕ) (w : What) (dup : Bool) (n now : ℕ) (s : Session)
+waiting_expected : (number comp time : Option ℕ) (w : What) (dup : Bool) (n now : ℕ) (s : Session)
     → IsForApplication w
-    → TurnOrEnd (effect_of (waiting_case number comp time w dup s) n now s).acts
-waiting_turn None comp time w dup n now s a h = absurd (cc h)
-waiting_turn (Some m) (Some tag) time w dup n now s a h = absurd (cc h)
-waiting_turn (Some m) None (Some reason) w dup n now s a h = absurd (cc h)
-waiting_turn (Some m) None None what.App dup n now s a h = absurd (cc h)
-waiting_turn (Some m) None None what.Reject dup n now s a h = absurd (cc h)
-waiting_turn (Some m) None None other dup n now s a h = absurd a
+    → TakenOrEnds (effect_of (waiting_case number comp time w dup s) n now s).acts
+waiting_expected None comp time w dup n now s a h = absurd (cc h)
+waiting_expected (Some m) (Some tag) time w dup n now s a h = absurd (cc h)
+waiting_expected (Some m) None (Some reason) w dup n now s a h = absurd (cc h)
+waiting_expected (Some m) None None what.App dup n now s a h = absurd (cc h)
+waiting_expected (Some m) None None what.Reject dup n now s a h = absurd (cc h)
+waiting_expected (Some m) None None other dup n now s a h = absurd a
 
-message_turn : (link : LinkState) (head : Head) (now : ℕ) (s : Session) → IsForApplication head.what
-    → TurnOrEnd (effect_of (message_row link head s) (number_of (Message head)) now s).acts
-message_turn Down head now s a h = absurd (cc h)
-message_turn Wait head now s a h = waiting_turn
+message_expected : (link : LinkState) (head : Head) (now : ℕ) (s : Session)
+    → IsForApplication head.what
+    → TakenOrEnds (effect_of (message_row link head s) (number_of (Message head)) now s).acts
+message_expected Down head now s a h = absurd (cc h)
+message_expected Wait head now s a h = waiting_expected
     head.number head.comp head.time head.what head.dup (number_of (Message head)) now s a h
-message_turn Asked head now s a h = waiting_turn
+message_expected Asked head now s a h = waiting_expected
     head.number head.comp head.time head.what head.dup (number_of (Message head)) now s a h
-message_turn Active head now s a h = active_turn
+message_expected Active head now s a h = active_expected
     head.number head.comp head.time head.what head.dup (number_of (Message head)) now s a h
 
 abbrev TakesOnly : Input → Step → Type 0
 TakesOnly input t =
     IsOfApplication input → Contains t.acts Take → (t.acts ≡ Take ∷ []) ⊎ Contains t.acts HangUp
 
-pub turn_or_end : Always (λ s input now t. IsOfApplication input
+pub taken_or_ends : Always (λ s input now t. IsOfApplication input
     → Contains t.acts Take → (t.acts ≡ Take ∷ []) ⊎ Contains t.acts HangUp)
-turn_or_end s (Message head) now =
+taken_or_ends s (Message head) now =
     let h : Session = heard (Message head) now s in
     if_settled now (effect_of (message_row h.link head h) (number_of (Message head)) now h)
     (TakesOnly (Message head))
-    (λ a c. message_turn h.link head now h a (found is_take _ Take refl c))
-turn_or_end s Opened now =
+    (λ a c. message_expected h.link head now h a (found is_take _ Take refl c))
+taken_or_ends s Opened now =
     if_settled now (effect_of (opened_row s.side) 0 now s) (TakesOnly Opened) (λ a. absurd a)
-turn_or_end s Closed now = if_settled now (effect_of S3 0 now s) (TakesOnly Closed) (λ a. absurd a)
-turn_or_end s Tick now =
+taken_or_ends s Closed now =
+    if_settled now (effect_of S3 0 now s) (TakesOnly Closed) (λ a. absurd a)
+taken_or_ends s Tick now =
     if_settled now (effect_of (tick_row s.link now s) 0 now s) (TakesOnly Tick) (λ a. absurd a)
-turn_or_end s End now =
+taken_or_ends s End now =
     if_settled now (effect_of (end_row s.link) 0 now s) (TakesOnly End) (λ a. absurd a)
 
 -- ---- what holds of each act of a step

@@ -21,7 +21,7 @@ pub fn expected_number_never_falls()
 
 /// A message is taken only at the expected number, or as a SequenceReset that is no gap fill and
 /// sets the expected number to itself or a higher one.
-pub fn taken_in_turn()
+pub fn taken_at_the_expected_number()
     ensures { Always (λ s input now t.
         Contains t.acts Act.Take → IsExpected s input ⊎ IsReset s input) }
 {}
@@ -117,28 +117,28 @@ pub fn nothing_without_a_connection()
         → IfOk (step s (Message head) now) (λ t. t.acts ≡ Act.Skip ∷ []) }
 {}
 
-/// A Reject or a message of the application whose one act is that it is taken came in turn, with
-/// the right names and time, to a session that is logged on. This is how the application knows what
-/// it is to decide.
-pub fn application_gets_its_turn()
+/// A Reject or a message of the application whose one act is that it is taken had the expected
+/// number and the right names and time, in a session that is logged on. This is how the application
+/// knows what it is to decide.
+pub fn application_gets_what_was_expected()
     ensures { (s : Session) (head : Head) (now : ℕ) → IsForApplication head.what
         → IfOk (step s (Message head) now) (λ t. t.acts ≡ Act.Take ∷ []
         → (s.link ≡ LinkState.Active) × (head.comp ≡ None) × (head.time ≡ None)
         × (head.number ≡ Some s.numbers.next_in)) }
 {}
 
-/// Such a message in turn has its turn: it is taken, and nothing else is done. With the law before:
-/// the application decides exactly about these.
-pub fn application_has_its_turn()
+/// Each such message is taken, and nothing else is done. With the law before: the application
+/// decides exactly about these.
+pub fn expected_messages_are_taken()
     ensures { (s : Session) (head : Head) (now : ℕ) → IsForApplication head.what
         → s.link ≡ LinkState.Active → head.comp ≡ None → head.time ≡ None
         → head.number ≡ Some s.numbers.next_in
         → IsOkAnd (step s (Message head) now) (λ t. t.acts ≡ Act.Take ∷ []) }
 {}
 
-/// Where a Reject or a message of the application is taken and is not the application's turn, the
+/// Where a Reject or a message of the application is taken, and that is not the one act, the
 /// session ends.
-pub fn application_has_its_turn_or_the_session_ends()
+pub fn application_gets_it_or_the_session_ends()
     ensures { Always (λ s input now t. IsOfApplication input → Contains t.acts Act.Take
         → (t.acts ≡ Act.Take ∷ []) ⊎ Contains t.acts Act.HangUp) }
 {}

@@ -1,6 +1,6 @@
 //! The journal's file, and the stop file with the clock.
 
-use crate::lines::Lines;
+use crate::lines::Printed;
 use crate::peers::free_pair;
 use edge_logic::Shared;
 use edge_system::{Edge, JournalFile, StopFile};
@@ -91,7 +91,7 @@ fn a_journal_is_locked_and_kept(rt: HostRuntime) -> Result<(), Fail> {
 
 /// Whether a clock whose stop file lies there gives a moment after 2023, tells the stop, and stands
 /// still.
-fn stands_still<K: Clock>(clock: &mut K, lines: &Lines) -> bool {
+fn stands_still<K: Clock>(clock: &mut K, lines: &Printed) -> bool {
     let moment = clock.now();
     moment > 1_700_000_000_000
         && lines.have(b" the stop file asks for an end\n")
@@ -101,7 +101,7 @@ fn stands_still<K: Clock>(clock: &mut K, lines: &Lines) -> bool {
 /// Whether the clock of an edge stands still by a stop file that lies there.
 fn stops(rt: &HostRuntime, stop: StopFile<'_>) -> io::Result<bool> {
     let shared = Shared::new();
-    let lines = Lines::new(rt);
+    let lines = Printed::new(rt);
     let mut edge = Edge::new(rt, &shared, free_pair(rt)?, stop, &lines)?;
     Ok(stands_still(&mut edge.clock, &lines))
 }

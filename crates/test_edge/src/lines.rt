@@ -6,11 +6,11 @@ use std::io::{ErrorKind, Write};
 
 /// Keeps the lines that are written to it.
 #[derive(Drop)]
-pub(crate) struct Lines {
+pub(crate) struct Printed {
     text: RefCell<Vec<u8>>,
 }
 
-impl Write for &Lines {
+impl Write for &Printed {
     fn write(&mut self, buf: &[u8]) -> io::Result<usize> {
         match self.text.try_borrow_mut() {
             Ok(mut text) => {
@@ -26,10 +26,10 @@ impl Write for &Lines {
     }
 }
 
-impl Lines {
+impl Printed {
     /// No line yet.
-    pub(crate) fn new(rt: &HostRuntime) -> Lines {
-        Lines {
+    pub(crate) fn new(rt: &HostRuntime) -> Printed {
+        Printed {
             text: RefCell::new(Vec::new(rt.alloc())),
         }
     }

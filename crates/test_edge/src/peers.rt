@@ -1,6 +1,6 @@
 //! The client's side and the venue's, over the loopback.
 
-use crate::lines::Lines;
+use crate::lines::Printed;
 use edge_logic::{Counted, Peer, Shared};
 use edge_system::{Addresses, Edge, StopFile};
 use outside::Failed;
@@ -129,7 +129,7 @@ fn serves_a_client<P: Peer + Drop, K: Clock + Drop>(
     mut client: Counted<P>,
     mut clock: K,
     address: SocketAddr,
-    lines: &Lines,
+    lines: &Printed,
 ) -> io::Result<bool> {
     Ok(
         client.poll(&mut [0u8; 64]) == Ok(Arrival::Nothing)
@@ -145,7 +145,7 @@ fn serves_a_client<P: Peer + Drop, K: Clock + Drop>(
 #[test]
 fn a_client_opens_speaks_and_closes(rt: HostRuntime) -> Result<(), Fail> {
     let shared = Shared::new();
-    let lines = Lines::new(&rt);
+    let lines = Printed::new(&rt);
     let at = free_pair(&rt)?;
     let edge = Edge::new(&rt, &shared, at, StopFile::new("no-such-file"), &lines)?;
     let serves = serves_a_client(&rt, edge.client, edge.clock, at.listen, &lines)?;
@@ -172,7 +172,7 @@ fn called<P: Peer, K: Clock>(
 fn hangs_up<P: Peer>(
     venue: &mut Counted<P>,
     peer: &mut TcpStream,
-    lines: &Lines,
+    lines: &Printed,
 ) -> io::Result<bool> {
     venue.hang_up();
     Ok(
@@ -187,7 +187,7 @@ fn calls_a_venue<P: Peer + Drop, K: Clock + Drop>(
     mut venue: Counted<P>,
     mut clock: K,
     address: SocketAddr,
-    lines: &Lines,
+    lines: &Printed,
 ) -> io::Result<bool> {
     let mut peer = called(rt, &mut venue, &mut clock, address)?;
     Ok(
@@ -200,7 +200,7 @@ fn calls_a_venue<P: Peer + Drop, K: Clock + Drop>(
 #[test]
 fn a_venue_is_called_and_hung_up(rt: HostRuntime) -> Result<(), Fail> {
     let shared = Shared::new();
-    let lines = Lines::new(&rt);
+    let lines = Printed::new(&rt);
     let at = free_pair(&rt)?;
     let edge = Edge::new(&rt, &shared, at, StopFile::new("no-such-file"), &lines)?;
     let calls = calls_a_venue(&rt, edge.venue, edge.clock, at.connect, &lines)?;
@@ -212,7 +212,7 @@ fn a_venue_is_called_and_hung_up(rt: HostRuntime) -> Result<(), Fail> {
 fn misses_a_venue<P: Peer + Drop, K: Clock + Drop>(
     mut venue: Counted<P>,
     mut clock: K,
-    lines: &Lines,
+    lines: &Printed,
 ) -> bool {
     is_next(&mut venue, &mut clock, Err(Failed))
         && lines.have(b"; next try in 1 s\n")
@@ -222,7 +222,7 @@ fn misses_a_venue<P: Peer + Drop, K: Clock + Drop>(
 #[test]
 fn a_venue_that_is_not_there_is_told(rt: HostRuntime) -> Result<(), Fail> {
     let shared = Shared::new();
-    let lines = Lines::new(&rt);
+    let lines = Printed::new(&rt);
     let at = free_pair(&rt)?;
     let edge = Edge::new(&rt, &shared, at, StopFile::new("no-such-file"), &lines)?;
     assert!(rt; misses_a_venue(edge.venue, edge.clock, &lines));

@@ -125,14 +125,14 @@ fn told(taps: &[Box<dyn Tap>], place: usize) -> Option<(Seen, bool)> {
 }
 
 /// What the first three taps counted, and whether they have failed.
-type Told = [Option<(Seen, bool)>; 3];
+type Counts = [Option<(Seen, bool)>; 3];
 
-fn all_told(taps: &[Box<dyn Tap>]) -> Told {
+fn all_told(taps: &[Box<dyn Tap>]) -> Counts {
     [told(taps, 0), told(taps, 1), told(taps, 2)]
 }
 
 /// What taps tell after the day, and once those that have failed are dropped.
-fn told_twice(alloc: Global, taps: &mut Vec<Box<dyn Tap>>) -> Result<[Told; 2], AllocError> {
+fn told_twice(alloc: Global, taps: &mut Vec<Box<dyn Tap>>) -> Result<[Counts; 2], AllocError> {
     show_day(alloc, taps)?;
     let before = all_told(taps);
     clear(taps);
@@ -174,7 +174,7 @@ fn a_failed_tap_is_passed_over_and_dropped(rt: HostRuntime) -> Result<(), Fail> 
 }
 
 /// What a tap that fails at this call and one that counts tell.
-fn told_of_two(alloc: Global, call: u64) -> Result<[Told; 2], AllocError> {
+fn told_of_two(alloc: Global, call: u64) -> Result<[Counts; 2], AllocError> {
     let mut taps = Vec::new(alloc);
     add_two(alloc, &mut taps, call)?;
     told_twice(alloc, &mut taps)

@@ -25,17 +25,17 @@ use Rattle.row_values.specs.Kinds.{Kind, Value, Byte, DayOf, MonthBeside, TimeBe
 use Rattle.row_values.specs.Kinds.{judge, verdict_of, filled, month_beside, is_at_close, counted}
 use Rattle.row_values.specs.Kinds.{in_month}
 use Rattle.first_faults.specs.Faults.{told}
-use Rattle.sound_messages.specs.Sound.{IsSaid, IsItem, IsSound, places_of}
-use Rattle.sound_messages.proofs.Each.{are_apart, both, either, not_true, same_number, each_part}
-use Rattle.sound_messages.proofs.Each.{each_joined, each_front}
-use Rattle.sound_messages.proofs.Lookups.{places_apart}
-use Rattle.sound_messages.proofs.Stages.{AreOf, item_tags, is_other}
-use Rattle.sound_messages.proofs.Found.{FoundAt, items_of, value_behind}
-use Rattle.sound_messages.proofs.Values.{cells_in}
-use Rattle.sound_messages.proofs.ReadAgain as again
-use Rattle.sound_messages.proofs.ReadAgain.{IsTable, cells_by_places}
-use Rattle.sound_messages.proofs.TableFits as fits
-use Rattle.sound_messages.proofs.TableFits.{table_fits}
+use Rattle.sound_laws.specs.Sound.{IsSaid, IsItem, IsSound, places_of}
+use Rattle.sound_laws.proofs.Each.{are_apart, both, either, not_true, same_number, each_part}
+use Rattle.sound_laws.proofs.Each.{each_joined, each_front}
+use Rattle.sound_laws.proofs.Lookups.{places_apart}
+use Rattle.sound_laws.proofs.Stages.{AreOf, item_tags, is_other}
+use Rattle.sound_laws.proofs.Found.{FoundAt, items_of, value_behind}
+use Rattle.sound_laws.proofs.Values.{cells_in}
+use Rattle.sound_laws.proofs.ReadAgain as again
+use Rattle.sound_laws.proofs.ReadAgain.{IsTable, cells_by_places}
+use Rattle.sound_laws.proofs.TableFits as fits
+use Rattle.sound_laws.proofs.TableFits.{table_fits}
 
 -- ---- the cells of a header
 

@@ -12,11 +12,11 @@ use Rattle.message_tables.specs.Tables.{value_at}
 use Rattle.message_tables.specs.FirstFault.{allowed, beyond, first_fault, mark_of, wrong}
 use Rattle.value_kinds.specs.ValueKind.{ValueKind, Filled, Flag, Spelling, spelling}
 use Rattle.row_values.specs.Kinds.{Kind, Value, judge, row, verdict_of}
-use Rattle.sound_messages.specs.Sound.{IsClear, IsSaid}
-use Rattle.sound_messages.proofs.Good.{held, IsGood, all_good}
-use Rattle.sound_messages.proofs.ReadSound.{IsClearField}
-use Rattle.sound_messages.proofs.RowsSaid.{optional_said}
-use Rattle.sound_messages.proofs.SpelledAgain.{is_own, own_bytes}
+use Rattle.sound_laws.specs.Sound.{IsClear, IsSaid}
+use Rattle.sound_laws.proofs.Good.{held, IsGood, all_good}
+use Rattle.sound_laws.proofs.ReadSound.{IsClearField}
+use Rattle.sound_laws.proofs.RowsSaid.{optional_said}
+use Rattle.sound_laws.proofs.SpelledAgain.{is_own, own_bytes}
 use Rattle.translation.specs.Header.{carried_tags}
 use Rattle.translation.proofs.Writable.{IsType, One as OneByte}
 

@@ -11,11 +11,11 @@ use Rattle.field_groups.proofs.Plain.{plain_again}
 use Rattle.message_tables.specs.Tables.{Tag, value_at}
 use Rattle.message_tables.specs.Content.{cell_fields}
 use Rattle.row_values.specs.Kinds as row_kinds
-use Rattle.sound_messages.proofs.Each.{both, not_true, each_joined}
-use Rattle.sound_messages.proofs.Good.{held}
-use Rattle.sound_messages.proofs.PlainFields.{is_good_tag, Plains, AreFew, plain_field, cell_length}
-use Rattle.sound_messages.proofs.PlainFields.{all_of, clear_fields}
-use Rattle.sound_messages.proofs.ReadSound.{IsClearField}
+use Rattle.sound_laws.proofs.Each.{both, not_true, each_joined}
+use Rattle.sound_laws.proofs.Good.{held}
+use Rattle.sound_laws.proofs.PlainFields.{is_good_tag, Plains, AreFew, plain_field, cell_length}
+use Rattle.sound_laws.proofs.PlainFields.{all_of, clear_fields}
+use Rattle.sound_laws.proofs.ReadSound.{IsClearField}
 use Rattle.translation.specs.Header.{type_of, carried, carried_field, carried_tags, with_content}
 use Rattle.translation.proofs.Writable.{IsType, One as OneByte}
 

@@ -21,7 +21,7 @@ use Rattle.typed_fields.specs.declared.dec.Dec.{Dec}
 use Rattle.value_kinds.specs.ValueKind.{ValueKind, Filled, Id, Text, OneByte, Code, Known, Codes}
 use Rattle.value_kinds.specs.ValueKind.{Word, Currency, Flag, Number, Reason, Qty, Price, Stamp}
 use Rattle.value_kinds.specs.ValueKind.{Day, MonthYear, DayOfMonth, spelling, spelled, spelt}
-use Rattle.value_kinds.specs.ValueKind.{are_parted, are_codes}
+use Rattle.value_kinds.specs.ValueKind.{are_spaced, are_codes}
 use Rattle.typed_fields.specs.Number.{read_number, number_text}
 use Rattle.typed_fields.specs.Flag.{read_flag, flag_text}
 use Rattle.typed_fields.specs.Dec.{read_dec, dec_text}
@@ -149,7 +149,7 @@ verbatim Text [] h = refl
 verbatim Text (b ∷ bs) h = by_length (nat_le (length (b ∷ bs)) 2048) (b ∷ bs)
 verbatim (Codes listed) [] h = refl
 verbatim (Codes listed) (b ∷ bs) h =
-    by_codes (are_parted false (b ∷ bs)) (are_codes listed false (b ∷ bs)) (b ∷ bs)
+    by_codes (are_spaced false (b ∷ bs)) (are_codes listed false (b ∷ bs)) (b ∷ bs)
 verbatim (Word listed) [] h = refl
 verbatim (Word listed) (b ∷ bs) h = by_list (list_any (bytes_eq (b ∷ bs)) listed) (b ∷ bs)
 verbatim Currency [] h = refl

@@ -31,7 +31,7 @@ pub data ValueKind : Type 0 where
   Code : (listed : List ℕ) → ValueKind
   -- one of these bytes, where any other value is out of range
   Known : (listed : List ℕ) → ValueKind
-  -- some of these bytes, parted by single spaces
+  -- some of these bytes, with single spaces between them
   Codes : (listed : List ℕ) → ValueKind
   -- one of these words
   Word : (listed : List (List ℕ)) → ValueKind
@@ -75,10 +75,10 @@ is_code listed (byte ∷ []) = list_any (λ code. code == byte) listed
 is_code listed bytes = false
 
 -- whether each part between spaces has a byte; the part before these bytes has one, or has none yet
-abbrev pub are_parted : Bool → List ℕ → Bool
-are_parted begun [] = begun
-are_parted begun (byte ∷ bytes) =
-    if byte == 32 then begun && are_parted false bytes else are_parted true bytes
+abbrev pub are_spaced : Bool → List ℕ → Bool
+are_spaced begun [] = begun
+are_spaced begun (byte ∷ bytes) =
+    if byte == 32 then begun && are_spaced false bytes else are_spaced true bytes
 
 -- whether these bytes are listed codes with single spaces between them, where a code is to come, or
 -- has just come
@@ -88,10 +88,10 @@ are_codes listed true (byte ∷ bytes) = byte == 32 && are_codes listed false by
 are_codes listed false (byte ∷ bytes) =
     list_any (λ code. code == byte) listed && are_codes listed true bytes
 
--- values parted by single spaces; a value that is no listed code is outside the profile
+-- values with single spaces between them; one that is no listed code is outside the profile
 abbrev pub codes_among : List ℕ → List ℕ → Spelling
 codes_among listed bytes =
-    if are_parted false bytes
+    if are_spaced false bytes
     then Ok (listed_word (are_codes listed false bytes) bytes) else Err Form
 
 -- a value that was read, by a spelling of it

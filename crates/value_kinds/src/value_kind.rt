@@ -17,7 +17,7 @@ ghost use Rattle.typed_fields.specs.MonthYear.{read_month_year, month_year_text,
 ghost use Rattle.typed_fields.specs.Flag.{flag_text};
 ghost use Rattle.value_kinds.specs.ValueKind as kinds;
 ghost use Rattle.value_kinds.specs.ValueKind.{Qty, Price, Reason, DayOfMonth, spelling, spelled};
-ghost use Rattle.value_kinds.specs.ValueKind.{spelt, if_in_range, is_code, are_parted, are_codes};
+ghost use Rattle.value_kinds.specs.ValueKind.{spelt, if_in_range, is_code, are_spaced, are_codes};
 ghost use Rattle.value_kinds.specs.ValueKind.{codes_among, two_digits, code_text, two_digit_text};
 ghost use Rattle.value_kinds.specs.CodeKinds.{value_kind_of, judged, is_good, is_verbatim};
 ghost use Rattle.value_kinds.specs.CodeKinds.{is_byte_kind};
@@ -50,7 +50,8 @@ pub enum ValueKind {
     Code(&'static [u8]),
     /// One of these bytes; any other value is out of range.
     Known(&'static [u8]),
-    /// Some of these bytes, parted by single spaces; any other such value is outside the profile.
+    /// Some of these bytes, with single spaces between them; any other such value is outside the
+    /// profile.
     Codes(&'static [u8]),
     /// One of these words; any other value is outside the profile.
     Word(&'static [&'static [u8]]),
@@ -111,8 +112,8 @@ fn is_word(words: &[&[u8]], bytes: &[u8]) -> bool
 }
 
 /// Whether each part of bytes between spaces has a byte.
-fn are_parted(bytes: &[u8]) -> bool
-    ensures { result ≡ are_parted false bytes.now }
+fn are_spaced(bytes: &[u8]) -> bool
+    ensures { result ≡ are_spaced false bytes.now }
 {
     let mut begun = false;
     for byte in bytes {
@@ -183,7 +184,7 @@ fn is_read<T: Drop>(read: Result<T, FieldFault>) -> Result<bool, FieldFault>
 fn judge_codes(listed: &[u8], value: &[u8]) -> Result<bool, FieldFault>
     ensures { result ≡ judged (codes_among listed.now value.now) }
 {
-    if are_parted(value) {
+    if are_spaced(value) {
         Ok(are_codes(listed, value))
     } else {
         Err(FieldFault::Form)

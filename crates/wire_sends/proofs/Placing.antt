@@ -14,8 +14,8 @@ use Rattle.pair_journal.specs.Numbers.{next_out, outs_to, Numbered, OutsGoOn, Go
 use Rattle.pair_journal.specs.Numbers.{first_numbers}
 use Rattle.pair_journal.specs.Journal.{AreEntries}
 use Rattle.pair_journal.specs.Given.{Given, numbered, given_in, given}
-use Rattle.pair_journal.specs.OutBuf.{Told, Tells}
-use Rattle.life_events.specs.Forms.{Placed, placed_at, all_placed, placed}
+use Rattle.pair_journal.specs.OutBuf.{OutAt, IsGivenAs}
+use Rattle.life_laws.specs.Forms.{Placed, placed_at, all_placed, placed}
 use Rattle.wire_sends.specs.Again.{placed_by}
 use Rattle.wire_sends.proofs.Sendings.{same_side}
 
@@ -163,8 +163,8 @@ to_place ps n p some is =
     ap (λ b. if b then None else slice_get ps (n - 1)) no ∙ is
 
 -- what a journal tells of an out is the out that has this place
-pub told_is_placed : (side : Side) (n : ℕ) (entries : List Entry) (what : Told)
-    → AreEntries first_numbers entries → Tells (given side n entries) what
+pub told_is_placed : (side : Side) (n : ℕ) (entries : List Entry) (what : OutAt)
+    → AreEntries first_numbers entries → IsGivenAs (given side n entries) what
     → placed side n entries ≡ Some (placed_by side n what)
 told_is_placed side n entries what are tells = at (given side n entries) refl tells
   where
@@ -172,7 +172,7 @@ told_is_placed side n entries what are tells = at (given side n entries) refl te
     one_first Client = refl
     one_first Venue = refl
 
-    at : (o : Option Given) → given side n entries ≡ o → Tells o what
+    at : (o : Option Given) → given side n entries ≡ o → IsGivenAs o what
         → placed side n entries ≡ Some (placed_by side n what)
     at None h t = absurd t
     at (Some one) h t =

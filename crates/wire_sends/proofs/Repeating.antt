@@ -13,9 +13,9 @@ use Rattle.order_meaning.specs.declared.Side.{Side}
 use Rattle.order_meaning.specs.declared.names.Names.{Names}
 use Rattle.pair_entries.specs.declared.entry.Entry.{Entry}
 use Rattle.wires.specs.Wire.{WireCall}
-use Rattle.life_events.specs.Forms.{Placed, Form, Again, placed, form_frame, out_frame}
-use Rattle.life_events.specs.Repeats.{Run, close_run, repeat_one, run_after, repeats}
-use Rattle.wire_sends.specs.Sent.{Sent, PartSent}
+use Rattle.life_laws.specs.Forms.{Placed, Form, Again, placed, form_frame, out_frame}
+use Rattle.life_laws.specs.Repeats.{Run, close_run, repeat_one, run_after, repeats}
+use Rattle.wire_sends.specs.Sent.{Sent, FrontSent}
 use Rattle.wire_sends.specs.declared.repeats.Run.{Run as KeptRun}
 use Rattle.wire_sends.specs.Again.{Repeated, IsBegun, run_of}
 use Rattle.wire_sends.proofs.Sendings.{sent_append, sent_none}
@@ -116,7 +116,7 @@ end_repeat a b d up mid after frame entries side run n now end all past at so_fa
 
 -- some of it
 pub cut_repeat : (a b : Option (List WireCall)) (up mid : Bool) (frame : Form → List ℕ)
-    (left all : List Form) → Repeated a b up frame mid left all → PartSent a b up (map frame all)
+    (left all : List Form) → Repeated a b up frame mid left all → FrontSent a b up (map frame all)
 cut_repeat a b up mid frame left all so_far = record {
   front = map frame so_far.done;
   rest = map frame left;

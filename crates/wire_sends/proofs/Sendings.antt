@@ -14,10 +14,10 @@ use Rattle.pair_journal.specs.Numbers.{is_side, outs_to}
 use Rattle.wires.specs.Told.{GrowsBy}
 use Rattle.wires.specs.Wire.{WireCall, Send, is_within, within_after}
 use Rattle.session_frames.specs.Frames.{fill_out}
-use Rattle.life_events.specs.Forms.{form_frame, out_frame, placed_at}
-use Rattle.life_events.specs.Repeats.{close_run}
-use Rattle.life_events.specs.Happens.{first_form}
-use Rattle.life_events.specs.Sends.{Sends}
+use Rattle.life_laws.specs.Forms.{form_frame, out_frame, placed_at}
+use Rattle.life_laws.specs.Repeats.{close_run}
+use Rattle.life_laws.specs.Happens.{first_form}
+use Rattle.life_laws.specs.Sends.{Sends}
 use Rattle.wire_sends.specs.declared.repeats.Run.{Run as KeptRun}
 use Rattle.wire_sends.specs.Again.{run_of}
 use Rattle.wire_sends.specs.Sent.{Agrees, Sent}

@@ -4,18 +4,18 @@ use Rattle.std.specs.declared.option.Option.{Option}
 use Rattle.std.specs.Option.{option_map}
 use Rattle.order_meaning.specs.declared.Side.{Side}
 use Rattle.pair_entries.specs.declared.TheConstants.{MAX_AT, MAX_NUMBER, MAX_NEXT}
-use Rattle.pair_journal.specs.OutBuf.{Told}
+use Rattle.pair_journal.specs.OutBuf.{OutAt}
 use Rattle.wires.specs.Wire.{WireCall}
 use Rattle.pair_entries.specs.declared.entry.Entry.{Entry}
 use Rattle.pair_journal.specs.Numbers.{next_out, numbers_after, first_numbers}
 use Rattle.event_decisions.specs.Decide.{Repeat}
-use Rattle.life_events.specs.Forms.{Placed, Form}
-use Rattle.life_events.specs.Repeats.{Run}
+use Rattle.life_laws.specs.Forms.{Placed, Form}
+use Rattle.life_laws.specs.Repeats.{Run}
 use Rattle.wire_sends.specs.declared.repeats.Run.{Run as KeptRun}
 use Rattle.wire_sends.specs.Sent.{Sent}
 
 -- the out of this side and number that is told
-abbrev pub placed_by : Side → ℕ → Told → Placed
+abbrev pub placed_by : Side → ℕ → OutAt → Placed
 placed_by side number told = record {
   out = record {
     side = side;

@@ -9,7 +9,7 @@ use Rattle.pair_journal.specs.Numbers.{is_side}
 use Rattle.pair_entries.specs.Payload.{IsOut}
 use Rattle.wires.specs.Told.{GrowsBy}
 use Rattle.wires.specs.Wire.{WireCall, is_within}
-use Rattle.life_events.specs.Sends.{Sends, hang_up_if}
+use Rattle.life_laws.specs.Sends.{Sends, hang_up_if}
 
 -- a wire that tells its record is within a connection exactly where the gateway has one
 abbrev pub Agrees : Option (List WireCall) → Bool → Type 0
@@ -23,7 +23,7 @@ pub record Sent (old new : Option (List WireCall)) (up : Bool) (pieces : List (L
   pub sends : Sends up pieces calls after
 
 -- a front of them was
-pub record PartSent (old new : Option (List WireCall)) (up : Bool) (pieces : List (List ℕ))
+pub record FrontSent (old new : Option (List WireCall)) (up : Bool) (pieces : List (List ℕ))
     : Type 0 where
   pub front : List (List ℕ)
   pub rest : List (List ℕ)

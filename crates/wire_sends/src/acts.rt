@@ -8,10 +8,10 @@ ghost use Rattle.pair_journal.specs.declared.error.JournalError.TheVariants as e
 ghost use Rattle.pair_journal.specs.Calls.{HasDiskCause};
 ghost use Rattle.pair_journal.specs.Journal.{JournalOf, Born, AreEntries};
 ghost use Rattle.pair_journal.specs.Numbers.{is_side, first_numbers};
-ghost use Rattle.life_events.specs.Forms.{form_frame};
-ghost use Rattle.life_events.specs.Repeats.{repeated_to};
-ghost use Rattle.life_events.specs.Happens.{firsts};
-ghost use Rattle.wire_sends.specs.Sent.{Agrees, Sent, PartSent, Hung, hung_side, AreSendable};
+ghost use Rattle.life_laws.specs.Forms.{form_frame};
+ghost use Rattle.life_laws.specs.Repeats.{repeated_to};
+ghost use Rattle.life_laws.specs.Happens.{firsts};
+ghost use Rattle.wire_sends.specs.Sent.{Agrees, Sent, FrontSent, Hung, hung_side, AreSendable};
 ghost use Rattle.wire_sends.specs.Again.{repeat_in, IsGiven};
 ghost use Rattle.wires.specs.Told.{Keeps};
 
@@ -52,7 +52,7 @@ pub fn repeat_on<D: Disk, W: Wire>(
     ensures sent { IfOk result (Sent (W.recorded wire.old) (W.recorded wire.new) up
         (map (form_frame names.now side)
         (repeated_to side journal.now.entries now (repeat_in resend)))) }
-    ensures part { OnErr result (PartSent (W.recorded wire.old) (W.recorded wire.new) up
+    ensures part { OnErr result (FrontSent (W.recorded wire.old) (W.recorded wire.new) up
         (map (form_frame names.now side)
         (repeated_to side journal.now.entries now (repeat_in resend)))) }
     ensures only_read { OnlyReads D.bytes D.image disk.old disk.new }

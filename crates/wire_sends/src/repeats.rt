@@ -7,10 +7,10 @@ ghost use Rattle.pair_journal.specs.declared.error.JournalError.TheVariants as e
 ghost use Rattle.pair_journal.specs.Calls.{HasDiskCause};
 ghost use Rattle.pair_journal.specs.Journal.{JournalOf, Born, AreEntries};
 ghost use Rattle.pair_journal.specs.Numbers.{numbers_after, first_numbers, next_out};
-ghost use Rattle.pair_journal.specs.OutBuf.{IsTold};
-ghost use Rattle.life_events.specs.Forms.{form_frame};
-ghost use Rattle.life_events.specs.Repeats.{close_run, repeat_one, run_after, repeat_forms};
-ghost use Rattle.wire_sends.specs.Sent.{Agrees, Sent, PartSent};
+ghost use Rattle.pair_journal.specs.OutBuf.{IsOutAt};
+ghost use Rattle.life_laws.specs.Forms.{form_frame};
+ghost use Rattle.life_laws.specs.Repeats.{close_run, repeat_one, run_after, repeat_forms};
+ghost use Rattle.wire_sends.specs.Sent.{Agrees, Sent, FrontSent};
 ghost use Rattle.wire_sends.specs.Again.{placed_by, run_of, IsBegun};
 ghost use Rattle.wires.specs.Told.{Keeps};
 
@@ -77,7 +77,7 @@ fn send_run<W: Wire>(
 fn run_behind(run: Option<Run>, number: u32, told: &OutBuf) -> Option<Run>
     requires begun { IsBegun run number }
     requires number { (1 ≤ number) × (number ≤ MAX_NUMBER) }
-    requires bounds { IsTold told.now }
+    requires bounds { IsOutAt told.now }
     ensures run { (side : Side) →
         run_of result ≡ run_after (run_of run) number (Some (placed_by side number told.now)) }
     ensures begun { IsBegun result (number + 1) }
@@ -109,7 +109,7 @@ fn send_again<W: Wire>(
     requires agrees { Agrees (W.recorded wire.old) up }
     requires begun { IsBegun run number }
     requires number { (1 ≤ number) × (number ≤ MAX_NUMBER) }
-    requires bounds { IsTold told.now }
+    requires bounds { IsOutAt told.now }
     requires moment { now ≤ MAX_AT }
     ensures agrees { Agrees (W.recorded wire.new) result }
     ensures sent { Sent (W.recorded wire.old) (W.recorded wire.new) up
@@ -166,7 +166,7 @@ pub(crate) fn repeat_outs<D: Disk, W: Wire>(
     ensures sent { IfOk result (Sent (W.recorded wire.old) (W.recorded wire.new) up
         (map (form_frame names.now again.side) (repeat_forms journal.now.entries again.side
         again.from again.to again.now))) }
-    ensures part { OnErr result (PartSent (W.recorded wire.old) (W.recorded wire.new) up
+    ensures part { OnErr result (FrontSent (W.recorded wire.old) (W.recorded wire.new) up
         (map (form_frame names.now again.side) (repeat_forms journal.now.entries again.side
         again.from again.to again.now))) }
     ensures only_read { OnlyReads D.bytes D.image disk.old disk.new }

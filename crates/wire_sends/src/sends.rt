@@ -2,8 +2,8 @@
 
 ghost use Rattle.std.specs.Prelude.{◌≡◌, ◌≤◌, [], ◌∷◌, map, if◌then◌else◌};
 ghost use Rattle.pair_journal.specs.Numbers.{is_side, outs_to};
-ghost use Rattle.life_events.specs.Forms.{form_frame};
-ghost use Rattle.life_events.specs.Happens.{first_form};
+ghost use Rattle.life_laws.specs.Forms.{form_frame};
+ghost use Rattle.life_laws.specs.Happens.{first_form};
 ghost use Rattle.wire_sends.specs.Sent.{Agrees, Sent, IsSendable, AreSendable};
 ghost use Rattle.wires.specs.Told.{Keeps};
 

@@ -21,12 +21,12 @@ returns-then-not-is_open c =
 pub loop-len-preserved : goal.loop-len-preserved
 loop-len-preserved c =
     let passed = c.loop-len.invariant.passed in
-    let turn = c.in-Some.ensures passed.payloads passed.place in
+    let step = c.in-Some.ensures passed.payloads passed.place in
     record {
       passed = passed_next c.args.image.now c.loop-len.lens.items
           _ c.loop-len.end c.in-Some.len passed (rest_of c.args.image.now (c.loop-len.end + 1))
-          c.push.new.self.items c.in_ok-push.ensures.items turn (grind (arith, nat_tests));
+          c.push.new.self.items c.in_ok-push.ensures.items step (grind (arith, nat_tests));
       within = within c.args.image.now c.loop-len.lens.items
           _ c.loop-len.end c.in-Some.len passed (rest_of c.args.image.now (c.loop-len.end + 1))
-          c.push.new.self.items c.in_ok-push.ensures.items turn;
+          c.push.new.self.items c.in_ok-push.ensures.items step;
     }

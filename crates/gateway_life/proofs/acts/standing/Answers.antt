@@ -1,5 +1,5 @@
 use Rattle.std.proofs.Common.{ap, ◌∙◌}
-use Rattle.life_events.specs.Happens.{standing}
+use Rattle.life_laws.specs.Happens.{standing}
 use Rattle.gateway_life.proofs.Standing.{closed_down, down_standing}
 use Rattle.gateway_life.proofs.acts.standing.Goals as goal
 

@@ -14,14 +14,14 @@ returns-in_err-life-clause-ends g c =
 
 pub returns-clause-done : goal.returns-clause-done
 returns-clause-done g c =
-    lived_whole c.whole.result c.args.config.now c.in_ok-life.life.gate.core.config c.args.rounds
+    lived_whole c.whole.result c.args.config.now c.in_ok-life.life.engine.core.config c.args.rounds
     (g.D.Disk.bytes c.args.disk.now) _ c.in_ok-life.life c.whole.new.self _ _ _ _
     c.in_ok-life.ensures.config c.in_ok-life.ensures.begun c.in_ok-life.ensures.begins
     c.whole.ensures.stands c.whole.ensures.done
 
 pub returns-clause-ends : goal.returns-clause-ends
 returns-clause-ends g c =
-    lived_stopped c.whole.result c.args.config.now c.in_ok-life.life.gate.core.config c.args.rounds
+    lived_stopped c.whole.result c.args.config.now c.in_ok-life.life.engine.core.config c.args.rounds
     (g.D.Disk.bytes c.args.disk.now) (g.D.Disk.bytes c.begin.new.disk) _ _ _ c.in_ok-life.life _ _
     _ _ _ c.in_ok-life.ensures.config c.in_ok-life.ensures.begun c.in_ok-life.ensures.begins
     c.begin.ensures.told c.in_ok-life.ensures.durable c.whole.ensures.only c.whole.ensures.ends
@@ -34,7 +34,7 @@ returns-in_err-life-clause-taps g c =
 pub returns-clause-taps : goal.returns-clause-taps
 returns-clause-taps g c =
     taps_whole c.an_image_has_one_reading.ensures _ c.whole.result _ _ c.args.config.now.names
-    c.in_ok-life.life.gate.core.config.names (g.D.Disk.bytes c.args.disk.now)
+    c.in_ok-life.life.engine.core.config.names (g.D.Disk.bytes c.args.disk.now)
     (g.D.Disk.bytes c.begin.new.disk) (g.D.Disk.bytes c.whole.new.disk) _ _ _ c.in_ok-life.life
     c.whole.new.self (ap (λ (k : Config). k.names) c.in_ok-life.ensures.config)
     c.in_ok-life.ensures.begins c.begin.ensures.told c.in_ok-life.ensures.durable
@@ -49,7 +49,7 @@ returns-in_err-life-clause-foreign g c =
 pub returns-clause-foreign : goal.returns-clause-foreign
 returns-clause-foreign g c =
     begun_not_foreign _ c.whole.result c.args.config.now.names (g.D.Disk.bytes c.args.disk.now)
-    c.in_ok-life.life.gate.journal.entries c.in_ok-life.ensures.begins
+    c.in_ok-life.life.engine.journal.entries c.in_ok-life.ensures.begins
 
 pub returns-in_err-life-clause-refused : goal.returns-in_err-life-clause-refused
 returns-in_err-life-clause-refused g c =

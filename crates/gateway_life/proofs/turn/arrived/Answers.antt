@@ -6,7 +6,7 @@ use Rattle.wires.specs.Wire.{came_of, came_by, Nothing}
 use Rattle.gateway_life.specs.State.{seen}
 use Rattle.gateway_life.specs.Ready.{world_of}
 use Rattle.gateway_life.specs.Stepped.{records, Broken}
-use Rattle.gateway_life.specs.Turned.{ArrivedPart, TakenPart}
+use Rattle.gateway_life.specs.Turned.{ArrivedFront, TakenFront}
 use Rattle.gateway_life.proofs.Polling.{last_leaves, found_broken, found_closed, found_opened}
 use Rattle.gateway_life.proofs.Polling.{part_broken, part_closed, part_opened, feed_all}
 use Rattle.gateway_life.proofs.Polling.{found_bytes}
@@ -17,20 +17,20 @@ use Rattle.gateway_life.proofs.turn.arrived.Goals as goal
 
 pub returns-in-Err-clause-arrived : goal.returns-in-Err-clause-arrived
 returns-in-Err-clause-arrived g c =
-    found_broken c.args.gate.now.core.config c.args.side c.args.framer.now _ c.args.now _ _
+    found_broken c.args.engine.now.core.config c.args.side c.args.framer.now _ c.args.now _ _
     (came_of c.args.found c.args.buf.now) c.event.result _
     (ap (λ f. came_of f c.args.buf.now) c.in-Err.is) c.event.ensures.happens
 
 pub returns-in-Err-clause-ends : goal.returns-in-Err-clause-ends
 returns-in-Err-clause-ends g c =
-    let config = c.args.gate.now.core.config in
-    let w = world_of (seen c.args.gate.now) in
+    let config = c.args.engine.now.core.config in
+    let w = world_of (seen c.args.engine.now) in
     let r0 = records (g.C.Wire.recorded c.args.client.now) (g.V.Wire.recorded c.args.venue.now) in
     let r1 = records (g.C.Wire.recorded c.event.new.client) (g.V.Wire.recorded c.event.new.venue) in
     let came = came_of c.args.found c.args.buf.now in
     last_leaves c.event.result _ (g.D.Disk.bytes c.args.disk.now) _ _ _ _ _
     (λ end. Broken end config w (Closed c.args.side) c.args.now r0 r1)
-    (λ end. ArrivedPart end c.args.framer.now came config w c.args.side c.args.now r0 r1)
+    (λ end. ArrivedFront end c.args.framer.now came config w c.args.side c.args.now r0 r1)
     refl (λ one. one) refl
     (λ end xs. part_broken config c.args.side c.args.framer.now w c.args.now r0 r1 came end xs
     (ap (λ f. came_of f c.args.buf.now) c.in-Err.is)) c.event.ensures.ends
@@ -41,8 +41,8 @@ take_frames-requires-clause-stands g c =
 
 pub returns-in-Nothing-clause-arrived : goal.returns-in-Nothing-clause-arrived
 returns-in-Nothing-clause-arrived g c =
-    let config = c.args.gate.now.core.config in
-    let w = world_of (seen c.args.gate.now) in
+    let config = c.args.engine.now.core.config in
+    let w = world_of (seen c.args.engine.now) in
     let r0 = records (g.C.Wire.recorded c.args.client.now) (g.V.Wire.recorded c.args.venue.now) in
     let came = came_of c.args.found c.args.buf.now in
     let is = ap (λ f. came_of f c.args.buf.now) c.in-Ok.is
@@ -52,8 +52,8 @@ returns-in-Nothing-clause-arrived g c =
 
 pub returns-in-Opened-clause-arrived : goal.returns-in-Opened-clause-arrived
 returns-in-Opened-clause-arrived g c =
-    let config = c.args.gate.now.core.config in
-    let w = world_of (seen c.args.gate.now) in
+    let config = c.args.engine.now.core.config in
+    let w = world_of (seen c.args.engine.now) in
     let r0 = records (g.C.Wire.recorded c.args.client.now) (g.V.Wire.recorded c.args.venue.now) in
     let came = came_of c.args.found c.args.buf.now in
     let is = ap (λ f. came_of f c.args.buf.now) c.in-Ok.is
@@ -65,8 +65,8 @@ returns-in-Opened-clause-arrived g c =
 
 pub returns-in-Opened-clause-ends : goal.returns-in-Opened-clause-ends
 returns-in-Opened-clause-ends g c =
-    let config = c.args.gate.now.core.config in
-    let w = world_of (seen c.args.gate.now) in
+    let config = c.args.engine.now.core.config in
+    let w = world_of (seen c.args.engine.now) in
     let r0 = records (g.C.Wire.recorded c.args.client.now) (g.V.Wire.recorded c.args.venue.now) in
     let came = came_of c.args.found c.args.buf.now in
     let is = ap (λ f. came_of f c.args.buf.now) c.in-Ok.is
@@ -75,15 +75,15 @@ returns-in-Opened-clause-ends g c =
     (g.V.Wire.recorded c.event-in-Opened.new.venue) in
     last_leaves c.event-in-Opened.result _ (g.D.Disk.bytes c.args.disk.now) _ _ _ _ _
     (λ end. Broken end config w (Opened c.args.side) c.args.now r0 r1)
-    (λ end. ArrivedPart end c.args.framer.now came config w c.args.side c.args.now r0 r1)
+    (λ end. ArrivedFront end c.args.framer.now came config w c.args.side c.args.now r0 r1)
     refl (λ one. one) refl
     (λ end xs. part_opened config c.args.side c.args.framer.now w c.args.now r0 r1 came end xs is)
     c.event-in-Opened.ensures.ends
 
 pub returns-in-Closed-clause-arrived : goal.returns-in-Closed-clause-arrived
 returns-in-Closed-clause-arrived g c =
-    let config = c.args.gate.now.core.config in
-    let w = world_of (seen c.args.gate.now) in
+    let config = c.args.engine.now.core.config in
+    let w = world_of (seen c.args.engine.now) in
     let r0 = records (g.C.Wire.recorded c.args.client.now) (g.V.Wire.recorded c.args.venue.now) in
     let came = came_of c.args.found c.args.buf.now in
     let is = ap (λ f. came_of f c.args.buf.now) c.in-Ok.is
@@ -93,8 +93,8 @@ returns-in-Closed-clause-arrived g c =
 
 pub returns-in-Closed-clause-ends : goal.returns-in-Closed-clause-ends
 returns-in-Closed-clause-ends g c =
-    let config = c.args.gate.now.core.config in
-    let w = world_of (seen c.args.gate.now) in
+    let config = c.args.engine.now.core.config in
+    let w = world_of (seen c.args.engine.now) in
     let r0 = records (g.C.Wire.recorded c.args.client.now) (g.V.Wire.recorded c.args.venue.now) in
     let came = came_of c.args.found c.args.buf.now in
     let is = ap (λ f. came_of f c.args.buf.now) c.in-Ok.is
@@ -103,15 +103,15 @@ returns-in-Closed-clause-ends g c =
     (g.V.Wire.recorded c.event-in-Closed.new.venue) in
     last_leaves c.event-in-Closed.result _ (g.D.Disk.bytes c.args.disk.now) _ _ _ _ _
     (λ end. Broken end config w (Closed c.args.side) c.args.now r0 r1)
-    (λ end. ArrivedPart end c.args.framer.now came config w c.args.side c.args.now r0 r1)
+    (λ end. ArrivedFront end c.args.framer.now came config w c.args.side c.args.now r0 r1)
     refl (λ one. one) refl
     (λ end xs. part_closed config c.args.side c.args.framer.now w c.args.now r0 r1 came end xs is)
     c.event-in-Closed.ensures.ends
 
 pub returns-in-Bytes-clause-arrived : goal.returns-in-Bytes-clause-arrived
 returns-in-Bytes-clause-arrived g c =
-    let config = c.args.gate.now.core.config in
-    let w = world_of (seen c.args.gate.now) in
+    let config = c.args.engine.now.core.config in
+    let w = world_of (seen c.args.engine.now) in
     let r0 = records (g.C.Wire.recorded c.args.client.now) (g.V.Wire.recorded c.args.venue.now) in
     let came = came_of c.args.found c.args.buf.now in
     let is = ap (λ f. came_of f c.args.buf.now) c.in-Ok.is
@@ -134,8 +134,8 @@ returns-in-Bytes-clause-arrived g c =
 
 pub returns-in-Bytes-clause-ends : goal.returns-in-Bytes-clause-ends
 returns-in-Bytes-clause-ends g c =
-    let config = c.args.gate.now.core.config in
-    let w = world_of (seen c.args.gate.now) in
+    let config = c.args.engine.now.core.config in
+    let w = world_of (seen c.args.engine.now) in
     let r0 = records (g.C.Wire.recorded c.args.client.now) (g.V.Wire.recorded c.args.venue.now) in
     let came = came_of c.args.found c.args.buf.now in
     let is = ap (λ f. came_of f c.args.buf.now) c.in-Ok.is
@@ -153,12 +153,12 @@ returns-in-Bytes-clause-ends g c =
     let r1 = records (g.C.Wire.recorded c.take_frames.new.client)
     (g.V.Wire.recorded c.take_frames.new.venue) in
     last_leaves c.take_frames.result _ (g.D.Disk.bytes c.args.disk.now) _ _ _ _ _
-    (λ end. TakenPart end c.feed.new.self config w c.args.side c.args.now r0 r1)
-    (λ end. ArrivedPart end c.args.framer.now came config w c.args.side c.args.now r0 r1)
+    (λ end. TakenFront end c.feed.new.self config w c.args.side c.args.now r0 r1)
+    (λ end. ArrivedFront end c.args.framer.now came config w c.args.side c.args.now r0 r1)
     refl (λ one. one) refl
     (λ end xs. part_bytes config c.args.side c.args.framer.now c.feed.new.self w c.args.now r0 r1
     came bytes is c.requires.drained.kind feed end xs kind) c.take_frames.ensures.ends
 
 pub returns-in-Nothing-clause-taps : goal.returns-in-Nothing-clause-taps
 returns-in-Nothing-clause-taps g c = watched_none _ c.args.taps.now.items
-    c.args.gate.now.journal.entries c.args.gate.now.journal.entries refl
+    c.args.engine.now.journal.entries c.args.engine.now.journal.entries refl

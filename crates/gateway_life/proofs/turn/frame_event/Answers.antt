@@ -10,13 +10,13 @@ use Rattle.gateway_life.proofs.turn.frame_event.Goals as goal
 
 pub returns-then-not-is_up-clause-happens : goal.returns-then-not-is_up-clause-happens
 returns-then-not-is_up-clause-happens g c =
-    not_counted c.args.gate.now.core.config (world_of (seen c.args.gate.now)) c.args.side
+    not_counted c.args.engine.now.core.config (world_of (seen c.args.engine.now)) c.args.side
     c.args.body.now c.args.now _ (sym c.is_up.ensures ∙ c.if-not-is_up.true)
 
 pub returns-clause-ends : goal.returns-clause-ends
 returns-clause-ends g c =
-    let config = c.args.gate.now.core.config in
-    let w = world_of (seen c.args.gate.now) in
+    let config = c.args.engine.now.core.config in
+    let w = world_of (seen c.args.engine.now) in
     let r0 = records (g.C.Wire.recorded c.args.client.now) (g.V.Wire.recorded c.args.venue.now) in
     let r1 = records (g.C.Wire.recorded c.event.new.client) (g.V.Wire.recorded c.event.new.venue) in
     last_leaves c.event.result _ (g.D.Disk.bytes c.args.disk.now) _ _ _ _ _
@@ -29,4 +29,4 @@ returns-clause-ends g c =
 
 pub returns-then-not-is_up-clause-taps : goal.returns-then-not-is_up-clause-taps
 returns-then-not-is_up-clause-taps g c = watched_none _ c.args.taps.now.items
-    c.args.gate.now.journal.entries c.args.gate.now.journal.entries refl
+    c.args.engine.now.journal.entries c.args.engine.now.journal.entries refl

@@ -7,7 +7,7 @@ use Rattle.gateway_config.specs.declared.config.Config.{Config}
 use Rattle.gateway_life.specs.State.{seen}
 use Rattle.gateway_life.specs.Ready.{world_of}
 use Rattle.gateway_life.specs.Stepped.{records, SteppedOrNot, BrokenIf}
-use Rattle.gateway_life.specs.Turned.{TakenPart}
+use Rattle.gateway_life.specs.Turned.{TakenFront}
 use Rattle.gateway_life.proofs.Cutting.{framed}
 use Rattle.gateway_life.proofs.Turning.{taken_none, taken_more, taken_same, taken_all, taken_part}
 use Rattle.gateway_life.proofs.Polling.{err_leaves}
@@ -20,7 +20,7 @@ frames-init g c = record {
   ready = c.requires.ready;
   kind = refl;
   stands = c.requires.stands;
-  taken = taken_none c.args.gate.now.core.config _ _ _ _ _;
+  taken = taken_none c.args.engine.now.core.config _ _ _ _ _;
   told = refl;
   durable = λ one. one;
   faults = refl;
@@ -28,7 +28,7 @@ frames-init g c = record {
   venue_polls = refl;
   client_plays = λ script plays. plays;
   venue_plays = λ script plays. plays;
-  taps = watched_none _ c.args.taps.now.items c.args.gate.now.journal.entries _ refl;
+  taps = watched_none _ c.args.taps.now.items c.args.engine.now.journal.entries _ refl;
 }
 
 pub returns-in-More-clause-stands : goal.returns-in-More-clause-stands
@@ -38,7 +38,7 @@ returns-in-More-clause-stands g c =
 
 pub returns-in-More-clause-taken : goal.returns-in-More-clause-taken
 returns-in-More-clause-taken g c =
-    taken_all c.args.gate.now.core.config c.args.framer.now c.frames.framer c.next.new.self _ _ _ _
+    taken_all c.args.engine.now.core.config c.args.framer.now c.frames.framer c.next.new.self _ _ _ _
     _ _ c.frames.invariant.taken c.in-More.ensures.answers
 
 pub frames-preserved-in-Garbled : goal.frames-preserved-in-Garbled
@@ -51,7 +51,7 @@ frames-preserved-in-Garbled g c =
       ready = inv.ready;
       kind = c.next.ensures.kind ∙ inv.kind;
       stands = (s.0, s.1 ++ Bad c.in-Garbled.cause here.0 ∷ [], here.1);
-      taken = taken_same c.args.gate.now.core.config c.args.framer.now c.frames.framer
+      taken = taken_same c.args.engine.now.core.config c.args.framer.now c.frames.framer
           c.next.new.self _ _ _ _ _ _ inv.taken (λ stream answered stands.
           let found = c.in-Garbled.ensures.answers stream answered stands in
           (c.in-Garbled.cause, found.0, found.1));
@@ -82,7 +82,7 @@ frames-preserved g c =
       ready = dealt.ready;
       kind = c.next.ensures.kind ∙ inv.kind;
       stands = (s.0, s.1 ++ Good here.0 here.1 ∷ [], here.2);
-      taken = taken_more c.args.gate.now.core.config c.args.framer.now c.frames.framer
+      taken = taken_more c.args.engine.now.core.config c.args.framer.now c.frames.framer
           c.next.new.self _ _ _ c.args.side c.part.result.now c.args.now _ _ _ inv.taken
           (λ stream answered stands.
           let found = c.in-Frame.ensures.answers stream answered stands in (
@@ -90,9 +90,9 @@ frames-preserved g c =
             subst (λ b. StandsFor c.next.new.self stream (answered ++ Good b found.1 ∷ []))
                 (sym (c.part.ensures ∙ found.5)) found.2,
           ))
-          (subst (λ (k : Config). SteppedOrNot k (world_of (seen c.frames.gate))
+          (subst (λ (k : Config). SteppedOrNot k (world_of (seen c.frames.engine))
           (Frame c.args.side c.part.result.now) c.args.now
-          (world_of (seen c.frame_event.new.gate))
+          (world_of (seen c.frame_event.new.engine))
           (records (g.C.Wire.recorded c.frames.client) (g.V.Wire.recorded c.frames.venue))
           (records (g.C.Wire.recorded c.frame_event.new.client)
           (g.V.Wire.recorded c.frame_event.new.venue))) inv.config dealt.happens);
@@ -110,19 +110,19 @@ pub returns-in_err-frame_event-in-Frame-clause-ends :
     goal.returns-in_err-frame_event-in-Frame-clause-ends
 returns-in_err-frame_event-in-Frame-clause-ends g c =
     let inv = c.frames.invariant in
-    let config = c.args.gate.now.core.config in
-    let config' = c.frames.gate.core.config in
+    let config = c.args.engine.now.core.config in
+    let config' = c.frames.engine.core.config in
     let error = c.in_err-frame_event-in-Frame.field-0.0 in
     let body = c.part.result.now in
-    let w = world_of (seen c.args.gate.now) in
-    let m = world_of (seen c.frames.gate) in
+    let w = world_of (seen c.args.engine.now) in
+    let m = world_of (seen c.frames.engine) in
     let r0 = records (g.C.Wire.recorded c.args.client.now) (g.V.Wire.recorded c.args.venue.now) in
     let r1 = records (g.C.Wire.recorded c.frames.client) (g.V.Wire.recorded c.frames.venue) in
     let r2 = records (g.C.Wire.recorded c.frame_event.new.client)
     (g.V.Wire.recorded c.frame_event.new.venue) in
     err_leaves c.from_residual.result error _ _ _ _ _ _ _
     (BrokenIf error config' m (Frame c.args.side body) c.args.now r1 r2)
-    (λ end. TakenPart end c.args.framer.now config w c.args.side c.args.now r0 r2)
+    (λ end. TakenFront end c.args.framer.now config w c.args.side c.args.now r0 r2)
     c.from_residual.ensures.1 inv.told inv.durable (ap (λ (k : Config). k.names) inv.config)
     (λ xs broken. taken_part config error c.args.framer.now c.frames.framer c.next.new.self w m
     c.args.side body c.args.now r0 r1 r2 xs inv.taken
@@ -146,5 +146,5 @@ pub returns-in_err-frame_event-in-Frame-clause-kept :
 returns-in_err-frame_event-in-Frame-clause-kept g c =
     let inv = c.frames.invariant in
     kept_err c.from_residual.result c.in_err-frame_event-in-Frame.field-0.0 _ _ _ _ _ _ _
-    c.frame_event.new.gate.journal.entries c.from_residual.ensures.1 inv.told inv.durable
+    c.frame_event.new.engine.journal.entries c.from_residual.ensures.1 inv.told inv.durable
     (ap (λ (k : Config). k.names) inv.config) c.in_err-frame_event-in-Frame.ensures.kept

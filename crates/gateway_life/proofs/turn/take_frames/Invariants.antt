@@ -18,13 +18,13 @@ decreases-frames g l = pending l.framer
 
 abbrev pub invariant-frames : goal.invariant-frames
 invariant-frames g l = record {
-  config : l.gate.core.config ≡ l.initial.gate.core.config;
-  ready : Ready (seen l.gate) (g.D.Disk.bytes l.disk) (g.C.Wire.recorded l.client)
+  config : l.engine.core.config ≡ l.initial.engine.core.config;
+  ready : Ready (seen l.engine) (g.D.Disk.bytes l.disk) (g.C.Wire.recorded l.client)
       (g.V.Wire.recorded l.venue);
   kind : l.framer.kind ≡ l.initial.framer.kind;
   stands : (stream : List ℕ) × (answered : List Piece) × StandsFor l.framer stream answered;
-  taken : Taken l.initial.framer l.framer l.initial.gate.core.config
-      (world_of (seen l.initial.gate)) l.side l.now (world_of (seen l.gate))
+  taken : Taken l.initial.framer l.framer l.initial.engine.core.config
+      (world_of (seen l.initial.engine)) l.side l.now (world_of (seen l.engine))
       (records (g.C.Wire.recorded l.initial.client) (g.V.Wire.recorded l.initial.venue))
       (records (g.C.Wire.recorded l.client) (g.V.Wire.recorded l.venue));
   told : is_some (g.D.Disk.bytes l.disk) ≡ is_some (g.D.Disk.bytes l.initial.disk);
@@ -39,5 +39,5 @@ invariant-frames g l = record {
       (λ tap. (goal.Tap-dyn g (tap.vtable, tap.value)).entries tap.value)
       (λ tap. (goal.Tap-dyn g (tap.vtable, tap.value)).tally tap.value)
       (λ tap. (goal.Tap-dyn g (tap.vtable, tap.value)).counts_all tap.value))
-      l.initial.taps.items l.taps.items l.initial.gate.journal.entries l.gate.journal.entries;
+      l.initial.taps.items l.taps.items l.initial.engine.journal.entries l.engine.journal.entries;
 }

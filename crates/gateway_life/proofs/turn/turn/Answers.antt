@@ -6,7 +6,7 @@ use Rattle.wires.specs.Wire.{came_of}
 use Rattle.gateway_life.specs.State.{seen}
 use Rattle.gateway_life.specs.Ready.{world_of}
 use Rattle.gateway_life.specs.Stepped.{records, Stepped, Broken}
-use Rattle.gateway_life.specs.Turned.{Arrived, ArrivedPart, Turned, TurnBroken}
+use Rattle.gateway_life.specs.Turned.{Arrived, ArrivedFront, Turned, TurnBroken}
 use Rattle.gateway_life.proofs.Polling.{err_leaves, last_leaves, ok_map, turned}
 use Rattle.gateway_life.proofs.Polling.{turn_part}
 use Rattle.pair_journal.specs.State.{JournalState}
@@ -16,10 +16,10 @@ use Rattle.gateway_life.proofs.turn.turn.Goals as goal
 
 pub returns-in_err-arrived-clause-ends : goal.returns-in_err-arrived-clause-ends
 returns-in_err-arrived-clause-ends g c =
-    let config = c.args.gate.now.core.config in
-    let w = world_of (seen c.args.gate.now) in
+    let config = c.args.engine.now.core.config in
+    let w = world_of (seen c.args.engine.now) in
     let poll = c.poll-found in
-    let polled = world_of (seen poll.new.gate) in
+    let polled = world_of (seen poll.new.engine) in
     let came = came_of poll.result poll.new.buf in
     let same = poll.ensures.same in
     let side = c.args.side in
@@ -32,21 +32,21 @@ returns-in_err-arrived-clause-ends g c =
     (g.V.Wire.recorded c.arrived.new.venue) in
     let error = c.in_err-arrived.field-0.0 in
     err_leaves c.from_residual.result error _ (g.D.Disk.bytes c.args.disk.now) _ _ _ _ _
-    (ArrivedPart error c.args.framer.now came poll.new.gate.core.config polled side
+    (ArrivedFront error c.args.framer.now came poll.new.engine.core.config polled side
     c.args.now r1 r2)
     (λ end. TurnBroken end side c.args.framer.now config w c.args.now r0 r2)
     c.from_residual.ensures.1 refl (λ one. one) (ap (λ (k : Config). k.names) at)
     (λ xs part. turn_part config side came w polled c.args.now r0 r1 poll.ensures.may
     grew is error c.args.framer.now r2 xs
-    (subst (λ (k : Config). ArrivedPart error c.args.framer.now came k polled side c.args.now r1
+    (subst (λ (k : Config). ArrivedFront error c.args.framer.now came k polled side c.args.now r1
     r2 xs) at part)) c.in_err-arrived.ensures.ends
 
 pub returns-clause-turn : goal.returns-clause-turn
 returns-clause-turn g c =
-    let config = c.args.gate.now.core.config in
-    let w = world_of (seen c.args.gate.now) in
+    let config = c.args.engine.now.core.config in
+    let w = world_of (seen c.args.engine.now) in
     let poll = c.poll-found in
-    let polled = world_of (seen poll.new.gate) in
+    let polled = world_of (seen poll.new.engine) in
     let came = came_of poll.result poll.new.buf in
     let same = poll.ensures.same in
     let side = c.args.side in
@@ -55,7 +55,7 @@ returns-clause-turn g c =
     let r0 = records (g.C.Wire.recorded c.args.client.now) (g.V.Wire.recorded c.args.venue.now) in
     let r1 = records (g.C.Wire.recorded poll.new.client) (g.V.Wire.recorded poll.new.venue) in
     let grew = poll.ensures.grew in
-    let x = world_of (seen c.arrived.new.gate) in
+    let x = world_of (seen c.arrived.new.engine) in
     let y = world_of (seen c.tick.new.self) in
     let r2 = records (g.C.Wire.recorded c.arrived.new.client)
     (g.V.Wire.recorded c.arrived.new.venue) in
@@ -63,7 +63,7 @@ returns-clause-turn g c =
     let found = subst (λ (k : Config). Arrived c.args.framer.now c.arrived.new.framer came k polled
     side c.args.now x r1 r2) at c.in_ok-arrived.ensures.arrived in
     ok_map c.tick.result
-    (Stepped c.arrived.new.gate.core.config x (Tick side) c.args.now y r2 r3)
+    (Stepped c.arrived.new.engine.core.config x (Tick side) c.args.now y r2 r3)
     (Turned side c.args.framer.now c.arrived.new.framer config w c.args.now y r0 r3)
     (λ one. turned config side came w polled c.args.now r0 r1 poll.ensures.may grew is
     c.args.framer.now c.arrived.new.framer x y r2 r3 found
@@ -72,10 +72,10 @@ returns-clause-turn g c =
 
 pub returns-clause-ends : goal.returns-clause-ends
 returns-clause-ends g c =
-    let config = c.args.gate.now.core.config in
-    let w = world_of (seen c.args.gate.now) in
+    let config = c.args.engine.now.core.config in
+    let w = world_of (seen c.args.engine.now) in
     let poll = c.poll-found in
-    let polled = world_of (seen poll.new.gate) in
+    let polled = world_of (seen poll.new.engine) in
     let came = came_of poll.result poll.new.buf in
     let same = poll.ensures.same in
     let side = c.args.side in
@@ -84,7 +84,7 @@ returns-clause-ends g c =
     let r0 = records (g.C.Wire.recorded c.args.client.now) (g.V.Wire.recorded c.args.venue.now) in
     let r1 = records (g.C.Wire.recorded poll.new.client) (g.V.Wire.recorded poll.new.venue) in
     let grew = poll.ensures.grew in
-    let x = world_of (seen c.arrived.new.gate) in
+    let x = world_of (seen c.arrived.new.engine) in
     let y = world_of (seen c.tick.new.self) in
     let r2 = records (g.C.Wire.recorded c.arrived.new.client)
     (g.V.Wire.recorded c.arrived.new.venue) in
@@ -93,7 +93,7 @@ returns-clause-ends g c =
     side c.args.now x r1 r2) at c.in_ok-arrived.ensures.arrived in
     last_leaves c.tick.result (g.D.Disk.bytes c.args.disk.now) (g.D.Disk.bytes c.arrived.new.disk)
     _ _ _ _ _
-    (λ end. Broken end c.arrived.new.gate.core.config x (Tick side) c.args.now r2 r3)
+    (λ end. Broken end c.arrived.new.engine.core.config x (Tick side) c.args.now r2 r3)
     (λ end. TurnBroken end side c.args.framer.now config w c.args.now r0 r3)
     c.arrived.ensures.told c.in_ok-arrived.ensures.durable
     (ap (λ (k : Config). k.names) (c.arrived.ensures.config ∙ at))
@@ -104,21 +104,21 @@ returns-clause-ends g c =
 
 pub returns-in_err-arrived-clause-taps : goal.returns-in_err-arrived-clause-taps
 returns-in_err-arrived-clause-taps g c =
-    watched_from _ _ _ c.args.gate.now.journal.entries _ _
+    watched_from _ _ _ c.args.engine.now.journal.entries _ _
     (ap (λ (j : JournalState). j.entries) c.poll-found.ensures.same.0)
     c.in_err-arrived.ensures.taps
 
 pub returns-in_err-arrived-clause-kept : goal.returns-in_err-arrived-clause-kept
 returns-in_err-arrived-clause-kept g c =
     kept_err c.from_residual.result c.in_err-arrived.field-0.0 _ (g.D.Disk.bytes c.args.disk.now)
-    _ _ _ _ _ c.arrived.new.gate.journal.entries c.from_residual.ensures.1 refl (λ one. one)
+    _ _ _ _ _ c.arrived.new.engine.journal.entries c.from_residual.ensures.1 refl (λ one. one)
     (ap (λ (k : CoreState). k.config.names) c.poll-found.ensures.same.1)
     c.in_err-arrived.ensures.kept
 
 pub returns-clause-taps : goal.returns-clause-taps
 returns-clause-taps g c =
-    watched_append _ _ _ _ c.args.gate.now.journal.entries _ _
-    (watched_from _ _ _ c.args.gate.now.journal.entries _ _
+    watched_append _ _ _ _ c.args.engine.now.journal.entries _ _
+    (watched_from _ _ _ c.args.engine.now.journal.entries _ _
     (ap (λ (j : JournalState). j.entries) c.poll-found.ensures.same.0)
     c.in_ok-arrived.ensures.taps) c.tick.ensures.taps
 

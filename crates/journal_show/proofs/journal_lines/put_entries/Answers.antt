@@ -1,5 +1,5 @@
 use Rattle.std.proofs.Common.{rules}
-use Rattle.journal_show.proofs.Lines.{entry_at, line_put, front_put}
+use Rattle.journal_show.proofs.JournalLines.{entry_at, line_put, front_put}
 use Rattle.journal_show.proofs.journal_lines.put_entries.Goals as goal
 
 pub returns-in_err-put_entry-clause-lines : goal.returns-in_err-put_entry-clause-lines

@@ -3,8 +3,8 @@ use Rattle.message_answers.proofs.Joins.{refused_joins}
 use Rattle.message_answers.proofs.Requested.{sound, tells}
 use Rattle.message_answers.proofs.requests.requested.Goals as goal
 
-pub in_turn-requires-clause-sound : goal.in_turn-requires-clause-sound
-in_turn-requires-clause-sound c =
+pub request_read-requires-clause-sound : goal.request_read-requires-clause-sound
+request_read-requires-clause-sound c =
     sound c.args.asked.now c.in-Ok.request c.read_is_sound.ensures c.requires.split
     c.in-Ok.ensures.says
 

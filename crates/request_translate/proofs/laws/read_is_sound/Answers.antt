@@ -1,5 +1,5 @@
 use Rattle.row_values.specs.Kinds.{judge}
-use Rattle.sound_messages.proofs.PlainFields.{clear_fields}
+use Rattle.sound_laws.proofs.PlainFields.{clear_fields}
 use Rattle.request_translate.proofs.Sound42.{read_is_sound}
 use Rattle.request_translate.proofs.Sound50.{read_is_complete}
 use Rattle.std.proofs.Common.{None}

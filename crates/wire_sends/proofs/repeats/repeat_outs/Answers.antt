@@ -2,8 +2,8 @@ use Rattle.std.proofs.Common.{◌≡◌, ◌≤◌, ◌+◌, ◌-◌, ◌∙◌,
 use Rattle.std.proofs.Common.{inr}
 use Rattle.std.specs.Option.{ForSome}
 use Rattle.pair_journal.specs.Journal.{JournalOf, Born}
-use Rattle.life_events.specs.Forms.{form_frame}
-use Rattle.life_events.specs.Repeats.{repeats, run_after, repeat_forms}
+use Rattle.life_laws.specs.Forms.{form_frame}
+use Rattle.life_laws.specs.Repeats.{repeats, run_after, repeat_forms}
 use Rattle.wire_sends.specs.Again.{Repeated, run_of, placed_by}
 use Rattle.wire_sends.proofs.Placing.{told_is_placed}
 use Rattle.wire_sends.proofs.Repeating.{begin_repeat, repeat_step, end_repeat}

@@ -1,8 +1,8 @@
 use Rattle.std.proofs.Common.{◌≡◌, ◌⊎◌, ◌≤◌, ◌+◌, ◌-◌, None}
 use Rattle.gate_log.specs.Log.{OnlyReads}
 use Rattle.wires.specs.Told.{Keeps}
-use Rattle.life_events.specs.Forms.{form_frame}
-use Rattle.life_events.specs.Repeats.{repeats, repeat_forms}
+use Rattle.life_laws.specs.Forms.{form_frame}
+use Rattle.life_laws.specs.Repeats.{repeats, repeat_forms}
 use Rattle.wire_sends.specs.Sent.{Agrees}
 use Rattle.wire_sends.specs.Again.{run_of, IsBegun, Repeated}
 use Rattle.wire_sends.proofs.repeats.repeat_outs.Given as goal

@@ -11,8 +11,8 @@ pub returns-in_err-turn-clause-ends : goal.returns-in_err-turn-clause-ends
 returns-in_err-turn-clause-ends g c =
     let at = c.moment-now.ensures.given in
     rw (← c.self.view_is) (client_ends c.from_residual.result c.in_err-turn.field-0.0
-    c.self.inside.gate.core.config (record {
-      gate = seen c.self.inside.gate;
+    c.self.inside.engine.core.config (record {
+      engine = seen c.self.inside.engine;
       client = c.self.inside.client;
       venue = c.self.inside.venue;
     }) c.moment-now.result at.0 _ _
@@ -22,29 +22,29 @@ returns-in_err-turn-clause-ends g c =
 pub returns-clause-round : goal.returns-clause-round
 returns-clause-round g c =
     let at = c.moment-now.ensures.given in
-    rw (← c.self.view_is) (round_ok c.turn-2.result c.self.inside.gate.core.config
-    c.turn.new.gate.core.config (record {
-      gate = seen c.self.inside.gate;
+    rw (← c.self.view_is) (round_ok c.turn-2.result c.self.inside.engine.core.config
+    c.turn.new.engine.core.config (record {
+      engine = seen c.self.inside.engine;
       client = c.self.inside.client;
       venue = c.self.inside.venue;
     }) (record {
-      gate = seen c.turn-2.new.gate;
+      engine = seen c.turn-2.new.engine;
       client = c.turn.new.framer;
       venue = c.turn-2.new.framer;
-    }) (world_of (seen c.turn.new.gate)) c.moment-now.result at.0 _ _ _ _ _
+    }) (world_of (seen c.turn.new.engine)) c.moment-now.result at.0 _ _ _ _ _
     c.turn.ensures.config at.1 at.2 c.in_ok-turn.ensures.turn
     c.turn-2.ensures.turn)
 
 pub returns-clause-ends : goal.returns-clause-ends
 returns-clause-ends g c =
     let at = c.moment-now.ensures.given in
-    rw (← c.self.view_is) (venue_ends c.turn-2.result c.self.inside.gate.core.config
-    c.turn.new.gate.core.config (record {
-      gate = seen c.self.inside.gate;
+    rw (← c.self.view_is) (venue_ends c.turn-2.result c.self.inside.engine.core.config
+    c.turn.new.engine.core.config (record {
+      engine = seen c.self.inside.engine;
       client = c.self.inside.client;
       venue = c.self.inside.venue;
     }) c.turn.new.framer
-    (world_of (seen c.turn.new.gate)) c.moment-now.result at.0 _ _
+    (world_of (seen c.turn.new.engine)) c.moment-now.result at.0 _ _
     (g.D.Disk.bytes c.args.disk.now) (g.D.Disk.bytes c.turn.new.disk) _ _ _ _ _ _
     c.turn.ensures.config at.1 at.2 c.turn.ensures.told
     c.in_ok-turn.ensures.durable c.in_ok-turn.ensures.turn
@@ -62,7 +62,7 @@ returns-in_err-turn-clause-kept g c =
 
 pub returns-clause-taps : goal.returns-clause-taps
 returns-clause-taps g c =
-    rw (← c.self.view_is) (watched_append _ _ _ _ c.self.inside.gate.journal.entries _ _
+    rw (← c.self.view_is) (watched_append _ _ _ _ c.self.inside.engine.journal.entries _ _
     c.turn.ensures.taps c.turn-2.ensures.taps)
 
 pub returns-clause-kept : goal.returns-clause-kept

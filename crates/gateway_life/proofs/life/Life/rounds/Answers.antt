@@ -15,7 +15,7 @@ pub rounds-init : goal.rounds-init
 rounds-init g c = record {
   config = refl;
   live = c.requires.live;
-  done = ([], omega arith, grows_none _, rounds_none c.args.self.now.gate.core.config _ _);
+  done = ([], omega arith, grows_none _, rounds_none c.args.self.now.engine.core.config _ _);
   told = refl;
   durable = λ one. one;
   faults = refl;
@@ -24,7 +24,7 @@ rounds-init g c = record {
   client_plays = λ script plays. plays;
   venue_plays = λ script plays. plays;
   follows = λ listed follows. follows;
-  taps = watched_none _ c.args.taps.now.items c.args.self.now.gate.journal.entries _ refl;
+  taps = watched_none _ c.args.taps.now.items c.args.self.now.engine.journal.entries _ refl;
 }
 
 pub rounds-preserved : goal.rounds-preserved
@@ -33,7 +33,7 @@ rounds-preserved g c =
     let done = inv.done in
     let one = c.in_ok-round.ensures in
     let m = one.round.0 in
-    let config = c.args.self.now.gate.core.config in
+    let config = c.args.self.now.engine.core.config in
     let r1 = records (g.C.Wire.recorded c.rounds.client) (g.V.Wire.recorded c.rounds.venue) in
     let r2 = records (g.C.Wire.recorded c.round.new.client) (g.V.Wire.recorded c.round.new.venue) in
     record {
@@ -65,8 +65,8 @@ returns-in_err-round-clause-ends g c =
     let inv = c.rounds.invariant in
     let done = inv.done in
     let broken = c.in_err-round.ensures.ends in
-    rounds_end c.from_residual.result c.in_err-round.field-0.0 c.args.self.now.gate.core.config
-    c.rounds.self.gate.core.config c.args.self.now c.rounds.self done.0 broken.0 c.rounds.left
+    rounds_end c.from_residual.result c.in_err-round.field-0.0 c.args.self.now.engine.core.config
+    c.rounds.self.engine.core.config c.args.self.now c.rounds.self done.0 broken.0 c.rounds.left
     c.args.rounds _ _ _ _ _ _ _ _ _ _ _ c.from_residual.ensures.1 inv.config done.1 done.2 done.3
     inv.told inv.durable broken.1 broken.2
 

@@ -14,12 +14,12 @@ decreases-rounds g l = l.left
 
 abbrev pub invariant-rounds : goal.invariant-rounds
 invariant-rounds g l = record {
-  config : l.self.gate.core.config ≡ l.initial.self.gate.core.config;
+  config : l.self.engine.core.config ≡ l.initial.self.engine.core.config;
   live : IsLive l.self (g.D.Disk.bytes l.disk) (g.C.Wire.recorded l.client)
       (g.V.Wire.recorded l.venue);
   done : (given : List ℕ) × (length given + l.left ≡ l.rounds)
       × GrowsBy (g.K.Clock.moments l.initial.clock) (g.K.Clock.moments l.clock) given
-      × RoundsDone l.initial.self.gate.core.config l.initial.self l.self given
+      × RoundsDone l.initial.self.engine.core.config l.initial.self l.self given
       (records (g.C.Wire.recorded l.initial.client) (g.V.Wire.recorded l.initial.venue))
       (records (g.C.Wire.recorded l.client) (g.V.Wire.recorded l.venue));
   told : is_some (g.D.Disk.bytes l.disk) ≡ is_some (g.D.Disk.bytes l.initial.disk);
@@ -37,6 +37,6 @@ invariant-rounds g l = record {
       (λ tap. (goal.Tap-dyn g (tap.vtable, tap.value)).entries tap.value)
       (λ tap. (goal.Tap-dyn g (tap.vtable, tap.value)).tally tap.value)
       (λ tap. (goal.Tap-dyn g (tap.vtable, tap.value)).counts_all tap.value))
-      l.initial.taps.items l.taps.items l.initial.self.gate.journal.entries
-      l.self.gate.journal.entries;
+      l.initial.taps.items l.taps.items l.initial.self.engine.journal.entries
+      l.self.engine.journal.entries;
 }

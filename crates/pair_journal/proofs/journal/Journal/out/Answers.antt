@@ -2,7 +2,7 @@ use Rattle.std.proofs.Common.{◌<◌, ◌∙◌, List, sym, ap, subst, arith}
 use Rattle.pair_entries.specs.declared.entry.Entry.{Entry}
 use Rattle.pair_journal.specs.Numbers.{first_numbers, numbers_after, next_out}
 use Rattle.pair_journal.specs.Journal.{AreEntries}
-use Rattle.pair_journal.specs.OutBuf.{IsTold}
+use Rattle.pair_journal.specs.OutBuf.{IsOutAt}
 use Rattle.pair_journal.proofs.Giving.{given_out, given_sound}
 use Rattle.pair_journal.proofs.journal.Journal.out.Goals as goal
 
@@ -36,7 +36,7 @@ returns-clause-bounds g c =
     let are = subst (AreEntries first_numbers) (sym c.deref.ensures.value) c.self.invariant.sound in
     let sound = given_sound
     c.args.side c.args.number first_numbers c.deref.result.now _ are c.in-Some.ensures in
-    subst IsTold (sym c.tell.ensures) (record {
+    subst IsOutAt (sym c.tell.ensures) (record {
       at =
           sound.0.at;
       typed = sound.1.typed;

@@ -1,0 +1,57 @@
+//! A connection that the gateway has ended, until the peer has what was said on it.
+
+use crate::link::Link;
+
+/// How long a connection that was ended is kept at most, in milliseconds.
+const FAREWELL: u64 = 2_000;
+
+/// A connection behind a hang up. What was said before goes out still, then the gateway's side is
+/// shut, and what the peer says is read off until it ends its own: a socket that is closed over
+/// bytes that were not read resets, and the peer may lose what it has not read itself.
+#[derive(Drop)]
+pub struct HungUp {
+    link: Link,
+    until: u64,
+    is_shut: bool,
+}
+
+impl HungUp {
+    /// A connection that ends now.
+    pub fn new(link: Link, now: u64) -> HungUp {
+        HungUp {
+            link,
+            until: now.saturating_add(FAREWELL),
+            is_shut: false,
+        }
+    }
+
+    /// Goes on with it, and answers whether it is over.
+    pub fn go_on(&mut self, now: u64) -> bool {
+        if now >= self.until {
+            return true;
+        }
+        if !self.is_shut {
+            match self.link.flush(now) {
+                Ok(true) => {
+                    self.link.shut();
+                    self.is_shut = true;
+                }
+                Ok(false) => {}
+                Err(_) => return true,
+            }
+        }
+        self.link.drain()
+    }
+}
+
+/// Goes on with a connection that was ended, where one is left, and answers whether it is over.
+pub fn is_gone(hung_up: &mut Option<HungUp>, now: u64) -> bool {
+    let over = match hung_up {
+        Some(hung_up) => hung_up.go_on(now),
+        None => true,
+    };
+    if over {
+        *hung_up = None;
+    }
+    over
+}

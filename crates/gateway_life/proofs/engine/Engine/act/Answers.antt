@@ -1,0 +1,77 @@
+use Rattle.std.proofs.Common.{subst, ap, refl, ◌∙◌}
+use Rattle.gateway_core.specs.State.{sessions_in}
+use Rattle.std.specs.Prelude.{map}
+use Rattle.order_meaning.specs.declared.Side.TheVariants.{Client, Venue}
+use Rattle.event_decisions.specs.Event.{event_of}
+use Rattle.life_laws.specs.Forms.{form_frame}
+use Rattle.life_laws.specs.Repeats.{repeated_to}
+use Rattle.life_laws.specs.Happens.{firsts, firsts_to}
+use Rattle.wire_sends.specs.Sent.{Sent}
+use Rattle.wire_sends.specs.Again.{repeat_in}
+use Rattle.gateway_life.specs.Ready.{made_of}
+use Rattle.gateway_life.proofs.Acting.{acted, part_front, on_err}
+use Rattle.gateway_life.proofs.Acting.{ready_acted}
+use Rattle.gateway_life.proofs.engine.Engine.act.Goals as goal
+
+pub returns-in_err-client_up-clause-client_part : goal.returns-in_err-client_up-clause-client_part
+returns-in_err-client_up-clause-client_part g c =
+    on_err _ (part_front _ _ _ (form_frame c.args.names.now Client)
+    (repeated_to Client c.args.self.now.journal.entries c.args.now
+    (repeat_in c.args.made.now.resend))
+    (firsts_to Client (event_of c.args.event.now) (made_of c.args.made.now c.args.self.now.core))
+    c.in_err-client_up.ensures.part)
+
+pub returns-in_err-venue_up-clause-venue_part : goal.returns-in_err-venue_up-clause-venue_part
+returns-in_err-venue_up-clause-venue_part g c =
+    on_err _ (part_front _ _ _ (form_frame c.args.names.now Venue)
+    (repeated_to Venue c.args.self.now.journal.entries c.args.now
+    (repeat_in c.args.made.now.resend))
+    (firsts_to Venue (event_of c.args.event.now) (made_of c.args.made.now c.args.self.now.core))
+    c.in_err-venue_up.ensures.part)
+
+pub returns-clause-client_acts : goal.returns-clause-client_acts
+returns-clause-client_acts g c =
+    acted _ _ _ _ _ _ _ _ _ (form_frame c.args.names.now Client)
+    (repeated_to Client c.args.self.now.journal.entries c.args.now
+    (repeat_in c.args.made.now.resend))
+    (firsts_to Client (event_of c.args.event.now) (made_of c.args.made.now c.args.self.now.core))
+    c.in_ok-client_up.ensures.sent
+    (subst (λ b. Sent (g.C.Wire.recorded c.repeat_on.new.wire)
+    (g.C.Wire.recorded c.outs_on-client_still.new.wire) c.in_ok-client_up.client_up
+    (map (form_frame c.args.names.now Client) (firsts Client b c.args.made.now.entry))
+    c.outs_on-client_still.result)
+    c.is_sent-client_sent.ensures c.outs_on-client_still.ensures.sent)
+    c.hang_up_on-self.ensures.hung
+
+pub returns-clause-venue_acts : goal.returns-clause-venue_acts
+returns-clause-venue_acts g c =
+    acted _ _ _ _ _ _ _ _ _ (form_frame c.args.names.now Venue)
+    (repeated_to Venue c.args.self.now.journal.entries c.args.now
+    (repeat_in c.args.made.now.resend))
+    (firsts_to Venue (event_of c.args.event.now) (made_of c.args.made.now c.args.self.now.core))
+    c.in_ok-venue_up.ensures.sent
+    (subst (λ b. Sent (g.V.Wire.recorded c.repeat_on-2.new.wire)
+    (g.V.Wire.recorded c.outs_on-venue_still.new.wire) c.in_ok-venue_up.venue_up
+    (map (form_frame c.args.names.now Venue) (firsts Venue b c.args.made.now.entry))
+    c.outs_on-venue_still.result)
+    c.is_sent-venue_sent.ensures c.outs_on-venue_still.ensures.sent)
+    c.hang_up_on-self-2.ensures.hung
+
+pub returns-clause-sessions : goal.returns-clause-sessions
+returns-clause-sessions g c =
+    ap sessions_in c.apply.ensures
+    ∙ (λ i. record {
+      client = c.standing-client_session.ensures i;
+      venue = c.standing-venue_session.ensures i;
+    })
+
+pub returns-clause-ready : goal.returns-clause-ready
+returns-clause-ready g c =
+    ready_acted _ _ _ _ _ _ c.requires.ready.ready
+    (c.in_ok-venue_up.ensures.only_read.same ∙ c.in_ok-client_up.ensures.only_read.same) refl
+    (ap (λ k. k.config) c.apply.ensures) (ap (λ k. k.chains) c.apply.ensures)
+    (ap sessions_in c.apply.ensures
+    ∙ (λ i. record {
+      client = c.standing-client_session.ensures i;
+      venue = c.standing-venue_session.ensures i;
+    })) c.hang_up_on-self.ensures.agrees c.hang_up_on-self-2.ensures.agrees

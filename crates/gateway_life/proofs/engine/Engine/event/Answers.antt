@@ -1,0 +1,96 @@
+use Rattle.std.proofs.Common.{◌∙◌, ap}
+use Rattle.std.specs.Option.{option_to_list}
+use Rattle.event_decisions.specs.Event.{event_of}
+use Rattle.pair_journal.specs.State.{JournalState}
+use Rattle.life_laws.specs.Happens.{World}
+use Rattle.gateway_life.specs.State.{seen}
+use Rattle.gateway_life.specs.Ready.{world_of, made_of}
+use Rattle.gateway_life.specs.Stepped.{records}
+use Rattle.gateway_life.proofs.Acting.{stepped, broken_parts, made_ends}
+use Rattle.gateway_life.proofs.Acting.{act_ends}
+use Rattle.gateway_life.proofs.Deciding.{left_after}
+use Rattle.gateway_life.proofs.Watching.{watched_none, made_kept, act_kept}
+use Rattle.gateway_life.proofs.engine.Engine.event.Goals as goal
+
+pub returns-clause-happens : goal.returns-clause-happens
+returns-clause-happens g c =
+    let made = c.in_ok-made.ensures in
+    let acts = c.in_ok-act.ensures in
+    stepped c.args.self.now.core.config (world_of (seen c.args.self.now))
+    (world_of (seen c.act.new.self)) (event_of c.args.event.now) c.args.now
+    (made_of c.in_ok-made.made c.decide.new.self.core) c.names-names.result
+    c.decide.new.self.journal.entries _ _ _ _ _ _
+    (c.names-names.ensures.names ∙ made.ready.names ∙ ap (λ k. k.names) made.config)
+    made.up.0 made.up.1 made.entries
+    (ap (λ (j : JournalState). j.entries) acts.journal) made.decides acts.sessions acts.client_acts
+    acts.venue_acts
+
+pub returns-in_err-made-clause-ends : goal.returns-in_err-made-clause-ends
+returns-in_err-made-clause-ends g c =
+    made_ends c.from_residual.result c.in_err-made.field-0.0 (g.D.Disk.bytes c.args.disk.now) _ _
+    c.args.self.now.core.config (world_of (seen c.args.self.now)) (event_of c.args.event.now)
+    c.args.now _ c.from_residual.ensures.1 c.in_err-made.ensures.why c.in_err-made.ensures.images
+
+pub returns-in_err-act-clause-ends : goal.returns-in_err-act-clause-ends
+returns-in_err-act-clause-ends g c =
+    let made = c.in_ok-made.ensures in
+    let config = c.args.self.now.core.config in
+    let w = world_of (seen c.args.self.now) in
+    let r0 = records (g.C.Wire.recorded c.args.client.now) (g.V.Wire.recorded c.args.venue.now) in
+    let r1 = records (g.C.Wire.recorded c.act.new.client) (g.V.Wire.recorded c.act.new.venue) in
+    let named = made.ready.names ∙ ap (λ k. k.names) made.config in
+    act_ends c.from_residual-in_err-act.result c.in_err-act.field-0.0
+    (g.D.Disk.bytes c.args.disk.now) (g.D.Disk.image c.args.disk.now)
+    (g.D.Disk.image c.act.new.disk) config w (event_of c.args.event.now) c.args.now r0 r1
+    c.from_residual-in_err-act.ensures.1 c.in_err-act.ensures.only
+    (broken_parts (g.D.Disk.bytes c.args.disk.now) (g.D.Disk.image c.decide.new.disk)
+    (g.D.Disk.image c.act.new.disk) config w (event_of c.args.event.now) c.args.now
+    (made_of c.in_ok-made.made c.decide.new.self.core) c.names-names.result
+    c.decide.new.self.journal.entries c.decide.new.self.client_up c.decide.new.self.venue_up
+    _ _ _ _ (c.names-names.ensures.names ∙ named) made.up.0 made.up.1 made.entries made.decides
+    c.act.ensures.only_read.images c.in_err-act.ensures.client_part c.in_err-act.ensures.venue_part
+    (g.D.Disk.image c.args.disk.now)
+    (left_after (g.D.Disk.bytes c.args.disk.now) (g.D.Disk.bytes c.decide.new.disk) _ _
+    c.decide.new.self.journal.names config.names c.decide.new.self.journal.entries made.told
+    made.durable made.ready.stands named))
+
+pub returns-clause-taps : goal.returns-clause-taps
+returns-clause-taps g c = record {
+  more = option_to_list c.in_ok-made.made.entry;
+  goes_on = ap (λ (j : JournalState). j.entries) c.act.ensures.journal
+      ∙ c.in_ok-made.ensures.entries;
+  seen = c.show.ensures;
+}
+
+pub returns-in_err-act-clause-taps : goal.returns-in_err-act-clause-taps
+returns-in_err-act-clause-taps g c = record {
+  more = option_to_list c.in_ok-made.made.entry;
+  goes_on = ap (λ (j : JournalState). j.entries) c.act.ensures.journal
+      ∙ c.in_ok-made.ensures.entries;
+  seen = c.show.ensures;
+}
+
+pub returns-in_err-made-clause-taps : goal.returns-in_err-made-clause-taps
+returns-in_err-made-clause-taps g c = watched_none _ c.args.taps.now.items
+    c.args.self.now.journal.entries c.decide.new.self.journal.entries
+    (ap (λ (w : World). w.entries) c.in_err-made.ensures.refused.0)
+
+pub returns-in_err-made-clause-kept : goal.returns-in_err-made-clause-kept
+returns-in_err-made-clause-kept g c =
+    made_kept c.from_residual.result c.in_err-made.field-0.0 (g.D.Disk.bytes c.args.disk.now) _ _
+    c.args.self.now.core.config (world_of (seen c.args.self.now)) (event_of c.args.event.now)
+    c.args.now c.decide.new.self.journal.entries c.from_residual.ensures.1
+    (ap (λ (w : World). w.entries) c.in_err-made.ensures.refused.0) c.in_err-made.ensures.images
+
+pub returns-in_err-act-clause-kept : goal.returns-in_err-act-clause-kept
+returns-in_err-act-clause-kept g c =
+    let made = c.in_ok-made.ensures in
+    let config = c.args.self.now.core.config in
+    act_kept c.from_residual-in_err-act.result (g.D.Disk.bytes c.args.disk.now)
+    (g.D.Disk.image c.args.disk.now) (g.D.Disk.image c.decide.new.disk)
+    (g.D.Disk.image c.act.new.disk) config.names c.decide.new.self.journal.entries
+    c.act.new.self.journal.entries
+    (ap (λ (j : JournalState). j.entries) c.act.ensures.journal) c.act.ensures.only_read.images
+    (left_after (g.D.Disk.bytes c.args.disk.now) (g.D.Disk.bytes c.decide.new.disk) _ _
+    c.decide.new.self.journal.names config.names c.decide.new.self.journal.entries made.told
+    made.durable made.ready.stands (made.ready.names ∙ ap (λ k. k.names) made.config))

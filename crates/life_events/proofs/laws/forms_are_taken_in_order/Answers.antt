@@ -1,6 +1,0 @@
--- One frame after another.
-use Rattle.life_events.proofs.InOrder.{in_order}
-use Rattle.life_events.proofs.laws.forms_are_taken_in_order.Goals as goal
-
-pub returns : goal.returns
-returns c = in_order

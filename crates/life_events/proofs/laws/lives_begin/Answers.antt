@@ -1,6 +1,0 @@
--- Each entry of a lawful journal goes on from the numbers before it.
-use Rattle.life_events.proofs.Begun.{begins}
-use Rattle.life_events.proofs.laws.lives_begin.Goals as goal
-
-pub returns : goal.returns
-returns g c = begins g.A.Answering.answers

@@ -1,6 +1,0 @@
--- One out after another; a gap fill leads past its run.
-use Rattle.life_events.proofs.Filled.{repeats_fill}
-use Rattle.life_events.proofs.laws.repeats_fill_gaps.Goals as goal
-
-pub returns : goal.returns
-returns c = repeats_fill

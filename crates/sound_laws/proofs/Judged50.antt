@@ -1,0 +1,298 @@
+-- A value of a request of FIX 5.0 SP2 that is judged beside other fields is judged alike beside
+-- fields that say the same date, and the same OrdType where TimeInForce asks for it.
+use Rattle.std.proofs.Common.{◌≡◌, ℕ, zero, suc, List, [], ◌∷◌, Some, None, Bool, true, false}
+use Rattle.std.proofs.Common.{refl, sym, ap, subst, ◌∙◌, codes, take}
+use Rattle.std.specs.Prelude.{Ok, Err, IfSome, not, ◌&&◌, ◌||◌, ◌==◌}
+use Rattle.std.proofs.lemmas.Bool.{eqb-true}
+use Rattle.field_groups.specs.Field.{Field, is_soh}
+use Rattle.field_groups.specs.Data.{is_data_tag}
+use Rattle.std.specs.List.{AllByRecursion, list_any}
+use Rattle.message_tables.specs.Tables.{Verdict, Spells, Outside, Wrong, Said, ◌>>=◌, value_at}
+use Rattle.message_tables.specs.Tables.{text_of, is_listed, is_one_of}
+use Rattle.value_kinds.specs.ValueKind.{ValueKind, OneByte, Code, Day, MonthYear, Spelling}
+use Rattle.value_kinds.specs.ValueKind.{spelling}
+use Rattle.value_kinds.specs.ValueKind.{is_code, listed_word}
+use Rattle.row_values.specs.Kinds.{Kind, Value, Byte, DayOf, MonthBeside, TimeBeside, Version}
+use Rattle.row_values.specs.Kinds.{judge, verdict_of, filled, if_spelled, counted, date_at}
+use Rattle.row_values.specs.Kinds.{month_beside, is_at_close}
+use Rattle.sound_laws.specs.Sound.{IsClear}
+use Rattle.sound_laws.proofs.Good.{held}
+use Rattle.sound_laws.proofs.Each.{both, either}
+use Rattle.sound_laws.proofs.SpelledAgain.{own_bytes, spelled_again, clear_or}
+use Rattle.sound_laws.proofs.PlainRows.{spelled, value_again, value_clear}
+use Rattle.sound_laws.proofs.ReadSound.{IsClearField}
+
+-- The kinds of values; only a message that has OrdType has a time beside it.
+abbrev pub ours_kind : Bool → Kind → Bool
+ours_kind timed (Value kind) = true
+ours_kind timed (Byte listed) = true
+ours_kind timed (MonthBeside date) = date == 541
+ours_kind timed (TimeBeside ord_type) = timed && (ord_type == 40)
+ours_kind timed kind = false
+
+abbrev at_market_or_limit : List Field → Bool
+at_market_or_limit fields = is_listed (codes "12") (value_at 40 fields)
+
+pub record AreAlike (timed : Bool) (before after : List Field) : Type 0 where
+  pub date : date_at 541 after ≡ date_at 541 before
+  pub ord_type : timed ≡ true
+      → at_market_or_limit before ≡ true → at_market_or_limit after ≡ true
+
+-- ---- a month beside a date
+
+abbrev pub IsDay : List ℕ → Type 0
+IsDay day = verdict_of (spelling Day day) ≡ Spells day
+
+filled_month : (day : List ℕ) → IsDay day → filled (take 6 day) (Spells (take 6 day))
+    ≡ Spells (take 6 day)
+unfolding spelling
+filled_month [] h = absurd cc
+filled_month (b ∷ bs) h = refl
+
+-- the date that fields say is a day
+date_is_day : (fields : List Field) (day : List ℕ) → date_at 541 fields ≡ Some day → IsDay day
+date_is_day fields day h = by (value_at 541 fields) h
+  where
+    told : (v : Verdict) → text_of v ≡ Some day → v ≡ Spells day
+    told (Spells text) e = cc
+    told Outside e = absurd cc
+    told (Wrong reason) e = absurd cc
+
+    by : (value : Said)
+        → value >>= (λ text. text_of (verdict_of (spelling Day text))) ≡ Some day → IsDay day
+    by None e = absurd cc
+    by (Some bytes) e = value_again Day bytes day (told (verdict_of (spelling Day bytes)) e)
+
+-- the month of the date that fields say
+pub month_of_date : (fields : List Field) (day : List ℕ) → date_at 541 fields ≡ Some day →
+    judge fields (MonthBeside 541) (take 6 day) ≡ Spells (take 6 day)
+unfolding judge
+month_of_date fields day h =
+    ap (λ (date : Said). filled (take 6 day) (month_beside date (take 6 day))) h
+    ∙ filled_month day (date_is_day fields day h)
+
+filled_by : (bytes : List ℕ) (v : Verdict) (text : List ℕ)
+    → filled bytes v ≡ Spells text → v ≡ Spells text
+filled_by [] v text h = absurd cc
+filled_by (b ∷ bs) v text h = h
+
+if_spells : (s : Spelling) (text : List ℕ) → if_spelled s ≡ Spells text → s ≡ Ok (Some text)
+if_spells (Ok (Some other)) text h = cc
+if_spells (Ok None) text h = absurd cc
+if_spells (Err fault) text h = absurd cc
+
+filled_spelling : (text : List ℕ) → spelling MonthYear text ≡ Ok (Some text)
+    → filled text (if_spelled (spelling MonthYear text)) ≡ Spells text
+unfolding spelling
+filled_spelling [] h = absurd cc
+filled_spelling (b ∷ bs) h = ap if_spelled h
+
+month_again : (before after : List Field) (date : Said) → date_at 541 before ≡ date
+    → date_at 541 after ≡ date → (bytes text : List ℕ)
+    → judge before (MonthBeside 541) bytes ≡ Spells text
+    → judge after (MonthBeside 541) text ≡ Spells text
+unfolding judge
+month_again before after None b a bytes text e =
+    let first : filled bytes (if_spelled (spelling MonthYear bytes)) ≡ Spells text =
+    ap (λ (date : Said). filled bytes (month_beside date bytes)) (sym b) ∙ e in
+    let is = if_spells (spelling MonthYear bytes) text
+    (filled_by bytes (if_spelled (spelling MonthYear bytes)) text first) in
+    ap (λ (date : Said). filled text (month_beside date text)) a
+    ∙ filled_spelling text (spelled_again MonthYear bytes text is)
+month_again before after (Some day) b a bytes text e =
+    let first : filled bytes (Spells (take 6 day)) ≡ Spells text =
+    ap (λ (date : Said). filled bytes (month_beside date bytes)) (sym b) ∙ e in
+    let told : Spells (take 6 day) ≡ Spells text =
+    filled_by bytes (Spells (take 6 day)) text first in
+    let is : take 6 day ≡ text = cc in
+    let P : List ℕ → Type 0 = λ t. judge after (MonthBeside 541) t ≡ Spells t in
+    subst P is (month_of_date after day a)
+
+-- ---- a time beside OrdType
+
+counts : (good : Bool) (v : Verdict) (text : List ℕ)
+    → counted good v ≡ Spells text → (good ≡ true) × (v ≡ Spells text)
+counts true v text h = (refl, h)
+counts false (Spells other) text h = absurd cc
+counts false Outside text h = absurd cc
+counts false (Wrong reason) text h = absurd cc
+
+either_kept : (a b c : Bool) → (b ≡ true → c ≡ true) → (a || b) ≡ true → (a || c) ≡ true
+either_kept true b c h e = refl
+either_kept false b c h e = h e
+
+abbrev times : ValueKind
+times = Code (codes "01234567")
+
+time_again : (before after : List Field)
+    → (at_market_or_limit before ≡ true → at_market_or_limit after ≡ true) →
+    (bytes text : List ℕ) → judge before (TimeBeside 40) bytes ≡ Spells text
+    → judge after (TimeBeside 40) text ≡ Spells text
+unfolding judge
+time_again before after kept bytes text e =
+    let parts = counts (not (is_at_close bytes) || at_market_or_limit before)
+    (verdict_of (spelling times bytes)) text e in
+    let good = either_kept (not (is_at_close bytes))
+    (at_market_or_limit before) (at_market_or_limit after) kept parts.0 in
+    let same : text ≡ bytes =
+    own_bytes times bytes refl text (spelled (spelling times bytes) text parts.1) in
+    let P : List ℕ → Type 0 = λ t. counted (not (is_at_close t) || at_market_or_limit after)
+    (verdict_of (spelling times t)) ≡ Spells text in
+    subst P (sym same) (
+    ap (λ (b : Bool). counted b (verdict_of (spelling times bytes))) good ∙ parts.1)
+
+-- ---- each kind
+
+byte_again : (listed bytes text : List ℕ) →
+    counted (is_code listed bytes) (verdict_of (spelling OneByte bytes)) ≡ Spells text
+    → counted (is_code listed text) (verdict_of (spelling OneByte text)) ≡ Spells text
+byte_again listed bytes text e =
+    let parts = counts (is_code listed bytes) (verdict_of (spelling OneByte bytes)) text e in
+    let same : text ≡ bytes =
+    own_bytes OneByte bytes refl text (spelled (spelling OneByte bytes) text parts.1) in
+    let P : List ℕ → Type 0 =
+    λ t. counted (is_code listed t) (verdict_of (spelling OneByte t)) ≡ Spells text in
+    subst P (sym same) e
+
+module _ (timed : Bool) (before after : List Field) (alike : AreAlike timed before after) where
+  -- A CANONICAL SPELLING IS JUDGED AGAIN.
+  pub judged_again : (kind : Kind) → ours_kind timed kind ≡ true → (bytes text : List ℕ)
+      → judge before kind bytes ≡ Spells text → judge after kind text ≡ Spells text
+  unfolding judge
+  judged_again (Value kind) h bytes text e = value_again kind bytes text e
+  judged_again (Byte listed) h bytes text e = byte_again listed bytes text e
+  judged_again (MonthBeside date) h bytes text e =
+      let is : date ≡ 541 = eqb-true date 541 h in
+      let P : ℕ → Type 0 = λ t. judge before (MonthBeside t) bytes ≡ Spells text
+      → judge after (MonthBeside t) text ≡ Spells text in
+      subst P (sym is) (month_again
+      before after (date_at 541 before) refl alike.date bytes text) e
+  judged_again (TimeBeside ord_type) h bytes text e =
+      let parts = both timed (ord_type == 40) h in
+      let is : ord_type ≡ 40 = eqb-true ord_type 40 parts.1 in
+      let P : ℕ → Type 0 = λ t. judge before (TimeBeside t) bytes ≡ Spells text
+      → judge after (TimeBeside t) text ≡ Spells text in
+      subst P (sym is)
+      (time_again before after (alike.ord_type parts.0) bytes text) e
+  judged_again (DayOf month) h bytes text e = absurd cc
+  judged_again Version h bytes text e = absurd cc
+
+-- ---- no SOH
+
+pub clear_front : (n : ℕ) (bytes : List ℕ) → IsClear bytes → IsClear (take n bytes)
+clear_front zero bytes h = refl
+clear_front (suc n) [] h = refl
+clear_front (suc n) (b ∷ bs) h =
+    let p = either (b == 1) (list_any is_soh bs) h in
+    clear_or (b == 1) (list_any is_soh (take n bs)) p.0 (clear_front n bs p.1)
+
+bare_date : is_data_tag 541 ≡ false
+unfolding is_data_tag
+bare_date = refl
+
+-- the date that fields say
+pub clear_date : (fields : List Field)
+    → AllByRecursion (IsClearField judge) fields → IfSome (date_at 541 fields) IsClear
+clear_date fields clear = by (value_at 541 fields) refl
+  where
+    of : (v : Verdict) → ((day : List ℕ) → v ≡ Spells day → IsClear day)
+        → IfSome (text_of v) IsClear
+    of (Spells day) h = h day refl
+    of Outside h = tt
+    of (Wrong reason) h = tt
+
+    by : (value : Said) → value_at 541 fields ≡ value
+        → IfSome (value >>= (λ text. text_of (verdict_of (spelling Day text)))) IsClear
+    by None at = tt
+    by (Some bytes) at = of (verdict_of (spelling Day bytes)) (λ day e. value_clear Day bytes day
+        (held (IsClearField judge) 541 fields bytes at clear bare_date) e)
+
+month_clear : (date : Said) (bytes text : List ℕ) → IfSome date IsClear → IsClear bytes
+    → filled bytes (month_beside date bytes) ≡ Spells text → IsClear text
+month_clear None bytes text day c e = value_clear MonthYear bytes text c
+    (ap verdict_of (if_spells (spelling MonthYear bytes) text
+    (filled_by bytes (if_spelled (spelling MonthYear bytes)) text e)))
+month_clear (Some date) bytes text day c e =
+    let told : Spells (take 6 date) ≡ Spells text =
+    filled_by bytes (Spells (take 6 date)) text e in
+    let is : take 6 date ≡ text = cc in
+    subst IsClear is (clear_front 6 date day)
+
+module _ (timed : Bool) (fields : List Field)
+    (clear : AllByRecursion (IsClearField judge) fields) where
+  pub judged_clear : (kind : Kind) → ours_kind timed kind ≡ true → (bytes text : List ℕ)
+      → IsClear bytes → judge fields kind bytes ≡ Spells text → IsClear text
+  unfolding judge
+  judged_clear (Value kind) h bytes text c e = value_clear kind bytes text c e
+  judged_clear (Byte listed) h bytes text c e = value_clear OneByte bytes text c
+      (counts (is_code listed bytes) (verdict_of (spelling OneByte bytes)) text e).1
+  judged_clear (MonthBeside date) h bytes text c e =
+      let is : date ≡ 541 = eqb-true date 541 h in
+      let P : ℕ → Type 0 = λ t. judge fields (MonthBeside t) bytes ≡ Spells text → IsClear text in
+      subst P (sym is)
+      (month_clear (date_at 541 fields) bytes text (clear_date fields clear) c) e
+  judged_clear (TimeBeside ord_type) h bytes text c e = value_clear times bytes text c
+      (counts (not (is_at_close bytes) || is_listed (codes "12") (value_at ord_type fields))
+      (verdict_of (spelling times bytes)) text e).1
+  judged_clear (DayOf month) h bytes text c e = absurd cc
+  judged_clear Version h bytes text c e = absurd cc
+
+-- ---- what fields that are read say again
+
+-- the date that fields say, read again
+date_twice : (value : Said) →
+    (value >>= (λ text. text_of (verdict_of (spelling Day text))))
+    >>= (λ text. text_of (verdict_of (spelling Day text)))
+    ≡ value >>= (λ text. text_of (verdict_of (spelling Day text)))
+date_twice None = refl
+date_twice (Some bytes) = by (verdict_of (spelling Day bytes)) refl
+  where
+    by : (v : Verdict) → verdict_of (spelling Day bytes) ≡ v
+        → text_of v >>= (λ text. text_of (verdict_of (spelling Day text))) ≡ text_of v
+    by (Spells text) e = ap text_of (value_again Day bytes text e)
+    by Outside e = refl
+    by (Wrong reason) e = refl
+
+abbrev pub date_said : List Field → Said
+date_said fields = value_at 541 fields >>= (λ bytes. text_of (judge fields (Value Day) bytes))
+
+abbrev pub type_said : List Field → Said
+type_said fields =
+    value_at 40 fields >>= (λ bytes. text_of (judge fields (Value (Code (codes "1234"))) bytes))
+
+pub date_kept : (fields after : List Field)
+    → value_at 541 after ≡ date_said fields → date_at 541 after ≡ date_at 541 fields
+unfolding judge
+date_kept fields after at =
+    ap (λ (v : Said). v >>= (λ text. text_of (verdict_of (spelling Day text)))) at
+    ∙ date_twice (value_at 541 fields)
+
+listed_more : (a b c d : Bool)
+    → (a || (b || false)) ≡ true → (a || (b || (c || (d || false)))) ≡ true
+listed_more true b c d h = refl
+listed_more false true c d h = refl
+listed_more false false c d h = absurd cc
+
+type_listed : (byte : ℕ) → is_one_of (codes "12") byte ≡ true
+    → is_listed (codes "12") (text_of (verdict_of (spelling (Code (codes "1234")) (byte ∷ []))))
+    ≡ true
+unfolding spelling
+type_listed byte h =
+    let listed : is_code (codes "1234") (byte ∷ []) ≡ true =
+    listed_more (49 == byte) (50 == byte) (51 == byte) (52 == byte) h in
+    ap (λ (b : Bool). is_listed (codes "12")
+    (text_of (verdict_of (Ok (listed_word b (byte ∷ [])))))) listed ∙ h
+
+pub type_kept : (fields after : List Field) → value_at 40 after ≡ type_said fields
+    → is_listed (codes "12") (value_at 40 fields) ≡ true
+    → is_listed (codes "12") (value_at 40 after) ≡ true
+unfolding judge
+type_kept fields after at h = ap (is_listed (codes "12")) at ∙ by (value_at 40 fields) h
+  where
+    by : (value : Said) → is_listed (codes "12") value ≡ true
+        → is_listed (codes "12")
+        (value >>= (λ bytes. text_of (verdict_of (spelling (Code (codes "1234")) bytes)))) ≡ true
+    by None e = absurd cc
+    by (Some []) e = absurd cc
+    by (Some (b ∷ [])) e = type_listed b e
+    by (Some (b ∷ c ∷ bs)) e = absurd cc

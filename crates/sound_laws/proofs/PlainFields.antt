@@ -1,0 +1,221 @@
+-- The fields of a sound message are no raw data, and not too many, so that a body of them is split
+-- again into them.
+use Rattle.std.proofs.Common.{rules, ◌≡◌, ◌≤◌, ◌+◌, ℕ, zero, suc, List, [], ◌∷◌, length}
+use Rattle.std.proofs.Common.{All, Option, Some, None, Bool, true, sym, subst}
+use Rattle.std.proofs.Common.{arith, length-append}
+use Rattle.std.specs.Prelude.{not, nat_le, ◌&&◌, IfSome}
+use Rattle.std.specs.List.{AllByRecursion, flat_map, list_all}
+use Rattle.std.specs.Fmt.{decimal}
+use Rattle.std.proofs.lemmas.Fmt.{digits_decimal}
+use Rattle.std.proofs.lemmas.Bool.Decides.{nat_tests}
+use Rattle.std.proofs.lemmas.List.Elements.{All-cons}
+use Rattle.typed_fields.specs.Digits.{are_digits}
+use Rattle.typed_fields.proofs.DigitsLemmas.{numerals}
+use Rattle.field_groups.specs.Data.{is_data_tag}
+use Rattle.field_groups.specs.Field.{Field, IsPlainField, AreFields}
+use Rattle.field_groups.proofs.Plain.{is_plain}
+use Rattle.message_tables.specs.Tables.{Judge, Row, Item, One, Party, Lines, Table, Message, Cell}
+use Rattle.message_tables.specs.Tables.{Said, Place, Tag, Role, said_at, lines_of}
+use Rattle.message_tables.specs.Content.{content, cell_fields, line_fields, group_fields}
+use Rattle.message_tables.specs.Content.{item_fields}
+use Rattle.sound_laws.specs.Sound.{IsClear, AreSaid, IsLine, IsItem, IsSound}
+use Rattle.sound_laws.proofs.Each.{both, not_true, each_joined}
+use Rattle.sound_laws.proofs.ReadSound.{IsClearField}
+use Rattle.sound_laws.proofs.SpelledAgain.{digits_clear}
+
+-- a tag of a field that is no raw data
+abbrev pub is_good_tag : ℕ → Bool
+is_good_tag tag = nat_le 1 tag && (nat_le tag 999_999_999 && not (is_data_tag tag))
+
+abbrev pub has_good_tags : {Kind : Type 0} → Item Kind → Bool
+has_good_tags (One row) = is_good_tag row.tag
+has_good_tags (Party role) = true
+has_good_tags (Lines group) =
+    is_good_tag group.count && list_all (λ row. is_good_tag row.tag) group.rows
+
+pub plain_field : (tag : ℕ) (text : List ℕ)
+    → is_good_tag tag ≡ true → IsClear text → IsPlainField (tag, text)
+plain_field tag text good clear =
+    let a = both (nat_le 1 tag) (nat_le tag 999_999_999 && not (is_data_tag tag)) good in
+    let b = both (nat_le tag 999_999_999) (not (is_data_tag tag)) a.1 in
+    let low = a.0 in let high = b.0 in
+    record {
+      positive = grind (arith, nat_tests);
+      nine_digits =
+          grind (arith, nat_tests);
+      no_data = not_true (is_data_tag tag) b.1;
+      no_soh = clear;
+    }
+
+abbrev pub Plains : List Field → Type 0
+Plains fields = AllByRecursion IsPlainField fields
+
+cell_plain : (tag : ℕ) (said : Said)
+    → is_good_tag tag ≡ true → IfSome said IsClear → Plains (cell_fields (Tag tag, said))
+cell_plain tag None good clear = tt
+cell_plain tag (Some text) good clear = (plain_field tag text good clear, tt)
+
+-- ---- how many fields are written at most
+
+unfoldable pub times : ℕ → ℕ → ℕ
+times zero k = 0
+times (suc n) k = k + times n k
+
+abbrev pub most : {Kind : Type 0} → Item Kind → ℕ
+most (One row) = 1
+most (Party role) = 0
+most (Lines group) = 1 + times 32 (length group.rows)
+
+abbrev pub most_of : {Kind : Type 0} → List (Item Kind) → ℕ
+most_of [] = 0
+most_of (item ∷ items) = most item + most_of items
+
+times_grows : (n m k : ℕ) → n ≤ m → times n k ≤ times m k
+unfolding times
+times_grows zero m k h = omega arith
+times_grows (suc n) zero k h = absurd (omega (arith, h))
+times_grows (suc n) (suc m) k h =
+    let rest = times_grows n m k (omega (arith, h)) in omega (arith, rest)
+
+pub cell_length : (place : Place) (said : Said) → length (cell_fields (place, said)) ≤ 1
+cell_length (Tag tag) None = omega arith
+cell_length (Tag tag) (Some text) = omega arith
+cell_length (Role role) said = omega arith
+
+module _ {Kind : Type 0} (judge : Judge Kind) where
+  line_plain : (fields : List Field) (rows : List (Row Kind)) (line : List Cell)
+      → list_all (λ row. is_good_tag row.tag) rows ≡ true → AreSaid judge fields rows line →
+      Plains (line_fields line)
+  line_plain fields [] [] good said = tt
+  line_plain fields [] (cell ∷ cells) good said = absurd said
+  line_plain fields (row ∷ rows) [] good said = absurd said
+  line_plain fields (row ∷ rows) (cell ∷ cells) good said =
+      let g = both (is_good_tag row.tag) (list_all (λ r. is_good_tag r.tag) rows) good in
+      let P : Place → Type 0 = λ p. Plains (cell_fields (p, cell.1)) in
+      let here : Plains (cell_fields cell) =
+      subst P (sym said.0) (cell_plain row.tag cell.1 g.0 said.1.clear) in
+      each_joined IsPlainField
+      (cell_fields cell) (line_fields cells) here (line_plain fields rows cells g.1 said.2)
+
+  line_length : (fields : List Field) (rows : List (Row Kind)) (line : List Cell)
+      → AreSaid judge fields rows line → length (line_fields line) ≤ length rows
+  line_length fields [] [] said = omega arith
+  line_length fields [] (cell ∷ cells) said = absurd said
+  line_length fields (row ∷ rows) [] said = absurd said
+  line_length fields (row ∷ rows) (cell ∷ cells) said =
+      let one = cell_length cell.0 cell.1 in let rest = line_length fields rows cells said.2 in
+      omega (arith, one, rest, length-append (cell_fields cell) (line_fields cells))
+
+  lines_plain : (rows : List (Row Kind)) (lines : List (List Cell)) → list_all
+      (λ row. is_good_tag row.tag) rows ≡ true → AllByRecursion (IsLine judge rows) lines →
+      Plains (flat_map line_fields lines)
+  lines_plain rows [] good said = tt
+  lines_plain rows (line ∷ lines) good said =
+      each_joined IsPlainField (line_fields line) (flat_map line_fields lines)
+      (line_plain (line_fields line) rows line good said.0) (lines_plain rows lines good said.1)
+
+  lines_length : (rows : List (Row Kind)) (lines : List (List Cell))
+      → AllByRecursion (IsLine judge rows) lines →
+      length (flat_map line_fields lines) ≤ times (length lines) (length rows)
+  unfolding times
+  lines_length rows [] said = omega arith
+  lines_length rows (line ∷ lines) said =
+      let one = line_length (line_fields line) rows line said.0 in let rest =
+      lines_length rows lines said.1 in
+      omega (arith, one, rest, length-append (line_fields line) (flat_map line_fields lines))
+
+  group_plain : (count : ℕ) (rows : List (Row Kind)) (lines : List (List Cell))
+      → is_good_tag count ≡ true → list_all (λ row. is_good_tag row.tag) rows ≡ true →
+      length lines ≤ 32
+      → AllByRecursion (IsLine judge rows) lines → Plains (group_fields count lines)
+  group_plain count rows [] good tags few said = tt
+  group_plain count rows (line ∷ lines) good tags few said =
+      let n = length (line ∷ lines) in
+      let digits : are_digits (decimal n) ≡ true =
+      digits_decimal numerals n (omega (arith, few)) in (
+        plain_field count (decimal n) good (digits_clear (decimal n) digits),
+        lines_plain rows (line ∷ lines) tags said,
+      )
+
+  group_length : (count : ℕ) (rows : List (Row Kind)) (lines : List (List Cell))
+      → length lines ≤ 32 → AllByRecursion (IsLine judge rows) lines →
+      length (group_fields count lines) ≤ 1 + times 32 (length rows)
+  group_length count rows [] few said = omega arith
+  group_length count rows (line ∷ lines) few said =
+      let whole = lines_length rows (line ∷ lines) said in
+      let grown = times_grows (length (line ∷ lines)) 32 (length rows) few in
+      omega (arith, whole, grown)
+
+  module _ (fields : List Field) (m : Message) where
+    items_plain : (items : List (Item Kind)) → list_all has_good_tags items ≡ true
+        → AllByRecursion (IsItem judge fields m) items → Plains (flat_map (item_fields m) items)
+    items_plain [] good said = tt
+    items_plain (One row ∷ items) good said =
+        let g = both (is_good_tag row.tag) (list_all has_good_tags items) good in
+        each_joined IsPlainField (cell_fields (Tag row.tag, said_at m.cells (Tag row.tag)))
+        (flat_map (item_fields m) items)
+        (cell_plain row.tag (said_at m.cells (Tag row.tag)) g.0 said.0.clear)
+        (items_plain items g.1 said.1)
+    items_plain (Party role ∷ items) good said = items_plain items good said.1
+    items_plain (Lines group ∷ items) good said =
+        let g = both (is_good_tag group.count && list_all (λ row. is_good_tag row.tag) group.rows)
+        (list_all has_good_tags items) good in
+        let t =
+        both (is_good_tag group.count) (list_all (λ row. is_good_tag row.tag) group.rows) g.0 in
+        let lines = lines_of group.count m.groups in
+        each_joined IsPlainField (group_fields group.count lines) (flat_map (item_fields m) items)
+        (group_plain group.count group.rows lines t.0 t.1 said.0.few said.0.said)
+        (items_plain items g.1 said.1)
+
+    items_length : (items : List (Item Kind)) → AllByRecursion (IsItem judge fields m) items
+        → length (flat_map (item_fields m) items) ≤ most_of items
+    items_length [] said = omega arith
+    items_length (One row ∷ items) said =
+        let one = cell_length (Tag row.tag) (said_at m.cells (Tag row.tag)) in let rest =
+        items_length items said.1 in
+        omega (
+          arith,
+          one,
+          rest,
+          length-append (cell_fields
+              (Tag row.tag, said_at m.cells (Tag row.tag))) (flat_map (item_fields m) items),
+        )
+    items_length (Party role ∷ items) said =
+        let rest = items_length items said.1 in omega (arith, rest)
+    items_length (Lines group ∷ items) said =
+        let lines = lines_of group.count m.groups in
+        let one = group_length group.count group.rows lines said.0.few said.0.said in let rest =
+        items_length items said.1 in
+        omega (
+          arith,
+          one,
+          rest,
+          length-append (group_fields group.count lines) (flat_map (item_fields m) items),
+        )
+
+pub all_of : (fields : List Field) → Plains fields → All IsPlainField fields
+all_of [] h = search rules
+all_of (f ∷ fs) h = All-cons IsPlainField f fs h.0 (all_of fs h.1)
+
+-- fields that a body may have behind its header
+pub record AreFew (fields : List Field) : Type 0 where
+  pub plain : Plains fields
+  pub few : length fields ≤ 240
+
+-- THE CONTENT OF A SOUND MESSAGE has such fields.
+pub few_of : {Kind : Type 0} (judge : Judge Kind) (table : Table Kind) (m : Message)
+    → list_all has_good_tags table.items ≡ true → most_of table.items ≤ 240
+    → IsSound judge table m → AreFew (content table m)
+few_of judge table m good most sound =
+    let few = items_length judge (content table m) m table.items sound.items in
+    record {
+      plain = items_plain judge (content table m) m table.items good sound.items;
+      few = omega (arith, few, most);
+    }
+
+-- fields of a body have no SOH, but where they are raw data
+pub clear_fields : {Kind : Type 0} (judge : Judge Kind) (before : Option Field)
+    (fields : List Field) → AreFields before fields → AllByRecursion (IsClearField judge) fields
+clear_fields judge before [] h = tt
+clear_fields judge before (f ∷ fs) h =
+    (λ none. (is_plain before f h.0 none).no_soh, clear_fields judge (Some f) fs h.1)

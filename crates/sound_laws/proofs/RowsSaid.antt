@@ -1,0 +1,185 @@
+-- What says a row: a canonical spelling without SOH, by the need of the row.
+use Rattle.std.proofs.Common.{◌≡◌, ℕ, List, [], ◌∷◌, Option, Some, None, Bool, true, false, refl}
+use Rattle.std.proofs.Common.{ap, subst, option_map}
+use Rattle.std.specs.Prelude.{IsSome, IfSome, ◌||◌, ◌==◌, Ok, if◌then◌else◌}
+use Rattle.std.specs.List.{AllByRecursion, list_any, list_all}
+use Rattle.std.proofs.lemmas.Bool.{eqb-true}
+use Rattle.field_groups.specs.Field.{Field, is_soh}
+use Rattle.message_tables.specs.Tables.{Verdict, Spells, Required, Optional, Lenient, Said, ◌>>=◌}
+use Rattle.message_tables.specs.Tables.{Condition, When, Row, Item, One, Party, Lines, Message, Tag}
+use Rattle.message_tables.specs.Tables.{is_needed, is_one_of, said_at, text_of}
+use Rattle.value_kinds.specs.ValueKind.{ValueKind, Code, Known, known, listed_word, spelling}
+use Rattle.value_kinds.specs.ValueKind.{code_text}
+use Rattle.row_values.specs.Kinds.{Kind, Value, judge, verdict_of}
+use Rattle.sound_laws.specs.Sound.{IsClear, IsSaid, IsItem}
+use Rattle.sound_laws.proofs.Each.{both}
+
+again_of : (j : List ℕ → Verdict) (said : Said)
+    → IfSome said (λ text. j text ≡ Spells text) → said >>= (λ bytes. text_of (j bytes)) ≡ said
+again_of j None h = refl
+again_of j (Some text) h = ap text_of h
+
+module _ (fields : List Field) where
+  pub optional_said : (tag : ℕ) (kind : Kind) (said : Said)
+      → IfSome said (λ text. judge fields kind text ≡ Spells text) → IfSome said IsClear →
+      IsSaid judge fields (record { tag = tag; kind = kind; need = Optional }) said
+  optional_said tag kind said h c = record {
+    needed = λ e. absurd cc;
+    spelled = h;
+    again = again_of (judge fields kind) said h;
+    clear = c;
+  }
+
+  pub lenient_said : (tag : ℕ) (kind : Kind) (said : Said)
+      → IfSome said (λ text. judge fields kind text ≡ Spells text) → IfSome said IsClear →
+      IsSaid judge fields (record { tag = tag; kind = kind; need = Lenient }) said
+  lenient_said tag kind said h c = record {
+    needed = λ e. absurd cc;
+    spelled = h;
+    again = again_of (judge fields kind) said h;
+    clear = c;
+  }
+
+  pub required_said : (tag : ℕ) (kind : Kind) (said : Said) → IsSome said
+      → IfSome said (λ text. judge fields kind text ≡ Spells text) → IfSome said IsClear →
+      IsSaid judge fields (record { tag = tag; kind = kind; need = Required }) said
+  required_said tag kind said there h c = record {
+    needed = λ e. there;
+    spelled = h;
+    again = again_of (judge fields kind) said h;
+    clear = c;
+  }
+
+  pub needed_said : (condition : Condition) (tag : ℕ) (kind : Kind) (said : Said)
+      → (is_needed (When condition) fields ≡ true → IsSome said)
+      → IfSome said (λ text. judge fields kind text ≡ Spells text) → IfSome said IsClear →
+      IsSaid judge fields (record { tag = tag; kind = kind; need = When condition }) said
+  needed_said condition tag kind said there h c = record {
+    needed = there;
+    spelled = h;
+    again = again_of (judge fields kind) said h;
+    clear = c;
+  }
+
+-- the values of a kind are the same beside any fields
+pub same_value : (fields42 fields50 : List Field) (kind : ValueKind) (said : Said) →
+    IfSome said (λ text. judge fields42 (Value kind) text ≡ Spells text)
+    → IfSome said (λ text. judge fields50 (Value kind) text ≡ Spells text)
+unfolding judge
+same_value fields42 fields50 kind None h = tt
+same_value fields42 fields50 kind (Some text) h = h
+
+-- ---- the row of a tag
+
+abbrev pub row_of_tag : ℕ → List (Item Kind) → Option (Row Kind)
+row_of_tag tag [] = None
+row_of_tag tag (One row ∷ items) = if row.tag == tag then Some row else row_of_tag tag items
+row_of_tag tag (Party role ∷ items) = row_of_tag tag items
+row_of_tag tag (Lines group ∷ items) = row_of_tag tag items
+
+-- what a message says at the row of a tag
+pub row_said : (fields : List Field) (m : Message) (items : List (Item Kind)) (tag : ℕ)
+    (row : Row Kind) → row_of_tag tag items ≡ Some row
+    → AllByRecursion (IsItem judge fields m) items
+    → IsSaid judge fields row (said_at m.cells (Tag row.tag))
+row_said fields m [] tag row e said = absurd cc
+row_said fields m (Party role ∷ items) tag row e said =
+    row_said fields m items tag row e said.1
+row_said fields m (Lines group ∷ items) tag row e said =
+    row_said fields m items tag row e said.1
+row_said fields m (One first ∷ items) tag row e said =
+    by (first.tag == tag) e (λ later. row_said fields m items tag row later said.1)
+  where
+    by : (b : Bool) → (if b then Some first else row_of_tag tag items) ≡ Some row
+        → (row_of_tag tag items ≡ Some row
+        → IsSaid judge fields row (said_at m.cells (Tag row.tag)))
+        → IsSaid judge fields row (said_at m.cells (Tag row.tag))
+    by true e later =
+        let same : first ≡ row = cc in
+        let P : Row Kind → Type 0 = λ r. IsSaid judge fields r (said_at m.cells (Tag r.tag)) in
+        subst P same said.0
+    by false e later = later e
+
+-- ---- codes
+
+-- what is among some is among more
+pub among : (fewer more : List ℕ) (x : ℕ) → list_all (is_one_of more) fewer ≡ true
+    → is_one_of fewer x ≡ true → is_one_of more x ≡ true
+among [] more x all there = absurd cc
+among (y ∷ ys) more x all there =
+    let p = both (is_one_of more y) (list_all (is_one_of more) ys) all in
+    by (y == x) refl there (λ later. among ys more x p.1 later) p.0
+  where
+    by : (b : Bool) → (y == x) ≡ b → (b || is_one_of ys x) ≡ true
+        → (is_one_of ys x ≡ true → is_one_of more x ≡ true)
+        → is_one_of more y ≡ true → is_one_of more x ≡ true
+    by true e there later first =
+        let P : ℕ → Type 0 = λ z. is_one_of more z ≡ true in subst P (eqb-true y x e) first
+    by false e there later first = later there
+
+-- a listed code is not SOH
+pub listed_clear : (listed : List ℕ) (code : ℕ)
+    → list_any is_soh listed ≡ false → is_one_of listed code ≡ true → IsClear (code ∷ [])
+listed_clear listed code none h = by (code == 1) refl
+  where
+    by : (b : Bool) → (code == 1) ≡ b → (b || false) ≡ false
+    by false e = refl
+    by true e = absurd (
+        let is : code ≡ 1 = eqb-true code 1 e in
+        let P : ℕ → Type 0 = λ c. is_one_of listed c ≡ true in
+        let there : is_one_of listed 1 ≡ true = subst P is h in cc)
+
+code_by : (listed : Bool) (code : ℕ)
+    → verdict_of (Ok (listed_word listed (code ∷ []))) ≡ Spells (code ∷ []) → listed ≡ true
+code_by true code h = refl
+code_by false code h = absurd cc
+
+pub listed_code : (fields : List Field) (listed : List ℕ) (code : ℕ)
+    → judge fields (Value (Code listed)) (code ∷ []) ≡ Spells (code ∷ [])
+    → is_one_of listed code ≡ true
+unfolding judge spelling
+listed_code fields listed code h = code_by (is_one_of listed code) code h
+
+pub listed_codes : (fields : List Field) (listed : List ℕ) (code : Option ℕ)
+    → IfSome (option_map code_text code)
+    (λ text. judge fields (Value (Code listed)) text ≡ Spells text)
+    → IfSome code (λ c. is_one_of listed c ≡ true)
+listed_codes fields listed None h = tt
+listed_codes fields listed (Some code) h = listed_code fields listed code h
+
+known_by : (listed : Bool) (code : ℕ)
+    → verdict_of (known listed (code ∷ [])) ≡ Spells (code ∷ []) → listed ≡ true
+known_by true code h = refl
+known_by false code h = absurd cc
+
+pub known_code : (fields : List Field) (listed : List ℕ) (code : ℕ)
+    → judge fields (Value (Known listed)) (code ∷ []) ≡ Spells (code ∷ [])
+    → is_one_of listed code ≡ true
+unfolding judge spelling
+known_code fields listed code h = known_by (is_one_of listed code) code h
+
+pub code_spelled : (fields : List Field) (listed : List ℕ) (code : ℕ)
+    → is_one_of listed code ≡ true
+    → judge fields (Value (Code listed)) (code_text code) ≡ Spells (code_text code)
+unfolding judge spelling
+code_spelled fields listed code h =
+    ap (λ (b : Bool). verdict_of (Ok (listed_word b (code ∷ [])))) h
+
+-- a row of a code
+pub code_said : (fields : List Field) (tag : ℕ) (listed : List ℕ) (code : ℕ)
+    → list_any is_soh listed ≡ false → is_one_of listed code ≡ true
+    → IsSaid judge fields (record { tag = tag; kind = Value (Code listed); need = Required })
+    (Some (code_text code))
+code_said fields tag listed code none h =
+    required_said fields tag (Value (Code listed)) (Some (code_text code)) refl
+    (code_spelled fields listed code h) (listed_clear listed code none h)
+
+pub codes_said : (fields : List Field) (tag : ℕ) (listed : List ℕ) (code : Option ℕ)
+    → list_any is_soh listed ≡ false → IfSome code (λ c. is_one_of listed c ≡ true)
+    → IsSaid judge fields (record { tag = tag; kind = Value (Code listed); need = Optional })
+    (option_map code_text code)
+codes_said fields tag listed None none h =
+    optional_said fields tag (Value (Code listed)) None tt tt
+codes_said fields tag listed (Some code) none h =
+    optional_said fields tag (Value (Code listed)) (Some (code_text code))
+    (code_spelled fields listed code h) (listed_clear listed code none h)
