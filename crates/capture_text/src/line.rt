@@ -14,7 +14,7 @@ use std::alloc::{AllocError, Global};
 /// The most bytes of a round.
 const MAX_ROUND: usize = 4096;
 
-/// The byte that one of a line writes, which is SOH for `|`; none but for those from 32 to 126.
+/// The byte that a byte of a line stands for: SOH for `|`, and else itself; none outside 32 to 126.
 fn byte_of(byte: u8) -> Option<u8>
     ensures some { IfSome result (λ b. (byte ≡ written b) × IsByte b) }
     ensures none { IsNone result → 32 ≤ byte → 126 < byte }
@@ -26,7 +26,7 @@ fn byte_of(byte: u8) -> Option<u8>
     }
 }
 
-/// The bytes that a text of a line writes; none where it has a byte that writes none.
+/// The bytes that a text of a line stands for; none where one of its bytes stands for none.
 #[tactic(auto, using(crate::proofs::Written::taken_more))]
 fn bytes_of(alloc: Global, text: &[u8]) -> Result<Option<Bytes>, AllocError>
     ensures { IfOk result (Writes text.now) }

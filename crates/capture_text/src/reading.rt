@@ -17,7 +17,7 @@ use thiserror::Error;
 /// Why a text was not read as a capture.
 #[derive(Clone, Copy, Debug, Error, PartialEq, Eq)]
 pub enum CaptureFault {
-    /// The first line outside the grammar, which counts from 1 and stays at 2^32 - 1.
+    /// The number of the first line outside the grammar, from 1 on; it stays at 2^32 - 1.
     #[error("capture line {0}")]
     Line(u32),
     /// Want of memory, which says nothing of the text.

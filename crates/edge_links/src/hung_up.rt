@@ -25,7 +25,7 @@ impl HungUp {
         }
     }
 
-    /// Goes on with it, and answers whether it is over.
+    /// Goes on with what is to be written and read off, and answers whether the connection is over.
     pub fn go_on(&mut self, now: u64) -> bool {
         if now >= self.until {
             return true;

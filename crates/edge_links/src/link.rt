@@ -21,7 +21,7 @@ impl Link {
     /// A stream that is connected.
     ///
     /// # Errors
-    /// The system's.
+    /// The system's error.
     pub fn new<R: System>(rt: &R, stream: TcpStream) -> Result<Link, Fault> {
         stream.set_nodelay(true)?;
         Ok(Link {
@@ -33,7 +33,7 @@ impl Link {
     /// Writes a piece, or keeps what the system does not take now.
     ///
     /// # Errors
-    /// The system's, and [`Fault::NoRoom`].
+    /// The system's error, and [`Fault::NoRoom`].
     pub fn send(&mut self, piece: &[u8], now: u64) -> Result<(), Fault> {
         self.outbox.send(&mut &self.stream, piece, now)
     }
@@ -46,7 +46,7 @@ impl Link {
     /// Writes what the system takes of what waits, and answers whether nothing is left.
     ///
     /// # Errors
-    /// The system's.
+    /// The system's error.
     pub fn flush(&mut self, now: u64) -> Result<bool, Fault> {
         self.outbox.flush(&mut &self.stream, now)?;
         Ok(self.outbox.is_empty())
@@ -55,7 +55,7 @@ impl Link {
     /// What came, behind a try to write what waits.
     ///
     /// # Errors
-    /// The system's, and [`Fault::TookNothing`] where the peer has taken nothing for 5 s.
+    /// The system's error, and [`Fault::TookNothing`] where the peer has taken nothing for 5 s.
     #[tactic(auto, using(crate::proofs::Come::bytes_come))]
     pub fn receive(&mut self, buf: &mut [u8], now: u64) -> Result<Arrival, Fault>
         requires room { 0 < length buf.old }

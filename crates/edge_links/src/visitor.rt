@@ -28,7 +28,7 @@ impl Visitor {
     /// A stream that was accepted now, from this address.
     ///
     /// # Errors
-    /// The system's.
+    /// The system's error.
     pub fn new<R: System>(
         rt: &R,
         stream: TcpStream,

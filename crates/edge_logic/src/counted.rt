@@ -30,7 +30,7 @@ pub trait Peer {
     /// Writes a piece.
     ///
     /// # Errors
-    /// Where it failed, or there is no connection. There is none behind that.
+    /// Where the write failed, or there is no connection. Behind an error there is none.
     fn say(&mut self, piece: &[u8]) -> Result<(), Fault>
         ensures within { within self.new ≡ (within self.old && is_ok result) };
 
@@ -38,7 +38,7 @@ pub trait Peer {
     fn hang_up(&mut self)
         ensures within { within self.new ≡ false };
 
-    /// Goes on with what a hang up left, and answers whether it is over.
+    /// Goes on with what was to be written before a hang up, and answers whether nothing is left.
     fn is_gone(&mut self) -> bool
         ensures within { within self.new ≡ within self.old };
 }
@@ -72,7 +72,7 @@ impl<P: Peer> Counted<P> {
         self.faults
     }
 
-    /// Goes on with what a hang up left to say, and answers whether it is over.
+    /// Goes on with what was to be written before a hang up, and answers whether nothing is left.
     pub fn is_gone(&mut self) -> bool
         ensures polls { self.new.polls ≡ self.old.polls }
         ensures faults { self.new.faults ≡ self.old.faults }

@@ -3,10 +3,10 @@
 ghost use Rattle.std.specs.Prelude.{◌≡◌};
 ghost use Rattle.edge_logic.specs.EndTime.{long_end};
 
-/// So many rounds at least go by in a second behind a stop file, by measure.
+/// How many rounds at least go by in a second behind a stop file, as was measured.
 pub const ROUNDS_A_SECOND: u64 = 2_000_000;
 
-/// An end that takes longer, in seconds, is told of at the start.
+/// The seconds past which an end is told of at the start.
 pub const LONG_END: u64 = 5;
 
 /// How many seconds the rounds that are left take behind a stop file, where they are more than 5.

@@ -77,7 +77,7 @@ pub fn folder(path: &str) -> &str {
 /// Reads from a place on until `buf` is full or the file ends.
 ///
 /// # Errors
-/// The system's.
+/// The system's error.
 pub fn fill<F: FileExt>(file: &F, at: u64, buf: &mut [u8]) -> io::Result<usize>
     ensures { ReadsAtMost result buf.new }
 {

@@ -79,11 +79,11 @@ pub struct TooLow {
 pub enum Notice<'a> {
     /// The gateway waits for the client here.
     Listening(SocketAddr),
-    /// It cannot, for this reason.
+    /// The gateway cannot wait for the client here, for this reason.
     NotListening(SocketAddr, &'a str),
     /// A peer at this address has connected, or was connected to.
     Connected(PeerName, SocketAddr),
-    /// A client at this address was closed at once, since one is connected; it is the so manyth.
+    /// A client at this address was closed at once, since one is connected; how many were so far.
     Refused(SocketAddr, RefusedNth),
     /// A connection from this address was closed before a whole Logon had come on it.
     Closed(SocketAddr, ClosedNth<'a>),

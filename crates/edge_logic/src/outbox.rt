@@ -181,7 +181,7 @@ impl Outbox {
     /// Writes what the system takes of what waits.
     ///
     /// # Errors
-    /// The system's, and `WriteZero` where a writer takes nothing without an error.
+    /// The system's error, and `WriteZero` where a writer takes nothing without an error.
     #[tactic(auto, using(crate::proofs::Kept::of_flush))]
     pub fn flush<W: Write>(&mut self, out: &mut W, now: u64) -> io::Result<()>
         ensures whole { StaysWhole
@@ -330,7 +330,7 @@ impl Outbox {
     /// Writes a piece behind what waits, or keeps what the system does not take now.
     ///
     /// # Errors
-    /// The system's, and [`Fault::NoRoom`] where more than [`ROOM`] bytes would wait.
+    /// The system's error, and [`Fault::NoRoom`] where more than [`ROOM`] bytes would wait.
     pub fn send<W: Write>(&mut self, out: &mut W, piece: &[u8], now: u64) -> Result<(), Fault>
         ensures sent { OnOk result (GrowsWhole (W.contents out.old) (W.contents out.new)
             self.old.bytes self.new.bytes piece.now) }

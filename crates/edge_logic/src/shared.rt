@@ -37,7 +37,7 @@ impl Shared {
         self.busy.set(true);
     }
 
-    /// Whether that was so since this was asked last.
+    /// Whether [`Shared::note_activity`] was called since this was asked last.
     pub fn take_activity(&self) -> bool {
         self.busy.replace(false)
     }

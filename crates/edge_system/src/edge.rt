@@ -50,7 +50,7 @@ impl<'a, R: System + Files, W: Write + Copy + Drop> Edge<'a, R, W> {
     /// standard error. No port is opened and no connect begun before the first polls.
     ///
     /// # Errors
-    /// The system's, and for want of memory.
+    /// The system's error, and for want of memory.
     pub fn new(
         rt: &'a R,
         shared: &'a Shared,

@@ -32,7 +32,7 @@ impl<'a> StopFile<'a> {
     /// Removes it.
     ///
     /// # Errors
-    /// The system's.
+    /// The system's error.
     pub fn remove<R: Files>(&self, rt: &R) -> io::Result<()> {
         fs::remove_file(rt, self.path)
     }

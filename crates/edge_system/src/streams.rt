@@ -1,6 +1,6 @@
-//! Readers and writers of std as a source and a sink. They count their errors, and tell of their
-//! bytes what those tell: of the standard streams that is nothing. The source keeps that its input
-//! ended.
+//! Readers and writers of std as a source and a sink, which count their errors. They tell the bytes
+//! that the reader or the writer tells, which for a standard stream is none. The source keeps that
+//! its input ended.
 
 ghost use Rattle.std.specs.Prelude.{◌≡◌, false};
 

@@ -33,7 +33,7 @@ impl<W: Write + Drop> Teller<W> {
     /// A teller over standard error, whose writer is `out`.
     ///
     /// # Errors
-    /// The system's, and for want of memory.
+    /// The system's error, and for want of memory.
     pub fn new<R: System>(rt: &R, out: W) -> io::Result<Teller<W>> {
         let poll = Poll::new(rt)?;
         let events = Events::with_capacity(rt.alloc(), 1)?;

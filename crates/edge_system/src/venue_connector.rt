@@ -1,4 +1,4 @@
-//! The venue's side: it is connected to, and again after a while where that fails or ends.
+//! The venue's side: the gateway connects to it, and again a while after that fails or ends.
 
 ghost use Rattle.std.specs.Prelude.{◌≡◌, ◌<◌, ◌&&◌, length, false, true, is_ok, IfOk};
 ghost use Rattle.wires.specs.Wire.{Fits};
@@ -55,7 +55,7 @@ pub struct VenueConnector<'a, R: System, W: Write + Drop> {
 /// Whether a connect has been answered.
 ///
 /// # Errors
-/// The system's, and [`Fault::NoAnswer`] after 5 s.
+/// The system's error, and [`Fault::NoAnswer`] after 5 s.
 fn is_answered(stream: &TcpStream, since: u64, now: u64) -> Result<bool, Fault> {
     if let Some(error) = stream.take_error()? {
         return Err(Fault::System(error));

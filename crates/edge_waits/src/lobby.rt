@@ -77,8 +77,8 @@ impl fmt::Display for Stranger {
     }
 }
 
-/// How a connection stands whose first piece is this, of which so many bytes came, that was closed
-/// or was not from the other side, and has waited so many milliseconds.
+/// How a connection stands, by its first piece, how many bytes came, whether the other side closed
+/// it, and how many milliseconds it has waited.
 pub fn standing_of(first: First, len: usize, is_closed: bool, waited: u64) -> Standing
     ensures { result ≡ standing_of first len is_closed waited }
 {

@@ -10,7 +10,7 @@ use crate::fields::value_of;
 use edge_logic::TooLow;
 use field_groups::number_in;
 
-/// What the text of the Logout begins with that a number which is too low is answered by.
+/// What the text of the Logout begins with that answers a number which is too low.
 const TOO_LOW: &[u8] = b"MsgSeqNum too low, expecting ";
 
 /// What stands between the numbers.

@@ -1,4 +1,4 @@
-//! What was said on a connection, as far as its end goes by it.
+//! What was said on a connection, as far as it tells how the connection ended.
 
 ghost use Rattle.std.specs.Prelude.{◌≡◌, ◌++◌, [], OnOk, OnErr, IfOk, None, true, false};
 ghost use Rattle.edge_waits.specs.Said.{logout_text};
@@ -125,8 +125,8 @@ impl Talk {
         }
     }
 
-    /// How the connection ended, for the venue's next try, where the venue closed it in order, or
-    /// not.
+    /// How the connection ended, for the venue's next try. `was_closed` says that the venue closed
+    /// it in order.
     pub fn link_end(&self, was_closed: bool) -> LinkEnd
         ensures { result ≡ link_end_of self.now was_closed }
     {

@@ -34,8 +34,8 @@ use std::alloc::Global;
 ///
 /// # Errors
 ///
-/// `Lack::Tag(150)` exactly where ExecType(150) has no counterpart, which of those of FIX 5.0 SP2
-/// are `J` and `K`; `Lack::NoMemory` for want of memory.
+/// `Lack::Tag(150)` exactly where ExecType(150) has no counterpart: of those of FIX 5.0 SP2 `J` and
+/// `K`; `Lack::NoMemory` for want of memory.
 pub fn down_report(alloc: Global, msg: &Report50) -> Result<Report42, Lack>
     requires { readable50.IsReadableReport msg.now }
     ensures sense { IfOk result (λ written. report42 (said42.report_says written)

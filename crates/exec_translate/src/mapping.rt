@@ -64,8 +64,8 @@ fn mapped(exec_type: u8, ord_status: u8, fill: bool) -> Option<ExecCodes>
     })
 }
 
-/// Whether the mapping has codes of FIX 4.2 for an ExecType(150), which of those of FIX 5.0 SP2 it
-/// has not for `J` and `K`.
+/// Whether the mapping has codes of FIX 4.2 for an ExecType(150): of those of FIX 5.0 SP2 for all
+/// but `J` and `K`.
 pub fn has_codes(exec_type: u8) -> bool
     ensures { result ≡ has_codes exec_type }
 {

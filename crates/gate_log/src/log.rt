@@ -292,7 +292,8 @@ impl Log {
     /// # Errors
     /// `Foreign` exactly where the bytes are refused at that place; `DiskFault` only where the
     /// disk's count of faults rose; `NoMemory`. A disk that is not unborn was only read, whatever
-    /// the answer; and any disk was at `Foreign`, and at a log that is not just this birth record.
+    /// the answer. So was any disk where the answer is `Foreign`, or a log of other payloads than
+    /// this birth record alone.
     pub fn load<D: Disk>(alloc: Global, disk: &mut D, birth: &[u8]) -> Result<Log, LogError>
         requires { length birth.now ≡ BIRTH_LEN }
         ensures loads { IfSome (D.bytes disk.old) (λ b. Loads birth.now b result

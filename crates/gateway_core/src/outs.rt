@@ -28,7 +28,7 @@ pub(crate) struct Heard<'a> {
     pub(crate) echo: &'a [u8],
 }
 
-/// The session that speaks, and to what.
+/// The session that speaks, and what it answers.
 #[derive(Drop)]
 pub(crate) struct Speaker<'a> {
     /// To whom.

@@ -21,7 +21,7 @@ impl Filled {
     /// Opens them. Nothing else may have been opened before.
     ///
     /// # Errors
-    /// The system's. None is open then.
+    /// The system's error. Then none is open.
     pub(crate) fn open<R: Files<File = File>>(rt: &R) -> io::Result<Filled> {
         let first = File::open(rt, NOTHING)?;
         let second = File::open(rt, NOTHING)?;

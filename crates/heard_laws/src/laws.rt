@@ -25,9 +25,9 @@ pub fn messages_are_read()
     answers_are_given_out();
 }
 
-/// Whatever beginning of what was committed to it a client took, its book is as the venue's reports
-/// make it that went on to it under those numbers: each fill, correction and bust changed it once,
-/// in order, and nothing else did.
+/// A client took some beginning of what was committed to it. Whichever that is, its book is the one
+/// that the venue's reports make which went on to it under those numbers: each fill, correction and
+/// bust changed it once, in order, and nothing else did.
 pub fn client_books_follow()
     ensures { BooksFollow }
 {

@@ -22,7 +22,7 @@ use pair_entries::MAX_CONTENT;
 use session_core::Said;
 use std::alloc::{AllocError, Global};
 
-/// BodyLength(9), which a translation would pass that is too long.
+/// BodyLength(9), the tag at which a translation that is too long has no counterpart.
 const BODY_LENGTH: u32 = 9;
 
 /// What is answered, and the request that joins the chains by it.

@@ -117,7 +117,7 @@ impl<K> RepeatingGroup<K> {
         self.is_whole_in(fields.as_slice())
     }
 
-    /// Whether it is so of these fields.
+    /// The same of fields as a slice.
     fn is_whole_in(&self, fields: &[Field<'_>]) -> bool
         ensures { IsTrue result → IsWhole (seen fields.now) (group_of (λ k. k) self.now) }
     {

@@ -91,8 +91,8 @@ impl Journal {
     /// # Errors
     /// `Refused` exactly where the bytes are refused at that place; `NamesDiffer` exactly where
     /// they are a journal of other names; `DiskFault` only where the disk's count of faults rose;
-    /// `NoMemory`. At `Refused` and `NamesDiffer` the disk was only read, and one that is not
-    /// unborn whatever the answer.
+    /// `NoMemory`. At `Refused` and `NamesDiffer` the disk was only read; a disk that is not unborn
+    /// was only read whatever the answer.
     pub fn load<D: Disk>(
         alloc: Global,
         disk: &mut D,

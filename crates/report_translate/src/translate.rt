@@ -57,8 +57,8 @@ impl ReportTranslator {
         }
     }
 
-    /// Whether a body of FIX 5.0 SP2 has a translation, of whatever length, where the order is
-    /// known that a cancel reject is of.
+    /// Whether a body of FIX 5.0 SP2 has a translation, of whatever length. The order that a cancel
+    /// reject is of counts as known.
     ///
     /// # Errors
     ///

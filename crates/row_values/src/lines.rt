@@ -249,8 +249,8 @@ fn members<'f, 'a>(group: &RepeatingGroup<Kind>, fields: &'f Fields<'a>) -> &'f 
     }
 }
 
-/// The lines of a group of at most 32, where the group is not the lines' own: a version of FIX may
-/// pass over other tags.
+/// The lines of a group, of at most 32. The group is given, and not the lines' own
+/// ([`read_lines`]), where a version of FIX passes over other tags.
 ///
 /// # Errors
 ///

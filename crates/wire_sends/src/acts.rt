@@ -29,7 +29,7 @@ use wires::Wire;
 ///
 /// # Errors
 ///
-/// `DiskFault` alone, and only where the disk's count of faults rose. Then a part of it was sent.
+/// `DiskFault` alone, and only where the disk's count of faults rose. Then a front of it was sent.
 pub fn repeat_on<D: Disk, W: Wire>(
     journal: &Journal,
     disk: &mut D,

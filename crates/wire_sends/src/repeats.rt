@@ -142,7 +142,7 @@ fn send_again<W: Wire>(
 ///
 /// # Errors
 ///
-/// `DiskFault` alone, and only where the disk's count of faults rose. Then a part of it was sent.
+/// `DiskFault` alone, and only where the disk's count of faults rose. Then a front of it was sent.
 pub(crate) fn repeat_outs<D: Disk, W: Wire>(
     journal: &Journal,
     disk: &mut D,
