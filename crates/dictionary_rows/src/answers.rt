@@ -1,7 +1,8 @@
 //! The calls of rows.
 
+use crate::requests::Asked::{Content, Type};
 use crate::words::answered;
-use crate::{downward, refusals, reports, requests};
+use crate::{downward, refusals, reports42, reports50, requests, upward};
 use row_words::Answers;
 use std::alloc::{AllocError, Global};
 
@@ -12,12 +13,13 @@ pub(crate) struct Calls;
 impl Answers for Calls {
     fn answer(&mut self, alloc: Global, call: &str, given: &str) -> Result<Vec<u8>, AllocError> {
         match call {
-            "read42" => requests::type_of_42(alloc, given),
-            "write42" => requests::content_of_42(alloc, given),
-            "read50" => requests::type_of_50(alloc, given),
-            "write50" => requests::content_of_50(alloc, given),
-            "report42" => reports::content_of_42(alloc, given),
-            "report50" => reports::content_of_50(alloc, given),
+            "read42" => requests::of_42(alloc, Type, given),
+            "write42" => requests::of_42(alloc, Content, given),
+            "read50" => requests::of_50(alloc, Type, given),
+            "write50" => requests::of_50(alloc, Content, given),
+            "report42" => reports42::content(alloc, given),
+            "report50" => reports50::content(alloc, given),
+            "up" => upward::frame(alloc, given),
             "down_report" => downward::report(alloc, given),
             "down_cancel_reject" => downward::cancel_reject(alloc, given),
             "down" => downward::frame(alloc, given),

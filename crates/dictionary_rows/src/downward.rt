@@ -2,12 +2,12 @@
 
 ghost use Rattle.reports_fix50.specs.Readable.{IsReadableReport, IsReadableCancelReject};
 
+use crate::reports42::{written_cancel_reject, written_report};
 use crate::wires::wire;
 use crate::words::{fault_words, found_words, lack_words};
 use exec_translate::{down_cancel_reject, down_report};
 use field_groups::split;
 use report_translate::{ReportTranslator, TranslateError};
-use reports_fix42::{write_cancel_reject, write_report};
 use reports_fix50::{CancelReject50, Report50, read_cancel_reject, read_report};
 use row_words::first_word;
 use std::alloc::{AllocError, Global};
@@ -16,13 +16,10 @@ use std::alloc::{AllocError, Global};
 fn report_down(alloc: Global, venue: &Report50) -> Result<Vec<u8>, AllocError>
     requires { IsReadableReport venue.now }
 {
-    let client = match down_report(alloc, venue) {
-        Ok(client) => client,
-        Err(lack) => return lack_words(alloc, &lack),
-    };
-    let mut out = Vec::new(alloc);
-    write_report(&client, &mut out)?;
-    Ok(out)
+    match down_report(alloc, venue) {
+        Ok(client) => written_report(alloc, &client),
+        Err(lack) => lack_words(alloc, &lack),
+    }
 }
 
 /// What is written of the client's report of the report that is read, or what is found of it.
@@ -44,13 +41,10 @@ fn cancel_reject_down(
 ) -> Result<Vec<u8>, AllocError>
     requires { IsReadableCancelReject venue.now }
 {
-    let client = match down_cancel_reject(alloc, venue, original) {
-        Ok(client) => client,
-        Err(lack) => return lack_words(alloc, &lack),
-    };
-    let mut out = Vec::new(alloc);
-    write_cancel_reject(&client, &mut out)?;
-    Ok(out)
+    match down_cancel_reject(alloc, venue, original) {
+        Ok(client) => written_cancel_reject(alloc, &client),
+        Err(lack) => lack_words(alloc, &lack),
+    }
 }
 
 /// The original id that a word says; `-` says none.

@@ -1,11 +1,13 @@
-//! Rows of the dictionaries of both versions, of the translators of reports and of the refusals.
+//! Rows of the dictionaries of both versions, of the translators and of the refusals.
 #![tactic(auto)]
 
 mod answers;
 mod downward;
 mod refusals;
-mod reports;
+mod reports42;
+mod reports50;
 mod requests;
+mod upward;
 mod wires;
 mod words;
 

@@ -11,15 +11,13 @@ use field_groups::split;
 use row_words::first_word;
 use std::alloc::{AllocError, Global};
 
-/// The type of the request of FIX 4.2 that is read, or its first fault.
-pub(crate) fn type_of_42(alloc: Global, given: &str) -> Result<Vec<u8>, AllocError> {
-    let (msg_type, text) = first_word(given);
-    let body = wire(alloc, text)?;
-    let split = split(alloc, &body)?;
-    match read42(alloc, msg_type.as_bytes(), &split) {
-        Ok(message) => Vec::from_slice(alloc, type42(&message)),
-        Err(fault) => fault_words(alloc, &fault),
-    }
+/// What is asked of a request.
+#[derive(Clone, Copy)]
+pub(crate) enum Asked {
+    /// Its type.
+    Type,
+    /// What is written of it.
+    Content,
 }
 
 /// What is written of a request of FIX 4.2.
@@ -31,24 +29,23 @@ fn written42(alloc: Global, message: &Msg42) -> Result<Vec<u8>, AllocError>
     Ok(out)
 }
 
-/// What is written of the request of FIX 4.2 that is read, or its first fault.
-pub(crate) fn content_of_42(alloc: Global, given: &str) -> Result<Vec<u8>, AllocError> {
+/// What is asked of a request of FIX 4.2.
+fn told42(alloc: Global, asked: Asked, message: &Msg42) -> Result<Vec<u8>, AllocError>
+    requires { IsReadable42 message.now }
+{
+    match asked {
+        Asked::Type => Vec::from_slice(alloc, type42(message)),
+        Asked::Content => written42(alloc, message),
+    }
+}
+
+/// What is asked of the request of FIX 4.2 that is read, or its first fault.
+pub(crate) fn of_42(alloc: Global, asked: Asked, given: &str) -> Result<Vec<u8>, AllocError> {
     let (msg_type, text) = first_word(given);
     let body = wire(alloc, text)?;
     let split = split(alloc, &body)?;
     match read42(alloc, msg_type.as_bytes(), &split) {
-        Ok(message) => written42(alloc, &message),
-        Err(fault) => fault_words(alloc, &fault),
-    }
-}
-
-/// The type of the request of FIX 5.0 SP2 that is read, or its first fault.
-pub(crate) fn type_of_50(alloc: Global, given: &str) -> Result<Vec<u8>, AllocError> {
-    let (msg_type, text) = first_word(given);
-    let body = wire(alloc, text)?;
-    let split = split(alloc, &body)?;
-    match read50(alloc, msg_type.as_bytes(), &split) {
-        Ok(message) => Vec::from_slice(alloc, type50(&message)),
+        Ok(message) => told42(alloc, asked, &message),
         Err(fault) => fault_words(alloc, &fault),
     }
 }
@@ -62,13 +59,23 @@ fn written50(alloc: Global, message: &Msg50) -> Result<Vec<u8>, AllocError>
     Ok(out)
 }
 
-/// What is written of the request of FIX 5.0 SP2 that is read, or its first fault.
-pub(crate) fn content_of_50(alloc: Global, given: &str) -> Result<Vec<u8>, AllocError> {
+/// What is asked of a request of FIX 5.0 SP2.
+fn told50(alloc: Global, asked: Asked, message: &Msg50) -> Result<Vec<u8>, AllocError>
+    requires { IsReadable50 message.now }
+{
+    match asked {
+        Asked::Type => Vec::from_slice(alloc, type50(message)),
+        Asked::Content => written50(alloc, message),
+    }
+}
+
+/// What is asked of the request of FIX 5.0 SP2 that is read, or its first fault.
+pub(crate) fn of_50(alloc: Global, asked: Asked, given: &str) -> Result<Vec<u8>, AllocError> {
     let (msg_type, text) = first_word(given);
     let body = wire(alloc, text)?;
     let split = split(alloc, &body)?;
     match read50(alloc, msg_type.as_bytes(), &split) {
-        Ok(message) => written50(alloc, &message),
+        Ok(message) => told50(alloc, asked, &message),
         Err(fault) => fault_words(alloc, &fault),
     }
 }

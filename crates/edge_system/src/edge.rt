@@ -8,7 +8,7 @@ use crate::waiting_clock::WaitingClock;
 use edge_links::System;
 use edge_logic::{Counted, Shared, ticks};
 use frame_grammar::{Framer, Kind};
-use mio::{Events, Poll};
+use mio::{Events, Poll, Registry};
 use std::io::Write;
 use std::net::SocketAddr;
 use std::rt::Files;
@@ -45,6 +45,46 @@ pub struct Addresses {
     pub connect: SocketAddr,
 }
 
+/// The client's side over a set of sockets.
+fn client_side<'a, R: System, W: Write + Drop>(
+    rt: &'a R,
+    sockets: &Registry,
+    shared: &'a Shared,
+    address: SocketAddr,
+    lines: W,
+) -> io::Result<ClientListener<'a, R, W>> {
+    let teller = Teller::new(rt, lines)?;
+    let framer = Framer::new(rt.alloc(), Kind::Fix42)?;
+    let registry = sockets.try_clone()?;
+    Ok(ClientListener::new(rt, address, registry, shared, teller, framer))
+}
+
+/// The venue's side over a set of sockets.
+fn venue_side<'a, R: System, W: Write + Drop>(
+    rt: &'a R,
+    sockets: &Registry,
+    shared: &'a Shared,
+    address: SocketAddr,
+    lines: W,
+) -> io::Result<VenueConnector<'a, R, W>> {
+    let teller = Teller::new(rt, lines)?;
+    let registry = sockets.try_clone()?;
+    Ok(VenueConnector::new(rt, address, registry, shared, teller))
+}
+
+/// The clock that waits for a set of sockets.
+fn clock_over<'a, R: System + Files, W: Write + Drop>(
+    rt: &'a R,
+    poll: Poll,
+    shared: &'a Shared,
+    stop: StopFile<'a>,
+    lines: W,
+) -> io::Result<WaitingClock<'a, R, W>> {
+    let events = Events::with_capacity(rt.alloc(), 8)?;
+    let teller = Teller::new(rt, lines)?;
+    Ok(WaitingClock::new(rt, poll, events, shared, stop, teller))
+}
+
 impl<'a, R: System + Files, W: Write + Copy + Drop> Edge<'a, R, W> {
     /// The wires and the clock at these addresses, with lines for the operator to `lines`, which is
     /// standard error. No port is opened and no connect begun before the first polls.
@@ -59,25 +99,9 @@ impl<'a, R: System + Files, W: Write + Copy + Drop> Edge<'a, R, W> {
         lines: W,
     ) -> io::Result<Edge<'a, R, W>> {
         let poll = Poll::new(rt)?;
-        let for_client = poll.registry().try_clone()?;
-        let for_venue = poll.registry().try_clone()?;
-        let events = Events::with_capacity(rt.alloc(), 8)?;
-        let client = ClientListener::new(
-            rt,
-            addresses.listen,
-            for_client,
-            shared,
-            Teller::new(rt, lines)?,
-            Framer::new(rt.alloc(), Kind::Fix42)?,
-        );
-        let venue = VenueConnector::new(
-            rt,
-            addresses.connect,
-            for_venue,
-            shared,
-            Teller::new(rt, lines)?,
-        );
-        let clock = WaitingClock::new(rt, poll, events, shared, stop, Teller::new(rt, lines)?);
+        let client = client_side(rt, poll.registry(), shared, addresses.listen, lines)?;
+        let venue = venue_side(rt, poll.registry(), shared, addresses.connect, lines)?;
+        let clock = clock_over(rt, poll, shared, stop, lines)?;
         Ok(Edge {
             rt,
             client: Counted::new(client),

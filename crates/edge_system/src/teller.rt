@@ -29,6 +29,21 @@ pub struct Teller<W: Write + Drop> {
     lost: u64,
 }
 
+/// Whether standard error is registered anew: what is ready is reported to a new registration.
+fn is_watched(poll: &Poll) -> bool {
+    let watched = poll.registry().reregister(
+        &mut SourceFd(&STANDARD_ERROR),
+        Token(0),
+        Interest::WRITABLE,
+    );
+    watched.is_ok()
+}
+
+/// Whether something is reported without a wait.
+fn is_reported(poll: &mut Poll, events: &mut Events<Global>) -> bool {
+    poll.poll(events, Some(Duration::ZERO)).is_ok() && !events.is_empty()
+}
+
 impl<W: Write + Drop> Teller<W> {
     /// A teller over standard error, whose writer is `out`.
     ///
@@ -60,20 +75,12 @@ impl<W: Write + Drop> Teller<W> {
         self.is_file
     }
 
-    // Whether a part of a line can be written without a wait. What is ready is reported to a
-    // registration that is made anew.
+    // Whether a part of a line can be written without a wait.
     fn takes_part(&mut self) -> bool {
-        let Some(poll) = &mut self.ready else {
-            return true;
-        };
-        let watched = poll.registry().reregister(
-            &mut SourceFd(&STANDARD_ERROR),
-            Token(0),
-            Interest::WRITABLE,
-        );
-        watched.is_ok()
-            && poll.poll(&mut self.events, Some(Duration::ZERO)).is_ok()
-            && !self.events.is_empty()
+        match &mut self.ready {
+            Some(poll) => is_watched(poll) && is_reported(poll, &mut self.events),
+            None => true,
+        }
     }
 
     // Writes what can be written without a wait, which is asked before each part.
