@@ -101,6 +101,8 @@ pub fn fill<F: FileExt>(file: &F, at: u64, buf: &mut [u8]) -> io::Result<usize>
 pub enum Denial {
     /// Another process has locked the file.
     InUse,
+    /// The path is that of a folder, a pipe or a device.
+    NoFile,
     /// The file holds something else.
     NoJournal,
     /// The system's reason.
@@ -123,12 +125,15 @@ impl Denial {
     pub fn line(&self, alloc: Global, path: &str) -> Result<String, AllocError>
         ensures in_use { self.now ≡ denial.InUse → IfOk result (λ line. string_bytes line
             ≡ codes "fixgate: journal " ++ path.now ++ codes " is in use") }
+        ensures no_file { self.now ≡ denial.NoFile → IfOk result (λ line. string_bytes line
+            ≡ codes "fixgate: journal " ++ path.now ++ codes ": is no regular file") }
         ensures no_journal { self.now ≡ denial.NoJournal → IfOk result (λ line. string_bytes line
             ≡ codes "fixgate: journal " ++ path.now
             ++ codes ": is no journal: it begins with neither byte 0 nor byte 1") }
     {
         match self {
             Denial::InUse => format!(in alloc; "fixgate: journal {path} is in use"),
+            Denial::NoFile => format!(in alloc; "fixgate: journal {path}: is no regular file"),
             Denial::NoJournal => {
                 format!(in alloc;
                     "fixgate: journal {path}: is no journal: it begins with neither byte 0 nor byte 1"

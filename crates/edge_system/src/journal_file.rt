@@ -9,7 +9,7 @@ use std::alloc::{AllocError, Global};
 use std::fs::{File, OpenOptions, TryLockError};
 use std::os::unix::fs::{FileExt, OpenOptionsExt};
 use std::rt::Files;
-use std::{io, mem};
+use std::{fs, io, mem};
 
 /// The owner may read and write, and nobody else.
 const OWNER_ALONE: u32 = 0o600;
@@ -37,6 +37,15 @@ struct Lazy<'a, R: Files<File = File>> {
 pub struct JournalFile<'a, R: Files<File = File>> {
     lazy: Lazy<'a, R>,
     tally: Tally,
+}
+
+// Refuses a path that is no file's, before it is opened: a pipe would be waited for, and a device
+// may do what it does. Where nothing can be found out, opening tells why.
+fn look<R: Files<File = File>>(rt: &R, path: &str) -> Result<(), Denial> {
+    match fs::metadata(rt, path) {
+        Ok(found) if !found.is_file() => Err(Denial::NoFile),
+        _ => Ok(()),
+    }
 }
 
 // Locks the file for this process alone, without a wait.
@@ -77,6 +86,7 @@ fn judge(file: &File) -> Result<(), Denial> {
 
 // The file as one that is written.
 fn open_to_write<R: Files<File = File>>(rt: &R, path: &str) -> Result<File, Denial> {
+    look(rt, path)?;
     let file = make(rt, path)?;
     lock(&file)?;
     judge(&file)?;
@@ -86,6 +96,7 @@ fn open_to_write<R: Files<File = File>>(rt: &R, path: &str) -> Result<File, Deni
 
 // The file as one that is only read: it is not made, and need not be writable.
 fn open_to_read<R: Files<File = File>>(rt: &R, path: &str) -> Result<File, Denial> {
+    look(rt, path)?;
     let file = File::open(rt, path)?;
     lock(&file)?;
     judge(&file)?;
