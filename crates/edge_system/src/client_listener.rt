@@ -12,7 +12,7 @@ use edge_logic::{
     ClosedNth, Ending, Fault, NextTry, Notice, Pace, Peer, PeerName, RefusedNth, Shared, moment,
     ticks,
 };
-use edge_waits::{Held, Lobby, PutOff, Standing, Stranger, Talk};
+use edge_waits::{Held, Lobby, PutOff, Standing, Stranger, Talk, put_closing};
 use frame_grammar::Framer;
 use mio::net::{TcpListener, TcpStream};
 use mio::{Interest, Registry, Token};
@@ -238,11 +238,11 @@ impl<'a, R: System, W: Write + Drop> ClientListener<'a, R, W> {
         if !self.stranger_lines.take(ticks(self.rt)) {
             return;
         }
+        let mut text = Vec::new(self.rt.alloc());
+        let _ = put_closing(&mut text, why, &visitor.heard); // as far as there is memory
+        let why = str::from_utf8(&text).unwrap_or("");
         let nth = self.strangers;
-        if let Ok(why) = format!(in self.rt.alloc(); "{why}") {
-            let why = why.as_str();
-            self.tell(Notice::Closed(visitor.from, ClosedNth { why, nth }));
-        }
+        self.tell(Notice::Closed(visitor.from, ClosedNth { why, nth }));
     }
 
     // Lets a connection wait; the one that has waited longest goes where there are too many.

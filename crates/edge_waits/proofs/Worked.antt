@@ -5,7 +5,8 @@ use Rattle.field_groups.specs.HeadValues.{number_in}
 use Rattle.edge_waits.specs.Fields.{value_in}
 use Rattle.edge_waits.specs.Said.{logout_text, too_low}
 use Rattle.edge_waits.specs.PutOff.{pause_of}
-use Rattle.edge_waits.specs.Why.{why_text}
+use Rattle.edge_waits.specs.Why.{why_text, closing_text}
+use Rattle.edge_waits.specs.declared.lobby.Stranger.TheVariants as stranger
 
 -- the text with SOH in place of each `|`
 abbrev piped : List ℕ → List ℕ
@@ -43,3 +44,8 @@ not_now : why_text (piped (codes "8=FIXT.1.1|9=5|35=5|34=1|58=not now|10=000|"))
     ≡ codes "it sent 35=5 34=1 58=not now"
 unfolding value_in
 not_now = refl
+
+before_a_logon : closing_text stranger.NoLogon (piped (codes "8=FIX.4.2|35=D|34=7|"))
+    ≡ codes "no Logon came first; it sent 8=FIX.4.2 35=D 34=7"
+unfolding value_in
+before_a_logon = refl

@@ -12,7 +12,9 @@ use Rattle.typed_fields.specs.Number.{read_number}
 use Rattle.typed_fields.specs.Stamp.{read_stamp, stamp_millis}
 use Rattle.edge_waits.specs.declared.why.Wrong.{Wrong}
 use Rattle.edge_waits.specs.declared.why.Wrong.TheVariants as wrong
+use Rattle.edge_waits.specs.declared.lobby.Stranger.{Stranger}
 use Rattle.edge_waits.specs.Fields.{value_in}
+use Rattle.edge_waits.specs.Lobby.{stranger_text}
 
 -- `?` stands for what is not from a blank to `~`
 abbrev pub shown : ℕ → ℕ
@@ -108,11 +110,25 @@ abbrev pub told_text : List ℕ → Option (List ℕ) → ℕ → List ℕ
 told_text heard (Some text) now = named_text (codes "; it was told Logout ") text
 told_text heard None now = fault_text heard now
 
+-- the first message that came, by its fields
+abbrev pub message_text : List ℕ → List ℕ
+message_text heard =
+    field_in (codes "35=") heard ++ field_in (codes "34=") heard
+    ++ field_in (codes "43=") heard ++ field_in (codes "58=") heard
+
 -- why a connection ended on which this came, and this was said last by a Logout
 abbrev pub why_text : List ℕ → Option (List ℕ) → ℕ → List ℕ
 why_text heard farewell now =
     if is_some (value_in (codes "35=") heard)
-    then codes "it sent" ++ field_in (codes "35=") heard ++ field_in (codes "34=") heard
-    ++ field_in (codes "43=") heard ++ field_in (codes "58=") heard
-    ++ told_text heard farewell now
+    then codes "it sent" ++ message_text heard ++ told_text heard farewell now
     else codes "no message came"
+
+-- the first message that came, with its version, where its type came
+abbrev pub came_text : List ℕ → List ℕ
+came_text heard =
+    if is_some (value_in (codes "35=") heard)
+    then codes "; it sent" ++ field_in (codes "8=") heard ++ message_text heard else []
+
+-- why a connection is closed that is no client's, and what came on it
+abbrev pub closing_text : Stranger → List ℕ → List ℕ
+closing_text stranger heard = stranger_text stranger ++ came_text heard

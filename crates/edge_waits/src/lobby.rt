@@ -3,13 +3,13 @@
 ghost use Rattle.std.specs.Prelude.{◌≡◌, ◌<◌, ◌==◌, ◌++◌, ◌∷◌, [], IfOk, length, is_some, nat_le};
 ghost use Rattle.std.specs.Prelude.{◌≤◌, take};
 ghost use Rattle.std.specs.Option.{option_to_list};
-ghost use Rattle.frame_grammar.specs.Cut.{first_piece};
+ghost use Rattle.frame_grammar.specs.Found.{found};
 ghost use Rattle.frame_grammar.specs.declared.buffer.TheConstants.{CAPACITY};
-ghost use Rattle.edge_waits.specs.Lobby.{first_by, first_of, standing_of};
+ghost use Rattle.edge_waits.specs.Lobby.{first_by, first_of, first_left, standing_of};
+ghost use Rattle.edge_waits.specs.Lobby.{garble_text, stranger_text};
 
-use frame_grammar::{Framer, Next};
+use frame_grammar::{Framer, Garble, Next, Rest};
 use std::alloc::{AllocError, Global};
-use std::fmt;
 use std::marker::Model;
 
 /// How many connections wait for their Logon at most.
@@ -21,13 +21,13 @@ const PATIENCE: u64 = 10_000;
 /// Past so many bytes that are no whole message a connection is closed.
 const LONGEST: usize = 8_192;
 
-/// What the first piece is that a connection begins with.
+/// What a connection begins with.
 #[derive(Clone, Copy, Debug, PartialEq, Eq)]
 pub enum First {
-    /// It has not come whole.
+    /// The front of a message.
     More,
-    /// Garbled bytes.
-    Garbled,
+    /// Garbled bytes, which break this rule of frames.
+    Garbled(Garble),
     /// A whole Logon.
     Logon,
     /// Another whole message.
@@ -45,6 +45,8 @@ pub enum Stranger {
     Left,
     /// Its first message was no Logon.
     NoLogon,
+    /// Garbled bytes came first.
+    Garbled(Garble),
     /// So many bytes came and no message.
     TooLong,
 }
@@ -60,20 +62,31 @@ pub enum Standing {
     Goes(Stranger),
 }
 
-impl fmt::Display for Stranger {
-    ghost use Rattle.std.specs.Prelude.{Some};
-    ghost use Rattle.edge_waits.specs.Lobby.{stranger_text};
+// Which field is wrong in garbled bytes.
+fn garble_text(cause: Garble) -> &'static [u8]
+    ensures { result.now ≡ garble_text cause }
+{
+    match cause {
+        Garble::BeginString => b"garbled bytes came first: 8 is not as agreed",
+        Garble::LengthField => b"garbled bytes came first: 9 is no length",
+        Garble::TooLong(_) => b"garbled bytes came first: 9 is over 8,192",
+        Garble::TypeField => b"garbled bytes came first: 35 is missing",
+        Garble::Trailer => b"garbled bytes came first: 10 is not where 9 says",
+        Garble::Sum => b"garbled bytes came first: 10 is not the sum",
+    }
+}
 
-    ghost output = { λ stranger. Some (stranger_text stranger) };
-
-    fn fmt<W: fmt::Write>(&self, f: &mut fmt::Formatter<W>) -> fmt::Result {
-        match *self {
-            Stranger::Late => write!(f, "no Logon came in 10 s"),
-            Stranger::Crowded => write!(f, "eight others wait for their Logon"),
-            Stranger::Left => write!(f, "it went before its Logon"),
-            Stranger::NoLogon => write!(f, "no Logon came first"),
-            Stranger::TooLong => write!(f, "no message came in 8,192 bytes"),
-        }
+/// Why a connection is closed that is no client's.
+pub(crate) fn stranger_text(stranger: Stranger) -> &'static [u8]
+    ensures { result.now ≡ stranger_text stranger }
+{
+    match stranger {
+        Stranger::Late => b"no Logon came in 10 s",
+        Stranger::Crowded => b"eight others wait for their Logon",
+        Stranger::Left => b"it went before its Logon",
+        Stranger::NoLogon => b"no Logon came first",
+        Stranger::Garbled(cause) => garble_text(cause),
+        Stranger::TooLong => b"no message came in 8,192 bytes",
     }
 }
 
@@ -84,7 +97,8 @@ pub fn standing_of(first: First, len: usize, is_closed: bool, waited: u64) -> St
 {
     match first {
         First::Logon => Standing::Holds,
-        First::Other | First::Garbled => Standing::Goes(Stranger::NoLogon),
+        First::Other => Standing::Goes(Stranger::NoLogon),
+        First::Garbled(cause) => Standing::Goes(Stranger::Garbled(cause)),
         First::More => {
             if is_closed {
                 Standing::Goes(Stranger::Left)
@@ -110,18 +124,27 @@ fn first_by(body: &[u8]) -> First
     }
 }
 
-/// What the first piece of these bytes is, of which the first 16,384 are looked at. The framer is
-/// begun anew.
+// What a stream begins with that ends so, of which no piece has come whole.
+fn first_left(rest: Rest) -> First
+    ensures { result ≡ first_left rest }
+{
+    match rest {
+        Rest::Clean | Rest::Inside { .. } => First::More,
+        Rest::Garbled { cause, .. } => First::Garbled(cause),
+    }
+}
+
+/// What these bytes begin with, of which the first 16,384 are looked at. The framer is begun anew.
 pub fn first_in(framer: &mut Framer, bytes: &[u8]) -> First
-    ensures first { result ≡ first_of (first_piece framer.old.kind (take CAPACITY bytes.now)) }
+    ensures first { result ≡ first_of (found framer.old.kind (take CAPACITY bytes.now)) }
     ensures kind { framer.new.kind ≡ framer.old.kind }
 {
     framer.restart();
     framer.feed(bytes);
     match framer.next() {
         Next::Frame { body, .. } => first_by(framer.part(body)),
-        Next::Garbled { .. } => First::Garbled,
-        Next::More => First::More,
+        Next::Garbled { cause, .. } => First::Garbled(cause),
+        Next::More => first_left(framer.finish()),
     }
 }
 

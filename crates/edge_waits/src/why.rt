@@ -6,9 +6,10 @@ ghost use Rattle.edge_waits.specs.Fields.{value_in};
 ghost use Rattle.edge_waits.specs.Why.{shown, named_text, shown_field, off_by, has_number};
 ghost use Rattle.edge_waits.specs.Why.{wrong_of, wrong_by, words_of, seconds_of, seconds_text};
 ghost use Rattle.edge_waits.specs.Why.{wrong_text, is_logon, is_new_logon, fault_text, told_text};
-ghost use Rattle.edge_waits.specs.Why.{why_text};
+ghost use Rattle.edge_waits.specs.Why.{message_text, why_text, came_text, closing_text};
 
 use crate::fields::value_of;
+use crate::lobby::{Stranger, stranger_text};
 use itoa::Buffer;
 use std::alloc::AllocError;
 use typed_fields::{Number, Stamp};
@@ -235,6 +236,16 @@ fn put_told(
     }
 }
 
+// Appends the first message that came, by its fields.
+fn put_message(out: &mut Vec<u8>, heard: &[u8]) -> Result<(), AllocError>
+    ensures { OnOk result (out.new.items ≡ out.old.items ++ message_text heard.now) }
+{
+    put_field(out, b"35=", heard)?;
+    put_field(out, b"34=", heard)?;
+    put_field(out, b"43=", heard)?;
+    put_field(out, b"58=", heard)
+}
+
 /// Appends why a connection ended before a session stood: what came on it, by the fields of the
 /// first message, and what the gateway said to it by a Logout, or which field was wrong. `now` is
 /// the moment, in milliseconds since 1970-01-01 00:00 UTC.
@@ -255,9 +266,29 @@ pub fn put_why(
         return Ok(());
     }
     out.extend_from_slice(b"it sent")?;
-    put_field(out, b"35=", heard)?;
-    put_field(out, b"34=", heard)?;
-    put_field(out, b"43=", heard)?;
-    put_field(out, b"58=", heard)?;
+    put_message(out, heard)?;
     put_told(out, heard, farewell, now)
+}
+
+// Appends the first message that came, with its BeginString(8), where its type came.
+fn put_came(out: &mut Vec<u8>, heard: &[u8]) -> Result<(), AllocError>
+    ensures { OnOk result (out.new.items ≡ out.old.items ++ came_text heard.now) }
+{
+    if value_of(b"35=", heard).is_none() {
+        return Ok(());
+    }
+    out.extend_from_slice(b"; it sent")?;
+    put_field(out, b"8=", heard)?;
+    put_message(out, heard)
+}
+
+/// Appends why a connection is closed that is no client's, and the first message that came on it.
+///
+/// # Errors
+/// For want of memory alone.
+pub fn put_closing(out: &mut Vec<u8>, stranger: Stranger, heard: &[u8]) -> Result<(), AllocError>
+    ensures { OnOk result (out.new.items ≡ out.old.items ++ closing_text stranger heard.now) }
+{
+    out.extend_from_slice(stranger_text(stranger))?;
+    put_came(out, heard)
 }

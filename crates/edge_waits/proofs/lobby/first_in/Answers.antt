@@ -32,12 +32,13 @@ returns-in-Garbled-clause-first c =
 
 pub returns-in-More-clause-first : goal.returns-in-More-clause-first
 returns-in-More-clause-first c =
-    told_more c.next.new.self c.args.framer.now.kind (take CAPACITY c.args.bytes.now)
-    (take c.feed.result c.args.bytes.now) c.next.result
+    c.first_left.ensures
+    ∙ told_more c.next.new.self c.args.framer.now.kind (take CAPACITY c.args.bytes.now)
+    (take c.feed.result c.args.bytes.now) c.next.result c.finish.result
     (all_fed c.args.bytes.now c.feed.result c.restart.new.self c.args.framer.now.kind
     c.restart.ensures.fresh c.feed.ensures.taken)
     (c.next.ensures.kind ∙ ap (λ h. h.kind) c.feed.ensures.same
     ∙ ap (λ h. h.kind) c.restart.ensures.fresh)
     (c.next.ensures.answers (take c.feed.result c.args.bytes.now) []
     (c.feed.ensures.stands [] [] c.restart.ensures.stands))
-    c.in-More.is
+    c.in-More.is c.finish.ensures
