@@ -61,10 +61,14 @@ pub(crate) fn stream(alloc: Global, polls: &[Poll], name: &str) -> Result<Vec<u8
     Ok(bytes)
 }
 
-/// The number of the call that fails, where the word is one.
+/// The number of the call that fails, where the word is one; those of the first hundred for `all`.
 pub(crate) fn failing(alloc: Global, word: &str) -> Result<Vec<u64>, AllocError> {
     let mut fail = Vec::new(alloc);
-    if let Some(call) = long_number(word) {
+    if word == "all" {
+        for call in 1..=100 {
+            fail.push(call)?;
+        }
+    } else if let Some(call) = long_number(word) {
         fail.push(call)?;
     }
     Ok(fail)

@@ -1,7 +1,9 @@
 //! Images by hand, from the layout alone: gate, length of four bytes (the highest first), payload.
 
+ghost use Rattle.gate_log.specs.Records.{IsSized};
+
 use gate_log::*;
-use outside::{DiskCall, Image, MemDisk};
+use outside::{Disk, DiskCall, Image, MemDisk};
 use std::alloc::{AllocError, Global};
 
 /// A byte, and how often it stands there.
@@ -58,7 +60,6 @@ fn bytes_of(alloc: Global, runs: &[(u8, usize)]) -> Result<Vec<u8>, AllocError> 
 }
 
 /// How many payloads the log on a disk has; none where it is unborn.
-
 fn count_on(alloc: Global, disk: &mut MemDisk) -> Result<Option<u64>, LogError> {
     match Log::look(alloc, disk)? {
         Some(log) => Ok(Some(log.count())),
@@ -162,4 +163,56 @@ fn an_append_makes_four_calls(rt: HostRuntime) {
     let mut disk = MemDisk::new(rt.alloc(), Vec::new(rt.alloc()), Vec::new(rt.alloc()));
     assert_eq!(rt; live(rt.alloc(), &mut disk), Ok(3));
     assert!(rt; disk.calls().ends_with(&LAST));
+}
+
+/// The most bytes of a disk.
+const LIMIT: usize = 1_073_741_824;
+
+/// Appends a record of so many bytes, with its gate open.
+fn push_record(bytes: &mut Vec<u8>, payload: &[u8], len: u32) -> Result<(), AllocError> {
+    bytes.push(1)?;
+    bytes.extend_from_slice(&len.to_be_bytes())?;
+    bytes.extend_from_slice(payload)
+}
+
+/// A log that ends 40 bytes before the limit: a birth record, 16,382 records of the most bytes, and
+/// a shorter one.
+fn nearly_full(alloc: Global) -> Result<Vec<u8>, AllocError> {
+    let most = bytes_of(alloc, &[(9, MAX_PAYLOAD)])?;
+    let mut bytes = Vec::with_capacity(alloc, LIMIT)?;
+    push_record(&mut bytes, &BIRTH, 155)?;
+    for _ in 0..16_382 {
+        push_record(&mut bytes, &most, 65_536)?;
+    }
+    push_record(&mut bytes, &bytes_of(alloc, &[(9, 48_956)])?, 48_956)?;
+    bytes.push(0)?;
+    Ok(bytes)
+}
+
+/// Why such a log refuses a payload, if it does, whether it wrote anything, and how long the disk is
+/// behind that.
+fn appended(alloc: Global, payload: &[u8]) -> Result<(Option<LogError>, bool, u64), LogError>
+    requires { IsSized payload.now }
+{
+    let mut disk = MemDisk::new(alloc, nearly_full(alloc)?, Vec::new(alloc));
+    let mut log = Log::load(alloc, &mut disk, &BIRTH)?;
+    log.reserve()?;
+    let refused = log.append(&mut disk, payload).err();
+    let wrote = disk
+        .calls()
+        .iter()
+        .any(|call| matches!(call, DiskCall::Write { .. }));
+    let len = disk.len().map_err(|_| LogError::DiskFault)?;
+    Ok((refused, wrote, len))
+}
+
+#[test]
+fn the_last_record_ends_at_the_limit(rt: HostRuntime) {
+    let one_more = appended(rt.alloc(), &[5; 36]);
+    assert_eq!(rt;
+        one_more,
+        Ok((Some(LogError::Full), false, LIMIT as u64 - 40))
+    );
+    let last = appended(rt.alloc(), &[5; 35]);
+    assert_eq!(rt; last, Ok((None, true, LIMIT as u64)));
 }
