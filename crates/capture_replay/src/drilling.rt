@@ -33,7 +33,7 @@ pub fn drill<O: Sink>(
 ) -> Result<(), PrintError>
     requires first { first ≤ 65536 }
     requires count { (1 ≤ count) × (count ≤ 10000) }
-    ensures drills { Drills (state_by has_failed entries tally counts_all) first count
+    ensures drills { Drills (state_by has_failed entries tally counts_all refused) first count
         taps.old.items taps.new.items result (O.bytes out.old) (O.bytes out.new) }
     ensures fault { result ≡ Err errors.OutputFault →
         Rose (O.faults out.old) (O.faults out.new) }

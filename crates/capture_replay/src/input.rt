@@ -46,7 +46,7 @@ pub fn replay_input<I: Source, O: Sink>(
 ) -> Result<(), ReplayError>
     requires { I.ended input.old ≡ false }
     ensures replays { (taken : List ℕ) × Consumes (I.left input.old) (I.left input.new) taken
-        × Replayed (state_by has_failed entries tally counts_all) taken (I.left input.new)
+        × Replayed (state_by has_failed entries tally counts_all refused) taken (I.left input.new)
         taps.old.items taps.new.items result (O.bytes out.old) (O.bytes out.new) }
     ensures ended { OnOk result (I.ended input.new ≡ true) }
     ensures input_fault { result ≡ Err errors.InputFault

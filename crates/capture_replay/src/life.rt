@@ -46,11 +46,11 @@ pub(crate) fn live_lines(
 ) -> Result<Lived, AllocError>
     requires bounded { All IsBounded lines.now }
     ensures lived { IfOk result (λ lived. LivesOn
-        (state_by has_failed entries tally counts_all) config.now lines.now from image.items
+        (state_by has_failed entries tally counts_all refused) config.now lines.now from image.items
         taps.old.items taps.new.items lived.client.recorded lived.venue.recorded lived.end
         lived.image.items) }
-    ensures taps { (more : List Entry) × HaveSeen (state_by has_failed entries tally counts_all)
-        taps.old.items taps.new.items more }
+    ensures taps { (more : List Entry) × HaveSeen
+        (state_by has_failed entries tally counts_all refused) taps.old.items taps.new.items more }
 {
     an_image_has_one_reading();
     let script = script_of(alloc, Side::Client, lines)?;

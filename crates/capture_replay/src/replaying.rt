@@ -34,7 +34,7 @@ pub fn replay<O: Sink>(
     taps: &mut Vec<Box<dyn Tap>>,
 ) -> Result<(), PrintError>
     requires { IsCapture capture.now }
-    ensures replays { Replays (state_by has_failed entries tally counts_all) capture.now
+    ensures replays { Replays (state_by has_failed entries tally counts_all refused) capture.now
         taps.old.items taps.new.items result (O.bytes out.old) (O.bytes out.new) }
     ensures fault { result ≡ Err errors.OutputFault →
         Rose (O.faults out.old) (O.faults out.new) }

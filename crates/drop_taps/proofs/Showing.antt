@@ -2,9 +2,9 @@
 use Rattle.std.proofs.Common.{◌≡◌, ℕ, zero, suc, ◌+◌, ◌≤◌, Bool, true, false, List, [], ◌∷◌}
 use Rattle.std.proofs.Common.{◌++◌, refl, sym, ◌∙◌, ap, subst, append_assoc, append-nil, Some, None}
 use Rattle.std.proofs.Common.{Ok, Err, take, drop, length, set, get_or, arith}
-use Rattle.std.specs.Prelude.{⊤, Result, is_err}
+use Rattle.std.specs.Prelude.{⊤, Result, is_err, OnErr}
 use Rattle.std.specs.declared.option.Option.{Option}
-use Rattle.std.specs.Option.{option_map, option_to_list}
+use Rattle.std.specs.Option.{option_map, option_to_list, ForSome}
 use Rattle.pair_entries.specs.declared.entry.Entry.{Entry}
 use Rattle.drop_taps.specs.declared.tap.Seen.{Seen}
 use Rattle.drop_taps.specs.Tap.{seen_after, tally_after}
@@ -49,6 +49,7 @@ module _ {T : Type 0} (state : T → TapState) where
     tally = λ works. refl;
     counts = refl;
     all = λ works. refl;
+    fails = λ works failed. absurd (cc (sym works ∙ failed));
   }
 
   -- a tap that has failed is passed over
@@ -62,6 +63,7 @@ module _ {T : Type 0} (state : T → TapState) where
     tally = λ works. absurd (cc (sym failed ∙ works));
     counts = refl;
     all = λ works. absurd (cc (sym failed ∙ works));
+    fails = λ works f. absurd (cc (sym failed ∙ works));
   }
 
   -- any other was shown one
@@ -69,8 +71,9 @@ module _ {T : Type 0} (state : T → TapState) where
       → (state b).told ≡ seen_after r entry (state a).told
       → (state b).tally ≡ tally_after (state a).counts_all r entry (state a).tally
       → (state b).counts_all ≡ (state a).counts_all → (state b).failed ≡ is_err r
+      → OnErr r (ForSome (state b).refused (λ e. e ≡ entry))
       → Saw state a b (entry ∷ [])
-  saw_one V E a b entry (Ok value) works told tally counts failed = record {
+  saw_one V E a b entry (Ok value) works told tally counts failed refused = record {
     passed = λ f. absurd (cc (sym works ∙ f));
     front = entry ∷ [];
     rest = [];
@@ -79,8 +82,9 @@ module _ {T : Type 0} (state : T → TapState) where
     tally = λ w. tally ∙ same_tally V E (state a).counts_all value entry (state a).tally;
     counts = counts;
     all = λ w. refl;
+    fails = λ w f. absurd (cc (sym failed ∙ f));
   }
-  saw_one V E a b entry (Err error) works told tally counts failed = record {
+  saw_one V E a b entry (Err error) works told tally counts failed refused = record {
     passed = λ f. absurd (cc (sym works ∙ f));
     front = [];
     rest = entry ∷ [];
@@ -89,6 +93,7 @@ module _ {T : Type 0} (state : T → TapState) where
     tally = λ w. tally ∙ err_tally V E (state a).counts_all error entry (state a).tally;
     counts = counts;
     all = λ w. absurd (cc (sym failed ∙ w));
+    fails = λ w f. (entry, [], refl, refused);
   }
 
   -- some entries, and then more
@@ -113,6 +118,12 @@ module _ {T : Type 0} (state : T → TapState) where
             tally = λ w. ap (λ t. (state t).tally) same ∙ one.tally w;
             counts = ap (λ t. (state t).counts_all) same ∙ one.counts;
             all = λ w. absurd (cc (sym (ap (λ t. (state t).failed) same ∙ ib) ∙ w));
+            fails = λ w f. let at_one = one.fails w ib in (
+              at_one.0,
+              at_one.1 ++ ys,
+              ap (λ l. l ++ ys) at_one.2,
+              subst (λ t. ForSome (state t).refused (λ e. e ≡ at_one.0)) (sym same) at_one.3,
+            );
           }
       at false ia false ib =
           let whole : one.front ≡ xs = sym (append-nil one.front)
@@ -132,6 +143,7 @@ module _ {T : Type 0} (state : T → TapState) where
                 ∙ ap (λ l. tallied (state a).counts_all (l ++ two.front) (state a).tally) whole;
             counts = two.counts ∙ one.counts;
             all = two.all;
+            fails = λ w f. two.fails ib f;
           }
 
   pub seen_none : (taps : List T) → HaveSeen state taps taps []

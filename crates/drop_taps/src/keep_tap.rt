@@ -1,7 +1,8 @@
 //! A tap that keeps what it is shown.
 
 ghost use Rattle.std.specs.Prelude.{◌≡◌, ◌↔◌, [], ◌∷◌, ◌++◌, length, Some, Err, OnOk, OnErr};
-ghost use Rattle.std.specs.Prelude.{false, is_err};
+ghost use Rattle.std.specs.Prelude.{None, false, is_err, option_map};
+ghost use Rattle.std.specs.Option.{ForSome};
 ghost use Rattle.outside.specs.Memory.{IsListed, called};
 ghost use Rattle.pair_entries.specs.Payload.{IsEntry};
 ghost use Rattle.drop_taps.specs.Tap.{seen_after, tally_after, faults_after, entries_alone};
@@ -15,12 +16,13 @@ use std::alloc::{AllocError, Global};
 use std::marker::Model;
 
 /// A tap that keeps the entries, and tells them. Calls are numbered from 1, and the listed ones
-/// fail and keep nothing.
+/// fail. It keeps the entry at which it failed apart, if there is memory for it.
 #[derive(Debug, Drop)]
 pub struct KeepTap {
     entries: Vec<Entry>,
     calls: Calls,
     failed: bool,
+    refused: Option<Entry>,
 }
 
 impl Model for KeepTap {
@@ -28,7 +30,12 @@ impl Model for KeepTap {
 
     ghost Value = { KeepState };
 
-    ghost view = { λ t. record { entries = t.entries.items; calls = t.calls; failed = t.failed } };
+    ghost view = { λ t. record {
+      entries = t.entries.items;
+      calls = t.calls;
+      failed = t.failed;
+      refused = t.refused;
+    } };
 }
 
 /// Appends a copy of an entry.
@@ -49,12 +56,14 @@ impl KeepTap {
           entries = [];
           calls = record { made = 0; fail = fail.items; faults = 0 };
           failed = false;
+          refused = None;
         } }
     {
         KeepTap {
             entries: Vec::new(alloc),
             calls: Calls::new(fail),
             failed: false,
+            refused: None,
         }
     }
 
@@ -63,6 +72,13 @@ impl KeepTap {
         ensures { result.now ≡ self.now.entries }
     {
         &self.entries
+    }
+
+    /// The entry at which it failed, if it keeps it.
+    pub fn refused(&self) -> Option<&Entry>
+        ensures { option_map (λ entry. entry.now) result ≡ self.now.refused }
+    {
+        self.refused.as_ref()
     }
 
     /// Counts a call, and keeps a copy of an entry.
@@ -94,6 +110,8 @@ impl Tap for KeepTap {
 
     ghost has_failed = { λ t. t.failed };
 
+    ghost refused = { λ t. t.refused };
+
     ghost never_fails = { λ _. false };
 
     fn saw(&mut self, entry: &Entry) -> Result<(), TapFailed>
@@ -104,6 +122,7 @@ impl Tap for KeepTap {
         ensures tally { entries_alone (length self.new.entries)
             ≡ tally_after false result entry.now (entries_alone (length self.old.entries)) }
         ensures failed { self.new.failed ≡ is_err result }
+        ensures refused { OnErr result (ForSome self.new.refused (λ e. e ≡ entry.now)) }
         ensures cause { HasTapCause self.old.calls.faults self.new.calls.faults result }
         ensures listed { result ≡ Err failures.Fault ↔ IsListed self.old.calls }
         ensures calls { self.new.calls ≡
@@ -111,6 +130,9 @@ impl Tap for KeepTap {
     {
         let kept = self.keep(entry);
         self.failed = kept.is_err();
+        if self.failed {
+            self.refused = entry.duplicate().ok();
+        }
         kept
     }
 

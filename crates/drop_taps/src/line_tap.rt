@@ -59,6 +59,8 @@ impl<O: Sink + Drop> Tap for LineTap<O> {
 
     ghost has_failed = { λ t. t.failed };
 
+    ghost refused = { λ _. None };
+
     ghost never_fails = { λ _. false };
 
     fn saw(&mut self, entry: &Entry) -> Result<(), TapFailed>

@@ -1,7 +1,8 @@
 //! What a tap is.
 
-ghost use Rattle.std.specs.Prelude.{◌≡◌, ℕ, List, Bool, false, IsTrue, IsOk, is_err};
+ghost use Rattle.std.specs.Prelude.{◌≡◌, ℕ, List, Bool, false, IsTrue, IsOk, is_err, OnErr};
 ghost use Rattle.std.specs.declared.option.Option.{Option};
+ghost use Rattle.std.specs.Option.{ForSome};
 ghost use Rattle.pair_entries.specs.declared.entry.Entry.{Entry};
 ghost use Rattle.pair_entries.specs.Payload.{IsEntry};
 ghost use Rattle.drop_taps.specs.declared.tap.Seen.{Seen};
@@ -63,14 +64,17 @@ pub trait Tap: Drop {
     /// Whether it has failed. A tap that was just made has not.
     ghost has_failed: { Self → Bool };
 
+    /// The entry at which it failed, where the tap tells it.
+    ghost refused: { Self → Option Entry };
+
     /// Whether it never fails.
     ghost never_fails: { Self → Bool };
 
     /// Is shown an entry, which it takes in at `Ok`.
     ///
     /// # Errors
-    /// Then it has failed, and nothing but that and its count of faults changed: `Fault` only where
-    /// this count rose in the call, `NoMemory` for want of memory.
+    /// Then it has failed at this entry, and nothing but that and its count of faults changed:
+    /// `Fault` only where this count rose in the call, `NoMemory` for want of memory.
     fn saw(&mut self, entry: &Entry) -> Result<(), TapFailed>
         requires works { has_failed self.old ≡ false }
         requires entry { IsEntry entry.now }
@@ -79,6 +83,7 @@ pub trait Tap: Drop {
             ≡ tally_after (counts_all self.old) result entry.now (tally self.old) }
         ensures counts { counts_all self.new ≡ counts_all self.old }
         ensures failed { has_failed self.new ≡ is_err result }
+        ensures refused { OnErr result (ForSome (refused self.new) (λ e. e ≡ entry.now)) }
         ensures sure { IsTrue (never_fails self.old) → IsOk result }
         ensures stays_sure { never_fails self.new ≡ never_fails self.old }
         ensures cause { HasTapCause (faults self.old) (faults self.new) result };

@@ -1,7 +1,7 @@
 //! Many taps, in boxes.
 
-ghost use Rattle.std.specs.Prelude.{◌≡◌, [], ◌∷◌, false, filter, not, IfSome, is_err};
-ghost use Rattle.std.specs.Option.{option_to_list};
+ghost use Rattle.std.specs.Prelude.{◌≡◌, [], ◌∷◌, false, filter, not, IfSome, is_err, OnErr};
+ghost use Rattle.std.specs.Option.{option_to_list, ForSome};
 ghost use Rattle.pair_entries.specs.Payload.{IsEntry};
 ghost use Rattle.drop_taps.specs.Tap.{seen_after, tally_after};
 ghost use Rattle.drop_taps.specs.Shown.{Saw, HaveSeen, state_by};
@@ -25,6 +25,7 @@ fn tell(tap: &mut Box<dyn Tap>, entry: &Entry) -> Result<(), TapFailed>
         ≡ tally_after (counts_all tap.old) result entry.now (tally tap.old) }
     ensures counts { counts_all tap.new ≡ counts_all tap.old }
     ensures failed { has_failed tap.new ≡ is_err result }
+    ensures refused { OnErr result (ForSome (refused tap.new) (λ e. e ≡ entry.now)) }
 {
     tap.saw(entry)
 }
@@ -32,7 +33,8 @@ fn tell(tap: &mut Box<dyn Tap>, entry: &Entry) -> Result<(), TapFailed>
 /// Shows an entry to a tap that has not failed.
 fn show_to(tap: &mut Box<dyn Tap>, entry: &Entry)
     requires { IsEntry entry.now }
-    ensures { Saw (state_by has_failed entries tally counts_all) tap.old tap.new (entry.now ∷ []) }
+    ensures { Saw (state_by has_failed entries tally counts_all refused) tap.old tap.new
+        (entry.now ∷ []) }
 {
     if is_failed(tap) {
         return;
@@ -44,7 +46,7 @@ fn show_to(tap: &mut Box<dyn Tap>, entry: &Entry)
 /// Shows an entry to each tap in order.
 fn show_all(taps: &mut Vec<Box<dyn Tap>>, entry: &Entry)
     requires { IsEntry entry.now }
-    ensures { HaveSeen (state_by has_failed entries tally counts_all) taps.old.items
+    ensures { HaveSeen (state_by has_failed entries tally counts_all refused) taps.old.items
         taps.new.items (entry.now ∷ []) }
 {
     for tap in taps.iter_mut() {
@@ -56,7 +58,7 @@ fn show_all(taps: &mut Vec<Box<dyn Tap>>, entry: &Entry)
 /// and none is taken out.
 pub fn show(taps: &mut Vec<Box<dyn Tap>>, entry: &Option<Entry>)
     requires { IfSome entry.now IsEntry }
-    ensures { HaveSeen (state_by has_failed entries tally counts_all) taps.old.items
+    ensures { HaveSeen (state_by has_failed entries tally counts_all refused) taps.old.items
         taps.new.items (option_to_list entry.now) }
 {
     match entry {

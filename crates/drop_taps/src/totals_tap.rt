@@ -101,6 +101,8 @@ impl Tap for TotalsTap {
 
     ghost has_failed = { λ _. false };
 
+    ghost refused = { λ _. None };
+
     ghost never_fails = { λ _. true };
 
     fn saw(&mut self, entry: &Entry) -> Result<(), TapFailed> {

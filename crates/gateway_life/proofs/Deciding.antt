@@ -261,13 +261,14 @@ commit_left told before after journal new entry (Err (errors.NamesDiffer kept gi
 commit_left told before after journal new entry (Err errors.NoMemory) commits keeps full =
     absurd commits
 
-pub commit_why : (journal new : JournalState) (entry : Entry) (error : JournalError)
-    → Commits entry journal new (Err error) → IsFull journal (Some entry) error
-commit_why journal new entry errors.DiskFault commits = tt
-commit_why journal new entry errors.Full commits = (entry, refl, commits.0)
-commit_why journal new entry (errors.Refused at) commits = absurd commits
-commit_why journal new entry (errors.NamesDiffer kept given) commits = absurd commits
-commit_why journal new entry errors.NoMemory commits = absurd commits
+pub commit_why : (journal new : JournalState) (entry : Entry) (result : Result Entry JournalError)
+    → IsEntry entry → Commits entry journal new result → IfErr result (IsFull journal (Some entry))
+commit_why journal new entry (Ok answer) is commits = tt
+commit_why journal new entry (Err errors.DiskFault) is commits = tt
+commit_why journal new entry (Err errors.Full) is commits = (entry, refl, is, commits.0)
+commit_why journal new entry (Err (errors.Refused at)) is commits = absurd commits
+commit_why journal new entry (Err (errors.NamesDiffer kept given)) is commits = absurd commits
+commit_why journal new entry (Err errors.NoMemory) is commits = absurd commits
 
 -- ---- a plan
 
@@ -341,10 +342,11 @@ why_of errors.Full config before event now d journal names entries decides why =
   why.0,
   decides,
   why.1,
+  why.2,
   subst (λ l. MAX_DISK ≤ length (blocks (payloads_of config.names l)) + 5
       + length (entry_bytes why.0)) entries
       (subst (λ n. MAX_DISK ≤ length (blocks (payloads_of n journal.entries)) + 5
-      + length (entry_bytes why.0)) names why.2),
+      + length (entry_bytes why.0)) names why.3),
 )
 why_of (errors.Refused at) config before event now d journal names entries decides why =
     absurd why

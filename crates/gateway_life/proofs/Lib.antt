@@ -15,3 +15,4 @@ mod Leaving
 mod Shown
 pub mod Watching
 mod TapsShown
+mod Caused

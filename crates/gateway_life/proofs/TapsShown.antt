@@ -1,5 +1,5 @@
 -- What the taps saw of a whole life.
-use Rattle.std.proofs.Common.{◌≡◌, ℕ, List, [], ◌++◌, sym, ◌∙◌, ap, subst, append-nil}
+use Rattle.std.proofs.Common.{◌≡◌, ℕ, true, List, [], ◌++◌, sym, ◌∙◌, ap, subst, append-nil}
 use Rattle.std.proofs.Common.{refl, Some, None, Ok, Err, inl}
 use Rattle.std.specs.Prelude.{Result, OnOk, IfErr, IfSome, is_some}
 use Rattle.std.specs.declared.option.Option.{Option}
@@ -31,6 +31,39 @@ no_entries = []
 whole_shown : {V : Type 0} (P : Type 0) (r : Result V LifeEnd) → IfErr r IsOfEvent → IfRefused (end_in r) P
 whole_shown P (Ok value) of = tt
 whole_shown P (Err end) of = refused_not P end of
+
+-- each image of a life that began is the journal of what was committed
+pub left_whole : {V : Type 0} (one : (image : List ℕ) → HasOneReading image)
+    (r : Result V LifeEnd) (names names' : Names) (b : List ℕ) (t1 t2 : Option (List ℕ))
+    (i0 i1 i2 : List ℕ → Type 0) (old new : LifeState) (more : List Entry) → names' ≡ names
+    → IsJournal names old.engine.journal.entries b → is_some t1 ≡ true
+    → (Only b i0 → HasOneImage t1 i1) → is_some t2 ≡ is_some t1
+    → OnOk r (HasOneImage t1 i1 → HasOneImage t2 i2)
+    → OnOk r (ForSome t2 (λ c. JournalOf c (Born names' new.engine.journal.entries)))
+    → IfErr r (λ end. LeavesOf t1 i1 i2 names' (WereCommitted end new.engine.journal.entries))
+    → new.engine.journal.entries ≡ old.engine.journal.entries ++ more
+    → Only b i0 → (before : List Entry) → IsJournal names before b → (image : List ℕ) → i2 image
+    → (found : List Entry) × IsJournal names found image
+    × WereCommitted (end_in r) (before ++ more) found
+left_whole one (Ok value) names names' b t1 t2 i0 i1 i2 old new more same begins told kept told'
+    durable here left goes_on only before journal image at_exit = (
+      new.engine.journal.entries,
+      inl (subst (λ n. JournalOf image (Born n new.engine.journal.entries)) same
+          (image_of t2 i2 (λ c. JournalOf c (Born names' new.engine.journal.entries)) image
+          (told' ∙ told) here (durable (kept only)) at_exit)),
+      goes_on ∙ ap (λ l. l ++ more)
+          (same_journal one names b old.engine.journal.entries before begins journal),
+    )
+left_whole one (Err end) names names' b t1 t2 i0 i1 i2 old new more same begins told kept told'
+    durable here left goes_on only before journal image at_exit =
+    let found = leaves_from (Some b) t1 i0 i1 i2 names names'
+    (WereCommitted end new.engine.journal.entries) (WereCommitted end new.engine.journal.entries) told
+    kept same (λ xs h. h) left only image at_exit in (
+      found.0,
+      inl found.1,
+      subst (λ l. WereCommitted end l found.0) (goes_on ∙ ap (λ l. l ++ more)
+          (same_journal one names b old.engine.journal.entries before begins journal)) found.2,
+    )
 
 module _ (one : (image : List ℕ) → HasOneReading image) {T : Type 0} (state : T → TapState) where
   -- a life that did not begin
@@ -81,39 +114,12 @@ module _ (one : (image : List ℕ) → HasOneReading image) {T : Type 0} (state 
         foreign = tt;
         left = tt;
       }
-  taps_whole {V} r olds news names names' (Some b) t1 t2 i0 i1 i2 old new same begins told kept
-      told' kept' stands left of watched = record {
+  taps_whole r olds news names names' (Some b) t1 t2 i0 i1 i2 old new same begins told kept told'
+      kept' stands left of watched = record {
         more = watched.more;
         seen = watched.seen;
         refused = whole_shown (watched.more ≡ []) r of;
         foreign = λ foreign. absurd (foreign old.engine.journal.entries begins);
-        left = at r kept' stands left;
+        left = left_whole one r names names' b t1 t2 i0 i1 i2 old new watched.more same begins told
+            kept told' kept' stands left watched.goes_on;
       }
-    where
-      grown : (before : List Entry) → IsJournal names before b
-          → new.engine.journal.entries ≡ before ++ watched.more
-      grown before journal = watched.goes_on ∙ ap (λ l. l ++ watched.more)
-          (same_journal one names b old.engine.journal.entries before begins journal)
-
-      at : (q : Result V LifeEnd) → OnOk q (HasOneImage t1 i1 → HasOneImage t2 i2)
-          → OnOk q (ForSome t2 (λ c. JournalOf c (Born names' new.engine.journal.entries)))
-          → IfErr q (λ end. LeavesOf t1 i1 i2 names' (WereCommitted end new.engine.journal.entries))
-          → Only b i0 → (before : List Entry) → IsJournal names before b → (image : List ℕ)
-          → i2 image → (found : List Entry) × IsJournal names found image
-          × WereCommitted (end_in q) (before ++ watched.more) found
-      at (Ok value) durable here left = λ only before journal image at_exit. (
-        new.engine.journal.entries,
-        inl (subst (λ n. JournalOf image (Born n new.engine.journal.entries)) same
-            (image_of t2 i2 (λ c. JournalOf c (Born names' new.engine.journal.entries)) image
-            (told' ∙ told) here (durable (kept only)) at_exit)),
-        grown before journal,
-      )
-      at (Err end) durable here left = λ only before journal image at_exit.
-          let found = leaves_from (Some b) t1 i0 i1 i2 names names'
-          (WereCommitted end new.engine.journal.entries)
-          (WereCommitted end new.engine.journal.entries) told kept same (λ xs h. h) left only image
-          at_exit in (
-            found.0,
-            inl found.1,
-            subst (λ l. WereCommitted end l found.0) (grown before journal) found.2,
-          )

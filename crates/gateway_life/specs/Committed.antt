@@ -7,7 +7,7 @@ use Rattle.gate_log.specs.Records.{blocks}
 use Rattle.pair_journal.specs.declared.error.JournalError.{JournalError}
 use Rattle.pair_journal.specs.declared.error.JournalError.TheVariants as errors
 use Rattle.pair_entries.specs.declared.entry.Entry.{Entry}
-use Rattle.pair_entries.specs.Payload.{entry_bytes}
+use Rattle.pair_entries.specs.Payload.{IsEntry, entry_bytes}
 use Rattle.pair_journal.specs.State.{JournalState}
 use Rattle.pair_journal.specs.Calls.{payloads_of}
 
@@ -20,7 +20,7 @@ OldOrNew error before entry found = found ≡ before
 -- a commit fails by the disk, or since the record has no room
 abbrev pub IsFull : JournalState → Option Entry → JournalError → Type 0
 IsFull journal entry errors.DiskFault = Unit {0}
-IsFull journal entry errors.Full = (e : Entry) × (entry ≡ Some e)
+IsFull journal entry errors.Full = (e : Entry) × (entry ≡ Some e) × IsEntry e
     × (MAX_DISK ≤ length (blocks (payloads_of journal.names journal.entries)) + 5
     + length (entry_bytes e))
 IsFull journal entry error = ⊥

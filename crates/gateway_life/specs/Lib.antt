@@ -9,3 +9,4 @@ pub mod Life
 pub mod Rounds
 pub mod Laws
 pub mod Watched
+pub mod Causes

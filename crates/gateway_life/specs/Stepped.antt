@@ -7,7 +7,7 @@ use Rattle.outside.specs.Causes.{Rose}
 use Rattle.outside.specs.declared.disk.TheConstants.{MAX_DISK}
 use Rattle.gate_log.specs.Records.{blocks}
 use Rattle.pair_entries.specs.declared.entry.Entry.{Entry}
-use Rattle.pair_entries.specs.Payload.{entry_bytes}
+use Rattle.pair_entries.specs.Payload.{IsEntry, entry_bytes}
 use Rattle.pair_journal.specs.Calls.{payloads_of}
 use Rattle.event_decisions.specs.Event.{Event}
 use Rattle.event_decisions.specs.Decide.{Decision, Decides}
@@ -78,7 +78,7 @@ abbrev pub IsWhy : LifeEnd → Config → World → Event → ℕ → Type 0
 IsWhy ends.JournalFull config before event now =
     (d : Decision) × (entry : Entry)
     × Decides Answers config.names config.window before.entries before.sessions event now (Ok d)
-    × (d.entry ≡ Some entry)
+    × (d.entry ≡ Some entry) × IsEntry entry
     × (MAX_DISK ≤ length (blocks (payloads_of config.names before.entries)) + 5
     + length (entry_bytes entry))
 IsWhy (ends.NumbersSpent side) config before event now =

@@ -29,6 +29,7 @@ ghost use Rattle.gateway_life.specs.Life.{IfRefused};
 ghost use Rattle.gateway_life.specs.Rounds.{Begins};
 ghost use Rattle.drop_taps.specs.Shown.{state_by};
 ghost use Rattle.gateway_life.specs.Watched.{Watched, WereCommitted};
+ghost use Rattle.gateway_life.specs.Causes.{IsCauseIn};
 ghost use Rattle.gateway_life.specs.Stepped.{IsOfEvent, IsNotDone};
 
 use crate::LifeEnd;
@@ -42,6 +43,7 @@ use outside::Disk;
 use pair_entries::{Entry, MAX_AT, Prepared};
 use pair_journal::{Journal, JournalError, OutBuf};
 use session_core::Session;
+use session_core::laws::{each_message_takes_a_number, two_numbers_are_enough};
 use session_frames::FrameBuf;
 use std::alloc::Global;
 use wire_sends::{hang_up_on, outs_on, repeat_on};
@@ -403,13 +405,14 @@ impl Engine {
             (records (C.recorded client.new) (V.recorded venue.new)))) }
         ensures why { IfErr result (λ end. IsWhy end self.old.core.config (world_of (seen self.old))
             (event_of event.now) now) }
-        ensures taps { Watched (state_by has_failed entries tally counts_all)
+        ensures taps { Watched (state_by has_failed entries tally counts_all refused)
             taps.old.items taps.new.items self.old.journal.entries
             self.new.journal.entries }
         ensures kept { IfErr result (λ end. LeavesOf (D.bytes disk.old) (D.image disk.old)
             (D.image disk.new) self.old.core.config.names
             (WereCommitted end self.new.journal.entries)) }
         ensures only { IfErr result IsOfEvent }
+        ensures journal_cause { IfErr result (λ end. IsCauseIn end (seen self.new)) }
         ensures told { is_some (D.bytes disk.new) ≡ is_some (D.bytes disk.old) }
         ensures cause { HasCauseOf (D.faults disk.old) (D.faults disk.new) result }
         ensures client_polls { C.polls client.new ≡ C.polls client.old }
@@ -417,6 +420,8 @@ impl Engine {
         ensures client_plays { Keeps (C.plays client.old) (C.plays client.new) }
         ensures venue_plays { Keeps (V.plays venue.old) (V.plays venue.new) }
     {
+        two_numbers_are_enough();
+        each_message_takes_a_number();
         let made = self.decide(disk, event, now)?;
         show(taps, &made.entry);
         let names = self.journal.names();
@@ -467,13 +472,14 @@ impl Engine {
             (world_of (seen self.old)) (Tick side) now
             (records (C.recorded client.old) (V.recorded venue.old))
             (records (C.recorded client.new) (V.recorded venue.new)))) }
-        ensures taps { Watched (state_by has_failed entries tally counts_all)
+        ensures taps { Watched (state_by has_failed entries tally counts_all refused)
             taps.old.items taps.new.items self.old.journal.entries
             self.new.journal.entries }
         ensures kept { IfErr result (λ end. LeavesOf (D.bytes disk.old) (D.image disk.old)
             (D.image disk.new) self.old.core.config.names
             (WereCommitted end self.new.journal.entries)) }
         ensures only { IfErr result IsOfEvent }
+        ensures journal_cause { IfErr result (λ end. IsCauseIn end (seen self.new)) }
         ensures told { is_some (D.bytes disk.new) ≡ is_some (D.bytes disk.old) }
         ensures cause { HasCauseOf (D.faults disk.old) (D.faults disk.new) result }
         ensures client_polls { C.polls client.new ≡ C.polls client.old }

@@ -24,6 +24,7 @@ ghost use Rattle.gateway_life.specs.Rounds.{LifeStopped};
 ghost use Rattle.gateway_life.specs.Stepped.{IsOfEvent, IsNotDone};
 ghost use Rattle.drop_taps.specs.Shown.{state_by};
 ghost use Rattle.gateway_life.specs.Watched.{Watched, WereCommitted, TapsSaw, end_in};
+ghost use Rattle.gateway_life.specs.Causes.{IsCauseIn, HasJournalCause};
 ghost use Rattle.gateway_life.specs.Rounds.{IsUnbegun, IsUntouched};
 
 use crate::LifeEnd;
@@ -150,13 +151,14 @@ impl Life {
         ensures follows { Keeps (K.follows clock.old) (K.follows clock.new) }
         ensures durable { OnOk result (HasOneImage (D.bytes disk.old) (D.image disk.old) →
             HasOneImage (D.bytes disk.new) (D.image disk.new)) }
-        ensures taps { Watched (state_by has_failed entries tally counts_all)
+        ensures taps { Watched (state_by has_failed entries tally counts_all refused)
             taps.old.items taps.new.items self.old.engine.journal.entries
             self.new.engine.journal.entries }
         ensures kept { IfErr result (λ end. LeavesOf (D.bytes disk.old) (D.image disk.old)
             (D.image disk.new) self.old.engine.core.config.names
             (WereCommitted end self.new.engine.journal.entries)) }
         ensures only { IfErr result IsOfEvent }
+        ensures journal_cause { IfErr result (λ end. IsCauseIn end self.new.engine) }
         ensures told { is_some (D.bytes disk.new) ≡ is_some (D.bytes disk.old) }
         ensures cause { HasCauseOf (D.faults disk.old) (D.faults disk.new) result }
     {
@@ -223,13 +225,14 @@ impl Life {
         ensures follows { Keeps (K.follows clock.old) (K.follows clock.new) }
         ensures durable { OnOk result (HasOneImage (D.bytes disk.old) (D.image disk.old) →
             HasOneImage (D.bytes disk.new) (D.image disk.new)) }
-        ensures taps { Watched (state_by has_failed entries tally counts_all)
+        ensures taps { Watched (state_by has_failed entries tally counts_all refused)
             taps.old.items taps.new.items self.old.engine.journal.entries
             self.new.engine.journal.entries }
         ensures kept { IfErr result (λ end. LeavesOf (D.bytes disk.old) (D.image disk.old)
             (D.image disk.new) self.old.engine.core.config.names
             (WereCommitted end self.new.engine.journal.entries)) }
         ensures only { IfErr result IsOfEvent }
+        ensures journal_cause { IfErr result (λ end. IsCauseIn end self.new.engine) }
         ensures told { is_some (D.bytes disk.new) ≡ is_some (D.bytes disk.old) }
         ensures cause { HasCauseOf (D.faults disk.old) (D.faults disk.new) result }
     {
@@ -276,13 +279,14 @@ impl Life {
         ensures follows { Keeps (K.follows clock.old) (K.follows clock.new) }
         ensures durable { OnOk result (HasOneImage (D.bytes disk.old) (D.image disk.old) →
             HasOneImage (D.bytes disk.new) (D.image disk.new)) }
-        ensures taps { Watched (state_by has_failed entries tally counts_all)
+        ensures taps { Watched (state_by has_failed entries tally counts_all refused)
             taps.old.items taps.new.items self.old.engine.journal.entries
             self.new.engine.journal.entries }
         ensures kept { IfErr result (λ end. LeavesOf (D.bytes disk.old) (D.image disk.old)
             (D.image disk.new) self.old.engine.core.config.names
             (WereCommitted end self.new.engine.journal.entries)) }
         ensures only { IfErr result IsOfEvent }
+        ensures journal_cause { IfErr result (λ end. IsCauseIn end self.new.engine) }
         ensures told { is_some (D.bytes disk.new) ≡ is_some (D.bytes disk.old) }
         ensures cause { HasCauseOf (D.faults disk.old) (D.faults disk.new) result }
     {
@@ -306,6 +310,7 @@ impl Life {
     ) -> Result<(), LifeEnd>
         requires live { IsLive self.old (D.bytes disk.old)
             (C.recorded client.old) (V.recorded venue.old) }
+        ensures config { self.new.engine.core.config ≡ self.old.engine.core.config }
         ensures stands { OnOk result (ForSome (D.bytes disk.new) (λ b. JournalOf b
             (Born self.old.engine.core.config.names self.new.engine.journal.entries))) }
         ensures done { OnOk result ((given : List ℕ) × (last : ℕ) × (length given ≡ rounds)
@@ -330,13 +335,14 @@ impl Life {
         ensures follows { Keeps (K.follows clock.old) (K.follows clock.new) }
         ensures durable { OnOk result (HasOneImage (D.bytes disk.old) (D.image disk.old) →
             HasOneImage (D.bytes disk.new) (D.image disk.new)) }
-        ensures taps { Watched (state_by has_failed entries tally counts_all)
+        ensures taps { Watched (state_by has_failed entries tally counts_all refused)
             taps.old.items taps.new.items self.old.engine.journal.entries
             self.new.engine.journal.entries }
         ensures kept { IfErr result (λ end. LeavesOf (D.bytes disk.old) (D.image disk.old)
             (D.image disk.new) self.old.engine.core.config.names
             (WereCommitted end self.new.engine.journal.entries)) }
         ensures only { IfErr result IsOfEvent }
+        ensures journal_cause { IfErr result (λ end. IsCauseIn end self.new.engine) }
         ensures told { is_some (D.bytes disk.new) ≡ is_some (D.bytes disk.old) }
         ensures cause { HasCauseOf (D.faults disk.old) (D.faults disk.new) result }
     {
@@ -380,9 +386,11 @@ fn lived<D: Disk, C: Wire, V: Wire, K: Clock>(
     ensures follows { Keeps (K.follows clock.old) (K.follows clock.new) }
     ensures durable { OnOk result (HasOneImage (D.bytes disk.old) (D.image disk.old) →
         HasOneImage (D.bytes disk.new) (D.image disk.new)) }
-    ensures taps { TapsSaw (state_by has_failed entries tally counts_all) taps.old.items
+    ensures taps { TapsSaw (state_by has_failed entries tally counts_all refused) taps.old.items
         taps.new.items config.now.names (D.bytes disk.old) (D.image disk.old)
         (D.image disk.new) (end_in result) }
+    ensures journal_cause { HasJournalCause (end_in result) config.now.names (D.bytes disk.old)
+        (D.image disk.old) (D.image disk.new) }
     ensures foreign { OnErr result (IfSome (D.bytes disk.old) (λ b. IsForeign config.now.names b →
         IsUntouched (OnlyReads D.bytes D.image disk.old disk.new)
         (records (C.recorded client.old) (V.recorded venue.old))
@@ -453,9 +461,13 @@ pub fn live<D: Disk, C: Wire, V: Wire, K: Clock>(
         HasOneImage (D.bytes disk.new) (D.image disk.new) }
     // Each tap saw the entries that this life committed, in order, and no others: each image is the
     // journal at entry and then what was shown. Only a disk fault may leave one more, not shown.
-    ensures taps { TapsSaw (state_by has_failed entries tally counts_all) taps.old.items
+    ensures taps { TapsSaw (state_by has_failed entries tally counts_all refused) taps.old.items
         taps.new.items config.now.names (D.bytes disk.old) (D.image disk.old)
         (D.image disk.new) result }
+    // A full journal has no room for what some event decides behind its entries, and of spent
+    // numbers the next is the last, or past it, whatever the wires and the clock tell.
+    ensures journal_cause { HasJournalCause result config.now.names (D.bytes disk.old)
+        (D.image disk.old) (D.image disk.new) }
     // Each wire was polled once a round.
     ensures client_polls { result ≡ LifeEnd.Done →
         C.polls client.new ≡ counted_on rounds (C.polls client.old) }

@@ -24,6 +24,7 @@ ghost use Rattle.gateway_life.specs.Turned.{Turned, TurnBroken, record_on, polls
 ghost use Rattle.gateway_life.specs.Stepped.{IsOfEvent};
 ghost use Rattle.drop_taps.specs.Shown.{state_by};
 ghost use Rattle.gateway_life.specs.Watched.{Watched, WereCommitted};
+ghost use Rattle.gateway_life.specs.Causes.{IsCauseIn};
 
 use crate::LifeEnd;
 use crate::engine::Engine;
@@ -74,13 +75,14 @@ fn frame_event<D: Disk, C: Wire, V: Wire>(
         (world_of (seen engine.old)) (Frame side body.now) now
         (records (C.recorded client.old) (V.recorded venue.old))
         (records (C.recorded client.new) (V.recorded venue.new)))) }
-    ensures taps { Watched (state_by has_failed entries tally counts_all)
+    ensures taps { Watched (state_by has_failed entries tally counts_all refused)
         taps.old.items taps.new.items engine.old.journal.entries
         engine.new.journal.entries }
     ensures kept { IfErr result (λ end. LeavesOf (D.bytes disk.old) (D.image disk.old)
         (D.image disk.new) engine.old.core.config.names
         (WereCommitted end engine.new.journal.entries)) }
     ensures only { IfErr result IsOfEvent }
+    ensures journal_cause { IfErr result (λ end. IsCauseIn end (seen engine.new)) }
     ensures told { is_some (D.bytes disk.new) ≡ is_some (D.bytes disk.old) }
     ensures cause { HasCauseOf (D.faults disk.old) (D.faults disk.new) result }
     ensures client_polls { C.polls client.new ≡ C.polls client.old }
@@ -128,13 +130,14 @@ fn take_frames<D: Disk, C: Wire, V: Wire>(
         engine.old.core.config (world_of (seen engine.old)) side now
         (records (C.recorded client.old) (V.recorded venue.old))
         (records (C.recorded client.new) (V.recorded venue.new)))) }
-    ensures taps { Watched (state_by has_failed entries tally counts_all)
+    ensures taps { Watched (state_by has_failed entries tally counts_all refused)
         taps.old.items taps.new.items engine.old.journal.entries
         engine.new.journal.entries }
     ensures kept { IfErr result (λ end. LeavesOf (D.bytes disk.old) (D.image disk.old)
         (D.image disk.new) engine.old.core.config.names
         (WereCommitted end engine.new.journal.entries)) }
     ensures only { IfErr result IsOfEvent }
+    ensures journal_cause { IfErr result (λ end. IsCauseIn end (seen engine.new)) }
     ensures told { is_some (D.bytes disk.new) ≡ is_some (D.bytes disk.old) }
     ensures cause { HasCauseOf (D.faults disk.old) (D.faults disk.new) result }
     ensures client_polls { C.polls client.new ≡ C.polls client.old }
@@ -194,13 +197,14 @@ fn arrived<D: Disk, C: Wire, V: Wire>(
         (came_of found buf.now) engine.old.core.config (world_of (seen engine.old)) side now
         (records (C.recorded client.old) (V.recorded venue.old))
         (records (C.recorded client.new) (V.recorded venue.new)))) }
-    ensures taps { Watched (state_by has_failed entries tally counts_all)
+    ensures taps { Watched (state_by has_failed entries tally counts_all refused)
         taps.old.items taps.new.items engine.old.journal.entries
         engine.new.journal.entries }
     ensures kept { IfErr result (λ end. LeavesOf (D.bytes disk.old) (D.image disk.old)
         (D.image disk.new) engine.old.core.config.names
         (WereCommitted end engine.new.journal.entries)) }
     ensures only { IfErr result IsOfEvent }
+    ensures journal_cause { IfErr result (λ end. IsCauseIn end (seen engine.new)) }
     ensures told { is_some (D.bytes disk.new) ≡ is_some (D.bytes disk.old) }
     ensures cause { HasCauseOf (D.faults disk.old) (D.faults disk.new) result }
     ensures client_polls { C.polls client.new ≡ C.polls client.old }
@@ -316,13 +320,14 @@ pub(crate) fn turn<D: Disk, C: Wire, V: Wire>(
         framer.old engine.old.core.config (world_of (seen engine.old)) now
         (records (C.recorded client.old) (V.recorded venue.old))
         (records (C.recorded client.new) (V.recorded venue.new)))) }
-    ensures taps { Watched (state_by has_failed entries tally counts_all)
+    ensures taps { Watched (state_by has_failed entries tally counts_all refused)
         taps.old.items taps.new.items engine.old.journal.entries
         engine.new.journal.entries }
     ensures kept { IfErr result (λ end. LeavesOf (D.bytes disk.old) (D.image disk.old)
         (D.image disk.new) engine.old.core.config.names
         (WereCommitted end engine.new.journal.entries)) }
     ensures only { IfErr result IsOfEvent }
+    ensures journal_cause { IfErr result (λ end. IsCauseIn end (seen engine.new)) }
     ensures told { is_some (D.bytes disk.new) ≡ is_some (D.bytes disk.old) }
     ensures cause { HasCauseOf (D.faults disk.old) (D.faults disk.new) result }
     ensures client_polls { C.polls client.new

@@ -23,6 +23,7 @@ use Rattle.gateway_life.specs.Life.{Done, Did, Ends, IsJournal, IsAnswered}
 use Rattle.gateway_life.specs.Life.{IfRefused, IsForeign, IsIdle}
 use Rattle.gateway_life.specs.Life.{counted_on}
 use Rattle.gateway_life.specs.Laws.{LeavesImage}
+use Rattle.gateway_life.specs.Causes.{HasJournalCause}
 use Rattle.gateway_serve.specs.declared.error.ServeError.{ServeError}
 use Rattle.gateway_serve.specs.declared.error.ServeError.TheVariants as errors
 
@@ -90,6 +91,9 @@ pub record Lived (end : LifeEnd) (config : Config) (rounds : ℕ) (before after 
   pub foreign : IfSome old.bytes (λ bytes. IsForeign config.names bytes →
       IsIdle (OnlyRead old.bytes new.bytes before after)
       old.client new.client old.venue new.venue old.moments new.moments)
+  -- A full journal has no room for what some event decides behind its entries, and of spent numbers
+  -- the next is the last, or past it, whatever the wires and the clock tell.
+  pub journal_cause : HasJournalCause end config.names old.bytes before after
   -- A life that came to its end leaves one image, from which the next one goes on.
   pub durable : end ≡ life.Done → HasOneImage old.bytes before → HasOneImage new.bytes after
   -- Each wire was polled once a round.

@@ -76,8 +76,8 @@ pub fn serve<I: Source, D: Disk, C: Wire, V: Wire, K: Clock>(
           client_polls = C.polls client.new;
           venue_polls = V.polls venue.new;
         })
-        × TapsSaw (state_by has_failed entries tally counts_all) taps.old.items taps.new.items
-        config.names (D.bytes disk.old) (D.image disk.old) (D.image disk.new) end) }
+        × TapsSaw (state_by has_failed entries tally counts_all refused) taps.old.items
+        taps.new.items config.names (D.bytes disk.old) (D.image disk.old) (D.image disk.new) end) }
     ensures ended { OnOk result (I.ended input.new ≡ true) }
     ensures disk { OnErr result (disk.new ≡ disk.old) }
     ensures client { OnErr result (client.new ≡ client.old) }

@@ -208,8 +208,8 @@ pub fn run<I: Source, O: Sink, D: Disk, C: Wire, V: Wire, K: Clock>(
           client_polls = C.polls client.new;
           venue_polls = V.polls venue.new;
         })
-        × TapsSaw (state_by has_failed entries tally counts_all) taps.old.items taps.new.items
-        config.names (D.bytes disk.old) (D.image disk.old) (D.image disk.new) end)) }
+        × TapsSaw (state_by has_failed entries tally counts_all refused) taps.old.items
+        taps.new.items config.names (D.bytes disk.old) (D.image disk.old) (D.image disk.new) end)) }
 
     // What `show` put of the journal, which it only read.
     ensures shows { IfShow (command_of (map string_bytes words.now))
@@ -221,12 +221,12 @@ pub fn run<I: Source, O: Sink, D: Disk, C: Wire, V: Wire, K: Clock>(
     ensures replays { IfReplay (command_of (map string_bytes words.now))
         ((taken : List ℕ) × Consumes (I.left input.old) (I.left input.new) taken
         × ReplayedBy result (λ answer. Replayed
-        (state_by has_failed entries tally counts_all) taken (I.left input.new)
+        (state_by has_failed entries tally counts_all refused) taken (I.left input.new)
         taps.old.items taps.new.items answer (O.bytes out.old) (O.bytes out.new))) }
 
     // What `drill` lived and put.
     ensures drills { IfDrill (command_of (map string_bytes words.now)) (λ first count.
-        DrilledBy result (λ answer. Drills (state_by has_failed entries tally counts_all)
+        DrilledBy result (λ answer. Drills (state_by has_failed entries tally counts_all refused)
         first count taps.old.items taps.new.items answer (O.bytes out.old) (O.bytes out.new))) }
 
     // What a command does not call is as it was.

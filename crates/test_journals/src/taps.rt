@@ -200,12 +200,18 @@ fn last_kept(tap: &KeepTap) -> Option<(usize, Next, usize)> {
     Some((tap.entries().len(), last.next, last.outs.as_slice().len()))
 }
 
+/// The next numbers of the entry at which a tap failed.
+fn next_refused(tap: &KeepTap) -> Option<Next> {
+    tap.refused().map(|entry| entry.next)
+}
+
 #[test]
 fn a_tap_keeps_what_it_was_shown(rt: HostRuntime) -> Result<(), Fail> {
     let fail = vec![in rt.alloc(); 4]?;
     let mut tap = KeepTap::new(rt.alloc(), fail);
     show_rows(rt.alloc(), &mut tap, &DAY)?;
     assert_eq!(rt; last_kept(&tap), Some((3, (2, 2, 2, 2), 1)));
+    assert_eq!(rt; next_refused(&tap), Some((3, 2, 2, 3)));
     Ok(())
 }
 

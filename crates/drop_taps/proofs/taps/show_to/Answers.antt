@@ -12,3 +12,4 @@ returns g c =
     let seen = c.tell.ensures in
     saw_one _ _ _ c.args.tap.now c.tell.new.tap c.args.entry.now c.tell.result
     (sym c.is_failed.ensures ∙ c.if-is_failed.false) seen.entries seen.tally seen.counts seen.failed
+    seen.refused

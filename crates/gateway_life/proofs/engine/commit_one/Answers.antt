@@ -1,6 +1,6 @@
 use Rattle.std.proofs.Common.{◌≡◌, sym, subst, refl}
 use Rattle.gateway_life.specs.Ready.{LeavesOf}
-use Rattle.gateway_life.proofs.Deciding.{commit_left, left_alone}
+use Rattle.gateway_life.proofs.Deciding.{commit_left, commit_why, left_alone}
 use Rattle.gateway_life.proofs.engine.commit_one.Goals as goal
 
 pub returns-clause-images : goal.returns-clause-images
@@ -12,3 +12,8 @@ returns-clause-images g c =
     (g.D.Disk.image d) old.names (λ xs. xs ≡ old.entries)) (sym (c.commit.ensures.full e))
     (left_alone _ _ old.names old.names old.entries (λ xs. xs ≡ old.entries) refl
     c.requires.stands refl))
+
+pub returns-clause-why : goal.returns-clause-why
+returns-clause-why g c =
+    commit_why c.args.journal.now _ c.args.prepared c.commit.result c.payload.ensures.sound
+    c.commit.ensures.commits

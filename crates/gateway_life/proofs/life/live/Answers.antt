@@ -63,3 +63,9 @@ returns-in-Ok-clause-taps g c = c.in-Ok.ensures.taps
 
 pub returns-in-Err-clause-taps : goal.returns-in-Err-clause-taps
 returns-in-Err-clause-taps g c = c.in-Err.ensures.taps
+
+pub returns-in-Ok-clause-journal_cause : goal.returns-in-Ok-clause-journal_cause
+returns-in-Ok-clause-journal_cause g c = c.in-Ok.ensures.journal_cause
+
+pub returns-in-Err-clause-journal_cause : goal.returns-in-Err-clause-journal_cause
+returns-in-Err-clause-journal_cause g c = c.in-Err.ensures.journal_cause

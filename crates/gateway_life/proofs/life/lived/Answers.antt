@@ -1,9 +1,10 @@
-use Rattle.std.proofs.Common.{ap}
+use Rattle.std.proofs.Common.{ap, ◌∙◌}
 use Rattle.gateway_config.specs.declared.config.Config.{Config}
 use Rattle.gateway_life.proofs.Living.{lived_unbegun, lived_whole, lived_stopped}
 use Rattle.gateway_life.proofs.Living.{unbegun_foreign, begun_not_foreign}
 use Rattle.gateway_life.proofs.Living.{unbegun_refused, refused_events}
 use Rattle.gateway_life.proofs.TapsShown.{taps_unbegun, taps_whole}
+use Rattle.gateway_life.proofs.Caused.{cause_unbegun, cause_whole}
 use Rattle.gateway_life.proofs.life.lived.Goals as goal
 
 pub returns-in_err-life-clause-ends : goal.returns-in_err-life-clause-ends
@@ -40,6 +41,23 @@ returns-clause-taps g c =
     c.in_ok-life.ensures.begins c.begin.ensures.told c.in_ok-life.ensures.durable
     c.whole.ensures.told c.whole.ensures.durable c.whole.ensures.stands c.whole.ensures.kept
     c.whole.ensures.only c.whole.ensures.taps
+
+pub returns-in_err-life-clause-journal_cause : goal.returns-in_err-life-clause-journal_cause
+returns-in_err-life-clause-journal_cause g c =
+    cause_unbegun c.an_image_has_one_reading.ensures c.from_residual.result c.in_err-life.field-0.0
+    c.args.config.now.names (g.D.Disk.bytes c.args.disk.now) _ _ c.from_residual.ensures.1
+    c.in_err-life.ensures.begins c.begin.ensures.images
+
+pub returns-clause-journal_cause : goal.returns-clause-journal_cause
+returns-clause-journal_cause g c =
+    cause_whole c.an_image_has_one_reading.ensures _ c.whole.result _ _ c.args.config.now.names
+    c.in_ok-life.life.engine.core.config.names (g.D.Disk.bytes c.args.disk.now)
+    (g.D.Disk.bytes c.begin.new.disk) (g.D.Disk.bytes c.whole.new.disk) _ _ _ c.in_ok-life.life
+    c.whole.new.self (ap (λ (k : Config). k.names) c.in_ok-life.ensures.config)
+    c.in_ok-life.ensures.begins c.begin.ensures.told c.in_ok-life.ensures.durable
+    c.whole.ensures.told c.whole.ensures.durable c.whole.ensures.stands c.whole.ensures.kept
+    c.whole.ensures.taps (ap (λ (k : Config). k.names)
+    (c.whole.ensures.config ∙ c.in_ok-life.ensures.config)) c.whole.ensures.journal_cause
 
 pub returns-in_err-life-clause-foreign : goal.returns-in_err-life-clause-foreign
 returns-in_err-life-clause-foreign g c =

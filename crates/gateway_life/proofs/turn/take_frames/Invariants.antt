@@ -38,6 +38,7 @@ invariant-frames g l = record {
   taps : Watched (state_by (λ tap. (goal.Tap-dyn g (tap.vtable, tap.value)).has_failed tap.value)
       (λ tap. (goal.Tap-dyn g (tap.vtable, tap.value)).entries tap.value)
       (λ tap. (goal.Tap-dyn g (tap.vtable, tap.value)).tally tap.value)
-      (λ tap. (goal.Tap-dyn g (tap.vtable, tap.value)).counts_all tap.value))
+      (λ tap. (goal.Tap-dyn g (tap.vtable, tap.value)).counts_all tap.value)
+      (λ tap. (goal.Tap-dyn g (tap.vtable, tap.value)).refused tap.value))
       l.initial.taps.items l.taps.items l.initial.engine.journal.entries l.engine.journal.entries;
 }

@@ -24,6 +24,7 @@ returns-clause-serves g c =
             begins = live.begins;
             idle = live.idle;
             foreign = live.foreign;
+            journal_cause = live.journal_cause;
             durable = live.durable;
             client_polls = live.client_polls;
             venue_polls = live.venue_polls;

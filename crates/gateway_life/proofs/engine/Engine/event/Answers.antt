@@ -10,6 +10,7 @@ use Rattle.gateway_life.proofs.Acting.{stepped, broken_parts, made_ends}
 use Rattle.gateway_life.proofs.Acting.{act_ends}
 use Rattle.gateway_life.proofs.Deciding.{left_after}
 use Rattle.gateway_life.proofs.Watching.{watched_none, made_kept, act_kept}
+use Rattle.gateway_life.proofs.Caused.{made_cause, act_cause}
 use Rattle.gateway_life.proofs.engine.Engine.event.Goals as goal
 
 pub returns-clause-happens : goal.returns-clause-happens
@@ -94,3 +95,17 @@ returns-in_err-act-clause-kept g c =
     (left_after (g.D.Disk.bytes c.args.disk.now) (g.D.Disk.bytes c.decide.new.disk) _ _
     c.decide.new.self.journal.names config.names c.decide.new.self.journal.entries made.told
     made.durable made.ready.stands (made.ready.names ∙ ap (λ k. k.names) made.config))
+
+pub returns-in_err-made-clause-journal_cause : goal.returns-in_err-made-clause-journal_cause
+returns-in_err-made-clause-journal_cause g c =
+    made_cause c.two_numbers_are_enough.ensures c.each_message_takes_a_number.ensures
+    c.from_residual.result c.in_err-made.field-0.0
+    c.args.self.now.core.config c.decide.new.self.core.config (world_of (seen c.args.self.now))
+    (world_of (seen c.decide.new.self)) (event_of c.args.event.now) c.args.now
+    c.from_residual.ensures.1 c.decide.ensures.config c.in_err-made.ensures.refused.0
+    c.requires.ready.ready.sides c.requires.ready.ready.numbers c.in_err-made.ensures.why
+
+pub returns-in_err-act-clause-journal_cause : goal.returns-in_err-act-clause-journal_cause
+returns-in_err-act-clause-journal_cause g c =
+    act_cause c.from_residual-in_err-act.result c.in_err-act.field-0.0 _ _
+    c.from_residual-in_err-act.ensures.1 c.in_err-act.ensures.only
