@@ -12,7 +12,7 @@ use Rattle.wires.specs.Wire.{WireCall}
 use Rattle.gateway_life.specs.declared.end.LifeEnd.{LifeEnd}
 use Rattle.gateway_config.specs.declared.config.Config.{Config}
 use Rattle.gateway_life.specs.Life.{IsJournal}
-use Rattle.gateway_life.specs.Laws.{FirstLivesGoOn}
+use Rattle.gateway_life.specs.Laws.{FirstLivesBegin}
 use Rattle.drop_taps.specs.Shown.{TapState, HaveSeen}
 use Rattle.capture_text.specs.declared.capture.Event.{Event}
 use Rattle.capture_text.specs.Capture.{IsCapture}
@@ -47,7 +47,7 @@ module _ {T : Type 0} (state : T → TapState) (first count : ℕ) (seen now : L
     (names : Names) (heart : ℕ) (lines : List Event) (bytes : List ℕ) (none : bytes ≡ [])
     (is : config ≡ config_with names heart) (of_names : names ≡ drill_names)
     (of_heart : heart ≡ drill_heart) (of_lines : lines ≡ drill_events first count)
-    (go_on : FirstLivesGoOn) (sound : IsCapture (drill_capture first count))
+    (begin : FirstLivesBegin) (sound : IsCapture (drill_capture first count))
     (lives : LivesOn state config lines 0 bytes seen now client venue end image) where
   same : config ≡ config_with drill_names drill_heart
   same = is ∙ ap (λ (n : Names). config_with n heart) of_names
@@ -62,12 +62,12 @@ module _ {T : Type 0} (state : T → TapState) (first count : ℕ) (seen now : L
       (subst (λ (k : Config). LivesOn state k lines 0 [] seen now client venue end image) same
       (subst (λ (b : List ℕ). LivesOn state config lines 0 b seen now client venue end image) none
       lives))
-      nothing refl (nothing_stands drill_names)
-      (go_on drill_names (are_shown (drill_capture first count) sound))
+      nothing refl (nothing_stands drill_names) (are_shown (drill_capture first count) sound)
+      (begin drill_names)
 
   -- and leaves a journal
   pub day_left : (left : Names) × (entries : List Entry) × IsJournal left entries image
-  day_left = (drill_names, _, day_lived.played.left.journal)
+  day_left = (drill_names, _, day_lived.played.is_left.journal)
 
 -- its lines are within their bounds
 pub day_bounded : (first count : ℕ) (lines : List Event) → lines ≡ drill_events first count
@@ -100,8 +100,7 @@ module _ {T : Type 0} (state : T → TapState) (first count : ℕ) (seen now : L
   kinds_are = let of = kinds_of first count in (of.filled, of.busted, of.corrected, of.rejected)
 
   stands : IsJournal drill_names lived.entries image
-  stands = subst (λ (es : List Entry). IsJournal drill_names es image) (sym lived.played.entries)
-      lived.played.left.journal
+  stands = lived.played.is_left.journal
 
   pub drilled : (result : Result ⊤ PrintError) (old new : Option (List ℕ)) (entries : ℕ)
       (numbers kinds : ℕ × ℕ × ℕ × ℕ) (name : List ℕ) → kinds ≡ kinds_are → name ≡ end_name end

@@ -16,7 +16,9 @@ use Rattle.pair_journal.specs.Numbers.{first_numbers, numbers_after}
 use Rattle.gateway_config.specs.declared.config.Config.{Config}
 use Rattle.gateway_life.specs.declared.end.LifeEnd.{LifeEnd}
 use Rattle.gateway_life.specs.Life.{IsJournal}
-use Rattle.gateway_life.specs.Laws.{GoesOnFrom, AreShown, FirstLivesGoOn, NextLivesGoOn}
+use Rattle.message_answers.specs.Answer.{Answers}
+use Rattle.life_laws.specs.Justified.{Leaves}
+use Rattle.gateway_life.specs.Laws.{AreShown, FirstLivesBegin}
 use Rattle.drop_taps.specs.Shown.{TapState, HaveSeen}
 use Rattle.order_meaning.specs.declared.names.Names.{Names}
 use Rattle.drop_taps.proofs.Showing.{seen_none}
@@ -140,30 +142,21 @@ module _ {T : Type 0} (state : T → TapState) (capture : Capture)
       (let e = so_far.all in omega (arith, e))
 
   -- it was printed
-  pub next_so_far : (next : Option (List ℕ)) → NextLivesGoOn → AreShown capture.names
-      → Appends new next (lines_of (count + 1) life)
+  pub next_so_far : (next : Option (List ℕ)) → Appends new next (lines_of (count + 1) life)
       → SoFar state capture (count + 1) life.moment seen now life.image old next
-  next_so_far next go_on shown put =
-      let left = is.left in
-      record {
-        played = longer;
-        all = let e = length_push so_far.played life in let f = so_far.all in omega (arith, e, f);
-        are = are_longer;
-        journal = subst (λ (l : Left). IsJournal capture.names l.entries life.image)
-            (sym (left_more nothing so_far.played life))
-            (subst (λ (es : List Entry). IsJournal capture.names es life.image) (sym is.entries)
-            left.journal);
-        goes_on = subst (λ (l : Left). GoesOnFrom capture.names l.entries l.client l.venue)
-            (sym (left_more nothing so_far.played life))
-            (subst (λ (es : List Entry). GoesOnFrom capture.names es
-            (after (left_after nothing so_far.played) life).client
-            (after (left_after nothing so_far.played) life).venue) (sym is.entries)
-            (go_on capture.names life.image _ _ shown left));
-        moment = ap (λ (l : Left). l.moment) (left_more nothing so_far.played life);
-        put = subst (λ (l : List ℕ). Appends old next l) (sym text_longer)
-            (Appends-trans old new next (lives_lines 1 so_far.played) (lines_of (count + 1) life)
-            so_far.put put);
-      }
+  next_so_far next put = record {
+    played = longer;
+    all = let e = length_push so_far.played life in let f = so_far.all in omega (arith, e, f);
+    are = are_longer;
+    journal = subst (λ (l : Left). IsJournal capture.names l.entries life.image)
+        (sym (left_more nothing so_far.played life)) is.is_left.journal;
+    leaves = subst (λ (l : Left). Leaves Answers capture.names l.entries l.client l.venue)
+        (sym (left_more nothing so_far.played life)) is.leaves;
+    moment = ap (λ (l : Left). l.moment) (left_more nothing so_far.played life);
+    put = subst (λ (l : List ℕ). Appends old next l) (sym text_longer)
+        (Appends-trans old new next (lives_lines 1 so_far.played) (lines_of (count + 1) life)
+        so_far.put put);
+  }
 
   -- a front of it was
   pub front_longer : (next : Option (List ℕ)) → AppendsFront new next (lines_of (count + 1) life)
@@ -201,15 +194,15 @@ module _ {T : Type 0} (state : T → TapState) (capture : Capture)
 
 module _ {T : Type 0} (state : T → TapState) (capture : Capture) where
   -- nothing was played yet
-  pub none_yet : (seen : List T) (image : List ℕ) (old : Option (List ℕ)) → FirstLivesGoOn
-      → AreShown capture.names → image ≡ [] → SoFar state capture 0 0 seen seen image old old
-  none_yet seen image old go_on shown none = record {
+  pub none_yet : (seen : List T) (image : List ℕ) (old : Option (List ℕ)) → FirstLivesBegin
+      → image ≡ [] → SoFar state capture 0 0 seen seen image old old
+  none_yet seen image old first none = record {
     played = [];
     all = refl;
     are = refl;
     journal = subst (λ (i : List ℕ). IsJournal capture.names [] i) (sym none)
         (inr (inl (omega arith), refl));
-    goes_on = go_on capture.names shown;
+    leaves = first capture.names;
     moment = refl;
     put = Appends-nil old;
   }
@@ -220,14 +213,14 @@ module _ {T : Type 0} (state : T → TapState) (capture : Capture) where
     -- a life over what they have left
     pub lived_on : (config : Config) (lines : List Event) (later : List T)
         (client venue : Option (List WireCall)) (end : LifeEnd) (left : List ℕ)
-        → config ≡ config_of capture
+        → config ≡ config_of capture → AreShown capture.names
         → LivesOn state config lines clock image between later client venue end left
         → IsLived state (config_of capture) lines (left_after nothing so_far.played) between later
         client venue end left
-    lived_on config lines later client venue end left is lives =
+    lived_on config lines later client venue end left is shown lives =
         subst (λ (k : Config). LivesOn state k lines clock image between later client venue end
-        left) is lives (left_after nothing so_far.played) so_far.moment so_far.journal
-        so_far.goes_on
+        left) is lives (left_after nothing so_far.played) so_far.moment so_far.journal shown
+        so_far.leaves
 
     module _ (lines : List Event) (client venue : Option (List WireCall)) (end : LifeEnd)
         (left : List ℕ) (client_calls venue_calls : List WireCall) (name : List ℕ)
@@ -252,15 +245,15 @@ module _ {T : Type 0} (state : T → TapState) (capture : Capture) where
 
       -- it was lived and printed
       pub gone_on : (later : ℕ) → later ≡ moment_after clock lines → (next : Option (List ℕ))
-          → NextLivesGoOn → AreShown capture.names → Appends new next
+          → Appends new next
           (life_lines (count + 1) (pieces_of client_calls) (pieces_of venue_calls) name)
           → SoFar state capture (count + 1) later seen now left old next
-      gone_on later is next go_on shown put =
+      gone_on later is next put =
           subst (λ (m : ℕ). SoFar state capture (count + 1) m seen now left old next)
           (ap (λ (m : ℕ). moment_after m lines) so_far.moment ∙ sym is)
           (next_so_far state capture count clock seen between now image old new
           so_far lines life lived.more within there lived.played lived.committed lived.saw next
-          go_on shown (subst (λ (l : List ℕ). Appends new next l) text put))
+          (subst (λ (l : List ℕ). Appends new next l) text put))
 
       -- it was lived, and a front of its lines was put
       pub broken_off : (told : Result ⊤ PrintError) → IsErr told → (error : PrintError)

@@ -11,17 +11,19 @@ use Rattle.outside.specs.declared.mem_disk.Fuse.{Fuse}
 use Rattle.order_meaning.specs.declared.Side.{Side}
 use Rattle.order_meaning.specs.declared.Side.TheVariants.{Client, Venue}
 use Rattle.pair_entries.specs.declared.entry.Entry.{Entry}
-use Rattle.wires.specs.Wire.{Came, WireCall, Connection}
+use Rattle.wires.specs.Wire.{Came, WireCall}
 use Rattle.wires.specs.Script.{item_of, Plays}
 use Rattle.wires.specs.Clock.{ClockState, moments_given, moments_told}
 use Rattle.wires.specs.MemWire.{WireState, calls_told, plays}
 use Rattle.wires.specs.MemWire as wires
 use Rattle.wires.specs.declared.script.Script.{Script}
-use Rattle.life_laws.specs.Justified.{transcript_from}
+use Rattle.message_answers.specs.Answer.{Answers}
+use Rattle.life_laws.specs.Justified.{Leaves}
 use Rattle.gateway_config.specs.declared.config.Config.{Config}
 use Rattle.gateway_life.specs.declared.end.LifeEnd.{LifeEnd}
-use Rattle.gateway_life.specs.Life.{Done, Did, Ends, IsJournal}
-use Rattle.gateway_life.specs.Laws.{GoesOnFrom, LeavesImage}
+use Rattle.gateway_life.specs.Life.{Done, IsJournal}
+use Rattle.gateway_life.specs.Laws.{AreShown}
+use Rattle.gateway_life.specs.Lived.{Told, told, Premises, IsLeft}
 use Rattle.drop_taps.specs.Shown.{TapState}
 use Rattle.gateway_life.specs.Watched.{TapsSaw, WereCommitted}
 use Rattle.gateway_life.specs.declared.end.LifeEnd.TheVariants as ends
@@ -85,49 +87,67 @@ committed ends.JournalFull known found whole were = were
 committed (ends.NumbersSpent side) known found whole were = were
 committed ends.NoMemory known found whole were = were
 
-module _ (config : Config) (lines : List Event) (before : Left) (bytes image : List ℕ)
-    (disk : DiskState) (client venue : WireState) (clock : ClockState) (end : LifeEnd)
-    (rounds : ℕ) (listed : List ℕ)
+-- what a disk, wires and a clock in memory tell
+abbrev pub told_of : DiskState → (client venue : WireState) → ClockState → Told
+told_of disk client venue clock = told (Some disk.bytes) client.recorded venue.recorded
+    (moments_told clock) client.polls venue.polls
+
+-- what `live` says of forms in memory, between what contracts see of them before and after
+pub record LiveSays {T : Type 0} (state : T → TapState) (seen now : List T) (config : Config)
+    (disk0 disk : DiskState) (client0 client venue0 venue : WireState) (clock0 clock : ClockState)
+    (end : LifeEnd) (rounds : ℕ) : Type 0 where
+  pub taps : TapsSaw state seen now config.names (Some disk0.bytes) (IsImageOf disk0)
+      (IsImageOf disk) end
+  pub images : (given : Premises config.names (IsImageOf disk0)
+      (told_of disk0 client0 venue0 clock0) (told_of disk client venue clock))
+      → (image : List ℕ) → IsImageOf disk image
+      → (entries : List Entry) × IsLeft end config given.before rounds given.did image entries
+  pub client_plays : (script : List Came) → plays client0 script → plays client script
+  pub venue_plays : (script : List Came) → plays venue0 script → plays venue script
+  pub follows : (listed : List ℕ) → clock0.listed ≡ listed → clock.listed ≡ listed
+
+module _ {T : Type 0} (state : T → TapState) (seen now : List T) (config : Config)
+    (lines : List Event) (before : Left) (bytes image : List ℕ) (disk : DiskState)
+    (client venue : WireState) (clock : ClockState) (end : LifeEnd) (rounds : ℕ)
+    (fail fail_client fail_venue listed : List ℕ) (fuse : Fuse)
+    (client_items venue_items : List Script)
+    (says : LiveSays state seen now config (fresh bytes fail fuse) disk
+    (wires.fresh client_items fail_client) client (wires.fresh venue_items fail_venue) venue
+    (record { listed = listed; asked = 0 }) clock end rounds)
     (client_told : is_none client.recorded ≡ false) (venue_told : is_none venue.recorded ≡ false)
     (clock_told : is_some (moments_told clock) ≡ true) where
-  did : Did (Some []) client.recorded (Some []) venue.recorded
-      (moments_told (record { listed = listed; asked = 0 })) (moments_told clock)
-      (done client venue clock)
-  did = record {
+  premises : IsJournal config.names before.entries bytes
+      → Premises config.names (IsImageOf (fresh bytes fail fuse))
+      (told_of (fresh bytes fail fuse) (wires.fresh client_items fail_client)
+      (wires.fresh venue_items fail_venue) (record { listed = listed; asked = 0 }))
+      (told_of disk client venue clock)
+  premises journal = record {
+    bytes = bytes;
+    tells = refl;
+    only = only_fresh bytes fail fuse;
+    before = before.entries;
+    journal = journal;
+    did = done client venue clock;
     client = ([], refl, told_calls client.recorded client_told);
     venue = ([], refl, told_calls venue.recorded venue_told);
     clock = ([], refl, told_moments clock clock_told);
   }
 
-  pub lived : {T : Type 0} (state : T → TapState) (seen now : List T)
-      → ((i : List ℕ) → HasOneReading i) → (fail : List ℕ) (fuse : Fuse)
-      → TapsSaw state seen now config.names (Some bytes) (IsImageOf (fresh bytes fail fuse))
-      (IsImageOf disk) end
-      → (Only bytes (IsImageOf (fresh bytes fail fuse)) → (entries : List Entry)
-      → IsJournal config.names entries bytes → (d : Done)
-      → Did (Some []) client.recorded (Some []) venue.recorded
-      (moments_told (record { listed = listed; asked = 0 })) (moments_told clock) d
-      → (i : List ℕ) → IsImageOf disk i → Ends end config entries rounds d i)
-      → (Only bytes (IsImageOf (fresh bytes fail fuse)) → (entries : List Entry)
-      → IsJournal config.names entries bytes → (client_side venue_side : List Connection)
-      → GoesOnFrom config.names entries client_side venue_side → (d : Done)
-      → Did (Some []) client.recorded (Some []) venue.recorded
-      (moments_told (record { listed = listed; asked = 0 })) (moments_told clock) d
-      → (i : List ℕ) → IsImageOf disk i → LeavesImage config.names i
-      (transcript_from client_side d.client) (transcript_from venue_side d.venue))
+  pub lived : ((i : List ℕ) → HasOneReading i)
       → plays client (script_of Client lines) → plays venue (script_of Venue lines)
       → clock.listed ≡ moments_from before.moment lines → rounds ≡ length (filter is_round lines)
       → IsImageOf disk image → is_fault end ≡ false
-      → IsJournal config.names before.entries bytes
-      → GoesOnFrom config.names before.entries before.client before.venue
+      → IsJournal config.names before.entries bytes → AreShown config.names
+      → Leaves Answers config.names before.entries before.client before.venue
       → IsLived state config lines before seen now client.recorded venue.recorded end image
-  lived state seen now one fail fuse saw ends leaves client_plays venue_plays follows count among
-      whole journal goes_on =
-      let left = leaves (only_fresh bytes fail fuse) before.entries journal before.client
-      before.venue goes_on (done client venue clock) did image among in
+  unfolding premises
+  lived one client_plays venue_plays follows count among whole journal shown leaves =
+      let (entries, left) = says.images (premises journal) image among in
+      let accounts = left.accounts before.client before.venue leaves in
+      let saw = says.taps in
       record {
         did = done client venue clock;
-        entries = left.entries;
+        entries = entries;
         client_told = told_calls client.recorded client_told;
         venue_told = told_calls venue.recorded venue_told;
         played = record {
@@ -136,43 +156,20 @@ module _ (config : Config) (lines : List Event) (before : Left) (bytes image : L
           venue = played venue (calls_told venue.recorded) (script_of Venue lines)
               (told_calls venue.recorded venue_told) venue_plays;
           moments = (clock.asked, ap (λ l. moments_given l clock.asked) follows);
-          ends = subst (λ n. Ends end config before.entries n (done client venue clock) image) count
-              (ends (only_fresh bytes fail fuse) before.entries journal (done client venue clock)
-              did image among);
-          left = left;
-          entries = refl;
+          is_left = subst (λ n. IsLeft end config before.entries n (done client venue clock) image
+              entries) count left;
+          leaves = accounts.leaves;
+          taken = accounts.taken shown;
           moment = refl;
           whole = whole;
         };
         more = saw.more;
         committed = let (found, is, were) = saw.left (only_fresh bytes fail fuse) before.entries
             journal image among in
-            same_journal one config.names image left.entries found left.journal is
+            same_journal one config.names image entries found left.journal is
             ∙ committed end (before.entries ++ saw.more) found whole were;
         saw = saw.seen;
       }
-
--- what `live` says of forms in memory, between what contracts see of them before and after
-pub record LiveSays {T : Type 0} (state : T → TapState) (seen now : List T) (config : Config)
-    (disk0 disk : DiskState) (client0 client venue0 venue : WireState) (clock0 clock : ClockState)
-    (end : LifeEnd) (rounds : ℕ) : Type 0 where
-  pub taps : TapsSaw state seen now config.names (Some disk0.bytes) (IsImageOf disk0)
-      (IsImageOf disk) end
-  pub ends : Only disk0.bytes (IsImageOf disk0) → (entries : List Entry)
-      → IsJournal config.names entries disk0.bytes → (d : Done)
-      → Did client0.recorded client.recorded venue0.recorded venue.recorded
-      (moments_told clock0) (moments_told clock) d
-      → (i : List ℕ) → IsImageOf disk i → Ends end config entries rounds d i
-  pub leaves : Only disk0.bytes (IsImageOf disk0) → (entries : List Entry)
-      → IsJournal config.names entries disk0.bytes → (client_side venue_side : List Connection)
-      → GoesOnFrom config.names entries client_side venue_side → (d : Done)
-      → Did client0.recorded client.recorded venue0.recorded venue.recorded
-      (moments_told clock0) (moments_told clock) d
-      → (i : List ℕ) → IsImageOf disk i → LeavesImage config.names i
-      (transcript_from client_side d.client) (transcript_from venue_side d.venue)
-  pub client_plays : (script : List Came) → plays client0 script → plays client script
-  pub venue_plays : (script : List Came) → plays venue0 script → plays venue script
-  pub follows : (listed : List ℕ) → clock0.listed ≡ listed → clock.listed ≡ listed
 
 module _ {T : Type 0} (state : T → TapState) (seen now : List T) (config : Config)
     (lines : List Event) (disk0 disk : DiskState) (client0 client venue0 venue : WireState)
@@ -209,15 +206,16 @@ module _ {T : Type 0} (state : T → TapState) (seen now : List T) (config : Con
       → is_some (moments_told clock) ≡ true → is_fault end ≡ false
       → LivesOn state config lines from bytes seen now client.recorded venue.recorded end image
   lives_on one is_disk is_client is_venue is_clock client_is venue_is listed_is rounds_is among
-      client_told venue_told clock_told whole before is_from journal goes_on =
+      client_told venue_told clock_told whole before is_from journal shown leaves =
       let fresh_says = says_fresh is_disk is_client is_venue is_clock in
-      lived config lines before bytes image disk client venue clock end rounds listed client_told
-      venue_told clock_told state seen now one fail fuse fresh_says.taps fresh_says.ends
-      fresh_says.leaves
+      lived state seen now config lines before bytes image disk client venue clock end rounds fail
+      fail_client fail_venue listed fuse client_items venue_items fresh_says client_told venue_told
+      clock_told one
       (subst (λ (s : List Came). plays client s) client_is
       (fresh_says.client_plays (map item_of client_items) refl))
       (subst (λ (s : List Came). plays venue s) venue_is
       (fresh_says.venue_plays (map item_of venue_items) refl))
       (fresh_says.follows listed refl ∙ listed_is
       ∙ ap (λ (m : ℕ). moments_from m lines) (sym is_from))
-      (rounds_is ∙ rounds_are Client lines client_items client_is) among whole journal goes_on
+      (rounds_is ∙ rounds_are Client lines client_items client_is) among whole journal shown
+      leaves

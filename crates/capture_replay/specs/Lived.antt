@@ -4,10 +4,12 @@ use Rattle.std.specs.Io.KnownBytes.{Appends}
 use Rattle.std.specs.declared.option.Option.{Option}
 use Rattle.pair_entries.specs.declared.entry.Entry.{Entry}
 use Rattle.wires.specs.Wire.{WireCall}
+use Rattle.message_answers.specs.Answer.{Answers}
+use Rattle.life_laws.specs.Justified.{Leaves}
 use Rattle.gateway_config.specs.declared.config.Config.{Config}
 use Rattle.gateway_life.specs.declared.end.LifeEnd.{LifeEnd}
 use Rattle.gateway_life.specs.Life.{Done, IsJournal}
-use Rattle.gateway_life.specs.Laws.{GoesOnFrom}
+use Rattle.gateway_life.specs.Laws.{AreShown}
 use Rattle.drop_taps.specs.Shown.{TapState, HaveSeen}
 use Rattle.capture_text.specs.declared.capture.Capture.{Capture}
 use Rattle.capture_text.specs.declared.capture.Event.{Event}
@@ -40,7 +42,8 @@ abbrev pub LivesOn : {T : Type 0} → (T → TapState) → Config → List Event
     → List ℕ → Type 0
 LivesOn state config lines from bytes seen now client venue end image = (before : Left)
     → before.moment ≡ from → IsJournal config.names before.entries bytes
-    → GoesOnFrom config.names before.entries before.client before.venue
+    → AreShown config.names
+    → Leaves Answers config.names before.entries before.client before.venue
     → IsLived state config lines before seen now client venue end image
 
 -- what is left after lives
@@ -56,7 +59,7 @@ pub record SoFar {T : Type 0} (state : T → TapState) (capture : Capture) (coun
   pub all : length played ≡ count
   pub are : ArePlayed state (config_of capture) nothing seen capture.lives played now
   pub journal : IsJournal capture.names (left_after nothing played).entries image
-  pub goes_on : GoesOnFrom capture.names (left_after nothing played).entries
+  pub leaves : Leaves Answers capture.names (left_after nothing played).entries
       (left_after nothing played).client (left_after nothing played).venue
   pub moment : (left_after nothing played).moment ≡ clock
   pub put : Appends old new (lives_lines 1 played)

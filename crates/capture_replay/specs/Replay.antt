@@ -11,12 +11,14 @@ use Rattle.pair_journal.specs.Numbers.{first_numbers, numbers_after}
 use Rattle.wires.specs.Wire.{Came, Connection}
 use Rattle.wires.specs.Script.{Plays}
 use Rattle.wires.specs.Clock.{moments_given}
-use Rattle.life_laws.specs.Justified.{transcript_from}
+use Rattle.message_answers.specs.Answer.{Answers}
+use Rattle.life_laws.specs.Justified.{transcript_from, Leaves}
 use Rattle.gateway_config.specs.declared.config.Config.{Config}
 use Rattle.gateway_life.specs.declared.end.LifeEnd.{LifeEnd}
 use Rattle.gateway_life.specs.declared.end.LifeEnd.TheVariants as ends
-use Rattle.gateway_life.specs.Life.{Done, Ends}
-use Rattle.gateway_life.specs.Laws.{LeavesImage}
+use Rattle.gateway_life.specs.Life.{Done}
+use Rattle.gateway_life.specs.Laws.{AreTaken}
+use Rattle.gateway_life.specs.Lived.{IsLeft}
 use Rattle.drop_taps.specs.Shown.{TapState, HaveSeen}
 use Rattle.capture_text.specs.declared.capture.Capture.{Capture}
 use Rattle.capture_text.specs.declared.capture.Event.{Event}
@@ -69,19 +71,22 @@ is_fault ends.NoMemory = true
 is_fault end = false
 
 -- A LIFE OF A CAPTURE, over what lives before it have left. Its wires play what its lines let come,
--- and its clock, which runs on from the lives before, gives their moments. It ends as `Ends` says,
--- and its image is that journal, lawful, which justifies all that was read and written, in it and
--- before: whatever of it arrives, each side takes the beginning of what was committed to it, each
--- message once and in order.
+-- and its clock, which runs on from the lives before, gives their moments. What it leaves goes on
+-- from what was there, and accounts for all that was read and written, in it and before: whatever
+-- of it arrives, each side takes the beginning of what was committed to it, each message once and
+-- in order.
 pub record IsPlayed (config : Config) (lines : List Event) (before : Left) (life : Played)
     : Type 0 where
   pub client : (left : List Came) × Plays false (script_of Client lines) life.did.client left
   pub venue : (left : List Came) × Plays false (script_of Venue lines) life.did.venue left
   pub moments : (asked : ℕ)
       × (life.did.moments ≡ moments_given (moments_from before.moment lines) asked)
-  pub ends : Ends life.end config before.entries (length (filter is_round lines)) life.did life.image
-  pub left : LeavesImage config.names life.image (after before life).client (after before life).venue
-  pub entries : life.entries ≡ left.entries
+  pub is_left : IsLeft life.end config before.entries (length (filter is_round lines)) life.did
+      life.image life.entries
+  pub leaves : Leaves Answers config.names life.entries
+      (after before life).client (after before life).venue
+  pub taken : AreTaken config.names life.entries
+      (after before life).client (after before life).venue
   pub moment : life.moment ≡ moment_after before.moment lines
   pub whole : is_fault life.end ≡ false
 

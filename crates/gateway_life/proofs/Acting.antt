@@ -32,8 +32,8 @@ use Rattle.wire_sends.specs.Sent.{Agrees, Sent, FrontSent, Hung}
 use Rattle.gateway_life.specs.Acted.{Acted}
 use Rattle.gateway_life.specs.State.{EngineState}
 use Rattle.gateway_life.specs.Ready.{LeavesOf, IsReady, Ready}
-use Rattle.gateway_life.specs.Stepped.{Records, records, Grew, Stepped, MayStand, FailsBy, Broken}
-use Rattle.gateway_life.specs.Stepped.{IsWhy}
+use Rattle.gateway_life.specs.Fails.{IsWhy, FailsBy}
+use Rattle.gateway_life.specs.Stepped.{Records, records, Grew, Stepped, MayStand, Broken}
 use Rattle.wire_sends.proofs.Sendings.{sent_append, sent_none, grows_append, grows_none}
 use Rattle.wire_sends.proofs.Sendings.{sends_none}
 
@@ -254,7 +254,7 @@ broken_parts told before' after' config before event now d names entries cu vu c
           broken found.0 found.2,
         )
 
--- ---- a engine that has acted
+-- ---- an engine that has acted
 
 pub ready_acted : (old new : EngineState) (t0 t1 : Option (List ℕ))
     (c1 v1 : Option (List WireCall)) → IsReady old t0 → t1 ≡ t0

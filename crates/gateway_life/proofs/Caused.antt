@@ -2,11 +2,11 @@
 use Rattle.std.proofs.Common.{◌≡◌, ℕ, ◌+◌, ◌≤◌, Bool, true, false, List, [], ◌∷◌, ◌++◌, refl, sym}
 use Rattle.std.proofs.Common.{◌∙◌, ap, subst, arith, append-nil, Some, None, Ok, Err, IfSome}
 use Rattle.std.specs.Prelude.{Result, OnOk, IfErr, IsErrAnd, IsOk, is_some, nat_le, nat_lt, ◌&&◌}
-use Rattle.std.specs.Prelude.{◌<◌, if◌then◌else◌, is_ok, IfOk}
+use Rattle.std.specs.Prelude.{if◌then◌else◌, is_ok, IfOk}
 use Rattle.std.specs.declared.option.Option.{Option}
 use Rattle.std.specs.Option.{ForSome}
 use Rattle.std.proofs.lemmas.Bool.Decides.{nat_tests}
-use Rattle.outside.specs.Disk.{Only, HasOneImage}
+use Rattle.outside.specs.Disk.{HasOneImage}
 use Rattle.order_meaning.specs.declared.Side.{Side}
 use Rattle.order_meaning.specs.declared.Side.TheVariants.{Client, Venue}
 use Rattle.order_meaning.specs.declared.names.Names.{Names}
@@ -16,7 +16,6 @@ use Rattle.session_core.specs.declared.session.Spent.{Spent}
 use Rattle.session_core.specs.declared.session.Step.{Step}
 use Rattle.session_core.specs.declared.act.Act.{Act}
 use Rattle.session_core.specs.declared.act.Act.TheVariants.{Take, Skip, Say, Resend, HangUp}
-use Rattle.session_core.specs.declared.head.Head.{Head}
 use Rattle.session_core.specs.Laws.{Always}
 use Rattle.session_core.specs.Table as session
 use Rattle.session_core.specs.Table.{says}
@@ -30,10 +29,10 @@ use Rattle.pair_journal.specs.Laws.{HasOneReading}
 use Rattle.pair_journal.specs.declared.error.JournalError.{JournalError}
 use Rattle.pair_journal.specs.declared.error.JournalError.TheVariants as errors
 use Rattle.event_decisions.specs.Event.{Event, side_of}
-use Rattle.event_decisions.specs.Decide.{Sessions, AreSides, Asked, Words, Decision, Decides, Given}
+use Rattle.event_decisions.specs.Decide.{Sessions, AreSides, Words, Decision, Decides}
 use Rattle.event_decisions.specs.Decide.{numbers_of, session_of, with_session, is_active, asked_of}
 use Rattle.event_decisions.specs.Decide.{asked_by, asked_if, asks, took_of, input_of, stepped}
-use Rattle.event_decisions.specs.Decide.{decide, decide_by, concluded, numbered, give, IsDecided}
+use Rattle.event_decisions.specs.Decide.{decide, decide_by, concluded, numbered, give}
 use Rattle.event_decisions.proofs.Continues.{by, entry_by, entry_is}
 use Rattle.message_answers.specs.Answer.{Answers}
 use Rattle.gateway_config.specs.declared.config.Config.{Config}
@@ -44,12 +43,10 @@ use Rattle.gateway_life.specs.declared.end.LifeEnd.TheVariants as ends
 use Rattle.gateway_life.specs.Ended.{end_of}
 use Rattle.gateway_life.specs.State.{LifeState}
 use Rattle.gateway_life.specs.Ready.{LeavesOf}
-use Rattle.gateway_life.specs.Stepped.{IsWhy}
-use Rattle.gateway_life.specs.Life.{IsJournal}
+use Rattle.gateway_life.specs.Fails.{IsWhy}
 use Rattle.gateway_life.specs.Rounds.{Begins}
 use Rattle.gateway_life.specs.Watched.{Watched, WereCommitted, end_in}
-use Rattle.gateway_life.specs.Causes.{IsCause, IsCauseIn, HasJournalCause, IsJournalFull}
-use Rattle.gateway_life.specs.Causes.{AreNumbersSpent}
+use Rattle.gateway_life.specs.Causes.{IsCause, IsCauseIn, HasJournalCause}
 use Rattle.gateway_life.proofs.Living.{same_journal, unbegun_image}
 use Rattle.gateway_life.proofs.TapsShown.{left_whole}
 use Rattle.gateway_life.proofs.Watching.{were_same}

@@ -41,7 +41,8 @@ use Rattle.wire_sends.specs.Sent.{AreSendable}
 use Rattle.wire_sends.specs.Again.{IsGiven, repeat_in}
 use Rattle.gateway_life.specs.State.{EngineState}
 use Rattle.gateway_life.specs.Ready.{LeavesOf, IsReady, world_of}
-use Rattle.gateway_life.specs.Stepped.{MayStand, IsWhy}
+use Rattle.gateway_life.specs.Fails.{IsWhy}
+use Rattle.gateway_life.specs.Stepped.{MayStand}
 use Rattle.gateway_life.specs.Committed.{OldOrNew, IsFull}
 
 -- ---- an entry more
@@ -418,7 +419,7 @@ refused_why error end config before event now d journal is names entries decides
     subst (λ e. IsWhy e config before event now) (sym is)
     (why_of error config before event now d journal names entries decides full)
 
--- a engine that has decided
+-- an engine that has decided
 pub ready_decided : (old : EngineState) (t0 t1 : Option (List ℕ)) (journal : JournalState)
     (held core : CoreState) (plan : Plan) (cu vu : Bool) → IsReady old t0
     → journal.names ≡ old.journal.names → journal.broken ≡ false

@@ -1,80 +1,48 @@
--- An event that failed among others, and why that ended the life.
-use Rattle.std.proofs.Common.{◌≡◌, ℕ, true, List, [], ◌∷◌, ◌++◌, sym, ◌∙◌, ap, subst}
-use Rattle.std.proofs.Common.{append_assoc, inl, inr}
+-- An event that ended a life: what led up to it, and what stands of it.
+use Rattle.std.proofs.Common.{◌≡◌, ℕ, List, ◌∷◌, ◌++◌, ◌∙◌, ap, append_assoc, inl}
 use Rattle.pair_entries.specs.declared.entry.Entry.{Entry}
 use Rattle.event_decisions.specs.Event.{Event}
 use Rattle.message_answers.specs.Answer.{Answers}
 use Rattle.gateway_config.specs.declared.config.Config.{Config}
-use Rattle.life_laws.specs.Happens.{World, Added, nothing, Fails}
-use Rattle.life_laws.specs.Turn.{both, counts, AllHappen}
-use Rattle.life_laws.specs.Ends.{OneFails}
+use Rattle.life_laws.specs.Happens.{World, Added, Fails}
+use Rattle.life_laws.specs.Turn.{both}
+use Rattle.life_laws.specs.Ends.{UpTo}
 use Rattle.gateway_life.specs.declared.end.LifeEnd.{LifeEnd}
 use Rattle.gateway_life.specs.declared.end.LifeEnd.TheVariants as ends
-use Rattle.gateway_life.specs.Stepped.{Records, Grew, Failed, FailsBy, IsWhy}
-use Rattle.gateway_life.specs.Life.{IsUndone, OneEnds}
-use Rattle.gateway_life.proofs.Turning.{grew_append, both_three}
+use Rattle.gateway_life.specs.Fails.{FailsBy}
+use Rattle.gateway_life.specs.Stepped.{Records, Grew, Failed}
+use Rattle.gateway_life.specs.Rounds.{BrokenAt}
+use Rattle.gateway_life.proofs.Turning.{grew_append}
 
 module _ (config : Config) where
-  -- an event failed among these, and why that ended the life
-  abbrev pub FailsFor : LifeEnd → World → List Event → ℕ → Added → List Entry → Type 0
-  FailsFor end w events now added entries =
-      (fails : OneFails Answers config.names config.window w events now added entries)
-      × OneEnds end config w events now added entries fails
+  pub failed_up_to : (end : LifeEnd) (w : World) (all events tail : List Event) (now : ℕ)
+      (r0 r1 : Records) (entries : List Entry) → all ≡ events ++ tail
+      → (f : Failed end config w events now r0 r1 entries)
+      → UpTo Answers config.names config.window w all now f.all.added f.mid f.last
+  failed_up_to end w all events tail now r0 r1 entries is f = record {
+    first = f.first;
+    rest = f.rest ++ tail;
+    split = is ∙ ap (λ l. l ++ tail) f.split ∙ append_assoc f.first (f.last ∷ f.rest) tail;
+    happen = f.all.happen;
+    counted = f.counted;
+  }
 
-  undone : (end : LifeEnd) (w : World) (event : Event) (now : ℕ) (added : Added)
+  -- all that was done, with what stands of the event
+  pub broken_grew : (end : LifeEnd) (now : ℕ) (r0 r1 : Records) (entries : List Entry)
+      (leads : Added → World → Event → Type 0)
+      → (b : BrokenAt end config now r0 r1 entries leads) → Grew r0 r1 (both b.added b.broken.added)
+  broken_grew end now r0 r1 entries leads b =
+      grew_append r0 b.between r1 b.added b.broken.added b.grew b.broken.grew
+
+  -- ---- what stands of it
+
+  pub fails_by : (end : LifeEnd) (w : World) (event : Event) (now : ℕ) (added : Added)
       (entries : List Entry) → FailsBy end config w event now added entries
-      → (fails : Fails Answers config.names config.window w event now added entries)
-      × IsUndone end fails
-  undone ends.DiskFault w event now added entries by = (by, tt)
-  undone ends.Done w event now added entries by = (inl by, tt)
-  undone (ends.JournalRefused at) w event now added entries by = (inl by, tt)
-  undone (ends.NamesDiffer kept given) w event now added entries by = (inl by, tt)
-  undone ends.JournalFull w event now added entries by = (inl by, tt)
-  undone (ends.NumbersSpent side) w event now added entries by = (inl by, tt)
-  undone ends.NoMemory w event now added entries by = (inl by, tt)
-
-  nothing_first : (a b : Added) → a ≡ nothing → b ≡ both a b
-  nothing_first a b none = ap (λ (y : Added). both y b) (sym none)
-
-  one_fails : (end : LifeEnd) (w m : World) (first rest : List Event) (last : Event) (now : ℕ)
-      (a b : Added) (entries : List Entry)
-      → AllHappen Answers config.names config.window w first now a m → counts m last ≡ true
-      → IsWhy end config m last now → FailsBy end config m last now b entries
-      → FailsFor end w (first ++ last ∷ rest) now (both a b) entries
-  one_fails end w m [] rest last now a b entries all counted why by =
-      let found = undone end m last now b entries by in
-      let here : FailsFor end m (last ∷ rest) now b entries =
-      (inl (counted, found.0), (why, found.1)) in
-      subst (λ (c : Added). FailsFor end w (last ∷ rest) now c entries)
-      (nothing_first a b all.0)
-      (subst (λ (y : World). FailsFor end y (last ∷ rest) now b entries) all.1 here)
-  one_fails end w m (event ∷ first) rest last now a b entries all counted why by =
-      let later = one_fails end all.1 m first rest last now all.2 b entries all.4 counted why
-      by in (
-        inr (
-          all.0,
-          all.1,
-          both all.2 b,
-          all.3,
-          later.0,
-          ap (λ (y : Added). both y b) all.5 ∙ both_three all.0 all.2 b,
-        ),
-        later.1,
-      )
-
-  pub failed_fails : (end : LifeEnd) (w : World) (events tail : List Event) (now : ℕ)
-      (r0 r1 : Records) (entries : List Entry)
-      → (f : Failed end config w events now r0 r1 entries)
-      → FailsFor end w (events ++ tail) now (both f.all.added f.broken.added) entries
-  failed_fails end w events tail now r0 r1 entries f =
-      subst (λ (es : List Event). FailsFor end w es now (both f.all.added f.broken.added) entries)
-      (sym (ap (λ l. l ++ tail) f.split ∙ append_assoc f.first (f.last ∷ f.rest) tail))
-      (one_fails end w f.mid f.first (f.rest ++ tail) f.last now f.all.added f.broken.added entries
-      f.all.happen f.counted f.broken.why f.broken.fails)
-
-  pub failed_grew : (end : LifeEnd) (w : World) (events : List Event) (now : ℕ)
-      (r0 r1 : Records) (entries : List Entry)
-      → (f : Failed end config w events now r0 r1 entries)
-      → Grew r0 r1 (both f.all.added f.broken.added)
-  failed_grew end w events now r0 r1 entries f =
-      grew_append r0 f.between r1 f.all.added f.broken.added f.all.grew f.broken.grew
+      → Fails Answers config.names config.window w event now added entries
+  fails_by ends.DiskFault w event now added entries by = by
+  fails_by ends.Done w event now added entries by = inl by
+  fails_by (ends.JournalRefused at) w event now added entries by = inl by
+  fails_by (ends.NamesDiffer kept given) w event now added entries by = inl by
+  fails_by ends.JournalFull w event now added entries by = inl by
+  fails_by (ends.NumbersSpent side) w event now added entries by = inl by
+  fails_by ends.NoMemory w event now added entries by = inl by

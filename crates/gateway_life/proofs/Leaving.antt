@@ -1,13 +1,12 @@
 -- What a life leaves, by the laws of lives.
-use Rattle.std.proofs.Common.{◌≡◌, ◌⊎◌, ℕ, Bool, true, false, List, [], ◌∷◌, ◌++◌, map, refl, sym}
-use Rattle.std.proofs.Common.{◌∙◌, ap, subst, inl, inr}
+use Rattle.std.proofs.Common.{◌≡◌, ℕ, Bool, true, false, List, [], ◌∷◌, ◌++◌, map, refl, sym}
+use Rattle.std.proofs.Common.{◌∙◌, ap, subst}
 use Rattle.order_meaning.specs.declared.Side.{Side}
 use Rattle.order_meaning.specs.declared.Side.TheVariants.{Client, Venue}
 use Rattle.order_meaning.specs.declared.names.Names.{Names}
 use Rattle.pair_entries.specs.declared.entry.Entry.{Entry}
 use Rattle.pair_journal.specs.Numbers.{numbers_after, first_numbers}
-use Rattle.pair_journal.specs.Journal.{AreEntries}
-use Rattle.event_decisions.specs.Decide.{Sessions, AreSides, numbers_of, IsLawful}
+use Rattle.event_decisions.specs.Decide.{Sessions, AreSides, numbers_of}
 use Rattle.event_decisions.specs.Laws.{BodiesAreRead}
 use Rattle.message_answers.specs.Answer.{Answers}
 use Rattle.message_answers.specs.Laws.{AnswersAreGivenOut}
@@ -19,16 +18,15 @@ use Rattle.life_laws.specs.Justified.{IsJustified, transcript_from, Leaves}
 use Rattle.life_laws.specs.Receiver.{read_body, message_of_out, AreSent}
 use Rattle.life_laws.specs.Forms.{all_placed}
 use Rattle.life_laws.specs.Standing.{Holds, NumberedFrom}
-use Rattle.life_laws.specs.Turn.{Reads, last_read}
+use Rattle.life_laws.specs.Turn.{Reads, last_read, both}
 use Rattle.life_laws.specs.Laws as lives
 use Rattle.gateway_life.specs.declared.end.LifeEnd.{LifeEnd}
-use Rattle.gateway_life.specs.declared.end.LifeEnd.TheVariants as ends
-use Rattle.gateway_life.specs.Life.{begun, hung_up, moment_of, Done, IsJournal, Ends, EndsBefore}
-use Rattle.gateway_life.specs.Life.{DoesNotBegin}
+use Rattle.gateway_life.specs.Life.{begun, hung_up, moment_of, Done, LivesToEnd, LifeFails}
+use Rattle.gateway_life.specs.Life.{Follows, ToItsEnd, ToAnEvent, NotBegun}
 use Rattle.heard_laws.specs.Laws.{BooksFollow}
 use Rattle.heard_laws.specs.Books.{book_of_taken}
-use Rattle.gateway_life.specs.Laws.{IsLeft, IsTaken, LeavesImage, GoesOnFrom}
-use Rattle.gateway_life.specs.Laws.{LivesLeave, LivesThatEndLeave}
+use Rattle.gateway_life.specs.Laws.{IsTaken, MessagesAreTaken}
+use Rattle.gateway_life.proofs.Failing.{fails_by}
 use Rattle.gateway_life.proofs.GivenOut.{are_sent}
 
 rest_of : Config → List Entry → Sessions
@@ -59,23 +57,80 @@ hung_same links calls = from_append links calls (hang_up_if (is_within calls))
     at true = refl
     at false = refl
 
--- the entries of an image are within their bounds
-sound_of : (names : Names) (entries : List Entry) (image : List ℕ)
-    → IsJournal names entries image → AreEntries first_numbers entries
-sound_of names entries image (inl born) = born.2.sound
-sound_of names entries image (inr none) = subst (AreEntries first_numbers) (sym none.1) tt
-
-module _ (begin : lives.LivesBegin Answers) (in_order : lives.JustifiedIsTakenInOrder)
-    (read_back : lives.WhatIsSentIsRead) (fills : lives.RepeatsFillGaps) (books : BooksFollow)
-    (bodies : BodiesAreRead) (given_out : AnswersAreGivenOut) where
+module _ (begin : lives.LivesBegin Answers) where
   holds : (config : Config) (entries : List Entry) (client venue : List Connection)
-      → IsLawful Answers config.names entries → IsJustified config.names entries Client client
-      → IsJustified config.names entries Venue venue
+      → Leaves Answers config.names entries client venue
       → Holds Answers config.names (begun config entries) client venue [] []
   unfolding rest_sides rest_numbers rest_of
-  holds config entries client venue lawful jc jv =
-      begin config.names entries (sessions_in (loaded config entries)) client venue lawful
-      (rest_sides config entries) (rest_numbers config entries) jc jv
+  holds config entries client venue left =
+      begin config.names entries (sessions_in (loaded config entries)) client venue left.lawful
+      (rest_sides config entries) (rest_numbers config entries) left.client left.venue
+
+  -- ---- what is left of a life
+
+  module _ (lives_leave : lives.LivesLeave Answers) (lives_fail : lives.LivesThatFailLeave Answers)
+      (config : Config) (before entries : List Entry) (client venue : List Connection)
+      (rounds : ℕ) (did : Done) (left : Leaves Answers config.names before client venue) where
+    abbrev LeavesBy : (client_did venue_did : List WireCall) → Type 0
+    LeavesBy client_did venue_did = Leaves Answers config.names entries
+        (transcript_from client client_did) (transcript_from venue venue_did)
+
+    abbrev reads : Reads
+    reads = record { client = last_read client; venue = last_read venue }
+
+    by : (client_did venue_did : List WireCall) → did.client ≡ client_did → did.venue ≡ venue_did
+        → LeavesBy client_did venue_did → LeavesBy did.client did.venue
+    by client_did venue_did is_client is_venue leaves =
+        subst (λ l. LeavesBy l did.venue) (sym is_client)
+        (subst (λ l. LeavesBy client_did l) (sym is_venue) leaves)
+
+    -- a hang up changes nothing of it
+    hung : (client_did venue_did : List WireCall) → LeavesBy client_did venue_did
+        → LeavesBy (hung_up client_did) (hung_up venue_did)
+    hung client_did venue_did leaves =
+        subst (λ l. Leaves Answers config.names entries l
+        (transcript_from venue (hung_up venue_did))) (sym (hung_same client client_did))
+        (subst (λ l. Leaves Answers config.names entries (transcript_from client client_did) l)
+        (sym (hung_same venue venue_did)) leaves)
+
+    ended : LivesToEnd config before rounds did entries → LeavesBy did.client did.venue
+    ended life = by life.added.client life.added.venue life.client life.venue
+        (subst (λ l. Leaves Answers config.names l (transcript_from client life.added.client)
+        (transcript_from venue life.added.venue)) (sym life.left)
+        (lives_leave config.names config.window reads (begun config before) life.after
+        (map moment_of life.given) (moment_of life.last) life.added client venue
+        (holds config before client venue left) refl refl (life.lives reads)).0)
+
+    failed : (end : LifeEnd) → LifeFails end config before rounds did entries
+        → LeavesBy did.client did.venue
+    failed end life =
+        let added = both life.added life.part in
+        let now = moment_of life.last in
+        by (hung_up added.client) (hung_up added.venue) life.client life.venue
+        (hung added.client added.venue
+        (lives_fail config.names config.window reads (begun config before)
+        (map moment_of life.given) now life.added life.mid life.event life.part added entries client
+        venue (holds config before client venue left) refl refl (life.up_to reads)
+        (fails_by config end life.mid life.event now life.part entries life.fails) refl).0)
+
+    pub leaves_on : (end : LifeEnd) → Follows end config before rounds did entries
+        → LeavesBy did.client did.venue
+    leaves_on end (ToItsEnd done life) = ended life
+    leaves_on end (ToAnEvent life) = failed end life
+    leaves_on end (NotBegun may none same) = by [] [] none.client none.venue
+        (subst (λ l. Leaves Answers config.names l client venue) (sym same) left)
+
+-- ---- what is taken of it
+
+module _ (begin : lives.LivesBegin Answers) (in_order : lives.JustifiedIsTakenInOrder)
+    (read_back : lives.WhatIsSentIsRead) (fills : lives.FramesFillGaps) (books : BooksFollow)
+    (bodies : BodiesAreRead) (given_out : AnswersAreGivenOut) where
+  -- the outs of a lawful journal are numbered from 1 on
+  numbered : (names : Names) (entries : List Entry) (client venue : List Connection) (side : Side)
+      → Leaves Answers names entries client venue → NumberedFrom 1 (all_placed side entries)
+  numbered names entries client venue side left =
+      let config : Config = record { names = names; heart = 0; window = 0 } in
+      (holds begin config entries client venue left).in_order side
 
   -- what is left is taken in order
   taken : (names : Names) (side : Side) (entries : List Entry) (connections : List Connection)
@@ -88,120 +143,23 @@ module _ (begin : lives.LivesBegin Answers) (in_order : lives.JustifiedIsTakenIn
         took = in_order read_body message_of_out names side entries connections read (λ out. refl)
             justified;
         gaps = λ from to now some apart low.
-            fills read_body message_of_out side entries from to now (λ out. refl) numbered some
-            apart low;
+            fills read_body message_of_out names side entries from to now (λ out. refl) numbered
+            read some apart low;
       }
 
-  left : (config : Config) (entries : List Entry) (client venue : List Connection)
-      → Leaves Answers config.names entries client venue → IsLeft config entries client venue
-  left config entries client venue leaves =
-      let names = config.names in
-      let between = holds config entries client venue leaves.lawful leaves.client leaves.venue in
+  pub are_taken : MessagesAreTaken
+  are_taken names entries client venue left shown sound =
+      let of_client = numbered names entries client venue Client left in
+      let of_venue = numbered names entries client venue Venue left in
+      let client_takes = taken names Client entries client
+      (are_sent bodies given_out names shown Client entries left.lawful sound of_client) of_client
+      left.client in
       record {
-        leaves = leaves;
-        took = λ shown sound.
-            let client_takes = taken names Client entries client
-            (are_sent bodies given_out names shown Client entries leaves.lawful sound
-            (between.in_order Client)) (between.in_order Client) leaves.client in
-            record {
-              client = client_takes;
-              venue = taken names Venue entries venue
-                  (are_sent bodies given_out names shown Venue entries leaves.lawful sound
-                  (between.in_order Venue)) (between.in_order Venue) leaves.venue;
-              book = λ fronts arrive book.
-                  ap (book_of_taken book) (client_takes.took fronts arrive)
-                  ∙ books names entries leaves.lawful sound _ book;
-            };
+        client = client_takes;
+        venue = taken names Venue entries venue
+            (are_sent bodies given_out names shown Venue entries left.lawful sound of_venue)
+            of_venue left.venue;
+        book = λ fronts arrive book.
+            ap (book_of_taken book) (client_takes.took fronts arrive)
+            ∙ books names entries left.lawful sound _ book;
       }
-
-  pub ended_leave : lives.LivesLeave Answers → LivesLeave
-  ended_leave lives_leave config before entries client venue rounds did lawful jc jv life =
-      let reads : Reads = record { client = last_read client; venue = last_read venue } in
-      let held = holds config before client venue lawful jc jv in
-      let leaves = (lives_leave config.names config.window reads (begun config before) life.after
-      (map moment_of life.given) (moment_of life.last) life.added client venue held refl refl
-      (life.lives reads)).0 in
-      left config entries (transcript_from client did.client) (transcript_from venue did.venue)
-      (subst (λ l. Leaves Answers config.names l (transcript_from client did.client)
-      (transcript_from venue did.venue)) (sym life.left)
-      (subst (λ l. Leaves Answers config.names life.after.entries (transcript_from client l)
-      (transcript_from venue did.venue)) (sym life.client)
-      (subst (λ l. Leaves Answers config.names life.after.entries
-      (transcript_from client life.added.client) (transcript_from venue l)) (sym life.venue)
-      leaves)))
-
-  pub broken_leave : lives.LivesThatFailLeave Answers → LivesThatEndLeave
-  broken_leave lives_fail end config before entries client venue rounds did lawful jc jv life =
-      let reads : Reads = record { client = last_read client; venue = last_read venue } in
-      let held = holds config before client venue lawful jc jv in
-      let leaves = (lives_fail config.names config.window reads (begun config before)
-      (map moment_of life.given) (moment_of life.last) life.added entries client venue held refl
-      refl (life.fails reads)).0 in
-      left config entries (transcript_from client did.client) (transcript_from venue did.venue)
-      (subst (λ l. Leaves Answers config.names entries l (transcript_from venue did.venue))
-      (sym (ap (transcript_from client) life.client ∙ hung_same client life.added.client))
-      (subst (λ l.
-      Leaves Answers config.names entries (transcript_from client life.added.client) l)
-      (sym (ap (transcript_from venue) life.venue ∙ hung_same venue life.added.venue)) leaves))
-
-  -- ---- however it ended
-
-  module _ (lives_leave : lives.LivesLeave Answers) (lives_fail : lives.LivesThatFailLeave Answers)
-      (config : Config) (before : List Entry) (client venue : List Connection) (rounds : ℕ)
-      (did : Done) (image : List ℕ) (from : GoesOnFrom config.names before client venue) where
-    abbrev client_after : List Connection
-    client_after = transcript_from client did.client
-
-    abbrev venue_after : List Connection
-    venue_after = transcript_from venue did.venue
-
-    abbrev Stays : Type 0
-    Stays = LeavesImage config.names image client_after venue_after
-
-    stays : (entries : List Entry) → IsJournal config.names entries image
-        → IsLeft config entries client_after venue_after → Stays
-    stays entries journal is = record {
-      entries = entries;
-      journal = journal;
-      leaves = is.leaves;
-      taken = is.took from.shown (sound_of config.names entries image journal);
-    }
-
-    -- nothing was done
-    unbegun : (entries : List Entry) → DoesNotBegin did → entries ≡ before
-        → IsLeft config entries client_after venue_after
-    unbegun entries none same =
-        let leaves : Leaves Answers config.names before client venue =
-        record { lawful = from.lawful; client = from.client; venue = from.venue } in
-        left config entries client_after venue_after
-        (subst (λ l. Leaves Answers config.names l client_after venue_after) (sym same)
-        (subst (λ l. Leaves Answers config.names before l venue_after)
-        (ap (transcript_from client) (sym none.client))
-        (subst (Leaves Answers config.names before client)
-        (ap (transcript_from venue) (sym none.venue)) leaves)))
-
-    abbrev Ended : LifeEnd → Type 0
-    Ended end = (entries : List Entry) × IsJournal config.names entries image
-        × ((DoesNotBegin did × (entries ≡ before))
-        ⊎ EndsBefore end config before rounds did entries)
-
-    stopped : (end : LifeEnd) → Ended end → Stays
-    stopped end is = by is.2
-      where
-        by : (DoesNotBegin did × (is.0 ≡ before)) ⊎ EndsBefore end config before rounds did is.0
-            → Stays
-        by (inl none) = stays is.0 is.1 (unbegun is.0 none.0 none.1)
-        by (inr life) = stays is.0 is.1
-            (broken_leave lives_fail end config before is.0 client venue rounds did from.lawful
-            from.client from.venue life)
-
-    pub ends_leave : (end : LifeEnd) → Ends end config before rounds did image → Stays
-    ends_leave ends.Done is = stays is.0 (inl is.1)
-        (ended_leave lives_leave config before is.0 client venue rounds did from.lawful from.client
-        from.venue is.2)
-    ends_leave (ends.JournalRefused at) is = absurd is
-    ends_leave (ends.NamesDiffer kept given) is = absurd is
-    ends_leave ends.DiskFault is = stopped ends.DiskFault is
-    ends_leave ends.JournalFull is = stopped ends.JournalFull (is.0, is.1, inr is.2)
-    ends_leave (ends.NumbersSpent side) is = stopped (ends.NumbersSpent side) (is.0, is.1, inr is.2)
-    ends_leave ends.NoMemory is = stopped ends.NoMemory is

@@ -13,30 +13,33 @@ use Rattle.outside.specs.Disk.{Only, HasOneImage}
 use Rattle.order_meaning.specs.declared.names.Names.{Names}
 use Rattle.pair_entries.specs.declared.entry.Entry.{Entry}
 use Rattle.pair_journal.specs.Calls.{BornOrNot}
-use Rattle.pair_journal.specs.Journal.{JournalOf, Unborn, Born, Refused}
+use Rattle.gate_log.specs.Log.{OnlyRead}
+use Rattle.pair_journal.specs.Numbers.{first_numbers}
+use Rattle.pair_journal.specs.Journal.{JournalOf, Unborn, Born, Refused, AreEntries}
 use Rattle.pair_journal.specs.Laws.{HasOneReading}
 use Rattle.message_answers.specs.Answer.{Answers}
 use Rattle.gateway_config.specs.declared.config.Config.{Config}
 use Rattle.wires.specs.Told.{GrowsBy}
-use Rattle.wires.specs.Wire.{WireCall, Connection, HangUpGrows, is_within, within_after}
+use Rattle.wires.specs.Wire.{WireCall, HangUpGrows, is_within, within_after}
 use Rattle.life_laws.specs.Sends.{hang_up_if}
 use Rattle.life_laws.specs.Happens.{World}
-use Rattle.life_laws.specs.Justified.{transcript_from}
 use Rattle.life_laws.specs.Turn.{Reads, Lives}
-use Rattle.life_laws.specs.Ends.{LifeFails}
+use Rattle.life_laws.specs.Ends.{LifeUpTo}
 use Rattle.gateway_life.specs.declared.end.LifeEnd.{LifeEnd}
 use Rattle.gateway_life.specs.declared.end.LifeEnd.TheVariants as ends
 use Rattle.gateway_life.specs.State.{LifeState}
 use Rattle.gateway_life.specs.Ready.{LeavesOf, world_of}
-use Rattle.gateway_life.specs.Stepped.{Records, records, IsOfEvent, HasCauseOf}
-use Rattle.gateway_life.specs.Life.{Done, begun, moment_of, LivesToEnd, EndsBefore, hung_up, Ends}
-use Rattle.gateway_life.specs.Life.{IsJournal, LastEnds, counted_on, IsAnswered}
-use Rattle.gateway_life.specs.Life.{IsIdle, IfRefused, IsForeign, Did}
-use Rattle.gateway_life.specs.Laws.{GoesOnFrom, LeavesImage, EndsLeave}
+use Rattle.gateway_life.specs.Stepped.{Records, records, IsOfEvent, IsNotDone, HasCauseOf}
+use Rattle.gateway_life.specs.Life.{Done, begun, moment_of, LivesToEnd, LifeFails, hung_up}
+use Rattle.gateway_life.specs.Life.{MayNotBegin, Follows, ToItsEnd, ToAnEvent, NotBegun}
+use Rattle.gateway_life.specs.Life.{IsJournal, counted_on, IsAnswered, IfRefused, IsForeign}
+use Rattle.gateway_life.specs.Laws.{LivesLeave, MessagesAreTaken}
+use Rattle.gateway_life.specs.Lived.{Adds, told, Premises, IsLeft, IsIdle}
 use Rattle.gateway_life.specs.Rounds.{StoodFor, AreTold, LifeDone, LifeBroken, BeginsWith}
 use Rattle.gateway_life.specs.Rounds.{Begins, IsUnbegun, IsUntouched, LifeWhole, LifeStopped}
 use Rattle.wire_sends.proofs.Sendings.{fold-append, grows_none}
 use Rattle.gateway_life.proofs.Beginning.{read_foreign, refused_of}
+use Rattle.gateway_life.proofs.Failing.{broken_grew}
 
 -- ---- what is told
 
@@ -114,6 +117,14 @@ counted_none (suc left) count none = absurd (omega (arith, none))
 pub one_more : (given : List ℕ) (m left all : ℕ) → length given + left ≡ all → 1 ≤ left
     → length (given ++ m ∷ []) + (left - 1) ≡ all
 one_more given m left all is some = omega (arith, length-append given (m ∷ []), is, some)
+
+-- ---- what is found in an image
+
+abbrev pub Found : LifeEnd → Config → List Entry → (rounds : ℕ) → Done → List ℕ → Type 0
+Found end config before rounds did image = (entries : List Entry)
+    × IsJournal config.names entries image
+    × (end ≡ ends.Done → JournalOf image (Born config.names entries))
+    × Follows end config before rounds did entries
 
 -- ---- how a life begins
 
@@ -199,7 +210,7 @@ module _ (one : (image : List ℕ) → HasOneReading image) where
           left = life.left;
         }
 
-    pub ends_before : (end : LifeEnd) (rcm rvm : Option (List WireCall)) (old : LifeState)
+    pub life_fails : (end : LifeEnd) (rcm rvm : Option (List WireCall)) (old : LifeState)
         (xs entries : List Entry) (given : List ℕ) (last : ℕ)
         → ForSome rc0 (λ calls. is_within calls ≡ false)
         → ForSome rv0 (λ calls. is_within calls ≡ false)
@@ -207,45 +218,33 @@ module _ (one : (image : List ℕ) → HasOneReading image) where
         → BeginsWith config (Some bytes) xs old → length given ≤ rounds
         → GrowsBy km0 km1 (given ++ last ∷ [])
         → LifeBroken end config old given last (records rc0 rv0) (records rcm rvm) entries
-        → EndsBefore end config before rounds did entries
-    ends_before end rcm rvm old xs entries given last cd vd ch vh begins most moments life =
+        → LifeFails end config before rounds did entries
+    life_fails end rcm rvm old xs entries given last cd vd ch vh begins most moments life =
         let told : AreTold (records rcm rvm) =
         record { client = hung_told rcm rc1 c1 ch ec1; venue = hung_told rvm rv1 v1 vh ev1 } in
-        let ended : (reads : Reads)
-        → (fails : LifeFails Answers config.names config.window reads (begun config before)
-        (map moment_of given) (moment_of last) life.added entries)
-        × LastEnds end config fails.read fails.mid (moment_of last) fails.rest entries fails.fails =
-        λ reads. subst (λ (w : World).
-        (fails : LifeFails Answers config.names config.window reads w
-        (map moment_of given) (moment_of last) life.added entries)
-        × LastEnds end config fails.read fails.mid (moment_of last) fails.rest entries fails.fails)
-        (world_is xs old begins)
-        (life.ends told reads (stood_none xs old reads begins)) in
+        let part = life.broken.added in
+        let grew = broken_grew config end (moment_of last) (records rc0 rv0) (records rcm rvm)
+        entries _ life in
         record {
           given = given;
           last = last;
           moments = told_added km0 km1 (given ++ last ∷ []) k0 k1 did.moments moments ek0 ek1 dk;
           most = most;
           added = life.added;
-          fails = λ reads. (ended reads).0;
-          why = λ reads. (ended reads).1;
-          client = hung_added rc0 rcm rc1 life.added.client c0 c1 did.client life.grew.client ch cd
-              ec0 ec1 dc;
-          venue = hung_added rv0 rvm rv1 life.added.venue v0 v1 did.venue life.grew.venue vh vd
-              ev0 ev1 dv;
+          mid = life.mid;
+          event = life.event;
+          up_to = λ reads. subst (λ (w : World). LifeUpTo Answers config.names config.window reads w
+              (map moment_of given) (moment_of last) life.added life.mid life.event)
+              (world_is xs old begins)
+              (life.up_to told reads (stood_none xs old reads begins));
+          why = life.broken.why;
+          part = part;
+          fails = life.broken.fails;
+          client = hung_added rc0 rcm rc1 (life.added.client ++ part.client) c0 c1 did.client
+              grew.client ch cd ec0 ec1 dc;
+          venue = hung_added rv0 rvm rv1 (life.added.venue ++ part.venue) v0 v1 did.venue
+              grew.venue vh vd ev0 ev1 dv;
         }
-
-    -- an event ended it
-    pub ends_broken : (end : LifeEnd) → IsOfEvent end
-        → (entries : List Entry) → JournalOf image (Born config.names entries)
-        → EndsBefore end config before rounds did entries → Ends end config before rounds did image
-    ends_broken ends.Done of entries left ended = absurd of
-    ends_broken (ends.JournalRefused at) of entries left ended = absurd of
-    ends_broken (ends.NamesDiffer kept given) of entries left ended = absurd of
-    ends_broken ends.DiskFault of entries left ended = (entries, inl left, inr ended)
-    ends_broken ends.JournalFull of entries left ended = (entries, inl left, ended)
-    ends_broken (ends.NumbersSpent side) of entries left ended = (entries, inl left, ended)
-    ends_broken ends.NoMemory of entries left ended = (entries, inl left, inr ended)
 
     unbegun_did : (rcm rvm : Option (List WireCall)) (kmm : Option (List ℕ))
         → ForSome rc0 (λ calls. is_within calls ≡ false)
@@ -269,7 +268,7 @@ module _ (one : (image : List ℕ) → HasOneReading image) where
         → HangUpGrows rcm rc1 → HangUpGrows rvm rv1
         → IsUnbegun end config.names (Some bytes) image0 image1 (records rc0 rv0)
         (records rcm rvm) km0 km1
-        → Only bytes image0 → image1 image → Ends end config before rounds did image
+        → Only bytes image0 → image1 image → Found end config before rounds did image
     ends_unbegun end rcm rvm image0 image1 cd vd ch vh un only here =
         at end un.begins
       where
@@ -281,40 +280,31 @@ module _ (one : (image : List ℕ) → HasOneReading image) where
         left = let found = un.images only image here in
             unbegun_image config.names bytes image before journal found.0 found.1
 
+        not_begun : (e : LifeEnd) → MayNotBegin e → (e ≡ ends.Done → ⊥)
+            → Found e config before rounds did image
+        not_begun e may not_done = (
+          before,
+          left,
+          (λ done. absurd (not_done done)),
+          NotBegun may (record {
+            client = nothing_did.0;
+            venue = nothing_did.1;
+            moments = nothing_did.2;
+          }) refl,
+        )
+
         at : (e : LifeEnd) → Begins {T = LifeState} (λ life. life.engine.journal.entries) config.names
             bytes (Err e)
-            → Ends e config before rounds did image
+            → Found e config before rounds did image
         at ends.Done begins = absurd begins
         at (ends.JournalRefused place) begins =
             absurd (not_refused config.names bytes before place journal begins)
         at (ends.NamesDiffer kept given) begins =
             absurd (begins.1 (same_names config.names kept bytes before begins.2 journal begins.3))
-        at ends.DiskFault begins = (
-          before,
-          left,
-          inl (
-            record {
-              client = nothing_did.0;
-              venue = nothing_did.1;
-              moments = nothing_did.2;
-            },
-            refl,
-          ),
-        )
+        at ends.DiskFault begins = not_begun ends.DiskFault tt (λ done. absurd (cc done))
         at ends.JournalFull begins = absurd begins
         at (ends.NumbersSpent side) begins = absurd begins
-        at ends.NoMemory begins = (
-          before,
-          left,
-          inl (
-            record {
-              client = nothing_did.0;
-              venue = nothing_did.1;
-              moments = nothing_did.2;
-            },
-            refl,
-          ),
-        )
+        at ends.NoMemory begins = not_begun ends.NoMemory tt (λ done. absurd (cc done))
 
 -- ---- the answer of a life
 
@@ -325,35 +315,61 @@ image_of None left P image is stands one here = absurd (cc is)
 image_of (Some b) left P image is stands one here =
     subst P (sym (one image here)) (stands b refl)
 
+-- what was done, where both wires and the clock tell it
+pub record Did (client0 client1 venue0 venue1 : Option (List WireCall))
+    (clock0 clock1 : Option (List ℕ)) (did : Done) : Type 0 where
+  pub client : Adds client0 client1 did.client
+  pub venue : Adds venue0 venue1 did.venue
+  pub clock : Adds clock0 clock1 did.moments
+
 -- what a whole life says of each image
 abbrev pub EndsOf : LifeEnd → Config → ℕ → Option (List ℕ) → (i0 i1 : List ℕ → Type 0)
     → (rc0 rc1 rv0 rv1 : Option (List WireCall)) → (km0 km1 : Option (List ℕ)) → Type 0
 EndsOf end config rounds told i0 i1 rc0 rc1 rv0 rv1 km0 km1 = IfSome told (λ bytes.
     Only bytes i0 → (before : List Entry) → IsJournal config.names before bytes → (did : Done) →
     Did rc0 rc1 rv0 rv1 km0 km1 did → (image : List ℕ) → i1 image →
-    Ends end config before rounds did image)
+    Found end config before rounds did image)
 
--- and what each image is, where the journal at entry justified what was done before
-abbrev pub LeavesOfAll : Config → Option (List ℕ) → (i0 i1 : List ℕ → Type 0)
-    → (rc0 rc1 rv0 rv1 : Option (List WireCall)) → (km0 km1 : Option (List ℕ)) → Type 0
-LeavesOfAll config told i0 i1 rc0 rc1 rv0 rv1 km0 km1 = IfSome told (λ bytes.
-    Only bytes i0 → (before : List Entry) → IsJournal config.names before bytes →
-    (client_side venue_side : List Connection) →
-    GoesOnFrom config.names before client_side venue_side → (did : Done) →
-    Did rc0 rc1 rv0 rv1 km0 km1 did → (image : List ℕ) → i1 image →
-    LeavesImage config.names image (transcript_from client_side did.client)
-    (transcript_from venue_side did.venue))
+-- what is said of bytes that are told holds of them
+of_told : (told : Option (List ℕ)) (bytes : List ℕ) (P : List ℕ → Type 0) → told ≡ Some bytes
+    → IfSome told P → P bytes
+of_told None bytes P is h = absurd (cc is)
+of_told (Some own) bytes P is h = let same : own ≡ bytes = cc is in subst P same h
 
-pub leaves_by : EndsLeave → (end : LifeEnd) (config : Config) (rounds : ℕ)
-    (told : Option (List ℕ)) (i0 i1 : List ℕ → Type 0)
-    (rc0 rc1 rv0 rv1 : Option (List WireCall)) (km0 km1 : Option (List ℕ))
-    → EndsOf end config rounds told i0 i1 rc0 rc1 rv0 rv1 km0 km1
-    → LeavesOfAll config told i0 i1 rc0 rc1 rv0 rv1 km0 km1
-leaves_by leave end config rounds None i0 i1 rc0 rc1 rv0 rv1 km0 km1 ends = tt
-leaves_by leave end config rounds (Some b) i0 i1 rc0 rc1 rv0 rv1 km0 km1 ends =
-    λ only before journal client_side venue_side from did d image here.
-    leave end config before client_side venue_side rounds did image from
-    (ends only before journal did d image here)
+-- the entries of an image are within their bounds
+sound_of : (names : Names) (entries : List Entry) (image : List ℕ)
+    → IsJournal names entries image → AreEntries first_numbers entries
+sound_of names entries image (inl born) = born.2.sound
+sound_of names entries image (inr none) = subst (AreEntries first_numbers) (sym none.1) tt
+
+pub images_by : LivesLeave → MessagesAreTaken → (end : LifeEnd) (config : Config) (rounds : ℕ)
+    (b0 b1 : Option (List ℕ)) (i0 i1 : List ℕ → Type 0)
+    (rc0 rc1 rv0 rv1 : Option (List WireCall)) (km0 km1 : Option (List ℕ)) (p0 p1 q0 q1 : ℕ)
+    → EndsOf end config rounds b0 i0 i1 rc0 rc1 rv0 rv1 km0 km1
+    → (given : Premises config.names i0 (told b0 rc0 rv0 km0 p0 q0) (told b1 rc1 rv1 km1 p1 q1))
+    → (image : List ℕ) → i1 image
+    → (entries : List Entry) × IsLeft end config given.before rounds given.did image entries
+images_by leave take end config rounds b0 b1 i0 i1 rc0 rc1 rv0 rv1 km0 km1 p0 p1 q0 q1 ends given
+    image here =
+    let did : Did rc0 rc1 rv0 rv1 km0 km1 given.did =
+    record { client = given.client; venue = given.venue; clock = given.clock } in
+    let found = of_told b0 given.bytes _ given.tells ends given.only given.before given.journal
+    given.did did image here in (
+      found.0,
+      record {
+        journal = found.1;
+        born = found.2;
+        follows = found.3;
+        accounts = λ client venue before.
+            let leaves = leave end config given.before found.0 client venue rounds given.did before
+            found.3 in
+            record {
+              leaves = leaves;
+              taken = λ shown. take config.names found.0 _ _ leaves shown
+                  (sound_of config.names found.0 image found.1);
+            };
+      },
+    )
 
 module _ (one : (image : List ℕ) → HasOneReading image) where
   pub live_done : (config : Config) (rounds : ℕ) (t0 t1 : Option (List ℕ))
@@ -364,15 +380,17 @@ module _ (one : (image : List ℕ) → HasOneReading image) where
       → EndsOf ends.Done config rounds t0 i0 i1 rc0 rc1 rv0 rv1 km0 km1
   live_done config rounds None t1 i0 i1 rc0 rc1 rv0 rv1 km0 km1 told same life = tt
   live_done config rounds (Some b) t1 i0 i1 rc0 rc1 rv0 rv1 km0 km1 told same life =
-      λ only before journal did d image here. (
+      λ only before journal did d image here.
+      let born = image_of t1 i1 (λ c. JournalOf c (Born config.names life.entries)) image told
+      life.stands (same only) here in (
         life.entries,
-        image_of t1 i1 (λ c. JournalOf c (Born config.names life.entries)) image told life.stands
-            (same only) here,
-        ends_done one config rounds b image before journal did rc0 rc1 rv0 rv1 km0 km1 d.client.0
-            (d.client.0 ++ did.client) d.venue.0 (d.venue.0 ++ did.venue) d.clock.0
+        inl born,
+        (λ done. born),
+        ToItsEnd refl (ends_done one config rounds b image before journal did rc0 rc1 rv0 rv1 km0 km1
+            d.client.0 (d.client.0 ++ did.client) d.venue.0 (d.venue.0 ++ did.venue) d.clock.0
             (d.clock.0 ++ did.moments) d.client.1 d.client.2 d.venue.1 d.venue.2 d.clock.1
             d.clock.2 refl refl refl life.old life.before life.entries life.given life.last
-            life.begins life.each life.moments life.done,
+            life.begins life.each life.moments life.done),
       )
 
   pub live_ended : (end : LifeEnd) (config : Config) (rounds : ℕ) (told : Option (List ℕ))
@@ -395,15 +413,16 @@ module _ (one : (image : List ℕ) → HasOneReading image) where
       let found = stopped.left only image here in
       let c0 = d.client.0 in
       let v0 = d.venue.0 in
-      let k0 = d.clock.0 in
-      ends_broken one config rounds b image before journal did rc0 rc1 rv0 rv1 km0 km1 c0
-      (c0 ++ did.client) v0 (v0 ++ did.venue) k0 (k0 ++ did.moments) d.client.1 d.client.2
-      d.venue.1 d.venue.2 d.clock.1 d.clock.2 refl refl refl end stopped.of_event found.0 found.1
-      (ends_before one config rounds b image before journal did rc0 rc1 rv0 rv1 km0 km1 c0
-      (c0 ++ did.client) v0 (v0 ++ did.venue) k0 (k0 ++ did.moments) d.client.1 d.client.2
-      d.venue.1 d.venue.2 d.clock.1 d.clock.2 refl refl refl end rcm rvm stopped.old
-      stopped.entries found.0 stopped.given stopped.last cd vd ch vh stopped.begins stopped.most
-      stopped.moments found.2)
+      let k0 = d.clock.0 in (
+        found.0,
+        inl found.1,
+        (λ done. found.1),
+        ToAnEvent (life_fails one config rounds b image before journal did rc0 rc1 rv0 rv1 km0 km1
+            c0 (c0 ++ did.client) v0 (v0 ++ did.venue) k0 (k0 ++ did.moments) d.client.1 d.client.2
+            d.venue.1 d.venue.2 d.clock.1 d.clock.2 refl refl refl end rcm rvm stopped.old
+            stopped.entries found.0 stopped.given stopped.last cd vd ch vh stopped.begins
+            stopped.most stopped.moments found.2),
+      )
 
 -- a life that did not begin
 pub lived_unbegun : {T : Type 0} (r : Result T LifeEnd) (error : LifeEnd) (names : Names)
@@ -530,17 +549,22 @@ hung_none (Some a) m b down hung same =
     subst (λ u. GrowsBy (Some a) b (hang_up_if u)) (down a refl)
     (subst (λ (r : Option (List WireCall)). HangUpGrows r b) same hung)
 
-pub idle_untouched : (disk : Type 0) (rc0 rcm rc1 rv0 rvm rv1 : Option (List WireCall))
-    (km0 km1 : Option (List ℕ)) → ForSome rc0 (λ calls. is_within calls ≡ false)
+pub idle_untouched : (b0 b1 : Option (List ℕ)) (i0 i1 : List ℕ → Type 0)
+    (rc0 rcm rc1 rv0 rvm rv1 : Option (List WireCall)) (km0 km1 : Option (List ℕ))
+    (p0 p1 q0 q1 : ℕ) → ForSome rc0 (λ calls. is_within calls ≡ false)
     → ForSome rv0 (λ calls. is_within calls ≡ false) → HangUpGrows rcm rc1 → HangUpGrows rvm rv1
-    → IsUntouched disk (records rc0 rv0) (records rcm rvm) km0 km1
-    → IsIdle disk rc0 rc1 rv0 rv1 km0 km1
-idle_untouched disk rc0 rcm rc1 rv0 rvm rv1 km0 km1 cd vd ch vh un = record {
+    → IsUntouched (OnlyRead b0 b1 i0 i1) (records rc0 rv0) (records rcm rvm) km0 km1
+    → IsIdle i0 i1 (told b0 rc0 rv0 km0 p0 q0) (told b1 rc1 rv1 km1 p1 q1)
+idle_untouched b0 b1 i0 i1 rc0 rcm rc1 rv0 rvm rv1 km0 km1 p0 p1 q0 q1 cd vd ch vh un = record {
   disk = un.disk;
   client = hung_none rc0 rcm rc1 cd ch (ap (λ (r : Records). r.client) un.wires);
   venue = hung_none rv0 rvm rv1 vd vh (ap (λ (r : Records). r.venue) un.wires);
   clock = un.clock;
 }
+
+-- a life that is not done is not done
+pub not_done : (end : LifeEnd) (P : Type 0) → IsNotDone end → end ≡ ends.Done → P
+not_done end P not is = let none : ⊥ = subst IsNotDone is not in absurd none
 
 pub if_refused : (P Q : Type 0) (end : LifeEnd) → (P → Q) → IfRefused end P → IfRefused end Q
 if_refused P Q ends.Done f p = tt

@@ -19,18 +19,18 @@ use Rattle.life_laws.specs.Happens.{World, Added, nothing, up_on}
 use Rattle.life_laws.specs.Turn.{both, on_side, with_up, up_after, read_after, events_of}
 use Rattle.life_laws.specs.Turn.{Reads, counts, HappensIf, HappensOrNot, AllHappen, Turn, Round}
 use Rattle.life_laws.specs.Turn.{Rounds}
-use Rattle.life_laws.specs.Ends.{TurnFails, LifeFails}
+use Rattle.life_laws.specs.Ends.{TurnUpTo}
 use Rattle.gateway_life.specs.declared.end.LifeEnd.{LifeEnd}
 use Rattle.gateway_life.specs.State.{LifeState}
 use Rattle.gateway_life.specs.Ready.{world_of}
 use Rattle.gateway_life.specs.Stepped.{Records, Grew, AllStepped, Failed}
 use Rattle.gateway_life.specs.Turned.{StandsWhole, IfBytes, UnlessOpened, Turned, TurnBroken}
 use Rattle.gateway_life.specs.Turned.{record_on}
-use Rattle.gateway_life.specs.Life.{OneEnds, LastEnds, moment_of}
-use Rattle.gateway_life.specs.Rounds.{AreTold, RoundDone, RoundEnds, RoundBroken}
+use Rattle.gateway_life.specs.Life.{moment_of}
+use Rattle.gateway_life.specs.Rounds.{AreTold, RoundDone, RoundBroken}
 use Rattle.gateway_life.specs.Rounds.{RoundsDone, LifeDone, LifeBroken, ends_of}
 use Rattle.gateway_life.proofs.Turning.{grew_append, grew_none, both_end, both_three}
-use Rattle.gateway_life.proofs.Failing.{FailsFor, failed_fails, failed_grew}
+use Rattle.gateway_life.proofs.Failing.{failed_up_to, broken_grew}
 
 -- ---- a connection that stands has stood
 
@@ -195,63 +195,59 @@ module _ (config : Config) where
   }
 
   -- a turn in which an event ended the life
-  turn_fails : (end : LifeEnd) (side : Side) (old : Held) (w : World) (now : ℕ) (r0 r1 : Records)
+  turn_up_to : (end : LifeEnd) (side : Side) (old : Held) (w : World) (now : ℕ) (r0 r1 : Records)
       (entries : List Entry) (t : TurnBroken end side old config w now r0 r1 entries)
       (read : List ℕ) → is_some (record_on side r0) ≡ true
       → (up_on side w ≡ true → StandsWhole old read)
-      → (fails : TurnFails Answers config.names config.window side read w now
-      (both (on_side side (wire.Poll t.came ∷ []))
-      (both t.failed.all.added t.failed.broken.added)) entries)
-      × OneEnds end config (with_up side (up_after (up_on side w) fails.came) w)
-      (events_of side fails.came fails.bodies ++ Tick side ∷ []) now fails.rest entries fails.events
-  turn_fails end side old w now r0 r1 entries t read told whole =
+      → TurnUpTo Answers config.names config.window side read w now
+      (both (on_side side (wire.Poll t.came ∷ [])) t.failed.all.added) t.failed.mid t.failed.last
+  turn_up_to end side old w now r0 r1 entries t read told whole =
       let found = t.new read
       (if_bytes t.came (up_on side w) (StandsWhole old read) (t.may told) whole) in
-      let polled = with_up side (up_after (up_on side w) t.came) w in
-      let failed : FailsFor config end polled (events_of side t.came found.0 ++ Tick side ∷ []) now
-      (both t.failed.all.added t.failed.broken.added) entries =
-      subst (λ (es : List Event). FailsFor config end polled es now
-      (both t.failed.all.added t.failed.broken.added) entries) (sym found.3)
-      (failed_fails config end polled t.first found.1 now t.between r1 entries t.failed) in (
-        record {
-          came = t.came;
-          may = t.may told;
-          bodies = found.0;
-          new = found.2;
-          rest = both t.failed.all.added t.failed.broken.added;
-          events = failed.0;
-          all = refl;
-        },
-        failed.1,
-      )
+      record {
+        came = t.came;
+        may = t.may told;
+        bodies = found.0;
+        new = found.2;
+        rest = t.failed.all.added;
+        events = failed_up_to config end (with_up side (up_after (up_on side w) t.came) w)
+            (events_of side t.came found.0 ++ Tick side ∷ []) t.first found.1 now t.between r1
+            entries found.3 t.failed;
+        all = refl;
+      }
 
-  turn_fails_grew : (end : LifeEnd) (side : Side) (old : Held) (w : World) (now : ℕ)
-      (r0 r1 : Records) (entries : List Entry)
-      (t : TurnBroken end side old config w now r0 r1 entries)
-      → Grew r0 r1 (both (on_side side (wire.Poll t.came ∷ []))
-      (both t.failed.all.added t.failed.broken.added))
-  turn_fails_grew end side old w now r0 r1 entries t =
-      grew_append r0 t.between r1 (on_side side (wire.Poll t.came ∷ []))
-      (both t.failed.all.added t.failed.broken.added) t.polled
-      (failed_grew config end (with_up side (up_after (up_on side w) t.came) w) t.first now
-      t.between r1 entries t.failed)
+  turn_grew : (end : LifeEnd) (side : Side) (old : Held) (w : World) (now : ℕ) (r0 r1 : Records)
+      (entries : List Entry) (t : TurnBroken end side old config w now r0 r1 entries)
+      → Grew r0 t.failed.between
+      (both (on_side side (wire.Poll t.came ∷ [])) t.failed.all.added)
+  turn_grew end side old w now r0 r1 entries t =
+      grew_append r0 t.between t.failed.between (on_side side (wire.Poll t.came ∷ []))
+      t.failed.all.added t.polled t.failed.all.grew
+
+  -- both wires told their records when it began
+  turn_told : (end : LifeEnd) (side : Side) (old : Held) (w : World) (now : ℕ) (r0 r1 : Records)
+      (entries : List Entry) (t : TurnBroken end side old config w now r0 r1 entries)
+      → AreTold r1 → AreTold r0
+  turn_told end side old w now r0 r1 entries t told =
+      are_told_back r0 t.failed.between _ (turn_grew end side old w now r0 r1 entries t)
+      (are_told_back t.failed.between r1 t.failed.broken.added t.failed.broken.grew told)
 
   pub round_client : (end : LifeEnd) (old : LifeState) (now : ℕ) (r0 r1 : Records)
       (entries : List Entry)
       → TurnBroken end Client old.client config (world_of old.engine) now r0 r1 entries
       → RoundBroken end config old now r0 r1 entries
-  round_client end old now r0 r1 entries t =
-      let grew = turn_fails_grew end Client old.client (world_of old.engine) now r0 r1 entries t in
-      record {
-        added = both (on_side Client (wire.Poll t.came ∷ []))
-            (both t.failed.all.added t.failed.broken.added);
-        grew = grew;
-        ends = λ told reads whole.
-            let told0 = are_told_back r0 r1 _ grew told in
-            let fails = turn_fails end Client old.client (world_of old.engine) now r0 r1 entries t
-            reads.client told0.client whole.client in
-            inl (fails.0, fails.1);
-      }
+  round_client end old now r0 r1 entries t = record {
+    added = both (on_side Client (wire.Poll t.came ∷ [])) t.failed.all.added;
+    mid = t.failed.mid;
+    event = t.failed.last;
+    between = t.failed.between;
+    grew = turn_grew end Client old.client (world_of old.engine) now r0 r1 entries t;
+    up_to = λ told reads whole.
+        let told0 = turn_told end Client old.client (world_of old.engine) now r0 r1 entries t told in
+        inl (turn_up_to end Client old.client (world_of old.engine) now r0 r1 entries t reads.client
+        told0.client whole.client);
+    broken = t.failed.broken;
+  }
 
   pub round_venue : (end : LifeEnd) (old : LifeState) (next : Held) (mid : World) (now : ℕ)
       (r0 r1 r2 : Records) (entries : List Entry)
@@ -260,33 +256,32 @@ module _ (config : Config) where
       → RoundBroken end config old now r0 r2 entries
   unfolding turn_of
   round_venue end old next mid now r0 r1 r2 entries c t =
-      let grew = turn_fails_grew end Venue old.venue mid now r1 r2 entries t in
       let client_added = both (on_side Client (wire.Poll c.came ∷ [])) c.rest in
-      let venue_added = both (on_side Venue (wire.Poll t.came ∷ []))
-      (both t.failed.all.added t.failed.broken.added) in
+      let venue_added = both (on_side Venue (wire.Poll t.came ∷ [])) t.failed.all.added in
       record {
         added = both client_added venue_added;
-        grew = grew_append r0 r1 r2 client_added venue_added c.grew grew;
-        ends = λ told reads whole.
-            let told1 = are_told_back r1 r2 venue_added grew told in
+        mid = t.failed.mid;
+        event = t.failed.last;
+        between = t.failed.between;
+        grew = grew_append r0 r1 t.failed.between client_added venue_added c.grew
+            (turn_grew end Venue old.venue mid now r1 r2 entries t);
+        up_to = λ told reads whole.
+            let told1 = turn_told end Venue old.venue mid now r1 r2 entries t told in
             let told0 = are_told_back r0 r1 client_added c.grew told1 in
             let venue_whole : mid.venue_up ≡ true → StandsWhole old.venue reads.venue =
             λ up. whole.venue (other_client _ _ _ _ _ _ _ c up) in
-            let fails = turn_fails end Venue old.venue mid now r1 r2 entries t
-            reads.venue told1.venue venue_whole in
-            inr (
-              record {
-                mid = mid;
-                first = client_added;
-                rest = venue_added;
-                client = turn_of Client old.client next (world_of old.engine) mid now r0 r1 c
-                    reads.client told0.client whole.client;
-                client_may = c.may told0.client;
-                venue = fails.0;
-                all = refl;
-              },
-              fails.1,
-            );
+            inr (record {
+              between = mid;
+              first = client_added;
+              rest = venue_added;
+              client = turn_of Client old.client next (world_of old.engine) mid now r0 r1 c
+                  reads.client told0.client whole.client;
+              client_may = c.may told0.client;
+              venue = turn_up_to end Venue old.venue mid now r1 r2 entries t reads.venue told1.venue
+                  venue_whole;
+              all = refl;
+            });
+        broken = t.failed.broken;
       }
 
   -- ---- rounds one after another
@@ -373,71 +368,53 @@ module _ (config : Config) where
       (r0 r1 r2 : Records) (entries : List Entry) → RoundsDone config old mid given r0 r1
       → RoundBroken end config mid (moment_of last) r1 r2 entries
       → LifeBroken end config old given last r0 r2 entries
-  life_round end old mid given last r0 r1 r2 entries first broken = record {
-    added = both first.added broken.added;
-    grew = grew_append r0 r1 r2 first.added broken.added first.grew broken.grew;
-    ends = λ told reads whole.
-        let before = first.rounds (are_told_back r1 r2 broken.added broken.grew told) reads whole in
-        at reads before.0 before.1 (broken.ends told before.0 before.2);
+  life_round end old mid given last r0 r1 r2 entries first round = record {
+    added = both first.added round.added;
+    mid = round.mid;
+    event = round.event;
+    between = round.between;
+    grew = grew_append r0 r1 round.between first.added round.added first.grew round.grew;
+    up_to = λ told reads whole.
+        let told1 = are_told_back r1 r2 (both round.added round.broken.added)
+        (broken_grew config end (moment_of last) r1 r2 entries _ round) told in
+        let before = first.rounds told1 reads whole in
+        record {
+          between = world_of mid.engine;
+          read = before.0;
+          first = first.added;
+          rest = round.added;
+          rounds = before.1;
+          last = inl (round.up_to told before.0 before.2);
+          all = refl;
+        };
+    broken = round.broken;
   }
-    where
-      at : (reads reads' : Reads)
-          → Rounds Answers config.names config.window reads (world_of old.engine)
-          (map moment_of given) first.added reads' (world_of mid.engine)
-          → RoundEnds end config reads' (world_of mid.engine) (moment_of last) broken.added entries
-          → (fails : LifeFails Answers config.names config.window reads (world_of old.engine)
-          (map moment_of given) (moment_of last) (both first.added broken.added) entries)
-          × LastEnds end config fails.read fails.mid (moment_of last) fails.rest entries fails.fails
-      at reads reads' rounds (inl client) = (
-        record {
-          mid = world_of mid.engine;
-          read = reads';
-          first = first.added;
-          rest = broken.added;
-          rounds = rounds;
-          fails = inl client.0;
-          all = refl;
-        },
-        client.1,
-      )
-      at reads reads' rounds (inr venue) = (
-        record {
-          mid = world_of mid.engine;
-          read = reads';
-          first = first.added;
-          rest = broken.added;
-          rounds = rounds;
-          fails = inr (inl venue.0);
-          all = refl;
-        },
-        venue.1,
-      )
 
   pub life_end : (end : LifeEnd) (old mid : LifeState) (given : List ℕ) (last : ℕ)
       (r0 r1 r2 : Records) (entries : List Entry) → RoundsDone config old mid given r0 r1
       → Failed end config (world_of mid.engine) ends_of (moment_of last) r1 r2 entries
       → LifeBroken end config old given last r0 r2 entries
   life_end end old mid given last r0 r1 r2 entries first failed =
-      let added = both failed.all.added failed.broken.added in
-      let grew = failed_grew config end (world_of mid.engine) ends_of (moment_of last) r1 r2 entries
-      failed in
-      let fails : FailsFor config end (world_of mid.engine) ends_of (moment_of last) added entries =
-      failed_fails config end (world_of mid.engine) ends_of [] (moment_of last) r1 r2 entries
-      failed in
+      let grew = grew_append r1 failed.between r2 failed.all.added failed.broken.added
+      failed.all.grew failed.broken.grew in
       record {
-        added = both first.added added;
-        grew = grew_append r0 r1 r2 first.added added first.grew grew;
-        ends = λ told reads whole.
-            let before = first.rounds (are_told_back r1 r2 added grew told) reads whole in (
-              record {
-                mid = world_of mid.engine;
-                read = before.0;
-                first = first.added;
-                rest = added;
-                rounds = before.1;
-                fails = inr (inr fails.0);
-                all = refl;
-              },
-              fails.1,
-            );
+        added = both first.added failed.all.added;
+        mid = failed.mid;
+        event = failed.last;
+        between = failed.between;
+        grew = grew_append r0 r1 failed.between first.added failed.all.added first.grew
+            failed.all.grew;
+        up_to = λ told reads whole.
+            let before = first.rounds (are_told_back r1 r2 _ grew told) reads whole in
+            record {
+              between = world_of mid.engine;
+              read = before.0;
+              first = first.added;
+              rest = failed.all.added;
+              rounds = before.1;
+              last = inr (failed_up_to config end (world_of mid.engine) ends_of ends_of []
+                  (moment_of last) r1 r2 entries refl failed);
+              all = refl;
+            };
+        broken = failed.broken;
       }

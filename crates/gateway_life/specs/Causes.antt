@@ -57,6 +57,6 @@ HasJournalCause end names told before after = IfSome told (λ bytes. Only bytes 
     × ((image : List ℕ) → after image → (found : List Entry) × IsJournal names found image
     × WereCommitted end (entries ++ more) found))
 
--- the same of a engine that has ended a life
+-- the same of an engine that has ended a life
 abbrev pub IsCauseIn : LifeEnd → EngineState → Type 0
 IsCauseIn end engine = IsCause end engine.core.config.names engine.journal.entries

@@ -2,11 +2,13 @@ pub mod Ended
 pub mod Acted
 pub mod State
 pub mod Ready
+pub mod Fails
 pub mod Stepped
 pub mod Committed
 pub mod Turned
 pub mod Life
 pub mod Rounds
 pub mod Laws
+pub mod Lived
 pub mod Watched
 pub mod Causes

@@ -1,4 +1,4 @@
--- Inside: what holds of a engine between events, and what of a disk.
+-- Inside: what holds of an engine between events, and what of a disk.
 use Rattle.std.specs.Prelude.{◌≡◌, ℕ, false, List, IfSome}
 use Rattle.std.specs.declared.option.Option.{Option}
 use Rattle.std.specs.Option.{ForSome}

@@ -1,5 +1,5 @@
 -- Inside: rounds and the end of a life, by what they added to the records of the wires.
-use Rattle.std.specs.Prelude.{◌≡◌, ◌≢◌, ◌⊎◌, ℕ, true, List, [], ◌∷◌, map, is_some, IfSome, Result}
+use Rattle.std.specs.Prelude.{◌≡◌, ◌≢◌, ℕ, true, List, [], ◌∷◌, map, is_some, IfSome, Result}
 use Rattle.std.specs.Prelude.{Ok}
 use Rattle.std.specs.Prelude.{Err, ◌≤◌, ◌++◌, length}
 use Rattle.std.specs.Option.{ForSome}
@@ -16,13 +16,13 @@ use Rattle.wires.specs.Told.{GrowsBy}
 use Rattle.wires.specs.Wire.{WireCall}
 use Rattle.life_laws.specs.Happens.{World, Added}
 use Rattle.life_laws.specs.Turn.{Reads, Round, Rounds, Lives}
-use Rattle.life_laws.specs.Ends.{TurnFails, VenueFails, LifeFails}
+use Rattle.life_laws.specs.Ends.{RoundUpTo, LifeUpTo}
 use Rattle.gateway_life.specs.declared.end.LifeEnd.{LifeEnd}
 use Rattle.gateway_life.specs.declared.end.LifeEnd.TheVariants as ends
-use Rattle.gateway_life.specs.Life.{IsJournal, OneEnds, LastEnds, begun, moment_of}
+use Rattle.gateway_life.specs.Life.{IsJournal, begun, moment_of}
 use Rattle.gateway_life.specs.State.{LifeState}
 use Rattle.gateway_life.specs.Ready.{Ready, world_of, LeavesOf}
-use Rattle.gateway_life.specs.Stepped.{Records, Grew, IsOfEvent}
+use Rattle.gateway_life.specs.Stepped.{Records, Grew, IsOfEvent, Broken}
 use Rattle.gateway_life.specs.Turned.{StandsWhole, IsDrained}
 
 -- what holds of a life between its rounds
@@ -53,21 +53,22 @@ pub record RoundDone (config : Config) (old new : LifeState) (now : ℕ) (r0 r1 
       (world_of new.engine)
       × StoodFor new reads'
 
--- An event of a round failed, the client's or the venue's, and why that ended the life.
-abbrev pub RoundEnds : LifeEnd → Config → Reads → World → ℕ → Added → List Entry → Type 0
-RoundEnds end config reads before now added entries =
-    ((client : TurnFails Answers config.names config.window Client reads.client before now added
-    entries) × OneEnds end config _ _ now client.rest entries client.events)
-    ⊎ ((venue : VenueFails Answers config.names config.window reads before now added entries)
-    × OneEnds end config _ _ now venue.venue.rest entries venue.venue.events)
-
--- a round in which an event ended the life, and why
-pub record RoundBroken (end : LifeEnd) (config : Config) (old : LifeState) (now : ℕ)
-    (r0 r1 : Records) (entries : List Entry) : Type 0 where
+-- An event ended the life, behind what led up to it.
+pub record BrokenAt (end : LifeEnd) (config : Config) (now : ℕ) (r0 r1 : Records)
+    (entries : List Entry) (leads : Added → World → Event → Type 0) : Type 0 where
   pub added : Added
-  pub grew : Grew r0 r1 added
-  pub ends : AreTold r1 → (reads : Reads) → StoodFor old reads
-      → RoundEnds end config reads (world_of old.engine) now added entries
+  pub mid : World
+  pub event : Event
+  pub between : Records
+  pub grew : Grew r0 between added
+  pub up_to : AreTold r1 → leads added mid event
+  pub broken : Broken end config mid event now between r1 entries
+
+-- a round in which one did
+abbrev pub RoundBroken : LifeEnd → Config → LifeState → ℕ → (r0 r1 : Records) → List Entry → Type 0
+RoundBroken end config old now r0 r1 entries =
+    BrokenAt end config now r0 r1 entries (λ added mid event. (reads : Reads) → StoodFor old reads
+    → RoundUpTo Answers config.names config.window reads (world_of old.engine) now added mid event)
 
 -- rounds one after another, whole, at these moments
 pub record RoundsDone (config : Config) (old new : LifeState) (given : List ℕ) (r0 r1 : Records)
@@ -91,15 +92,13 @@ pub record LifeDone (config : Config) (old : LifeState) (given : List ℕ) (last
       → Lives Answers config.names config.window reads (world_of old.engine)
       (map moment_of given) (moment_of last) added after
 
--- the same up to an event that failed, and why that ended the life
-pub record LifeBroken (end : LifeEnd) (config : Config) (old : LifeState) (given : List ℕ)
-    (last : ℕ) (r0 r1 : Records) (entries : List Entry) : Type 0 where
-  pub added : Added
-  pub grew : Grew r0 r1 added
-  pub ends : AreTold r1 → (reads : Reads) → StoodFor old reads
-      → (fails : LifeFails Answers config.names config.window reads (world_of old.engine)
-      (map moment_of given) (moment_of last) added entries)
-      × LastEnds end config fails.read fails.mid (moment_of last) fails.rest entries fails.fails
+-- the same up to an event that ended the life
+abbrev pub LifeBroken : LifeEnd → Config → LifeState → (given : List ℕ) → (last : ℕ)
+    → (r0 r1 : Records) → List Entry → Type 0
+LifeBroken end config old given last r0 r1 entries =
+    BrokenAt end config (moment_of last) r0 r1 entries (λ added mid event. (reads : Reads)
+    → StoodFor old reads → LifeUpTo Answers config.names config.window reads (world_of old.engine)
+    (map moment_of given) (moment_of last) added mid event)
 
 -- how a life begins, over these entries of the disk
 pub record BeginsWith (config : Config) (told : Option (List ℕ)) (before : List Entry)

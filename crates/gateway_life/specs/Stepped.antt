@@ -1,24 +1,20 @@
 -- Inside: events of a life, by what they added to the records of the wires.
-use Rattle.std.specs.Prelude.{◌≡◌, ◌⊎◌, ℕ, ◌+◌, ◌≤◌, List, ◌∷◌, ◌++◌, length, Some}
-use Rattle.std.specs.Prelude.{Result, Ok, Err, true}
+use Rattle.std.specs.Prelude.{◌≡◌, ◌⊎◌, ℕ, ◌≤◌, List, ◌∷◌, ◌++◌, Result, Ok, Err, true}
 use Rattle.std.specs.declared.option.Option.{Option}
 use Rattle.std.specs.Option.{option_to_list}
 use Rattle.outside.specs.Causes.{Rose}
-use Rattle.outside.specs.declared.disk.TheConstants.{MAX_DISK}
-use Rattle.gate_log.specs.Records.{blocks}
 use Rattle.pair_entries.specs.declared.entry.Entry.{Entry}
-use Rattle.pair_entries.specs.Payload.{IsEntry, entry_bytes}
-use Rattle.pair_journal.specs.Calls.{payloads_of}
 use Rattle.event_decisions.specs.Event.{Event}
 use Rattle.event_decisions.specs.Decide.{Decision, Decides}
 use Rattle.message_answers.specs.Answer.{Answers}
 use Rattle.gateway_config.specs.declared.config.Config.{Config}
 use Rattle.wires.specs.Told.{GrowsBy}
 use Rattle.wires.specs.Wire.{WireCall}
-use Rattle.life_laws.specs.Happens.{World, Added, nothing, Happens, Fails}
+use Rattle.life_laws.specs.Happens.{World, Added, Happens}
 use Rattle.life_laws.specs.Turn.{HappensOrNot, AllHappen, counts}
 use Rattle.gateway_life.specs.declared.end.LifeEnd.{LifeEnd}
 use Rattle.gateway_life.specs.declared.end.LifeEnd.TheVariants as ends
+use Rattle.gateway_life.specs.Fails.{IsWhy, FailsBy}
 
 -- the records of both wires
 pub record Records : Type 0 where
@@ -64,28 +60,6 @@ MayStand ends.DiskFault config before event now entries =
     × Decides Answers config.names config.window before.entries before.sessions event now (Ok d)
     × (entries ≡ before.entries ++ option_to_list d.entry))
 MayStand end config before event now entries = entries ≡ before.entries
-
--- how an event fails by what ended the life: only a disk fault may leave its entry
-abbrev pub FailsBy : LifeEnd → Config → World → Event → ℕ → Added → List Entry → Type 0
-FailsBy ends.DiskFault config before event now added entries =
-    Fails Answers config.names config.window before event now added entries
-FailsBy end config before event now added entries =
-    (entries ≡ before.entries) × (added ≡ nothing)
-
--- why an event ended a life: its record had no room; a number was spent; the disk or memory, of
--- which nothing is said here
-abbrev pub IsWhy : LifeEnd → Config → World → Event → ℕ → Type 0
-IsWhy ends.JournalFull config before event now =
-    (d : Decision) × (entry : Entry)
-    × Decides Answers config.names config.window before.entries before.sessions event now (Ok d)
-    × (d.entry ≡ Some entry) × IsEntry entry
-    × (MAX_DISK ≤ length (blocks (payloads_of config.names before.entries)) + 5
-    + length (entry_bytes entry))
-IsWhy (ends.NumbersSpent side) config before event now =
-    Decides Answers config.names config.window before.entries before.sessions event now (Err side)
-IsWhy ends.DiskFault config before event now = Unit {0}
-IsWhy ends.NoMemory config before event now = Unit {0}
-IsWhy end config before event now = ⊥
 
 -- an event may end a life so
 abbrev pub IsOfEvent : LifeEnd → Type 0

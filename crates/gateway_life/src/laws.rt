@@ -1,7 +1,7 @@
 //! What holds of every life. Each law is a contract: its function does nothing else.
 
-ghost use Rattle.gateway_life.specs.Laws.{LivesLeave, LivesThatEndLeave, EndsLeave};
-ghost use Rattle.gateway_life.specs.Laws.{FirstLivesGoOn, NextLivesGoOn, ReadNamesAreShown};
+ghost use Rattle.gateway_life.specs.Laws.{LivesLeave, MessagesAreTaken, FirstLivesBegin};
+ghost use Rattle.gateway_life.specs.Laws.{ReadNamesAreShown};
 
 use event_decisions::laws::bodies_are_read;
 use heard_laws::laws::client_books_follow;
@@ -18,15 +18,14 @@ impl Answering for Messages {
     ghost answers = { Answers };
 }
 
-/// A life leaves a lawful journal, which justifies all that was written and read, and on each side
-/// a receiver that took the beginning of what was committed to it, each message once and in order,
-/// and whose gaps are filled by what is sent again. The client's book of orders is that of the
-/// venue's reports. Each message of such a journal can be sent: what a session says, and each
-/// answer.
+/// However it ended, a life leaves a lawful journal, which justifies all that was written and read,
+/// and on each side a receiver that took the beginning of what was committed to it, each message
+/// once and in order, and whose gaps are filled by what is sent again. The client's book of orders
+/// is that of the venue's reports. Each message of such a journal can be sent: what a session says,
+/// and each answer.
 pub fn lives_leave()
-    ensures ended { LivesLeave }
-    ensures broken { LivesThatEndLeave }
-    ensures ends { EndsLeave }
+    ensures lives { LivesLeave }
+    ensures taken { MessagesAreTaken }
 {
     bodies_are_read();
     answers_are_given_out();
@@ -45,9 +44,8 @@ pub fn read_names_are_shown()
     ensures { ReadNamesAreShown }
 {}
 
-/// Lives follow one another: the first goes on from a journal without entries and nothing that was
-/// written or read, and each other from what the one before it left.
+/// Lives follow one another, each from what the one before it left: the first goes on from a
+/// journal without entries and nothing that was written or read.
 pub fn lives_follow()
-    ensures first { FirstLivesGoOn }
-    ensures next { NextLivesGoOn }
+    ensures { FirstLivesBegin }
 {}

@@ -4,19 +4,17 @@ ghost use Rattle.std.specs.Prelude.{◌≡◌, ◌⊎◌, ◌≤◌, ◌++◌, �
 ghost use Rattle.std.specs.Prelude.{IfSome, OnOk, OnErr, None, is_some, [], ◌∷◌, length};
 ghost use Rattle.std.specs.Option.{ForSome};
 ghost use Rattle.outside.specs.Causes.{next_count};
-ghost use Rattle.outside.specs.Disk.{HasOneImage, Only};
+ghost use Rattle.outside.specs.Disk.{HasOneImage};
 ghost use Rattle.wires.specs.Told.{GrowsBy, Keeps};
-ghost use Rattle.wires.specs.Wire.{Connection, is_within};
-ghost use Rattle.life_laws.specs.Justified.{transcript_from};
-ghost use Rattle.pair_entries.specs.declared.entry.Entry.{Entry};
+ghost use Rattle.wires.specs.Wire.{is_within};
 ghost use Rattle.pair_journal.specs.Calls.{BornOrNot};
 ghost use Rattle.pair_journal.specs.Journal.{JournalOf, Unborn, Born};
 ghost use Rattle.wire_sends.specs.Sent.{Agrees};
 ghost use Rattle.gateway_life.specs.Stepped.{HasCauseOf, AllStepped, Failed, records};
-ghost use Rattle.gateway_life.specs.Life.{Done, IsJournal, Ends, ended, counted_on, begun};
-ghost use Rattle.gateway_life.specs.Life.{moment_of, IsAnswered, IfRefused, IsIdle, IsForeign, Did};
+ghost use Rattle.gateway_life.specs.Life.{ended, counted_on, begun, moment_of, IfRefused};
+ghost use Rattle.gateway_life.specs.Life.{IsForeign};
+ghost use Rattle.gateway_life.specs.Lived.{Lived, told};
 ghost use Rattle.gate_log.specs.Log.{OnlyReads};
-ghost use Rattle.gateway_life.specs.Laws.{GoesOnFrom, LeavesImage};
 ghost use Rattle.gateway_life.specs.Ready.{LeavesOf, world_of};
 ghost use Rattle.gateway_life.specs.Rounds.{IsLive, RoundDone, RoundBroken, ends_of, Begins};
 ghost use Rattle.gateway_life.specs.Rounds.{RoundsDone, LifeDone, LifeBroken, LifeWhole};
@@ -424,55 +422,18 @@ pub fn live<D: Disk, C: Wire, V: Wire, K: Clock>(
 ) -> LifeEnd
     requires client { ForSome (C.recorded client.old) (λ calls. is_within calls ≡ false) }
     requires venue { ForSome (V.recorded venue.old) (λ calls. is_within calls ≡ false) }
-    // Where all tell what was done: each image that the disk may leave is a journal that goes on
-    // from the one at entry by the events of this life, and what was done on the wires is what
-    // these events call for.
-    ensures ends { IfSome (D.bytes disk.old) (λ bytes. Only bytes (D.image disk.old) →
-        (before : List Entry) → IsJournal config.now.names before bytes → (did : Done) →
-        Did (C.recorded client.old) (C.recorded client.new) (V.recorded venue.old)
-        (V.recorded venue.new) (K.moments clock.old) (K.moments clock.new) did →
-        (image : List ℕ) → D.image disk.new image →
-        Ends result config.now before rounds did image) }
-    // Where the journal at entry is lawful and justifies what was written and read before, so is
-    // each image, with what was written and read in this life; and whatever of it arrives, each
-    // side takes the beginning of what was committed to it, each message once and in order, and
-    // the client's book of orders is that of the venue's reports.
-    ensures leaves { IfSome (D.bytes disk.old) (λ bytes. Only bytes (D.image disk.old) →
-        (before : List Entry) → IsJournal config.now.names before bytes →
-        (client_side venue_side : List Connection) →
-        GoesOnFrom config.now.names before client_side venue_side → (did : Done) →
-        Did (C.recorded client.old) (C.recorded client.new) (V.recorded venue.old)
-        (V.recorded venue.new) (K.moments clock.old) (K.moments clock.new) did →
-        (image : List ℕ) → D.image disk.new image →
-        LeavesImage config.now.names image (transcript_from client_side did.client)
-        (transcript_from venue_side did.venue)) }
-    // What is no journal, or one of other names, is refused. It is only read, and nothing is done,
-    // also where a disk fault or want of memory comes first.
-    ensures begins { IfSome (D.bytes disk.old) (IsAnswered result config.now.names) }
-    ensures idle { IfRefused result (IsIdle (OnlyReads D.bytes D.image disk.old disk.new)
-        (C.recorded client.old) (C.recorded client.new) (V.recorded venue.old)
-        (V.recorded venue.new) (K.moments clock.old) (K.moments clock.new)) }
-    ensures foreign { IfSome (D.bytes disk.old) (λ b. IsForeign config.now.names b →
-        IsIdle (OnlyReads D.bytes D.image disk.old disk.new)
-        (C.recorded client.old) (C.recorded client.new) (V.recorded venue.old)
-        (V.recorded venue.new) (K.moments clock.old) (K.moments clock.new)) }
-    // A life that came to its end leaves one image, from which the next one goes on.
-    ensures durable { result ≡ LifeEnd.Done → HasOneImage (D.bytes disk.old) (D.image disk.old) →
-        HasOneImage (D.bytes disk.new) (D.image disk.new) }
+    // Each image that the disk may leave is a journal that goes on from the one at entry by the
+    // events of this life; and what is no journal is left alone.
+    ensures lived { Lived result config.now rounds (D.image disk.old) (D.image disk.new)
+        (told (D.bytes disk.old) (C.recorded client.old) (V.recorded venue.old)
+        (K.moments clock.old) (C.polls client.old) (V.polls venue.old))
+        (told (D.bytes disk.new) (C.recorded client.new) (V.recorded venue.new)
+        (K.moments clock.new) (C.polls client.new) (V.polls venue.new)) }
     // Each tap saw the entries that this life committed, in order, and no others: each image is the
     // journal at entry and then what was shown. Only a disk fault may leave one more, not shown.
     ensures taps { TapsSaw (state_by has_failed entries tally counts_all refused) taps.old.items
         taps.new.items config.now.names (D.bytes disk.old) (D.image disk.old)
         (D.image disk.new) result }
-    // A full journal has no room for what some event decides behind its entries, and of spent
-    // numbers the next is the last, or past it, whatever the wires and the clock tell.
-    ensures journal_cause { HasJournalCause result config.now.names (D.bytes disk.old)
-        (D.image disk.old) (D.image disk.new) }
-    // Each wire was polled once a round.
-    ensures client_polls { result ≡ LifeEnd.Done →
-        C.polls client.new ≡ counted_on rounds (C.polls client.old) }
-    ensures venue_polls { result ≡ LifeEnd.Done →
-        V.polls venue.new ≡ counted_on rounds (V.polls venue.old) }
     // The scripts that the wires play, and the moments that the clock follows, stay.
     ensures client_plays { Keeps (C.plays client.old) (C.plays client.new) }
     ensures venue_plays { Keeps (V.plays venue.old) (V.plays venue.new) }

@@ -10,7 +10,8 @@ ghost use Rattle.gateway_life.specs.Life.{ended};
 ghost use Rattle.drop_taps.specs.Shown.{state_by};
 ghost use Rattle.gateway_life.specs.Watched.{TapsSaw};
 ghost use Rattle.gateway_serve.specs.declared.error.ServeError.TheVariants as errors;
-ghost use Rattle.gateway_serve.specs.Serve.{IsConfigured, Served, Lived};
+ghost use Rattle.gateway_life.specs.Lived.{Lived, told};
+ghost use Rattle.gateway_serve.specs.Serve.{IsConfigured, Served};
 
 use crate::ServeError;
 use drop_taps::Tap;
@@ -60,22 +61,10 @@ pub fn serve<I: Source, D: Disk, C: Wire, V: Wire, K: Clock>(
     ensures serves { (taken : List ℕ) × Consumes (I.left input.old) (I.left input.new) taken
         × Served taken (I.left input.new) result (λ config end. Lived end config rounds
         (D.image disk.old) (D.image disk.new)
-        (record {
-          bytes = D.bytes disk.old;
-          client = C.recorded client.old;
-          venue = V.recorded venue.old;
-          moments = K.moments clock.old;
-          client_polls = C.polls client.old;
-          venue_polls = V.polls venue.old;
-        })
-        (record {
-          bytes = D.bytes disk.new;
-          client = C.recorded client.new;
-          venue = V.recorded venue.new;
-          moments = K.moments clock.new;
-          client_polls = C.polls client.new;
-          venue_polls = V.polls venue.new;
-        })
+        (told (D.bytes disk.old) (C.recorded client.old) (V.recorded venue.old)
+        (K.moments clock.old) (C.polls client.old) (V.polls venue.old))
+        (told (D.bytes disk.new) (C.recorded client.new) (V.recorded venue.new)
+        (K.moments clock.new) (C.polls client.new) (V.polls venue.new))
         × TapsSaw (state_by has_failed entries tally counts_all refused) taps.old.items
         taps.new.items config.names (D.bytes disk.old) (D.image disk.old) (D.image disk.new) end) }
     ensures ended { OnOk result (I.ended input.new ≡ true) }

@@ -9,7 +9,7 @@ ghost use Rattle.gate_log.specs.Log.{OnlyReads};
 ghost use Rattle.wires.specs.Wire.{is_within};
 ghost use Rattle.drop_taps.specs.Shown.{state_by};
 ghost use Rattle.gateway_life.specs.Watched.{TapsSaw};
-ghost use Rattle.gateway_serve.specs.Serve.{Lived};
+ghost use Rattle.gateway_life.specs.Lived.{Lived, told};
 ghost use Rattle.capture_replay.specs.Input.{Replayed};
 ghost use Rattle.capture_replay.specs.Drills.{Drills};
 ghost use Rattle.gateway_top.specs.Command.{command_of, calls_input, calls_output, calls_disk};
@@ -192,22 +192,10 @@ pub fn run<I: Source, O: Sink, D: Disk, C: Wire, V: Wire, K: Clock>(
         × (clock.new ≡ clock.old) × (taps.new ≡ taps.old))
         (λ config end. Lived end config rounds
         (D.image disk.old) (D.image disk.new)
-        (record {
-          bytes = D.bytes disk.old;
-          client = C.recorded client.old;
-          venue = V.recorded venue.old;
-          moments = K.moments clock.old;
-          client_polls = C.polls client.old;
-          venue_polls = V.polls venue.old;
-        })
-        (record {
-          bytes = D.bytes disk.new;
-          client = C.recorded client.new;
-          venue = V.recorded venue.new;
-          moments = K.moments clock.new;
-          client_polls = C.polls client.new;
-          venue_polls = V.polls venue.new;
-        })
+        (told (D.bytes disk.old) (C.recorded client.old) (V.recorded venue.old)
+        (K.moments clock.old) (C.polls client.old) (V.polls venue.old))
+        (told (D.bytes disk.new) (C.recorded client.new) (V.recorded venue.new)
+        (K.moments clock.new) (C.polls client.new) (V.polls venue.new))
         × TapsSaw (state_by has_failed entries tally counts_all refused) taps.old.items
         taps.new.items config.names (D.bytes disk.old) (D.image disk.old) (D.image disk.new) end)) }
 

@@ -8,13 +8,15 @@ use Rattle.std.proofs.lemmas.Bool.Decides.{nat_tests}
 use Rattle.order_meaning.specs.declared.Side.{Side}
 use Rattle.pair_entries.specs.declared.entry.Out.{Out}
 use Rattle.pair_entries.specs.declared.entry.Entry.{Entry}
-use Rattle.life_laws.specs.Forms.{Placed, all_placed, Form, Again}
+use Rattle.life_laws.specs.Forms.{Placed, all_placed, Form, Again, AreForms}
 use Rattle.life_laws.specs.Taken.{Message, Read, GapFill, Taking, take_more, read_of_form}
 use Rattle.life_laws.specs.Repeats.{Run, close_run, extend_run, repeat_one, run_after, repeats}
+use Rattle.life_laws.specs.Repeats.{repeat_forms}
 use Rattle.life_laws.specs.Standing.{NumberedFrom}
-use Rattle.life_laws.specs.Laws.{ShowsNumbers, RepeatsFillGaps}
+use Rattle.life_laws.specs.Laws.{ShowsNumbers, RepeatsFillGaps, FramesFillGaps}
 use Rattle.life_laws.proofs.Grown.{if_yes}
-use Rattle.life_laws.proofs.Repeats.{found}
+use Rattle.life_laws.proofs.FirstHalf.{read_all}
+use Rattle.life_laws.proofs.Repeats.{found, repeats_are}
 use Rattle.std.proofs.lemmas.List.{map-append}
 
 -- the number that is expected before a run is closed
@@ -99,3 +101,12 @@ repeats_fill read message_of side entries from to now shows numbered low order h
     let e : from + (to + 1 - from) ≡ to + 1 = omega (arith, order) in
     fill read message_of shows side entries numbered (to + 1 - from) None from now low
     (omega (arith, e, high)) ∙ e
+
+pub frames_fill : FramesFillGaps
+frames_fill read message_of names side entries from to now shows numbered known low order high =
+    let are : AreForms entries side (repeat_forms entries side from to now) =
+    repeats_are entries side numbered (to + 1 - from) None from now tt low
+    (omega (arith, order, high)) in
+    ap (λ l. (take_more from l).next)
+    (read_all read message_of names side entries known (repeat_forms entries side from to now) are)
+    ∙ repeats_fill read message_of side entries from to now shows numbered low order high

@@ -138,10 +138,55 @@ module _ (read : List ℕ → Read) (message_of : Out → Message) (names : Name
             )
       ]
 
+  -- all of them are cut into these forms
+  cut_all : (forms : List Form) → AreForms entries side forms → (n : ℕ)
+      → length (flat_map (form_frame names side) forms) ≤ n
+      → filter_map body_of
+      (pieces_within n (kind_of side) (flat_map (form_frame names side) forms))
+      ≡ map known.body forms
+  cut_all [] are zero enough = refl
+  cut_all [] are (suc n) enough =
+      ap (λ f. filter_map body_of (option_map_or (λ p. p ∷ pieces_within n (kind_of side)
+      (drop (length (bytes_of p)) [])) (piece_at f []) [])) (found_nil (kind_of side))
+  cut_all (f ∷ forms) are zero enough =
+      let frame = form_frame names side f in
+      let more = flat_map (form_frame names side) forms in
+      let few : length (frame ++ more) ≤ 0 = enough in
+      let some = frame_some (kind_of side) (known.body f) frame (known.frames f are.0) in
+      absurd (omega (arith, few, some, length-append frame more))
+  cut_all (f ∷ forms) are (suc n) enough =
+      let kind = kind_of side in
+      let frame = form_frame names side f in
+      let more = flat_map (form_frame names side) forms in
+      let some = frame_some kind (known.body f) frame (known.frames f are.0) in
+      let few : length (frame ++ more) ≤ suc n = enough in
+      let size : length (frame ++ more) ≡ length frame + length more = length-append frame more in
+      let next : Found → List Piece = λ found_here. option_map_or (λ p. p ∷ pieces_within n kind
+      (drop (length (bytes_of p)) (frame ++ more))) (piece_at found_here (frame ++ more)) [] in
+      let whole : found kind (frame ++ more) ≡ Whole (known.body f) more =
+      found_frame kind (known.body f) frame more (known.frames f are.0) in
+      let taken : take (length (frame ++ more) - length more) (frame ++ more) ≡ frame =
+      take_at frame more (length (frame ++ more) - length more) (omega (arith, size)) in
+      let dropped : drop (length frame) (frame ++ more) ≡ more =
+      drop_at frame more (length frame) refl in
+      ap (λ f. filter_map body_of (next f)) whole
+      ∙ ap (λ l. known.body f ∷ filter_map body_of (pieces_within n kind
+      (drop (length l) (frame ++ more)))) taken
+      ∙ ap (λ l. known.body f ∷ filter_map body_of (pieces_within n kind l)) dropped
+      ∙ ap (λ l. known.body f ∷ l) (cut_all forms are.1 n (omega (arith, few, size, some)))
+
   reads_are : (forms : List Form) → AreForms entries side forms
       → map read (map known.body forms) ≡ map (read_of_form read message_of) forms
   reads_are [] are = refl
   reads_are (f ∷ forms) are = cc (known.reads f are.0, reads_are forms are.1)
+
+  -- and read as what they show
+  pub read_all : (forms : List Form) → AreForms entries side forms
+      → map read (bodies_of (kind_of side) (flat_map (form_frame names side) forms))
+      ≡ map (read_of_form read message_of) forms
+  read_all forms are =
+      ap (λ l. map read l) (cut_all forms are (length (flat_map (form_frame names side) forms))
+      (omega arith)) ∙ reads_are forms are
 
   pub record Chosen (fronts : List (List ℕ)) : Type 0 where
     pub forms : List Form

@@ -15,4 +15,5 @@ mod Lives
 mod Begun
 mod Failed
 mod Filled
+mod Answered
 mod Received

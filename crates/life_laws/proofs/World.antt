@@ -128,8 +128,9 @@ module _ (answers : List Entry → (active : Bool) → Option Asked → Option W
     (added : Added) (cl vl : List Connection) (cp vp : List (List ℕ))
     (h : Holds answers names before cl vl cp vp) (cn : IsNext Client event cp)
     (vn : IsNext Venue event vp) where
-  adds-to : (d : Decision) → Decides answers names window before.entries before.sessions event now
-      (Ok d) → Extends before.entries event now d
+  pub adds-to : (d : Decision)
+      → Decides answers names window before.entries before.sessions event now (Ok d)
+      → Extends before.entries event now d
   adds-to d decides = extends names window before.entries before.sessions event now decides.words d
       decides.decided h.sides h.numbers h.counted
 

@@ -1,6 +1,8 @@
 -- Own: what holds of every life, whatever answers its messages; docs/DEFINITIONS.md, "A life".
-use Rattle.std.specs.Prelude.{◌≡◌, ℕ, ◌+◌, ◌≤◌, Bool, true, false, List, [], map, length}
+use Rattle.std.specs.Prelude.{◌≡◌, ℕ, ◌+◌, ◌≤◌, Bool, true, false, List, [], ◌++◌, map, length}
+use Rattle.std.specs.Prelude.{Some}
 use Rattle.std.specs.declared.option.Option.{Option}
+use Rattle.std.specs.List.{flat_map}
 use Rattle.order_meaning.specs.declared.Side.{Side}
 use Rattle.order_meaning.specs.declared.Side.TheVariants.{Client, Venue}
 use Rattle.order_meaning.specs.declared.names.Names.{Names}
@@ -9,17 +11,20 @@ use Rattle.pair_entries.specs.declared.entry.Entry.{Entry}
 use Rattle.pair_journal.specs.Numbers.{numbers_after, first_numbers}
 use Rattle.event_decisions.specs.Event.{Event}
 use Rattle.event_decisions.specs.Decide.{Asked, Words, Sessions, AreSides, numbers_of, IsLawful}
+use Rattle.event_decisions.specs.Decide.{Repeat}
 use Rattle.wires.specs.Wire.{Connection, may_come}
-use Rattle.life_laws.specs.Forms.{Form, AreForms, all_placed}
+use Rattle.session_frames.specs.Frames.{kind_of}
+use Rattle.life_laws.specs.Bodies.{bodies_of}
+use Rattle.life_laws.specs.Forms.{Form, AreForms, all_placed, form_frame}
 use Rattle.life_laws.specs.Repeats.{repeat_forms}
 use Rattle.life_laws.specs.Justified.{IsJustified, transcript_from, Leaves}
 use Rattle.life_laws.specs.Taken.{Message, Read, take_more, committed_below, TakesInOrder}
 use Rattle.life_laws.specs.Taken.{read_of_form, AreReadAsForms}
 use Rattle.life_laws.specs.Receiver.{read_body, message_of_out, AreSent}
-use Rattle.life_laws.specs.Happens.{World, Added, Happens, Stops}
+use Rattle.life_laws.specs.Happens.{World, Added, Happens, Stops, Fails, pieces_to}
 use Rattle.life_laws.specs.Standing.{Holds, IsNext, pending_after, NumberedFrom}
-use Rattle.life_laws.specs.Ends.{LifeFails}
-use Rattle.life_laws.specs.Turn.{Turn, Lives, Reads, LastRead, last_read}
+use Rattle.life_laws.specs.Ends.{LifeUpTo}
+use Rattle.life_laws.specs.Turn.{Turn, Lives, Reads, LastRead, last_read, both}
 
 -- an out shows its number
 abbrev pub ShowsNumbers : (Out → Message) → Type 0
@@ -55,12 +60,34 @@ RepeatsFillGaps =
     take_more from (map (read_of_form read message_of) (repeat_forms entries side from to now)) in
     taking.next ≡ to + 1
 
+-- It is so of the frames that are written of it, where they are read as what they show.
+abbrev pub FramesFillGaps : Type 0
+FramesFillGaps =
+    (read : List ℕ → Read) (message_of : Out → Message) (names : Names) (side : Side)
+    (entries : List Entry) (from to now : ℕ) → ShowsNumbers message_of →
+    NumberedFrom 1 (all_placed side entries) →
+    AreReadAsForms read message_of names entries side →
+    1 ≤ from → from ≤ to + 1 → to ≤ length (all_placed side entries) →
+    let frames = flat_map (form_frame names side) (repeat_forms entries side from to now) in
+    let taking = take_more from (map read (bodies_of (kind_of side) frames)) in
+    taking.next ≡ to + 1
+
 -- Where each out can be sent, what is written of each form is read as that form.
 abbrev pub WhatIsSentIsRead : Type 0
 WhatIsSentIsRead =
     (names : Names) (side : Side) (entries : List Entry) → AreSent names side entries →
     NumberedFrom 1 (all_placed side entries) →
     AreReadAsForms read_body message_of_out names entries side
+
+-- The first of these frames lead a receiver that expects the first number that was asked for to the
+-- number past the last.
+pub record FillsGap (read : List ℕ → Read) (asked : Repeat) (pieces : List (List ℕ)) : Type 0 where
+  pub frames : List (List ℕ)
+  pub rest : List (List ℕ)
+  pub joined : pieces ≡ frames ++ rest
+  pub filled :
+      let bodies = bodies_of (kind_of asked.side) (flat_map (λ frame. frame) frames) in
+      (take_more asked.from (map read bodies)).next ≡ asked.to + 1
 
 module _ (answers : List Entry → (active : Bool) → Option Asked → Option Words → Type 0) where
   -- One event keeps all that holds between events: a lawful journal, its numbers, and what was
@@ -76,6 +103,22 @@ module _ (answers : List Entry → (active : Bool) → Option Asked → Option W
       Holds answers names after
       (transcript_from client_side added.client) (transcript_from venue_side added.venue)
       (pending_after Client event client_pending) (pending_after Venue event venue_pending)
+
+  -- AN EVENT THAT SENDS AGAIN FILLS THE GAP, where what is written is read as what it shows: the
+  -- frames that a ResendRequest is answered by go first.
+  abbrev pub EventsFillGaps : Type 0
+  EventsFillGaps =
+      (read : List ℕ → Read) (message_of : Out → Message) (names : Names) (window : ℕ)
+      (before after : World) (event : Event) (now : ℕ) (added : Added)
+      (client_side venue_side : List Connection)
+      (client_pending venue_pending : List (List ℕ)) → ShowsNumbers message_of →
+      Holds answers names before client_side venue_side client_pending venue_pending →
+      IsNext Client event client_pending → IsNext Venue event venue_pending →
+      (happens : Happens answers names window before event now added after) (asked : Repeat) →
+      happens.decision.repeat ≡ Some asked → asked.from ≤ asked.to + 1 →
+      AreReadAsForms read message_of names after.entries asked.side →
+      FillsGap read asked
+      (pieces_to names asked.side after.entries event now happens.decision)
 
   -- Between events the transcript is justified.
   abbrev pub HoldingLeaves : Type 0
@@ -144,10 +187,12 @@ module _ (answers : List Entry → (active : Bool) → Option Asked → Option W
   abbrev pub LivesThatFailLeave : Type 0
   LivesThatFailLeave =
       (names : Names) (window : ℕ) (reads : Reads) (before : World) (moments : List ℕ) (now : ℕ)
-      (added : Added) (entries : List Entry) (client_side venue_side : List Connection) →
+      (first : Added) (mid : World) (event : Event) (part added : Added) (entries : List Entry)
+      (client_side venue_side : List Connection) →
       Holds answers names before client_side venue_side [] [] →
       last_read client_side ≡ reads.client → last_read venue_side ≡ reads.venue →
-      LifeFails answers names window reads before moments now added entries →
+      LifeUpTo answers names window reads before moments now first mid event →
+      Fails answers names window mid event now part entries → added ≡ both first part →
       Leaves answers names entries
       (transcript_from client_side added.client) (transcript_from venue_side added.venue)
       × ((read : List ℕ → Read) (message_of : Out → Message) → ShowsNumbers message_of →

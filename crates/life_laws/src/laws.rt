@@ -1,10 +1,10 @@
 //! What holds of every life. Each law is a contract: its function does nothing.
 
 ghost use Rattle.life_laws.specs.Laws.{FormsAreTakenInOrder, JustifiedIsTakenInOrder};
-ghost use Rattle.life_laws.specs.Laws.{RepeatsFillGaps, WhatIsSentIsRead};
+ghost use Rattle.life_laws.specs.Laws.{RepeatsFillGaps, FramesFillGaps, WhatIsSentIsRead};
 ghost use Rattle.life_laws.specs.Laws.{EventsKeep, HoldingLeaves, StopsLeave, ClientTurnsKeep};
 ghost use Rattle.life_laws.specs.Laws.{VenueTurnsKeep, LivesLeave, LivesThatFailLeave};
-ghost use Rattle.life_laws.specs.Laws.{LivesBegin};
+ghost use Rattle.life_laws.specs.Laws.{LivesBegin, EventsFillGaps};
 
 use crate::Answering;
 
@@ -26,15 +26,22 @@ pub fn what_is_sent_is_read()
 {}
 
 /// What is sent again leads a receiver that expects the first number to the number past the last,
-/// where all of it arrives.
+/// where all of it arrives; and so do the frames that are written of it.
 pub fn repeats_fill_gaps()
-    ensures { RepeatsFillGaps }
+    ensures forms { RepeatsFillGaps }
+    ensures frames { FramesFillGaps }
 {}
 
 /// One event keeps all that holds between events: a lawful journal, its numbers, and what was
 /// written and read.
 pub fn events_keep<A: Answering>()
     ensures { EventsKeep A.answers }
+{}
+
+/// An event that answers a ResendRequest fills the gap: by the first frames of what it sends,
+/// whoever expects the first number that was asked for comes to the number past the last.
+pub fn events_fill_gaps<A: Answering>()
+    ensures { EventsFillGaps A.answers }
 {}
 
 /// Between events the transcript is justified, and it is where an event ended the life, with its

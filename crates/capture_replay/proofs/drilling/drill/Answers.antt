@@ -22,7 +22,7 @@ left_by-requires g c =
     lived.client.recorded lived.venue.recorded lived.end lived.image.items
     c.config_of-config.result day.day.names day.day.heart c.as_slice.result.now
     c.new.result.items c.new.ensures.items c.config_of-config.ensures day.ensures.names
-    day.ensures.heart (c.as_slice.ensures ∙ day.ensures.life) c.lives_follow.ensures.first
+    day.ensures.heart (c.as_slice.ensures ∙ day.ensures.life) c.lives_follow.ensures
     day.ensures.sound c.in_ok-lived.ensures.lived
 
 pub returns-clause-drills : goal.returns-clause-drills
@@ -37,7 +37,7 @@ returns-clause-drills g c =
     lived.end lived.image.items c.config_of-config.result day.day.names day.day.heart
     c.as_slice.result.now c.new.result.items c.new.ensures.items c.config_of-config.ensures
     day.ensures.names day.ensures.heart (c.as_slice.ensures ∙ day.ensures.life)
-    c.lives_follow.ensures.first day.ensures.sound c.in_ok-lived.ensures.lived)
+    c.lives_follow.ensures day.ensures.sound c.in_ok-lived.ensures.lived)
     c.put_drill.result (g.O.Sink.bytes c.args.out.now) (g.O.Sink.bytes c.put_drill.new.out)
     c.in_ok-entries.entries c.in_ok-entries.next
     (day.day.kinds.filled, day.day.kinds.busted, day.day.kinds.corrected, day.day.kinds.rejected)

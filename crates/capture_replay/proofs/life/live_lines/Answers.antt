@@ -29,8 +29,7 @@ returns-clause-lived g c =
     live.new.venue c.new-clock.result live.new.clock live.result c.len-rounds.result
     (record {
       taps = live.ensures.taps;
-      ends = live.ensures.ends;
-      leaves = live.ensures.leaves;
+      images = live.ensures.lived.images;
       client_plays = live.ensures.client_plays;
       venue_plays = live.ensures.venue_plays;
       follows = live.ensures.follows;

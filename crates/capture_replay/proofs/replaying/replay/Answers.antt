@@ -11,8 +11,7 @@ use Rattle.capture_replay.proofs.replaying.replay.Goals as goal
 pub loop-index-init : goal.loop-index-init
 loop-index-init g c = record {
   so_far = none_yet _ c.args.capture.now c.args.taps.now.items c.new-image.result.items
-      (g.O.Sink.bytes c.args.out.now) c.lives_follow.ensures.first
-      (are_shown c.args.capture.now c.requires) c.new-image.ensures.items;
+      (g.O.Sink.bytes c.args.out.now) c.lives_follow.ensures c.new-image.ensures.items;
   faults = refl;
 }
 
@@ -53,11 +52,11 @@ loop-index-preserved g c =
           c.as_slice-events.ensures c.lines-item.is)
           (lived_on _ capture index clock seen between now image old new so_far
           c.config_of-config.result lines now lived.client.recorded lived.venue.recorded lived.end
-          lived.image.items c.config_of-config.ensures c.in_ok-lived.ensures.lived)
+          lived.image.items c.config_of-config.ensures (are_shown capture c.requires)
+          c.in_ok-lived.ensures.lived)
           c.calls.ensures c.calls-in-loop-index.ensures c.end_name.ensures
           c.moment_after-moment.result c.moment_after-moment.ensures
-          (g.O.Sink.bytes c.put_life.new.out) c.lives_follow.ensures.next
-          (are_shown capture c.requires)
+          (g.O.Sink.bytes c.put_life.new.out)
           (c.in_ok-put_life.ensures.lines (λ none. absurd (cc none)));
       faults = (c.in_ok-put_life.ensures.cause (λ none. absurd (cc none))).still
           ∙ c.loop-index.invariant.faults;
@@ -96,7 +95,8 @@ returns-in_err-put_life-clause-replays g c =
     c.as_slice-events.ensures c.lines-item.is)
     (lived_on _ capture index clock seen between now image old new so_far
     c.config_of-config.result lines now lived.client.recorded lived.venue.recorded lived.end
-    lived.image.items c.config_of-config.ensures c.in_ok-lived.ensures.lived)
+    lived.image.items c.config_of-config.ensures (are_shown capture c.requires)
+    c.in_ok-lived.ensures.lived)
     c.calls.ensures c.calls-in-loop-index.ensures c.end_name.ensures
     c.from_residual-in_err-put_life.result c.from_residual-in_err-put_life.ensures.0
     c.in_err-put_life.field-0.0 c.put_life.result (g.O.Sink.bytes c.put_life.new.out)
