@@ -17,7 +17,8 @@ use Rattle.frame_grammar.specs.declared.buffer.TheConstants.{CAPACITY}
 use Rattle.frame_grammar.specs.Held.{Held, fresh}
 use Rattle.frame_grammar.specs.Found.{Found, Whole, Short, Broken, found}
 use Rattle.frame_grammar.specs.Cut.{Piece, Good, Bad, Cut, piece_at, start_in}
-use Rattle.frame_grammar.specs.Framer.{Answers, StandsFor, EndsIn, place_after}
+use Rattle.frame_grammar.specs.Framer.{Answers, StandsFor}
+use Rattle.frame_grammar.specs.Places.{EndsIn, place_after}
 use Rattle.edge_waits.specs.declared.lobby.First.{First}
 use Rattle.edge_waits.specs.declared.lobby.First.TheVariants as first
 use Rattle.edge_waits.specs.Lobby.{first_by, first_of, first_left}
