@@ -15,6 +15,26 @@ const NOW: u64 = 1_704_189_600_000;
 const CONFIGURATION: &str =
     "[client]\nour = \"GATE\"\npeer = \"CLNT\"\n[venue]\nour = \"GATE\"\npeer = \"VENU\"\n";
 
+/// What a life is given: its input, what both wires give, and its rounds.
+#[derive(Drop)]
+pub(crate) struct Given {
+    pub(crate) input: MemSource,
+    pub(crate) client: Plan,
+    pub(crate) venue: Plan,
+    pub(crate) rounds: u64,
+}
+
+/// An input of these bytes, or of the configuration of each life where there are none; of a number
+/// that read fails.
+pub(crate) fn input(alloc: Global, bytes: Vec<u8>, read: &str) -> Result<MemSource, AllocError> {
+    let fail = failing(alloc, read)?;
+    if bytes.is_empty() {
+        let text = Vec::from_slice(alloc, CONFIGURATION.as_bytes())?;
+        return Ok(MemSource::new(text, fail));
+    }
+    Ok(MemSource::new(bytes, fail))
+}
+
 /// How a life ended, and the client's wire and the venue's after it.
 pub(crate) type Lived = (Status, MemWire, MemWire);
 
@@ -27,22 +47,19 @@ fn words(alloc: Global, command: &str) -> Result<Vec<String>, AllocError> {
     Ok(words)
 }
 
-// A life of so many rounds, whose entries these taps see.
+// A life whose entries these taps see.
 fn timed(
     alloc: Global,
     disk: &mut MemDisk,
-    plans: (Plan, Plan),
+    given: Given,
     taps: &mut Vec<Box<dyn Tap>>,
-    rounds: u64,
 ) -> Result<Lived, AllocError> {
-    let command = format!(in alloc; "serve {rounds}")?;
+    let command = format!(in alloc; "serve {}", given.rounds)?;
     let words = words(alloc, &command)?;
-    let text = Vec::from_slice(alloc, CONFIGURATION.as_bytes())?;
-    let mut input = MemSource::new(text, Vec::new(alloc));
+    let mut input = given.input;
     let mut out = MemSink::new(alloc, Vec::new(alloc));
-    let (client, venue) = plans;
-    let mut client = MemWire::new(alloc, client.script, client.fail);
-    let mut venue = MemWire::new(alloc, venue.script, venue.fail);
+    let mut client = MemWire::new(alloc, given.client.script, given.client.fail);
+    let mut venue = MemWire::new(alloc, given.venue.script, given.venue.fail);
     let mut clock = ListClock::new(vec![in alloc; NOW]?);
     let status = run(
         alloc,
@@ -97,15 +114,10 @@ pub(crate) fn shows(alloc: Global, disk: &mut MemDisk, word: &str) -> Result<Str
     format!(in alloc; "{status:?}{text}")
 }
 
-/// A life of so many rounds, without taps.
-pub(crate) fn quiet(
-    alloc: Global,
-    disk: &mut MemDisk,
-    plans: (Plan, Plan),
-    rounds: u64,
-) -> Result<Lived, AllocError> {
+/// A life without taps.
+pub(crate) fn quiet(alloc: Global, disk: &mut MemDisk, given: Given) -> Result<Lived, AllocError> {
     let mut taps: Vec<Box<dyn Tap>> = Vec::new(alloc);
-    timed(alloc, disk, plans, &mut taps, rounds)
+    timed(alloc, disk, given, &mut taps)
 }
 
 // What a tap counted: entries, requests, reports and refusals, and whether it failed.
@@ -133,15 +145,14 @@ fn taps_words(alloc: Global, taps: &[Box<dyn Tap>]) -> Result<String, AllocError
 pub(crate) fn tapped(
     alloc: Global,
     disk: &mut MemDisk,
-    plans: (Plan, Plan),
-    rounds: u64,
+    given: Given,
     call: u64,
 ) -> Result<(Lived, String), AllocError> {
     let mut taps: Vec<Box<dyn Tap>> = Vec::new(alloc);
     taps.push(Box::new(alloc, KeepTap::new(alloc, Vec::new(alloc)))?)?;
     taps.push(Box::new(alloc, KeepTap::new(alloc, vec![in alloc; call]?))?)?;
     taps.push(Box::new(alloc, TotalsTap::new())?)?;
-    let lived = timed(alloc, disk, plans, &mut taps, rounds)?;
+    let lived = timed(alloc, disk, given, &mut taps)?;
     let words = taps_words(alloc, &taps)?;
     clear(&mut taps);
     let text = format!(in alloc; "{words}{} left", taps.len())?;

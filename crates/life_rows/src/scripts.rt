@@ -1,8 +1,11 @@
 //! What the polls of wires give, and what fails.
 
-use row_words::{SOH, bytes_of, long_number, put};
+use row_words::{SOH, Sign, bytes_of, long_number};
 use std::alloc::{AllocError, Global};
 use wires::{MemWire, Script};
+
+/// `|` stands for SOH, and `~` for a new line.
+const SIGNS: [Sign; 2] = [SOH, (b'~', b"\n")];
 
 /// One poll of a script: the name of that, and `nothing`, `opened`, `closed`,
 /// `empty` for bytes that are none, or the bytes.
@@ -35,7 +38,7 @@ fn script_item(alloc: Global, item: &str) -> Result<Script, AllocError> {
     } else if item == "empty" {
         Ok(Script::Bytes(Vec::new(alloc)))
     } else {
-        Ok(Script::Bytes(bytes_of(alloc, &[SOH], item)?))
+        Ok(Script::Bytes(bytes_of(alloc, &SIGNS, item)?))
     }
 }
 
@@ -55,7 +58,7 @@ pub(crate) fn stream(alloc: Global, polls: &[Poll], name: &str) -> Result<Vec<u8
     let mut bytes = Vec::new(alloc);
     for poll in polls {
         if poll.is_of(name) {
-            put(&mut bytes, &[SOH], &poll.item)?;
+            bytes.extend_from_slice(&bytes_of(alloc, &SIGNS, &poll.item)?)?;
         }
     }
     Ok(bytes)

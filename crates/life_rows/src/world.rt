@@ -1,12 +1,12 @@
 //! What the rows before have made: scripts, the bytes of a disk, and the wires after a life.
 
 use crate::disks::{disk, pick};
-use crate::lives::{quiet, shows, tapped};
+use crate::lives::{Given, input, quiet, shows, tapped};
 use crate::peers::Peer;
 use crate::scripts::{Plan, Poll, stream, written};
 use crate::wire_calls::{clock_text, quiet_text, wire_answer, wire_of};
 use gateway_top::Status;
-use outside::{Image, MemDisk};
+use outside::{Image, MemDisk, MemSource};
 use row_words::{Answers, SOH, behind, long_number, put, shown, word};
 use std::alloc::{AllocError, Global};
 use wires::MemWire;
@@ -30,22 +30,32 @@ pub(crate) struct World {
     wire: Option<MemWire>,
 }
 
-// The plans of the words behind `client-script venue-script rounds disk`: which calls fail.
-fn plans(alloc: Global, polls: &[Poll], given: &str) -> Result<(Plan, Plan), AllocError> {
-    let client = Plan::new(alloc, polls, word(given, 0), word(given, 4))?;
-    let venue = Plan::new(alloc, polls, word(given, 1), word(given, 5))?;
-    Ok((client, venue))
-}
-
-fn rounds(given: &str) -> u64 {
-    long_number(word(given, 2)).unwrap_or(0)
+// What the words `client-script venue-script rounds disk client venue` give a life: of the last
+// three, which calls fail. Behind them may stand the name of its input, and which read fails.
+fn given(
+    alloc: Global,
+    polls: &[Poll],
+    words: &str,
+    input: MemSource,
+) -> Result<Given, AllocError> {
+    let client = Plan::new(alloc, polls, word(words, 0), word(words, 4))?;
+    let venue = Plan::new(alloc, polls, word(words, 1), word(words, 5))?;
+    let rounds = long_number(word(words, 2)).unwrap_or(0);
+    Ok(Given {
+        input,
+        client,
+        venue,
+        rounds,
+    })
 }
 
 // A life over these bytes of a disk.
-fn lived(alloc: Global, polls: &[Poll], image: &[u8], given: &str) -> Result<Left, AllocError> {
-    let plans = plans(alloc, polls, given)?;
-    let mut disk = disk(alloc, image, word(given, 3))?;
-    let (end, client, venue) = quiet(alloc, &mut disk, plans, rounds(given))?;
+fn lived(alloc: Global, polls: &[Poll], image: &[u8], words: &str) -> Result<Left, AllocError> {
+    let bytes = stream(alloc, polls, word(words, 6))?;
+    let input = input(alloc, bytes, word(words, 7))?;
+    let given = given(alloc, polls, words, input)?;
+    let mut disk = disk(alloc, image, word(words, 3))?;
+    let (end, client, venue) = quiet(alloc, &mut disk, given)?;
     Ok(Left {
         end,
         disk,
@@ -60,12 +70,13 @@ fn watched(
     alloc: Global,
     polls: &[Poll],
     image: &[u8],
-    given: &str,
+    words: &str,
 ) -> Result<(Left, String), AllocError> {
-    let plans = plans(alloc, polls, given)?;
-    let call = long_number(word(given, 6)).unwrap_or(0);
-    let mut disk = disk(alloc, image, word(given, 3))?;
-    let (lived, words) = tapped(alloc, &mut disk, plans, rounds(given), call)?;
+    let input = input(alloc, Vec::new(alloc), "-")?;
+    let given = given(alloc, polls, words, input)?;
+    let call = long_number(word(words, 6)).unwrap_or(0);
+    let mut disk = disk(alloc, image, word(words, 3))?;
+    let (lived, words) = tapped(alloc, &mut disk, given, call)?;
     let (end, client, venue) = lived;
     let left = Left {
         end,
@@ -154,6 +165,14 @@ impl World {
         let end = left.end;
         self.left = Some(left);
         format!(in alloc; "{end:?}")
+    }
+
+    // The same, and how the program says that it ended.
+    fn served(&mut self, alloc: Global, given: &str) -> Result<String, AllocError> {
+        let left = self.live(alloc, given)?;
+        let text = format!(in alloc; "{}", left.end)?;
+        self.left = Some(left);
+        Ok(text)
     }
 
     // The same with taps: what they counted too.
@@ -249,6 +268,8 @@ impl World {
     ) -> Result<String, AllocError> {
         if call == "life" {
             self.life(alloc, given)
+        } else if call == "serve" {
+            self.served(alloc, given)
         } else if call == "tapped" {
             self.tapped(alloc, given)
         } else if call == "told" {
@@ -294,6 +315,9 @@ impl World {
             self.put(alloc, given)
         } else if call == "empty" {
             self.image.clear();
+            Ok(String::new(alloc))
+        } else if call == "holds" {
+            self.image = stream(alloc, &self.polls, given)?;
             Ok(String::new(alloc))
         } else if call == "crash" {
             self.crash(pick(word(given, 0)))?;
