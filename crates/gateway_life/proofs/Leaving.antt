@@ -5,8 +5,9 @@ use Rattle.order_meaning.specs.declared.Side.{Side}
 use Rattle.order_meaning.specs.declared.Side.TheVariants.{Client, Venue}
 use Rattle.order_meaning.specs.declared.names.Names.{Names}
 use Rattle.pair_entries.specs.declared.entry.Entry.{Entry}
+use Rattle.pair_journal.specs.Journal.{AreEntries}
 use Rattle.pair_journal.specs.Numbers.{numbers_after, first_numbers}
-use Rattle.event_decisions.specs.Decide.{Sessions, AreSides, numbers_of}
+use Rattle.event_decisions.specs.Decide.{Sessions, AreSides, IsLawful, numbers_of}
 use Rattle.event_decisions.specs.Laws.{BodiesAreRead}
 use Rattle.message_answers.specs.Answer.{Answers}
 use Rattle.message_answers.specs.Laws.{AnswersAreGivenOut}
@@ -23,8 +24,8 @@ use Rattle.life_laws.specs.Laws as lives
 use Rattle.gateway_life.specs.declared.end.LifeEnd.{LifeEnd}
 use Rattle.gateway_life.specs.Life.{begun, hung_up, moment_of, Done, LivesToEnd, LifeFails}
 use Rattle.gateway_life.specs.Life.{Follows, ToItsEnd, ToAnEvent, NotBegun}
-use Rattle.heard_laws.specs.Laws.{BooksFollow}
-use Rattle.heard_laws.specs.Books.{book_of_taken}
+use Rattle.heard_laws.specs.Laws.{SidesLearn}
+use Rattle.heard_laws.specs.Learned.{learned_of_taken}
 use Rattle.gateway_life.specs.Laws.{IsTaken, MessagesAreTaken}
 use Rattle.gateway_life.proofs.Failing.{fails_by}
 use Rattle.gateway_life.proofs.GivenOut.{are_sent}
@@ -123,7 +124,7 @@ module _ (begin : lives.LivesBegin Answers) where
 -- ---- what is taken of it
 
 module _ (begin : lives.LivesBegin Answers) (in_order : lives.JustifiedIsTakenInOrder)
-    (read_back : lives.WhatIsSentIsRead) (fills : lives.FramesFillGaps) (books : BooksFollow)
+    (read_back : lives.WhatIsSentIsRead) (fills : lives.FramesFillGaps) (learn : SidesLearn)
     (bodies : BodiesAreRead) (given_out : AnswersAreGivenOut) where
   -- the outs of a lawful journal are numbered from 1 on
   numbered : (names : Names) (entries : List Entry) (client venue : List Connection) (side : Side)
@@ -135,13 +136,18 @@ module _ (begin : lives.LivesBegin Answers) (in_order : lives.JustifiedIsTakenIn
   -- what is left is taken in order
   taken : (names : Names) (side : Side) (entries : List Entry) (connections : List Connection)
       → AreSent names side entries → NumberedFrom 1 (all_placed side entries)
-      → IsJustified names entries side connections → IsTaken names side entries connections
-  taken names side entries connections sent numbered justified =
+      → IsJustified names entries side connections → IsLawful Answers names entries
+      → AreEntries first_numbers entries → IsTaken names side entries connections
+  taken names side entries connections sent numbered justified lawful sound =
       let read = read_back names side entries sent numbered in
+      let took = in_order read_body message_of_out names side entries connections read (λ out. refl)
+      justified in
       record {
         read = read;
-        took = in_order read_body message_of_out names side entries connections read (λ out. refl)
-            justified;
+        took = took;
+        learned = λ fronts arrive known.
+            ap (learned_of_taken side known) (took fronts arrive)
+            ∙ learn names entries lawful sound side _ known;
         gaps = λ from to now some apart low.
             fills read_body message_of_out names side entries from to now (λ out. refl) numbered
             read some apart low;
@@ -149,17 +155,12 @@ module _ (begin : lives.LivesBegin Answers) (in_order : lives.JustifiedIsTakenIn
 
   pub are_taken : MessagesAreTaken
   are_taken names entries client venue left shown sound =
-      let of_client = numbered names entries client venue Client left in
-      let of_venue = numbered names entries client venue Venue left in
-      let client_takes = taken names Client entries client
-      (are_sent bodies given_out names shown Client entries left.lawful sound of_client) of_client
-      left.client in
-      record {
-        client = client_takes;
-        venue = taken names Venue entries venue
-            (are_sent bodies given_out names shown Venue entries left.lawful sound of_venue)
-            of_venue left.venue;
-        book = λ fronts arrive book.
-            ap (book_of_taken book) (client_takes.took fronts arrive)
-            ∙ books names entries left.lawful sound _ book;
-      }
+      record { client = at Client client left.client; venue = at Venue venue left.venue }
+    where
+      at : (side : Side) (connections : List Connection)
+          → IsJustified names entries side connections → IsTaken names side entries connections
+      at side connections justified =
+          let of_side = numbered names entries client venue side left in
+          taken names side entries connections
+          (are_sent bodies given_out names shown side entries left.lawful sound of_side) of_side
+          justified left.lawful sound

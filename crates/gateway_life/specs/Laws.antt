@@ -19,7 +19,7 @@ use Rattle.life_laws.specs.Repeats.{repeat_forms}
 use Rattle.life_laws.specs.Justified.{transcript_from, Leaves}
 use Rattle.life_laws.specs.Receiver.{read_body, message_of_out}
 use Rattle.life_laws.specs.Taken.{TakesInOrder, take_more, AreReadAsForms}
-use Rattle.heard_laws.specs.Laws.{TakesTheBook}
+use Rattle.heard_laws.specs.Laws.{LearnsWhatWasSaid}
 use Rattle.gateway_life.specs.declared.end.LifeEnd.{LifeEnd}
 use Rattle.gateway_life.specs.Life.{Done, Follows}
 
@@ -47,19 +47,20 @@ FillsGaps names side entries =
     taking.next ≡ to + 1
 
 -- What is written is read as what it shows; whatever of it arrives, a receiver takes the beginning
--- of what was committed to the side, each message once and in order; and its gaps are filled.
+-- of what was committed to the side, each message once and in order, and learns of it what the other
+-- side said; and its gaps are filled.
 pub record IsTaken (names : Names) (side : Side) (entries : List Entry)
     (connections : List Connection) : Type 0 where
   pub read : AreReadAsForms read_body message_of_out names entries side
   pub took : TakesInOrder read_body message_of_out side entries connections
+  pub learned : LearnsWhatWasSaid side entries connections
   pub gaps : FillsGaps names side entries
 
--- the same on both sides; and the client's book of orders is that of the venue's reports
+-- the same on both sides
 pub record AreTaken (names : Names) (entries : List Entry)
     (client_side venue_side : List Connection) : Type 0 where
   pub client : IsTaken names Client entries client_side
   pub venue : IsTaken names Venue entries venue_side
-  pub book : TakesTheBook entries client_side
 
 -- ---- what a life leaves
 

@@ -181,7 +181,7 @@ fn undo_if(core: &mut Core, held: bool)
 }
 
 impl Engine {
-    /// A engine over a journal, without connections.
+    /// An engine over a journal, without connections.
     pub(crate) fn new<D: Disk>(
         alloc: Global,
         config: &Config,

@@ -4,7 +4,7 @@ ghost use Rattle.gateway_life.specs.Laws.{LivesLeave, MessagesAreTaken, FirstLiv
 ghost use Rattle.gateway_life.specs.Laws.{ReadNamesAreShown};
 
 use event_decisions::laws::bodies_are_read;
-use heard_laws::laws::client_books_follow;
+use heard_laws::laws::sides_learn_what_was_said;
 use life_laws::{Answering, laws as lives};
 use message_answers::laws::answers_are_given_out;
 
@@ -20,9 +20,8 @@ impl Answering for Messages {
 
 /// However it ended, a life leaves a lawful journal, which justifies all that was written and read,
 /// and on each side a receiver that took the beginning of what was committed to it, each message
-/// once and in order, and whose gaps are filled by what is sent again. The client's book of orders
-/// is that of the venue's reports. Each message of such a journal can be sent: what a session says,
-/// and each answer.
+/// once and in order, that learned of it what the other side said, and whose gaps are filled by what
+/// is sent again. Each message of such a journal can be sent: what a session says, and each answer.
 pub fn lives_leave()
     ensures lives { LivesLeave }
     ensures taken { MessagesAreTaken }
@@ -31,7 +30,7 @@ pub fn lives_leave()
     answers_are_given_out();
     lives::lives_begin::<Messages>();
     lives::stops_leave::<Messages>();
-    client_books_follow();
+    sides_learn_what_was_said();
     lives::justified_transcripts_are_taken_in_order();
     lives::repeats_fill_gaps();
     lives::what_is_sent_is_read();

@@ -1,4 +1,4 @@
--- What an entry gives the client changes a book as what the venue said in it.
+-- What a side learns of an entry's outs is what the other side said in it.
 use Rattle.std.proofs.Common.{◌≡◌, ℕ, Bool, true, false, List, [], ◌∷◌, ◌++◌, Some, None}
 use Rattle.std.proofs.Common.{Ok, Err, refl, sym, ap, ◌∙◌, subst, IfSome}
 use Rattle.std.specs.Prelude.{Option, Result, ◌&&◌, ◌||◌, not, nat_lt, fold, cond}
@@ -6,10 +6,10 @@ use Rattle.std.specs.Prelude.{if◌then◌else◌}
 use Rattle.std.specs.List.{list_any}
 use Rattle.std.proofs.lemmas.List.Sums.{fold-append}
 use Rattle.field_groups.specs.Field.{Field}
+use Rattle.message_tables.specs.Tables.{◌>>=◌}
 use Rattle.order_meaning.specs.declared.Side.{Side}
 use Rattle.order_meaning.specs.declared.Side.TheVariants.{Client, Venue}
 use Rattle.order_meaning.specs.declared.names.Names.{Names}
-use Rattle.order_meaning.specs.Book.{Book}
 use Rattle.session_core.specs.declared.said.Said.{Said}
 use Rattle.session_core.specs.declared.session.Session.{Session}
 use Rattle.session_core.specs.declared.session.Spent.{Spent}
@@ -19,8 +19,7 @@ use Rattle.pair_entries.specs.declared.entry.Took.{Took}
 use Rattle.pair_entries.specs.declared.entry.Out.{Out}
 use Rattle.pair_entries.specs.declared.entry.Entry.{Entry}
 use Rattle.pair_entries.specs.Payload.{IsEntry, IsTook}
-use Rattle.reports_fix42.specs.Step.{step42}
-use Rattle.reports_fix50.specs.Step.{step50}
+use Rattle.pair_journal.specs.Numbers.{is_side}
 use Rattle.event_decisions.specs.Body.{fields_of}
 use Rattle.event_decisions.specs.Event.{Event, side_of}
 use Rattle.event_decisions.specs.Decide.{Words, Sessions, Given, Decision, session_of}
@@ -32,14 +31,15 @@ use Rattle.message_answers.specs.Answer.{Answers, other}
 use Rattle.message_answers.specs.Message.{is_refusal_type}
 use Rattle.message_answers.specs.Laws.{AnswersAreGivenOut, AreNumbered, IsGivenOut, is_in_header}
 use Rattle.life_laws.specs.Receiver.{behind_header, message_of_out}
-use Rattle.heard_laws.specs.Heard.{heard_body, heard_out, said_out, book_after, is_among}
+use Rattle.heard_laws.specs.Heard.{heard_body, heard_out, said_out, is_among}
 use Rattle.heard_laws.specs.Heard.{report_types, request_types, refusal_sort, sort_of}
 use Rattle.heard_laws.specs.Heard.{Report, Request, Plain}
-use Rattle.heard_laws.specs.Laws.{AnswersAreHeard, IsHeard, Off, Returned, On, IsHeardOn}
+use Rattle.heard_laws.specs.Learned.{Learned, types_to, with_taken, read_in, is_for, with_said}
+use Rattle.heard_laws.specs.Learned.{goes_below, said_by}
+use Rattle.heard_laws.specs.Laws.{AnswersAreHeard, IsHeard, Off, Returned, On, IsHeardOn, sort_from}
 use Rattle.heard_laws.proofs.Contents.{content_read}
-use Rattle.heard_laws.specs.Books.{book_with, read_in, is_report_below, report_if, report_in}
 use Rattle.heard_laws.proofs.Quiet.{IsQuiet, AreQuiet, says_quiet, reject_quiet}
-use Rattle.heard_laws.proofs.Quiet.{after_out, quiet_one, quiet_outs, quiet_report, quiet_none}
+use Rattle.heard_laws.proofs.Quiet.{after_out, quiet_one, quiet_outs, quiet_goes, quiet_none}
 
 -- ---- the content of what is given out says nothing that its header says
 
@@ -63,75 +63,115 @@ content_kept said given =
 
 -- ---- a message that is given out for one that was taken
 
-report_typed : (msg_type : List ℕ) (is_read : Bool) → sort_of msg_type is_read ≡ Report
-    → is_among report_types msg_type ≡ true
-report_typed msg_type is_read is = by (is_refusal_type msg_type) (is_among request_types msg_type)
-    (is_among report_types msg_type) is
+typed : (side : Side) (msg_type : List ℕ) (is_read : Bool)
+    → sort_of msg_type is_read ≡ sort_from side → is_among (types_to (other side)) msg_type ≡ true
+typed side msg_type is_read is = same side ∙ by side (is_refusal_type msg_type)
+    (is_among request_types msg_type) (is_among report_types msg_type) is
   where
-    never : (b : Bool) → refusal_sort b ≡ Report → ⊥
-    never true e = absurd (cc e)
-    never false e = absurd (cc e)
+    never : (side : Side) (b : Bool) → refusal_sort b ≡ sort_from side → ⊥
+    never Client true e = absurd (cc e)
+    never Client false e = absurd (cc e)
+    never Venue true e = absurd (cc e)
+    never Venue false e = absurd (cc e)
 
-    by : (a q r : Bool) → (if a then refusal_sort is_read else
-        (if q then Request else (if r then Report else Plain))) ≡ Report → r ≡ true
-    by true q r e = absurd (never is_read e)
-    by false true r e = absurd (cc e)
-    by false false true e = refl
-    by false false false e = absurd (cc e)
+    of : Side → (request report : Bool) → Bool
+    of Client request report = request
+    of Venue request report = report
 
-module _ (n : ℕ) (book : Book) where
-  -- a book changes by an out as by what the venue said in a message
+    same : (side : Side) → is_among (types_to (other side)) msg_type
+        ≡ of side (is_among request_types msg_type) (is_among report_types msg_type)
+    same Client = refl
+    same Venue = refl
+
+    by : (side : Side) (a q r : Bool) → (if a then refusal_sort is_read else
+        (if q then Request else (if r then Report else Plain))) ≡ sort_from side
+        → of side q r ≡ true
+    by side true q r e = absurd (never side is_read e)
+    by Client false true r e = refl
+    by Venue false true r e = absurd (cc e)
+    by Client false false true e = absurd (cc e)
+    by Venue false false true e = refl
+    by Client false false false e = absurd (cc e)
+    by Venue false false false e = absurd (cc e)
+
+-- what a side has learned after what the other side said, where it went on
+abbrev pub after_said : (side : Side) → Learned side → (goes : Bool) → Option Took → Learned side
+after_said side learned goes took =
+    if goes then with_said side learned (took >>= said_by (other side)) else learned
+
+module _ (side : Side) (n : ℕ) (learned : Learned side) where
+  -- a side learns of an out what the other side said in a message
   abbrev pub Follows : Out → Option Took → Type 0
   Follows out took =
-      after_out n book out
-      ≡ book_after step50 book (report_if (is_report_below n out || false) took)
+      after_out side n learned out ≡ after_said side learned (goes_below side n out || false) took
 
   quiet_follows : (out : Out) (took : Option Took) → IsQuiet out.msg_type → Follows out took
-  quiet_follows out took quiet = quiet_one n book out quiet
-      ∙ sym (ap (λ b. book_after step50 book (report_if (b || false) took))
-      (quiet_report n out quiet))
+  quiet_follows out took quiet = quiet_one side n learned out quiet
+      ∙ sym (ap (λ b. after_said side learned (b || false) took) (quiet_goes side n out quiet))
 
-  on_follows : (side into : Side) (own : ℕ) (raw : List ℕ) (said : Said) (resend : Bool)
-      (number : ℕ) → IsGivenOut said → into ≡ other side
-      → IsHeardOn side (heard_body side own raw) (heard_out (out_of into number resend said))
-      → Follows (out_of into number resend said)
-      (Some (record { side = side; number = own; raw = raw }))
-  on_follows side Venue own raw said resend number given to on = refl
-  on_follows Client Client own raw said resend number given to on = absurd (cc to)
-  on_follows Venue Client own raw said resend number given to on =
-      by (nat_lt number n) said.admin (is_among report_types said.msg_type) given.plain
-      (report_typed said.msg_type _ on.out_sort)
+  goes_follows : (out : Out) (took : Took) → is_side side out.side ≡ true → out.admin ≡ false
+      → is_for side (message_of_out out) ≡ true
+      → with_taken side learned (read_in side (message_of_out out))
+      ≡ with_said side learned (said_by (other side) took) → Follows out (Some took)
+  goes_follows out took to plain is same = by (is_side side out.side) (nat_lt out.number n)
+      out.admin (is_for side (message_of_out out)) to plain is
     where
-      read_is : read_in (message_of_out (out_of Client number resend said))
-          ≡ said_out (out_of Client number resend said)
-      read_is = ap (λ (fields : List Field). read_in (record {
-        number = number;
-        msg_type = said.msg_type;
-        resend = resend;
-        fields = fields;
-      })) (content_kept said given)
+      by : (s b a t : Bool) → s ≡ true → a ≡ false → t ≡ true
+          → (if s then (if b then (if not a then (if t
+          then with_taken side learned (read_in side (message_of_out out)) else learned)
+          else learned) else learned) else learned)
+          ≡ after_said side learned (s && (t && b) || false) (Some took)
+      by false b a t to plain is = absurd (cc to)
+      by true b true t to plain is = absurd (cc plain)
+      by true b false false to plain is = absurd (cc is)
+      by true true false true to plain is = same
+      by true false false true to plain is = refl
 
-      by : (b a t : Bool) → a ≡ false → t ≡ true
-          → (if b then (if not a then book_with book
-          (message_of_out (out_of Client number resend said)) else book) else book)
-          ≡ book_after step50 book (report_if (t && b || false)
-          (Some (record { side = Venue; number = own; raw = raw })))
-      by b true t plain typed = absurd (cc plain)
-      by b false false plain typed = absurd (cc typed)
-      by true false true plain typed = ap (book_after step42 book) read_is ∙ sym (on.carries book)
-      by false false true plain typed = refl
+-- what a side reads in an out that is given it is what is heard in it
+read_is : (side : Side) (number : ℕ) (resend : Bool) (said : Said) → IsGivenOut said
+    → read_in side (message_of_out (out_of side number resend said))
+    ≡ said_out (out_of side number resend said)
+read_is side number resend said given = ap (λ (fields : List Field). read_in side (record {
+  number = number;
+  msg_type = said.msg_type;
+  resend = resend;
+  fields = fields;
+})) (content_kept said given)
 
+module _ (n : ℕ) (own : ℕ) (raw : List ℕ) (said : Said) (resend : Bool) (number : ℕ)
+    (given : IsGivenOut said) where
+  on_follows : (side from to : Side) (learned : Learned side) → to ≡ other from
+      → IsHeardOn from (heard_body from own raw) (heard_out (out_of to number resend said))
+      → Follows side n learned (out_of to number resend said)
+      (Some (record { side = from; number = own; raw = raw }))
+  on_follows Client from Venue learned is on = refl
+  on_follows Venue from Client learned is on = refl
+  on_follows Client Client Client book is on = absurd (cc is)
+  on_follows Venue Venue Venue meanings is on = absurd (cc is)
+  on_follows Client Venue Client book is on = goes_follows Client n book
+      (out_of Client number resend said) (record { side = Venue; number = own; raw = raw }) refl
+      given.plain (typed Venue said.msg_type _ on.out_sort)
+      (ap (with_taken Client book) (read_is Client number resend said given)
+      ∙ sym (on.carries book))
+  on_follows Venue Client Venue meanings is on = goes_follows Venue n meanings
+      (out_of Venue number resend said) (record { side = Client; number = own; raw = raw }) refl
+      given.plain (typed Client said.msg_type _ on.out_sort)
+      (ap (with_taken Venue meanings) (read_is Venue number resend said given)
+      ∙ sym (ap (λ m. meanings ++ m ∷ []) on.carries))
+
+module _ (side : Side) (n : ℕ) (learned : Learned side) where
   heard_follows : (before : List Entry) (took : Took) (words : Words) (number : ℕ)
       → IsGivenOut words.said → IsHeard before (asked_about took) words number
-      → Follows (out_of words.to number words.resend words.said) (Some took)
+      → Follows side n learned (out_of words.to number words.resend words.said) (Some took)
   heard_follows before took words number given (Off to refuses) =
-      quiet_follows (out_of words.to number words.resend words.said) (Some took)
+      quiet_follows side n learned (out_of words.to number words.resend words.said) (Some took)
       (reject_quiet words.said.msg_type _ refuses.reject)
   heard_follows before took words number given (Returned to told) =
-      quiet_follows (out_of words.to number words.resend words.said) (Some took)
+      quiet_follows side n learned (out_of words.to number words.resend words.said) (Some took)
       (reject_quiet words.said.msg_type _ told.refuses.reject)
   heard_follows before took words number given (On to on) =
-      on_follows took.side words.to took.number took.raw words.said words.resend number given to on
+      on_follows n took.number took.raw words.said words.resend number given side took.side words.to
+      learned to on
 
 -- ---- an entry that is decided
 
@@ -160,7 +200,7 @@ from_if : (b : Bool) (x e : Entry) → (if b then None else Some x) ≡ Some e �
 from_if true x e is = absurd (cc is)
 from_if false x e is = cc is
 
--- messages of its session that are no reports, and then these words
+-- quiet messages of its session, and then these words
 record IsMadeOf (took : Option Took) (e : Entry) (words : Option Words) : Type 0 where
   took_is : e.took ≡ took
   own : List Out
@@ -190,29 +230,29 @@ concluded_is names window s t event now words step (Ok g) d e gives made is =
       outs = ap (λ (x : Entry). x.outs) (sym same);
     }
 
-module _ (heard : AnswersAreHeard) (given_out : AnswersAreGivenOut) (names : Names) (n : ℕ)
-    (before : List Entry) (numbered_before : AreNumbered before) (book : Book) where
-  -- a book changes by what an entry gives the client as by the report that it took
+module _ (heard : AnswersAreHeard) (given_out : AnswersAreGivenOut) (names : Names)
+    (side : Side) (n : ℕ) (before : List Entry) (numbered_before : AreNumbered before)
+    (learned : Learned side) where
+  -- a side learns of these outs what the other side said in this message
+  abbrev pub FollowAll : List Out → Option Took → Type 0
+  FollowAll outs took = fold (after_out side n) learned outs
+      ≡ after_said side learned (list_any (goes_below side n) outs) took
+
   abbrev pub FollowsEntry : Entry → Type 0
-  FollowsEntry e = fold (after_out n) book e.outs ≡ book_after step50 book (report_in n e)
+  FollowsEntry e = FollowAll e.outs e.took
 
   outs_follow : (own given : List Out) (took : Option Took) → AreQuiet own
-      → fold (after_out n) book given
-      ≡ book_after step50 book (report_if (list_any (is_report_below n) given) took)
-      → fold (after_out n) book (own ++ given)
-      ≡ book_after step50 book (report_if (list_any (is_report_below n) (own ++ given)) took)
-  outs_follow own given took quiet same = fold-append (after_out n) book own given
-      ∙ ap (λ b. fold (after_out n) b given) (quiet_outs n book own quiet) ∙ same
-      ∙ sym (ap (λ b. book_after step50 book (report_if b took)) (quiet_none n own given quiet))
+      → FollowAll given took → FollowAll (own ++ given) took
+  outs_follow own given took quiet same = fold-append (after_out side n) learned own given
+      ∙ ap (λ l. fold (after_out side n) l given) (quiet_outs side n learned own quiet) ∙ same
+      ∙ sym (ap (λ b. after_said side learned b took) (quiet_none side n own given quiet))
 
   words_follow : (took : Option Took) (b : Bool) (active : Bool) (words : Option Words)
       (given : List Out) → IfSome took IsTook
       → Answers before active (asked_if b took) words → AreWords words given
-      → fold (after_out n) book given
-      ≡ book_after step50 book (report_if (list_any (is_report_below n) given) took)
+      → FollowAll given took
   words_follow took b active None given bounds answer are =
-      subst (λ (outs : List Out). fold (after_out n) book outs
-      ≡ book_after step50 book (report_if (list_any (is_report_below n) outs) took)) (sym are) refl
+      subst (λ (outs : List Out). FollowAll outs took) (sym are) refl
   words_follow None true active (Some words) given bounds answer are = absurd (cc answer)
   words_follow took false active (Some words) given bounds answer are = absurd (cc answer)
   words_follow (Some took) true active (Some words) given bounds answer are =
@@ -220,17 +260,15 @@ module _ (heard : AnswersAreHeard) (given_out : AnswersAreGivenOut) (names : Nam
       bounds.below answer in
       let is = heard before active (asked_about took) words are.0 numbered_before bounds.below
       answer in
-      subst (λ (outs : List Out). fold (after_out n) book outs
-      ≡ book_after step50 book (report_if (list_any (is_report_below n) outs) (Some took)))
-      (sym are.1) (heard_follows n book before took words are.0 said is)
+      subst (λ (outs : List Out). FollowAll outs (Some took)) (sym are.1)
+      (heard_follows side n learned before took words are.0 said is)
 
   made_follows : (took : Option Took) (b active : Bool) (words : Option Words) (e : Entry)
       → IfSome e.took IsTook → IsMadeOf took e words → Answers before active (asked_if b took) words
       → FollowsEntry e
   made_follows took b active words e bounds of answer =
-      subst (λ (outs : List Out). fold (after_out n) book outs
-      ≡ book_after step50 book (report_if (list_any (is_report_below n) outs) e.took))
-      (sym of.outs) (outs_follow of.own of.given e.took of.quiet
+      subst (λ (outs : List Out). FollowAll outs e.took) (sym of.outs)
+      (outs_follow of.own of.given e.took of.quiet
       (words_follow e.took b active words of.given bounds
       (subst (λ (t : Option Took). Answers before active (asked_if b t) words) (sym of.took_is)
       answer) of.are))

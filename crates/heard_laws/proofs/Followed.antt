@@ -1,36 +1,36 @@
--- The book of a client follows the reports of the venue, entry by entry.
+-- What a side learns follows what the other side said, entry by entry.
 use Rattle.std.proofs.Common.{◌≡◌, ℕ, zero, suc, ◌+◌, ◌-◌, ◌≤◌, Bool, true, false, List, [], ◌∷◌}
 use Rattle.std.proofs.Common.{◌++◌, Some, None, refl, sym, ap, ◌∙◌, subst, arith, IfSome, take}
 use Rattle.std.proofs.Common.{length}
-use Rattle.std.specs.Prelude.{Option, not, nat_lt, cond, fold, filter, filter_map, map}
-use Rattle.std.specs.Prelude.{if◌then◌else◌}
-use Rattle.std.specs.List.{cons_option}
+use Rattle.std.specs.Prelude.{Option, not, nat_lt, cond, fold, filter, map, if◌then◌else◌}
+use Rattle.std.specs.List.{list_any}
 use Rattle.std.proofs.lemmas.Bool.Decides.{nat_tests}
+use Rattle.std.proofs.lemmas.List.Folds.{fold-map}
 use Rattle.std.proofs.lemmas.List.Sums.{fold-append}
-use Rattle.message_tables.specs.Tables.{Message}
-use Rattle.order_meaning.specs.declared.Side.TheVariants.{Client}
+use Rattle.message_tables.specs.Tables.{◌>>=◌}
+use Rattle.order_meaning.specs.declared.Side.{Side}
+use Rattle.order_meaning.specs.declared.Side.TheVariants.{Client, Venue}
 use Rattle.order_meaning.specs.declared.names.Names.{Names}
-use Rattle.order_meaning.specs.Book.{Book}
 use Rattle.pair_entries.specs.declared.TheConstants.{MAX_NUMBER}
 use Rattle.pair_entries.specs.declared.entry.Took.{Took}
 use Rattle.pair_entries.specs.declared.entry.Out.{Out}
 use Rattle.pair_entries.specs.declared.entry.Entry.{Entry}
 use Rattle.pair_entries.specs.Payload.{Next, IsTook}
 use Rattle.pair_journal.specs.Numbers.{first_numbers, is_side, outs_to, next_out, Numbered}
+use Rattle.pair_journal.specs.Numbers.{GoesOn, OutsGoOn}
 use Rattle.pair_journal.specs.Journal.{AreEntries}
-use Rattle.reports_fix50.specs.Step.{step50}
 use Rattle.event_decisions.specs.Decide.{LawfulAfter}
-use Rattle.message_answers.specs.Answer.{Answers}
+use Rattle.message_answers.specs.Answer.{Answers, other}
 use Rattle.message_answers.specs.Laws.{AnswersAreGivenOut, AreNumbered, IsNumbered}
 use Rattle.life_laws.specs.Forms.{Placed, placed_at, all_placed}
 use Rattle.life_laws.specs.Receiver.{message_of_out}
 use Rattle.life_laws.specs.Standing.{NumberedFrom}
-use Rattle.heard_laws.specs.Heard.{book_after}
-use Rattle.heard_laws.specs.Laws.{AnswersAreHeard}
-use Rattle.heard_laws.specs.Books.{book_with, report_in}
-use Rattle.heard_laws.specs.Laws.{BooksFollow}
+use Rattle.life_laws.specs.Taken as receiver
+use Rattle.heard_laws.specs.Learned.{Learned, with_taken, read_in, is_for, learned_of_taken}
+use Rattle.heard_laws.specs.Learned.{with_said, goes_below, said_by}
+use Rattle.heard_laws.specs.Laws.{AnswersAreHeard, SidesLearn}
 use Rattle.heard_laws.proofs.Quiet.{after_one, after_out}
-use Rattle.heard_laws.proofs.EntryFollows.{entry_follows}
+use Rattle.heard_laws.proofs.EntryFollows.{after_said, entry_follows}
 
 -- ---- the outs of a side are numbered from 1 on
 
@@ -45,13 +45,39 @@ placed_numbers n at (out ∷ outs) rest numbered more = (
       (let same : n + suc (length outs) ≡ n + 1 + length outs = omega arith in same) more),
 )
 
-all_numbered : (next : Next) (entries : List Entry) → AreEntries next entries
-    → NumberedFrom (next_out Client next) (all_placed Client entries)
-all_numbered next [] sound = tt
-all_numbered next (e ∷ entries) sound =
-    placed_numbers (next_out Client next) e.at (outs_to Client e.outs) (all_placed Client entries)
-    sound.1.client_out.numbered (subst (λ k. NumberedFrom k (all_placed Client entries))
-    sound.1.client_out.next (all_numbered e.next entries sound.2))
+-- the numbers of a side
+on_side : (side : Side) (next : Next) (e : Entry) → GoesOn next e → OutsGoOn side next e
+on_side Client next e is = is.client_out
+on_side Venue next e is = is.venue_out
+
+all_numbered : (side : Side) (next : Next) (entries : List Entry) → AreEntries next entries
+    → NumberedFrom (next_out side next) (all_placed side entries)
+all_numbered side next [] sound = tt
+all_numbered side next (e ∷ entries) sound =
+    let outs = on_side side next e sound.1 in
+    placed_numbers (next_out side next) e.at (outs_to side e.outs) (all_placed side entries)
+    outs.numbered (subst (λ k. NumberedFrom k (all_placed side entries)) outs.next
+    (all_numbered side e.next entries sound.2))
+
+-- ---- a fold over what passes a test is one over all, of a step by cases
+
+module _ {K A M : Type 0} (step : K → M → K) (read : A → M) (test : A → Bool) where
+  abbrev after_each : K → A → K
+  after_each k x = if test x then step k (read x) else k
+
+  passing : (k : K) (xs : List A)
+      → fold step k (map read (filter test xs)) ≡ fold after_each k xs
+  passing k [] = refl
+  passing k (x ∷ xs) = by (test x) (passing (step k (read x)) xs) (passing k xs)
+    where
+      by : (b : Bool)
+          → fold step (step k (read x)) (map read (filter test xs))
+          ≡ fold after_each (step k (read x)) xs
+          → fold step k (map read (filter test xs)) ≡ fold after_each k xs
+          → fold step k (map read (cond b (x ∷ filter test xs) (filter test xs)))
+          ≡ fold after_each (if b then step k (read x) else k) xs
+      by true with_it without = with_it
+      by false with_it without = without
 
 module _ (n : ℕ) where
   -- ---- numbers below n
@@ -97,104 +123,81 @@ module _ (n : ℕ) where
           ∙ sym (none_below 1 ps numbered (omega (arith, e)))
       at (suc m) e = take_below 1 (n - 1) ps numbered (omega (arith, e))
 
-  -- ---- the messages to the client, out by out
+  -- ---- the messages to a side, out by out
 
-  abbrev after_placed : Book → Placed → Book
-  after_placed book p = after_one n book p.out
+  module _ (side : Side) where
+    abbrev after_placed : Learned side → Placed → Learned side
+    after_placed learned p = after_one side n learned p.out
 
-  abbrev is_plain : Placed → Bool
-  is_plain p = not p.out.admin
+    -- a message as it was taken
+    abbrev after_message : Learned side → receiver.Message → Learned side
+    after_message = after_each (with_taken side) (read_in side) (is_for side)
 
-  abbrev with_messages : Book → List Placed → Book
-  with_messages book ps = fold book_with book (map (λ p. message_of_out p.out) ps)
+    -- that of an out, where it is of the application
+    abbrev after_plain : Learned side → Placed → Learned side
+    after_plain = after_each after_message (λ (p : Placed). message_of_out p.out)
+        (λ p. not p.out.admin)
 
-  messages_fold : (book : Book) (ps : List Placed)
-      → with_messages book (filter is_plain (filter is_below ps)) ≡ fold after_placed book ps
-  messages_fold book [] = refl
-  messages_fold book (p ∷ ps) = below (is_below p) (messages_fold book ps)
-      (messages_fold (book_with book (message_of_out p.out)) ps)
-    where
-      application : (a : Bool)
-          → with_messages book (filter is_plain (filter is_below ps)) ≡ fold after_placed book ps
-          → with_messages (book_with book (message_of_out p.out))
-          (filter is_plain (filter is_below ps))
-          ≡ fold after_placed (book_with book (message_of_out p.out)) ps
-          → with_messages book (cond a (p ∷ filter is_plain (filter is_below ps))
-          (filter is_plain (filter is_below ps)))
-          ≡ fold after_placed (if a then book_with book (message_of_out p.out) else book) ps
-      application true without with_it = with_it
-      application false without with_it = without
+    messages_fold : (learned : Learned side) (ps : List Placed)
+        → learned_of_taken side learned
+        (map (λ p. message_of_out p.out) (filter (λ p. not p.out.admin) (filter is_below ps)))
+        ≡ fold after_placed learned ps
+    messages_fold learned ps =
+        passing (with_taken side) (read_in side) (is_for side) learned
+        (map (λ p. message_of_out p.out) (filter (λ p. not p.out.admin) (filter is_below ps)))
+        ∙ passing after_message (λ p. message_of_out p.out) (λ p. not p.out.admin) learned
+        (filter is_below ps)
+        ∙ sym (fold-map after_plain (λ p. p) learned (filter is_below ps))
+        ∙ passing after_plain (λ p. p) is_below learned ps
 
-      below : (b : Bool)
-          → with_messages book (filter is_plain (filter is_below ps)) ≡ fold after_placed book ps
-          → with_messages (book_with book (message_of_out p.out))
-          (filter is_plain (filter is_below ps))
-          ≡ fold after_placed (book_with book (message_of_out p.out)) ps
-          → with_messages book
-          (filter is_plain (cond b (p ∷ filter is_below ps) (filter is_below ps)))
-          ≡ fold after_placed (if b then (if is_plain p then book_with book (message_of_out p.out)
-          else book) else book) ps
-      below true without with_it = application (is_plain p) without with_it
-      below false without with_it = without
+    outs_fold : (learned : Learned side) (at : ℕ) (outs : List Out)
+        → fold after_placed learned (map (placed_at at) (outs_to side outs))
+        ≡ fold (after_out side n) learned outs
+    outs_fold learned at outs =
+        passing after_placed (placed_at at) (λ (out : Out). is_side side out.side) learned outs
 
-  outs_fold : (book : Book) (at : ℕ) (outs : List Out)
-      → fold after_placed book (map (placed_at at) (outs_to Client outs))
-      ≡ fold (after_out n) book outs
-  outs_fold book at [] = refl
-  outs_fold book at (out ∷ outs) = by (is_side Client out.side) (outs_fold book at outs)
-      (outs_fold (after_one n book out) at outs)
-    where
-      by : (b : Bool)
-          → fold after_placed book (map (placed_at at) (outs_to Client outs))
-          ≡ fold (after_out n) book outs
-          → fold after_placed (after_one n book out) (map (placed_at at) (outs_to Client outs))
-          ≡ fold (after_out n) (after_one n book out) outs
-          → fold after_placed book
-          (map (placed_at at) (cond b (out ∷ outs_to Client outs) (outs_to Client outs)))
-          ≡ fold (after_out n) (if b then after_one n book out else book) outs
-      by true without with_it = with_it
-      by false without with_it = without
+    -- ---- entry by entry
 
-  reports_fold : (book : Book) (report : Option Message) (rest : List Message)
-      → fold step50 (book_after step50 book report) rest
-      ≡ fold step50 book (cons_option report rest)
-  reports_fold book None rest = refl
-  reports_fold book (Some m) rest = refl
+    module _ (heard : AnswersAreHeard) (given_out : AnswersAreGivenOut) (names : Names) where
+      number_of : (took : Option Took) → IfSome took IsTook
+          → IfSome took (λ t. t.number ≤ MAX_NUMBER)
+      number_of None is = tt
+      number_of (Some took) is = is.below
 
-  -- ---- entry by entry
+      numbered_more : (before : List Entry) (e : Entry) → AreNumbered before → IsNumbered e
+          → AreNumbered (before ++ e ∷ [])
+      numbered_more [] e are is = (is, tt)
+      numbered_more (x ∷ before) e are is = (are.0, numbered_more before e are.1 is)
 
-  module _ (heard : AnswersAreHeard) (given_out : AnswersAreGivenOut) (names : Names) where
-    number_of : (took : Option Took) → IfSome took IsTook
-        → IfSome took (λ t. t.number ≤ MAX_NUMBER)
-    number_of None is = tt
-    number_of (Some took) is = is.below
+      abbrev after_entry : Learned side → Entry → Learned side
+      after_entry learned e = after_said side learned (list_any (goes_below side n) e.outs) e.took
 
-    numbered_more : (before : List Entry) (e : Entry) → AreNumbered before → IsNumbered e
-        → AreNumbered (before ++ e ∷ [])
-    numbered_more [] e are is = (is, tt)
-    numbered_more (x ∷ before) e are is = (are.0, numbered_more before e are.1 is)
+      entries_follow : (next : Next) (before entries : List Entry) (learned : Learned side)
+          → AreNumbered before → AreEntries next entries
+          → LawfulAfter Answers names before entries
+          → fold after_placed learned (all_placed side entries) ≡ fold after_entry learned entries
+      entries_follow next before [] learned numbered sound lawful = refl
+      entries_follow next before (e ∷ entries) learned numbered sound lawful =
+          fold-append after_placed learned (map (placed_at e.at) (outs_to side e.outs))
+          (all_placed side entries)
+          ∙ ap (λ l. fold after_placed l (all_placed side entries))
+          (outs_fold learned e.at e.outs
+          ∙ entry_follows heard given_out names side n before numbered learned e sound.0 lawful.0)
+          ∙ entries_follow e.next (before ++ e ∷ []) entries (after_entry learned e)
+          (numbered_more before e numbered (number_of e.took sound.0.took)) sound.2 lawful.1
 
-    entries_follow : (next : Next) (before entries : List Entry) (book : Book)
-        → AreNumbered before → AreEntries next entries → LawfulAfter Answers names before entries
-        → fold after_placed book (all_placed Client entries)
-        ≡ fold step50 book (filter_map (report_in n) entries)
-    entries_follow next before [] book numbered sound lawful = refl
-    entries_follow next before (e ∷ entries) book numbered sound lawful =
-        fold-append after_placed book (map (placed_at e.at) (outs_to Client e.outs))
-        (all_placed Client entries)
-        ∙ ap (λ b. fold after_placed b (all_placed Client entries))
-        (outs_fold book e.at e.outs
-        ∙ entry_follows heard given_out names n before numbered book e sound.0 lawful.0)
-        ∙ entries_follow e.next (before ++ e ∷ []) entries
-        (book_after step50 book (report_in n e))
-        (numbered_more before e numbered (number_of e.took sound.0.took)) sound.2 lawful.1
-        ∙ reports_fold book (report_in n e) (filter_map (report_in n) entries)
-
--- THE CLIENT'S BOOK IS THAT OF THE VENUE'S REPORTS.
-pub books_follow : AnswersAreHeard → AnswersAreGivenOut → BooksFollow
-books_follow heard given_out names entries lawful sound n book =
-    ap (λ (ps : List Placed). fold book_with book
+-- EACH SIDE LEARNS WHAT WAS SAID.
+pub sides_learn : AnswersAreHeard → AnswersAreGivenOut → SidesLearn
+sides_learn heard given_out names entries lawful sound side n learned =
+    ap (λ (ps : List Placed). learned_of_taken side learned
     (map (λ p. message_of_out p.out) (filter (λ p. not p.out.admin) ps)))
-    (taken_below n (all_placed Client entries) (all_numbered first_numbers entries sound))
-    ∙ messages_fold n book (all_placed Client entries)
-    ∙ entries_follow n heard given_out names first_numbers [] entries book tt sound lawful
+    (taken_below n (all_placed side entries) (numbered_of side))
+    ∙ messages_fold n side learned (all_placed side entries)
+    ∙ entries_follow n side heard given_out names first_numbers [] entries learned tt sound lawful
+    ∙ sym (passing (with_said side) (λ (e : Entry). e.took >>= said_by (other side))
+    (λ (e : Entry). list_any (goes_below side n) e.outs) learned entries)
+  where
+    -- the first number of each side is 1
+    numbered_of : (side : Side) → NumberedFrom 1 (all_placed side entries)
+    numbered_of Client = all_numbered Client first_numbers entries sound
+    numbered_of Venue = all_numbered Venue first_numbers entries sound

@@ -1,7 +1,8 @@
--- What is heard in messages, which reports went on, and the book of who took them, worked through
--- from the definitions alone, with `|` for SOH.
+-- What is heard in messages, which of them went on, and what a side has learned of them, worked
+-- through from the definitions alone, with `|` for SOH.
 use Rattle.std.proofs.Common.{◌≡◌, ℕ, Bool, true, false, List, [], ◌∷◌, ◌++◌, map, codes, Option}
 use Rattle.std.proofs.Common.{Some, None, refl, if◌then◌else◌}
+use Rattle.std.specs.Option.{option_map}
 use Rattle.std.specs.Prelude.{◌==◌, is_some, pos}
 use Rattle.std.specs.Fmt.{digits}
 use Rattle.typed_fields.specs.Digits.{are_digits, number_of, has_pattern, zero_padded}
@@ -17,6 +18,7 @@ use Rattle.order_meaning.specs.declared.Side.{Side}
 use Rattle.order_meaning.specs.declared.Side.TheVariants.{Client, Venue}
 use Rattle.order_meaning.specs.Book.{Order, in_phase}
 use Rattle.order_meaning.specs.Report.{Phase, New, PendingCancel}
+use Rattle.order_meaning.specs.Request as orders
 use Rattle.pair_entries.specs.declared.entry.Entry.{Entry}
 use Rattle.dict_fix42.specs.Message.{message42}
 use Rattle.dict_fix50.specs.Message.{message50 as request50}
@@ -29,7 +31,7 @@ use Rattle.event_decisions.specs.Body.{reading_of}
 use Rattle.life_laws.specs.Taken as receiver
 use Rattle.heard_laws.specs.Heard.{Sort, Request, Report, Refusal, FaultyRefusal, Plain}
 use Rattle.heard_laws.specs.Heard.{Heard, heard_body, heard_out}
-use Rattle.heard_laws.specs.Books.{book_of_reports, book_of_taken, reports_below}
+use Rattle.heard_laws.specs.Learned.{learned_of_said, learned_of_taken, said_below}
 
 abbrev soh : List ℕ → List ℕ
 soh text = map (λ byte. if byte == 124 then 1 else byte) text
@@ -106,7 +108,7 @@ unfolding reading_of is_data_pair has_tag is_tag_good request50 report42 message
     without_leading_zeros without_trailing_zeros zero_padded digits
 worked_outs = record { worked_order = refl; worked_refusal = refl; worked_faulty = refl }
 
--- ---- the client's book
+-- ---- what a side has learned
 
 -- an entry that took a body of a side, and gave a message to a side
 abbrev entry : Side → List ℕ → (to : Side) (number : ℕ) (msg_type : List ℕ) → Entry
@@ -124,12 +126,23 @@ entry side body to number msg_type = record {
   } ∷ [];
 }
 
+-- a message with number 4 as it was taken
+abbrev taken : (msg_type : List ℕ) → List (ℕ × List ℕ) → receiver.Message
+taken msg_type fields =
+    record { number = 4; msg_type = msg_type; resend = false; fields = fields }
+
+-- BusinessMessageReject (j), of which neither side learns anything
+abbrev refusal : receiver.Message
+refusal = taken (codes "j") ((45, codes "2") ∷ (372, codes "D") ∷ (380, codes "0") ∷ [])
+
+-- ---- the client, of a report
+
 abbrev rejected : List ℕ
 rejected = codes "35=9|37=O1|11=A2|39=6|434=1|"
 
 -- the states of the orders, OrdStatus(39), in the reports below a number
-abbrev states : ℕ → List Entry → List ℕ
-states n entries = map (λ m. code_in m.cells 39) (reports_below n entries)
+abbrev states : ℕ → List Entry → List (Option ℕ)
+states n entries = map (option_map (λ m. code_in m.cells 39)) (said_below Client n entries)
 
 -- an order in a state
 abbrev order : Phase → Order
@@ -147,26 +160,20 @@ order phase = record {
   execs = [];
 }
 
--- Order Cancel Reject (9) as the client took it
-abbrev taken : receiver.Message
-taken = record {
-  number = 4;
-  msg_type = codes "9";
-  resend = false;
-  fields = (37, codes "O1") ∷ (11, codes "A2") ∷ (41, codes "A1") ∷ (39, codes "6")
-      ∷ (434, codes "1") ∷ [];
-}
-
 pub record Reports : Type 0 where
-  pub worked_below : states 5 (entry Venue rejected Client 4 (codes "9") ∷ []) ≡ 54 ∷ []
+  pub worked_below : states 5 (entry Venue rejected Client 4 (codes "9") ∷ []) ≡ Some 54 ∷ []
   pub worked_later : states 4 (entry Venue rejected Client 4 (codes "9") ∷ []) ≡ []
-  -- a refusal of it is no report, and a client has none
+  -- a refusal of it is no report, and the client said none
   pub worked_refused : states 9 (entry Venue rejected Venue 4 (codes "j") ∷ []) ≡ []
-  pub worked_of_client : states 9 (entry Client rejected Client 4 (codes "9") ∷ []) ≡ []
-  pub worked_taken : book_of_taken (order New ∷ []) (taken ∷ []) ≡ order PendingCancel ∷ []
+  pub worked_of_client : states 9 (entry Client rejected Client 4 (codes "9") ∷ []) ≡ None ∷ []
+  pub worked_taken :
+      learned_of_taken Client (order New ∷ [])
+      (refusal ∷ taken (codes "9") ((37, codes "O1") ∷ (11, codes "A2") ∷ (41, codes "A1")
+      ∷ (39, codes "6") ∷ (434, codes "1") ∷ []) ∷ [])
+      ≡ order PendingCancel ∷ []
   pub worked_told :
-      book_of_reports (order New ∷ [])
-      (reports_below 5 (entry Venue rejected Client 4 (codes "9") ∷ []))
+      learned_of_said Client (order New ∷ [])
+      (said_below Client 5 (entry Venue rejected Client 4 (codes "9") ∷ []))
       ≡ order PendingCancel ∷ []
 
 pub worked_reports : Reports
@@ -181,4 +188,50 @@ worked_reports = record {
   worked_of_client = refl;
   worked_taken = refl;
   worked_told = refl;
+}
+
+-- ---- the venue, of a request
+
+-- an order of an agency, Rule80A(47), which is OrderCapacity(528) at the venue
+abbrev ordered : List ℕ
+ordered = codes "35=D|11=A1|" ++ order_fields ++ codes "47=A|"
+
+-- kind, ClOrdID(11) and capacity of what each request means
+abbrev Asked : Type 0
+Asked = List (Option (orders.RequestKind × List ℕ × Option ℕ))
+
+abbrev asked : List (Option orders.Request) → Asked
+asked meanings = map (option_map (λ r. (r.kind, r.cl_ord_id, r.capacity))) meanings
+
+-- what the venue would have learned of these entries below a number
+abbrev said : ℕ → List Entry → Asked
+said n entries = asked (learned_of_said Venue [] (said_below Venue n entries))
+
+pub record Requests : Type 0 where
+  pub worked_said : said 5 (entry Client ordered Venue 4 (codes "D") ∷ [])
+      ≡ Some (orders.New, codes "A1", Some 65) ∷ []
+  pub worked_later : said 4 (entry Client ordered Venue 4 (codes "D") ∷ []) ≡ []
+  -- a refusal of it is no request
+  pub worked_refused : said 9 (entry Client ordered Client 4 (codes "j") ∷ []) ≡ []
+  pub worked_taken :
+      asked (learned_of_taken Venue []
+      (refusal ∷ taken (codes "D") ((11, codes "A1") ∷ (21, codes "1") ∷ (55, codes "IBM")
+      ∷ (54, codes "1") ∷ (60, codes "20240102-10:00:00") ∷ (38, codes "100") ∷ (40, codes "1")
+      ∷ (528, codes "A") ∷ []) ∷ []))
+      ≡ Some (orders.New, codes "A1", Some 65) ∷ []
+  -- one that is at fault means nothing, and counts
+  pub worked_faulty :
+      asked (learned_of_taken Venue [] (taken (codes "D") ((11, codes "A1") ∷ []) ∷ []))
+      ≡ None ∷ []
+
+pub worked_requests : Requests
+unfolding reading_of is_data_pair has_tag is_tag_good message42 request50 report42 report50
+    message_of first_fault first_of number_in judge spelling are_digits number_of has_pattern
+    units_of_text without_leading_zeros without_trailing_zeros zero_padded digits
+worked_requests = record {
+  worked_said = refl;
+  worked_later = refl;
+  worked_refused = refl;
+  worked_taken = refl;
+  worked_faulty = refl;
 }

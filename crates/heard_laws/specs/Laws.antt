@@ -1,5 +1,5 @@
--- Own: what is heard in the messages that the gateway takes and gives out; and that the client's
--- book is that of the venue's reports.
+-- Own: what is heard in the messages that the gateway takes and gives out; and that each side
+-- learns what the other said.
 use Rattle.std.specs.Prelude.{◌≡◌, ◌≤◌, ◌⊎◌, ℕ, Bool, true, List, Ok, Some, None, codes}
 use Rattle.std.specs.Prelude.{unwrap_or}
 use Rattle.std.specs.Str.{bytes_eq}
@@ -7,7 +7,6 @@ use Rattle.message_tables.specs.Tables.{Message}
 use Rattle.order_meaning.specs.declared.Side.{Side}
 use Rattle.order_meaning.specs.declared.Side.TheVariants.{Client, Venue}
 use Rattle.order_meaning.specs.declared.names.Names.{Names}
-use Rattle.order_meaning.specs.Book.{Book}
 use Rattle.session_logon.specs.Head.{number_in}
 use Rattle.pair_entries.specs.declared.TheConstants.{MAX_NUMBER}
 use Rattle.pair_entries.specs.declared.entry.Out.{Out}
@@ -27,9 +26,9 @@ use Rattle.life_laws.specs.Receiver.{read_reset}
 use Rattle.life_laws.specs.Taken as receiver
 use Rattle.life_laws.specs.Taken.{Read, GapFill, Reset, Other}
 use Rattle.life_laws.specs.Taken.{AreFronts, committed_below, taken_from}
-use Rattle.heard_laws.specs.Books.{book_of_reports, book_of_taken, reports_below}
 use Rattle.heard_laws.specs.Heard.{Sort, Request, Report, Refusal, Plain, is_reject, Heard}
 use Rattle.heard_laws.specs.Heard.{heard_body, heard_out, Carries}
+use Rattle.heard_laws.specs.Learned.{Learned, learned_of_taken, learned_of_said, said_below}
 
 -- ---- ids
 
@@ -151,20 +150,21 @@ abbrev pub SentSessionsAreHeardPlain : Type 0
 SentSessionsAreHeardPlain = (names : Names) (side : Side) (out : Out) → IsSent names side out
     → out.admin ≡ true → (heard_out out).sort ≡ Plain
 
--- ---- the client's book
+-- ---- what each side learns
 
--- THE BOOK FOLLOWS: what was committed to the client with numbers below n changes a book as the
--- venue's reports do that went on under these numbers.
-abbrev pub BooksFollow : Type 0
-BooksFollow =
+-- EACH SIDE LEARNS WHAT WAS SAID: of what was committed to it with numbers below n, what the other
+-- side said in the messages that went on under these numbers.
+abbrev pub SidesLearn : Type 0
+SidesLearn =
     (names : Names) (entries : List Entry) → IsLawful Answers names entries →
-    AreEntries first_numbers entries → (n : ℕ) (book : Book) →
-    book_of_taken book (committed_below read_body message_of_out Client n entries)
-    ≡ book_of_reports book (reports_below n entries)
+    AreEntries first_numbers entries → (side : Side) (n : ℕ) (learned : Learned side) →
+    learned_of_taken side learned (committed_below read_body message_of_out side n entries)
+    ≡ learned_of_said side learned (said_below side n entries)
 
--- what a client took of whatever arrived of these connections
-abbrev pub TakesTheBook : List Entry → List Connection → Type 0
-TakesTheBook entries connections =
-    (fronts : List (List ℕ)) → AreFronts fronts connections → (book : Book) →
-    let taking = taken_from read_body message_of_out Client fronts in
-    book_of_taken book taking.taken ≡ book_of_reports book (reports_below taking.next entries)
+-- what a side took of whatever arrived of these connections: it learned what was said
+abbrev pub LearnsWhatWasSaid : Side → List Entry → List Connection → Type 0
+LearnsWhatWasSaid side entries connections =
+    (fronts : List (List ℕ)) → AreFronts fronts connections → (learned : Learned side) →
+    let taking = taken_from read_body message_of_out side fronts in
+    learned_of_taken side learned taking.taken
+    ≡ learned_of_said side learned (said_below side taking.next entries)

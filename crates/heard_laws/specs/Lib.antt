@@ -1,3 +1,3 @@
 pub mod Heard
-pub mod Books
+pub mod Learned
 pub mod Laws

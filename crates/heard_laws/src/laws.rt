@@ -1,9 +1,9 @@
-//! What is heard in each message, and that both books are the same. Each law is the contract of a
-//! function that does nothing.
+//! What is heard in each message, and that each side learns what the other said. Each law is the
+//! contract of a function that does nothing.
 
 ghost use Rattle.heard_laws.specs.Laws.{IdsAreCompared, RefusalsAreHeard, AnswersAreHeard};
 ghost use Rattle.heard_laws.specs.Laws.{BodiesAreReadAlike, SessionsAreHeardPlain};
-ghost use Rattle.heard_laws.specs.Laws.{SentSessionsAreHeardPlain, BooksFollow};
+ghost use Rattle.heard_laws.specs.Laws.{SentSessionsAreHeardPlain, SidesLearn};
 
 use exec_translate::laws::{books_change_alike, written_reports_are_read_again};
 use message_answers::laws::answers_are_given_out;
@@ -25,11 +25,13 @@ pub fn messages_are_read()
     answers_are_given_out();
 }
 
-/// A client took some beginning of what was committed to it. Whichever that is, its book is the one
-/// that the venue's reports make which went on to it under those numbers: each fill, correction and
-/// bust changed it once, in order, and nothing else did.
-pub fn client_books_follow()
-    ensures { BooksFollow }
+/// A side took some beginning of what was committed to it. Whichever that is, it learned of it what
+/// the other side said in the messages that went on to it under those numbers. The client's book is
+/// the one that the venue's reports make: each fill, correction and bust changed it once, in order,
+/// and nothing else did. The requests that the venue took mean, in order, what the client's first
+/// requests that went on mean.
+pub fn sides_learn_what_was_said()
+    ensures { SidesLearn }
 {
     messages_are_read();
     answers_are_given_out();

@@ -10,5 +10,5 @@ returns-clause-lives c = λ end config before entries client venue rounds did le
 pub returns-clause-taken : goal.returns-clause-taken
 returns-clause-taken c = are_taken c.lives_begin.ensures
     c.justified_transcripts_are_taken_in_order.ensures c.what_is_sent_is_read.ensures
-    c.repeats_fill_gaps.ensures.frames c.client_books_follow.ensures c.bodies_are_read.ensures
+    c.repeats_fill_gaps.ensures.frames c.sides_learn_what_was_said.ensures c.bodies_are_read.ensures
     c.answers_are_given_out.ensures
