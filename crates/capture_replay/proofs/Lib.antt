@@ -1,5 +1,7 @@
 pub mod EachLine
 pub mod Shown
+pub mod Coming
+pub mod Playing
 pub mod Living
 pub mod LastLeft
 pub mod Following

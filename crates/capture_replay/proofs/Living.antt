@@ -1,22 +1,18 @@
 -- A life of a capture, from what `live` says over wires, a clock and a disk in memory.
 use Rattle.std.proofs.Common.{◌≡◌, ◌∙◌, ℕ, ◌-◌, ◌^◌, ◌==◌, Bool, true, false, List, [], ◌++◌}
-use Rattle.std.proofs.Common.{length, map, filter, refl, sym, ap, subst, Some, None, is_some, is_none}
-use Rattle.std.proofs.Common.{inl, inr, IfSome, if◌then◌else◌}
-use Rattle.std.proofs.lemmas.List.{length-map}
+use Rattle.std.proofs.Common.{length, filter, refl, sym, ap, subst, Some, None, is_some}
+use Rattle.std.proofs.Common.{inl, inr, IfSome, if◌then◌else◌, arith}
 use Rattle.std.specs.declared.option.Option.{Option}
 use Rattle.outside.specs.Disk.{Only}
 use Rattle.outside.specs.Memory.{DiskState}
 use Rattle.outside.specs.MemDisk.{IsImageOf, fresh}
 use Rattle.outside.specs.declared.mem_disk.Fuse.{Fuse}
-use Rattle.order_meaning.specs.declared.Side.{Side}
 use Rattle.order_meaning.specs.declared.Side.TheVariants.{Client, Venue}
 use Rattle.pair_entries.specs.declared.entry.Entry.{Entry}
 use Rattle.wires.specs.Wire.{Came, WireCall}
-use Rattle.wires.specs.Script.{item_of, Plays}
+use Rattle.wires.specs.Script.{Plays}
 use Rattle.wires.specs.Clock.{ClockState, moments_given, moments_told}
-use Rattle.wires.specs.MemWire.{WireState, calls_told, plays}
-use Rattle.wires.specs.MemWire as wires
-use Rattle.wires.specs.declared.script.Script.{Script}
+use Rattle.wires.specs.MemWire.{WireState, plays}
 use Rattle.message_answers.specs.Answer.{Answers}
 use Rattle.life_laws.specs.Justified.{Leaves}
 use Rattle.gateway_config.specs.declared.config.Config.{Config}
@@ -30,17 +26,15 @@ use Rattle.gateway_life.specs.declared.end.LifeEnd.TheVariants as ends
 use Rattle.gateway_life.proofs.Living.{same_journal}
 use Rattle.pair_journal.specs.Laws.{HasOneReading}
 use Rattle.capture_text.specs.declared.capture.Event.{Event}
-use Rattle.capture_replay.specs.Rounds.{is_round, arrival, script_of, moments_from}
+use Rattle.capture_replay.specs.Rounds.{is_round, script_of, moments_from}
 use Rattle.capture_replay.specs.Replay.{Left, is_fault}
+use Rattle.capture_replay.specs.LifeWire.{unplayed}
 use Rattle.capture_replay.specs.Lived.{IsLived, LivesOn}
+use Rattle.capture_replay.proofs.EachLine.{rounds_are}
 
 only_fresh : (bytes fail : List ℕ) (fuse : Fuse) → Only bytes (IsImageOf (fresh bytes fail fuse))
 only_fresh bytes fail fuse image (inl is) = is
 only_fresh bytes fail fuse image (inr is) = is
-
-told_calls : (told : Option (List WireCall)) → is_none told ≡ false → told ≡ Some (calls_told told)
-told_calls None told = absurd (cc told)
-told_calls (Some calls) told = refl
 
 if_told : {A : Type 0} (lost : Bool) (a : A)
     → is_some (if lost then None else Some a) ≡ true
@@ -62,17 +56,11 @@ played wire calls script told plays = (
       plays,
 )
 
--- as many rounds as items of a script
-pub rounds_are : (side : Side) (lines : List Event) (items : List Script)
-    → map item_of items ≡ script_of side lines → length items ≡ length (filter is_round lines)
-rounds_are side lines items is = sym (length-map items item_of)
-    ∙ ap length is ∙ length-map (filter is_round lines) (arrival side)
-
 -- what was done in a life
-abbrev done : WireState → WireState → ClockState → Done
+abbrev done : (client venue : List WireCall) → ClockState → Done
 done client venue clock = record {
-  client = calls_told client.recorded;
-  venue = calls_told venue.recorded;
+  client = client;
+  venue = venue;
   moments = moments_given clock.listed clock.asked;
 }
 
@@ -109,27 +97,26 @@ pub record LiveSays {T : Type 0} (state : T → TapState) (seen now : List T) (c
 module _ {T : Type 0} (state : T → TapState) (seen now : List T) (config : Config)
     (lines : List Event) (before : Left) (bytes image : List ℕ) (disk : DiskState)
     (client venue : WireState) (clock : ClockState) (end : LifeEnd) (rounds : ℕ)
-    (fail fail_client fail_venue listed : List ℕ) (fuse : Fuse)
-    (client_items venue_items : List Script)
+    (fail listed : List ℕ) (fuse : Fuse) (client_calls venue_calls : List WireCall)
     (says : LiveSays state seen now config (fresh bytes fail fuse) disk
-    (wires.fresh client_items fail_client) client (wires.fresh venue_items fail_venue) venue
+    (unplayed Client lines) client (unplayed Venue lines) venue
     (record { listed = listed; asked = 0 }) clock end rounds)
-    (client_told : is_none client.recorded ≡ false) (venue_told : is_none venue.recorded ≡ false)
+    (client_told : client.recorded ≡ Some client_calls)
+    (venue_told : venue.recorded ≡ Some venue_calls)
     (clock_told : is_some (moments_told clock) ≡ true) where
   premises : IsJournal config.names before.entries bytes
       → Premises config.names (IsImageOf (fresh bytes fail fuse))
-      (told_of (fresh bytes fail fuse) (wires.fresh client_items fail_client)
-      (wires.fresh venue_items fail_venue) (record { listed = listed; asked = 0 }))
-      (told_of disk client venue clock)
+      (told_of (fresh bytes fail fuse) (unplayed Client lines) (unplayed Venue lines)
+      (record { listed = listed; asked = 0 })) (told_of disk client venue clock)
   premises journal = record {
     bytes = bytes;
     tells = refl;
     only = only_fresh bytes fail fuse;
     before = before.entries;
     journal = journal;
-    did = done client venue clock;
-    client = ([], refl, told_calls client.recorded client_told);
-    venue = ([], refl, told_calls venue.recorded venue_told);
+    did = done client_calls venue_calls clock;
+    client = ([], refl, client_told);
+    venue = ([], refl, venue_told);
     clock = ([], refl, told_moments clock clock_told);
   }
 
@@ -139,25 +126,24 @@ module _ {T : Type 0} (state : T → TapState) (seen now : List T) (config : Con
       → IsImageOf disk image → is_fault end ≡ false
       → IsJournal config.names before.entries bytes → AreShown config.names
       → Leaves Answers config.names before.entries before.client before.venue
-      → IsLived state config lines before seen now client.recorded venue.recorded end image
+      → IsLived state config lines before seen now (Some client_calls) (Some venue_calls) end
+      image
   unfolding premises
   lived one client_plays venue_plays follows count among whole journal shown leaves =
       let (entries, left) = says.images (premises journal) image among in
       let accounts = left.accounts before.client before.venue leaves in
       let saw = says.taps in
       record {
-        did = done client venue clock;
+        did = done client_calls venue_calls clock;
         entries = entries;
-        client_told = told_calls client.recorded client_told;
-        venue_told = told_calls venue.recorded venue_told;
+        client_told = refl;
+        venue_told = refl;
         played = record {
-          client = played client (calls_told client.recorded) (script_of Client lines)
-              (told_calls client.recorded client_told) client_plays;
-          venue = played venue (calls_told venue.recorded) (script_of Venue lines)
-              (told_calls venue.recorded venue_told) venue_plays;
+          client = played client client_calls (script_of Client lines) client_told client_plays;
+          venue = played venue venue_calls (script_of Venue lines) venue_told venue_plays;
           moments = (clock.asked, ap (λ l. moments_given l clock.asked) follows);
-          is_left = subst (λ n. IsLeft end config before.entries n (done client venue clock) image
-              entries) count left;
+          is_left = subst (λ n. IsLeft end config before.entries n
+              (done client_calls venue_calls clock) image entries) count left;
           leaves = accounts.leaves;
           taken = accounts.taken shown;
           moment = refl;
@@ -175,47 +161,41 @@ module _ {T : Type 0} (state : T → TapState) (seen now : List T) (config : Con
     (lines : List Event) (disk0 disk : DiskState) (client0 client venue0 venue : WireState)
     (clock0 clock : ClockState) (end : LifeEnd) (rounds : ℕ)
     (says : LiveSays state seen now config disk0 disk client0 client venue0 venue clock0 clock end
-    rounds) (from : ℕ) (bytes fail fail_client fail_venue listed image : List ℕ) (fuse : Fuse)
-    (client_items venue_items : List Script) where
+    rounds) (from : ℕ) (bytes fail listed image : List ℕ) (fuse : Fuse)
+    (client_calls venue_calls : List WireCall) where
   -- over fresh forms
-  says_fresh : disk0 ≡ fresh bytes fail fuse → client0 ≡ wires.fresh client_items fail_client
-      → venue0 ≡ wires.fresh venue_items fail_venue
-      → clock0 ≡ record { listed = listed; asked = 0 }
+  says_fresh : disk0 ≡ fresh bytes fail fuse → client0 ≡ unplayed Client lines
+      → venue0 ≡ unplayed Venue lines → clock0 ≡ record { listed = listed; asked = 0 }
       → LiveSays state seen now config (fresh bytes fail fuse) disk
-      (wires.fresh client_items fail_client) client (wires.fresh venue_items fail_venue) venue
+      (unplayed Client lines) client (unplayed Venue lines) venue
       (record { listed = listed; asked = 0 }) clock end rounds
   says_fresh is_disk is_client is_venue is_clock =
       subst (λ (k : ClockState). LiveSays state seen now config (fresh bytes fail fuse) disk
-      (wires.fresh client_items fail_client) client (wires.fresh venue_items fail_venue) venue k
-      clock end rounds) is_clock
+      (unplayed Client lines) client (unplayed Venue lines) venue k clock end rounds) is_clock
       (subst (λ (v : WireState). LiveSays state seen now config (fresh bytes fail fuse) disk
-      (wires.fresh client_items fail_client) client v venue clock0 clock end rounds) is_venue
+      (unplayed Client lines) client v venue clock0 clock end rounds) is_venue
       (subst (λ (c : WireState). LiveSays state seen now config (fresh bytes fail fuse) disk
       c client venue0 venue clock0 clock end rounds) is_client
       (subst (λ (d : DiskState). LiveSays state seen now config d disk
       client0 client venue0 venue clock0 clock end rounds) is_disk says)))
 
   pub lives_on : ((i : List ℕ) → HasOneReading i)
-      → disk0 ≡ fresh bytes fail fuse → client0 ≡ wires.fresh client_items fail_client
-      → venue0 ≡ wires.fresh venue_items fail_venue
-      → clock0 ≡ record { listed = listed; asked = 0 }
-      → map item_of client_items ≡ script_of Client lines
-      → map item_of venue_items ≡ script_of Venue lines → listed ≡ moments_from from lines
-      → rounds ≡ length client_items → IsImageOf disk image
-      → is_none client.recorded ≡ false → is_none venue.recorded ≡ false
+      → disk0 ≡ fresh bytes fail fuse → client0 ≡ unplayed Client lines
+      → venue0 ≡ unplayed Venue lines → clock0 ≡ record { listed = listed; asked = 0 }
+      → listed ≡ moments_from from lines → rounds ≡ length listed - 1 → IsImageOf disk image
+      → client.recorded ≡ Some client_calls → venue.recorded ≡ Some venue_calls
       → is_some (moments_told clock) ≡ true → is_fault end ≡ false
-      → LivesOn state config lines from bytes seen now client.recorded venue.recorded end image
-  lives_on one is_disk is_client is_venue is_clock client_is venue_is listed_is rounds_is among
+      → LivesOn state config lines from bytes seen now (Some client_calls) (Some venue_calls) end
+      image
+  lives_on one is_disk is_client is_venue is_clock listed_is rounds_is among
       client_told venue_told clock_told whole before is_from journal shown leaves =
       let fresh_says = says_fresh is_disk is_client is_venue is_clock in
+      let many = rounds_are from lines in
+      let most : length listed ≡ length (moments_from from lines) = ap length listed_is in
+      let count : rounds ≡ length (filter is_round lines) = omega (arith, rounds_is, many, most) in
       lived state seen now config lines before bytes image disk client venue clock end rounds fail
-      fail_client fail_venue listed fuse client_items venue_items fresh_says client_told venue_told
-      clock_told one
-      (subst (λ (s : List Came). plays client s) client_is
-      (fresh_says.client_plays (map item_of client_items) refl))
-      (subst (λ (s : List Came). plays venue s) venue_is
-      (fresh_says.venue_plays (map item_of venue_items) refl))
+      listed fuse client_calls venue_calls fresh_says client_told venue_told clock_told one
+      (fresh_says.client_plays (script_of Client lines) refl)
+      (fresh_says.venue_plays (script_of Venue lines) refl)
       (fresh_says.follows listed refl ∙ listed_is
-      ∙ ap (λ (m : ℕ). moments_from m lines) (sym is_from))
-      (rounds_is ∙ rounds_are Client lines client_items client_is) among whole journal shown
-      leaves
+      ∙ ap (λ (m : ℕ). moments_from m lines) (sym is_from)) count among whole journal shown leaves

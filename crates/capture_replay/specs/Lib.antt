@@ -3,3 +3,4 @@ pub mod Replay
 pub mod Lived
 pub mod Drills
 pub mod Input
+pub mod LifeWire

@@ -42,14 +42,7 @@ pub fn drill<O: Sink>(
     lives_follow();
     let day = drill_day(alloc, first, count)?;
     let config = config_of(day.names, day.heart);
-    let lived = live_lines(
-        alloc,
-        &config,
-        day.life.as_slice(),
-        0,
-        Vec::new(alloc),
-        taps,
-    )?;
+    let lived = live_lines(alloc, &config, &day.life, 0, Vec::new(alloc), taps)?;
     let end = end_name(&lived.end);
     let (entries, next) = left_by(alloc, lived.image)?;
     let kinds = day.kinds;

@@ -12,6 +12,7 @@ mod last;
 mod life;
 mod replaying;
 mod rounds;
+mod wire;
 
 pub use drilling::drill;
 pub use error::ReplayError;

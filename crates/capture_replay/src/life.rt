@@ -7,24 +7,26 @@ ghost use Rattle.capture_text.specs.Line.{IsBounded};
 ghost use Rattle.capture_replay.specs.Lived.{LivesOn};
 
 use crate::ends::is_fault;
-use crate::rounds::{moments_of, script_of};
-use capture_text::Event;
+use crate::rounds::{moments_of, rounds_of};
+use crate::wire::LifeWire;
+use capture_text::Life;
 use drop_taps::Tap;
 use gateway_config::Config;
 use gateway_life::{LifeEnd, live};
 use order_meaning::Side;
 use outside::{Image, MemDisk};
 use pair_journal::laws::an_image_has_one_reading;
+use replay_lines::CallLog;
 use std::alloc::{AllocError, Global};
-use wires::{ListClock, MemWire};
+use wires::ListClock;
 
 /// A life that was lived: what was done on its wires, how it ended, and what it left on the disk.
 #[derive(Drop)]
 pub(crate) struct Lived {
-    /// The client's wire.
-    pub(crate) client: MemWire,
-    /// The venue's wire.
-    pub(crate) venue: MemWire,
+    /// The calls on the client's wire.
+    pub(crate) client: CallLog,
+    /// The calls on the venue's wire.
+    pub(crate) venue: CallLog,
     /// How it ended.
     pub(crate) end: LifeEnd,
     /// The bytes of the disk.
@@ -39,29 +41,25 @@ pub(crate) struct Lived {
 pub(crate) fn live_lines(
     alloc: Global,
     config: &Config,
-    lines: &[Event],
+    life: &Life,
     from: u64,
     image: Vec<u8>,
     taps: &mut Vec<Box<dyn Tap>>,
 ) -> Result<Lived, AllocError>
-    requires bounded { All IsBounded lines.now }
+    requires bounded { All IsBounded life.now }
     ensures lived { IfOk result (λ lived. LivesOn
-        (state_by has_failed entries tally counts_all refused) config.now lines.now from image.items
-        taps.old.items taps.new.items lived.client.recorded lived.venue.recorded lived.end
+        (state_by has_failed entries tally counts_all refused) config.now life.now from image.items
+        taps.old.items taps.new.items (Some lived.client) (Some lived.venue) lived.end
         lived.image.items) }
     ensures taps { (more : List Entry) × HaveSeen
         (state_by has_failed entries tally counts_all refused) taps.old.items taps.new.items more }
 {
     an_image_has_one_reading();
-    let script = script_of(alloc, Side::Client, lines)?;
-    let rounds = script.len() as u64;
-    let mut client = MemWire::new(alloc, script, Vec::new(alloc));
-    let mut venue = MemWire::new(
-        alloc,
-        script_of(alloc, Side::Venue, lines)?,
-        Vec::new(alloc),
-    );
-    let mut clock = ListClock::new(moments_of(alloc, from, lines)?);
+    let moments = moments_of(alloc, from, life)?;
+    let rounds = rounds_of(&moments);
+    let mut client = LifeWire::new(alloc, Side::Client, life);
+    let mut venue = LifeWire::new(alloc, Side::Venue, life);
+    let mut clock = ListClock::new(moments);
     let mut disk = MemDisk::new(alloc, image, Vec::new(alloc));
     let end = live(
         alloc,
@@ -73,10 +71,16 @@ pub(crate) fn live_lines(
         taps,
         rounds,
     );
-    let refused = disk.refused() || client.refused() || venue.refused() || !clock.is_told();
-    if refused || is_fault(&end) {
+    let (client, venue) = (client.into_calls(), venue.into_calls());
+    if disk.refused() || !clock.is_told() || is_fault(&end) {
         return Err(AllocError);
     }
+    let Some(client) = client else {
+        return Err(AllocError);
+    };
+    let Some(venue) = venue else {
+        return Err(AllocError);
+    };
     let image = disk.image(Image::New)?;
     Ok(Lived {
         client,

@@ -45,17 +45,16 @@ pub fn replay<O: Sink>(
     let mut image = Vec::new(alloc);
     let mut moment = 0;
     for (index, lines) in capture.lives.as_slice().iter().enumerate() {
-        let events = lines.as_slice();
-        let lived = live_lines(alloc, &config, events, moment, image, taps)?;
+        let lived = live_lines(alloc, &config, lines, moment, image, taps)?;
         let life = PlayedLife {
             number: index as u64 + 1,
-            client: lived.client.calls(),
-            venue: lived.venue.calls(),
+            client: &lived.client,
+            venue: &lived.venue,
             end: end_name(&lived.end),
         };
         put_life(alloc, out, &life)?;
         image = lived.image;
-        moment = moment_after(moment, events);
+        moment = moment_after(moment, lines);
     }
     let (entries, next) = left_by(alloc, image)?;
     put_last(alloc, out, entries, next)

@@ -3,3 +3,4 @@ pub mod Reading
 pub mod Line
 pub mod Header
 pub mod Life
+pub mod Kept

@@ -9,5 +9,5 @@ mod lines;
 mod number;
 mod reading;
 
-pub use capture::{Capture, Event, Life, Lives};
+pub use capture::{Capture, Event, Life, Line, Lines, Lives};
 pub use reading::{CaptureFault, read_capture};

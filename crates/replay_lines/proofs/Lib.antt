@@ -1,3 +1,4 @@
+pub mod Kept
 pub mod OneMore
 pub mod Pieces
 pub mod Worked

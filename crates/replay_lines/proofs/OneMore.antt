@@ -8,10 +8,8 @@ use Rattle.std.specs.List.{flat_map}
 use Rattle.std.proofs.lemmas.Grind.{flat_map-append}
 use Rattle.std.proofs.lemmas.List.{map-append, take_more, length_push}
 use Rattle.wires.specs.Wire.{WireCall, Poll, Send, HangUp, Nothing, Opened, Bytes, Closed, Broken}
-use Rattle.wires.specs.Record.{call_of, calls_of, marked}
-use Rattle.wires.specs.declared.record.Noted.{Noted}
 use Rattle.replay_lines.specs.Pieces.{add_piece, pieces_after, pieces_of}
-use Rattle.replay_lines.specs.Calls.{opened, call_lines}
+use Rattle.replay_lines.specs.Calls.{opened, call_lines, lines_from}
 use Rattle.replay_lines.specs.ReplayLines.{printed, piece_line, numbered, connection_lines}
 use Rattle.replay_lines.specs.ReplayLines.{side_lines}
 
@@ -26,33 +24,6 @@ byte_more old now piece i within is =
     ∙ ap (λ (l : List ℕ). old ++ (codes "> " ++ l))
     (sym (map-append printed (take i piece) (get_or piece i 0 ∷ []))
     ∙ ap (λ (l : List ℕ). map printed l) (sym (take_more piece i 0 within)))
-
--- ---- calls
-
-marked_more : (hung_up : Bool) (calls more : List WireCall)
-    → marked hung_up (calls ++ more) ≡ marked hung_up calls ++ more
-marked_more true calls more = refl
-marked_more false calls more = refl
-
-calls_more : (kept : List Noted) (noted : Noted)
-    → calls_of (kept ++ noted ∷ []) ≡ calls_of kept ++ (call_of noted.call ∷ marked noted.hung_up [])
-calls_more [] noted = refl
-calls_more (first ∷ kept) noted = ap (λ calls. call_of first.call ∷ calls)
-    (ap (marked first.hung_up) (calls_more kept noted)
-    ∙ marked_more first.hung_up (calls_of kept) (call_of noted.call ∷ marked noted.hung_up []))
-
-fold_calls : (all : List (List (List ℕ))) (calls : List WireCall) (call : WireCall) (hung_up : Bool)
-    → fold pieces_after all (calls ++ (call ∷ marked hung_up []))
-    ≡ pieces_after (fold pieces_after all calls) call
-fold_calls all [] call true = refl
-fold_calls all [] call false = refl
-fold_calls all (first ∷ calls) call hung_up = fold_calls (pieces_after all first) calls call hung_up
-
-pieces_more : (kept : List Noted) (noted : Noted)
-    → pieces_of (calls_of (kept ++ noted ∷ [])) ≡ pieces_after (pieces_of (calls_of kept))
-    (call_of noted.call)
-pieces_more kept noted = ap pieces_of (calls_more kept noted)
-    ∙ fold_calls [] (calls_of kept) (call_of noted.call) noted.hung_up
 
 -- ---- their lines
 
@@ -126,35 +97,40 @@ count_after all (Poll Broken) = refl
 count_after all (Send piece wrote done) = longer wrote all
 count_after all HangUp = refl
 
--- the pieces of the first so many calls
-abbrev pub pieces_in : ℕ → List Noted → List (List (List ℕ))
-pieces_in count calls = pieces_of (calls_of (take count calls))
+-- the lines of connections and of the calls that are left
+all_lines : (side : List ℕ) (all : List (List (List ℕ))) (calls : List WireCall)
+    → side_lines side 1 (fold pieces_after all calls)
+    ≡ side_lines side 1 all ++ lines_from side (length all) calls
+all_lines side all [] = sym (append-nil (side_lines side 1 all))
+all_lines side all (call ∷ calls) = all_lines side (pieces_after all call) calls
+    ∙ ap (λ (l : List ℕ). l ++ lines_from side (length (pieces_after all call)) calls)
+    (side_after side all call)
+    ∙ ap (λ n. (side_lines side 1 all ++ call_lines side (length all) call)
+    ++ lines_from side n calls) (count_after all call)
+    ∙ append_assoc (side_lines side 1 all) (call_lines side (length all) call)
+    (lines_from side (opened (length all) call) calls)
 
-module _ (calls : List Noted) (i : ℕ) (noted : Noted) (within : i < length calls)
-    (there : noted ≡ get_or calls i noted) where
-  next_pieces : pieces_in (i + 1) calls ≡ pieces_after (pieces_in i calls) (call_of noted.call)
-  next_pieces = ap (λ c. pieces_of (calls_of c)) (take_more calls i noted within
-      ∙ ap (λ n. take i calls ++ n ∷ []) (sym there)) ∙ pieces_more (take i calls) noted
+lines_are : (side : List ℕ) (calls : List WireCall)
+    → lines_from side 0 calls ≡ side_lines side 1 (pieces_of calls)
+lines_are side calls = sym (all_lines side [] calls)
 
-  pub count_more : (connections now : ℕ) → connections ≡ length (pieces_in i calls)
-      → now ≡ opened connections (call_of noted.call) → now ≡ length (pieces_in (i + 1) calls)
-  count_more connections now was is = is
-      ∙ ap (λ n. opened n (call_of noted.call)) was
-      ∙ sym (count_after (pieces_in i calls) (call_of noted.call)) ∙ ap length (sym next_pieces)
+-- a call more, of those that were left
+pub lines_more : (side now text all : List ℕ) (connections next : ℕ) (call : WireCall)
+    (left rest : List WireCall) → left ≡ call ∷ rest
+    → now ++ lines_from side connections left ≡ all → next ≡ opened connections call
+    → text ≡ now ++ call_lines side connections call → text ++ lines_from side next rest ≡ all
+lines_more side now text all connections next call left rest is was opens more =
+    ap (λ (l : List ℕ). l ++ lines_from side next rest) more
+    ∙ append_assoc now (call_lines side connections call) (lines_from side next rest)
+    ∙ ap (λ n. now ++ (call_lines side connections call ++ lines_from side n rest)) opens
+    ∙ ap (λ calls. now ++ lines_from side connections calls) (sym is) ∙ was
 
-  pub lines_more : (old now text side : List ℕ) (connections : ℕ)
-      → connections ≡ length (pieces_in i calls)
-      → now ≡ old ++ side_lines side 1 (pieces_in i calls)
-      → text ≡ now ++ call_lines side connections (call_of noted.call)
-      → text ≡ old ++ side_lines side 1 (pieces_in (i + 1) calls)
-  lines_more old now text side connections was is more = more
-      ∙ ap (λ l. l ++ call_lines side connections (call_of noted.call)) is
-      ∙ append_assoc old (side_lines side 1 (pieces_in i calls))
-      (call_lines side connections (call_of noted.call))
-      ∙ ap (λ l. old ++ l) (
-      ap (λ n. side_lines side 1 (pieces_in i calls) ++ call_lines side n (call_of noted.call)) was
-      ∙ sym (side_after side (pieces_in i calls) (call_of noted.call))
-      ∙ ap (side_lines side 1) (sym next_pieces))
+pub none_more : (side old now : List ℕ) (connections : ℕ) (left calls : List WireCall)
+    → left ≡ [] → now ++ lines_from side connections left ≡ old ++ lines_from side 0 calls
+    → now ≡ old ++ side_lines side 1 (pieces_of calls)
+none_more side old now connections left calls is was = sym (append-nil now)
+    ∙ ap (λ calls. now ++ lines_from side connections calls) (sym is) ∙ was
+    ∙ ap (λ l. old ++ l) (lines_are side calls)
 
 opened_most : (count : ℕ) (call : WireCall) → opened count call ≤ count + 1
 opened_most count (Poll Opened) = omega arith
@@ -165,7 +141,12 @@ opened_most count (Poll Broken) = omega arith
 opened_most count (Send piece wrote done) = omega arith
 opened_most count HangUp = omega arith
 
-pub few_more : (connections now i : ℕ) (call : WireCall) → connections ≤ i
-    → now ≡ opened connections call → now ≤ i + 1
-few_more connections now i call few is =
-    let most = opened_most connections call in omega (arith, most, few, is)
+pub few_more : (connections next count : ℕ) (call : WireCall) (left rest : List WireCall)
+    → left ≡ call ∷ rest → connections + length left ≤ count → next ≡ opened connections call
+    → next + length rest ≤ count
+few_more connections next count call left rest is few opens =
+    let most = opened_most connections call in
+    let longer : length left ≡ length rest + 1 = ap length is ∙ omega arith in
+    omega (arith, most, longer, few, opens)
+
+pub ruleset sides = (lines_more, none_more, few_more)

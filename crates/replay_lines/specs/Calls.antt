@@ -1,5 +1,5 @@
--- Inside: the line of one call.
-use Rattle.std.specs.Prelude.{ℕ, ◌+◌, ◌==◌, if◌then◌else◌, List, []}
+-- Inside: the line of one call, and of calls.
+use Rattle.std.specs.Prelude.{ℕ, ◌+◌, ◌==◌, if◌then◌else◌, List, [], ◌∷◌, ◌++◌}
 use Rattle.wires.specs.Wire.{WireCall, Poll, Send, Opened}
 use Rattle.replay_lines.specs.ReplayLines.{piece_line, numbered}
 
@@ -14,3 +14,9 @@ call_lines side connections (Poll Opened) = numbered side (connections + 1)
 call_lines side connections (Send piece wrote done) =
     if connections == 0 then [] else piece_line wrote
 call_lines side connections call = []
+
+-- the lines of calls behind so many connections
+abbrev pub lines_from : List ℕ → ℕ → List WireCall → List ℕ
+lines_from side connections [] = []
+lines_from side connections (call ∷ calls) =
+    call_lines side connections call ++ lines_from side (opened connections call) calls

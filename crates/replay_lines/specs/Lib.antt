@@ -1,3 +1,4 @@
 pub mod Pieces
 pub mod ReplayLines
 pub mod Calls
+pub mod CallLog

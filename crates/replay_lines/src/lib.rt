@@ -2,10 +2,12 @@
 //! and at the end what the journal has.
 #![tactic(auto)]
 
+mod call_log;
 pub mod laws;
 mod lines;
 mod played;
 mod printing;
 
+pub use call_log::{Call, CallLog, Calls};
 pub use played::{PlayedDrill, PlayedLife};
 pub use printing::{PrintError, put_drill, put_last, put_life};

@@ -1,17 +1,16 @@
 //! The lines, as they are appended to a text.
 
 ghost use Rattle.std.specs.Prelude.{◌≡◌, ◌<◌, ◌-◌, ◌^◌, ◌∷◌, ◌++◌, [], codes, decimal, IfOk, OnOk};
-ghost use Rattle.wires.specs.Record.{call_of, calls_of};
+ghost use Rattle.replay_lines.specs.CallLog.{call_of};
 ghost use Rattle.replay_lines.specs.Pieces.{pieces_of};
 ghost use Rattle.replay_lines.specs.Calls.{opened, call_lines};
 ghost use Rattle.replay_lines.specs.ReplayLines.{printed, piece_line, numbered, side_lines};
 ghost use Rattle.replay_lines.specs.ReplayLines.{end_line, four_numbered, life_lines};
 ghost use Rattle.replay_lines.specs.ReplayLines.{last_lines, drill_line, drill_lines};
 
-use crate::{PlayedDrill, PlayedLife};
+use crate::{Call, CallLog, PlayedDrill, PlayedLife};
 use itoa::Buffer;
 use std::alloc::AllocError;
-use wires::{Call, Noted, Script};
 
 /// The byte that ends a field.
 const SOH: u8 = 1;
@@ -59,21 +58,21 @@ fn append_numbered(word: &[u8], number: u64, text: &mut Vec<u8>) -> Result<(), A
 fn append_call(
     side: &[u8],
     connections: u64,
-    call: &Call,
+    call: Call<'_>,
     text: &mut Vec<u8>,
 ) -> Result<u64, AllocError>
     requires { connections < 2 ^ 64 - 1 }
-    ensures count { IfOk result (λ n. n ≡ opened connections (call_of call.now)) }
+    ensures count { IfOk result (λ n. n ≡ opened connections (call_of call.entry)) }
     ensures text { OnOk result (text.new.items ≡
-        text.old.items ++ call_lines side.now connections (call_of call.now)) }
+        text.old.items ++ call_lines side.now connections (call_of call.entry)) }
 {
     match call {
-        Call::Poll(Script::Opened) => {
+        Call::Opened => {
             append_numbered(side, connections + 1, text)?;
             Ok(connections + 1)
         }
-        Call::Send { piece, wrote, .. } if connections > 0 => {
-            append_piece(&piece[..piece.len().min(*wrote)], text)?;
+        Call::Sent(piece) if connections > 0 => {
+            append_piece(piece, text)?;
             Ok(connections)
         }
         _ => Ok(connections),
@@ -81,13 +80,16 @@ fn append_call(
 }
 
 /// Appends the lines of the connections of a side.
-fn append_side(side: &[u8], calls: &[Noted], text: &mut Vec<u8>) -> Result<(), AllocError>
+#[tactic(auto, using(crate::proofs::OneMore::sides))]
+fn append_side(side: &[u8], log: &CallLog, text: &mut Vec<u8>) -> Result<(), AllocError>
     ensures { OnOk result (text.new.items ≡ text.old.items
-        ++ side_lines side.now 1 (pieces_of (calls_of calls.now))) }
+        ++ side_lines side.now 1 (pieces_of log.now)) }
 {
+    let count = log.len(); // there are no more connections than calls
+    let mut left = log.calls();
     let mut connections = 0;
-    for noted in calls {
-        connections = append_call(side, connections, &noted.call, text)?;
+    while let Some(call) = left.next() {
+        connections = append_call(side, connections, call, text)?;
     }
     Ok(())
 }
@@ -105,8 +107,8 @@ fn append_end(end: &[u8], text: &mut Vec<u8>) -> Result<(), AllocError>
 /// Appends the lines of a life.
 pub(crate) fn append_life(life: &PlayedLife<'_>, text: &mut Vec<u8>) -> Result<(), AllocError>
     ensures { OnOk result (text.new.items ≡ text.old.items
-        ++ life_lines life.now.number (pieces_of (calls_of life.now.client.now))
-        (pieces_of (calls_of life.now.venue.now)) life.now.end.now) }
+        ++ life_lines life.now.number (pieces_of life.now.client.now)
+        (pieces_of life.now.venue.now) life.now.end.now) }
 {
     append_numbered(b"life", life.number, text)?;
     append_side(b"client", life.client, text)?;

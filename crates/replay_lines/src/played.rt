@@ -1,6 +1,6 @@
 //! What was played.
 
-use wires::Noted;
+use crate::CallLog;
 
 /// A life that was played: what was done on its wires, and how it ended.
 #[derive(Clone, Copy, Debug)]
@@ -8,9 +8,9 @@ pub struct PlayedLife<'a> {
     /// Its number, from 1 on.
     pub number: u64,
     /// The calls on the client's wire.
-    pub client: &'a [Noted],
+    pub client: &'a CallLog,
     /// The calls on the venue's wire.
-    pub venue: &'a [Noted],
+    pub venue: &'a CallLog,
     /// The name of its end.
     pub end: &'a [u8],
 }

@@ -3,7 +3,6 @@
 ghost use Rattle.std.specs.Prelude.{◌≡◌, ◌≢◌, Err, OnErr};
 ghost use Rattle.outside.specs.Bytes.{PutAppends};
 ghost use Rattle.outside.specs.Causes.{HasCause};
-ghost use Rattle.wires.specs.Record.{calls_of};
 ghost use Rattle.replay_lines.specs.Pieces.{pieces_of};
 ghost use Rattle.replay_lines.specs.declared.printing.PrintError.TheVariants as errors;
 ghost use Rattle.replay_lines.specs.ReplayLines.{life_lines, last_lines, drill_lines};
@@ -58,8 +57,8 @@ pub fn put_life<O: Sink>(
     life: &PlayedLife<'_>,
 ) -> Result<(), PrintError>
     ensures lines { result ≢ Err errors.NoMemory → PutAppends (O.bytes out.old) (O.bytes out.new)
-        result (life_lines life.now.number (pieces_of (calls_of life.now.client.now))
-        (pieces_of (calls_of life.now.venue.now)) life.now.end.now) }
+        result (life_lines life.now.number (pieces_of life.now.client.now)
+        (pieces_of life.now.venue.now) life.now.end.now) }
     ensures nothing { result ≡ Err errors.NoMemory → out.new ≡ out.old }
     ensures cause { result ≢ Err errors.NoMemory →
         HasCause (O.faults out.old) (O.faults out.new) result }

@@ -1,4 +1,4 @@
-use Rattle.std.proofs.Common.{ap, ◌∙◌}
+use Rattle.std.proofs.Common.{ap, Some}
 use Rattle.drill_day.specs.declared.kinds.Kinds.{Kinds}
 use Rattle.capture_replay.proofs.Drilled.{undrilled, day_bounded, day_lived, day_left, drilled}
 use Rattle.capture_replay.proofs.drilling.drill.Goals as goal
@@ -10,8 +10,8 @@ returns-in_err-day-clause-drills g c = undrilled _ c.args.first c.args.count
 
 pub live_lines-requires : goal.live_lines-requires
 live_lines-requires g c = record {
-  bounded = day_bounded c.args.first c.args.count c.as_slice.result.now
-      (c.as_slice.ensures ∙ c.in_ok-day.ensures.life) c.in_ok-day.ensures.sound;
+  bounded = day_bounded c.args.first c.args.count c.in_ok-day.day.life
+      c.in_ok-day.ensures.life c.in_ok-day.ensures.sound;
 }
 
 pub left_by-requires : goal.left_by-requires
@@ -19,10 +19,10 @@ left_by-requires g c =
     let day = c.in_ok-day in
     let lived = c.in_ok-lived.lived in
     day_left _ c.args.first c.args.count c.args.taps.now.items c.live_lines.new.taps.items
-    lived.client.recorded lived.venue.recorded lived.end lived.image.items
-    c.config_of-config.result day.day.names day.day.heart c.as_slice.result.now
+    (Some lived.client) (Some lived.venue) lived.end lived.image.items
+    c.config_of-config.result day.day.names day.day.heart c.in_ok-day.day.life
     c.new.result.items c.new.ensures.items c.config_of-config.ensures day.ensures.names
-    day.ensures.heart (c.as_slice.ensures ∙ day.ensures.life) c.lives_follow.ensures
+    day.ensures.heart day.ensures.life c.lives_follow.ensures
     day.ensures.sound c.in_ok-lived.ensures.lived
 
 pub returns-clause-drills : goal.returns-clause-drills
@@ -31,12 +31,12 @@ returns-clause-drills g c =
     let lived = c.in_ok-lived.lived in
     let seen = c.args.taps.now.items in
     let now = c.live_lines.new.taps.items in
-    drilled _ c.args.first c.args.count seen now lived.client.recorded lived.venue.recorded
+    drilled _ c.args.first c.args.count seen now (Some lived.client) (Some lived.venue)
     lived.end lived.image.items
-    (day_lived _ c.args.first c.args.count seen now lived.client.recorded lived.venue.recorded
+    (day_lived _ c.args.first c.args.count seen now (Some lived.client) (Some lived.venue)
     lived.end lived.image.items c.config_of-config.result day.day.names day.day.heart
-    c.as_slice.result.now c.new.result.items c.new.ensures.items c.config_of-config.ensures
-    day.ensures.names day.ensures.heart (c.as_slice.ensures ∙ day.ensures.life)
+    c.in_ok-day.day.life c.new.result.items c.new.ensures.items c.config_of-config.ensures
+    day.ensures.names day.ensures.heart day.ensures.life
     c.lives_follow.ensures day.ensures.sound c.in_ok-lived.ensures.lived)
     c.put_drill.result (g.O.Sink.bytes c.args.out.now) (g.O.Sink.bytes c.put_drill.new.out)
     c.in_ok-entries.entries c.in_ok-entries.next

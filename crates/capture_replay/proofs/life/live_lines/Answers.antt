@@ -1,5 +1,5 @@
-use Rattle.std.proofs.Common.{◌≡◌, [], false, true, rules, length}
-use Rattle.std.specs.Prelude.{is_some, is_none}
+use Rattle.std.proofs.Common.{◌≡◌, ◌-◌, [], false, true, rules, length, Some}
+use Rattle.std.specs.Prelude.{is_some}
 use Rattle.outside.specs.declared.mem_disk.Fuse.TheVariants.{Unlit}
 use Rattle.wires.specs.Clock.{moments_told}
 use Rattle.drop_taps.proofs.Showing.{seen_none}
@@ -7,26 +7,21 @@ use Rattle.capture_replay.specs.Replay.{is_fault}
 use Rattle.capture_replay.proofs.Living.{lives_on}
 use Rattle.capture_replay.proofs.life.live_lines.Goals as goal
 
-pub returns-in_err-script-clause-taps : goal.returns-in_err-script-clause-taps
-returns-in_err-script-clause-taps g c = ([], seen_none _ c.args.taps.now.items)
-
-pub returns-in_err-script_of-clause-taps : goal.returns-in_err-script_of-clause-taps
-returns-in_err-script_of-clause-taps g c = ([], seen_none _ c.args.taps.now.items)
-
-pub returns-in_err-moments_of-clause-taps : goal.returns-in_err-moments_of-clause-taps
-returns-in_err-moments_of-clause-taps g c = ([], seen_none _ c.args.taps.now.items)
+pub returns-in_err-moments-clause-taps : goal.returns-in_err-moments-clause-taps
+returns-in_err-moments-clause-taps g c = ([], seen_none _ c.args.taps.now.items)
 
 pub returns-clause-lived : goal.returns-clause-lived
 returns-clause-lived g c =
     let live = c.live-end in
-    let client_told : is_none live.new.client.recorded ≡ false = search rules in
-    let venue_told : is_none live.new.venue.recorded ≡ false = search rules in
     let clock_told : is_some (moments_told live.new.clock) ≡ true = search rules in
-    let rounds : c.len-rounds.result ≡ length c.in_ok-script.script.items = search rules in
+    let rounds : c.rounds_of-rounds.result ≡ length c.in_ok-moments.moments.items - 1 = search rules
+    in
+    let client_told : live.new.client.recorded ≡ Some c.in-Some.client = search rules in
+    let venue_told : live.new.venue.recorded ≡ Some c.in-Some-2.venue = search rules in
     let whole : is_fault live.result ≡ false = search rules in
-    lives_on _ c.args.taps.now.items live.new.taps.items c.args.config.now c.args.lines.now
+    lives_on _ c.args.taps.now.items live.new.taps.items c.args.config.now c.args.life.now
     c.new-disk.result live.new.disk c.new-client.result live.new.client c.new-venue.result
-    live.new.venue c.new-clock.result live.new.clock live.result c.len-rounds.result
+    live.new.venue c.new-clock.result live.new.clock live.result c.rounds_of-rounds.result
     (record {
       taps = live.ensures.taps;
       images = live.ensures.lived.images;
@@ -34,10 +29,8 @@ returns-clause-lived g c =
       venue_plays = live.ensures.venue_plays;
       follows = live.ensures.follows;
     })
-    c.args.from c.args.image.items c.new-3.result.items c.new.result.items c.new-2.result.items
-    c.in_ok-moments_of.field-0.items c.in_ok-image.image.items Unlit
-    c.in_ok-script.script.items c.in_ok-script_of.field-0.items
+    c.args.from c.args.image.items c.new.result.items
+    c.in_ok-moments.moments.items c.in_ok-image.image.items Unlit c.in-Some.client c.in-Some-2.venue
     c.an_image_has_one_reading.ensures c.new-disk.ensures c.new-client.ensures c.new-venue.ensures
-    c.new-clock.ensures c.in_ok-script.ensures c.in_ok-script_of.ensures
-    c.in_ok-moments_of.ensures rounds c.in_ok-image.ensures.among
+    c.new-clock.ensures c.in_ok-moments.ensures rounds c.in_ok-image.ensures.among
     client_told venue_told clock_told whole

@@ -1,6 +1,5 @@
-use Rattle.std.proofs.Common.{◌∙◌, ◌≡◌, List, rules, length, refl, ap}
+use Rattle.std.proofs.Common.{◌∙◌, ◌≡◌, List, rules, length, refl, ap, Some}
 use Rattle.std.proofs.Common.{[]}
-use Rattle.wires.specs.Record.{calls_of}
 use Rattle.capture_text.specs.declared.capture.Event.{Event}
 use Rattle.drop_taps.proofs.Showing.{seen_none}
 use Rattle.capture_replay.proofs.Shown.{are_shown, life_bounded}
@@ -20,11 +19,11 @@ live_lines-requires g c =
     let lives = c.as_slice-lines-items in
     let index = c.loop-index.index in
     record {
-      bounded = life_bounded c.args.capture.now c.requires index c.as_slice-events.result.now
+      bounded = life_bounded c.args.capture.now c.requires index c.lines-item.result
           (within_in lives.result.now c.args.capture.now.lives index lives.ensures
           c.loop-index-test.true)
           (there_in lives.result.now c.args.capture.now.lives index c.lines-item.result
-          c.as_slice-events.result.now lives.ensures c.as_slice-events.ensures c.lines-item.is);
+          c.lines-item.result lives.ensures refl c.lines-item.is);
     }
 
 pub loop-index-preserved : goal.loop-index-preserved
@@ -40,21 +39,21 @@ loop-index-preserved g c =
     let old = g.O.Sink.bytes c.args.out.now in
     let new = g.O.Sink.bytes c.loop-index.out in
     let so_far = c.loop-index.invariant.so_far in
-    let lines = c.as_slice-events.result.now in
+    let lines = c.lines-item.result in
     let lived = c.in_ok-lived.lived in
     record {
       so_far = gone_on _ capture index clock seen between now image old new so_far lines
-          lived.client.recorded lived.venue.recorded lived.end lived.image.items
-          (calls_of c.calls.result.now) (calls_of c.calls-in-loop-index.result.now)
+          (Some lived.client) (Some lived.venue) lived.end lived.image.items
+          lived.client lived.venue
           c.end_name.result.now
           (within_in lives.result.now capture.lives index lives.ensures c.loop-index-test.true)
           (there_in lives.result.now capture.lives index c.lines-item.result lines lives.ensures
-          c.as_slice-events.ensures c.lines-item.is)
+          refl c.lines-item.is)
           (lived_on _ capture index clock seen between now image old new so_far
-          c.config_of-config.result lines now lived.client.recorded lived.venue.recorded lived.end
+          c.config_of-config.result lines now (Some lived.client) (Some lived.venue) lived.end
           lived.image.items c.config_of-config.ensures (are_shown capture c.requires)
           c.in_ok-lived.ensures.lived)
-          c.calls.ensures c.calls-in-loop-index.ensures c.end_name.ensures
+          refl refl c.end_name.ensures
           c.moment_after-moment.result c.moment_after-moment.ensures
           (g.O.Sink.bytes c.put_life.new.out)
           (c.in_ok-put_life.ensures.lines (λ none. absurd (cc none)));
@@ -84,20 +83,20 @@ returns-in_err-put_life-clause-replays g c =
     let old = g.O.Sink.bytes c.args.out.now in
     let new = g.O.Sink.bytes c.loop-index.out in
     let so_far = c.loop-index.invariant.so_far in
-    let lines = c.as_slice-events.result.now in
+    let lines = c.lines-item.result in
     let lived = c.in_ok-lived.lived in
     broken_off _ capture index clock seen between now image old new so_far lines
-    lived.client.recorded lived.venue.recorded lived.end lived.image.items
-    (calls_of c.calls.result.now) (calls_of c.calls-in-loop-index.result.now)
+    (Some lived.client) (Some lived.venue) lived.end lived.image.items
+    lived.client lived.venue
     c.end_name.result.now
     (within_in lives.result.now capture.lives index lives.ensures c.loop-index-test.true)
     (there_in lives.result.now capture.lives index c.lines-item.result lines lives.ensures
-    c.as_slice-events.ensures c.lines-item.is)
+    refl c.lines-item.is)
     (lived_on _ capture index clock seen between now image old new so_far
-    c.config_of-config.result lines now lived.client.recorded lived.venue.recorded lived.end
+    c.config_of-config.result lines now (Some lived.client) (Some lived.venue) lived.end
     lived.image.items c.config_of-config.ensures (are_shown capture c.requires)
     c.in_ok-lived.ensures.lived)
-    c.calls.ensures c.calls-in-loop-index.ensures c.end_name.ensures
+    refl refl c.end_name.ensures
     c.from_residual-in_err-put_life.result c.from_residual-in_err-put_life.ensures.0
     c.in_err-put_life.field-0.0 c.put_life.result (g.O.Sink.bytes c.put_life.new.out)
     c.in_err-put_life.was c.put_life.ensures.lines

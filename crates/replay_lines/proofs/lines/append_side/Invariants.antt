@@ -1,12 +1,13 @@
-use Rattle.std.proofs.Common.{◌≡◌, ◌≤◌, ◌++◌, length}
-use Rattle.replay_lines.specs.ReplayLines.{side_lines}
-use Rattle.replay_lines.proofs.OneMore.{pieces_in}
+use Rattle.std.proofs.Common.{◌≡◌, ◌+◌, ◌≤◌, ◌++◌, length}
+use Rattle.replay_lines.specs.Calls.{lines_from}
 use Rattle.replay_lines.proofs.lines.append_side.Given as goal
 
-abbrev pub invariant-loop-noted : goal.invariant-loop-noted
-invariant-loop-noted l = record {
-  count : l.connections ≡ length (pieces_in l.noted-index l.calls);
-  few : l.connections ≤ l.noted-index;
-  text : l.text.items
-      ≡ l.fn.text.items ++ side_lines l.side 1 (pieces_in l.noted-index l.calls);
+abbrev pub invariant-loop-call : goal.invariant-loop-call
+invariant-loop-call l = record {
+  few : l.connections + length l.left ≤ l.count;
+  text : l.text.items ++ lines_from l.side l.connections l.left
+      ≡ l.fn.text.items ++ lines_from l.side 0 l.log;
 }
+
+abbrev pub decreases-loop-call : goal.decreases-loop-call
+decreases-loop-call l = length l.left
