@@ -89,6 +89,10 @@ module _ (line : Event) (lines rest : List Event) (is : lines ≡ line ∷ rest)
   pub rest_bounded : All IsBounded lines → All IsBounded rest
   rest_bounded all = rest_of_all line rest (subst (λ (l : List Event). All IsBounded l) is all)
 
+pub none_bounded : (lines : List Event) → lines ≡ [] → All IsBounded lines
+none_bounded lines none = subst (λ (l : List Event). All IsBounded l) (sym none)
+    (λ k d within. absurd (omega (arith, within)))
+
 pub ruleset looking = (at_round, at_none, first_bounded, rest_bounded)
 
 -- what comes next is of the first item

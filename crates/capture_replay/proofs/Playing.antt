@@ -1,16 +1,17 @@
 -- A wire on which the lines of a life come plays them, call by call.
 use Rattle.std.proofs.Common.{◌≡◌, ◌∙◌, ℕ, Bool, true, false, List, ◌++◌, ◌∷◌, [], drop}
-use Rattle.std.proofs.Common.{refl, sym, ap, subst, Some, None, IfSome, if◌then◌else◌}
-use Rattle.std.specs.Prelude.{Ok}
+use Rattle.std.proofs.Common.{◌≤◌, refl, sym, ap, subst, Some, None, IfSome, if◌then◌else◌, arith}
+use Rattle.std.specs.Prelude.{Ok, Err}
 use Rattle.std.specs.declared.option.Option.{Option}
+use Rattle.outside.specs.Causes.{HasCause, next_count}
 use Rattle.outside.specs.declared.stream.Failed.{Failed}
-use Rattle.wires.specs.Wire.{Came, Nothing, Bytes, Opened, Closed, Broken, WireCall, Poll, Send}
-use Rattle.wires.specs.Wire.{HangUp, is_within, may_come, came_by}
-use Rattle.wires.specs.Script.{next_of, rest_of, allowed, Takes}
+use Rattle.wires.specs.Wire.{Came, Nothing, Bytes, Opened, Closed, Broken, WireCall, Poll}
+use Rattle.wires.specs.Wire.{is_within, may_come, came_by}
+use Rattle.wires.specs.Script.{next_of, rest_of, allowed}
 use Rattle.wires.specs.MemWire.{WireState, plays, noted, lost}
 use Rattle.wires.specs.declared.wire.Arrival.{Arrival}
 use Rattle.wires.specs.declared.wire.TheConstants.{POLL_LEN}
-use Rattle.wires.proofs.Playing.{noting, polling}
+use Rattle.wires.proofs.Playing.{polling}
 
 -- what comes next may come
 may_allowed : (within : Bool) (came : Came) → may_come within (allowed within came) ≡ true
@@ -50,12 +51,23 @@ module _ (old new : WireState) (script : List Came)
       (polling {E = Failed} old (noted (Poll (came_by arrived buf)) old) arrived buf (Ok tt) script
       (drop 1 old.script) is came refl tt rest played)
 
-  pub called : (call : WireCall) → Takes old.within call old.script old.script
-      → new ≡ noted call old → plays old script → plays new script
-  called call takes ok played =
-      noting {E = Failed} old new call (Ok tt) script is ok tt takes played
-
 pub lost_on : (old new : WireState) (script : List Came) → new ≡ lost old → plays new script
 lost_on old new script is = subst (λ (w : WireState). plays w script) (sym is) tt
 
-pub ruleset playing = (came_allowed, polled, called, lost_on)
+-- a call that failed has a cause
+pub failing : {T : Type 0} (faults : ℕ) (old new : WireState) (failed : Failed)
+    → old.calls.faults ≡ faults
+    → new ≡ lost (record old {
+      calls = record old.calls { faults = next_count old.calls.faults };
+    })
+    → old.calls.faults ≤ new.calls.faults
+    → HasCause {T = T} faults new.calls.faults (Err failed)
+failing {T} faults old new failed same is later =
+    subst (λ (n : ℕ). HasCause {T = T} n new.calls.faults (Err failed)) same (record {
+      later = later;
+      still = tt;
+      failed = subst (λ (n : ℕ). n ≤ new.calls.faults)
+          (ap (λ (w : WireState). w.calls.faults) is) (omega arith);
+    })
+
+pub ruleset playing = (came_allowed, lost_on)

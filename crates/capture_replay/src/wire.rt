@@ -1,6 +1,6 @@
 //! A wire on which the lines of a life come.
 
-ghost use Rattle.std.specs.Prelude.{◌≡◌, ◌<◌, [], ◌∷◌, length, drop, filter, All};
+ghost use Rattle.std.specs.Prelude.{◌≡◌, ◌<◌, ◌≤◌, [], ◌∷◌, length, drop, filter, All};
 ghost use Rattle.std.specs.Prelude.{IfOk, IfSome, IsNone, OnOk, OnErr};
 ghost use Rattle.outside.specs.Causes.{next_count};
 ghost use Rattle.frame_grammar.specs.Frame.{IsBody, frame_of};
@@ -8,9 +8,8 @@ ghost use Rattle.capture_text.specs.Capture.{kind_of};
 ghost use Rattle.capture_text.specs.Kept.{event_of};
 ghost use Rattle.capture_text.specs.Line.{IsBounded};
 ghost use Rattle.wires.specs.Wire.{Bytes, Poll, came_by, Fits, within_after};
-ghost use Rattle.wires.specs.Script.{item_of, next_of, rest_of};
+ghost use Rattle.wires.specs.Script.{item_of, next_of};
 ghost use Rattle.wires.specs.MemWire.{plays, noted, lost};
-ghost use Rattle.wires.specs.declared.wire.TheConstants.{POLL_LEN};
 ghost use Rattle.replay_lines.specs.CallLog.{call_of};
 ghost use Rattle.capture_replay.specs.Rounds.{is_round, arrival};
 ghost use Rattle.capture_replay.specs.LifeWire.{unplayed};
@@ -225,7 +224,6 @@ impl<'a> LifeWire<'a> {
     }
 
     // Gives what comes next, and notes it.
-    #[tactic(auto, using(crate::proofs::Coming::goes_on))]
     fn next(&mut self, buf: &mut [u8]) -> Result<Arrival, AllocError>
         requires room { 0 < length buf.old }
         ensures fits { IfOk result (λ arrived. Fits arrived buf.new) }
@@ -233,8 +231,6 @@ impl<'a> LifeWire<'a> {
             next_of self.old.within (length buf.old) self.old.script) }
         ensures ok { IfOk result (λ arrived. self.new ≡ noted (Poll (came_by arrived buf.new))
             (record self.old { script = drop 1 self.old.script })) }
-        ensures bound { length buf.old ≡ POLL_LEN →
-            drop 1 self.old.script ≡ rest_of self.old.within POLL_LEN self.old.script }
         ensures err { OnErr result (self.new ≡
             record self.old {
               recorded = self.new.recorded;
@@ -249,11 +245,12 @@ impl<'a> LifeWire<'a> {
 
     // Loses the record, for want of memory, which counts as a fault.
     fn lose(&mut self) -> Failed
-        ensures { self.new ≡ lost (record self.old {
+        ensures lost { self.new ≡ lost (record self.old {
           calls = record self.old.calls {
             faults = next_count self.old.calls.faults;
           };
         }) }
+        ensures later { self.old.calls.faults ≤ self.new.calls.faults }
     {
         self.told = None;
         self.within = false;
@@ -281,6 +278,7 @@ impl<'a> Wire for LifeWire<'a> {
 
     #[tactic(auto, using(crate::proofs::Playing::playing))]
     fn send(&mut self, piece: &[u8]) -> Result<(), Failed> {
+        let _ = &self.within; // brings the invariant into scope
         match self.note(Call::Sent(piece)) {
             Ok(()) => Ok(()),
             Err(_) => Err(self.lose()),

@@ -224,6 +224,7 @@ impl<'a> Lines<'a> {
     pub fn next(&mut self) -> Option<Line<'a>>
         ensures some { IfSome result (λ line. self.old ≡ event_of line ∷ self.new) }
         ensures none { IsNone result → self.old ≡ [] }
+        ensures stays { IsNone result → self.new ≡ [] }
     {
         let (mark, marks) = self.marks.split_first()?;
         self.marks = marks;
