@@ -1,8 +1,8 @@
 -- What comes of the lines of a life, and the next of it.
-use Rattle.std.proofs.Common.{◌≡◌, ◌∙◌, ℕ, zero, suc, ◌≤◌, ◌<◌, Bool, true, false, List, [], ◌∷◌}
-use Rattle.std.proofs.Common.{length, drop, filter, map, All, refl, sym, ap, subst, arith}
+use Rattle.std.proofs.Common.{◌≡◌, ◌∙◌, ℕ, suc, ◌≤◌, Bool, true, false, List, [], ◌∷◌}
+use Rattle.std.proofs.Common.{drop, filter, map, All, refl, sym, ap, subst, arith}
 use Rattle.std.proofs.Common.{if◌then◌else◌}
-use Rattle.wires.specs.Wire.{Came, Nothing, Opened, Bytes, Closed, Broken, may_come}
+use Rattle.wires.specs.Wire.{Came, Nothing, Opened, Bytes, Closed, Broken}
 use Rattle.wires.specs.Script.{next_of, rest_of}
 use Rattle.wires.specs.Play.{bytes_ahead}
 use Rattle.wires.specs.declared.wire.TheConstants.{POLL_LEN}

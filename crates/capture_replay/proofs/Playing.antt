@@ -1,5 +1,5 @@
 -- A wire on which the lines of a life come plays them, call by call.
-use Rattle.std.proofs.Common.{◌≡◌, ◌∙◌, ℕ, Bool, true, false, List, ◌++◌, ◌∷◌, [], drop}
+use Rattle.std.proofs.Common.{◌≡◌, ◌∙◌, ℕ, Bool, true, false, List, ◌∷◌, [], drop}
 use Rattle.std.proofs.Common.{◌≤◌, refl, sym, ap, subst, Some, None, IfSome, if◌then◌else◌, arith}
 use Rattle.std.specs.Prelude.{Ok, Err}
 use Rattle.std.specs.declared.option.Option.{Option}

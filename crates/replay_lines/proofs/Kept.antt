@@ -4,7 +4,7 @@ use Rattle.std.proofs.Common.{refl, sym, ap, subst}
 use Rattle.wires.specs.Wire.{WireCall, Poll, Send, HangUp, Nothing, Opened, Bytes, Closed}
 use Rattle.replay_lines.specs.declared.call_log.Mark.{Mark}
 use Rattle.replay_lines.specs.declared.call_log.Mark.TheVariants as mark
-use Rattle.replay_lines.specs.CallLog.{calls_of, next_piece, AreWhole}
+use Rattle.replay_lines.specs.CallLog.{calls_of, AreWhole}
 
 module _ (last : Mark) (more : List (List ℕ)) where
   longer : (marks : List Mark) (pieces : List (List ℕ)) → AreWhole marks pieces

@@ -1,4 +1,4 @@
-use Rattle.std.proofs.Common.{◌≡◌, List, All, filter, length}
+use Rattle.std.proofs.Common.{◌≡◌, All, filter, length}
 use Rattle.capture_text.specs.Line.{IsBounded}
 use Rattle.capture_replay.specs.Rounds.{is_round}
 use Rattle.capture_replay.proofs.wire.next_round.Given as goal

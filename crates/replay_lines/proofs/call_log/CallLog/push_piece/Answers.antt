@@ -1,4 +1,4 @@
-use Rattle.std.proofs.Common.{◌≡◌, ◌∙◌, ◌++◌, ◌∷◌, [], List, rules, sym, ap, append-nil}
+use Rattle.std.proofs.Common.{◌≡◌, ◌∙◌, ◌++◌, ◌∷◌, [], List, rules, ap}
 use Rattle.wires.specs.Wire.{WireCall}
 use Rattle.replay_lines.specs.CallLog.{calls_of}
 use Rattle.replay_lines.proofs.Kept.{one_more, still_whole}
