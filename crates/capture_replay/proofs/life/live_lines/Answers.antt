@@ -17,7 +17,7 @@ returns-clause-lived g c =
     let rounds : c.rounds_of-rounds.result ≡ length c.in_ok-moments.moments.items - 1 = search rules
     in
     let client_told : live.new.client.recorded ≡ Some c.in-Some.client = search rules in
-    let venue_told : live.new.venue.recorded ≡ Some c.in-Some-2.venue = search rules in
+    let venue_told : live.new.venue.recorded ≡ Some c.in-Some-venue.venue = search rules in
     let whole : is_fault live.result ≡ false = search rules in
     lives_on _ c.args.taps.now.items live.new.taps.items c.args.config.now c.args.life.now
     c.new-disk.result live.new.disk c.new-client.result live.new.client c.new-venue.result
@@ -30,7 +30,7 @@ returns-clause-lived g c =
       follows = live.ensures.follows;
     })
     c.args.from c.args.image.items c.new.result.items
-    c.in_ok-moments.moments.items c.in_ok-image.image.items Unlit c.in-Some.client c.in-Some-2.venue
+    c.in_ok-moments.moments.items c.in_ok-image.image.items Unlit c.in-Some.client c.in-Some-venue.venue
     c.an_image_has_one_reading.ensures c.new-disk.ensures c.new-client.ensures c.new-venue.ensures
     c.new-clock.ensures c.in_ok-moments.ensures rounds c.in_ok-image.ensures.among
     client_told venue_told clock_told whole
