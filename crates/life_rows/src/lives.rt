@@ -15,10 +15,17 @@ const NOW: u64 = 1_704_189_600_000;
 const CONFIGURATION: &str =
     "[client]\nour = \"GATE\"\npeer = \"CLNT\"\n[venue]\nour = \"GATE\"\npeer = \"VENU\"\n";
 
+/// The bytes of an input, and which reads of it fail.
+#[derive(Drop)]
+pub(crate) struct Input {
+    bytes: Vec<u8>,
+    fail: Vec<u64>,
+}
+
 /// What a life is given: its input, what both wires give, and its rounds.
 #[derive(Drop)]
 pub(crate) struct Given {
-    pub(crate) input: MemSource,
+    pub(crate) input: Input,
     pub(crate) client: Plan,
     pub(crate) venue: Plan,
     pub(crate) rounds: u64,
@@ -26,13 +33,13 @@ pub(crate) struct Given {
 
 /// An input of these bytes, or of the configuration of each life where there are none; of a number
 /// that read fails.
-pub(crate) fn input(alloc: Global, bytes: Vec<u8>, read: &str) -> Result<MemSource, AllocError> {
+pub(crate) fn input_of(alloc: Global, bytes: Vec<u8>, read: &str) -> Result<Input, AllocError> {
     let fail = failing(alloc, read)?;
     if bytes.is_empty() {
-        let text = Vec::from_slice(alloc, CONFIGURATION.as_bytes())?;
-        return Ok(MemSource::new(text, fail));
+        let bytes = Vec::from_slice(alloc, CONFIGURATION.as_bytes())?;
+        return Ok(Input { bytes, fail });
     }
-    Ok(MemSource::new(bytes, fail))
+    Ok(Input { bytes, fail })
 }
 
 /// How a life ended, and the client's wire and the venue's after it.
@@ -56,7 +63,7 @@ fn timed(
 ) -> Result<Lived, AllocError> {
     let command = format!(in alloc; "serve {}", given.rounds)?;
     let words = words(alloc, &command)?;
-    let mut input = given.input;
+    let mut input = MemSource::new(given.input.bytes, given.input.fail);
     let mut out = MemSink::new(alloc, Vec::new(alloc));
     let mut client = MemWire::new(alloc, given.client.script, given.client.fail);
     let mut venue = MemWire::new(alloc, given.venue.script, given.venue.fail);

@@ -1,12 +1,12 @@
 //! What the rows before have made: scripts, the bytes of a disk, and the wires after a life.
 
 use crate::disks::{disk, pick};
-use crate::lives::{Given, input, quiet, shows, tapped};
+use crate::lives::{Given, Input, input_of, quiet, shows, tapped};
 use crate::peers::Peer;
 use crate::scripts::{Plan, Poll, stream, written};
 use crate::wire_calls::{clock_text, quiet_text, wire_answer, wire_of};
 use gateway_top::Status;
-use outside::{Image, MemDisk, MemSource};
+use outside::{Image, MemDisk};
 use row_words::{Answers, SOH, behind, long_number, put, shown, word};
 use std::alloc::{AllocError, Global};
 use wires::MemWire;
@@ -32,12 +32,7 @@ pub(crate) struct World {
 
 // What the words `client-script venue-script rounds disk client venue` give a life: of the last
 // three, which calls fail. Behind them may stand the name of its input, and which read fails.
-fn given(
-    alloc: Global,
-    polls: &[Poll],
-    words: &str,
-    input: MemSource,
-) -> Result<Given, AllocError> {
+fn given(alloc: Global, polls: &[Poll], words: &str, input: Input) -> Result<Given, AllocError> {
     let client = Plan::new(alloc, polls, word(words, 0), word(words, 4))?;
     let venue = Plan::new(alloc, polls, word(words, 1), word(words, 5))?;
     let rounds = long_number(word(words, 2)).unwrap_or(0);
@@ -52,7 +47,7 @@ fn given(
 // A life over these bytes of a disk.
 fn lived(alloc: Global, polls: &[Poll], image: &[u8], words: &str) -> Result<Left, AllocError> {
     let bytes = stream(alloc, polls, word(words, 6))?;
-    let input = input(alloc, bytes, word(words, 7))?;
+    let input = input_of(alloc, bytes, word(words, 7))?;
     let given = given(alloc, polls, words, input)?;
     let mut disk = disk(alloc, image, word(words, 3))?;
     let (end, client, venue) = quiet(alloc, &mut disk, given)?;
@@ -72,7 +67,7 @@ fn watched(
     image: &[u8],
     words: &str,
 ) -> Result<(Left, String), AllocError> {
-    let input = input(alloc, Vec::new(alloc), "-")?;
+    let input = input_of(alloc, Vec::new(alloc), "-")?;
     let given = given(alloc, polls, words, input)?;
     let call = long_number(word(words, 6)).unwrap_or(0);
     let mut disk = disk(alloc, image, word(words, 3))?;
