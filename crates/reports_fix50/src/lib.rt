@@ -17,3 +17,4 @@ pub use message::{
 };
 pub use reading::exec_type;
 pub use reports::{CancelReject50, Report50};
+pub use tables::{cancel_reject, execution_report};

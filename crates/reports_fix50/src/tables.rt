@@ -157,15 +157,15 @@ static BUSINESS_REJECT_TABLE: Table<Kind> = Table {
     strict: false,
 };
 
-/// The table of Execution Report.
-pub(crate) fn execution_report() -> &'static Table<Kind>
+/// The table of Execution Report(8).
+pub fn execution_report() -> &'static Table<Kind>
     ensures { code_table kind_of result.now ≡ report_table }
 {
     &EXECUTION_REPORT_TABLE
 }
 
-/// The table of Order Cancel Reject.
-pub(crate) fn cancel_reject() -> &'static Table<Kind>
+/// The table of Order Cancel Reject(9).
+pub fn cancel_reject() -> &'static Table<Kind>
     ensures { code_table kind_of result.now ≡ cancel_reject_table }
 {
     &CANCEL_REJECT_TABLE

@@ -65,7 +65,7 @@ module _ (bytes text : List ℕ) where
   if_read (Ok value) h = cc
   if_read (Err fault) h = absurd cc
 
-own : (kind : ValueKind) → is_own kind ≡ true → (bytes text : List ℕ)
+pub own : (kind : ValueKind) → is_own kind ≡ true → (bytes text : List ℕ)
     → spelling kind bytes ≡ Ok (Some text) → bytes ≡ text
 unfolding spelling
 own kind is [] text h = absurd cc

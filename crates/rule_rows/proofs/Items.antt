@@ -1,0 +1,161 @@
+-- The rows and groups among the items of a table, and the shapes of what a rule makes of them: a row
+-- that is carried, an item where the source has a place, the lines of a group.
+use Rattle.std.proofs.Common.{◌≡◌, ℕ, List, [], ◌∷◌, Bool, true, false, Option, Some, None, refl}
+use Rattle.std.proofs.Common.{sym, ap, ◌∙◌}
+use Rattle.std.proofs.lemmas.Bool.{eqb-true}
+use Rattle.std.specs.Option.{option_map}
+use Rattle.std.specs.Prelude.{◌||◌, ◌==◌, is_some, if◌then◌else◌}
+use Rattle.std.specs.List.{flat_map, list_any}
+use Rattle.message_tables.specs.Tables.{Place, Tag, Need, Row, Item, One, Party, Lines}
+use Rattle.message_tables.specs.Tables.{RepeatingGroup, is_place}
+use Rattle.row_values.specs.Kinds.{Kind}
+use Rattle.sound_laws.specs.Sound.{places_of}
+use Rattle.sound_laws.proofs.RowsSaid.{row_of_tag}
+use Rattle.rule_rows.specs.ByRules.{At, Grouped, has_any, has_group, has_place, outline_of}
+use Rattle.rule_rows.specs.Rows.{group_at}
+use Rattle.rule_rows.proofs.Made.{target_if, target_of}
+
+abbrev pub has_row : List (Item Kind) → ℕ → Bool
+has_row items tag = is_some (row_of_tag tag items)
+
+-- ---- places are those of rows
+
+pub row_there : (items : List (Item Kind)) (tag : ℕ)
+    → has_place (outline_of items) (Tag tag) ≡ has_row items tag
+row_there [] tag = refl
+row_there (One row ∷ rest) tag = by (row.tag == tag) (row_there rest tag)
+  where
+    by : (b : Bool)
+        → list_any (λ place. is_place place (Tag tag)) (flat_map places_of rest)
+        ≡ is_some (row_of_tag tag rest)
+        → (b || list_any (λ place. is_place place (Tag tag)) (flat_map places_of rest))
+        ≡ is_some (if b then Some row else row_of_tag tag rest)
+    by true h = refl
+    by false h = h
+row_there (Party role ∷ rest) tag = row_there rest tag
+row_there (Lines group ∷ rest) tag = row_there rest tag
+
+pub group_there : (items : List (Item Kind)) (count : ℕ)
+    → has_group (outline_of items) count ≡ is_some (group_at count items)
+group_there [] count = refl
+group_there (One row ∷ rest) count = group_there rest count
+group_there (Party role ∷ rest) count = group_there rest count
+group_there (Lines group ∷ rest) count = by (group.count == count) (group_there rest count)
+  where
+    by : (b : Bool) → has_group (outline_of rest) count ≡ is_some (group_at count rest)
+        → (b || has_group (outline_of rest) count)
+        ≡ is_some (if b then Some group else group_at count rest)
+    by true h = refl
+    by false h = h
+
+-- a row has its tag, and a group its count
+pub tag_is : (tag : ℕ) (items : List (Item Kind)) (row : Row Kind)
+    → row_of_tag tag items ≡ Some row → row.tag ≡ tag
+tag_is tag [] row e = absurd cc
+tag_is tag (Party role ∷ items) row e = tag_is tag items row e
+tag_is tag (Lines group ∷ items) row e = tag_is tag items row e
+tag_is tag (One first ∷ items) row e =
+    by (first.tag == tag) refl e (λ later. tag_is tag items row later)
+  where
+    by : (b : Bool) → (first.tag == tag) ≡ b
+        → (if b then Some first else row_of_tag tag items) ≡ Some row
+        → (row_of_tag tag items ≡ Some row → row.tag ≡ tag) → row.tag ≡ tag
+    by true same e later =
+        let is : first ≡ row = cc in
+        ap (λ (r : Row Kind). r.tag) (sym is) ∙ eqb-true first.tag tag same
+    by false same e later = later e
+
+pub count_is : (count : ℕ) (items : List (Item Kind)) (group : RepeatingGroup Kind)
+    → group_at count items ≡ Some group → group.count ≡ count
+count_is count [] group e = absurd cc
+count_is count (One row ∷ items) group e = count_is count items group e
+count_is count (Party role ∷ items) group e = count_is count items group e
+count_is count (Lines first ∷ items) group e =
+    by (first.count == count) refl e (λ later. count_is count items group later)
+  where
+    by : (b : Bool) → (first.count == count) ≡ b
+        → (if b then Some first else group_at count items) ≡ Some group
+        → (group_at count items ≡ Some group → group.count ≡ count) → group.count ≡ count
+    by true same e later =
+        let is : first ≡ group = cc in
+        ap (λ (g : RepeatingGroup Kind). g.count) (sym is) ∙ eqb-true first.count count same
+    by false same e later = later e
+
+-- ---- THE SHAPES of what a rule makes
+
+-- what a row becomes, and what a group does
+abbrev pub turned : (Row Kind → Row Kind) → Option (Row Kind) → Option (Item Kind)
+turned turn row = option_map (λ row. One (turn row)) row
+
+abbrev pub turned_group : (RepeatingGroup Kind → RepeatingGroup Kind)
+    → Option (RepeatingGroup Kind) → Option (Item Kind)
+turned_group turn group = option_map (λ group. Lines (turn group)) group
+
+-- a row of another tag and another need
+abbrev pub moved : (Row Kind → Need) → ℕ → Row Kind → Row Kind
+moved need to row = record { tag = to; kind = row.kind; need = need row }
+
+-- the row of a tag, carried to a tag
+abbrev pub carried : (Row Kind → Need) → ℕ → Option (Row Kind) → Option (Item Kind)
+carried need to row = turned (moved need to) row
+
+abbrev pub item_if : Bool → Item Kind → Option (Item Kind)
+item_if true item = Some item
+item_if false item = None
+
+abbrev pub group_item : Option (RepeatingGroup Kind) → Option (Item Kind)
+group_item group = turned_group (λ group. group) group
+
+module _ (items : List (Item Kind)) where
+  or_false : (b : Bool) → (b || false) ≡ b
+  or_false true = refl
+  or_false false = refl
+
+  -- one place is had where it is had
+  pub has_one : (place : Place)
+      → has_any (outline_of items) (place ∷ []) ≡ has_place (outline_of items) place
+  has_one place = or_false (has_place (outline_of items) place)
+
+  pub turned_made : (turn : Row Kind → Row Kind) (from to : ℕ)
+      → ((row : Row Kind) → (turn row).tag ≡ to)
+      → option_map target_of (turned turn (row_of_tag from items))
+      ≡ target_if (has_any (outline_of items) (Tag from ∷ [])) (At (Tag to))
+  turned_made turn from to tag =
+      by (row_of_tag from items)
+      ∙ ap (λ b. target_if b (At (Tag to))) (sym (has_one (Tag from) ∙ row_there items from))
+    where
+      by : (row : Option (Row Kind))
+          → option_map target_of (turned turn row) ≡ target_if (is_some row) (At (Tag to))
+      by None = refl
+      by (Some row) = ap (λ t. Some (At (Tag t))) (tag row)
+
+  pub row_made : (need : Row Kind → Need) (from to : ℕ)
+      → option_map target_of (carried need to (row_of_tag from items))
+      ≡ target_if (has_any (outline_of items) (Tag from ∷ [])) (At (Tag to))
+  row_made need from to = turned_made (moved need to) from to (λ row. refl)
+
+  pub turned_group_made : (turn : RepeatingGroup Kind → RepeatingGroup Kind) (count : ℕ)
+      → ((group : RepeatingGroup Kind) → (turn group).count ≡ group.count)
+      → option_map target_of (turned_group turn (group_at count items))
+      ≡ target_if (has_group (outline_of items) count) (Grouped count)
+  turned_group_made turn count same =
+      by (group_at count items) refl
+      ∙ ap (λ b. target_if b (Grouped count)) (sym (group_there items count))
+    where
+      by : (group : Option (RepeatingGroup Kind)) → group_at count items ≡ group
+          → option_map target_of (turned_group turn group)
+          ≡ target_if (is_some group) (Grouped count)
+      by None e = refl
+      by (Some group) e =
+          ap (λ n. Some (Grouped n)) (same group ∙ count_is count items group e)
+
+  pub group_made : (count : ℕ)
+      → option_map target_of (group_item (group_at count items))
+      ≡ target_if (has_group (outline_of items) count) (Grouped count)
+  group_made count = turned_group_made (λ group. group) count (λ group. refl)
+
+-- an item where this holds
+pub item_made : (b : Bool) (item : Item Kind)
+    → option_map target_of (item_if b item) ≡ target_if b (target_of item)
+item_made true item = refl
+item_made false item = refl

@@ -1,0 +1,309 @@
+-- The lines that fields say by a group, as they are written.
+use Rattle.std.proofs.Common.{◌≡◌, ◌≤◌, ◌+◌, ◌++◌, ℕ, suc, List, [], ◌∷◌, map, length, Bool, true}
+use Rattle.std.proofs.Common.{false, Option, Some, None, refl, sym, ap, ◌∙◌, append_assoc, arith}
+use Rattle.std.proofs.Common.{◌<◌, drop, get_or, subst, take}
+use Rattle.std.proofs.lemmas.List.{append-nil, at_drop_all, at_drop_more, length-append}
+use Rattle.std.proofs.lemmas.List.{length-map}
+use Rattle.std.specs.Borrow.{Bor}
+use Rattle.std.specs.Prelude.{Err, Ok, OnOk, Result, position}
+use Rattle.message_tables.specs.CodeTables.{own_tags, seen}
+use Rattle.message_tables.specs.Tables.{first_tag, in_lines}
+use Rattle.message_tables.proofs.ByPlace.{no_lines}
+use Rattle.message_tables.proofs.Mapped.{group_tags_mapped}
+use Rattle.rule_rows.proofs.Items.{count_is}
+use Rattle.std.proofs.lemmas.List.{take-append-drop}
+use Rattle.std.specs.Prelude.{◌==◌, if◌then◌else◌}
+use Rattle.std.specs.List.{flat_map, list_all, prefix_len}
+use Rattle.field_groups.specs.Field.{Field, body_of}
+use Rattle.message_tables.specs.CodeTables.{group_of, item_of, row_of}
+use Rattle.message_tables.specs.declared.table.Item.{Item as CodeItem}
+use Rattle.message_tables.specs.declared.table.Row.{Row as CodeRow}
+use Rattle.message_tables.specs.declared.table.RepeatingGroup.{RepeatingGroup as CodeGroup}
+use Rattle.message_tables.specs.Tables.{Cell, Item, Need, Required, Optional, Lenient, Fixed, When}
+use Rattle.message_tables.specs.Tables.{One, Party, Lines, RepeatingGroup, Row, Tag, Verdict, ◌>>=◌}
+use Rattle.message_tables.specs.Tables.{after_tag, cell_of, from_tag, group_says, groups_of}
+use Rattle.message_tables.specs.Tables.{line_fields_in, lines_in, lines_of, run, says, tags_in}
+use Rattle.message_tables.specs.Tables.{text_of, value_at, GroupTags, is_inside, or_else}
+use Rattle.message_tables.specs.Content.{cell_fields, group_fields, line_fields}
+use Rattle.row_values.specs.CodeKinds.{kind_of}
+use Rattle.row_values.specs.Kinds.{Kind, judge, said}
+use Rattle.row_values.specs.Writing.{count_fields}
+use Rattle.row_values.specs.declared.kinds.Kind.{Kind as CodeKind}
+use Rattle.row_values.proofs.Contents.{body-append, group_written}
+use Rattle.sound_laws.proofs.Each.{both}
+use Rattle.rule_rows.specs.Rows.{AreWritten, fixed_text, group_at, has_written_lines}
+use Rattle.rule_rows.specs.Rows.{have_written_lines, is_kind_written, line_by, lines_said}
+use Rattle.rule_rows.specs.Rows.{row_fields}
+
+-- ---- a row
+
+free_says : (need : Need) (j : List ℕ → Verdict) (value : Option (List ℕ))
+    → None ≡ fixed_text need → (value >>= (λ bytes. text_of (j bytes))) ≡ says need j value
+free_says Required j value h = refl
+free_says Optional j value h = refl
+free_says Lenient j value h = refl
+free_says (Fixed text) j value h = absurd cc
+free_says (When condition) j value h = refl
+
+fixed_says : (need : Need) (j : List ℕ → Verdict) (value : Option (List ℕ)) (text : List ℕ)
+    → Some text ≡ fixed_text need → Some text ≡ says need j value
+fixed_says Required j value text h = absurd cc
+fixed_says Optional j value text h = absurd cc
+fixed_says Lenient j value text h = absurd cc
+fixed_says (Fixed other) j value text h = h
+fixed_says (When condition) j value text h = absurd cc
+
+-- a row whose value does not stand fixed
+pub row_free : (fields : List Field) (row : Row Kind) → None ≡ fixed_text row.need
+    → body_of (cell_fields (Tag row.tag, said fields row.tag row.kind))
+    ≡ body_of (row_fields fields row)
+row_free fields row h = ap (λ s. body_of (cell_fields (Tag row.tag, s)))
+    (free_says row.need (judge fields row.kind) (value_at row.tag fields) h)
+
+pub row_fixed : (fields : List Field) (row : Row Kind) (text : List ℕ)
+    → Some text ≡ fixed_text row.need
+    → body_of (cell_fields (Tag row.tag, Some text)) ≡ body_of (row_fields fields row)
+row_fixed fields row text h = ap (λ s. body_of (cell_fields (Tag row.tag, s)))
+    (fixed_says row.need (judge fields row.kind) (value_at row.tag fields) text h)
+
+pub ruleset of_row = (row_free, row_fixed)
+
+-- ---- the lines of a group
+
+line_mapped : (line : List Field) (rows : List (CodeRow CodeKind))
+    → line_by rows line ≡ line_fields (map (cell_of judge line) (map (row_of kind_of) rows))
+line_mapped line [] = refl
+line_mapped line (row ∷ rows) =
+    ap (λ fs. row_fields line (row_of kind_of row) ++ fs) (line_mapped line rows)
+
+lines_mapped : (rows : List (CodeRow CodeKind)) (lines : List (List Field))
+    → flat_map (line_by rows) lines
+    ≡ flat_map (λ line. line_fields (map (cell_of judge line) (map (row_of kind_of) rows))) lines
+lines_mapped rows [] = refl
+lines_mapped rows (line ∷ lines) =
+    λ i. line_mapped line rows i ++ lines_mapped rows lines i
+
+-- the count, and then the lines, are the group
+pub group_done : {E : Type 0} (r : Result (Unit {0}) E) (fields : List Field)
+    (group : CodeGroup CodeKind) (members : List (ℕ × Bor (List ℕ))) (first count : ℕ)
+    (old counted out : List ℕ) → seen members ≡ line_fields_in (own_tags group) fields
+    → first ≡ (own_tags group).first → count ≡ length (in_lines first (seen members))
+    → counted ≡ old ++ body_of (count_fields group.count count)
+    → OnOk r (out ≡ counted
+    ++ body_of (flat_map (line_by group.rows.now) (in_lines first (seen members))))
+    → OnOk r (out ≡ old ++ body_of
+    (group_fields group.count (group_says judge fields (group_of kind_of group)).1))
+group_done (Err error) fields group members first count old counted out seen_is first_is many
+    begun ended = tt
+group_done (Ok done) fields group members first count old counted out seen_is first_is many begun
+    ended =
+    let cells : List Field → List Cell =
+    λ line. map (cell_of judge line) (map (row_of kind_of) group.rows.now) in
+    let lines = in_lines first (seen members) in
+    let own : lines ≡ lines_in (tags_in (group_of kind_of group)) fields =
+    (λ i. in_lines (first_is i) (seen_is i))
+    ∙ ap (λ tags. lines_in tags fields) (sym (group_tags_mapped kind_of group)) in
+    ended ∙ ap (λ c. c ++ body_of (flat_map (line_by group.rows.now) lines))
+    (begun ∙ ap (λ n. old ++ body_of (count_fields group.count n)) many)
+    ∙ append_assoc old (body_of (count_fields group.count (length lines)))
+    (body_of (flat_map (line_by group.rows.now) lines))
+    ∙ ap (λ fs. old ++ (body_of (count_fields group.count (length lines)) ++ body_of fs))
+    (lines_mapped group.rows.now lines)
+    ∙ ap (λ bytes. old ++ bytes) (group_written cells group.count lines)
+    ∙ ap (λ ls. old ++ body_of (group_fields group.count (map cells ls))) own
+
+-- ---- lines are few
+
+front_few : (tags : GroupTags) (fs : List Field) → length (run tags fs) ≤ length fs
+front_few tags fs =
+    let n = prefix_len (λ f. is_inside tags f.0) fs in
+    let whole = ap length (take-append-drop n fs) in
+    omega (arith, whole, length-append (take n fs) (drop n fs))
+
+after_few : (tag : ℕ) (fs : List Field) → length (after_tag tag fs) ≤ length fs
+after_few tag [] = omega arith
+after_few tag (f ∷ fs) = by (f.0 == tag) (after_few tag fs)
+  where
+    by : (b : Bool) → length (after_tag tag fs) ≤ length fs
+        → length (if b then fs else after_tag tag fs) ≤ suc (length fs)
+    by true h = omega arith
+    by false h = omega (arith, h)
+
+from_few : (tag : ℕ) (fs : List Field) → length (from_tag tag fs) ≤ length fs
+from_few tag [] = omega arith
+from_few tag (f ∷ fs) = by (f.0 == tag) (from_few tag fs)
+  where
+    by : (b : Bool) → length (from_tag tag fs) ≤ length fs
+        → length (if b then f ∷ fs else from_tag tag fs) ≤ suc (length fs)
+    by true h = omega arith
+    by false h = omega (arith, h)
+
+members_few : (tags : GroupTags) (fields : List Field)
+    → length (line_fields_in tags fields) ≤ length fields
+members_few tags fields =
+    let a = from_few tags.first (run tags (after_tag tags.count fields)) in
+    let b = front_few tags (after_tag tags.count fields) in
+    let c = after_few tags.count fields in omega (arith, a, b, c)
+
+-- so their count is
+pub count_few : (tags : GroupTags) (fields : List Field) (members : List (ℕ × Bor (List ℕ)))
+    (count most : ℕ) → seen members ≡ line_fields_in tags fields → count ≤ length members
+    → most ≡ length fields → most ≤ 256 → count ≤ 256
+count_few tags fields members count most are few all bound =
+    let long = length-map {B = Field} members (λ f. (f.0, f.1.now)) in
+    let same = ap length are in
+    let within = members_few tags fields in omega (arith, few, all, bound, long, same, within)
+
+-- ---- line by line
+
+-- a line more is written
+pub next_written : (write : List Field → List Field) (line : List Field)
+    (rest lines : List (List Field)) (old out next : List ℕ)
+    → next ≡ out ++ body_of (write line) → lines ≡ line ∷ rest
+    → out ++ body_of (flat_map write lines) ≡ old
+    → next ++ body_of (flat_map write rest) ≡ old
+next_written write line rest lines old out next done is known =
+    ap (λ b. b ++ body_of (flat_map write rest)) done
+    ∙ append_assoc out (body_of (write line)) (body_of (flat_map write rest))
+    ∙ ap (λ b. out ++ b) (sym (body-append (write line) (flat_map write rest)))
+    ∙ ap (λ ls. out ++ body_of (flat_map write ls)) (sym is) ∙ known
+
+-- all lines are written
+pub all_written : (write : List Field → List Field) (lines : List (List Field)) (old out : List ℕ)
+    → lines ≡ [] → out ++ body_of (flat_map write lines) ≡ old → out ≡ old
+all_written write lines old out none known =
+    sym (append-nil out) ∙ ap (λ ls. out ++ body_of (flat_map write ls)) (sym none) ∙ known
+
+-- ---- the group of a count
+
+pub group_split : (count : ℕ) (item : Item Kind) (rest : List (Item Kind))
+    → group_at count (item ∷ rest) ≡ or_else (group_at count (item ∷ [])) (group_at count rest)
+group_split count (One row) rest = refl
+group_split count (Party role) rest = refl
+group_split count (Lines group) rest = by (group.count == count)
+  where
+    by : (b : Bool) → (if b then Some group else group_at count rest)
+        ≡ or_else (if b then Some group else None) (group_at count rest)
+    by true = refl
+    by false = refl
+
+module _ (count : ℕ) (all : List (CodeItem CodeKind)) (i : ℕ) (d : CodeItem CodeKind)
+    (left : group_at count (map (item_of kind_of) (drop i all))
+    ≡ group_at count (map (item_of kind_of) all)) where
+  abbrev rest : Option (RepeatingGroup Kind)
+  rest = group_at count (map (item_of kind_of) (drop (i + 1) all))
+
+  here : i < length all → or_else (group_at count (item_of kind_of (get_or all i d) ∷ [])) rest
+      ≡ group_at count (map (item_of kind_of) all)
+  here within =
+      sym (at_drop_more (λ its. group_at count (map (item_of kind_of) its)) all i d within
+      ∙ group_split count (item_of kind_of (get_or all i d))
+      (map (item_of kind_of) (drop (i + 1) all))) ∙ left
+
+  pub group_found : (o : Option (RepeatingGroup Kind)) (group : RepeatingGroup Kind)
+      → i < length all → o ≡ group_at count (item_of kind_of (get_or all i d) ∷ [])
+      → o ≡ Some group → Some group ≡ group_at count (map (item_of kind_of) all)
+  group_found o group within is some =
+      ap (λ p. or_else p rest) (sym some ∙ is) ∙ here within
+
+  pub group_passed : (o : Option (RepeatingGroup Kind)) → i < length all
+      → o ≡ group_at count (item_of kind_of (get_or all i d) ∷ []) → o ≡ None
+      → group_at count (map (item_of kind_of) (drop (i + 1) all))
+      ≡ group_at count (map (item_of kind_of) all)
+  group_passed o within is none = ap (λ p. or_else p rest) (sym none ∙ is) ∙ here within
+
+  pub group_ended : length all ≤ i → None ≡ group_at count (map (item_of kind_of) all)
+  group_ended le =
+      sym (at_drop_all (λ its. group_at count (map (item_of kind_of) its)) all i le) ∙ left
+
+rows_written : (rows : List (CodeRow CodeKind))
+    → list_all (λ row. is_kind_written row.kind) (map (row_of kind_of) rows) ≡ true
+    → AreWritten rows
+rows_written [] h = tt
+rows_written (row ∷ rows) h =
+    let p = both (is_kind_written (kind_of row.kind))
+    (list_all (λ r. is_kind_written r.kind) (map (row_of kind_of) rows)) h in
+    (p.0, rows_written rows p.1)
+
+-- the group of a count has such rows, where all groups have
+pub group_written_by : (count : ℕ) (items : List (Item Kind)) (group : CodeGroup CodeKind)
+    → have_written_lines items ≡ true → group_at count items ≡ Some (group_of kind_of group)
+    → AreWritten group.rows.now
+group_written_by count [] group h e = absurd cc
+group_written_by count (One row ∷ items) group h e = group_written_by count items group h e
+group_written_by count (Party role ∷ items) group h e = group_written_by count items group h e
+group_written_by count (Lines first ∷ items) group h e =
+    let p = both (has_written_lines (Lines first)) (have_written_lines items) h in
+    by (first.count == count) e p.0 (λ later. group_written_by count items group p.1 later)
+  where
+    by : (b : Bool) → (if b then Some first else group_at count items)
+        ≡ Some (group_of kind_of group) → has_written_lines (Lines first) ≡ true
+        → (group_at count items ≡ Some (group_of kind_of group) → AreWritten group.rows.now)
+        → AreWritten group.rows.now
+    by true e h later =
+        let same : first ≡ group_of kind_of group = cc in
+        let P : RepeatingGroup Kind → Type 0 = λ g. has_written_lines (Lines g) ≡ true in
+        rows_written group.rows.now (subst P same h)
+    by false e h later = later e
+
+pub lines_are : (fields : List Field) (count : ℕ) (items : List (Item Kind))
+    → lines_of count (map (group_says judge fields) (flat_map groups_of items))
+    ≡ lines_said fields (group_at count items)
+lines_are fields count [] = refl
+lines_are fields count (One row ∷ items) = lines_are fields count items
+lines_are fields count (Party role ∷ items) = lines_are fields count items
+lines_are fields count (Lines group ∷ items) =
+    by (group.count == count) (lines_are fields count items)
+  where
+    by : (b : Bool)
+        → lines_of count (map (group_says judge fields) (flat_map groups_of items))
+        ≡ lines_said fields (group_at count items)
+        → (if b then (group_says judge fields group).1
+        else lines_of count (map (group_says judge fields) (flat_map groups_of items)))
+        ≡ lines_said fields (if b then Some group else group_at count items)
+    by true rest = refl
+    by false rest = rest
+
+-- no line is said of a count that no field has
+pub none_said : (fields : List Field) (count : ℕ) (items : List (Item Kind))
+    → None ≡ position (λ f. f.0 == count) fields
+    → lines_of count (map (group_says judge fields) (flat_map groups_of items)) ≡ []
+none_said fields count items none =
+    lines_are fields count items ∙ by (group_at count items) refl
+  where
+    by : (o : Option (RepeatingGroup Kind)) → group_at count items ≡ o
+        → lines_said fields o ≡ []
+    by None e = refl
+    by (Some group) e =
+        let at_own : None ≡ position (λ f. f.0 == group.count) fields =
+        none ∙ ap (λ c. position (λ f. f.0 == c) fields) (sym (count_is count items group e)) in
+        ap (λ fs. map (λ line. map (cell_of judge line) group.rows)
+        (in_lines (first_tag group.rows) fs)) (sym (no_lines (tags_in group) fields at_own))
+
+pub nothing_put : (fields : List Field) (count : ℕ) (items : List (Item Kind)) (old : List ℕ)
+    → lines_of count (map (group_says judge fields) (flat_map groups_of items)) ≡ []
+    → old ≡ old ++ body_of (group_fields count
+    (lines_of count (map (group_says judge fields) (flat_map groups_of items))))
+nothing_put fields count items old none =
+    sym (append-nil old) ∙ ap (λ ls. old ++ body_of (group_fields count ls)) (sym none)
+
+-- no line is said by a table that does not have the group
+pub absent_said : (fields : List Field) (count : ℕ) (items : List (Item Kind))
+    → None ≡ group_at count items
+    → lines_of count (map (group_says judge fields) (flat_map groups_of items)) ≡ []
+absent_said fields count items none =
+    lines_are fields count items ∙ ap (lines_said fields) (sym none)
+
+-- the lines of the group that was found
+pub found_put : {E : Type 0} (r : Result (Unit {0}) E) (fields : List Field) (count : ℕ)
+    (items : List (Item Kind)) (group : RepeatingGroup Kind) (old out : List ℕ)
+    → Some group ≡ group_at count items
+    → OnOk r (out ≡ old ++ body_of (group_fields group.count (group_says judge fields group).1))
+    → OnOk r (out ≡ old ++ body_of (group_fields count
+    (lines_of count (map (group_says judge fields) (flat_map groups_of items)))))
+found_put (Err error) fields count items group old out found h = tt
+found_put (Ok done) fields count items group old out found h =
+    h ∙ ap (λ c. old ++ body_of (group_fields c (group_says judge fields group).1))
+    (count_is count items group (sym found))
+    ∙ ap (λ ls. old ++ body_of (group_fields count ls))
+    (sym (lines_are fields count items ∙ ap (lines_said fields) (sym found)))

@@ -1,0 +1,220 @@
+-- What a message that rules made says at a place is what the rule of the place says, whatever the
+-- kinds of the rules are.
+use Rattle.std.proofs.Common.{◌≡◌, ℕ, List, [], ◌∷◌, ◌++◌, map, Bool, true, false, Option, Some}
+use Rattle.std.proofs.Common.{None, refl, sym, ap, ◌∙◌}
+use Rattle.std.proofs.lemmas.Bool.{eqb-true}
+use Rattle.std.specs.Prelude.{not, ◌&&◌, ◌==◌, is_some, if◌then◌else◌}
+use Rattle.std.specs.List.{AllByRecursion, flat_map, list_all, list_any}
+use Rattle.message_tables.specs.Tables.{Place, Tag, Role, Said, Cell, Message, is_place, lines_of}
+use Rattle.message_tables.specs.Tables.{said_at}
+use Rattle.sound_laws.proofs.Each.{both, either, none_each}
+use Rattle.rule_rows.specs.ByRules.{Target, At, Grouped, Kinds, by_rules, cells_at}
+use Rattle.rule_rows.specs.ByRules.{groups_at, has_any, has_place, lack_by, outline, rule_cells}
+use Rattle.rule_rows.specs.ByRules.{rule_groups}
+
+-- ---- what the source does not have says nothing
+
+same_place : (a b : Place) → is_place a b ≡ true → a ≡ b
+same_place (Tag a) (Tag b) h = ap (λ (tag : ℕ). Tag tag) (eqb-true a b h)
+same_place (Tag a) (Role b) h = absurd cc
+same_place (Role a) (Tag b) h = absurd cc
+same_place (Role a) (Role b) h = ap (λ (role : ℕ). Role role) (eqb-true a b h)
+
+pub none_at : (cells : List Cell) (place : Place)
+    → list_any (λ one. is_place one place) (map (λ cell. cell.0) cells) ≡ false
+    → said_at cells place ≡ None
+none_at [] place h = refl
+none_at (cell ∷ cells) place h =
+    let p = either (is_place cell.0 place)
+    (list_any (λ one. is_place one place) (map (λ cell. cell.0) cells)) h in
+    rw p.0 (none_at cells place p.1)
+
+pub no_lines : (groups : List (ℕ × List (List Cell))) (count : ℕ)
+    → list_any (λ one. one == count) (map (λ group. group.0) groups) ≡ false
+    → lines_of count groups ≡ []
+no_lines [] count h = refl
+no_lines (group ∷ groups) count h =
+    let p = either (group.0 == count)
+    (list_any (λ one. one == count) (map (λ group. group.0) groups)) h in
+    rw p.0 (no_lines groups count p.1)
+
+-- a place that is the only one of these, or the first
+pub absent : (m : Message) (place : Place) → has_any (outline m) (place ∷ []) ≡ false
+    → said_at m.cells place ≡ None
+absent m place h = none_at m.cells place (either (has_place (outline m) place) false h).0
+
+-- ---- targets
+
+abbrev pub is_target : Target → Target → Bool
+is_target (At a) (At b) = is_place a b
+is_target (Grouped a) (Grouped b) = a == b
+is_target a b = false
+
+same_target : (a b : Target) → is_target a b ≡ true → a ≡ b
+same_target (At a) (At b) h = ap (λ (place : Place). At place) (same_place a b h)
+same_target (At a) (Grouped b) h = absurd cc
+same_target (Grouped a) (At b) h = absurd cc
+same_target (Grouped a) (Grouped b) h = ap (λ (count : ℕ). Grouped count) (eqb-true a b h)
+
+-- ---- rules
+
+module _ {Rule : Type 0} (kinds : Kinds Rule) where
+  -- KINDS OF RULES that say nothing where the source has nothing
+  pub record AreKinds : Type 0 where
+    pub none : (m : Message) (rule : Rule) → kinds.has (outline m) rule ≡ false
+        → kinds.said m rule ≡ None
+    pub no_lines : (m : Message) (rule : Rule) → kinds.has (outline m) rule ≡ false
+        → kinds.lines m rule ≡ []
+
+  -- the rule of a target
+  abbrev pub rule_at : Target → List Rule → Option Rule
+  rule_at target [] = None
+  rule_at target (rule ∷ rules) =
+      if is_target (kinds.target rule) target then Some rule else rule_at target rules
+
+  -- rules that have a target each
+  abbrev pub are_apart : List Rule → Bool
+  are_apart [] = true
+  are_apart (rule ∷ rules) =
+      not (is_some (rule_at (kinds.target rule) rules)) && are_apart rules
+
+  no_rule : (rule : Option Rule) → not (is_some rule) ≡ true → rule ≡ None
+  no_rule None h = refl
+  no_rule (Some rule) h = absurd cc
+
+  -- a rule behind one of the same target
+  no_second : (rule : Rule) (rules : List Rule) (target : Target)
+      → not (is_some (rule_at (kinds.target rule) rules)) ≡ true
+      → is_target (kinds.target rule) target ≡ true → rule_at target rules ≡ None
+  no_second rule rules target none here =
+      ap (λ (t : Target). rule_at t rules) (sym (same_target (kinds.target rule) target here))
+      ∙ no_rule (rule_at (kinds.target rule) rules) none
+
+  module _ (m : Message) where
+    abbrev pub said_by : Option Rule → Said
+    said_by None = None
+    said_by (Some rule) = kinds.said m rule
+
+    abbrev pub lines_by : Option Rule → List (List Cell)
+    lines_by None = []
+    lines_by (Some rule) = kinds.lines m rule
+
+  module _ (are : AreKinds) (m : Message) where
+    -- WHAT IS SAID at a place
+    pub said_there : (rules : List Rule) → are_apart rules ≡ true → (place : Place)
+        → said_at (flat_map (rule_cells kinds m) rules) place
+        ≡ said_by m (rule_at (At place) rules)
+    said_there [] apart place = refl
+    said_there (rule ∷ rules) apart place =
+        let p = both (not (is_some (rule_at (kinds.target rule) rules))) (are_apart rules) apart in
+        by (kinds.has (outline m) rule) (is_target (kinds.target rule) (At place)) refl refl
+        (said_there rules p.1 place)
+        (λ f. no_second rule rules (At place) p.0 f)
+      where
+        by : (there here : Bool) → kinds.has (outline m) rule ≡ there
+            → is_target (kinds.target rule) (At place) ≡ here
+            → said_at (flat_map (rule_cells kinds m) rules) place
+            ≡ said_by m (rule_at (At place) rules)
+            → (is_target (kinds.target rule) (At place) ≡ true → rule_at (At place) rules ≡ None)
+            → said_at (cells_at there (kinds.target rule) (kinds.said m rule)
+            ++ flat_map (rule_cells kinds m) rules) place
+            ≡ said_by m (if here then Some rule else rule_at (At place) rules)
+        by true here e f rest none = has (kinds.target rule) here f rest
+          where
+            has : (target : Target) (here : Bool) → is_target target (At place) ≡ here
+                → said_at (flat_map (rule_cells kinds m) rules) place
+                ≡ said_by m (rule_at (At place) rules)
+                → said_at (cells_at true target (kinds.said m rule)
+                ++ flat_map (rule_cells kinds m) rules) place
+                ≡ said_by m (if here then Some rule else rule_at (At place) rules)
+            has (At own) true f rest = rw f refl
+            has (At own) false f rest = rw f rest
+            has (Grouped count) true f rest = absurd cc
+            has (Grouped count) false f rest = rest
+        by false true e f rest none =
+            rest ∙ ap (said_by m) (none f) ∙ sym (are.none m rule e)
+        by false false e f rest none = rest
+
+    -- THE LINES of a group
+    pub lines_there : (rules : List Rule) → are_apart rules ≡ true → (count : ℕ)
+        → lines_of count (flat_map (rule_groups kinds m) rules)
+        ≡ lines_by m (rule_at (Grouped count) rules)
+    lines_there [] apart count = refl
+    lines_there (rule ∷ rules) apart count =
+        let p = both (not (is_some (rule_at (kinds.target rule) rules))) (are_apart rules) apart in
+        by (kinds.has (outline m) rule) (is_target (kinds.target rule) (Grouped count)) refl refl
+        (lines_there rules p.1 count)
+        (λ f. no_second rule rules (Grouped count) p.0 f)
+      where
+        by : (there here : Bool) → kinds.has (outline m) rule ≡ there
+            → is_target (kinds.target rule) (Grouped count) ≡ here
+            → lines_of count (flat_map (rule_groups kinds m) rules)
+            ≡ lines_by m (rule_at (Grouped count) rules)
+            → (is_target (kinds.target rule) (Grouped count) ≡ true
+            → rule_at (Grouped count) rules ≡ None)
+            → lines_of count (groups_at there (kinds.target rule) (kinds.lines m rule)
+            ++ flat_map (rule_groups kinds m) rules)
+            ≡ lines_by m (if here then Some rule else rule_at (Grouped count) rules)
+        by true here e f rest none = has (kinds.target rule) here f rest
+          where
+            has : (target : Target) (here : Bool) → is_target target (Grouped count) ≡ here
+                → lines_of count (flat_map (rule_groups kinds m) rules)
+                ≡ lines_by m (rule_at (Grouped count) rules)
+                → lines_of count (groups_at true target (kinds.lines m rule)
+                ++ flat_map (rule_groups kinds m) rules)
+                ≡ lines_by m (if here then Some rule else rule_at (Grouped count) rules)
+            has (Grouped own) true f rest = rw f refl
+            has (Grouped own) false f rest = rw f rest
+            has (At place) true f rest = absurd cc
+            has (At place) false f rest = rest
+        by false true e f rest none =
+            rest ∙ ap (lines_by m) (none f) ∙ sym (are.no_lines m rule e)
+        by false false e f rest none = rest
+
+  -- ---- a list of rules
+
+  -- RULES THAT HAVE A TARGET EACH
+  pub record AreOwn (all : List Rule) : Type 0 where
+    pub apart : are_apart all ≡ true
+    pub found : map (λ rule. rule_at (kinds.target rule) all) all ≡ map (λ rule. Some rule) all
+
+  module _ (are : AreKinds) (all : List Rule) (own : AreOwn all) (m : Message) where
+    pub says : (place : Place)
+        → said_at (by_rules kinds all m).cells place ≡ said_by m (rule_at (At place) all)
+    says place = said_there are m all own.apart place
+
+    pub has_lines_of : (count : ℕ)
+        → lines_of count (by_rules kinds all m).groups ≡ lines_by m (rule_at (Grouped count) all)
+    has_lines_of count = lines_there are m all own.apart count
+
+  -- a rule that is found at its target
+  abbrev pub IsFound : List Rule → Rule → Type 0
+  IsFound all rule = rule_at (kinds.target rule) all ≡ Some rule
+
+  pub all_found : (all : List Rule) → AreOwn all → AllByRecursion (IsFound all) all
+  all_found all own = by all own.found
+    where
+      by : (rules : List Rule)
+          → map (λ rule. rule_at (kinds.target rule) all) rules ≡ map (λ rule. Some rule) rules
+          → AllByRecursion (IsFound all) rules
+      by [] h = tt
+      by (rule ∷ rules) h =
+          let here : rule_at (kinds.target rule) all ≡ Some rule = cc in
+          let rest : map (λ r. rule_at (kinds.target r) all) rules ≡ map (λ r. Some r) rules = cc in
+          (here, by rules rest)
+
+  -- what holds of each rule that passes a test and lacks nothing holds of all
+  pub each_rule : (P : Rule → Type 0) (all : List Rule) (test : Rule → Bool) (m : Message)
+      → ((rule : Rule) → IsFound all rule → test rule ≡ true → kinds.lack m rule ≡ None → P rule)
+      → AreOwn all → list_all test all ≡ true → lack_by kinds all m ≡ None
+      → AllByRecursion P all
+  each_rule P all test m each own passed lack =
+      by all (all_found all own) passed (none_each (kinds.lack m) all lack)
+    where
+      by : (rules : List Rule) → AllByRecursion (IsFound all) rules
+          → list_all test rules ≡ true → AllByRecursion (λ rule. kinds.lack m rule ≡ None) rules
+          → AllByRecursion P rules
+      by [] found passed lack = tt
+      by (rule ∷ rules) found passed lack =
+          let p = both (test rule) (list_all test rules) passed in
+          (each rule found.0 p.0 lack.0, by rules found.1 p.1 lack.1)

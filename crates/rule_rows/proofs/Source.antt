@@ -1,0 +1,139 @@
+-- What a sound message says at the rows and groups of its table.
+use Rattle.std.proofs.Common.{◌≡◌, ℕ, List, [], ◌∷◌, Bool, true, false, Option, Some, None, refl}
+use Rattle.std.proofs.Common.{sym, ap, subst, ◌∙◌}
+use Rattle.std.specs.Prelude.{IsSome, IfSome, ◌==◌, is_some, if◌then◌else◌}
+use Rattle.std.specs.List.{AllByRecursion}
+use Rattle.field_groups.specs.Field.{Field}
+use Rattle.message_tables.specs.Tables.{Need, Required, Optional, Lenient, Fixed, When, Row, Item, One}
+use Rattle.message_tables.specs.Tables.{Party, Lines, RepeatingGroup, Message, Said, Tag, Spells}
+use Rattle.message_tables.specs.Tables.{Table, said_at, lines_of, is_needed, value_at}
+use Rattle.message_tables.specs.Content.{content}
+use Rattle.value_kinds.specs.ValueKind.{ValueKind}
+use Rattle.row_values.specs.Kinds.{Kind, Value, judge}
+use Rattle.sound_laws.specs.Sound.{IsClear, IsSaid, IsGroup, IsItem, IsSound}
+use Rattle.sound_laws.proofs.RowsSaid.{row_of_tag, row_said, same_value, required_said}
+use Rattle.sound_laws.proofs.RowsSaid.{optional_said, lenient_said}
+use Rattle.sound_laws.proofs.ContentValues.{groups_said, is_alone, value_said}
+use Rattle.rule_rows.specs.ByRules.{has_group, has_place, outline, outline_of}
+use Rattle.rule_rows.proofs.Looked.{none_at, no_lines}
+use Rattle.rule_rows.specs.Rows.{group_at}
+use Rattle.rule_rows.proofs.Items.{count_is, group_there, has_row, row_there, tag_is}
+
+-- what is said by a canonical spelling without SOH
+pub record IsSpelled (fields : List Field) (kind : Kind) (said : Said) : Type 0 where
+  pub spelled : IfSome said (λ text. judge fields kind text ≡ Spells text)
+  pub clear : IfSome said IsClear
+
+pub says_nothing : (fields : List Field) (kind : Kind) → IsSpelled fields kind None
+says_nothing fields kind = record { spelled = tt; clear = tt }
+
+-- ---- a row that is carried
+
+-- a need that asks for no more than another
+abbrev pub is_less : Need → Need → Bool
+is_less need Optional = true
+is_less need Lenient = true
+is_less Required Required = true
+is_less need other = false
+
+-- what is said by a row whose values are judged by themselves is said by such a row of another tag
+pub carried_said : (source target : List Field) (from to : ℕ) (kind : ValueKind) (need less : Need)
+    (said : Said) → is_less need less ≡ true
+    → IsSaid judge source (record { tag = from; kind = Value kind; need = need }) said
+    → IsSaid judge target (record { tag = to; kind = Value kind; need = less }) said
+carried_said source target from to kind need Optional said ok h = optional_said target to
+    (Value kind) said (same_value source target kind said h.spelled) h.clear
+carried_said source target from to kind need Lenient said ok h = lenient_said target to
+    (Value kind) said (same_value source target kind said h.spelled) h.clear
+carried_said source target from to kind Required Required said ok h = required_said target to
+    (Value kind) said (h.needed refl) (same_value source target kind said h.spelled) h.clear
+carried_said source target from to kind Optional Required said ok h = absurd cc
+carried_said source target from to kind Lenient Required said ok h = absurd cc
+carried_said source target from to kind (Fixed text) Required said ok h = absurd cc
+carried_said source target from to kind (When condition) Required said ok h = absurd cc
+carried_said source target from to kind need (Fixed text) said ok h = absurd cc
+carried_said source target from to kind need (When condition) said ok h = absurd cc
+
+-- ---- a sound message
+
+module _ (table : Table Kind) (m : Message) (sound : IsSound judge table m) where
+  abbrev at : ℕ → Said
+  at tag = said_at m.cells (Tag tag)
+
+  abbrev pub fields : List Field
+  fields = content table m
+
+  pub outline_is : outline m ≡ outline_of table.items
+  outline_is = λ i. record { places = sound.places i; counts = sound.counts i }
+
+  pub row_at : (tag : ℕ) (row : Row Kind) → row_of_tag tag table.items ≡ Some row
+      → IsSaid judge fields row (at tag)
+  row_at tag row e =
+      let P : ℕ → Type 0 = λ t. IsSaid judge fields row (at t) in
+      subst P (tag_is tag table.items row e)
+      (row_said fields m table.items tag row e sound.items)
+
+  pub no_row : (tag : ℕ) → row_of_tag tag table.items ≡ None → at tag ≡ None
+  no_row tag e = none_at m.cells (Tag tag)
+      (ap (λ o. has_place o (Tag tag)) outline_is ∙ row_there table.items tag ∙ ap is_some e)
+
+  -- what is said at the tag of this row, where the table has it
+  pub spelled_by : (row : Row Kind)
+      → IfSome (row_of_tag row.tag table.items) (λ other. other ≡ row)
+      → IsSpelled fields row.kind (at row.tag)
+  spelled_by row is = by (row_of_tag row.tag table.items) refl is
+    where
+      by : (o : Option (Row Kind)) → row_of_tag row.tag table.items ≡ o
+          → IfSome o (λ other. other ≡ row) → IsSpelled fields row.kind (at row.tag)
+      by None e is =
+          let P : Said → Type 0 = λ said. IsSpelled fields row.kind said in
+          subst P (sym (no_row row.tag e)) (says_nothing fields row.kind)
+      by (Some other) e is =
+          let said = row_at row.tag row (e ∙ ap (λ (r : Row Kind). Some r) is) in
+          record { spelled = said.spelled; clear = said.clear }
+
+  -- a row that the table has, and each message says
+  pub is_there : (row : Row Kind) → (need : row.need ≡ Required) → has_row table.items row.tag ≡ true
+      → IfSome (row_of_tag row.tag table.items) (λ other. other ≡ row) → IsSome (at row.tag)
+  is_there row need there is = by (row_of_tag row.tag table.items) refl there is
+    where
+      by : (o : Option (Row Kind)) → row_of_tag row.tag table.items ≡ o → is_some o ≡ true
+          → IfSome o (λ other. other ≡ row) → IsSome (at row.tag)
+      by None e there is = absurd cc
+      by (Some other) e there is =
+          (row_at row.tag row (e ∙ ap (λ (r : Row Kind). Some r) is)).needed
+          (ap (λ n. is_needed n fields) need)
+
+  -- the value of a tag that one row alone writes
+  pub value_is : (tag : ℕ) → is_alone tag table.items ≡ true → value_at tag fields ≡ at tag
+  value_is tag alone =
+      value_said judge m tag table.items alone (groups_said judge fields m table.items sound.items)
+
+  -- the lines of a group of the table
+  pub group_is : (count : ℕ) (group : RepeatingGroup Kind)
+      → group_at count table.items ≡ Some group → IsGroup judge group (lines_of count m.groups)
+  group_is count group e =
+      let P : ℕ → Type 0 = λ c. IsGroup judge group (lines_of c m.groups) in
+      subst P (count_is count table.items group e) (by table.items e sound.items)
+    where
+      by : (items : List (Item Kind)) → group_at count items ≡ Some group
+          → AllByRecursion (IsItem judge fields m) items
+          → IsGroup judge group (lines_of group.count m.groups)
+      by [] e said = absurd cc
+      by (One row ∷ items) e said = by items e said.1
+      by (Party role ∷ items) e said = by items e said.1
+      by (Lines first ∷ items) e said = one (first.count == count) e (λ later. by items later said.1)
+        where
+          one : (b : Bool) → (if b then Some first else group_at count items) ≡ Some group
+              → (group_at count items ≡ Some group
+              → IsGroup judge group (lines_of group.count m.groups))
+              → IsGroup judge group (lines_of group.count m.groups)
+          one true e later =
+              let same : first ≡ group = cc in
+              let P : RepeatingGroup Kind → Type 0 =
+              λ g. IsGroup judge g (lines_of g.count m.groups) in subst P same said.0
+          one false e later = later e
+
+  pub no_group : (count : ℕ) → group_at count table.items ≡ None → lines_of count m.groups ≡ []
+  no_group count e = no_lines m.groups count
+      (ap (λ o. has_group o count) outline_is ∙ group_there table.items count ∙ ap is_some e)
