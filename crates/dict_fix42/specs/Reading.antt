@@ -11,7 +11,6 @@ use Rattle.typed_fields.specs.Flag.{flag_text}
 use Rattle.field_groups.specs.Field.{Field}
 use Rattle.message_tables.specs.Tables.{Said}
 use Rattle.dict_fix42.specs.declared.groups.Groups.{Groups}
-use Rattle.dict_fix42.specs.declared.term_codes.OrderCodes.{OrderCodes}
 use Rattle.dict_fix42.specs.declared.requests.New42.{New42}
 use Rattle.dict_fix42.specs.declared.requests.Cancel42.{Cancel42}
 use Rattle.dict_fix42.specs.declared.requests.Replace42.{Replace42}
@@ -23,14 +22,6 @@ use Rattle.row_values.specs.Maturity.{IsMaturity}
 pub record AreGroups (fields : List Field) (groups : Groups) : Type 0 where
   pub allocs : AreAllocs fields groups.allocs
   pub sessions : AreSessions fields groups.sessions
-
--- the codes of an order say what the fields say
-pub record AreCodes (fields : List Field) (codes_of : OrderCodes) : Type 0 where
-  pub ord_type : IfSome (said fields 40 (Value (Code (codes "12345B"))))
-      (λ text. text ≡ code_text codes_of.ord_type)
-  pub time_in_force : option_map code_text codes_of.time_in_force
-      ≡ said fields 59 (Value (Code (codes "0123456")))
-  pub capacity : option_map code_text codes_of.capacity ≡ said fields 47 (Value OneByte)
 
 -- each row of a new order says what the fields say
 pub record IsNew (fields : List Field) (m : New42) : Type 0 where

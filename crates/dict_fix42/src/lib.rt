@@ -6,9 +6,7 @@ mod message;
 mod reading;
 mod requests;
 mod tables;
-mod term_codes;
 mod writing;
 
-pub use message::{good42, read42, type42, write42};
+pub use message::{good42, read42, request_table, type42, write42};
 pub use requests::{Cancel42, Msg42, New42, Replace42, Status42};
-pub use term_codes::{OrderCodes, order_codes};

@@ -1,7 +1,10 @@
 //! Reading and writing order messages of FIX 4.2.
 
 ghost use Rattle.std.specs.Prelude.{◌≡◌, ◌++◌, ◌∷◌, [], IfOk, OnErr, OnOk, Some};
+ghost use Rattle.std.specs.Option.{option_map};
 ghost use Rattle.field_groups.specs.Field.{body_of};
+ghost use Rattle.message_tables.specs.CodeTables.{table_of as code_table};
+ghost use Rattle.row_values.specs.CodeKinds.{kind_of};
 ghost use Rattle.first_faults.specs.Faults.{message_by};
 ghost use Rattle.first_faults.specs.Gives.{Gives, IsCleanIf};
 ghost use Rattle.dict_fix42.specs.Message.{message42, table_of};
@@ -19,8 +22,9 @@ use crate::tables;
 use crate::writing::{cancel_parts, new_parts, replace_parts, status_parts};
 use field_groups::{Fields, Split, is_type};
 use first_faults::good_fields;
+use message_tables::Table;
 use order_meaning::Fault;
-use row_values::put_content;
+use row_values::{Kind, put_content};
 use std::alloc::{AllocError, Global};
 
 /// The letter of a message's type, as MsgType(35) has it; it takes no memory.
@@ -35,6 +39,23 @@ pub fn type42(msg: &Msg42) -> &'static [u8]
     }
 }
 
+/// The table of a type, where it is one of D, F, G and H.
+pub fn request_table(msg_type: &[u8]) -> Option<&'static Table<Kind>>
+    ensures { option_map (λ table. code_table kind_of table.now) result ≡ table_of msg_type.now }
+{
+    if is_type(msg_type, b'D') {
+        Some(tables::new_order())
+    } else if is_type(msg_type, b'F') {
+        Some(tables::cancel_request())
+    } else if is_type(msg_type, b'G') {
+        Some(tables::replace_request())
+    } else if is_type(msg_type, b'H') {
+        Some(tables::status_request())
+    } else {
+        None
+    }
+}
+
 /// The fields of a body, where they are whole and at no fault beside the table of their type. It
 /// takes no memory.
 ///
@@ -45,16 +66,9 @@ pub fn type42(msg: &Msg42) -> &'static [u8]
 pub fn good42<'s, 'a>(msg_type: &[u8], split: &'s Split<'a>) -> Result<&'s Fields<'a>, Fault>
     ensures { IsCleanIf (table_of msg_type.now) split.now.fields split.now.fault result }
 {
-    if is_type(msg_type, b'D') {
-        good_fields(tables::new_order(), split)
-    } else if is_type(msg_type, b'F') {
-        good_fields(tables::cancel_request(), split)
-    } else if is_type(msg_type, b'G') {
-        good_fields(tables::replace_request(), split)
-    } else if is_type(msg_type, b'H') {
-        good_fields(tables::status_request(), split)
-    } else {
-        Err(Fault::NotSupported)
+    match request_table(msg_type) {
+        None => Err(Fault::NotSupported),
+        Some(table) => good_fields(table, split),
     }
 }
 

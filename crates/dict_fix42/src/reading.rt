@@ -41,10 +41,10 @@ const SECURITY_TYPE: ValueKind = Word(&[b"CS", b"PS", b"FUT"]);
 const SIDE: ValueKind = Code(b"123456");
 
 /// What OrdType(40) may be.
-pub(crate) const ORD_TYPE: ValueKind = Code(b"12345B");
+const ORD_TYPE: ValueKind = Code(b"12345B");
 
 /// What TimeInForce(59) may be.
-pub(crate) const TIME_IN_FORCE: ValueKind = Code(b"0123456");
+const TIME_IN_FORCE: ValueKind = Code(b"0123456");
 
 /// What OpenClose(77) may be.
 const OPEN_CLOSE: ValueKind = Code(b"OC");

@@ -1,6 +1,5 @@
 -- Own: how ExecType(150), OrdStatus(39) and LeavesQty(151) of FIX 5.0 SP2 are written in FIX 4.2.
 use Rattle.std.specs.Prelude.{ℕ, ℤ, pos, ◌==◌, ◌&&◌, ◌||◌, Bool, Some, None, if◌then◌else◌, codes}
-use Rattle.std.specs.Prelude.{false, is_some}
 use Rattle.std.specs.declared.option.Option.{Option}
 use Rattle.std.specs.Ordering.{int_eq}
 use Rattle.message_tables.specs.Tables.{is_one_of}
@@ -38,7 +37,3 @@ mapped exec_type ord_status fill =
     (if exec_type == 53
     then Some (as_codes 48 53 (if ord_status == 48 then 53 else ord_status)) else
     (if is_event exec_type then Some (as_codes 48 exec_type ord_status) else None)))))
-
--- it has codes of FIX 4.2 for an ExecType, whatever the OrdStatus, here 0
-abbrev pub has_codes : ℕ → Bool
-has_codes exec_type = is_some (mapped exec_type 48 false)

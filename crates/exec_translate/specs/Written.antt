@@ -1,6 +1,7 @@
 -- Own: how each row of a report of FIX 5.0 SP2 is written in FIX 4.2; docs/REPORTS.md.
-use Rattle.std.specs.Prelude.{◌≡◌, ℕ, ◌%◌, List, ◌==◌, ◌||◌, ◌++◌, codes, Option}
+use Rattle.std.specs.Prelude.{◌≡◌, ℕ, ◌%◌, List, [], ◌∷◌, ◌==◌, ◌||◌, ◌++◌, codes, Option, Some}
 use Rattle.std.specs.Prelude.{if◌then◌else◌}
+use Rattle.std.specs.Fmt.{decimal}
 use Rattle.std.specs.Option.{option_map}
 use Rattle.typed_fields.specs.declared.number.Number.{Number}
 use Rattle.message_tables.specs.Tables.{◌>>=◌, code_of}
@@ -33,6 +34,18 @@ terms42 ord_type time = (ord_type >>= order_type_of, time_of (is_on_close ord_ty
 abbrev pub dated : Option Maturity → Option Maturity
 dated maturity =
     option_map (λ m. record { month = m.month; day = option_map (λ day. day % 100) m.day }) maturity
+
+-- the texts that both versions say alike
+abbrev pub report_texts : Report50 → List (Option (List ℕ))
+report_texts m =
+    Some m.order_id
+    ∷ m.secondary_id ∷ m.cl_ord_id ∷ m.orig_id ∷ m.ref_id ∷ m.account ∷ Some m.symbol
+    ∷ m.symbol_sfx ∷ m.security_id ∷ m.security_type ∷ m.security_exchange ∷ m.currency
+    ∷ m.last_mkt ∷ []
+
+-- a reason with its tag, as a text tells it
+abbrev pub told_text : ℕ → ℕ → List ℕ
+told_text tag reason = codes " [" ++ decimal tag ++ codes "=" ++ decimal reason ++ codes "]"
 
 -- a reason as a number
 abbrev pub value_in : Option Number → Option ℕ

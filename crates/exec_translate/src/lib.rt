@@ -6,13 +6,9 @@
 
 mod cancel_rejects;
 mod downward;
-mod from_fields;
-pub mod laws;
 mod mapping;
 mod parts;
 mod reasons;
 mod reports;
 
 pub use downward::{down_cancel_reject, down_report};
-pub use from_fields::{put_cancel_reject, put_report};
-pub use mapping::has_codes;

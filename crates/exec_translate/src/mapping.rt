@@ -3,7 +3,7 @@
 ghost use Rattle.std.specs.Prelude.{◌≡◌, ◌==◌, ◌||◌, Some, IfSome};
 ghost use Rattle.reports_fix42.specs.Sense.{exec_of as exec42, phase_of as phase42};
 ghost use Rattle.reports_fix50.specs.Sense.{exec_of as exec50, phase_of as phase50};
-ghost use Rattle.exec_translate.specs.Mapping.{has_codes, is_event, is_fill, mapped};
+ghost use Rattle.exec_translate.specs.Mapping.{is_event, is_fill, mapped};
 
 use typed_fields::Dec;
 
@@ -62,14 +62,6 @@ fn mapped(exec_type: u8, ord_status: u8, fill: bool) -> Option<ExecCodes>
         exec_type,
         ord_status,
     })
-}
-
-/// Whether the mapping has codes of FIX 4.2 for an ExecType(150): of those of FIX 5.0 SP2 for all
-/// but `J` and `K`.
-pub fn has_codes(exec_type: u8) -> bool
-    ensures { result ≡ has_codes exec_type }
-{
-    mapped(exec_type, b'0', false).is_some()
 }
 
 /// ExecTransType(20), ExecType(150) and OrdStatus(39) of FIX 4.2 for those of FIX 5.0 SP2, which

@@ -10,8 +10,7 @@ ghost use Rattle.rows_fix42.specs.Meaning.{is_on_close};
 ghost use Rattle.rows_fix50.specs.Meaning.{terms_of as terms50};
 ghost use Rattle.reports_fix50.specs.Sense.{most_before_reasons, reason_told, telling};
 ghost use Rattle.exec_translate.specs.Written.{coded, dated, terms42, value_in};
-ghost use Rattle.exec_translate.specs.Written.{within};
-ghost use Rattle.exec_translate.specs.FromFields.{if_told, told_text};
+ghost use Rattle.exec_translate.specs.Written.{told_text, within};
 
 use crate::reasons::{LAST_CXL_REASON, LAST_REJ_REASON, LAST_RESTATE_REASON};
 use field_groups::put_tag;
@@ -209,47 +208,4 @@ pub(crate) fn reject_text(
     let mut told = Vec::new(alloc);
     push_reason(&mut told, 102, LAST_CXL_REASON, cxl_reason)?;
     telling(alloc, bytes_of(text), &told)
-}
-
-/// The text that tells something at its end, if it tells something.
-fn if_told(alloc: Global, text: Option<&[u8]>, told: &[u8]) -> Result<Option<Bytes>, AllocError>
-    ensures { IfOk result (λ written.
-        written ≡ if_told (option_map (λ t. t.now) text.entry) told.now) }
-{
-    match told {
-        [] => Ok(None),
-        told => telling(alloc, text, told),
-    }
-}
-
-/// The text of an execution report, if it tells reasons that FIX 4.2 lacks.
-pub(crate) fn report_told(
-    alloc: Global,
-    text: Option<&[u8]>,
-    rej_reason: Option<Number>,
-    restate_reason: Option<Number>,
-) -> Result<Option<Bytes>, AllocError>
-    requires rej_reason { IfSome rej_reason IsNumber }
-    requires restate_reason { IfSome restate_reason IsNumber }
-    ensures { IfOk result (λ written. written ≡ if_told (option_map (λ t. t.now) text.entry)
-        (reason_told 103 LAST_REJ_REASON (value_in rej_reason)
-        ++ reason_told 378 LAST_RESTATE_REASON (value_in restate_reason))) }
-{
-    let told = told_of_report(alloc, rej_reason, restate_reason)?;
-    if_told(alloc, text, &told)
-}
-
-/// The text of a cancel reject, if it tells a CxlRejReason(102) that FIX 4.2 lacks.
-pub(crate) fn reject_told(
-    alloc: Global,
-    text: Option<&[u8]>,
-    cxl_reason: Option<Number>,
-) -> Result<Option<Bytes>, AllocError>
-    requires { IfSome cxl_reason IsNumber }
-    ensures { IfOk result (λ written. written ≡ if_told (option_map (λ t. t.now) text.entry)
-        (reason_told 102 LAST_CXL_REASON (value_in cxl_reason))) }
-{
-    let mut told = Vec::new(alloc);
-    push_reason(&mut told, 102, LAST_CXL_REASON, cxl_reason)?;
-    if_told(alloc, text, &told)
 }

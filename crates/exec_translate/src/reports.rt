@@ -5,8 +5,7 @@ ghost use Rattle.party_translate.specs.Parties.{three_of};
 ghost use Rattle.reports_fix42.specs.Sense.{phase_of as phase42};
 ghost use Rattle.reports_fix50.specs.Readable.{IsReadableReport};
 ghost use Rattle.reports_fix50.specs.Sense.{phase_of as phase50, reason_told, telling};
-ghost use Rattle.exec_translate.specs.FromFields.{report_texts};
-ghost use Rattle.exec_translate.specs.Written.{IsWritten, value_in};
+ghost use Rattle.exec_translate.specs.Written.{IsWritten, report_texts, value_in};
 
 use crate::mapping::ExecCodes;
 use crate::parts::{contras, dated, exec_id, report_text, terms, within};

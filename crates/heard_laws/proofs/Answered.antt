@@ -20,7 +20,7 @@ use Rattle.reject_rules.specs.Refusals.{away_refusal, business_refusal, no_count
 use Rattle.reject_rules.specs.Refusals.{refusal_of, session_refusal, used_refusal}
 use Rattle.reject_rules.specs.Renumbered.{renumbered}
 use Rattle.dict_fix42.specs.Sense.{request42}
-use Rattle.request_translate.specs.Lack.{lack_if}
+use Rattle.request_rules.specs.Lack.{lack_if}
 use Rattle.event_decisions.specs.Body.{type_of}
 use Rattle.event_decisions.specs.Decide.{Asked, Words}
 use Rattle.message_answers.specs.Answer.{Answers, Forward, Gives, Near, answered, forwarded}

@@ -43,7 +43,7 @@ use Rattle.heard_laws.proofs.Quiet.{after_out, quiet_one, quiet_outs, quiet_goes
 
 -- ---- the content of what is given out says nothing that its header says
 
-header_none : (fields : List Field) → list_any is_in_header fields ≡ false
+pub header_none : (fields : List Field) → list_any is_in_header fields ≡ false
     → behind_header fields ≡ fields
 header_none [] none = refl
 header_none (f ∷ fields) none = by (is_in_header f) none (λ e. header_none fields e)

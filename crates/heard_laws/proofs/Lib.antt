@@ -1,15 +1,15 @@
 mod Worked
-mod Types
+pub mod Types
 mod Ids
 mod Numbers
 mod Refusals
-mod Contents
-mod Answered
-mod On
+pub mod Contents
+pub mod Answered
+pub mod On
 mod Requests
 mod Reports
-mod Texts
-mod Session
+pub mod Texts
+pub mod Session
 mod Quiet
-mod EntryFollows
+pub mod EntryFollows
 mod Followed

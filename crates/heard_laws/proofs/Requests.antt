@@ -23,8 +23,7 @@ use Rattle.sound_laws.proofs.Lookups.{places_apart}
 use Rattle.sound_laws.proofs.Stages.{item_tags}
 use Rattle.sound_laws.proofs.TableFits as fits
 use Rattle.sound_laws.proofs.TableFits.{table_fits}
-use Rattle.request_translate.specs.Canonical.{IsCanonical}
-use Rattle.request_translate.specs.Translation.{IsRequest, News, Cancels, Replaces, Statuses}
+use Rattle.request_rules.specs.Canonical.{IsCanonical, IsRequest, News, Cancels, Replaces, Statuses}
 use Rattle.message_answers.specs.Chains.{joining}
 use Rattle.message_answers.proofs.SentFields.{AreGiven, request_given}
 use Rattle.heard_laws.specs.Heard as heard

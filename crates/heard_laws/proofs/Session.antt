@@ -183,7 +183,7 @@ among test (t ∷ types) msg_type all one =
     by true e one later = ap test ((bytes_eq-Decides msg_type t).0 e) ∙ parts.0
     by false e one later = later one
 
-plain_type : (msg_type : List ℕ) (is_read : Bool) → is_administrative msg_type ≡ true
+pub plain_type : (msg_type : List ℕ) (is_read : Bool) → is_administrative msg_type ≡ true
     → sort_of msg_type is_read ≡ Plain
 plain_type msg_type is_read listed = plain_is (sort_of msg_type is_read)
     (among (λ t. is_plain (sort_of t is_read))

@@ -15,7 +15,6 @@ use Rattle.session_core.specs.declared.said.Said.{Said}
 use Rattle.session_core.specs.declared.tag.TheConstants.{REF_SEQ_NUM}
 use Rattle.pair_entries.specs.declared.TheConstants.{MAX_NUMBER}
 use Rattle.pair_entries.specs.declared.entry.Entry.{Entry}
-use Rattle.exec_translate.specs.Laws.{BooksChangeAlike, WrittenReportsAreReadAgain}
 use Rattle.reject_rules.specs.Renumbered.{renumbered}
 use Rattle.dict_fix42.specs.Sense.{request42}
 use Rattle.dict_fix50.specs.Sense.{request50}
@@ -33,6 +32,7 @@ use Rattle.message_answers.proofs.KnownNumbers.{IsGoodSource, named_good}
 use Rattle.message_answers.proofs.Letters.{among}
 use Rattle.message_answers.proofs.ReadShapes.{shape}
 use Rattle.message_answers.proofs.SaidTexts.{IsShortId}
+use Rattle.request_rules.specs.Rules.{up_message}
 use Rattle.heard_laws.specs.Heard.{Heard, Carries, book_after, cl_ord_id_in, heard_body}
 use Rattle.heard_laws.specs.Heard.{heard_out, is_reject, message_to, number_named_in, said_out}
 use Rattle.heard_laws.specs.Heard.{sort_of, with_resend}
@@ -56,7 +56,7 @@ rejects letter true listed =
 rejects letter false listed =
     among (λ l. is_reject (sort_of (l ∷ []) false)) (codes "3j") letter refl listed
 
-refuses : (number : ℕ) → number ≤ 1_000_000_000 → (said : Said) → NamesFirst number said
+pub refuses : (number : ℕ) → number ≤ 1_000_000_000 → (said : Said) → NamesFirst number said
     → IsGivenOut said → (side : Side) (own : ℕ) (resend : Bool)
     → IsRefusalOf number (heard_out (out_of side own resend said))
 refuses number few said names given side own resend =
@@ -118,8 +118,7 @@ module _ (side : Side) (number : ℕ) (body : List ℕ) (m : Message)
 
 -- ---- answers
 
-module _ (books : BooksChangeAlike) (again : WrittenReportsAreReadAgain)
-    (given_out : AnswersAreGivenOut) (before : List Entry) (numbered : AreNumbered before)
+module _ (given_out : AnswersAreGivenOut) (before : List Entry) (numbered : AreNumbered before)
     (active : Bool) (asked : Asked) (few : asked.number ≤ MAX_NUMBER) (own : ℕ) where
   -- these words are heard so, where they can be sent
   abbrev AreHeard : Option Words → Type 0
@@ -132,11 +131,11 @@ module _ (books : BooksChangeAlike) (again : WrittenReportsAreReadAgain)
       → IsHeardOn side (heard_body side number body) (heard_out (out_of (other side) own m.resend
       (record { msg_type = m.letter ∷ []; content = body_of written; admin = false })))
   goes Client number body m reads none original known written is =
-      goes_on Client number body m reads none is.request written
-      (request_on m is.request written is.means is.canonical) own
+      goes_on Client number body m reads none (up_message m) written
+      (request_on m (up_message m) written is.means is.canonical) own
   goes Venue number body m reads none original known written is =
-      let on = report_on books again body m reads original written known is in
-      goes_on Venue number body m reads none on.0 written on.1 own
+      goes_on Venue number body m reads none is.client written
+      (report_on body m reads none original written known is) own
 
   by_answer : (words : Option Words) → IsAnswer before asked words → AreHeard words
   by_answer words (Nears said names is) =
@@ -163,9 +162,8 @@ module _ (books : BooksChangeAlike) (again : WrittenReportsAreReadAgain)
       (goes asked.side asked.number asked.body m reads none original known written on))
 
 -- EACH ANSWER IS HEARD.
-pub answers_heard : BooksChangeAlike → WrittenReportsAreReadAgain → AnswersAreGivenOut
-    → AnswersAreHeard
-answers_heard books again given_out before active asked words own numbered few is =
-    by_answer books again given_out before numbered active asked few own (Some words)
+pub answers_heard : AnswersAreGivenOut → AnswersAreHeard
+answers_heard given_out before active asked words own numbered few is =
+    by_answer given_out before numbered active asked few own (Some words)
     (answer_is before numbered active asked words is)
     (given_out before active (Some asked) words numbered few is)

@@ -5,7 +5,6 @@ ghost use Rattle.heard_laws.specs.Laws.{IdsAreCompared, RefusalsAreHeard, Answer
 ghost use Rattle.heard_laws.specs.Laws.{BodiesAreReadAlike, SessionsAreHeardPlain};
 ghost use Rattle.heard_laws.specs.Laws.{SentSessionsAreHeardPlain, SidesLearn};
 
-use exec_translate::laws::{books_change_alike, written_reports_are_read_again};
 use message_answers::laws::answers_are_given_out;
 
 /// What is heard in a message is what the answers go by. An answer to the side that asked is heard
@@ -20,8 +19,6 @@ pub fn messages_are_read()
     ensures plain { SessionsAreHeardPlain }
     ensures plain_outs { SentSessionsAreHeardPlain }
 {
-    books_change_alike();
-    written_reports_are_read_again();
     answers_are_given_out();
 }
 

@@ -204,7 +204,7 @@ by_letter P d f g letter is = by (68 == letter) (70 == letter) (71 == letter) re
         is)) in absurd cc
 
 -- what fields at no fault say joins by ClOrdID(11) and OrigClOrdID(41)
-joined_said : (number : ℕ) (fields : List Field) (letter : ℕ) → is_one_of joining letter ≡ true
+pub joined_said : (number : ℕ) (fields : List Field) (letter : ℕ) → is_one_of joining letter ≡ true
     → (t : Table Kind) → table_of (letter ∷ []) ≡ Some t
     → joined number (message_in judge t fields) ≡ Some (item_said number letter fields)
 joined_said number fields =

@@ -1,8 +1,7 @@
 -- Every answer that is given out can be sent.
 use Rattle.std.proofs.Common.{◌≡◌, ◌≤◌, ◌<◌, ◌^◌, ℕ, ◌&&◌, ◌||◌, not, Bool, true, false, List}
 use Rattle.std.proofs.Common.{[], ◌∷◌, codes, length, nat_lt, Option, Some, None, Result, Ok, Err}
-use Rattle.std.proofs.Common.{IfSome, refl, sym, ap, subst, arith, lit<, if◌then◌else◌, inl}
-use Rattle.std.proofs.Common.{inr}
+use Rattle.std.proofs.Common.{IfSome, refl, sym, ap, subst, arith, lit<, if◌then◌else◌}
 use Rattle.std.specs.Prelude.{All, is_none}
 use Rattle.std.specs.Fmt.{decimal}
 use Rattle.std.specs.List.{AllByRecursion, list_any}
@@ -33,9 +32,9 @@ use Rattle.reject_rules.specs.Renumbered.{renumbered}
 use Rattle.reject_rules.proofs.Plain.{fault_plain, used_plain, away_plain, told_plain}
 use Rattle.reject_rules.proofs.Short.{fault_short, used_short, away_short, told_short}
 use Rattle.dict_fix42.specs.Sense.{request42}
-use Rattle.reports_fix50.specs.Message as reports50
 use Rattle.reports_fix50.specs.Sense.{report50}
-use Rattle.request_translate.specs.Lack.{lack_if, lacks_capacity, lacks_time}
+use Rattle.request_rules.specs.Lack.{lack_if, lacks_capacity, lacks_time}
+use Rattle.request_rules.specs.Rules.{up_message}
 use Rattle.event_decisions.specs.Body.{first_value, reading_of, type_of}
 use Rattle.event_decisions.specs.Decide.{Asked, Words}
 use Rattle.event_decisions.proofs.Bodies.{bodies_are_read}
@@ -51,11 +50,10 @@ use Rattle.message_answers.specs.Translated.{GoesOn}
 use Rattle.message_answers.proofs.FaultWords.{split_words}
 use Rattle.message_answers.proofs.KnownNumbers.{IsGoodSource, named_good, orig_good}
 use Rattle.message_answers.proofs.Letters.{among}
-use Rattle.message_answers.proofs.ReadShapes.{letter_is, refuses_well, report_by_letter, shape}
-use Rattle.message_answers.proofs.ReadShapes.{types, words_of_fault}
+use Rattle.message_answers.proofs.ReadShapes.{letter_is, refuses_well, shape, types}
+use Rattle.message_answers.proofs.ReadShapes.{venue_report, words_of_fault}
 use Rattle.message_answers.proofs.SaidTexts.{AreClear, IsShortId, IsToldWell, type_clear}
-use Rattle.message_answers.proofs.SentFields.{AreGiven, apart_of, request_given, reject_given}
-use Rattle.message_answers.proofs.SentFields.{report_given}
+use Rattle.message_answers.proofs.SentFields.{AreGiven, apart_of, report_given, request_given}
 
 -- ---- types
 
@@ -249,21 +247,15 @@ module _ (before : List Entry) (numbered : AreNumbered before) (active : Bool) (
             (word number good.number) well.bounded)) is
 
     -- what goes on
-    goes_given : (side : Side) → asked.side ≡ side → (original : Option (List ℕ))
-        → IfSome original IsShortId → (written : List Field) → GoesOn side original m written
-        → AreGiven written
-    goes_given Client of original known written goes =
-        request_given goes.request written goes.canonical
-    goes_given Venue of original known written (inl goes) =
-        report_given fields (reading_of asked.body).fault clear m written goes
-        (report_by_letter asked.side fields (reading_of asked.body).fault read m reads
-        reports50.report_table of (inl refl) (ap (λ (x : Message). x.letter) goes.said)
-        (shape (first_value fields) fields (reading_of asked.body).fault asked.side))
-    goes_given Venue of original known written (inr goes) =
-        reject_given fields (reading_of asked.body).fault clear m original written known goes
-        (report_by_letter asked.side fields (reading_of asked.body).fault read m reads
-        reports50.cancel_reject_table of (inr refl) (ap (λ (x : Message). x.letter) goes.said)
-        (shape (first_value fields) fields (reading_of asked.body).fault asked.side))
+    goes_given : is_refusal m ≡ false → (side : Side) → asked.side ≡ side
+        → (original : Option (List ℕ)) → IfSome original IsShortId → (written : List Field)
+        → GoesOn side original m written → AreGiven written
+    goes_given none Client of original known written goes =
+        request_given (up_message m) written goes.canonical
+    goes_given none Venue of original known written goes =
+        report_given m (venue_report asked.side fields (reading_of asked.body).fault read m reads
+        clear of none (shape (first_value fields) fields (reading_of asked.body).fault asked.side))
+        original known written goes
 
     letter_listed : is_one_of types m.letter ≡ true
     letter_listed = letter_is asked.side fields (reading_of asked.body).fault read m reads
@@ -272,9 +264,10 @@ module _ (before : List Entry) (numbered : AreNumbered before) (active : Bool) (
     within : (n : ℕ) → nat_lt MAX_CONTENT n ≡ false → n ≤ MAX_CONTENT
     within n fits = grind (arith, nat_tests)
 
-    forward_given : (original : Option (List ℕ)) → IfSome original IsShortId → (words : Words)
+    forward_given : is_refusal m ≡ false → (original : Option (List ℕ))
+        → IfSome original IsShortId → (words : Words)
         → Gives asked (Forward original m) (Some words) → IsGivenOut words.said
-    forward_given original known words (written, goes, is) =
+    forward_given none original known words (written, goes, is) =
         by (nat_lt MAX_CONTENT (length (body_of written))) refl is
       where
         by : (long : Bool) → nat_lt MAX_CONTENT (length (body_of written)) ≡ long
@@ -289,14 +282,15 @@ module _ (before : List Entry) (numbered : AreNumbered before) (active : Bool) (
             given_by words (forwarded asked m written)
             (by_parts said written
             (record { letter = m.letter; typed = refl; listed = letter_listed; plain = refl })
-            refl (goes_given asked.side refl original known written goes)
+            refl (goes_given none asked.side refl original known written goes)
             (within (length (body_of written)) e)) is
 
-    spelled_given : (original : Option (List ℕ)) → IfSome original IsShortId
-        → (lack : Option ℕ) → IfSome lack (λ tag. tag < 2 ^ 32) → (words : Words)
+    spelled_given : is_refusal m ≡ false → (original : Option (List ℕ))
+        → IfSome original IsShortId → (lack : Option ℕ) → IfSome lack (λ tag. tag < 2 ^ 32) → (words : Words)
         → Gives asked (spelled asked original m lack) (Some words) → IsGivenOut words.said
-    spelled_given original known None small words is = forward_given original known words is
-    spelled_given original known (Some tag) small words is =
+    spelled_given none original known None small words is =
+        forward_given none original known words is
+    spelled_given none original known (Some tag) small words is =
         fault_given (faults.NoCounterpart tag) words small is
 
     -- ---- by side
@@ -311,10 +305,10 @@ module _ (before : List Entry) (numbered : AreNumbered before) (active : Bool) (
         by false true = lit< tt
         by false false = tt
 
-    requested_given : (words : Words)
+    requested_given : is_refusal m ≡ false → (words : Words)
         → Gives asked (requested (known_of before) active asked m) (Some words)
         → IsGivenOut words.said
-    requested_given words is = by (is_used (known_of before) m) m.resend active is
+    requested_given none words is = by (is_used (known_of before) m) m.resend active is
       where
         by : (a b c : Bool) → Gives asked (if a then used asked b else
             (if not c then Near (away_refusal asked.number (type_of asked.body)) else
@@ -325,12 +319,12 @@ module _ (before : List Entry) (numbered : AreNumbered before) (active : Bool) (
         by false b false is =
             near_given (away_refusal asked.number (type_of asked.body)) words away_given is
         by false b true is =
-            spelled_given None tt (lack_if (request42 m)) (lack_small (request42 m)) words is
+            spelled_given none None tt (lack_if (request42 m)) (lack_small (request42 m)) words is
 
-    reported_given : (words : Words)
+    reported_given : is_refusal m ≡ false → (words : Words)
         → Gives asked (reported (known_of before) asked m) (Some words) → IsGivenOut words.said
-    reported_given words is =
-        spelled_given (original_of (known_of before) m)
+    reported_given none words is =
+        spelled_given none (original_of (known_of before) m)
         (orig_good before numbered (text_in m.cells 11)) (lack_of_report (known_of before) m)
         (by (is_none (report50 m)) (lacks_original (known_of before) m)) words is
       where
@@ -345,18 +339,18 @@ module _ (before : List Entry) (numbered : AreNumbered before) (active : Bool) (
         → IsGivenOut words.said
     message_given words is = by (is_refusal m) refl is
       where
-        by_side : (side : Side)
+        by_side : is_refusal m ≡ false → (side : Side)
             → Gives asked (in_order side (known_of before) active asked m) (Some words)
             → IsGivenOut words.said
-        by_side Client is = requested_given words is
-        by_side Venue is = reported_given words is
+        by_side none Client is = requested_given none words is
+        by_side none Venue is = reported_given none words is
 
         by : (b : Bool) → is_refusal m ≡ b → Gives asked (if b
             then told asked m (named (known_of before) asked.side (refusal_in m)) else
             in_order asked.side (known_of before) active asked m) (Some words)
             → IsGivenOut words.said
         by true e is = told_given words e is
-        by false e is = by_side asked.side is
+        by false e is = by_side e asked.side is
 
   answer_given : (words : Words) (r : Result Message Fault) → read ≡ r
       → Gives asked (answered (known_of before) active asked r) (Some words)

@@ -5,11 +5,11 @@ mod Bounded
 mod Back
 mod Fits
 pub mod Letters
-mod Typed
+pub mod Typed
 mod Answered
 mod Joins
 mod Requested
-mod ExecTypes
+mod Requesting
 mod Reported
 mod Forwards
 pub mod Carried

@@ -28,6 +28,9 @@ use Rattle.reports_fix42.specs.Message as reports42
 use Rattle.reports_fix50.specs.Message.{message50}
 use Rattle.reports_fix50.specs.Message as reports50
 use Rattle.sound_laws.proofs.PlainFields.{has_good_tags}
+use Rattle.report_rules.specs.Down.{IsReport50, Rejects50, Reports50}
+use Rattle.report_rules.proofs.ReadDown.{reject_complete, reject_read, report_complete}
+use Rattle.report_rules.proofs.ReadDown.{report_read}
 use Rattle.reject_rules.specs.Laws.{HasWords}
 use Rattle.message_answers.specs.Message.{is_refusal, is_refusal_type, refusal_in, said_by}
 use Rattle.message_answers.proofs.FaultWords.{fault_words}
@@ -250,6 +253,12 @@ completed_fault : (r : Result Message Fault) (fault : Fault) → completed_by r 
 completed_fault (Ok x) fault is = absurd cc
 completed_fault (Err e) fault is = is
 
+whole : (t : Table Kind) (fields : List Field) (split : Option SplitFault) (m : Message)
+    → completed_by (message_by (Some t) fields split) ≡ Ok m
+    → completed_by (message_by (Some t) fields None) ≡ Ok m
+whole t fields None m is = is
+whole t fields (Some fault) m is = absurd cc
+
 module _ (side : Side) (fields : List Field) (split : Option SplitFault) (r : Result Message Fault)
   where
     -- THE NUMBERS OF A FAULT have 32 bits.
@@ -345,48 +354,28 @@ module _ (side : Side) (fields : List Field) (split : Option SplitFault) (r : Re
           (sym (once_read t e))
           (subst (λ (o : Option (List ℕ)). IfSome o IsShortId) (sym (table.original fields)) tt)
 
-      -- A REPORT of the venue, by its letter
-      pub report_by_letter : (t : Table Kind) → side ≡ Venue
-          → (t ≡ reports50.report_table) ⊎ (t ≡ reports50.cancel_reject_table)
-          → m.letter ≡ t.letter → Shape side fields split r
-          → completed_by (message_by (Some t) fields split) ≡ Ok m
-      report_by_letter t of which same (Unknown none) = absurd cc
-      report_by_letter t of which same (OfClient u of_client table e) = absurd cc
-      report_by_letter t of which same (OfVenue u of_venue table e) =
-          by which table.is (sym (ap (λ (x : Message). x.letter) (venue_read u e)) ∙ same)
-          (sym e ∙ reads)
+      -- A REPORT of the venue
+      pub venue_report : AreClear fields → side ≡ Venue → is_refusal m ≡ false
+          → Shape side fields split r → IsReport50 m
+      venue_report clear of none (Unknown is) = absurd cc
+      venue_report clear of none (OfClient t of_client table e) = absurd cc
+      venue_report clear of none (OfVenue t of_venue table e) = by table.is (sym e ∙ reads)
         where
-          apart : {X : Type 0} → ◌≡◌ {A = ℕ} 56 57 → X
-          apart h = absurd (omega (arith, h))
-
           by : (t ≡ reports50.report_table) ⊎ (t ≡ reports50.cancel_reject_table)
-              → (u ≡ reports50.report_table) ⊎ (u ≡ reports50.cancel_reject_table)
-              → u.letter ≡ t.letter → completed_by (message_by (Some u) fields split) ≡ Ok m
-              → completed_by (message_by (Some t) fields split) ≡ Ok m
-          by (inl a) (inl b) h read =
-              subst (λ (x : Table Kind). completed_by (message_by (Some x) fields split) ≡ Ok m)
-              (b ∙ sym a) read
-          by (inr a) (inr b) h read =
-              subst (λ (x : Table Kind). completed_by (message_by (Some x) fields split) ≡ Ok m)
-              (b ∙ sym a) read
-          by (inl a) (inr b) h read =
-              apart (sym (ap (λ (x : Table Kind). x.letter) a) ∙ sym h
-              ∙ ap (λ (x : Table Kind). x.letter) b)
-          by (inr a) (inl b) h read =
-              apart (sym (ap (λ (x : Table Kind). x.letter) b) ∙ h
-              ∙ ap (λ (x : Table Kind). x.letter) a)
-      report_by_letter t of which same (Refuses u table e) =
-          absurd (not_report (ap (λ (x : Message). x.letter) (once_read u e)) table.letter which
-          same)
-        where
-          not_report : m.letter ≡ u.letter → is_one_of (codes "3j") u.letter ≡ true
-              → (t ≡ reports50.report_table) ⊎ (t ≡ reports50.cancel_reject_table)
-              → m.letter ≡ t.letter → ⊥
-          not_report is listed (inl a) same =
-              let at : u.letter ≡ 56 = sym is ∙ same ∙ ap (λ (x : Table Kind). x.letter) a in
-              let none : false ≡ true =
-              subst (λ (l : ℕ). is_one_of (codes "3j") l ≡ true) at listed in absurd cc
-          not_report is listed (inr a) same =
-              let at : u.letter ≡ 57 = sym is ∙ same ∙ ap (λ (x : Table Kind). x.letter) a in
-              let none : false ≡ true =
-              subst (λ (l : ℕ). is_one_of (codes "3j") l ≡ true) at listed in absurd cc
+              → completed_by (message_by (Some t) fields split) ≡ Ok m → IsReport50 m
+          by (inl is) read =
+              let P : Table Kind → Type 0 =
+              λ x. completed_by (message_by (Some x) fields split) ≡ Ok m in
+              Reports50 (report_complete m (report_read fields clear m
+              (whole reports50.report_table fields split m (subst P is read))).read)
+          by (inr is) read =
+              let P : Table Kind → Type 0 =
+              λ x. completed_by (message_by (Some x) fields split) ≡ Ok m in
+              Rejects50 (reject_complete m (reject_read fields clear m
+              (whole reports50.cancel_reject_table fields split m (subst P is read))).read)
+      venue_report clear of none (Refuses t table e) =
+          let refuses : (t.letter == 51 || t.letter == 106) ≡ true =
+          among (λ l. l == 51 || l == 106) (codes "3j") t.letter refl table.letter in
+          let wrong : true ≡ false =
+          sym (ap (λ (x : Message). is_refusal x) (once_read t e) ∙ refuses) ∙ none in
+          absurd cc

@@ -1,35 +1,47 @@
 -- What is answered to a report of the venue.
-use Rattle.std.proofs.Common.{◌≡◌, ℕ, Bool, true, false, ◌||◌, List, codes, Option, Some}
-use Rattle.std.proofs.Common.{None, Result, Ok, Err, refl, sym, ap, subst, ◌∙◌, inl, inr}
-use Rattle.std.proofs.Common.{option_map}
-use Rattle.std.specs.Prelude.{IfOk}
+use Rattle.std.proofs.Common.{◌≡◌, ℕ, Bool, true, false, ◌&&◌, ◌==◌, ◌||◌, List, [], ◌∷◌, codes}
+use Rattle.std.proofs.Common.{Option, Some, None, Result, Ok, Err, refl, sym, ap, subst, ◌∙◌}
+use Rattle.std.proofs.Common.{length, option_map, unwrap_or, if◌then◌else◌}
+use Rattle.std.specs.Prelude.{IfOk, is_none, is_some, not}
 use Rattle.std.specs.Str.{bytes_eq}
 use Rattle.std.proofs.lemmas.Slice.Eq.{bytes_eq-Decides}
 use Rattle.field_groups.specs.declared.fault.SplitFault.{SplitFault}
-use Rattle.field_groups.specs.Field.{Field, body_of}
-use Rattle.message_tables.specs.Tables.{Message, is_one_of}
+use Rattle.field_groups.specs.Field.{Field, AreFields, body_of}
+use Rattle.message_tables.specs.Tables.{Message, Said, Table, Tag, is_one_of, or_else, said_at}
+use Rattle.message_tables.specs.Tables.{◌>>=◌, code_of, text_in}
+use Rattle.message_tables.specs.FirstFault.{first_fault, message_in as message_by_table}
+use Rattle.value_kinds.specs.ValueKind.{Id}
+use Rattle.row_values.specs.Kinds.{Kind, Value, judge, resend_of, said}
 use Rattle.order_meaning.specs.declared.Side.{Side}
 use Rattle.order_meaning.specs.declared.Side.TheVariants.{Venue}
 use Rattle.order_meaning.specs.declared.fault.Fault.{Fault}
 use Rattle.order_meaning.specs.declared.fault.Fault.TheVariants as faults
 use Rattle.order_meaning.specs.declared.fault.Lack.{Lack}
 use Rattle.order_meaning.specs.declared.fault.Lack.TheVariants as lacks
-use Rattle.order_meaning.specs.Report.{filled, or_known}
-use Rattle.first_faults.specs.Gives.{Tells}
-use Rattle.reports_fix42.specs.declared.reports.Report42.{Report42}
-use Rattle.reports_fix42.specs.declared.reports.CancelReject42.{CancelReject42}
-use Rattle.reports_fix42.specs.Content.{report_content, cancel_reject_content}
-use Rattle.reports_fix42.specs.Readable as readable42
-use Rattle.reports_fix42.specs.Said as said42
-use Rattle.reports_fix42.specs.Sense.{report42}
-use Rattle.reports_fix50.specs.declared.reports.Report50.{Report50}
-use Rattle.reports_fix50.specs.declared.reports.CancelReject50.{CancelReject50}
+use Rattle.order_meaning.specs.Report.{Executed, NotCanceled, or_known}
+use Rattle.order_chains.specs.Chains.{orig_of}
+use Rattle.order_chains.specs.declared.item.ChainItem.{ChainItem}
+use Rattle.first_faults.specs.Faults.{message_by}
+use Rattle.first_faults.specs.Gives.{IsCleanIf, Tells}
+use Rattle.first_faults.proofs.Given.{given}
+use Rattle.refusal_parts.specs.Once.{refusal_by}
+use Rattle.rows_fix50.specs.Header.{completed, completed_by}
 use Rattle.reports_fix50.specs.Message.{message50, report_by, report_table, cancel_reject_table}
-use Rattle.reports_fix50.specs.Readable as readable50
-use Rattle.reports_fix50.specs.Said.{cancel_reject_says, report_says}
-use Rattle.reports_fix50.specs.Sense.{report50}
-use Rattle.exec_translate.specs.Down.{IsMapped, LacksCodes, LacksOriginal}
-use Rattle.exec_translate.specs.Written.{IsWritten, IsWrittenReject}
+use Rattle.reports_fix50.specs.Message.{business_reject_table, report_table_of, session_reject_table}
+use Rattle.reports_fix50.specs.Sense.{cancel_reject_of, exec_of, execution_of}
+use Rattle.rule_rows.specs.ByRules.{by_rules, lack_by}
+use Rattle.report_rules.specs.Down.{IsGoodBy, IsPut, IsReport50, LacksDown, PutsDown, Reports50}
+use Rattle.report_rules.specs.Down.{Rejects50, Type8, Type9}
+use Rattle.report_rules.specs.Rules.{written}
+use Rattle.report_rules.specs.Rules.{kinds, lack_if, lacks_type, rules_for}
+use Rattle.report_rules.proofs.GoDown.{goes_meaning, rules_of}
+use Rattle.report_rules.proofs.LacksDown.{lacking, means_nothing, no_type, reject_lack, report_lack}
+use Rattle.report_rules.proofs.PutDown.{good_eight, nine}
+use Rattle.report_rules.proofs.ReadDown.{read_is_report}
+use Rattle.report_rules.proofs.SenseDown.{not_lacking}
+use Rattle.translation.specs.Judged.{AreGood, AreGoodBy}
+use Rattle.translation.proofs.Judged.{clean_is, fault_by}
+use Rattle.event_decisions.proofs.Bodies.{bodies_are_read}
 use Rattle.message_answers.specs.declared.answer.Answer.{Answer as GivenAnswer}
 use Rattle.message_answers.specs.declared.asking.Asked.{Asked as GivenAsked}
 use Rattle.message_answers.specs.declared.asking.Known.{Known as GivenKnown}
@@ -40,250 +52,262 @@ use Rattle.message_answers.specs.Message.{is_refusal, is_refusal_type, said_by}
 use Rattle.message_answers.specs.Seen.{IsSplit, IsAnswer, Joins, IsForwarded, IsLacking, IsSpelled}
 use Rattle.message_answers.specs.Seen.{Lacks, Goes, asked_in, known_in, message_in, words_in}
 use Rattle.message_answers.proofs.Answered.{answers_message, gives_spelled}
-use Rattle.message_answers.proofs.ExecTypes.{listed, lacks_exec, lacks_nothing, lacks_original}
-use Rattle.message_answers.proofs.ExecTypes.{has_original}
 use Rattle.message_answers.proofs.Joins.{joins_report}
 
--- ---- an execution report
+-- ---- the message of a type that no refusal has
 
-report_goes : (any : AnyKnown) (a : GivenAsked) (m : Report50) (r : Report42)
-    (answer : GivenAnswer) → readable42.IsReadableReport r → IsMapped m r
-    → readable50.IsReadableReport m → IsWritten m r
-    → report42 (said42.report_says r) ≡ report50 (report_says m)
-    → IsForwarded a (codes "8") m.resend (body_of (report_content r)) None answer
-    → IsSpelled a Venue (original_of any (report_says m)) (report_says m)
-    (lack_of_report any (report_says m)) None answer
-report_goes any a m r answer readable mapped told rows means forwarded =
-    Goes (report_content r) (lacks_nothing any m r means) (inl (record {
-      venue = m;
-      said = refl;
-      client = r;
-      readable = readable;
-      codes = mapped;
-      told = told;
-      rows = rows;
-      means = means;
-      content = refl;
-    }))
-    forwarded
-
-report_lacks : (any : AnyKnown) (a : GivenAsked) (m : Report50) (lack : Lack)
-    (answer : GivenAnswer)
-    → report_by report_table a.split.now.fields a.split.now.fault ≡ Ok (report_says m)
-    → LacksCodes m lack → IsLacking a lack answer
-    → IsSpelled a Venue (original_of any (report_says m)) (report_says m)
-    (lack_of_report any (report_says m)) None answer
-report_lacks any a m lacks.NoMemory answer read lacking is = absurd is
-report_lacks any a m (lacks.Tag tag) answer read lacking is =
-    Lacks tag
-    (lacks_exec any m (listed a.split.now.fields a.split.now.fault m read) lacking.1
-    ∙ ap (λ (t : ℕ). Some t) (sym lacking.0)) is
-
--- where the last step answers at all
-pub report_sent : {E : Type 0} (any : AnyKnown) (a : GivenAsked) (m : Report50) (r : Report42)
-    (result : Result GivenAnswer E) → readable42.IsReadableReport r
-    → IsMapped m r → readable50.IsReadableReport m → IsWritten m r
-    → report42 (said42.report_says r) ≡ report50 (report_says m)
-    → IfOk result (IsForwarded a (codes "8") m.resend (body_of (report_content r)) None)
-    → IfOk result (IsSpelled a Venue (original_of any (report_says m)) (report_says m)
-    (lack_of_report any (report_says m)) None)
-report_sent any a m r (Ok answer) readable mapped told rows means forwarded =
-    report_goes any a m r answer readable mapped told rows means forwarded
-report_sent any a m r (Err error) readable mapped told rows means forwarded = tt
-
-pub report_refused : {E : Type 0} (any : AnyKnown) (a : GivenAsked) (m : Report50) (lack : Lack)
-    (result : Result GivenAnswer E)
-    → report_by report_table a.split.now.fields a.split.now.fault ≡ Ok (report_says m)
-    → LacksCodes m lack → IfOk result (IsLacking a lack)
-    → IfOk result (IsSpelled a Venue (original_of any (report_says m)) (report_says m)
-    (lack_of_report any (report_says m)) None)
-report_refused any a m lack (Ok answer) read lacking is =
-    report_lacks any a m lack answer read lacking is
-report_refused any a m lack (Err error) read lacking is = tt
-
--- ---- a cancel reject
-
-module _ (k : GivenKnown) (a : GivenAsked) (m : CancelReject50) (orig : Option (List ℕ))
-    (known : orig ≡ original_of (known_in k) (cancel_reject_says m)) where
-  reject_goes : (r : CancelReject42) (answer : GivenAnswer)
-      → readable42.IsReadableCancelReject r → r.ord_status ≡ m.ord_status
-      → readable50.IsReadableCancelReject m → IsWrittenReject m r.orig_id r
-      → report42 (said42.cancel_reject_says r)
-      ≡ option_map (filled orig) (report50 (cancel_reject_says m))
-      → or_known m.orig_id orig ≡ Some r.orig_id
-      → IsForwarded a (codes "9") m.resend (body_of (cancel_reject_content r)) None answer
-      → IsSpelled a Venue (original_of (known_in k) (cancel_reject_says m)) (cancel_reject_says m)
-      (lack_of_report (known_in k) (cancel_reject_says m)) None answer
-  reject_goes r answer readable status read rows means told forwarded =
-      Goes (cancel_reject_content r)
-      (has_original (known_in k) m r.orig_id
-      (ap (or_known m.orig_id) (sym known) ∙ told))
-      (inr (record {
-        venue = m;
-        said = refl;
-        client = r;
-        readable = readable;
-        status = status;
-        told = read;
-        rows = rows;
-        order = ap (or_known m.orig_id) (sym known) ∙ told;
-        means = means ∙ ap (λ (o : Option (List ℕ)).
-            option_map (filled o) (report50 (cancel_reject_says m))) known;
-        content = refl;
-      }))
-      forwarded
-
-  reject_lacks : (lack : Lack) (answer : GivenAnswer) → LacksOriginal m.orig_id orig lack
-      → IsLacking a lack answer
-      → IsSpelled a Venue (original_of (known_in k) (cancel_reject_says m)) (cancel_reject_says m)
-      (lack_of_report (known_in k) (cancel_reject_says m)) None answer
-  reject_lacks lacks.NoMemory answer lacking is = absurd is
-  reject_lacks (lacks.Tag tag) answer lacking is =
-      Lacks tag
-      (lacks_original (known_in k) m lacking.1 (sym known ∙ lacking.2)
-      ∙ ap (λ (t : ℕ). Some t) (sym lacking.0)) is
-
-  pub reject_sent : {E : Type 0} (r : CancelReject42)
-      (result : Result GivenAnswer E) → readable42.IsReadableCancelReject r
-      → r.ord_status ≡ m.ord_status
-      → readable50.IsReadableCancelReject m → IsWrittenReject m r.orig_id r
-      → report42 (said42.cancel_reject_says r)
-      ≡ option_map (filled orig) (report50 (cancel_reject_says m))
-      → or_known m.orig_id orig ≡ Some r.orig_id
-      → IfOk result (IsForwarded a (codes "9") m.resend (body_of (cancel_reject_content r)) None)
-      → IfOk result (IsSpelled a Venue (original_of (known_in k) (cancel_reject_says m))
-      (cancel_reject_says m) (lack_of_report (known_in k) (cancel_reject_says m)) None)
-  reject_sent r (Ok answer) readable status read rows means told forwarded =
-      reject_goes r answer readable status read rows means told forwarded
-  reject_sent r (Err error) readable status read rows means told forwarded = tt
-
-  pub reject_refused : {E : Type 0} (lack : Lack) (result : Result GivenAnswer E)
-      → LacksOriginal m.orig_id orig lack → IfOk result (IsLacking a lack)
-      → IfOk result (IsSpelled a Venue (original_of (known_in k) (cancel_reject_says m))
-      (cancel_reject_says m) (lack_of_report (known_in k) (cancel_reject_says m)) None)
-  reject_refused lack (Ok answer) lacking is = reject_lacks lack answer lacking is
-  reject_refused lack (Err error) lacking is = tt
-
--- ---- what is asked
-
-is_type : (msg_type known : List ℕ) → bytes_eq msg_type known ≡ true → msg_type ≡ known
-is_type msg_type known test = (bytes_eq-Decides msg_type known).0 test
-
-eight : (msg_type : List ℕ) (fields : List Field) (fault : Option SplitFault)
-    → bytes_eq msg_type (codes "8") ≡ true
-    → message50 msg_type fields fault ≡ report_by report_table fields fault
-unfolding message50
-eight msg_type fields fault test =
-    ap (λ (t : List ℕ). message50 t fields fault) (is_type msg_type (codes "8") test)
-
-nine : (msg_type : List ℕ) (fields : List Field) (fault : Option SplitFault)
-    → bytes_eq msg_type (codes "9") ≡ true
-    → message50 msg_type fields fault ≡ report_by cancel_reject_table fields fault
-unfolding message50
-nine msg_type fields fault test =
-    ap (λ (t : List ℕ). message50 t fields fault) (is_type msg_type (codes "9") test)
-
-neither_of : (a b : Bool) → (a || b) ≡ false → (a ≡ false) × (b ≡ false)
-neither_of false false none = (refl, refl)
-neither_of true b none = absurd cc
-neither_of false true none = absurd cc
-
-neither : (msg_type : List ℕ) (fields : List Field) (fault : Option SplitFault)
-    → bytes_eq msg_type (codes "8") ≡ false → bytes_eq msg_type (codes "9") ≡ false
+message_is : (msg_type : List ℕ) (fields : List Field) (fault : Option SplitFault)
     → is_refusal_type msg_type ≡ false
-    → message50 msg_type fields fault ≡ Err faults.NotSupported
+    → message50 msg_type fields fault
+    ≡ completed_by (message_by (report_table_of msg_type) fields fault)
 unfolding message50
-neither msg_type fields fault eight nine plain =
-    let p : (bytes_eq msg_type (codes "3") ≡ false) × (bytes_eq msg_type (codes "j") ≡ false) =
-    neither_of (bytes_eq msg_type (codes "3")) (bytes_eq msg_type (codes "j")) plain in
-    rw (eight, nine, p.0, p.1) refl
+message_is msg_type fields fault plain =
+    by (bytes_eq msg_type (codes "8")) (bytes_eq msg_type (codes "9"))
+    (bytes_eq msg_type (codes "3")) (bytes_eq msg_type (codes "j")) plain
+  where
+    by : (a b c d : Bool) → (c || d) ≡ false
+        → (if a then report_by report_table fields fault else
+        (if b then report_by cancel_reject_table fields fault else
+        (if c then refusal_by session_reject_table fields fault else
+        (if d then refusal_by business_reject_table fields fault else Err faults.NotSupported))))
+        ≡ completed_by (message_by (if a then Some report_table else
+        (if b then Some cancel_reject_table else None)) fields fault)
+    by true b c d h = refl
+    by false true c d h = refl
+    by false false true d h = absurd cc
+    by false false false true h = absurd cc
+    by false false false false h = refl
 
-module _ (k : GivenKnown) (a : GivenAsked) (split : IsSplit a) (of_venue : a.side ≡ Venue) where
-  asked_is : message_in a
-      ≡ message50 a.msg_type.now a.split.now.fields a.split.now.fault
+tells_of : (fault : Fault) (x : Result Message Fault) → x ≡ Err fault → Tells fault x
+tells_of faults.NoMemory x e = tt
+tells_of fault x e = e
+
+-- ---- the lack of a report
+
+lack_is : (known : AnyKnown) (m : Message) → IsReport50 m
+    → lack_of_report known m ≡ lack_by kinds (rules_for (original_of known m) m) m
+lack_is known m (Reports50 c) =
+    (λ i. if means_nothing m c i then Some 150 else (if (c.sound.letter i == 57)
+    && (is_none (said_at m.cells (Tag 41)) && is_none (original_of known m)) then Some 41 else None))
+    ∙ by (lacks_type (said_at m.cells (Tag 150) >>= code_of)) ∙ sym (report_lack m)
+    ∙ sym (ap (λ rs. lack_by kinds rs m) (rules_of (original_of known m) m 56 c.sound.letter))
+  where
+    by : (b : Bool) → (if b then Some 150 else None) ≡ or_else (lack_if b 150) None
+    by true = refl
+    by false = refl
+lack_is known m (Rejects50 c) =
+    ap (λ (l : ℕ). if is_none (if l == 56
+    then option_map (λ exec. Executed (execution_of m exec))
+    (exec_of (unwrap_or (said_at m.cells (Tag 150) >>= code_of) 0))
+    else (if l == 57 then Some (NotCanceled (cancel_reject_of m)) else None)) then Some 150 else
+    (if (l == 57) && (is_none (said_at m.cells (Tag 41)) && is_none (original_of known m))
+    then Some 41 else None)) c.sound.letter
+    ∙ by (said_at m.cells (Tag 41)) (original_of known m)
+    ∙ ap (λ (b : Bool). or_else (lack_if (not (is_some
+    (or_known (said_at m.cells (Tag 41)) (original_of known m)))) 41)
+    (or_else (lack_if b 150) None)) (sym (no_type m c))
+    ∙ sym (reject_lack (original_of known m) m)
+    ∙ sym (ap (λ rs. lack_by kinds rs m) (rules_of (original_of known m) m 57 c.sound.letter))
+  where
+    by : (text other : Said) → (if is_none text && is_none other then Some 41 else None)
+        ≡ or_else (lack_if (not (is_some (or_known text other))) 41) (or_else (lack_if false 150) None)
+    by None None = refl
+    by None (Some id) = refl
+    by (Some text) other = refl
+
+-- the original id that is known of an order
+pub original_said : (chains : List ChainItem) (id said : List ℕ) (known : Said) → id ≡ said
+    → known ≡ orig_of chains id → known ≡ orig_of chains said
+original_said chains id said known same is = is ∙ ap (orig_of chains) same
+
+-- ---- a report that was asked about
+
+module _ (k : GivenKnown) (a : GivenAsked) (split : IsSplit a) (of_venue : a.side ≡ Venue)
+    (plain : is_refusal_type a.msg_type.now ≡ false) where
+  asked_is : message_in a ≡ message50 a.msg_type.now a.split.now.fields a.split.now.fault
   asked_is = ap (λ (side : Side).
       said_by side a.msg_type.now a.split.now.fields a.split.now.fault) of_venue
 
-  pub tells_eight : (fault : Fault) → bytes_eq a.msg_type.now (codes "8") ≡ true
-      → Tells fault (report_by report_table a.split.now.fields a.split.now.fault)
-      → Tells fault (message_in a)
-  tells_eight fault test told =
-      subst (λ (x : Result Message Fault). Tells fault x)
-      (sym (asked_is ∙ eight a.msg_type.now a.split.now.fields a.split.now.fault test)) told
+  -- its fault
+  pub tells : (fault : Fault) → IsCleanIf (report_table_of a.msg_type.now) a.split.now.fields
+      a.split.now.fault (Err fault) → Tells fault (message_in a)
+  tells fault h = tells_of fault (message_in a)
+      (asked_is ∙ message_is a.msg_type.now a.split.now.fields a.split.now.fault plain
+      ∙ ap completed_by (fault_by a.split.now.fields a.split.now.fault
+      (report_table_of a.msg_type.now) fault h))
 
-  pub tells_nine : (fault : Fault) → bytes_eq a.msg_type.now (codes "9") ≡ true
-      → Tells fault (report_by cancel_reject_table a.split.now.fields a.split.now.fault)
-      → Tells fault (message_in a)
-  tells_nine fault test told =
-      subst (λ (x : Result Message Fault). Tells fault x)
-      (sym (asked_is ∙ nine a.msg_type.now a.split.now.fields a.split.now.fault test)) told
-
-  pub tells_neither : bytes_eq a.msg_type.now (codes "8") ≡ false
-      → bytes_eq a.msg_type.now (codes "9") ≡ false → is_refusal_type a.msg_type.now ≡ false
-      → Tells faults.NotSupported (message_in a)
-  tells_neither eight nine plain =
-      asked_is ∙ neither a.msg_type.now a.split.now.fields a.split.now.fault eight nine plain
-
-  answers : (m : Message) (answer : GivenAnswer) → message_in a ≡ Ok m
-      → is_refusal m ≡ false
-      → IsSpelled a Venue (original_of (known_in k) m) m (lack_of_report (known_in k) m) None
-      answer → IsAnswer k a answer
-  answers m answer is other spelled =
-      answers_message k a split m answer is other
-      (subst (λ (side : Side).
-      Gives (asked_in a) (in_order side (known_in k) k.active (asked_in a) m)
-      (words_in answer)) (sym of_venue)
-      (gives_spelled a split.msg_type Venue (original_of (known_in k) m) m
-      (lack_of_report (known_in k) m) None answer of_venue spelled))
-
-  -- a report that was read
-  module _ {E : Type 0} (m : Message) (result : Result GivenAnswer E)
-      (spelled : IfOk result (IsSpelled a Venue (original_of (known_in k) m) m
-      (lack_of_report (known_in k) m) None)) where
-    answers_report : message_in a ≡ Ok m → is_refusal m ≡ false → IfOk result (IsAnswer k a)
-    answers_report is other = by result spelled
+  module _ (fields : List Field) (good : AreGood (report_table_of a.msg_type.now)
+      a.split.now.fields a.split.now.fault fields) where
+    pub is_good : IsGoodBy (report_table_of a.msg_type.now) fields
+    is_good =
+        let P : List Field → Type 0 = λ fs. IsGoodBy (report_table_of a.msg_type.now) fs in
+        subst P (sym good.same) (by (report_table_of a.msg_type.now) good.none)
       where
-        by : (r : Result GivenAnswer E) → IfOk r (IsSpelled a Venue (original_of (known_in k) m) m
-            (lack_of_report (known_in k) m) None) → IfOk r (IsAnswer k a)
-        by (Ok answer) h = answers m answer is other h
-        by (Err error) h = tt
+        by : (table : Option (Table Kind)) → AreGoodBy table a.split.now.fields
+            → IsGoodBy table a.split.now.fields
+        by None h = h
+        by (Some table) h = h
 
-    joins_spelled : is_one_of joining m.letter ≡ false → IfOk result (Joins k a)
-    joins_spelled fails = by result spelled
+    are : AreFields None fields
+    are =
+        let P : List Field → Type 0 = λ fs. AreFields None fs in
+        subst P (sym (good.same ∙ split.fields)) (bodies_are_read a.body.now).good
+
+    -- THE REPORT that these fields are
+    pub record IsReportOf (m : Message) : Type 0 where
+      told : message50 a.msg_type.now fields None ≡ Ok m
+      report : IsReport50 m
+      typed : a.msg_type.now ≡ m.letter ∷ []
+      resend : resend_of fields ≡ m.resend
+      id : unwrap_or (said fields 11 (Value Id)) [] ≡ text_in m.cells 11
+      other : is_refusal m ≡ false
+      joins : is_one_of joining m.letter ≡ false
+
+    by_table : (table : Table Kind) → first_fault judge table fields ≡ None
+        → report_by table fields None ≡ Ok (completed (message_by_table judge table fields))
+    by_table table none = ap completed_by (given table fields None refl none)
+
+    report_8 : bytes_eq a.msg_type.now (codes "8") ≡ true
+        → IsReportOf (completed (message_by_table judge report_table fields))
+    unfolding message50
+    report_8 test =
+        let is : a.msg_type.now ≡ codes "8" = (bytes_eq-Decides a.msg_type.now (codes "8")).0 test in
+        let told = ap (λ (t : List ℕ). message50 t fields None) is
+        ∙ by_table report_table (good_eight a.msg_type.now fields is_good test) in
+        record {
+          told = told;
+          report = read_is_report a.msg_type.now fields
+              (completed (message_by_table judge report_table fields)) are told (Type8 is);
+          typed = is;
+          resend = refl;
+          id = refl;
+          other = refl;
+          joins = refl;
+        }
+
+    report_9 : bytes_eq a.msg_type.now (codes "8") ≡ false
+        → IsReportOf (completed (message_by_table judge cancel_reject_table fields))
+    unfolding message50
+    report_9 test =
+        let of = nine a.msg_type.now fields is_good test in
+        let told = ap (λ (t : List ℕ). message50 t fields None) (sym of.is)
+        ∙ by_table cancel_reject_table of.none in
+        record {
+          told = told;
+          report = read_is_report a.msg_type.now fields
+              (completed (message_by_table judge cancel_reject_table fields)) are told
+              (Type9 (sym of.is));
+          typed = sym of.is;
+          resend = refl;
+          id = refl;
+          other = refl;
+          joins = refl;
+        }
+
+    pub read : (m : Message) × IsReportOf m
+    read = by (bytes_eq a.msg_type.now (codes "8")) refl
       where
-        by : (r : Result GivenAnswer E) → IfOk r (IsSpelled a Venue (original_of (known_in k) m) m
-            (lack_of_report (known_in k) m) None) → IfOk r (Joins k a)
-        by (Ok answer) h = joins_report k a (original_of (known_in k) m) m
-            (lack_of_report (known_in k) m) answer fails h
-        by (Err error) h = tt
+        by : (b : Bool) → bytes_eq a.msg_type.now (codes "8") ≡ b → (m : Message) × IsReportOf m
+        by true e = (completed (message_by_table judge report_table fields), report_8 e)
+        by false e = (completed (message_by_table judge cancel_reject_table fields), report_9 e)
 
-  pub answers_eight : {E : Type 0} (m : Report50) (result : Result GivenAnswer E)
-      → bytes_eq a.msg_type.now (codes "8") ≡ true
-      → report_by report_table a.split.now.fields a.split.now.fault ≡ Ok (report_says m)
-      → ((any : AnyKnown) → IfOk result (IsSpelled a Venue (original_of any (report_says m))
-      (report_says m) (lack_of_report any (report_says m)) None)) → IfOk result (IsAnswer k a)
-  answers_eight m result test read spelled =
-      answers_report (report_says m) result (spelled (known_in k))
-      (asked_is ∙ eight a.msg_type.now a.split.now.fields a.split.now.fault test ∙ read) refl
+    pub one_byte : length a.msg_type.now ≡ 1
+    one_byte = ap length read.1.typed
 
-  pub joins_eight : {E : Type 0} (m : Report50) (result : Result GivenAnswer E)
-      → ((any : AnyKnown) → IfOk result (IsSpelled a Venue (original_of any (report_says m))
-      (report_says m) (lack_of_report any (report_says m)) None)) → IfOk result (Joins k a)
-  joins_eight m result spelled = joins_spelled (report_says m) result (spelled (known_in k)) refl
+    module _ (known : Said)
+        (is : known ≡ orig_of k.chains.now (unwrap_or (said fields 11 (Value Id)) [])) where
+      abbrev m : Message
+      m = read.0
 
-  pub answers_nine : {E : Type 0} (m : CancelReject50) (result : Result GivenAnswer E)
-      → bytes_eq a.msg_type.now (codes "9") ≡ true
-      → report_by cancel_reject_table a.split.now.fields a.split.now.fault
-      ≡ Ok (cancel_reject_says m)
-      → IfOk result (IsSpelled a Venue (original_of (known_in k) (cancel_reject_says m))
-      (cancel_reject_says m) (lack_of_report (known_in k) (cancel_reject_says m)) None)
-      → IfOk result (IsAnswer k a)
-  answers_nine m result test read spelled =
-      answers_report (cancel_reject_says m) result spelled
-      (asked_is ∙ nine a.msg_type.now a.split.now.fields a.split.now.fault test ∙ read) refl
+      abbrev original : Said
+      original = original_of (known_in k) m
 
-  pub joins_nine : {E : Type 0} (m : CancelReject50) (result : Result GivenAnswer E)
-      → IfOk result (IsSpelled a Venue (original_of (known_in k) (cancel_reject_says m))
-      (cancel_reject_says m) (lack_of_report (known_in k) (cancel_reject_says m)) None)
-      → IfOk result (Joins k a)
-  joins_nine m result spelled = joins_spelled (cancel_reject_says m) result spelled refl
+      abbrev Spelled : GivenAnswer → Type 0
+      Spelled answer = IsSpelled a Venue original m (lack_of_report (known_in k) m) None answer
+
+      original_is : known ≡ original
+      original_is = is ∙ ap (orig_of k.chains.now) read.1.id
+
+      -- it goes on
+      goes : (content : List ℕ) (answer : GivenAnswer) → IsPut original m [] content
+          → IsForwarded a a.msg_type.now (resend_of fields) content None answer → Spelled answer
+      goes content answer put forwarded =
+          let w = put.w in
+          let none = not_lacking (lack_by kinds (rules_for original m) m)
+          (by_rules kinds (rules_for original m) m) w put.down in
+          let P : List ℕ → Type 0 =
+          λ t. IsForwarded a t m.resend (body_of (written w)) None answer in
+          let Q : Bool → Type 0 =
+          λ r. IsForwarded a a.msg_type.now r (body_of (written w)) None answer in
+          let R : List ℕ → Type 0 =
+          λ c. IsForwarded a a.msg_type.now (resend_of fields) c None answer in
+          Goes (written w) (lack_is (known_in k) m read.1.report ∙ none.0) (record {
+            client = w;
+            down = put.down;
+            content = refl;
+            means = goes_meaning original m w read.1.report put.down;
+          }) (subst P read.1.typed (subst Q read.1.resend (subst R put.bytes forwarded)))
+
+      -- or lacks a counterpart
+      lacks_it : (lack : Lack) (answer : GivenAnswer)
+          → LacksDown a.msg_type.now original fields lack → IsLacking a lack answer → Spelled answer
+      lacks_it lacks.NoMemory answer h refused = absurd refused
+      lacks_it (lacks.Tag tag) answer h refused =
+          Lacks tag (lack_is (known_in k) m read.1.report
+          ∙ lacking (lack_by kinds (rules_for original m) m)
+          (by_rules kinds (rules_for original m) m) tag (h m read.1.told)) refused
+
+      module _ {E : Type 0} (result : Result GivenAnswer E) where
+        pub sent : (before after : List ℕ) → before ≡ []
+            → PutsDown a.msg_type.now known fields before after
+            → IfOk result (IsForwarded a a.msg_type.now (resend_of fields) after None)
+            → IfOk result Spelled
+        sent before after none puts h = by result h
+          where
+            put : IsPut original m [] after
+            put =
+                let P : Said → Type 0 = λ id. IsPut id m before after in
+                let Q : List ℕ → Type 0 = λ old. IsPut original m old after in
+                subst Q none (subst P original_is (puts m read.1.told))
+
+            by : (r : Result GivenAnswer E)
+                → IfOk r (IsForwarded a a.msg_type.now (resend_of fields) after None)
+                → IfOk r Spelled
+            by (Ok answer) h = goes after answer put h
+            by (Err error) h = tt
+
+        pub refused : (lack : Lack) → LacksDown a.msg_type.now known fields lack
+            → IfOk result (IsLacking a lack) → IfOk result Spelled
+        refused lack h is = by result is
+          where
+            by : (r : Result GivenAnswer E) → IfOk r (IsLacking a lack) → IfOk r Spelled
+            by (Ok answer) refused =
+                let P : Said → Type 0 = λ id. LacksDown a.msg_type.now id fields lack in
+                lacks_it lack answer (subst P original_is h) refused
+            by (Err error) refused = tt
+
+        message_read : message_in a ≡ Ok m
+        message_read = asked_is
+            ∙ (λ i. message50 a.msg_type.now (sym good.same i) (good.whole i)) ∙ read.1.told
+
+        -- THE ANSWER to a report at no fault
+        pub answers : IfOk result Spelled → IfOk result (IsAnswer k a)
+        answers h = by result h
+          where
+            by : (r : Result GivenAnswer E) → IfOk r Spelled → IfOk r (IsAnswer k a)
+            by (Ok answer) spelled =
+                answers_message k a split m answer message_read read.1.other
+                (subst (λ (side : Side).
+                Gives (asked_in a) (in_order side (known_in k) k.active (asked_in a) m)
+                (words_in answer)) (sym of_venue)
+                (gives_spelled a split.msg_type Venue original m (lack_of_report (known_in k) m) None
+                answer of_venue spelled))
+            by (Err error) spelled = tt
+
+        pub joins : IfOk result Spelled → IfOk result (Joins k a)
+        joins h = by result h
+          where
+            by : (r : Result GivenAnswer E) → IfOk r Spelled → IfOk r (Joins k a)
+            by (Ok answer) spelled =
+                joins_report k a original m (lack_of_report (known_in k) m) answer read.1.joins spelled
+            by (Err error) spelled = tt

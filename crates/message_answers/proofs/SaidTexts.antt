@@ -20,7 +20,7 @@ use Rattle.row_values.specs.Amounts.{number_if}
 use Rattle.row_values.specs.Kinds.{Value, judge, verdict_of}
 use Rattle.sound_laws.proofs.Good.{held}
 use Rattle.sound_laws.proofs.ReadSound.{IsClearField}
-use Rattle.exec_translate.proofs.DownValues.{IsId}
+use Rattle.report_rules.specs.Down.{IsId}
 use Rattle.reject_rules.specs.Laws.{HasNoSoh, HasTexts, IsBounded, IsWord, most_id}
 use Rattle.event_decisions.specs.Body.{first_value, reading_of, type_of}
 use Rattle.event_decisions.proofs.Bodies.{bodies_are_read}

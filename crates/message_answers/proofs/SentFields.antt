@@ -1,45 +1,29 @@
 -- The content of what goes on: fields that are no raw data, not too many, and none of them of the
 -- header.
-use Rattle.std.proofs.Common.{◌≡◌, ◌≤◌, ℕ, ◌==◌, ◌||◌, not, Bool, true, false, List, [], ◌∷◌, map}
-use Rattle.std.proofs.Common.{length, Option, Some, None, Ok, IfSome, refl, sym, ap, subst}
-use Rattle.std.proofs.Common.{◌∙◌, arith, lit≤}
+use Rattle.std.proofs.Common.{◌≡◌, ◌≤◌, ℕ, ◌==◌, ◌||◌, not, Bool, true, false, List, [], ◌∷◌}
+use Rattle.std.proofs.Common.{length, Option, Some, None, IfSome, refl, sym, ap, subst, arith, lit≤}
 use Rattle.std.specs.List.{flat_map, list_all, list_any}
-use Rattle.field_groups.specs.declared.fault.SplitFault.{SplitFault}
 use Rattle.field_groups.specs.Data.{is_data_tag}
 use Rattle.field_groups.specs.Field.{Field, AreFields}
 use Rattle.field_groups.proofs.Plain.{plain_are}
-use Rattle.message_tables.specs.Tables.{Message, Table, Tag, is_one_of, said_at}
+use Rattle.message_tables.specs.Tables.{Message, Table, is_one_of}
 use Rattle.message_tables.specs.Content.{content}
-use Rattle.order_meaning.specs.Report.{or_known}
-use Rattle.value_kinds.specs.ValueKind.{Id}
-use Rattle.first_faults.specs.Faults.{message_by}
-use Rattle.row_values.specs.Kinds.{Kind, Value, judge}
-use Rattle.rows_fix50.specs.Header.{completed, completed_by, table}
+use Rattle.row_values.specs.Kinds.{Kind, judge}
+use Rattle.rows_fix50.specs.Header.{table}
 use Rattle.dict_fix50.specs.Requests.{new_order, cancel_request, replace_request, status_request}
-use Rattle.reports_fix42.specs.declared.reports.CancelReject42.{CancelReject42}
-use Rattle.reports_fix42.specs.Message as reports42
-use Rattle.reports_fix42.specs.Said as said42
-use Rattle.reports_fix50.specs.declared.reports.CancelReject50.{CancelReject50}
-use Rattle.reports_fix50.specs.Message as reports50
-use Rattle.reports_fix50.specs.Readable as reports50_readable
-use Rattle.reports_fix50.specs.Reports.{cancel_reject}
-use Rattle.reports_fix50.specs.Said as said50
+use Rattle.reports_fix42.specs.Message.{cancel_reject_table, execution_report_table}
 use Rattle.sound_laws.specs.Sound.{IsSound}
-use Rattle.sound_laws.proofs.Completed.{other_said}
-use Rattle.sound_laws.proofs.Each.{both, not_true}
 use Rattle.sound_laws.proofs.Found.{items_of}
 use Rattle.sound_laws.proofs.PlainFields.{all_of, few_of, has_good_tags, most_of, times}
-use Rattle.sound_laws.proofs.RowsSaid.{optional_said}
 use Rattle.sound_laws.proofs.Stages.{AreOf, item_tags}
-use Rattle.request_translate.specs.Translation.{IsRequest, News, Cancels, Replaces, Statuses}
-use Rattle.exec_translate.specs.Written.{IsWrittenReject}
-use Rattle.exec_translate.proofs.DownRows.{GoDown, SaysAlike, items_down}
-use Rattle.exec_translate.proofs.SoundDown.{IsRead, reject_sound, report_sound}
-use Rattle.exec_translate.proofs.ReadReports.{reject_read, report_read}
+use Rattle.request_rules.specs.Canonical.{IsRequest, News, Cancels, Replaces, Statuses}
+use Rattle.report_rules.specs.Down.{IsId, IsReport42, IsReport50, Rejects42, Reports42, StandsFor}
+use Rattle.report_rules.specs.Rules.{table_at, written}
+use Rattle.report_rules.proofs.GoDown.{goes_down}
 use Rattle.message_answers.specs.Laws.{header_tags, is_in_header}
-use Rattle.message_answers.specs.Translated.{IsNotCanceled, IsReported}
+use Rattle.message_answers.specs.Translated.{GoesDown}
 use Rattle.message_answers.proofs.Letters.{among}
-use Rattle.message_answers.proofs.SaidTexts.{AreClear, IsShortId}
+use Rattle.message_answers.proofs.SaidTexts.{IsShortId}
 
 -- the fields of a content that can be sent
 pub record AreGiven (fields : List Field) : Type 0 where
@@ -90,128 +74,26 @@ request_given m fields (Statuses c is) =
 
 -- ---- reports
 
-whole : (t : Table Kind) (fields : List Field) (split : Option SplitFault) (m : Message)
-    → completed_by (message_by (Some t) fields split) ≡ Ok m
-    → completed_by (message_by (Some t) fields None) ≡ Ok m
-whole t fields None m is = is
-whole t fields (Some fault) m is = absurd cc
+-- A REPORT that goes on stands for what it was, and can be sent, where this is known of its order.
+module _ (m : Message) (report : IsReport50 m) (known : Option (List ℕ))
+    (short : IfSome known IsShortId) (text : List Field) (goes : GoesDown known m text) where
+  pub stands : StandsFor known m goes.client
+  stands = goes_down known (by known short) m goes.client report goes.down
+    where
+      by : (id : Option (List ℕ)) → IfSome id IsShortId → IfSome id IsId
+      by None h = tt
+      by (Some id) h = h.is
 
-module _ (fields : List Field) (split : Option SplitFault) (clear : AreClear fields) (m : Message)
-  where
-    -- AN EXECUTION REPORT that goes on is sound
-    pub report_good : (written : List Field) → (is : IsReported m written)
-        → completed_by (message_by (Some reports50.report_table) fields split) ≡ Ok m
-        → IsSound judge reports42.execution_report_table (said42.report_says is.client)
-    report_good written is reads =
-        let read = report_read fields clear (said50.report_says is.venue)
-        (whole reports50.report_table fields split m reads ∙ ap (λ (x : Message). Ok x) is.said) in
-        report_sound is.venue is.client read.read is.told is.rows is.codes
-
-    -- and its content can be sent
-    pub report_given : (written : List Field) → (is : IsReported m written)
-        → completed_by (message_by (Some reports50.report_table) fields split) ≡ Ok m
-        → AreGiven written
-    unfolding is_data_tag times
-    report_given written is reads =
-        subst AreGiven (sym is.content)
-        (sound_given reports42.execution_report_table (said42.report_says is.client) refl (lit≤ tt)
-        refl (report_good written is reads))
-
-    -- ---- a cancel reject
-
-    -- the same with the original order that is known
-    abbrev with_original : CancelReject50 → List ℕ → CancelReject50
-    with_original v original = record v { orig_id = Some original }
-
-    same_tags : (x : Message) (tags : List ℕ) → list_all (λ t. not (t == 200)) tags ≡ true
-        → map (λ tag. said_at (completed x).cells (Tag tag)) tags
-        ≡ map (λ tag. said_at x.cells (Tag tag)) tags
-    same_tags x [] h = refl
-    same_tags x (t ∷ tags) h =
-        let p = both (not (t == 200)) (list_all (λ y. not (y == 200)) tags) h in
-        let here = other_said (said_at x.cells (Tag 541)) x.cells (Tag t)
-        (not_true (t == 200) p.0) in
-        let rest = same_tags x tags p.1 in
-        λ i. here i ∷ rest i
-
-    abbrev alike : List ℕ
-    alike = 37 ∷ 198 ∷ 11 ∷ 39 ∷ 1 ∷ 60 ∷ 434 ∷ 102 ∷ 58 ∷ []
-
-    filled_read : (v : CancelReject50) (original : List ℕ) → IsShortId original
-        → IsRead reports50.cancel_reject_table (said50.cancel_reject_says v)
-        → IsRead reports50.cancel_reject_table
-        (said50.cancel_reject_says (with_original v original))
-    unfolding judge
-    filled_read v original id read =
-        let now = said50.cancel_reject_says (with_original v original) in
-        let before = content reports50.cancel_reject_table read.before in
-        let after = content reports50.cancel_reject_table now in
-        let tables : GoDown alike (41 ∷ []) (41 ∷ []) cancel_reject cancel_reject =
-        record { plain = refl; same = refl } in
-        let says : SaysAlike alike read.before now =
-        sym (ap (λ (x : Message). map (λ tag. said_at x.cells (Tag tag)) alike) read.is)
-        ∙ same_tags read.before alike refl in
-        record {
-          before = now;
-          sound = record {
-            letter = refl;
-            places = refl;
-            counts = refl;
-            items = items_down before after alike read.before now says (41 ∷ []) (41 ∷ [])
-                cancel_reject cancel_reject tables read.sound.items
-                (optional_said after 41 (Value Id) (Some original) id.is.0 id.is.1, tt);
-          };
-          is = refl;
-        }
-
-    -- it says the order, or the order is known
-    sound_reject : (v : CancelReject50) (r : CancelReject42) (known : Option (List ℕ))
-        → IfSome known IsShortId
-        → IsRead reports50.cancel_reject_table (said50.cancel_reject_says v)
-        → reports50_readable.IsReadableCancelReject v → IsWrittenReject v r.orig_id r
-        → (orig : Option (List ℕ)) → v.orig_id ≡ orig → or_known orig known ≡ Some r.orig_id
-        → IsSound judge reports42.cancel_reject_table (said42.cancel_reject_says r)
-    sound_reject v r known good read told rows (Some said) is original =
-        reject_sound v r.orig_id r read told rows (is ∙ original)
-    sound_reject v r (Some id) good read told rows None is original =
-        let same : id ≡ r.orig_id = cc in
-        let mine = subst IsShortId same good in
-        reject_sound (with_original v r.orig_id) r.orig_id r (filled_read v r.orig_id mine read)
-        (record { transact_time = told.transact_time; cxl_reason = told.cxl_reason })
-        (record {
-          resend = rows.resend;
-          order_id = rows.order_id;
-          secondary_id = rows.secondary_id;
-          cl_ord_id = rows.cl_ord_id;
-          orig_id = rows.orig_id;
-          ord_status = rows.ord_status;
-          account = rows.account;
-          transact_time = rows.transact_time;
-          response_to = rows.response_to;
-          cxl_reason = rows.cxl_reason;
-          text = rows.text;
-        }) refl
-    sound_reject v r None good read told rows None is original = absurd cc
-
-    -- A CANCEL REJECT that goes on is sound, where this is known of the order
-    pub reject_good : (known : Option (List ℕ)) (written : List Field) → IfSome known IsShortId
-        → (is : IsNotCanceled known m written)
-        → completed_by (message_by (Some reports50.cancel_reject_table) fields split) ≡ Ok m
-        → IsSound judge reports42.cancel_reject_table (said42.cancel_reject_says is.client)
-    reject_good known written good is reads =
-        let read = reject_read fields clear (said50.cancel_reject_says is.venue)
-        (whole reports50.cancel_reject_table fields split m reads
-        ∙ ap (λ (x : Message). Ok x) is.said) in
-        sound_reject is.venue is.client known good read.read is.told is.rows is.venue.orig_id refl
-        is.order
-
-    -- and its content can be sent
-    pub reject_given : (known : Option (List ℕ)) (written : List Field) → IfSome known IsShortId
-        → (is : IsNotCanceled known m written)
-        → completed_by (message_by (Some reports50.cancel_reject_table) fields split) ≡ Ok m
-        → AreGiven written
-    unfolding is_data_tag times
-    reject_given known written good is reads =
-        subst AreGiven (sym is.content)
-        (sound_given reports42.cancel_reject_table (said42.cancel_reject_says is.client) refl
-        (lit≤ tt) refl (reject_good known written good is reads))
+  pub report_given : AreGiven text
+  unfolding is_data_tag times
+  report_given = subst AreGiven (sym goes.content) (by stands.sound)
+    where
+      by : IsReport42 goes.client → AreGiven (written goes.client)
+      by (Reports42 sound) =
+          let P : Table Kind → Type 0 = λ t. AreGiven (content t goes.client) in
+          subst P (sym (ap table_at sound.letter))
+          (sound_given execution_report_table goes.client refl (lit≤ tt) refl sound)
+      by (Rejects42 sound) =
+          let P : Table Kind → Type 0 = λ t. AreGiven (content t goes.client) in
+          subst P (sym (ap table_at sound.letter))
+          (sound_given cancel_reject_table goes.client refl (lit≤ tt) refl sound)

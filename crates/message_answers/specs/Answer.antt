@@ -21,7 +21,7 @@ use Rattle.reject_rules.specs.Refusals.{refusal_of, used_refusal, away_refusal}
 use Rattle.reject_rules.specs.Renumbered.{renumbered}
 use Rattle.dict_fix42.specs.Sense.{request42}
 use Rattle.reports_fix50.specs.Sense.{report50}
-use Rattle.request_translate.specs.Lack.{lack_if}
+use Rattle.request_rules.specs.Lack.{lack_if}
 use Rattle.event_decisions.specs.Body.{type_of}
 use Rattle.event_decisions.specs.Decide.{Asked, Words}
 use Rattle.message_answers.specs.Chains.{joining}

@@ -14,11 +14,8 @@ use Rattle.pair_entries.specs.declared.TheConstants.{MAX_CONTENT, MAX_NUMBER, MA
 use Rattle.pair_entries.specs.declared.entry.Entry.{Entry}
 use Rattle.dict_fix42.specs.Sense.{request42}
 use Rattle.dict_fix50.specs.Sense.{request50}
-use Rattle.request_translate.specs.Translation.{IsRequest}
-use Rattle.reports_fix42.specs.declared.reports.Report42.{Report42}
-use Rattle.reports_fix42.specs.declared.reports.CancelReject42.{CancelReject42}
-use Rattle.reports_fix42.specs.Content.{report_content, cancel_reject_content}
-use Rattle.reports_fix42.specs.Said.{cancel_reject_says, report_says}
+use Rattle.request_rules.specs.Canonical.{IsRequest}
+use Rattle.report_rules.specs.Rules.{written}
 use Rattle.reports_fix42.specs.Step.{step42}
 use Rattle.reports_fix50.specs.Step.{step50}
 use Rattle.event_decisions.specs.Decide.{Asked, Words}
@@ -26,17 +23,10 @@ use Rattle.message_answers.specs.Answer.{Answers, AnswersBy}
 use Rattle.message_answers.specs.Known.{Known}
 use Rattle.message_answers.specs.Translated.{GoesOn}
 
--- the content of a report of FIX 4.2
-pub data IsReportContent (m : Message) (fields : List Field) : Type 0 where
-  Executes : (r : Report42) → m ≡ report_says r → fields ≡ report_content r
-      → IsReportContent m fields
-  Rejects : (r : CancelReject42) → m ≡ cancel_reject_says r → fields ≡ cancel_reject_content r
-      → IsReportContent m fields
-
 -- the content of a message to the side that is not this one
 abbrev pub IsContent : Side → Message → List Field → Type 0
 IsContent Client out fields = IsRequest out fields
-IsContent Venue out fields = IsReportContent out fields
+IsContent Venue out fields = fields ≡ written out
 
 -- A message of a side and the one of the other version in which it goes on carry the same: a
 -- request means the same order, and a report changes each book alike.
@@ -44,15 +34,15 @@ abbrev pub Carries : Side → Message → Message → Type 0
 Carries Client m out = request42 m ≡ request50 out
 Carries Venue m out = (book : Book) → step50 book m ≡ step42 book out
 
-pub record IsCarried (side : Side) (m : Message) (written : List Field) : Type 0 where
+pub record IsCarried (side : Side) (m : Message) (text : List Field) : Type 0 where
   pub out : Message
-  pub content : IsContent side out written
+  pub content : IsContent side out text
   pub carries : Carries side m out
 
 -- what goes on is carried
 abbrev pub ForwardedMessagesCarry : Type 0
 ForwardedMessagesCarry = (side : Side) (original : Option (List ℕ)) (m : Message)
-    (written : List Field) → GoesOn side original m written → IsCarried side m written
+    (text : List Field) → GoesOn side original m text → IsCarried side m text
 
 -- no answer is a message of a session: each is repeated where messages are resent
 abbrev pub AnswersAreOfTheApplication : Type 0

@@ -66,7 +66,7 @@ fn copied(alloc: Global, text: Option<&[u8]>) -> Result<Option<Bytes>, AllocErro
 }
 
 // The request that these fields say, as it joins the chains.
-fn item_said(
+pub(crate) fn item_said(
     alloc: Global,
     number: u32,
     letter: u8,

@@ -3,15 +3,11 @@
 ghost use Rattle.message_answers.specs.Laws.{AnswersAreGivenOut, AnswersAreOfTheApplication};
 ghost use Rattle.message_answers.specs.Laws.{ForwardedMessagesCarry};
 
-use exec_translate::laws::books_change_alike;
-
 /// What goes on carries what came: a request of the client means the same order in both versions,
 /// and a report of the venue changes each book alike, each by the step of its own version.
 pub fn forwarded_messages_carry()
     ensures { ForwardedMessagesCarry }
-{
-    books_change_alike();
-}
+{}
 
 /// No answer is a message of a session. So each is sent again where messages are resent, and no gap
 /// fill stands for it.

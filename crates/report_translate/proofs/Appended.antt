@@ -1,149 +1,108 @@
 -- The content of the report that stands for fields, as it is appended.
-use Rattle.std.proofs.Common.{◌≡◌, ◌≤◌, ℕ, List, Option, None, Some, refl, sym, ap, ◌∙◌, subst}
-use Rattle.std.proofs.Common.{length, length-append, arith, codes, not}
-use Rattle.std.specs.Prelude.{IfErr, OnOk, Result, Ok, Err, is_some, if◌then◌else◌}
+use Rattle.std.proofs.Common.{◌≡◌, ◌≤◌, ℕ, List, Option, None, Some, Bool, true, false, refl, sym, ap}
+use Rattle.std.proofs.Common.{◌∙◌, subst, length, length-append, arith, codes, if◌then◌else◌}
+use Rattle.std.specs.Prelude.{IfErr, OnOk, Result, Ok, Err}
 use Rattle.std.specs.Str.{bytes_eq}
 use Rattle.field_groups.specs.declared.fault.SplitFault.{SplitFault}
 use Rattle.field_groups.specs.Field.{Field, body_of}
-use Rattle.message_tables.specs.FirstFault.{first_fault, message_in}
-use Rattle.message_tables.specs.Tables.{Message, ◌>>=◌, text_of}
+use Rattle.message_tables.specs.FirstFault.{message_in}
+use Rattle.message_tables.specs.Tables.{Message, Table}
+use Rattle.order_meaning.specs.declared.fault.Fault.{Fault}
+use Rattle.order_meaning.specs.declared.fault.Fault.TheVariants.{NotSupported}
 use Rattle.order_meaning.specs.declared.fault.Lack.{Lack}
 use Rattle.order_meaning.specs.declared.fault.Lack.TheVariants as lacks
-use Rattle.value_kinds.specs.ValueKind.{Id}
-use Rattle.row_values.specs.Kinds.{Value, judge}
-use Rattle.first_faults.proofs.Given.{given}
-use Rattle.rows_fix50.specs.Header.{completed, completed_by}
-use Rattle.reports_fix50.specs.Message.{cancel_reject_table, report_table, report_table_of}
-use Rattle.reports_fix50.proofs.Means.{cancel_reject_means, report_means}
-use Rattle.exec_translate.specs.FromFields.{AppendsReject, AppendsReport, HasNoCodes, IsUnknown}
-use Rattle.exec_translate.proofs.Means.{refusal_books, refusal_kept}
+use Rattle.row_values.specs.Kinds.{Kind, judge}
+use Rattle.rows_fix50.specs.Header.{completed}
+use Rattle.reports_fix50.specs.Message.{cancel_reject_table, message50, report_table}
+use Rattle.reports_fix50.specs.Message.{report_table_of}
+use Rattle.report_rules.specs.Down.{IsGoodBy, LacksDown, PutsDown}
+use Rattle.report_rules.specs.Rules.{written}
 use Rattle.translation.specs.Errors.{error_of_lack}
 use Rattle.translation.specs.Header.{type_of}
-use Rattle.translation.specs.Judged.{AreGood}
+use Rattle.translation.specs.Judged.{AreGood, AreGoodBy}
 use Rattle.translation.specs.declared.error.TranslateError.{TranslateError}
 use Rattle.translation.specs.declared.error.TranslateError.TheVariants as errors
-use Rattle.report_translate.specs.ClientReport as client
-use Rattle.report_translate.specs.VenueReport as venue
-use Rattle.report_translate.specs.Reading.{report_message}
-use Rattle.report_translate.specs.Said.{content42}
+use Rattle.report_translate.specs.Reading.{is_report, report_message}
 use Rattle.report_translate.specs.Writing.{Appends, Refuses, RefusesCheck}
-use Rattle.report_translate.proofs.GoodFields.{codes_of_report, has_not, of_good, type_said}
-use Rattle.report_translate.proofs.Lacks.{codes_alike, lack_of_codes, nothing_known}
-use Rattle.report_translate.proofs.OfType.{eight, nine}
-use Rattle.report_translate.proofs.Stands.{executed as means_executed, rejected as means_rejected}
+use Rattle.report_translate.proofs.GoodFields.{of_good, read_8, read_9}
 
--- ---- an execution report
+-- ---- a report at no fault
 
-module _ (fields : List Field) (type_is : type_of fields ≡ codes "8")
-    (none : first_fault judge report_table fields ≡ None) where
-  message_8 : Message
-  message_8 = completed (message_in judge report_table fields)
+told_by : (b : Bool) (x : Result Message Fault) (m : Message)
+    → (if b then x else Err NotSupported) ≡ Ok m → x ≡ Ok m
+told_by true x m h = h
+told_by false x m h = absurd cc
 
-  read_8 : report_message (type_of fields) fields None ≡ Ok message_8
-  unfolding message_8
-  read_8 =
-      eight (type_of fields) fields None (ap (λ (t : List ℕ). bytes_eq t (codes "8")) type_is)
-      ∙ ap completed_by (given report_table fields None refl none)
+module _ (fields : List Field) (m : Message)
+    (read : report_message (type_of fields) fields None ≡ Ok m) where
+  told : message50 (type_of fields) fields None ≡ Ok m
+  unfolding report_message
+  told = told_by (is_report (type_of fields)) (message50 (type_of fields) fields None) m read
 
-  pub appends_8 : (before after : List ℕ) → AppendsReport fields before after
+  appends : (before after : List ℕ) → PutsDown (type_of fields) None fields before after
       → Appends fields None before after
-  unfolding message_8
-  appends_8 before after h = record {
-    client = client.Execution h.report;
-    told = record {
-      venue = venue.Execution h.told;
-      read = record {
-        whole = refl;
-        read = read_8 ∙ ap Ok (sym (report_means fields none h.told h.says));
-      };
-      written = means_executed h.told h.report h.means h.codes h.can_be_read h.books h.readable
-          h.rows;
-    };
-    bytes = h.bytes;
-  }
-
-  pub refuses_8 : (lack : Lack) (error : TranslateError) → error ≡ error_of_lack lack
-      → HasNoCodes fields lack → Refuses fields None error
-  unfolding message_8
-  refuses_8 lack error same why =
-      let P : TranslateError → Type 0 = λ e. Refuses fields None e in
-      subst P (sym same) (by lack why)
-    where
-      by : (lack : Lack) → HasNoCodes fields lack → Refuses fields None (error_of_lack lack)
-      by lacks.NoMemory h = tt
-      by (lacks.Tag tag) h =
-          let no = h.1 in
-          let has = sym (codes_alike no.exec_type no.ord_status no.fill) ∙ ap is_some no.none in (
-            message_8,
-            record { whole = refl; read = read_8 },
-            lack_of_codes message_8 (codes_of_report fields
-                ∙ has_not fields no.exec_type (type_said fields none) no.type_is has)
-                ∙ ap Some (sym h.0),
-          )
-
-pub ruleset executed = (appends_8, refuses_8)
-
--- ---- a cancel reject
-
-module _ (fields : List Field) (type_is : type_of fields ≡ codes "9")
-    (none : first_fault judge cancel_reject_table fields ≡ None) where
-  message_9 : Message
-  message_9 = completed (message_in judge cancel_reject_table fields)
-
-  read_9 : report_message (type_of fields) fields None ≡ Ok message_9
-  unfolding message_9
-  read_9 =
-      nine (type_of fields) fields None (ap (λ (t : List ℕ). bytes_eq t (codes "9")) type_is)
-      ∙ ap completed_by (given cancel_reject_table fields None refl none)
-
-  pub appends_9 : (before after : List ℕ) → AppendsReject fields before after
-      → Appends fields None before after
-  unfolding message_9
-  appends_9 before after h =
-      let m = h.told in
-      let r = h.reject in
-      let known = nothing_known m.orig_id ∙ h.original in
-      record {
-        client = client.CancelReject r;
+  appends before after puts =
+      let put = puts m told in record {
+        client = put.w;
         told = record {
-          venue = venue.CancelReject m;
-          read = record {
-            whole = refl;
-            read = read_9 ∙ ap Ok (sym (cancel_reject_means fields none m h.says));
-          };
-          written = means_rejected m r
-              (refusal_kept m None r.orig_id r h.readable known h.rows) h.rows.ord_status
-              h.can_be_read (refusal_books m None r.orig_id r h.readable known h.rows) h.readable
-              h.rows known;
+          venue = m;
+          read = record { whole = refl; read = read };
+          down = put.down;
         };
-        bytes = h.bytes;
+        bytes = put.bytes;
       }
 
-  pub refuses_9 : (lack : Lack) (error : TranslateError) → error ≡ error_of_lack lack
-      → IsUnknown fields lack → Refuses fields None error
-  unfolding message_9
-  refuses_9 lack error same why =
-      let P : TranslateError → Type 0 = λ e. Refuses fields None e in
-      subst P (sym same) (by lack why)
+  refuses : (lack : Lack) → LacksDown (type_of fields) None fields lack
+      → Refuses fields None (error_of_lack lack)
+  refuses lacks.NoMemory h = tt
+  refuses (lacks.Tag tag) h = (m, record { whole = refl; read = read }, h m told)
+
+module _ (fields : List Field) (msg_type : List ℕ) (same : msg_type ≡ type_of fields)
+    (good : AreGoodBy (report_table_of (type_of fields)) fields) where
+  pub is_good : IsGoodBy (report_table_of msg_type) fields
+  is_good =
+      let P : List ℕ → Type 0 = λ t. IsGoodBy (report_table_of t) fields in
+      subst P (sym same) (by (report_table_of (type_of fields)) good)
     where
-      by : (lack : Lack) → IsUnknown fields lack → Refuses fields None (error_of_lack lack)
-      by lacks.NoMemory h = tt
-      by (lacks.Tag tag) h = (
-        message_9,
-        record { whole = refl; read = read_9 },
-        ap (λ (v : Option (List ℕ)). if not (is_some (v
-            >>= (λ bytes. text_of (judge fields (Value Id) bytes)))) then Some 41 else None) h.1
-            ∙ ap Some (sym h.0),
+      by : (table : Option (Table Kind)) → AreGoodBy table fields → IsGoodBy table fields
+      by None h = h
+      by (Some table) h = h
+
+  read : (m : Message) × (report_message (type_of fields) fields None ≡ Ok m)
+  read = by (bytes_eq (type_of fields) (codes "8")) refl
+    where
+      by : (b : Bool) → bytes_eq (type_of fields) (codes "8") ≡ b
+          → (m : Message) × (report_message (type_of fields) fields None ≡ Ok m)
+      by true e = (
+        completed (message_in judge report_table fields),
+        read_8 (type_of fields) fields e good,
+      )
+      by false e = (
+        completed (message_in judge cancel_reject_table fields),
+        read_9 (type_of fields) fields e good,
       )
 
-pub ruleset rejected = (appends_9, refuses_9)
+  pub appended : (before after : List ℕ) → PutsDown msg_type None fields before after
+      → Appends fields None before after
+  appended before after h =
+      let P : List ℕ → Type 0 = λ t. PutsDown t None fields before after in
+      appends fields read.0 read.1 before after (subst P same h)
+
+  pub refused : (lack : Lack) (error : TranslateError) → error ≡ error_of_lack lack
+      → LacksDown msg_type None fields lack → Refuses fields None error
+  refused lack error is h =
+      let P : List ℕ → Type 0 = λ t. LacksDown t None fields lack in
+      let Q : TranslateError → Type 0 = λ e. Refuses fields None e in
+      subst Q (sym is) (refuses fields read.0 read.1 lack (subst P same h))
+
+pub ruleset of_put = (is_good, appended, refused)
 
 -- ---- what is appended makes no body shorter
 
 pub grows : (fields : List Field) (stopped : Option SplitFault) (before after : List ℕ)
     → Appends fields stopped before after → length before ≤ length after
 grows fields stopped before after h =
-    let long = ap length h.bytes ∙ length-append before (body_of (content42 h.client)) in
+    let long = ap length h.bytes ∙ length-append before (body_of (written h.client)) in
     omega (arith, long)
 
 -- ---- fields that were judged
@@ -155,7 +114,7 @@ checked_by fields stopped errors.NoMemory h = tt
 checked_by fields stopped errors.TooLong h = absurd h
 checked_by fields stopped (errors.Faulty fault) h = h
 checked_by fields stopped (errors.Lacking tag) h =
-    (h.1, h.2, lack_of_codes h.1 h.3 ∙ ap Some (sym h.0))
+    (h.1, h.2, h.3 ∙ ap (λ (t : ℕ). Err t) (sym h.0))
 
 module _ (fields good : List Field) (stopped : Option SplitFault)
     (are : AreGood (report_table_of (type_of fields)) fields stopped good) where

@@ -1,6 +1,6 @@
 -- What is written of a report is read again as that report, behind its header.
-use Rattle.std.proofs.Common.{◌≡◌, ℕ, List, ◌∷◌, ◌++◌, codes, Option, None, Bool, true, false}
-use Rattle.std.proofs.Common.{Result, Ok, Err, refl, sym, ap, ◌∙◌, lit≤, arith}
+use Rattle.std.proofs.Common.{◌≡◌, ℕ, List, ◌∷◌, ◌++◌, codes, Option, Some, None, Bool, true, false}
+use Rattle.std.proofs.Common.{Result, Ok, Err, refl, sym, ap, subst, ◌∙◌, lit≤}
 use Rattle.std.specs.Prelude.{unwrap_or}
 use Rattle.std.specs.Option.{option_map}
 use Rattle.std.specs.List.{AllByRecursion}
@@ -11,6 +11,8 @@ use Rattle.field_groups.specs.Field.{Field, AreFields, body_of}
 use Rattle.field_groups.specs.Fields.{SplitsInto}
 use Rattle.message_tables.specs.Tables.{Item, Table, Message, flag_of, value_at}
 use Rattle.message_tables.specs.FirstFault.{message_of}
+use Rattle.order_meaning.specs.Book.{Book}
+use Rattle.order_meaning.specs.Report.{Report, Executed, NotCanceled, filled, or_known}
 use Rattle.order_meaning.specs.declared.fault.Fault.{Fault}
 use Rattle.order_meaning.specs.declared.fault.Fault.TheVariants.{NotSupported}
 use Rattle.message_tables.specs.Content.{content}
@@ -18,36 +20,34 @@ use Rattle.value_kinds.specs.ValueKind.{Filled, Flag}
 use Rattle.row_values.specs.Kinds.{Kind, judge}
 use Rattle.first_faults.specs.Faults.{told}
 use Rattle.rows_fix42.specs.Header.{table}
-use Rattle.reports_fix42.specs.declared.reports.Report42.{Report42}
-use Rattle.reports_fix42.specs.declared.reports.CancelReject42.{CancelReject42}
 use Rattle.reports_fix42.specs.Message.{message42, execution_report_table}
 use Rattle.reports_fix42.specs.Message.{cancel_reject_table as reject_table42}
 use Rattle.reports_fix42.specs.Reports as reports42
-use Rattle.reports_fix42.specs.Said as said42
-use Rattle.reports_fix50.specs.declared.reports.Report50.{Report50}
-use Rattle.reports_fix50.specs.declared.reports.CancelReject50.{CancelReject50}
+use Rattle.reports_fix42.specs.Sense.{report42}
+use Rattle.reports_fix42.specs.Step.{step42}
 use Rattle.reports_fix50.specs.Message.{report_table, cancel_reject_table}
-use Rattle.reports_fix50.specs.Said as said50
+use Rattle.reports_fix50.specs.Sense.{report50}
+use Rattle.reports_fix50.specs.Step.{step50}
 use Rattle.sound_laws.specs.Sound.{IsSound}
 use Rattle.sound_laws.proofs.Each.{◌&◌}
 use Rattle.sound_laws.proofs.PlainFields.{AreFew, clear_fields, few_of, times}
 use Rattle.sound_laws.proofs.ReadSound.{IsClearField}
 use Rattle.sound_laws.proofs.TableFits.{table_fits}
-use Rattle.exec_translate.proofs.SoundDown.{report_sound, reject_sound}
+use Rattle.rule_rows.specs.ByRules.{by_rules, lack_by}
+use Rattle.report_rules.specs.Down.{IsReport50, Reports50, Rejects50}
+use Rattle.report_rules.specs.Rules.{table_at, written}
+use Rattle.report_rules.specs.Rules.{Original, Same, down_message, down_rules, kinds, rules_for}
+use Rattle.report_rules.proofs.GoDown.{down_by, goes_down, reject_sound, report_sound, rules_of}
+use Rattle.report_rules.proofs.ReadDown.{IsReadOf, reject_complete, reject_read, report_complete}
+use Rattle.report_rules.proofs.ReadDown.{report_read}
+use Rattle.report_rules.proofs.SenseDown.{not_lacking}
 use Rattle.translation.specs.Header.{type_of, carried, with_content}
 use Rattle.translation.proofs.BehindHeader.{IsHead, front, items_behind, read_behind}
 use Rattle.translation.proofs.CarriedHeader.{IsOwnHead, HasHeader, head_is_own, head_value}
 use Rattle.translation.proofs.CarriedHeader.{own_said}
 use Rattle.translation.proofs.SplitAgain.{fields_again}
-use Rattle.report_translate.specs.ClientReport.{ClientReport}
-use Rattle.report_translate.specs.ClientReport as client
-use Rattle.report_translate.specs.VenueReport.{VenueReport}
-use Rattle.report_translate.specs.VenueReport as venue
 use Rattle.report_translate.specs.Reading.{report_message}
-use Rattle.report_translate.specs.Said.{says50, says42, content42}
-use Rattle.report_translate.specs.Writing.{AreWritten, IsExecutionOf, IsRejectOf}
 use Rattle.report_translate.proofs.OfType.{eight, nine, no_report, type_is}
-use Rattle.exec_translate.proofs.ReadReports.{IsReadOf, report_read, reject_read}
 
 -- ---- a sound message of FIX 4.2 behind the header that is carried
 
@@ -85,64 +85,52 @@ module _ (letter : ℕ) (items : List (Item Kind)) (msg_type : List ℕ) (fields
 
 -- ---- the report that fields are
 
-apart : {X : Type 0} → ◌≡◌ {A = ℕ} 56 57 → X
-apart same = absurd (omega (arith, same))
+-- a report of a table, by its type
+record IsOf (fields : List Field) (known : List ℕ) (table : Table Kind) (x : Message) : Type 0 where
+  type_is : type_of fields ≡ known
+  read : IsReadOf table fields x
+
+data IsEither (fields : List Field) (x : Message) : Type 0 where
+  Eight : IsOf fields (codes "8") report_table x → IsEither fields x
+  Nine : IsOf fields (codes "9") cancel_reject_table x → IsEither fields x
 
 not_both : {X : Type 0} (r : Result Message Fault) (fault : Fault) (x : Message)
     → r ≡ Err fault → r ≡ Ok x → X
 not_both r fault x refused read = absurd cc
 
-module _ (fields : List Field) (clear : AllByRecursion (IsClearField judge) fields) where
-  abbrev IsReport : VenueReport → Type 0
-  IsReport v = report_message (type_of fields) fields None ≡ Ok (says50 v)
+-- where nothing is known besides, a report is what it says
+nothing_known : (said : Option (List ℕ)) → or_known said None ≡ said
+nothing_known None = refl
+nothing_known (Some said) = refl
 
-  -- a report of a table, by its type
-  record IsOf (known : List ℕ) (table : Table Kind) (x : Message) : Type 0 where
-    type_is : type_of fields ≡ known
-    read : IsReadOf table fields x
+unfilled : (report : Option Report) → option_map (filled None) report ≡ report
+unfilled None = refl
+unfilled (Some (Executed report)) = refl
+unfilled (Some (NotCanceled reject)) =
+    ap (λ (id : Option (List ℕ)). Some (NotCanceled (record reject { orig_id = id })))
+    (nothing_known reject.orig_id)
 
-  other_letter : {X : Type 0} (table : Table Kind) (x : Message) → IsReadOf table fields x
-      → (x.letter ≡ table.letter → ⊥) → X
-  other_letter table x of apart = absurd (apart (sym (ap (λ (y : Message). y.letter) of.read.is)
-      ∙ of.read.sound.letter))
+module _ (fields : List Field) (good : AreFields None fields) (m : Message)
+    (e : report_message (type_of fields) fields None ≡ Ok m) where
+  clear : AllByRecursion (IsClearField judge) fields
+  clear = clear_fields judge None fields good
 
-  execution_of : (m : Report50) → IsReport (venue.Execution m)
-      → IsOf (codes "8") report_table (said50.report_says m)
-  execution_of m e =
+  either : IsEither fields m
+  unfolding clear
+  either =
       by (bytes_eq (type_of fields) (codes "8")) (bytes_eq (type_of fields) (codes "9")) refl refl
     where
       by : (a b : Bool) → bytes_eq (type_of fields) (codes "8") ≡ a
-          → bytes_eq (type_of fields) (codes "9") ≡ b
-          → IsOf (codes "8") report_table (said50.report_says m)
-      by true b a' b' = record {
+          → bytes_eq (type_of fields) (codes "9") ≡ b → IsEither fields m
+      by true b a' b' = Eight (record {
         type_is = (bytes_eq-Decides (type_of fields) (codes "8")).0 a';
-        read = report_read fields clear (said50.report_says m)
-            (sym (eight (type_of fields) fields None a') ∙ e);
-      }
-      by false true a' b' = other_letter cancel_reject_table (said50.report_says m)
-          (reject_read fields clear (said50.report_says m)
-          (sym (nine (type_of fields) fields None b') ∙ e)) (λ same. apart same)
-      by false false a' b' = not_both (report_message (type_of fields) fields None)
-          NotSupported (said50.report_says m) (no_report (type_of fields) fields None a' b') e
-
-  reject_of : (m : CancelReject50) → IsReport (venue.CancelReject m)
-      → IsOf (codes "9") cancel_reject_table (said50.cancel_reject_says m)
-  reject_of m e =
-      by (bytes_eq (type_of fields) (codes "8")) (bytes_eq (type_of fields) (codes "9")) refl refl
-    where
-      by : (a b : Bool) → bytes_eq (type_of fields) (codes "8") ≡ a
-          → bytes_eq (type_of fields) (codes "9") ≡ b
-          → IsOf (codes "9") cancel_reject_table (said50.cancel_reject_says m)
-      by true b a' b' = other_letter report_table (said50.cancel_reject_says m)
-          (report_read fields clear (said50.cancel_reject_says m)
-          (sym (eight (type_of fields) fields None a') ∙ e)) (λ same. apart (sym same))
-      by false true a' b' = record {
+        read = report_read fields clear m (sym (eight (type_of fields) fields None a') ∙ e);
+      })
+      by false true a' b' = Nine (record {
         type_is = (bytes_eq-Decides (type_of fields) (codes "9")).0 b';
-        read = reject_read fields clear (said50.cancel_reject_says m)
-            (sym (nine (type_of fields) fields None b') ∙ e);
-      }
-      by false false a' b' = not_both (report_message (type_of fields) fields None)
-          NotSupported (said50.cancel_reject_says m)
+        read = reject_read fields clear m (sym (nine (type_of fields) fields None b') ∙ e);
+      })
+      by false false a' b' = not_both (report_message (type_of fields) fields None) NotSupported m
           (no_report (type_of fields) fields None a' b') e
 
   report_header : HasHeader report_table
@@ -167,65 +155,70 @@ module _ (fields : List Field) (clear : AllByRecursion (IsClearField judge) fiel
     first_time = refl;
   }
 
-  -- ---- what is written of it
+  module _ (w : Message) (down : down_message None m ≡ Ok w) where
+    -- THE MESSAGE OF FIX 4.2 means the same, and is sound
+    pub record Keeps : Type 0 where
+      pub means : report42 w ≡ report50 m
+      pub books : (book : Book) → step42 book w ≡ step50 book m
+      pub few : AreFew (written w)
+      pub again : message42 (type_of fields) (with_content fields (written w)) None ≡ Ok w
 
-  -- the message that a report is read as again
-  abbrev ReadsAs : ClientReport → Type 0
-  ReadsAs c = message42 (type_of fields) (with_content fields (content42 c)) None ≡ Ok (says42 c)
+    -- the message of a report keeps its PossResend
+    resend_is : w.resend ≡ m.resend
+    resend_is = ap (λ (x : Message). x.resend)
+        (sym (not_lacking (lack_by kinds (rules_for None m) m)
+        (by_rules kinds (rules_for None m) m) w down).1)
 
-  execution_again : (m : Report50) (r : Report42) → IsExecutionOf m r
-      → IsReport (venue.Execution m) → ReadsAs (client.Execution r)
-  unfolding message42
-  execution_again m r h e =
-      let of = execution_of m e in
-      let is = type_is (type_of fields) fields None (said50.report_says m) e in
-      let sound = report_sound m r of.read.read h.readable h.rows h.codes in
-      let own = head_is_own report_table fields of.read.good clear (type_of fields) is
-      report_header in
-      ap (λ (t : List ℕ).
-      message42 t (with_content fields (content42 (client.Execution r))) None) of.type_is
-      ∙ message_again 56 reports42.execution_report (type_of fields) fields (said42.report_says r)
-      own refl refl sound (sym of.read.resend ∙ sym h.rows.resend)
+    kept : (table50 : Table Kind) (known : List ℕ) (letter : ℕ) (items : List (Item Kind))
+        → IsOf fields known table50 m → IsReport50 m → HasHeader table50
+        → IsSound judge (table letter items) w → table_at w.letter ≡ table letter items
+        → AreFew (content (table letter items) w)
+        → items_behind (table letter items) (head_value (type_of fields) fields) w ≡ true
+        → table_fits (table letter items) (front (table letter items)
+        (head_value (type_of fields) fields) w) ≡ true
+        → ((x : List Field) → message42 known x None
+        ≡ told (message_of judge (table letter items) x)) → Keeps
+    kept table50 known letter items of report header sound is few behind fits reads =
+        let stands = goes_down None tt m w report down in
+        let own = head_is_own table50 fields of.read.good (clear) (type_of fields)
+        (type_is (type_of fields) fields None m e) header in
+        let P : Table Kind → Type 0 = λ t. AreFew (content t w) in
+        record {
+          means = stands.means ∙ unfilled (report50 m);
+          books = stands.books;
+          few = subst P (sym is) few;
+          again = ap (λ (t : List ℕ). message42 t (with_content fields (written w)) None) of.type_is
+              ∙ ap (λ (t : Table Kind). message42 known (with_content fields (content t w)) None) is
+              ∙ reads (with_content fields (content (table letter items) w))
+              ∙ message_again letter items (type_of fields) fields w own behind fits sound
+              (sym of.read.resend ∙ sym resend_is);
+        }
 
-  reject_again : (m : CancelReject50) (r : CancelReject42) → IsRejectOf m r
-      → IsReport (venue.CancelReject m) → ReadsAs (client.CancelReject r)
-  unfolding message42
-  reject_again m r h e =
-      let of = reject_of m e in
-      let is = type_is (type_of fields) fields None (said50.cancel_reject_says m) e in
-      let sound = reject_sound m r.orig_id r of.read.read h.readable h.rows h.original in
-      let own = head_is_own cancel_reject_table fields of.read.good clear (type_of fields) is
-      reject_header in
-      ap (λ (t : List ℕ).
-      message42 t (with_content fields (content42 (client.CancelReject r))) None) of.type_is
-      ∙ message_again 57 reports42.cancel_reject (type_of fields) fields
-      (said42.cancel_reject_says r) own refl refl sound (sym of.read.resend ∙ sym h.rows.resend)
+    -- WHAT GOES DOWN means the same, and is read again behind its header
+    pub keeps : Keeps
+    unfolding is_data_tag times message42
+    keeps = by either
+      where
+        by : IsEither fields m → Keeps
+        by (Eight of) =
+            let c = report_complete m of.read.read in
+            let sound = report_sound m w c (down_by None m w (down_rules (Same 41))
+            (rules_of None m 56 c.sound.letter) down) in
+            kept report_table (codes "8") 56 reports42.execution_report of (Reports50 c)
+            report_header sound (ap table_at sound.letter)
+            (few_of judge execution_report_table w refl (lit≤ tt) sound) refl refl (λ x. refl)
+        by (Nine of) =
+            let c = reject_complete m of.read.read in
+            let sound = reject_sound None tt m w c (down_by None m w (down_rules (Original None))
+            (rules_of None m 57 c.sound.letter) down) in
+            kept cancel_reject_table (codes "9") 57 reports42.cancel_reject of (Rejects50 c)
+            reject_header sound (ap table_at sound.letter)
+            (few_of judge reject_table42 w refl (lit≤ tt) sound) refl refl (λ x. refl)
 
-  -- WHAT IS WRITTEN IS READ AGAIN.
-  pub reads_again : (v : VenueReport) (c : ClientReport) → AreWritten v c → IsReport v → ReadsAs c
-  reads_again (venue.Execution m) (client.Execution r) h e = execution_again m r h e
-  reads_again (venue.CancelReject m) (client.CancelReject r) h e = reject_again m r h e
-  reads_again (venue.Execution m) (client.CancelReject r) h e = absurd h
-  reads_again (venue.CancelReject m) (client.Execution r) h e = absurd h
+    pub reads_again : message42 (type_of fields) (with_content fields (written w)) None ≡ Ok w
+    reads_again = keeps.again
 
-  few_written : (v : VenueReport) (c : ClientReport) → AreWritten v c → IsReport v
-      → AreFew (content42 c)
-  unfolding is_data_tag times
-  few_written (venue.Execution m) (client.Execution r) h e =
-      few_of judge execution_report_table (said42.report_says r) refl (lit≤ tt)
-      (report_sound m r (execution_of m e).read.read h.readable h.rows h.codes)
-  few_written (venue.CancelReject m) (client.CancelReject r) h e =
-      few_of judge reject_table42 (said42.cancel_reject_says r) refl (lit≤ tt)
-      (reject_sound m r.orig_id r (reject_of m e).read.read h.readable h.rows h.original)
-  few_written (venue.Execution m) (client.CancelReject r) h e = absurd h
-  few_written (venue.CancelReject m) (client.Execution r) h e = absurd h
-
--- WHAT IS WRITTEN IS SPLIT AGAIN.
-pub splits_again : (fields : List Field) (v : VenueReport) (c : ClientReport)
-    → AreFields None fields → AreWritten v c
-    → report_message (type_of fields) fields None ≡ Ok (says50 v)
-    → SplitsInto (body_of (with_content fields (content42 c))) (with_content fields (content42 c))
-    None
-splits_again fields v c good h e =
-    fields_again fields (content42 c) good (type_is (type_of fields) fields None (says50 v) e)
-    (few_written fields (clear_fields judge None fields good) v c h e)
+    pub splits_again : SplitsInto (body_of (with_content fields (written w)))
+        (with_content fields (written w)) None
+    splits_again = fields_again fields (written w) good (type_is (type_of fields) fields None m e)
+        keeps.few

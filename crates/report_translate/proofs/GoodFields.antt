@@ -1,11 +1,10 @@
--- What fields at no fault are, by the table of their type: a report, and whether it lacks codes.
+-- What fields at no fault are, by the table of their type: a report, and whether it goes down.
 use Rattle.std.proofs.Common.{◌≡◌, ℕ, List, Option, Some, None, Bool, true, false, not, refl, ◌∙◌}
 use Rattle.std.proofs.Common.{codes, subst, sym, ap}
-use Rattle.std.specs.Prelude.{IsSome, IfSome, IfErr, OnOk, Result, Ok, Err, unwrap_or}
+use Rattle.std.specs.Prelude.{IsSome, IfSome, IfErr, OnOk, Result, Ok, Err, is_some}
 use Rattle.std.specs.Prelude.{if◌then◌else◌}
 use Rattle.std.specs.Borrow.{Bor}
 use Rattle.std.specs.Str.{bytes_eq}
-use Rattle.std.proofs.lemmas.Slice.Eq.{bytes_eq-Decides}
 use Rattle.field_groups.specs.declared.fault.SplitFault.{SplitFault}
 use Rattle.field_groups.specs.Field.{Field}
 use Rattle.value_kinds.specs.ValueKind.{code_text, Known}
@@ -22,14 +21,14 @@ use Rattle.reports_fix50.specs.Message.{report_table_of}
 use Rattle.reports_fix50.specs.Reading.{exec_type_said}
 use Rattle.order_meaning.specs.declared.fault.Fault.{Fault}
 use Rattle.order_meaning.specs.declared.fault.Fault.TheVariants as faults
-use Rattle.exec_translate.specs.Mapping.{has_codes}
+use Rattle.report_rules.specs.Rules.{lacks_type, trans_type}
+use Rattle.report_rules.proofs.LacksDown.{order_goes_down, type_goes_down, type_lacks}
 use Rattle.translation.specs.Errors.{error_of_fault}
 use Rattle.translation.specs.Header.{type_of}
 use Rattle.translation.specs.Judged.{AreGood, AreGoodBy}
 use Rattle.translation.specs.declared.error.TranslateError.{TranslateError}
 use Rattle.translation.specs.declared.error.TranslateError.TheVariants as errors
 use Rattle.translation.proofs.Judged.{clean_is, fault_by}
-use Rattle.report_translate.specs.Lack.{lacks_codes}
 use Rattle.report_translate.specs.Reading.{report_message}
 use Rattle.report_translate.specs.Writing.{AreRead, IsCheckedOf, LacksAt, RefusesCheck, lacks_at}
 use Rattle.report_translate.proofs.OfType.{eight, nine, no_report}
@@ -84,34 +83,26 @@ module _ (msg_type : List ℕ) (fields : List Field) where
 
 -- ---- the codes of FIX 4.2
 
-module _ (fields : List Field) where
-  pub codes_of_report : lacks_codes (completed (message_in judge report_table fields))
-      ≡ lacks_at fields
-  codes_of_report = refl
-
-  pub codes_of_reject : lacks_codes (completed (message_in judge cancel_reject_table fields))
-      ≡ false
-  codes_of_reject = refl
-
-  pub type_said : first_fault judge report_table fields ≡ None → IsSome (exec_type_said fields)
-  type_said none =
-      says report_table fields none 11 150 (Value (Known (codes "03456789ABCDEFGHIJKL"))) refl refl
+pub type_said : (fields : List Field) → first_fault judge report_table fields ≡ None
+    → IsSome (exec_type_said fields)
+type_said fields none =
+    says report_table fields none 11 150 (Value (Known (codes "03456789ABCDEFGHIJKL"))) refl refl
 
 code_is : (text : Said) (code : ℕ) → IsSome text → IfSome text (λ t. t ≡ code_text code)
-    → unwrap_or (text >>= code_of) 0 ≡ code
+    → text ≡ Some (code_text code)
 code_is None code there is = absurd cc
-code_is (Some text) code there is = ap (λ (t : List ℕ). unwrap_or (code_of t) 0) is
+code_is (Some text) code there is = ap (λ (t : List ℕ). Some t) is
 
 module _ (fields : List Field) (exec_type : ℕ) (there : IsSome (exec_type_said fields))
     (is : IfSome (exec_type_said fields) (λ text. text ≡ code_text exec_type)) where
-  lacks_is : lacks_at fields ≡ not (has_codes exec_type)
-  lacks_is =
-      ap (λ (code : ℕ). not (has_codes code)) (code_is (exec_type_said fields) exec_type there is)
+  lacks_is : lacks_at fields ≡ not (is_some (trans_type exec_type))
+  lacks_is = ap (λ (text : Said). lacks_type (text >>= code_of))
+      (code_is (exec_type_said fields) exec_type there is)
 
-  pub has : has_codes exec_type ≡ true → lacks_at fields ≡ false
+  pub has : is_some (trans_type exec_type) ≡ true → lacks_at fields ≡ false
   has codes = lacks_is ∙ ap not codes
 
-  pub has_not : has_codes exec_type ≡ false → lacks_at fields ≡ true
+  pub has_not : is_some (trans_type exec_type) ≡ false → lacks_at fields ≡ true
   has_not codes = lacks_is ∙ ap not codes
 
 pub ruleset of_codes = (has, has_not)
@@ -170,20 +161,6 @@ module _ (fields : List Field) (msg_type : List ℕ) (same : msg_type ≡ type_o
       let P : List ℕ → Type 0 = λ m. report_message m fields None ≡ Ok message in
       record { whole = refl; read = subst P same is }
 
-  -- the table of an execution report, and of a cancel reject
-  pub is_eight : is_8 msg_type fields ≡ true → type_of fields ≡ codes "8"
-  is_eight test = sym same ∙ (bytes_eq-Decides msg_type (codes "8")).0 test
-
-  pub clean_8 : is_8 msg_type fields ≡ true → first_fault judge report_table fields ≡ None
-  clean_8 test = good_8 msg_type fields test good_by
-
-  pub is_nine : is_8 msg_type fields ≡ false → type_of fields ≡ codes "9"
-  is_nine test = sym same ∙ (bytes_eq-Decides msg_type (codes "9")).0
-      (good_9 msg_type fields test good_by).0
-
-  pub clean_9 : is_8 msg_type fields ≡ false → first_fault judge cancel_reject_table fields ≡ None
-  clean_9 test = (good_9 msg_type fields test good_by).1
-
   module _ (test : is_8 msg_type fields ≡ true) where
     are_8 : AreRead fields None (completed (message_in judge report_table fields))
     are_8 = are_read (completed (message_in judge report_table fields))
@@ -197,7 +174,8 @@ module _ (fields : List Field) (msg_type : List ℕ) (same : msg_type ≡ type_o
     checked (Ok done) h = record {
       message = completed (message_in judge report_table fields);
       read = are_8;
-      codes = codes_of_report fields ∙ h;
+      down = λ id. type_goes_down (Some id) (completed (message_in judge report_table fields))
+          refl h;
     }
     checked (Err error) h = tt
 
@@ -211,7 +189,7 @@ module _ (fields : List Field) (msg_type : List ℕ) (same : msg_type ≡ type_o
       h.0,
       completed (message_in judge report_table fields),
       are_8,
-      codes_of_report fields ∙ h.1,
+      type_lacks None (completed (message_in judge report_table fields)) refl h.1,
     )
 
   pub rejects : is_8 msg_type fields ≡ false → IsCheckedOf fields None
@@ -219,12 +197,11 @@ module _ (fields : List Field) (msg_type : List ℕ) (same : msg_type ≡ type_o
     message = completed (message_in judge cancel_reject_table fields);
     read = are_read (completed (message_in judge cancel_reject_table fields))
         (read_9 msg_type fields test good_by);
-    codes = codes_of_reject fields;
+    down = λ id. order_goes_down id (completed (message_in judge cancel_reject_table fields)) refl
+        refl;
   }
 
 pub ruleset by_type = (says_type, checked, refused, rejects)
-
-pub ruleset tables = (is_eight, clean_8, is_nine, clean_9)
 
 -- ---- fields that were judged
 

@@ -12,15 +12,15 @@ use Rattle.report_translate.specs.Translation.{IsDown}
 
 bodies_keep : (body down : List ℕ) → IsDown body down → KeepSense body down
 bodies_keep body down is fields others split again =
-    let here = (determined body fields is.fields None None split is.stands.good.report.split).0 in
+    let here = (determined body fields is.fields None None split is.stands.goes.report.split).0 in
     let there =
     (determined down others (with_content is.fields is.written) None None again is.again).0 in
     let P : List Field → Type 0 = λ fs. MeanTheSame fs others in
     let Q : List Field → Type 0 = λ fs. MeanTheSame is.fields fs in
     subst P (sym here) (subst Q (sym there) (record {
-      venue = is.stands.good.report.message;
-      client = is.stands.client;
-      told = is.stands.good.report.read;
+      venue = is.stands.goes.report.message;
+      client = is.stands.goes.client;
+      told = is.stands.goes.report.read;
       read = is.read;
       means = is.stands.means;
       books = is.stands.books;

@@ -1,4 +1,3 @@
-pub mod Lacks
 pub mod OfType
 pub mod GoodFields
 pub mod Stands

@@ -7,20 +7,16 @@ use Rattle.field_groups.specs.declared.fault.SplitFault.{SplitFault}
 use Rattle.field_groups.specs.Field.{Field}
 use Rattle.field_groups.specs.Fields.{SplitsInto}
 use Rattle.message_tables.specs.Tables.{Message}
+use Rattle.report_rules.specs.Rules.{written}
 use Rattle.translation.specs.declared.error.TranslateError.{TranslateError}
 use Rattle.translation.specs.declared.error.TranslateError.TheVariants as errors
 use Rattle.translation.specs.Header.{type_of, carried, with_content}
 use Rattle.translation.proofs.Writable.{writable}
-use Rattle.report_translate.specs.ClientReport.{ClientReport}
-use Rattle.report_translate.specs.Said.{says50, says42, content42}
-use Rattle.report_translate.specs.Translation.{IsReport, IsKnown, StandsFor, IsTranslation}
-use Rattle.report_translate.specs.Translation.{IsRefused, IsRefusedByCheck}
-use Rattle.report_translate.specs.Writing.{AreRead, IsReportOf, IsCheckedOf, RefusesCheck}
-use Rattle.report_translate.specs.Writing.{IsDownOf, RefusesDown}
-use Rattle.row_values.specs.Kinds.{judge}
-use Rattle.sound_laws.proofs.PlainFields.{clear_fields}
-use Rattle.report_translate.proofs.DownAgain.{reads_again, splits_again}
-use Rattle.report_translate.proofs.Lacks.{lack_of_codes}
+use Rattle.report_translate.specs.Translation.{GoesDown, IsKnown, IsRefused, IsRefusedByCheck}
+use Rattle.report_translate.specs.Translation.{IsReport, IsTranslation, StandsFor}
+use Rattle.report_translate.specs.Writing.{AreRead, GoDown, IsCheckedOf, IsDownOf, RefusesCheck}
+use Rattle.report_translate.specs.Writing.{RefusesDown}
+use Rattle.report_translate.proofs.DownAgain.{keeps, reads_again, splits_again}
 use Rattle.report_translate.proofs.OfType.{type_is}
 
 module _ (body : List ℕ) (fields : List Field)
@@ -30,47 +26,52 @@ module _ (body : List ℕ) (fields : List Field)
       let P : Option SplitFault → Type 0 = λ s. SplitsInto body fields s in
       record { message = message; split = subst P read.whole split; read = read.read }
 
-  stands : (client : ClientReport)
-      → IsReportOf fields stopped client → StandsFor body fields (content42 client)
+  goes : (client : Message) → GoDown fields stopped client → GoesDown body fields
   unfolding report
-  stands client of = record {
-    good = record { report = report (says50 of.venue) of.read; said = of.written.said };
-    client = says42 client;
-    report = of.written.written;
-    means = of.written.means;
-    books = of.written.books;
-  }
+  goes client of =
+      record { report = report of.venue of.read; client = client; down = of.down }
+
+  stands : (client : Message)
+      → GoDown fields stopped client → StandsFor body fields (written client)
+  unfolding goes report
+  stands client of =
+      let means = keeps fields split.good of.venue of.read.read client of.down in record {
+        goes = goes client of;
+        content = refl;
+        means = means.means;
+        books = means.books;
+      }
 
   pub can_be_written : (down : List ℕ) → IsDownOf fields stopped down → IsWritable down
   can_be_written down is =
       let P : List ℕ → Type 0 = λ bytes. IsWritable bytes in
-      subst P (sym is.written.bytes)
-      (writable (type_of fields) (carried fields ++ content42 is.client)
-      (type_is (type_of fields) fields None (says50 is.told.venue) is.told.read.read))
+      subst P (sym is.bytes.bytes)
+      (writable (type_of fields) (carried fields ++ written is.client)
+      (type_is (type_of fields) fields None is.told.venue is.told.read.read))
 
   split_down : (down : List ℕ) (is : IsDownOf fields stopped down)
-      → SplitsInto down (with_content fields (content42 is.client)) None
+      → SplitsInto down (with_content fields (written is.client)) None
   split_down down is =
       let P : List ℕ → Type 0 =
-      λ bytes. SplitsInto bytes (with_content fields (content42 is.client)) None in
-      subst P (sym is.written.bytes) (splits_again fields is.told.venue is.client split.good
-      is.told.written.rows is.told.read.read)
+      λ bytes. SplitsInto bytes (with_content fields (written is.client)) None in
+      subst P (sym is.bytes.bytes) (splits_again fields split.good is.told.venue
+      is.told.read.read is.client is.told.down)
 
   pub translation : (down : List ℕ) → IsDownOf fields stopped down
       → IsFrame Fix42 down (frame_of Fix42 down) → IsTranslation body (frame_of Fix42 down)
-  unfolding stands
+  unfolding stands goes
   translation down is frame = record {
     down = down;
     stands = record {
       fields = fields;
-      written = content42 is.client;
+      written = written is.client;
       stands = stands is.client is.told;
-      bytes = is.written.bytes;
-      content_fits = is.written.content_fits;
-      body_fits = is.written.body_fits;
+      bytes = is.bytes.bytes;
+      content_fits = is.bytes.content_fits;
+      body_fits = is.bytes.body_fits;
       again = split_down down is;
-      read = reads_again fields (clear_fields judge None fields split.good) is.told.venue is.client
-          is.told.written.rows is.told.read.read;
+      read = reads_again fields split.good is.told.venue is.told.read.read is.client
+          is.told.down;
     };
     written = refl;
     frame = frame;
@@ -81,7 +82,7 @@ module _ (body : List ℕ) (fields : List Field)
   refused errors.NoMemory h = tt
   refused errors.TooLong h = record {
     fields = fields;
-    written = content42 h.client;
+    written = written h.client;
     stands = stands h.client h.told;
     long = h.long;
   }
@@ -93,7 +94,7 @@ module _ (body : List ℕ) (fields : List Field)
   pub known : (r : Result (Unit {0}) TranslateError) → OnOk r (IsCheckedOf fields stopped)
       → OnOk r ((fields : List Field) × IsKnown body fields)
   unfolding report
-  known (Ok done) h = (fields, record { report = report h.message h.read; said = h.codes })
+  known (Ok done) h = (fields, record { report = report h.message h.read; down = h.down })
   known (Err error) h = tt
 
   by_check : (error : TranslateError)
@@ -108,7 +109,7 @@ module _ (body : List ℕ) (fields : List Field)
     record {
       fields = fields;
       report = report h.1 h.2;
-      lack = lack_of_codes h.1 h.3;
+      lack = h.3;
     },
   )
 

@@ -1,9 +1,5 @@
 pub mod Reading
-pub mod Lack
 pub mod Translation
 pub mod Refusals
-pub mod VenueReport
-pub mod ClientReport
-pub mod Said
 pub mod Writing
 pub mod Laws

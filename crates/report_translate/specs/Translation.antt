@@ -1,5 +1,5 @@
 -- Own: what `translate down` makes of a body of FIX 5.0 SP2, and why it makes nothing of it.
-use Rattle.std.specs.Prelude.{◌≡◌, ◌≤◌, ◌<◌, ℕ, false, List, length, Option, Some, None}
+use Rattle.std.specs.Prelude.{◌≡◌, ◌≤◌, ◌<◌, ℕ, List, length, Option, Some, None, IsOk}
 use Rattle.std.specs.Prelude.{Result, Ok, Err}
 use Rattle.frame_grammar.specs.declared.frame.Kind.TheVariants.{Fix42}
 use Rattle.frame_grammar.specs.declared.frame.TheConstants.{MAX_BODY}
@@ -10,25 +10,17 @@ use Rattle.field_groups.specs.Fields.{SplitsInto}
 use Rattle.message_tables.specs.Tables.{Message}
 use Rattle.order_meaning.specs.declared.fault.Fault.{Fault}
 use Rattle.order_meaning.specs.Book.{Book}
-use Rattle.reports_fix42.specs.declared.reports.Report42.{Report42}
-use Rattle.reports_fix42.specs.declared.reports.CancelReject42.{CancelReject42}
-use Rattle.reports_fix42.specs.Content as content42
 use Rattle.reports_fix42.specs.Message.{message42}
-use Rattle.reports_fix42.specs.Readable as readable42
-use Rattle.reports_fix42.specs.Said as said42
 use Rattle.reports_fix42.specs.Sense.{report42}
 use Rattle.reports_fix42.specs.Step.{step42}
-use Rattle.reports_fix50.specs.declared.reports.Report50.{Report50}
-use Rattle.reports_fix50.specs.declared.reports.CancelReject50.{CancelReject50}
-use Rattle.reports_fix50.specs.Said as said50
 use Rattle.reports_fix50.specs.Sense.{report50}
 use Rattle.reports_fix50.specs.Step.{step50}
-use Rattle.exec_translate.specs.Down.{IsMapped}
+use Rattle.report_rules.specs.Rules.{written}
+use Rattle.report_rules.specs.Rules.{down_message}
 use Rattle.translation.specs.declared.lengths.TheConstants.{MAX_CONTENT}
 use Rattle.translation.specs.declared.error.TranslateError.{TranslateError}
 use Rattle.translation.specs.declared.error.TranslateError.TheVariants as errors
 use Rattle.translation.specs.Header.{type_of, with_content}
-use Rattle.report_translate.specs.Lack.{lack_of, lacks_codes}
 use Rattle.report_translate.specs.Reading.{report_message}
 
 -- a body that is read as a report of FIX 5.0 SP2, at no fault
@@ -37,49 +29,25 @@ pub record IsReport (body : List ℕ) (fields : List Field) : Type 0 where
   pub split : SplitsInto body fields None
   pub read : report_message (type_of fields) fields None ≡ Ok message
 
--- A good body: it is read as a report, which lacks nothing in FIX 4.2.
-pub record IsGood (body : List ℕ) (fields : List Field) : Type 0 where
+-- A body that goes down: it is read as a report, and the rules make a message of FIX 4.2 of it.
+pub record GoesDown (body : List ℕ) (fields : List Field) : Type 0 where
   pub report : IsReport body fields
-  pub said : lack_of report.message ≡ None
+  pub client : Message
+  pub down : down_message None report.message ≡ Ok client
 
--- A body that is good where the order of a cancel reject is known: its codes lack nothing.
+-- A body that goes down where the order of a cancel reject is known, whatever its original id is.
 pub record IsKnown (body : List ℕ) (fields : List Field) : Type 0 where
   pub report : IsReport body fields
-  pub said : lacks_codes report.message ≡ false
+  pub down : (id : List ℕ) → IsOk (down_message (Some id) report.message)
 
--- an execution report of FIX 4.2 with the codes of the mapping, and its content
-pub record IsExecution (venue client : Message) (written : List Field) : Type 0 where
-  pub told : Report50
-  pub report : Report42
-  pub venue_is : venue ≡ said50.report_says told
-  pub client_is : client ≡ said42.report_says report
-  pub readable : readable42.IsReadableReport report
-  pub mapped : IsMapped told report
-  pub content : written ≡ content42.report_content report
-
--- a cancel reject of FIX 4.2 with the same OrdStatus (39), and its content
-pub record IsCancelReject (venue client : Message) (written : List Field) : Type 0 where
-  pub told : CancelReject50
-  pub reject : CancelReject42
-  pub venue_is : venue ≡ said50.cancel_reject_says told
-  pub client_is : client ≡ said42.cancel_reject_says reject
-  pub readable : readable42.IsReadableCancelReject reject
-  pub status : reject.ord_status ≡ told.ord_status
-  pub content : written ≡ content42.cancel_reject_content reject
-
--- the report of FIX 4.2 in which a report of FIX 5.0 SP2 is written
-pub data IsWrittenIn (venue client : Message) (written : List Field) : Type 0 where
-  Executes : IsExecution venue client written → IsWrittenIn venue client written
-  Rejects : IsCancelReject venue client written → IsWrittenIn venue client written
-
--- The content of FIX 4.2 that stands for a good body: that of a report which means what the body
--- means. Each book changes by it as by the report of the venue.
-pub record StandsFor (body : List ℕ) (fields written : List Field) : Type 0 where
-  pub good : IsGood body fields
-  pub client : Message
-  pub report : IsWrittenIn good.report.message client written
-  pub means : report42 client ≡ report50 good.report.message
-  pub books : (book : Book) → step42 book client ≡ step50 book good.report.message
+-- The content of FIX 4.2 that stands for a body that goes down: that of the message that the rules
+-- make of it. It means what the body means, and each book changes by it as by the report of the
+-- venue.
+pub record StandsFor (body : List ℕ) (fields text : List Field) : Type 0 where
+  pub goes : GoesDown body fields
+  pub content : text ≡ written goes.client
+  pub means : report42 goes.client ≡ report50 goes.report.message
+  pub books : (book : Book) → step42 book goes.client ≡ step50 book goes.report.message
 
 -- A body of FIX 4.2 that stands for a body of FIX 5.0 SP2: the header fields, and then the content.
 -- It is split again into these fields, which by the tables of FIX 4.2 are at no fault and are the
@@ -92,7 +60,8 @@ pub record IsDown (body down : List ℕ) : Type 0 where
   pub content_fits : length (body_of written) ≤ MAX_CONTENT
   pub body_fits : length down ≤ MAX_BODY
   pub again : SplitsInto down (with_content fields written) None
-  pub read : message42 (type_of fields) (with_content fields written) None ≡ Ok stands.client
+  pub read : message42 (type_of fields) (with_content fields written) None
+      ≡ Ok stands.goes.client
 
 -- a frame of FIX 4.2 whose body stands for a body of FIX 5.0 SP2
 pub record IsTranslation (body text : List ℕ) : Type 0 where
@@ -112,9 +81,9 @@ pub record IsFaulty (body : List ℕ) (fault : Fault) : Type 0 where
 pub record IsLacking (body : List ℕ) (tag : ℕ) : Type 0 where
   pub fields : List Field
   pub report : IsReport body fields
-  pub lack : lack_of report.message ≡ Some tag
+  pub lack : down_message None report.message ≡ Err tag
 
--- a good body whose translation is longer than a content, or a body, may be
+-- a body that goes down, whose translation is longer than a content, or a body, may be
 pub record IsTooLong (body : List ℕ) : Type 0 where
   pub fields : List Field
   pub written : List Field

@@ -1,5 +1,5 @@
-//! Judging the fields of a report of FIX 5.0 SP2: their first fault, and whether FIX 4.2 has codes
-//! for what they tell. It takes no memory.
+//! Judging the fields of a report of FIX 5.0 SP2: their first fault, and whether FIX 4.2 has a
+//! counterpart of what they tell. It takes no memory.
 
 ghost use Rattle.std.specs.Prelude.{◌≡◌, IfErr, IfOk, IsSome, None, OnOk, false};
 ghost use Rattle.reports_fix50.specs.Message.{report_table_of};
@@ -8,8 +8,8 @@ ghost use Rattle.report_translate.specs.Writing.{IsCheckedOf, LacksAt, RefusesCh
 ghost use Rattle.translation.specs.Header.{type_of};
 ghost use Rattle.translation.specs.Judged.{AreGood, AreGoodBy};
 
-use exec_translate::has_codes;
 use field_groups::{Fields, Split, is_type};
+use report_rules::has_trans_type;
 use reports_fix50::{exec_type, good_report};
 use translation::{TranslateError, faulty, msg_type};
 
@@ -26,21 +26,22 @@ pub(crate) fn good<'s, 'a>(split: &'s Split<'a>) -> Result<&'s Fields<'a>, Trans
     }
 }
 
-/// Whether FIX 4.2 has codes for the ExecType(150) of an execution report.
+/// Whether FIX 4.2 has a counterpart of the ExecType(150) of an execution report.
 #[tactic(auto, using(crate::proofs::GoodFields::of_codes))]
 fn check_codes(fields: &Fields<'_>) -> Result<(), TranslateError>
     requires { IsSome (exec_type_said fields.now) }
     ensures ok { OnOk result (lacks_at fields.now ≡ false) }
     ensures lack { IfErr result (LacksAt fields.now) }
 {
-    if has_codes(exec_type(fields)) {
+    if has_trans_type(exec_type(fields)) {
         Ok(())
     } else {
         Err(TranslateError::Lacking(150))
     }
 }
 
-/// Whether a report at no fault has codes of FIX 4.2. Only an execution report (8) can lack them.
+/// Whether a report at no fault has a counterpart in FIX 4.2. Only an execution report (8) can lack
+/// one.
 #[tactic(auto, using(crate::proofs::GoodFields::by_type))]
 fn check_good(fields: &Fields<'_>) -> Result<(), TranslateError>
     requires { AreGoodBy (report_table_of (type_of fields.now)) fields.now }
@@ -54,7 +55,7 @@ fn check_good(fields: &Fields<'_>) -> Result<(), TranslateError>
     }
 }
 
-/// Whether the fields of a body are a report at no fault that has codes of FIX 4.2.
+/// Whether the fields of a body are a report at no fault that has a counterpart in FIX 4.2.
 #[tactic(auto, using(crate::proofs::GoodFields::of_judged))]
 pub(crate) fn check_fields(split: &Split<'_>) -> Result<(), TranslateError>
     ensures ok { OnOk result (IsCheckedOf split.now.fields split.now.fault) }

@@ -29,7 +29,7 @@ few_asked Cancel = omega arith
 few_asked Replace = omega arith
 few_asked Status = omega arith
 
-request_few : (m : Message) (written : List Field) → IsRequest m written → AreFew written
+pub request_few : (m : Message) (written : List Field) → IsRequest m written → AreFew written
 request_few m written request =
     let P : List Field → Type 0 = λ fs. AreFew fs in
     let kind = kind_in request in

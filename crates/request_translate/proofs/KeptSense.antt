@@ -15,6 +15,7 @@ use Rattle.order_meaning.specs.Request.{Request, RequestKind}
 use Rattle.dict_fix42.specs.Sense.{sense42, request42}
 use Rattle.dict_fix50.specs.Sense.{sense50}
 use Rattle.translation.specs.Header.{type_of, with_content}
+use Rattle.request_rules.specs.Rules.{up_message}
 use Rattle.request_translate.specs.Translation.{IsUp, KeepSense}
 use Rattle.request_translate.specs.Laws.{FramesKeepSense}
 use Rattle.request_translate.proofs.Outcomes.{kind_is}
@@ -31,7 +32,7 @@ unfolding sense42
 means_some body up is =
     let s = is.stands in
     ap (λ (r : _). is_some (result_ok r >>= request42)) s.good.read ∙ ap is_some (sym s.means)
-    ∙ some_of _ _ (kind_is s.request is.written s.canonical)
+    ∙ some_of _ _ (kind_is (up_message s.good.message) is.written s.canonical)
 
 bodies_keep : (body up : List ℕ) → IsUp body up → KeepSense body up
 bodies_keep body up is fields others read again =

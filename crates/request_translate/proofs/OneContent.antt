@@ -1,5 +1,6 @@
 -- Canonical requests that mean the same have the same content: each row is written alike of both.
-use Rattle.std.proofs.Common.{◌≡◌, ℕ, List, [], ◌∷◌, ◌++◌, codes, Option, Some, refl, sym, ap, ◌∙◌}
+use Rattle.std.proofs.Common.{◌≡◌, ℕ, zero, suc, List, [], ◌∷◌, ◌++◌, codes, Option, Some, refl, sym}
+use Rattle.std.proofs.Common.{ap, subst, ◌∙◌}
 use Rattle.std.proofs.Common.{unwrap_or, option_map, true}
 use Rattle.std.specs.List.{AllByRecursion, slice_get, flat_map}
 use Rattle.value_kinds.specs.ValueKind as kinds
@@ -16,11 +17,18 @@ use Rattle.dict_fix50.specs.Requests.{new_order, cancel_request, replace_request
 use Rattle.dict_fix50.specs.Sense.{request50, request_of}
 use Rattle.row_values.specs.Amounts.{amount_of}
 use Rattle.sound_laws.specs.Sound.{IsItem}
-use Rattle.request_translate.specs.Canonical.{party_lines, IsCanonical, HaveOneContent}
+use Rattle.request_rules.specs.Canonical.{IsCanonical}
+use Rattle.request_rules.specs.Rules.{party_lines}
+use Rattle.request_translate.specs.Laws.{HaveOneContent}
 use Rattle.sound_laws.proofs.ContentValues.{is_alone, groups_said, value_said}
-use Rattle.request_translate.proofs.Carry.{item_at}
 use Rattle.sound_laws.proofs.Each.{◌&◌}
 use Rattle.request_translate.proofs.SameRows as same
+
+item_at : {A : Type 0} (P : A → Type 0) (i : ℕ) (xs : List A) (x : A)
+    → slice_get xs i ≡ Some x → AllByRecursion P xs → P x
+item_at P i [] x e h = absurd cc
+item_at P zero (y ∷ ys) x e h = let same : y ≡ x = cc in subst P same h.0
+item_at P (suc i) (y ∷ ys) x e h = item_at P i ys x e h.1
 
 abbrev at : Message → ℕ → Said
 at m tag = said_at m.cells (Tag tag)

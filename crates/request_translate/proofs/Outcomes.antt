@@ -21,14 +21,15 @@ use Rattle.dict_fix50.specs.Requests.{new_order, cancel_request, replace_request
 use Rattle.message_tables.specs.Tables.{Item}
 use Rattle.message_tables.specs.Content.{content}
 use Rattle.row_values.specs.Kinds.{Kind}
-use Rattle.request_translate.specs.Canonical.{IsCanonical, HaveOneContent}
+use Rattle.request_rules.specs.Canonical.{IsCanonical}
 use Rattle.request_translate.specs.Lack.{lack_if}
 use Rattle.translation.specs.Header.{type_of, with_content}
 use Rattle.request_translate.specs.Translation.{IsRequest, News, Cancels}
 use Rattle.request_translate.specs.Translation.{Replaces, Statuses, IsGood, StandsFor}
 use Rattle.request_translate.specs.Translation.{IsTranslation, IsFaulty, IsLacking, IsTooLong}
 use Rattle.request_translate.specs.Translation.{IsOutcome}
-use Rattle.request_translate.proofs.OneContent.{news, cancels, replaces, statuses}
+use Rattle.request_rules.specs.Rules.{up_content, up_message}
+use Rattle.request_rules.proofs.GoUp.{read_go_up}
 
 -- what a canonical request asks for
 abbrev pub kind_in : {m : Message} {written : List Field} → IsRequest m written → RequestKind
@@ -72,26 +73,18 @@ of_kind r written (Cancels c w) = record { canonical = c; is = w }
 of_kind r written (Replaces c w) = record { canonical = c; is = w }
 of_kind r written (Statuses c w) = record { canonical = c; is = w }
 
-one_content : (kind : RequestKind) → HaveOneContent (letter_asked kind) (items_asked kind)
-one_content New = news
-one_content Cancel = cancels
-one_content Replace = replaces
-one_content Status = statuses
-
--- requests that mean the same are written alike
-by_kinds : (m n : Message) (a b : List Field) (r : IsRequest m a) (s : IsRequest n b)
-    → Some (kind_in r) ≡ Some (kind_in s) → request50 m ≡ request50 n → a ≡ b
-by_kinds m n a b r s k e =
-    let same : kind_in r ≡ kind_in s = cc in
-    let P : RequestKind → Type 0 = λ kind. IsOfKind m a kind in
-    let mine : IsOfKind m a (kind_in s) = subst P same (of_kind m a r) in
-    let theirs = of_kind n b s in
-    mine.is ∙ one_content (kind_in s) m n mine.canonical theirs.canonical e ∙ sym theirs.is
-
-one_written : (m n : Message) (a b : List Field)
-    → IsRequest m a → IsRequest n b → request50 m ≡ request50 n → a ≡ b
-one_written m n a b r s e = by_kinds m
-    n a b r s (sym (kind_is m a r) ∙ ap (option_map (λ (q : Request). q.kind)) e ∙ kind_is n b s) e
+-- the content by the rules of the message of a good body stands for it
+pub stands_by : (body : List ℕ) (fields written : List Field) (good : IsGood body fields)
+    → written ≡ up_content good.message → StandsFor body fields written
+stands_by body fields written good is =
+    let stands = read_go_up (type_of fields) fields good.message good.split.good good.read good.said
+    in
+    let P : List Field → Type 0 = λ fs. IsRequest (up_message good.message) fs in record {
+      good = good;
+      by_rules = is;
+      canonical = subst P (sym is) stands.request;
+      means = stands.means;
+    }
 
 module _ (body : List ℕ) where
   -- what a body is read as
@@ -151,10 +144,10 @@ module _ (body : List ℕ) where
 
   pub same_content : (a b v w : List Field) → StandsFor body a v → StandsFor body b w → v ≡ w
   same_content a b v w s t =
-      let same =
-      same_message s.good.message t.good.message (good_read a s.good) (good_read b t.good) in
-      one_written s.request
-      t.request v w s.canonical t.canonical (s.means ∙ ap request42 same ∙ sym t.means)
+      s.by_rules
+      ∙ ap up_content (same_message s.good.message t.good.message (good_read a s.good)
+      (good_read b t.good))
+      ∙ sym t.by_rules
 
   pub same_up : (a b v w : List Field)
       → StandsFor body a v → StandsFor body b w

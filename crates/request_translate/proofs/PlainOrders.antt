@@ -33,20 +33,19 @@ use Rattle.dict_fix50.specs.Requests.{new_order}
 use Rattle.dict_fix50.specs.Sense.{request50}
 use Rattle.translation.specs.declared.error.TranslateError.{TranslateError}
 use Rattle.translation.specs.declared.error.TranslateError.TheVariants as errors
-use Rattle.request_translate.specs.Canonical.{IsCanonical, party_lines}
 use Rattle.request_translate.specs.Lack.{lack_if}
 use Rattle.sound_laws.specs.Sound.{IsClear, IsSaid, IsGroup}
 use Rattle.translation.specs.Header.{with_content}
-use Rattle.request_translate.specs.Translation.{News, StandsFor, IsOutcome, IsTooLong}
+use Rattle.request_translate.specs.Translation.{StandsFor, IsOutcome, IsTooLong}
 use Rattle.request_translate.specs.Plain.{PlainOrder, IsValue, HasPlainValues, client_field}
 use Rattle.request_translate.specs.Plain.{client_party, terms, plain_fields, translated_fields}
 use Rattle.request_translate.specs.Plain.{PlainOrdersAreTranslated}
 use Rattle.sound_laws.proofs.PlainFields.{plain_field, all_of}
 use Rattle.sound_laws.proofs.RowsSaid.{optional_said, lenient_said, required_said}
-use Rattle.request_translate.proofs.Carry.{IsPartyId, parties_said}
 use Rattle.sound_laws.proofs.Each.{◌&◌, both, each_joined}
 use Rattle.request_translate.proofs.Outcomes.{good_not_faulty, good_not_lacking, same_content}
-use Rattle.request_translate.proofs.Outcomes.{same_up}
+use Rattle.request_translate.proofs.Outcomes.{same_up, stands_by}
+use Rattle.request_rules.specs.Rules.{up_content}
 
 -- cells of tags at which nothing is said
 abbrev unsaid : List ℕ → List Cell
@@ -72,23 +71,6 @@ said42 o = record {
       (Tag 38, Some o.order_qty) ∷ (Tag 40, Some (type_text o.limit)) ∷ (Tag 44, o.limit) ∷
       unsaid (99 ∷ 15 ∷ 59 ∷ 168 ∷ 432 ∷ 126 ∷ 47 ∷ 77 ∷ 58 ∷ []);
   groups = (78, []) ∷ (386, []) ∷ [];
-}
-
--- and the request of FIX 5.0 SP2 that means the same
-abbrev said50 : PlainOrder → Message
-said50 o = record {
-  letter = 68;
-  resend = false;
-  cells =
-      (Tag 11, Some o.cl_ord_id) ∷ (Role 3, o.client_id) ∷ (Role 1, None) ∷ (Role 4, None) ∷
-      unsaid (1 ∷ 63 ∷ 64 ∷ []) ++
-      (Tag 21, Some o.hand_inst) ∷ unsaid (18 ∷ 110 ∷ 1138 ∷ 100 ∷ []) ++
-      (Tag 55, Some o.symbol) ∷
-      unsaid (65 ∷ 48 ∷ 22 ∷ 167 ∷ 200 ∷ 541 ∷ 207 ∷ []) ++
-      (Tag 54, Some o.side) ∷ (Tag 114, None) ∷ (Tag 60, Some o.transact_time) ∷
-      (Tag 38, Some o.order_qty) ∷ (Tag 40, Some (type_text o.limit)) ∷ (Tag 44, o.limit) ∷
-      unsaid (99 ∷ 15 ∷ 59 ∷ 168 ∷ 432 ∷ 126 ∷ 528 ∷ 77 ∷ 58 ∷ []);
-  groups = (453, party_lines o.client_id None None) ∷ (78, []) ∷ (386, []) ∷ [];
 }
 
 -- ---- what is read
@@ -159,102 +141,7 @@ module _ (o : PlainOrder) where
       v.transact_time.spelled v.order_qty.spelled o.client_id o.limit refl refl
       (if_spelled Id o.client_id v.client_id) (if_spelled Price o.limit v.limit)
 
--- ---- the request of FIX 5.0 SP2 is canonical
-
-roles : (client : Option (List ℕ)) →
-    (client ≡ party_in 3 (party_lines client None None))
-    × (None ≡ party_in 1 (party_lines client None None))
-    × (None ≡ party_in 4 (party_lines client None None))
-unfolding digits first_of
-roles None = (refl, refl, refl)
-roles (Some id) = (refl, refl, refl)
-
-module _ (fields : List Field) where
-  -- rows that say nothing, and a value that is said
-  may : {tag : ℕ} {kind : Kind}
-      → IsSaid judge fields (record { tag = tag; kind = kind; need = Optional }) None
-  may {tag} {kind} = optional_said fields tag kind None tt tt
-
-  dropped : {tag : ℕ} {kind : Kind}
-      → IsSaid judge fields (record { tag = tag; kind = kind; need = Lenient }) None
-  dropped {tag} {kind} = lenient_said fields tag kind None tt tt
-
-  spells : (kind : ValueKind) (text : List ℕ)
-      → IsValue kind text → judge fields (Value kind) text ≡ Spells text
-  unfolding judge
-  spells kind text v = rw v.spelled refl
-
-  if_spells : (kind : ValueKind) (said : Option (List ℕ)) → IfSome said (IsValue kind)
-      → IfSome said (λ text. judge fields (Value kind) text ≡ Spells text)
-  if_spells kind None v = tt
-  if_spells kind (Some text) v = spells kind text v
-
-  if_clear : (kind : ValueKind) (said : Option (List ℕ))
-      → IfSome said (IsValue kind) → IfSome said IsClear
-  if_clear kind None v = tt
-  if_clear kind (Some text) v = v.clear
-
-  said : (tag : ℕ) (kind : ValueKind) (text : List ℕ) → IsValue kind text
-      → IsSaid judge fields (record { tag = tag; kind = Value kind; need = Required }) (Some text)
-  said tag kind text v =
-      required_said fields tag (Value kind) (Some text) refl (spells kind text v) v.clear
-
-type_is : (limit : Option (List ℕ)) → IsValue (Code (codes "1234")) (type_text limit)
-unfolding spelling
-type_is None = record { spelled = refl; clear = refl }
-type_is (Some price) = record { spelled = refl; clear = refl }
-
-party_is : (client : Option (List ℕ)) → IfSome client (IsValue Id) → IsPartyId client
-unfolding judge
-party_is None v = tt
-party_is (Some id) v = (rw v.spelled refl, v.clear)
-
-no_allocs : IsGroup judge allocs []
-no_allocs = record { few = lit≤ tt; said = tt }
-
-no_sessions : IsGroup judge sessions []
-no_sessions = record { few = lit≤ tt; said = tt }
-
-module _ (o : PlainOrder) (v : HasPlainValues o) where
-  canonical : IsCanonical 68 new_order (said50 o)
-  canonical =
-      let f = content (table 68 new_order) (said50 o) in
-      let r = roles o.client_id in
-      record {
-        sound = record {
-          letter = refl;
-          places = refl;
-          counts = refl;
-          items = said f 11 Id o.cl_ord_id v.cl_ord_id
-              & parties_said o.client_id None None (party_is o.client_id v.client_id) tt tt
-              & r.0 & r.1 & r.2 & may f & no_allocs & dropped f & may f
-              & said f 21 (Code (codes "123")) o.hand_inst v.hand_inst
-              & dropped f & may f & may f & may f & no_sessions
-              & said f 55 Id o.symbol v.symbol
-              & may f & may f & dropped f & dropped f & dropped f & may f & may f
-              & said f 54 (Code (codes "123456")) o.side v.side
-              & may f
-              & said f 60 Stamp o.transact_time v.transact_time
-              & said f 38 Qty o.order_qty v.order_qty
-              & said f 40 (Code (codes "1234")) (type_text o.limit) (type_is o.limit)
-              & optional_said f 44 (Value Price) o.limit
-              (if_spells f Price o.limit v.limit) (if_clear f Price o.limit v.limit)
-              & may f & may f & dropped f & may f & may f & may f & dropped f & dropped f & may f
-              & tt;
-        };
-        month = refl;
-        parties = refl;
-      }
-
--- ---- it means the same, and lacks nothing
-
-means : (o : PlainOrder) → request50 (said50 o) ≡ request42 (said42 o)
-means o = by o.limit refl
-  where
-    by : (limit : Option (List ℕ))
-        → o.limit ≡ limit → request50 (said50 o) ≡ request42 (said42 o)
-    by None l = rw l refl
-    by (Some price) l = rw l refl
+-- ---- it lacks nothing
 
 lacks_nothing : (o : PlainOrder) → lack_if (request42 (said42 o)) ≡ None
 lacks_nothing o = by o.limit refl
@@ -272,16 +159,13 @@ content_fields o =
     (21, o.hand_inst) ∷ (55, o.symbol) ∷ (54, o.side) ∷
     (60, o.transact_time) ∷ (38, o.order_qty) ∷ terms o.limit
 
-abbrev written : PlainOrder → List Field
-written o = content (table 68 new_order) (said50 o)
-
-written_is : (o : PlainOrder) (client limit : Option (List ℕ)) → o.client_id ≡ client
-    → o.limit ≡ limit → written o ≡ content_fields o
+content_is : (o : PlainOrder) (client limit : Option (List ℕ)) → o.client_id ≡ client
+    → o.limit ≡ limit → content_fields o ≡ up_content (said42 o)
 unfolding digits
-written_is o None None c l = rw (c, l) refl
-written_is o None (Some price) c l = rw (c, l) refl
-written_is o (Some id) None c l = rw (c, l) refl
-written_is o (Some id) (Some price) c l = rw (c, l) refl
+content_is o None None c l = rw (c, l) refl
+content_is o None (Some price) c l = rw (c, l) refl
+content_is o (Some id) None c l = rw (c, l) refl
+content_is o (Some id) (Some price) c l = rw (c, l) refl
 
 up_is : (o : PlainOrder) (client limit : Option (List ℕ)) → o.client_id ≡ client
     → o.limit ≡ limit → with_content (plain_fields o) (content_fields o) ≡ translated_fields o
@@ -524,17 +408,12 @@ module _ (o : PlainOrder) (v : HasPlainValues o) where
   -- ---- its one outcome
 
   stands : StandsFor body (plain_fields o) (content_fields o)
-  stands = record {
-    good = record {
-      message = said42 o;
-      split = split;
-      read = read o v;
-      said = lacks_nothing o;
-    };
-    request = said50 o;
-    canonical = News (canonical o v) (sym (written_is o o.client_id o.limit refl refl));
-    means = means o;
-  }
+  stands = stands_by body (plain_fields o) (content_fields o) (record {
+    message = said42 o;
+    split = split;
+    read = read o v;
+    said = lacks_nothing o;
+  }) (content_is o o.client_id o.limit refl refl)
 
   same_body : (fields written : List Field) → StandsFor body fields written
       → body_of (with_content fields written) ≡ body_of (translated_fields o)

@@ -37,7 +37,7 @@ use Rattle.translation.proofs.BehindHeader.{IsHead, front, items_behind, read_be
 use Rattle.translation.proofs.CarriedHeader.{IsOwnHead, HasHeader, head_is_own, head_value}
 use Rattle.translation.proofs.CarriedHeader.{own_said}
 use Rattle.translation.proofs.Writable.{IsType}
-use Rattle.request_translate.specs.Canonical.{IsCanonical}
+use Rattle.request_rules.specs.Canonical.{IsCanonical}
 use Rattle.request_translate.specs.Translation.{IsRequest}
 use Rattle.request_translate.proofs.Outcomes.{kind_in, kind_is, letter_asked, items_asked}
 use Rattle.request_translate.proofs.Outcomes.{IsOfKind, of_kind}

@@ -17,12 +17,9 @@ use Rattle.first_faults.specs.Faults.{told}
 use Rattle.rows_fix50.specs.Header.{table, completed, completed_by}
 use Rattle.dict_fix50.specs.Message.{message50, message50_by}
 use Rattle.dict_fix50.specs.Requests.{new_order, cancel_request, replace_request, status_request}
-use Rattle.dict_fix50.specs.Said.{says as says50}
-use Rattle.dict_fix50.specs.declared.requests.Msg50.{Msg50}
-use Rattle.dict_fix50.specs.declared.requests.Msg50.TheVariants as messages
 use Rattle.sound_laws.specs.Sound.{IsClear, IsSound, places_of}
 use Rattle.sound_laws.specs.Complete.{IsComplete}
-use Rattle.request_translate.specs.Up.{IsSound50}
+use Rattle.request_translate.specs.Up.{IsRequest50, News, Cancels, Replaces, Statuses}
 use Rattle.sound_laws.proofs.Each.{both, not_true}
 use Rattle.sound_laws.proofs.ContentValues.{is_alone, value_said, groups_said, GroupSaid}
 use Rattle.sound_laws.proofs.PlainRows.{HasPlainRows, parties_plain, allocs_plain}
@@ -198,13 +195,6 @@ module _ (fields : List Field) (clear : AllByRecursion (IsClearField judge) fiel
       by_completed (IsComplete t) (told (message_of judge t fields))
       (of_message t fields (λ y. IsComplete t (completed y)) h) x e
 
-  -- a complete message of the table of its letter
-  data IsCompleteOf (x : Message) : Type 0 where
-    News : IsComplete (table 68 new_order) x → IsCompleteOf x
-    Cancels : IsComplete (table 70 cancel_request) x → IsCompleteOf x
-    Replaces : IsComplete (table 71 replace_request) x → IsCompleteOf x
-    Statuses : IsComplete (table 72 status_request) x → IsCompleteOf x
-
   by_type : (d f g h : Bool) (x : Message) → message50_by
       (if d then Some (table 68 new_order) else (if f then Some (table 70 cancel_request) else
       (if g then Some (table 71 replace_request)
@@ -213,7 +203,7 @@ module _ (fields : List Field) (clear : AllByRecursion (IsClearField judge) fiel
       None
       ≡ Ok
       x
-      → IsCompleteOf
+      → IsRequest50
       x
   by_type true f g h x e = News (by_table 68 new_order x new_read e)
   by_type false true g h x e = Cancels (by_table 70 cancel_request x cancel_read e)
@@ -221,28 +211,10 @@ module _ (fields : List Field) (clear : AllByRecursion (IsClearField judge) fiel
   by_type false false false true x e = Statuses (by_table 72 status_request x status_read e)
   by_type false false false false x e = absurd cc
 
-  by_letter : (m : Msg50) → IsCompleteOf (says50 m) → IsSound50 m
-  by_letter (messages.New m) (News c) = c
-  by_letter (messages.New m) (Cancels c) = absurd (let no = c.sound.letter in cc)
-  by_letter (messages.New m) (Replaces c) = absurd (let no = c.sound.letter in cc)
-  by_letter (messages.New m) (Statuses c) = absurd (let no = c.sound.letter in cc)
-  by_letter (messages.Cancel m) (Cancels c) = c
-  by_letter (messages.Cancel m) (News c) = absurd (let no = c.sound.letter in cc)
-  by_letter (messages.Cancel m) (Replaces c) = absurd (let no = c.sound.letter in cc)
-  by_letter (messages.Cancel m) (Statuses c) = absurd (let no = c.sound.letter in cc)
-  by_letter (messages.Replace m) (Replaces c) = c
-  by_letter (messages.Replace m) (News c) = absurd (let no = c.sound.letter in cc)
-  by_letter (messages.Replace m) (Cancels c) = absurd (let no = c.sound.letter in cc)
-  by_letter (messages.Replace m) (Statuses c) = absurd (let no = c.sound.letter in cc)
-  by_letter (messages.Status m) (Statuses c) = c
-  by_letter (messages.Status m) (News c) = absurd (let no = c.sound.letter in cc)
-  by_letter (messages.Status m) (Cancels c) = absurd (let no = c.sound.letter in cc)
-  by_letter (messages.Status m) (Replaces c) = absurd (let no = c.sound.letter in cc)
-
   -- WHAT IS READ IS SOUND, AND COMPLETE.
-  pub read_is_complete : (msg_type : List ℕ) (m : Msg50)
-      → message50 msg_type fields None ≡ Ok (says50 m) → IsSound50 m
+  pub read_is_complete : (msg_type : List ℕ) (x : Message) → message50 msg_type fields None ≡ Ok x
+      → IsRequest50 x
   unfolding message50
-  read_is_complete msg_type m e =
-      by_letter m (by_type (bytes_eq msg_type (codes "D")) (bytes_eq msg_type (codes "F"))
-      (bytes_eq msg_type (codes "G")) (bytes_eq msg_type (codes "H")) (says50 m) e)
+  read_is_complete msg_type x e =
+      by_type (bytes_eq msg_type (codes "D")) (bytes_eq msg_type (codes "F"))
+      (bytes_eq msg_type (codes "G")) (bytes_eq msg_type (codes "H")) x e

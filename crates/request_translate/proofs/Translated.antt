@@ -6,33 +6,24 @@ use Rattle.frame_grammar.specs.Frame.{IsFrame, IsWritable, frame_of}
 use Rattle.field_groups.specs.declared.fault.SplitFault.{SplitFault}
 use Rattle.field_groups.specs.Field.{Field}
 use Rattle.field_groups.specs.Fields.{SplitsInto}
-use Rattle.dict_fix50.specs.Content.{content50}
-use Rattle.dict_fix50.specs.Said as said50
-use Rattle.dict_fix50.specs.declared.requests.Msg50.{Msg50}
-use Rattle.dict_fix50.specs.declared.requests.Msg50.TheVariants as messages
 use Rattle.translation.specs.declared.error.TranslateError.{TranslateError}
 use Rattle.translation.specs.declared.error.TranslateError.TheVariants as errors
-use Rattle.request_translate.specs.Canonical.{IsCanonical50}
 use Rattle.translation.specs.Header.{type_of, carried, with_content}
-use Rattle.request_translate.specs.Translation.{IsRequest, News}
-use Rattle.request_translate.specs.Translation.{Cancels, Replaces, Statuses, IsGood, StandsFor}
+use Rattle.request_rules.specs.Rules.{up_content, up_message}
+use Rattle.request_rules.specs.Up.{StandsFor as GoesUp}
+use Rattle.request_rules.proofs.GoUp.{read_go_up}
+use Rattle.request_translate.specs.Translation.{IsGood, StandsFor}
 use Rattle.request_translate.specs.Translation.{IsTranslation, IsRefused, IsRefusedByCheck}
-use Rattle.request_translate.specs.Writing.{IsRequestOf, IsUpOf, LackNothing, Refuses, RefusesUp}
+use Rattle.request_translate.specs.Writing.{IsUpOf, LackNothing, Refuses, RefusesUp}
 use Rattle.dict_fix42.specs.Sense.{sense42}
 use Rattle.dict_fix50.specs.Sense.{sense50}
 use Rattle.request_translate.proofs.AgainFields.{split_again}
+use Rattle.request_translate.proofs.Outcomes.{stands_by}
 use Rattle.request_translate.proofs.SenseAgain.{same_sense}
 use Rattle.row_values.specs.Kinds.{judge}
 use Rattle.sound_laws.proofs.PlainFields.{clear_fields}
 use Rattle.request_translate.proofs.Writable.{type_is}
 use Rattle.translation.proofs.Writable.{writable}
-
-is_request : (request : Msg50)
-    → IsCanonical50 request → IsRequest (said50.says request) (content50 request)
-is_request (messages.New m) c = News c refl
-is_request (messages.Cancel m) c = Cancels c refl
-is_request (messages.Replace m) c = Replaces c refl
-is_request (messages.Status m) c = Statuses c refl
 
 module _ (body : List ℕ) (fields : List Field)
     (stopped : Option SplitFault) (split : SplitsInto body fields stopped) where
@@ -53,48 +44,42 @@ module _ (body : List ℕ) (fields : List Field)
   checked (Ok done) h = (fields, good h)
   checked (Err error) h = tt
 
-  stands : (request : Msg50)
-      → IsRequestOf fields stopped request → StandsFor body fields (content50 request)
+  goes : (asked : LackNothing fields stopped) → GoesUp asked.message
+  goes asked =
+      read_go_up (type_of fields) fields asked.message split.good asked.read.read asked.said
+
+  stands : (asked : LackNothing fields stopped)
+      → StandsFor body fields (up_content asked.message)
   unfolding good
-  stands request asked = record {
-    good = good (record {
-      message = asked.message;
-      read = asked.read;
-      said = asked.written.said;
-    });
-    request = said50.says request;
-    canonical = is_request request asked.written.canonical;
-    means = asked.written.means;
-  }
+  stands asked = stands_by body fields (up_content asked.message) (good asked) refl
 
   pub can_be_written : (up : List ℕ) → IsUpOf fields stopped up → IsWritable up
   can_be_written up is =
       let P : List ℕ → Type 0 = λ bytes. IsWritable bytes in
-      let asked = is.asked in
+      let m = is.asked.message in
       subst P (sym is.written.bytes)
-      (writable (type_of fields) (carried fields ++ content50 is.request)
-      (type_is (type_of fields) fields asked.message asked.read.read))
+      (writable (type_of fields) (carried fields ++ up_content m)
+      (type_is (type_of fields) fields m is.asked.read.read))
 
   split_up : (up : List ℕ) (is : IsUpOf fields stopped up)
-      → SplitsInto up (with_content fields (content50 is.request)) None
+      → SplitsInto up (with_content fields (up_content is.asked.message)) None
   split_up up is =
-      let asked = is.asked in
+      let m = is.asked.message in
       let P : List ℕ → Type 0 =
-      λ bytes. SplitsInto bytes (with_content fields (content50 is.request)) None in
+      λ bytes. SplitsInto bytes (with_content fields (up_content m)) None in
       subst P (sym is.written.bytes)
-      (split_again fields (content50 is.request) (said50.says is.request) split.good
-      (type_is (type_of fields) fields asked.message asked.read.read)
-      (is_request is.request asked.written.canonical))
+      (split_again fields (up_content m) (up_message m) split.good
+      (type_is (type_of fields) fields m is.asked.read.read) (goes is.asked).request)
 
   same_up : (up : List ℕ) (is : IsUpOf fields stopped up) → sense50
-      (type_of fields) (with_content fields (content50 is.request))
+      (type_of fields) (with_content fields (up_content is.asked.message))
       ≡ sense42 (type_of fields) fields
   same_up up is =
-      let asked = is.asked in
-      same_sense (type_of fields) fields asked.message
-      (said50.says is.request) (type_is (type_of fields) fields asked.message asked.read.read)
-      (clear_fields judge None fields split.good) asked.written.means
-      (content50 is.request) (is_request is.request asked.written.canonical) asked.read.read
+      let m = is.asked.message in
+      same_sense (type_of fields) fields m (up_message m)
+      (type_is (type_of fields) fields m is.asked.read.read)
+      (clear_fields judge None fields split.good) (goes is.asked).means (up_content m)
+      (goes is.asked).request is.asked.read.read
 
   pub translation : (up : List ℕ) → IsUpOf fields stopped up
       → IsFrame Fixt11 up (frame_of Fixt11 up) → IsTranslation body (frame_of Fixt11 up)
@@ -102,8 +87,8 @@ module _ (body : List ℕ) (fields : List Field)
     up = up;
     stands = record {
       fields = fields;
-      written = content50 is.request;
-      stands = stands is.request is.asked;
+      written = up_content is.asked.message;
+      stands = stands is.asked;
       bytes = is.written.bytes;
       content_fits = is.written.content_fits;
       body_fits = is.written.body_fits;
@@ -119,8 +104,8 @@ module _ (body : List ℕ) (fields : List Field)
   refused errors.TooLong h = record {
     fields =
         fields;
-    written = content50 h.request;
-    stands = stands h.request h.asked;
+    written = up_content h.asked.message;
+    stands = stands h.asked;
     long = h.long;
   }
   refused (errors.Faulty fault) h =

@@ -1,37 +1,12 @@
 -- Standard: FIX 4.2 and FIX 5.0 SP2, OrdType(40), TimeInForce(59), Rule80A(47), OrderCapacity(528).
 -- Own: of OrderCapacity only A (agency), I (individual) and P (principal) are in the profile.
-use Rattle.std.specs.Prelude.{◌≡◌, ◌≢◌, ℕ, Bool, true, false, not, List, codes, Option, Some, None}
-use Rattle.std.specs.Prelude.{if◌then◌else◌}
+use Rattle.std.specs.Prelude.{◌≡◌, ◌≢◌, ℕ, List, Option, Some}
 use Rattle.field_groups.specs.Field.{Field}
-use Rattle.message_tables.specs.Tables.{◌>>=◌, is_one_of}
 use Rattle.order_meaning.specs.declared.fault.Lack.{Lack}
 use Rattle.order_meaning.specs.declared.fault.Lack.TheVariants as lacks
-use Rattle.order_meaning.specs.Request.{Request, OrderType, MarketOnClose, LimitOnClose}
+use Rattle.order_meaning.specs.Request.{Request}
 use Rattle.dict_fix50.specs.Sense.{sense50}
-
--- An order on close with a TimeInForce: FIX 5.0 SP2 says by TimeInForce itself that it is on close.
-abbrev pub lacks_time : Option OrderType → Option ℕ → Bool
-lacks_time (Some MarketOnClose) (Some time) = true
-lacks_time (Some LimitOnClose) (Some time) = true
-lacks_time ord_type time = false
-
--- a capacity that OrderCapacity does not have
-abbrev pub lacks_capacity : Option ℕ → Bool
-lacks_capacity None = false
-lacks_capacity (Some code) = not (is_one_of (codes "AIP") code)
-
--- the first tag that lacks a spelling
-abbrev pub lack_in : Option OrderType → Option ℕ → Option ℕ → Option ℕ
-lack_in ord_type time capacity =
-    if lacks_time ord_type time
-    then Some 59 else (if lacks_capacity capacity then Some 47 else None)
-
--- THE LACK of a request: the tag of FIX 4.2 that says what FIX 5.0 SP2 cannot say, 59 before 47
-abbrev pub lack_of : Request → Option ℕ
-lack_of r = lack_in r.ord_type r.time_in_force r.capacity
-
-abbrev pub lack_if : Option Request → Option ℕ
-lack_if request = request >>= lack_of
+pub use Rattle.request_rules.specs.Lack.{lack_if, lack_in, lack_of, lacks_capacity, lacks_time}
 
 -- no message of FIX 5.0 SP2 means this
 abbrev pub HasNoSpelling : Option Request → Type 0
@@ -43,8 +18,3 @@ HasNoSpelling request =
 abbrev pub IsLackOf : Option Request → Lack → Type 0
 IsLackOf request lacks.NoMemory = Unit {0}
 IsLackOf request (lacks.Tag tag) = (lack_if request ≡ Some tag) × HasNoSpelling request
-
--- the lack of these terms
-abbrev pub IsLackIn : Option OrderType → Option ℕ → Option ℕ → Lack → Type 0
-IsLackIn ord_type time capacity lacks.NoMemory = ⊥
-IsLackIn ord_type time capacity (lacks.Tag tag) = lack_in ord_type time capacity ≡ Some tag

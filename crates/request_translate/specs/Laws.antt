@@ -11,21 +11,31 @@ use Rattle.dict_fix50.specs.Content.{content50}
 use Rattle.dict_fix50.specs.Message.{message50}
 use Rattle.dict_fix50.specs.Said.{says as says50}
 use Rattle.dict_fix50.specs.declared.requests.Msg50.{Msg50}
-use Rattle.dict_fix50.specs.Sense.{sense50}
 use Rattle.dict_fix50.specs.Requests.{new_order, cancel_request, replace_request, status_request}
+use Rattle.dict_fix50.specs.Sense.{request50, sense50}
+use Rattle.message_tables.specs.Content.{content}
+use Rattle.message_tables.specs.Tables.{Item, Message}
+use Rattle.row_values.specs.Kinds.{Kind}
+use Rattle.rows_fix50.specs.Header.{table}
 use Rattle.sound_laws.specs.Sound.{without_resend}
-use Rattle.request_translate.specs.Canonical.{HaveOneContent, IsCanonical50}
+use Rattle.request_rules.specs.Canonical.{IsCanonical}
+use Rattle.request_rules.specs.Up.{IsRequest42}
 use Rattle.translation.specs.declared.error.TranslateError.{TranslateError}
 use Rattle.request_translate.specs.Lack.{lack_of}
 use Rattle.request_translate.specs.Translation.{IsOutcome, IsTranslation, KeepSense}
-use Rattle.request_translate.specs.Up.{IsSound42, IsSound50}
+use Rattle.request_translate.specs.Up.{IsRequest50, IsSound42, IsSound50}
 
 -- what a message of FIX 5.0 SP2 means lacks nothing there
 abbrev pub LacksNothing : Type 0
 LacksNothing = (msg_type : List ℕ) (fields : List Field)
     → IfSome (sense50 msg_type fields) (λ request. lack_of request ≡ None)
 
--- canonical requests that mean the same have the same content
+-- canonical requests of a type that mean the same have the same content
+abbrev pub HaveOneContent : ℕ → List (Item Kind) → Type 0
+HaveOneContent letter items =
+    (m n : Message) → IsCanonical letter items m → IsCanonical letter items n →
+    request50 m ≡ request50 n → content (table letter items) m ≡ content (table letter items) n
+
 pub record RequestsHaveOneContent : Type 0 where
   pub news : HaveOneContent 68 new_order
   pub cancels : HaveOneContent 70 cancel_request
@@ -59,7 +69,7 @@ pub record WrittenIsReadAgain : Type 0 where
 
 -- what is read of the fields of a body is sound, in each version
 pub record ReadIsSound : Type 0 where
-  pub fix42 : (msg_type : List ℕ) (fields : List Field) (m : Msg42) → AreFields None fields
-      → message42 msg_type fields None ≡ Ok (says42 m) → IsSound42 m
-  pub fix50 : (msg_type : List ℕ) (fields : List Field) (m : Msg50) → AreFields None fields
-      → message50 msg_type fields None ≡ Ok (says50 m) → IsSound50 m
+  pub fix42 : (msg_type : List ℕ) (fields : List Field) (m : Message) → AreFields None fields
+      → message42 msg_type fields None ≡ Ok m → IsRequest42 m
+  pub fix50 : (msg_type : List ℕ) (fields : List Field) (m : Message) → AreFields None fields
+      → message50 msg_type fields None ≡ Ok m → IsRequest50 m

@@ -1,9 +1,6 @@
-pub mod Canonical
-pub mod FromFields
 pub mod Lack
 pub mod Laws
 pub mod Plain
 pub mod Translation
 pub mod Up
 pub mod Writing
-pub mod Written

@@ -8,29 +8,17 @@ use Rattle.field_groups.specs.declared.fault.SplitFault.{SplitFault}
 use Rattle.field_groups.specs.Field.{Field, body_of}
 use Rattle.field_groups.specs.Fields.{SplitsInto}
 use Rattle.message_tables.specs.Tables.{Message}
-use Rattle.message_tables.specs.Content.{content}
 use Rattle.order_meaning.specs.declared.fault.Fault.{Fault}
 use Rattle.dict_fix42.specs.Message.{message42}
 use Rattle.dict_fix42.specs.Sense.{sense42, request42}
-use Rattle.rows_fix50.specs.Header.{table}
 use Rattle.dict_fix50.specs.Sense.{sense50, request50}
-use Rattle.dict_fix50.specs.Requests.{new_order, cancel_request, replace_request, status_request}
 use Rattle.translation.specs.declared.lengths.TheConstants.{MAX_CONTENT}
 use Rattle.translation.specs.declared.error.TranslateError.{TranslateError}
 use Rattle.translation.specs.declared.error.TranslateError.TheVariants as errors
 use Rattle.translation.specs.Header.{type_of, with_content}
-use Rattle.request_translate.specs.Canonical.{IsCanonical}
-use Rattle.request_translate.specs.Lack.{lack_if}
-
--- a canonical request of one of the four types, and its content
-pub data IsRequest (m : Message) (fields : List Field) : Type 0 where
-  News : IsCanonical 68 new_order m → fields ≡ content (table 68 new_order) m → IsRequest m fields
-  Cancels : IsCanonical 70 cancel_request m
-      → fields ≡ content (table 70 cancel_request) m → IsRequest m fields
-  Replaces : IsCanonical 71 replace_request m
-      → fields ≡ content (table 71 replace_request) m → IsRequest m fields
-  Statuses : IsCanonical 72 status_request m
-      → fields ≡ content (table 72 status_request) m → IsRequest m fields
+pub use Rattle.request_rules.specs.Canonical.{IsRequest, News, Cancels, Replaces, Statuses}
+use Rattle.request_rules.specs.Lack.{lack_if}
+use Rattle.request_rules.specs.Rules.{up_content, up_message}
 
 -- A good body: it is read as a message of FIX 4.2, which lacks nothing in FIX 5.0 SP2.
 pub record IsGood (body : List ℕ) (fields : List Field) : Type 0 where
@@ -39,13 +27,13 @@ pub record IsGood (body : List ℕ) (fields : List Field) : Type 0 where
   pub read : message42 (type_of fields) fields None ≡ Ok message
   pub said : lack_if (request42 message) ≡ None
 
--- The content of FIX 5.0 SP2 that stands for a good body: that of the canonical request that means
--- what the body means.
+-- The content of FIX 5.0 SP2 that stands for a good body: what the rules write of its message. It is
+-- that of a canonical request, which means what the body means.
 pub record StandsFor (body : List ℕ) (fields written : List Field) : Type 0 where
   pub good : IsGood body fields
-  pub request : Message
-  pub canonical : IsRequest request written
-  pub means : request50 request ≡ request42 good.message
+  pub by_rules : written ≡ up_content good.message
+  pub canonical : IsRequest (up_message good.message) written
+  pub means : request50 (up_message good.message) ≡ request42 good.message
 
 -- A body of FIX 5.0 SP2 that stands for a body of FIX 4.2: the header fields, and then the content.
 -- It is split again into these fields, which mean the same.

@@ -1,4 +1,5 @@
 -- Own: a sound request of each version, one whose content says the same when it is read again.
+use Rattle.message_tables.specs.Tables.{Message}
 use Rattle.row_values.specs.Kinds.{judge}
 use Rattle.rows_fix42.specs.Header.{table as table42}
 use Rattle.rows_fix50.specs.Header.{table as table50}
@@ -30,3 +31,10 @@ IsSound50 (messages50.Replace m) =
     IsComplete (table50 71 requests50.replace_request) (said50.replace_says m)
 IsSound50 (messages50.Status m) =
     IsComplete (table50 72 requests50.status_request) (said50.status_says m)
+
+-- a sound request of FIX 5.0 SP2
+pub data IsRequest50 (m : Message) : Type 0 where
+  News : IsComplete (table50 68 requests50.new_order) m → IsRequest50 m
+  Cancels : IsComplete (table50 70 requests50.cancel_request) m → IsRequest50 m
+  Replaces : IsComplete (table50 71 requests50.replace_request) m → IsRequest50 m
+  Statuses : IsComplete (table50 72 requests50.status_request) m → IsRequest50 m

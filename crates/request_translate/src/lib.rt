@@ -4,14 +4,8 @@
 //! which name no translator.
 #![tactic(auto)]
 
-mod cancels;
 mod checking;
-mod from_fields;
 pub mod laws;
-mod new_orders;
-mod parts;
-mod replaces;
-mod statuses;
 mod translate;
 mod upward;
 

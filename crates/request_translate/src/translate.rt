@@ -1,41 +1,42 @@
 //! Translating the body of a request of FIX 4.2 to FIX 5.0 SP2.
 
 ghost use Rattle.std.specs.Prelude.{◌≡◌, ◌++◌, ℕ, List, None, IfErr, OnErr, OnOk};
-ghost use Rattle.field_groups.specs.Field.{Field, AreFields};
-ghost use Rattle.request_translate.specs.FromFields.{Appends};
+ghost use Rattle.field_groups.specs.Field.{Field};
 ghost use Rattle.request_translate.specs.Translation.{IsGood, IsTranslation, IsRefused};
 ghost use Rattle.request_translate.specs.Translation.{IsRefusedByCheck};
-ghost use Rattle.request_translate.specs.Writing.{IsUpOf, Refuses, RefusesUp};
+ghost use Rattle.request_translate.specs.Writing.{Appends, IsUpOf, Refuses, RefusesUp};
 
 use crate::checking::{check_fields, good};
-use crate::from_fields::put_good;
 use field_groups::{Split, split};
 use frame_grammar::{FrameError, Kind, write_frame};
+use request_rules::put_up as put_content;
 use std::alloc::Global;
-use translation::{TranslateError, check_lengths, write_head};
+use translation::{TranslateError, check_lengths, lacking, write_head};
 
 /// Appends the content of the request that stands for the fields of a body.
-#[tactic(auto, using(crate::proofs::Appended::of_good_fields))]
-fn put_up(alloc: Global, split: &Split<'_>, out: &mut Vec<u8>) -> Result<(), TranslateError>
-    requires { AreFields None split.now.fields }
+#[tactic(auto, using(crate::proofs::GoodFields::put))]
+fn put_up(split: &Split<'_>, out: &mut Vec<u8>) -> Result<(), TranslateError>
     ensures ok { OnOk result
         (Appends split.now.fields split.now.fault out.old.items out.new.items) }
     ensures refused { IfErr result (Refuses split.now.fields split.now.fault) }
 {
-    put_good(alloc, good(split)?, out)
+    let good = good(split)?;
+    match put_content(&good, out) {
+        Ok(()) => Ok(()),
+        Err(lack) => Err(lacking(lack)),
+    }
 }
 
 /// Writes to `up`, in place of what it has, the body that stands for the fields of a body.
 #[tactic(auto, using(crate::proofs::Appended::grows))]
-fn write_up(alloc: Global, split: &Split<'_>, up: &mut Vec<u8>) -> Result<(), TranslateError>
-    requires { AreFields None split.now.fields }
+fn write_up(split: &Split<'_>, up: &mut Vec<u8>) -> Result<(), TranslateError>
     ensures ok { OnOk result (IsUpOf split.now.fields split.now.fault up.new.items) }
     ensures refused { IfErr result (RefusesUp split.now.fields split.now.fault) }
 {
     up.clear();
     write_head(&split.fields, up)?;
     let head = up.len();
-    put_up(alloc, split, up)?;
+    put_up(split, up)?;
     let body = up.len();
     check_lengths(body - head, body)
 }
@@ -77,7 +78,7 @@ impl Translator {
         ensures err { OnErr result (out.new.items ≡ out.old.items) }
     {
         let split = split(self.alloc, body)?;
-        write_up(self.alloc, &split, &mut self.up)?;
+        write_up(&split, &mut self.up)?;
         match write_frame(Kind::Fixt11, &self.up, out) {
             Ok(()) => Ok(()),
             Err(FrameError::NoMemory) => Err(TranslateError::NoMemory),

@@ -1,58 +1,71 @@
-//! Requests of FIX 4.2 as requests of FIX 5.0 SP2.
+//! A request of FIX 4.2 as one of FIX 5.0 SP2, for a caller that wants structs.
 
-ghost use Rattle.std.specs.Prelude.{◌≡◌, Some, None, IfOk, IfErr, OnOk, true};
-ghost use Rattle.order_meaning.specs.Request as kinds;
-ghost use Rattle.dict_fix42.specs.Sense as sense42;
-ghost use Rattle.dict_fix50.specs.Sense as sense50;
-ghost use Rattle.dict_fix42.specs.Said as said42;
-ghost use Rattle.dict_fix50.specs.Said as said50;
+ghost use Rattle.std.specs.Prelude.{◌≡◌, [], None, IfOk, IfErr, OnOk};
 ghost use Rattle.dict_fix42.specs.Readable.{IsReadable42};
+ghost use Rattle.dict_fix42.specs.Said.{says as says42};
+ghost use Rattle.dict_fix42.specs.Sense.{request42};
 ghost use Rattle.dict_fix50.specs.Readable.{IsReadable50};
+ghost use Rattle.dict_fix50.specs.Said.{says as says50};
+ghost use Rattle.dict_fix50.specs.Sense.{request50};
+ghost use Rattle.request_rules.specs.Canonical.{IsRequest};
+ghost use Rattle.request_rules.specs.Put.{IsPut, Lacks};
+ghost use Rattle.request_rules.specs.Rules.{up_content, up_message};
 ghost use Rattle.request_translate.specs.Lack.{lack_if, IsLackOf};
-ghost use Rattle.request_translate.specs.Canonical.{IsCanonical50};
 ghost use Rattle.request_translate.specs.Up.{IsSound42};
-ghost use Rattle.request_translate.specs.Written.{IsTime42, is_type42, IsNew, IsReplace};
 
-use crate::cancels::cancel_request;
-use crate::new_orders::new_order;
-use crate::parts::order_terms;
-use crate::replaces::replace_request;
-use crate::statuses::status_request;
-use dict_fix42::{Msg42, New42, Replace42};
-use dict_fix50::{Msg50, New50, Replace50};
-use order_meaning::Lack;
+use dict_fix42::{Msg42, type42, write42};
+use dict_fix50::{Msg50, read50};
+use field_groups::split;
+use order_meaning::{Fault, Lack};
+use request_rules::{good_request, put_up};
 use std::alloc::Global;
 
-/// The new order, or its lack.
-fn up_new(alloc: Global, msg: &New42) -> Result<New50, Lack>
-    requires ord_type { is_type42 msg.now.ord_type ≡ true }
-    requires time { IsTime42 msg.now.time_in_force }
-    ensures rows { IfOk result (IsNew msg.now) }
-    ensures lack { IfErr result
-        (IsLackOf (Some (sense42.request_of kinds.New (said42.new_says msg.now)))) }
+/// PossResend(97) of a request.
+fn resend(msg: &Msg42) -> bool
+    ensures { result ≡ (says42 msg.now).resend }
 {
-    let terms = order_terms(msg.ord_type, msg.time_in_force, msg.capacity)?;
-    Ok(new_order(alloc, msg, terms)?)
+    match msg {
+        Msg42::New(new) => new.resend,
+        Msg42::Cancel(cancel) => cancel.resend,
+        Msg42::Replace(replace) => replace.resend,
+        Msg42::Status(status) => status.resend,
+    }
 }
 
-/// The request to replace, or its lack.
-fn up_replace(alloc: Global, msg: &Replace42) -> Result<Replace50, Lack>
-    requires ord_type { is_type42 msg.now.ord_type ≡ true }
-    requires time { IsTime42 msg.now.time_in_force }
-    ensures rows { IfOk result (IsReplace msg.now) }
-    ensures lack { IfErr result
-        (IsLackOf (Some (sense42.request_of kinds.Replace (said42.replace_says msg.now)))) }
+/// Sets PossResend(97) of a request.
+fn set_resend(msg: &mut Msg50, resend: bool)
+    requires { IsReadable50 msg.old }
+    ensures says { says50 msg.new ≡ record (says50 msg.old) { resend = resend } }
+    ensures readable { IsReadable50 msg.new }
 {
-    let terms = order_terms(msg.ord_type, msg.time_in_force, msg.capacity)?;
-    Ok(replace_request(alloc, msg, terms)?)
+    match msg {
+        Msg50::New(new) => new.resend = resend,
+        Msg50::Cancel(cancel) => cancel.resend = resend,
+        Msg50::Replace(replace) => replace.resend = resend,
+        Msg50::Status(status) => status.resend = resend,
+    }
 }
 
-/// The request of FIX 5.0 SP2 that means what a sound request of FIX 4.2 means.
-///
-/// ClientID(109), ExecBroker(76) and ClearingFirm(439) become lines of the Parties group,
-/// MaxFloor(111) becomes DisplayQty(1138), MaturityDay(205) a MaturityDate(541), Rule80A(47) an
-/// OrderCapacity(528), and an order on close, OrdType(40) `5` or `B`, a market or limit order with
-/// TimeInForce(59) `7`.
+/// The content of FIX 5.0 SP2 of a request.
+fn content_up(alloc: Global, msg: &Msg42) -> Result<Vec<u8>, Lack>
+    requires sound { IsSound42 msg.now }
+    requires readable { IsReadable42 msg.now }
+    ensures ok { IfOk result (λ up. IsPut (says42 msg.now) [] up.items) }
+    ensures lack { IfErr result (Lacks (says42 msg.now)) }
+{
+    let mut content = Vec::new(alloc);
+    write42(msg, &mut content)?;
+    let split = split(alloc, &content)?;
+    let mut up = Vec::new(alloc);
+    match good_request(type42(msg), &split) {
+        Ok(good) => put_up(&good, &mut up)?,
+        Err(_) => unreachable!(),
+    }
+    Ok(up)
+}
+
+/// The request of FIX 5.0 SP2 that means what a sound request of FIX 4.2 means: its content by the
+/// rules, read.
 ///
 /// # Errors
 ///
@@ -63,17 +76,24 @@ fn up_replace(alloc: Global, msg: &Replace42) -> Result<Replace50, Lack>
 pub fn up(alloc: Global, msg: &Msg42) -> Result<Msg50, Lack>
     requires sound { IsSound42 msg.now }
     requires readable { IsReadable42 msg.now }
-    ensures sense { IfOk result (λ written. sense50.request50 (said50.says written)
-        ≡ sense42.request42 (said42.says msg.now)) }
-    ensures canonical { IfOk result IsCanonical50 }
+    ensures rules { IfOk result (λ written. says50 written ≡ up_message (says42 msg.now)) }
+    ensures sense { IfOk result (λ written. request50 (says50 written)
+        ≡ request42 (says42 msg.now)) }
+    ensures canonical { IfOk result (λ written.
+        IsRequest (says50 written) (up_content (says42 msg.now))) }
     ensures readable { IfOk result IsReadable50 }
-    ensures said { OnOk result (lack_if (sense42.request42 (said42.says msg.now)) ≡ None) }
-    ensures lack { IfErr result (IsLackOf (sense42.request42 (said42.says msg.now))) }
+    ensures said { OnOk result (lack_if (request42 (says42 msg.now)) ≡ None) }
+    ensures lack { IfErr result (IsLackOf (request42 (says42 msg.now))) }
 {
-    match msg {
-        Msg42::New(new) => Ok(Msg50::New(up_new(alloc, new)?)),
-        Msg42::Cancel(cancel) => Ok(Msg50::Cancel(cancel_request(alloc, cancel)?)),
-        Msg42::Replace(replace) => Ok(Msg50::Replace(up_replace(alloc, replace)?)),
-        Msg42::Status(status) => Ok(Msg50::Status(status_request(alloc, status)?)),
+    let content = content_up(alloc, msg)?;
+    let split = split(alloc, &content)?;
+    match read50(alloc, type42(msg), &split) {
+        Ok(request) => {
+            let mut written = request;
+            set_resend(&mut written, resend(msg));
+            Ok(written)
+        }
+        Err(Fault::NoMemory) => Err(Lack::NoMemory),
+        Err(_) => unreachable!(),
     }
 }

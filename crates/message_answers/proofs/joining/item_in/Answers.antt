@@ -1,5 +1,5 @@
-use Rattle.std.proofs.Common.{rules, ◌∙◌, Some, None, ap, sym}
-use Rattle.message_answers.proofs.Forwards.{item_judged, item_of_clean}
+use Rattle.std.proofs.Common.{rules, ◌∙◌, Some, ap, sym}
+use Rattle.message_answers.proofs.Forwards.{item_judged}
 use Rattle.message_answers.proofs.joining.item_in.Goals as goal
 
 pub returns-in-Ok : goal.returns-in-Ok

@@ -2,4 +2,4 @@ use Rattle.message_answers.proofs.Carried.{carried}
 use Rattle.message_answers.proofs.laws.forwarded_messages_carry.Goals as goal
 
 pub returns : goal.returns
-returns c = carried c.books_change_alike.ensures
+returns c = carried

@@ -1,20 +1,16 @@
-use Rattle.std.proofs.Common.{rules, ◌≡◌, false, codes}
-use Rattle.std.specs.Str.{bytes_eq}
-use Rattle.order_meaning.specs.declared.fault.Fault.TheVariants.{NotSupported}
+use Rattle.translation.proofs.Judged.{clean_is}
 use Rattle.message_answers.proofs.Answered.{faulty}
 use Rattle.message_answers.proofs.Joins.{refused_joins}
-use Rattle.message_answers.proofs.Reported.{tells_neither}
+use Rattle.message_answers.proofs.Reported.{tells}
 use Rattle.message_answers.proofs.reports.reported.Goals as goal
 
-pub returns-clause-answer : goal.returns-clause-answer
-returns-clause-answer c =
-    let eight : bytes_eq c.args.asked.now.msg_type.now (codes "8") ≡ false = search rules in
-    let nine : bytes_eq c.args.asked.now.msg_type.now (codes "9") ≡ false = search rules in
-    faulty c.args.known.now c.args.asked.now c.requires.split NotSupported c.refused.result
-    (tells_neither c.args.known.now c.args.asked.now c.requires.split c.requires.side eight nine
-    c.requires.other) c.refused.ensures.refused
+pub returns-in-Err-clause-answer : goal.returns-in-Err-clause-answer
+returns-in-Err-clause-answer c =
+    faulty c.args.known.now c.args.asked.now c.requires.split c.in-Err.fault c.refused.result
+    (tells c.args.known.now c.args.asked.now c.requires.split c.requires.side c.requires.other
+    c.in-Err.fault c.in-Err.ensures) c.refused.ensures.refused
 
-pub returns-clause-item : goal.returns-clause-item
-returns-clause-item c =
-    refused_joins c.args.known.now c.args.asked.now NotSupported c.refused.result
+pub returns-in-Err-clause-item : goal.returns-in-Err-clause-item
+returns-in-Err-clause-item c =
+    refused_joins c.args.known.now c.args.asked.now c.in-Err.fault c.refused.result
     c.refused.ensures.refused

@@ -1,18 +1,13 @@
 use Rattle.message_answers.proofs.Answered.{faulty}
 use Rattle.message_answers.proofs.Joins.{refused_joins}
-use Rattle.message_answers.proofs.Requested.{sound, tells}
+use Rattle.message_answers.proofs.Requested.{faulty_is}
 use Rattle.message_answers.proofs.requests.requested.Goals as goal
-
-pub request_read-requires-clause-sound : goal.request_read-requires-clause-sound
-request_read-requires-clause-sound c =
-    sound c.args.asked.now c.in-Ok.request c.read_is_sound.ensures c.requires.split
-    c.in-Ok.ensures.says
 
 pub returns-in-Err-clause-answer : goal.returns-in-Err-clause-answer
 returns-in-Err-clause-answer c =
     faulty c.args.known.now c.args.asked.now c.requires.split c.in-Err.fault c.refused.result
-    (tells c.args.known.now c.args.asked.now c.requires.split c.requires.side c.requires.other
-    c.in-Err.fault c.in-Err.ensures.says) c.refused.ensures.refused
+    (faulty_is c.args.known.now c.args.asked.now c.requires.split c.requires.side c.requires.other
+    c.in-Err.fault c.in-Err.ensures.fault) c.refused.ensures.refused
 
 pub returns-in-Err-clause-item : goal.returns-in-Err-clause-item
 returns-in-Err-clause-item c =

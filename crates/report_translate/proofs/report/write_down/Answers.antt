@@ -1,6 +1,6 @@
 use Rattle.std.proofs.Common.{rules, ◌≡◌, length}
 use Rattle.std.proofs.lemmas.Result.{err_from_is_err_and}
-use Rattle.report_translate.specs.Said.{content42}
+use Rattle.report_rules.specs.Rules.{written as content_of}
 use Rattle.translation.proofs.Bodies.{written, unwritten}
 use Rattle.report_translate.proofs.Stands.{written_down, unwritten_down, refused_down}
 use Rattle.report_translate.proofs.report.write_down.Goals as goal
@@ -13,7 +13,7 @@ returns-clause-ok c =
     let whole : c.len-whole.result ≡ length c.put_down.new.out.items = search rules in
     written_down fields c.args.split.now.fault put.client c.put_down.new.out.items
     c.check_lengths.result put.told
-    (written fields (content42 put.client) c.clear.new.self.items c.write_head.new.out.items
+    (written fields (content_of put.client) c.clear.new.self.items c.write_head.new.out.items
     c.put_down.new.out.items c.clear.ensures.items c.in_ok-write_head.ensures put.bytes
     c.len-head.result c.len-whole.result head whole c.check_lengths.result
     c.check_lengths.ensures.ok)
@@ -25,7 +25,7 @@ returns-clause-refused c =
     let head : c.len-head.result ≡ length c.write_head.new.out.items = search rules in
     let whole : c.len-whole.result ≡ length c.put_down.new.out.items = search rules in
     unwritten_down fields c.args.split.now.fault put.client c.check_lengths.result put.told
-    (unwritten fields (content42 put.client) c.clear.new.self.items c.write_head.new.out.items
+    (unwritten fields (content_of put.client) c.clear.new.self.items c.write_head.new.out.items
     c.put_down.new.out.items c.clear.ensures.items c.in_ok-write_head.ensures put.bytes
     c.len-head.result c.len-whole.result head whole c.check_lengths.result
     c.check_lengths.ensures.long)

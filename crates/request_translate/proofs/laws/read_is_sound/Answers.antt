@@ -1,6 +1,6 @@
 use Rattle.row_values.specs.Kinds.{judge}
 use Rattle.sound_laws.proofs.PlainFields.{clear_fields}
-use Rattle.request_translate.proofs.Sound42.{read_is_sound}
+use Rattle.request_rules.proofs.Sound42.{read_is_sound}
 use Rattle.request_translate.proofs.Sound50.{read_is_complete}
 use Rattle.std.proofs.Common.{None}
 use Rattle.request_translate.proofs.laws.read_is_sound.Goals as goal

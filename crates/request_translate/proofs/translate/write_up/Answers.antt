@@ -1,6 +1,6 @@
 use Rattle.std.proofs.Common.{rules, ◌≡◌, length}
 use Rattle.std.proofs.lemmas.Result.{err_from_is_err_and}
-use Rattle.dict_fix50.specs.Content.{content50}
+use Rattle.request_rules.specs.Rules.{up_content}
 use Rattle.translation.proofs.Bodies.{written, unwritten}
 use Rattle.request_translate.proofs.Requested.{written_up, unwritten_up, refused_up}
 use Rattle.request_translate.proofs.translate.write_up.Goals as goal
@@ -11,9 +11,9 @@ returns-clause-ok c =
     let put = c.in_ok-put_up.ensures.ok in
     let head : c.len-head.result ≡ length c.write_head.new.out.items = search rules in
     let body : c.len-body.result ≡ length c.put_up.new.out.items = search rules in
-    written_up fields c.args.split.now.fault put.request c.put_up.new.out.items
-    c.check_lengths.result put.asked
-    (written fields (content50 put.request) c.clear.new.self.items c.write_head.new.out.items
+    written_up fields c.args.split.now.fault put.asked c.put_up.new.out.items
+    c.check_lengths.result
+    (written fields (up_content put.asked.message) c.clear.new.self.items c.write_head.new.out.items
     c.put_up.new.out.items c.clear.ensures.items c.in_ok-write_head.ensures put.bytes
     c.len-head.result c.len-body.result head body c.check_lengths.result
     c.check_lengths.ensures.ok)
@@ -24,8 +24,8 @@ returns-clause-refused c =
     let put = c.in_ok-put_up.ensures.ok in
     let head : c.len-head.result ≡ length c.write_head.new.out.items = search rules in
     let body : c.len-body.result ≡ length c.put_up.new.out.items = search rules in
-    unwritten_up fields c.args.split.now.fault put.request c.check_lengths.result put.asked
-    (unwritten fields (content50 put.request) c.clear.new.self.items
+    unwritten_up fields c.args.split.now.fault put.asked c.check_lengths.result
+    (unwritten fields (up_content put.asked.message) c.clear.new.self.items
     c.write_head.new.out.items c.put_up.new.out.items c.clear.ensures.items
     c.in_ok-write_head.ensures put.bytes c.len-head.result c.len-body.result head body
     c.check_lengths.result c.check_lengths.ensures.long)

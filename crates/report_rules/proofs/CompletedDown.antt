@@ -1,0 +1,272 @@
+-- A sound message of FIX 5.0 SP2 stays sound where its month is completed by its date. (This is
+-- CompletedSound of request_translate, for rows that ExecType needs, too.)
+use Rattle.std.proofs.Common.{◌≡◌, ℕ, List, [], ◌∷◌, map, Some, None, Bool, true, false}
+use Rattle.std.proofs.Common.{refl, sym, ap, subst, ◌∙◌, codes, take, arith}
+use Rattle.std.specs.Prelude.{IfSome, not, ◌&&◌, ◌||◌, ◌==◌}
+use Rattle.std.specs.List.{AllByRecursion, flat_map, list_any, list_all}
+use Rattle.std.proofs.lemmas.Bool.{eqb-true}
+use Rattle.std.proofs.lemmas.Bool.Decides.{nat_tests}
+use Rattle.field_groups.specs.Field.{Field}
+use Rattle.field_groups.specs.Data.{is_data_tag}
+use Rattle.message_tables.specs.Tables.{Verdict, Spells, Need, Required, Optional, Lenient, Fixed}
+use Rattle.message_tables.specs.Tables.{When, Stands, Is, Row, Item, One, Party, Lines, Table}
+use Rattle.message_tables.specs.Tables.{Message}
+use Rattle.message_tables.specs.Tables.{Said, Tag, Role, is_place, said_at, value_at, says}
+use Rattle.message_tables.specs.Tables.{or_else, ◌>>=◌, text_of, is_needed, is_listed}
+use Rattle.message_tables.specs.Content.{content, cell_fields, item_fields}
+use Rattle.value_kinds.specs.ValueKind.{Day, spelling}
+use Rattle.row_values.specs.Kinds.{Kind, Value, Byte, DayOf, MonthBeside, TimeBeside, Version}
+use Rattle.row_values.specs.Kinds.{judge, verdict_of, date_at}
+use Rattle.rows_fix50.specs.Header.{completed, month_by}
+use Rattle.sound_laws.specs.Sound.{IsClear, IsSaid, IsItem, IsSound, places_of}
+use Rattle.sound_laws.specs.Complete.{HasMonthOfDate}
+use Rattle.sound_laws.proofs.Each.{both}
+use Rattle.sound_laws.proofs.ContentValues.{value_at-append, row_value}
+use Rattle.sound_laws.proofs.ReadSound.{text_again}
+use Rattle.sound_laws.proofs.Completed.{other_said, month_said, same_places}
+use Rattle.sound_laws.proofs.Judged50.{ours_kind, AreAlike, judged_again, month_of_date}
+use Rattle.sound_laws.proofs.Judged50.{clear_front}
+
+-- ---- the rows
+
+abbrev pub ours_need : Need → Bool
+ours_need Required = true
+ours_need Optional = true
+ours_need Lenient = true
+ours_need (When ((Is tag listed ∷ []) ∷ [])) = tag == 150
+ours_need need = false
+
+abbrev month_kind : Kind → Bool
+month_kind (MonthBeside date) = date == 541
+month_kind kind = false
+
+-- the row of a tag; that of the month is judged beside the date
+abbrev pub of_month : Bool → Kind → Bool
+of_month true kind = month_kind kind
+of_month false kind = true
+
+abbrev pub is_ours_row : Bool → Row Kind → Bool
+is_ours_row timed row = not (is_data_tag row.tag)
+    && (ours_need row.need && (ours_kind timed row.kind && of_month (row.tag == 200) row.kind))
+
+abbrev pub is_ours : Bool → Item Kind → Bool
+is_ours timed (One row) = is_ours_row timed row
+is_ours timed item = true
+
+-- what holds of a row
+pub record IsOurs (timed : Bool) (row : Row Kind) : Type 0 where
+  pub bare : not (is_data_tag row.tag) ≡ true
+  pub need : ours_need row.need ≡ true
+  pub kind : ours_kind timed row.kind ≡ true
+  pub month : of_month (row.tag == 200) row.kind ≡ true
+
+pub ours : (timed : Bool) (row : Row Kind) → is_ours_row timed row ≡ true → IsOurs timed row
+ours timed row h =
+    let a = both (not (is_data_tag row.tag)) (ours_need row.need && (ours_kind timed row.kind
+    && of_month (row.tag == 200) row.kind)) h in
+    let b = both (ours_need row.need)
+    (ours_kind timed row.kind && of_month (row.tag == 200) row.kind) a.1 in
+    let c = both (ours_kind timed row.kind) (of_month (row.tag == 200) row.kind) b.1 in
+    record { bare = a.0; need = b.0; kind = c.0; month = c.1 }
+
+-- a code that is among some is so where it is read again
+abbrev pub KeepsType : List Field → List Field → Type 0
+KeepsType before after = (listed : List ℕ) → is_listed listed (value_at 150 after) ≡ true
+    → is_listed listed (value_at 150 before) ≡ true
+
+kept_test : (a b : Bool) → (a ≡ true → b ≡ true) → ((a && true) || false) ≡ true
+    → ((b && true) || false) ≡ true
+kept_test true b kept h = let is : b ≡ true = kept refl in rw is refl
+kept_test false b kept h = absurd cc
+
+pub kept_need : (need : Need) → ours_need need ≡ true → (before after : List Field)
+    → KeepsType before after → is_needed need after ≡ true → is_needed need before ≡ true
+kept_need Required h before after kept n = refl
+kept_need Optional h before after kept n = n
+kept_need Lenient h before after kept n = n
+kept_need (When ((Is tag listed ∷ []) ∷ [])) h before after kept n =
+    let P : ℕ → Type 0 = λ t. is_needed (When ((Is t listed ∷ []) ∷ [])) after ≡ true
+    → is_needed (When ((Is t listed ∷ []) ∷ [])) before ≡ true in
+    subst P (sym (eqb-true tag 150 h))
+    (λ n. kept_test (is_listed listed (value_at 150 after))
+    (is_listed listed (value_at 150 before)) (kept listed) n) n
+kept_need (Fixed text) h before after kept n = absurd cc
+kept_need (When []) h before after kept n = absurd cc
+kept_need (When ([] ∷ more)) h before after kept n = absurd cc
+kept_need (When ((Stands tag ∷ tests) ∷ more)) h before after kept n = absurd cc
+kept_need (When ((Is tag listed ∷ test ∷ tests) ∷ more)) h before after kept n = absurd cc
+kept_need (When ((Is tag listed ∷ []) ∷ other ∷ more)) h before after kept n = absurd cc
+
+says_again : (need : Need) → ours_need need ≡ true → (j : List ℕ → Verdict) (said : Said)
+    → IfSome said (λ text. j text ≡ Spells text) → says need j said ≡ said
+says_again Required h j said e = text_again judge j said e
+says_again Optional h j said e = text_again judge j said e
+says_again Lenient h j said e = text_again judge j said e
+says_again (Fixed text) h j said e = absurd cc
+says_again (When condition) h j said e = text_again judge j said e
+
+month_judged : (kind : Kind) → month_kind kind ≡ true → (fields : List Field) (day : List ℕ)
+    → date_at 541 fields ≡ Some day → judge fields kind (take 6 day) ≡ Spells (take 6 day)
+month_judged (MonthBeside date) h fields day at =
+    let is : date ≡ 541 = eqb-true date 541 h in
+    let P : ℕ → Type 0 =
+    λ t. judge fields (MonthBeside t) (take 6 day) ≡ Spells (take 6 day) in
+    subst P (sym is) (month_of_date fields day at)
+month_judged (Value kind) h fields day at = absurd cc
+month_judged (Byte listed) h fields day at = absurd cc
+month_judged (DayOf month) h fields day at = absurd cc
+month_judged (TimeBeside ord_type) h fields day at = absurd cc
+month_judged Version h fields day at = absurd cc
+
+-- ---- a message
+
+module _ (timed : Bool) (table : Table Kind) (m : Message) where
+  abbrev date : Said
+  date = said_at m.cells (Tag 541)
+
+  abbrev before : List Field
+  before = content table m
+
+  abbrev after : List Field
+  after = content table (completed m)
+
+  -- the other fields of its content stay
+  same_item : (tag : ℕ) → (tag == 200) ≡ false → (item : Item Kind) →
+      value_at tag (item_fields (completed m) item) ≡ value_at tag (item_fields m item)
+  same_item tag other (Party role) = refl
+  same_item tag other (Lines group) = refl
+  same_item tag other (One row) = by (row.tag == 200) refl
+    where
+      by : (b : Bool) → (row.tag == 200) ≡ b →
+          value_at tag (item_fields (completed m) (One row))
+          ≡ value_at tag (item_fields m (One row))
+      by false e = ap (λ (s : Said). value_at tag (cell_fields (Tag row.tag, s)))
+          (other_said date m.cells (Tag row.tag) e)
+      by true e =
+          let apart : (row.tag == tag) ≡ false = grind (arith, nat_tests) in
+          row_value judge (completed m) tag row apart ∙ sym (row_value judge m tag row apart)
+
+  same_value : (tag : ℕ) → (tag == 200) ≡ false → (items : List (Item Kind)) →
+      value_at tag (flat_map (item_fields (completed m)) items)
+      ≡ value_at tag (flat_map (item_fields m) items)
+  same_value tag other [] = refl
+  same_value tag other (item ∷ items) =
+      let here = same_item tag other item in
+      let rest = same_value tag other items in
+      let joined : or_else (value_at tag (item_fields (completed m) item))
+      (value_at tag (flat_map (item_fields (completed m)) items))
+      ≡ or_else (value_at tag (item_fields m item))
+      (value_at tag (flat_map (item_fields m) items)) = λ i. or_else (here i) (rest i) in
+      value_at-append tag (item_fields (completed m) item)
+      (flat_map (item_fields (completed m)) items)
+      ∙ joined
+      ∙ sym (value_at-append tag (item_fields m item) (flat_map (item_fields m) items))
+
+  alike : AreAlike timed before after
+  alike = record {
+    date = ap (λ (v : Said). v >>= (λ text. text_of (verdict_of (spelling Day text))))
+        (same_value 541 refl table.items);
+    ord_type = λ _ h. ap (is_listed (codes "12")) (same_value 40 refl table.items) ∙ h;
+  }
+
+  kept_type : KeepsType before after
+  kept_type listed h =
+      ap (is_listed listed) (sym (same_value 150 refl table.items)) ∙ h
+
+  module _ (there : list_any (is_place (Tag 200)) (flat_map places_of table.items) ≡ true)
+      (at_date : date_at 541 before ≡ date) (clear : IfSome date IsClear)
+      (sound : IsSound judge table m) where
+    month_there : list_any (is_place (Tag 200)) (map (λ c. c.0) m.cells) ≡ true
+    month_there = ap (list_any (is_place (Tag 200))) sound.places ∙ there
+
+    judged : (kind : Kind) → ours_kind timed kind ≡ true → (said : Said)
+        → IfSome said (λ text. judge before kind text ≡ Spells text)
+        → IfSome said (λ text. judge after kind text ≡ Spells text)
+    judged kind h None e = tt
+    judged kind h (Some text) e = judged_again timed before after alike kind h text text e
+
+    -- a row that says what it said
+    same_kept : (row : Row Kind) → IsOurs timed row → (said : Said)
+        → IsSaid judge before row said → IsSaid judge after row said
+    same_kept row o said s =
+        let spelled = judged row.kind o.kind said s.spelled in
+        record {
+          needed = λ n. s.needed (kept_need row.need o.need before after kept_type n);
+          spelled = spelled;
+          again = says_again row.need o.need (judge after row.kind) said spelled;
+          clear = s.clear;
+        }
+
+    -- the row of the month
+    month_kept : (row : Row Kind) → IsOurs timed row → month_kind row.kind ≡ true → (d said : Said)
+        → date_at 541 after ≡ d → IfSome d IsClear → IsSaid judge before row said
+        → IsSaid judge after row (month_by d said)
+    month_kept row o k None said at c s = same_kept row o said s
+    month_kept row o k (Some day) said at c s =
+        let spelled = month_judged row.kind k after day at in
+        record {
+          needed = λ n. refl;
+          spelled = spelled;
+          again = says_again row.need o.need (judge after row.kind) (Some (take 6 day)) spelled;
+          clear = clear_front 6 day c;
+        }
+
+    row_kept : (row : Row Kind) → IsOurs timed row
+        → IsSaid judge before row (said_at m.cells (Tag row.tag))
+        → IsSaid judge after row (said_at (completed m).cells (Tag row.tag))
+    row_kept row o s = by (row.tag == 200) refl o.month
+      where
+        by : (b : Bool) → (row.tag == 200) ≡ b → of_month b row.kind ≡ true
+            → IsSaid judge after row (said_at (completed m).cells (Tag row.tag))
+        by false e k = subst (λ (said : Said). IsSaid judge after row said)
+            (sym (other_said date m.cells (Tag row.tag) e))
+            (same_kept row o (said_at m.cells (Tag row.tag)) s)
+        by true e k =
+            let is : row.tag ≡ 200 = eqb-true row.tag 200 e in
+            let said : said_at (completed m).cells (Tag row.tag)
+            ≡ month_by date (said_at m.cells (Tag row.tag)) =
+            ap (λ (t : ℕ). said_at (completed m).cells (Tag t)) is
+            ∙ month_said date m.cells month_there
+            ∙ ap (λ (t : ℕ). month_by date (said_at m.cells (Tag t))) (sym is) in
+            subst (λ (said : Said). IsSaid judge after row said) (sym said)
+            (month_kept row o k date (said_at m.cells (Tag row.tag))
+            (alike.date ∙ at_date) clear s)
+
+    items_kept : (items : List (Item Kind)) → list_all (is_ours timed) items ≡ true
+        → AllByRecursion (IsItem judge before m) items
+        → AllByRecursion (IsItem judge after (completed m)) items
+    items_kept [] h s = tt
+    items_kept (One row ∷ items) h s =
+        let p = both (is_ours_row timed row) (list_all (is_ours timed) items) h in
+        (row_kept row (ours timed row p.0) s.0, items_kept items p.1 s.1)
+    items_kept (Party role ∷ items) h s =
+        (other_said date m.cells (Role role) refl ∙ s.0, items_kept items h s.1)
+    items_kept (Lines group ∷ items) h s = (s.0, items_kept items h s.1)
+
+    -- COMPLETED, IT IS SOUND,
+    pub completed_sound : list_all (is_ours timed) table.items ≡ true
+        → IsSound judge table (completed m)
+    completed_sound h = record {
+      letter = sound.letter;
+      places = same_places date m.cells ∙ sound.places;
+      counts = sound.counts;
+      items = items_kept table.items h sound.items;
+    }
+
+    twice : (d said : Said) → month_by d said ≡ month_by d (month_by d said)
+    twice None said = refl
+    twice (Some day) said = refl
+
+    -- and says the month of its date.
+    pub completed_month : HasMonthOfDate (completed m)
+    completed_month =
+        let same = other_said date m.cells (Tag 541) refl in
+        let month = month_said date m.cells month_there in
+        month ∙ twice date (said_at m.cells (Tag 200))
+        ∙ sym (λ i. month_by (same i) (month i))
+
+-- what was read of a body, before the month of its date was told
+pub record IsRead (table : Table Kind) (m : Message) : Type 0 where
+  pub before : Message
+  pub sound : IsSound judge table before
+  pub is : completed before ≡ m

@@ -1,0 +1,225 @@
+-- What goes down of a report stands for it: the two tables.
+use Rattle.std.proofs.Common.{◌≡◌, ℕ, List, [], ◌∷◌, true, false, None, refl, sym}
+use Rattle.std.proofs.Common.{ap, subst, ◌∙◌, option_map}
+use Rattle.std.specs.Prelude.{IfSome, Ok, ◌==◌, if◌then◌else◌}
+use Rattle.message_tables.specs.Tables.{Message, Said}
+use Rattle.message_tables.specs.Content.{content}
+use Rattle.order_meaning.specs.Report.{filled}
+use Rattle.row_values.specs.Kinds.{judge}
+use Rattle.reports_fix42.specs.Message as tables42
+use Rattle.reports_fix42.specs.Message.{message42}
+use Rattle.reports_fix42.specs.Reports as reports42
+use Rattle.reports_fix42.specs.Sense.{report42}
+use Rattle.reports_fix50.specs.Message as tables50
+use Rattle.reports_fix50.specs.Reports as reports50
+use Rattle.reports_fix50.specs.Sense.{report50}
+use Rattle.sound_laws.specs.Complete.{IsComplete}
+use Rattle.sound_laws.specs.Sound.{IsSound, without_resend}
+use Rattle.sound_laws.proofs.ContentAgain.{read_again}
+use Rattle.sound_laws.proofs.Each.{◌&◌, none_each}
+use Rattle.rule_rows.specs.ByRules.{by_rules, content_by, lack_by}
+use Rattle.rule_rows.proofs.Made.{content_made}
+use Rattle.rule_rows.proofs.Source as source
+use Rattle.report_rules.specs.Rules.{Rule, Same, Original, down_message, down_rules, kinds}
+use Rattle.report_rules.specs.Rules.{rules_for}
+use Rattle.report_rules.specs.Down.{GoDown, IsId, IsOrdinary, IsReport50}
+use Rattle.report_rules.specs.Rules.{table_at}
+use Rattle.report_rules.specs.Down.{Reports42, Rejects42, Reports50, Rejects50}
+use Rattle.report_rules.proofs.KindsDown.{are_kinds, report_own, reject_own}
+use Rattle.report_rules.proofs.SenseDown.{keeps_books, keeps_sense, has_codes, not_lacking}
+use Rattle.report_rules.proofs.SoundDown.{ordinary_by, sound_down}
+use Rattle.report_rules.proofs.TablesDown.{GoesDown, each_made, items_down, make}
+
+-- THE TABLES OF FIX 4.2 are what the rules make of those of FIX 5.0 SP2
+pub reports_made : items_down reports50.execution_report (down_rules (Same 41))
+    ≡ reports42.execution_report
+reports_made = refl
+
+pub rejects_made : (known : Said)
+    → items_down reports50.cancel_reject (down_rules (Original known)) ≡ reports42.cancel_reject
+rejects_made known = refl
+
+pub report_goes : GoesDown (down_rules (Same 41)) reports50.execution_report
+report_goes = record {
+  fits =
+      refl & refl & refl & refl
+      & (λ h. refl) & (λ h. refl) & (λ h. refl) & tt
+      & refl & tt & (refl, refl, refl) & tt & tt & (refl, refl) & (refl, refl)
+      & refl & refl & refl & refl & refl & refl & refl & refl
+      & (refl, refl) & refl & refl & refl & refl & refl & refl & refl & refl & (refl, refl)
+      & refl & refl & refl & (refl, refl, refl) & (refl, refl, refl)
+      & refl & refl & refl & refl & refl & refl
+      & refl & (tt, refl) & refl & refl & (refl, refl, refl, tt) & tt;
+  exec_type = refl;
+  status = refl;
+  both = λ h. refl;
+  typed = λ h. (refl, refl, refl);
+  timed = λ h. refl;
+  dates = refl;
+  dated = λ h. (refl, refl, refl);
+  types = refl;
+  execs = refl;
+  months = refl;
+  days = refl;
+}
+
+pub reject_goes : (known : Said) → IfSome known IsId
+    → GoesDown (down_rules (Original known)) reports50.cancel_reject
+reject_goes known id = record {
+  fits =
+      refl & refl & refl & (refl, id)
+      & (λ h. absurd cc) & (λ h. absurd cc) & (λ h. absurd cc) & tt
+      & tt & tt & tt & tt & tt & (tt, refl) & (tt, refl)
+      & refl & refl & refl & refl & refl & refl & refl & refl
+      & (tt, tt) & tt & refl & refl & refl & tt & refl & refl & refl & (tt, tt)
+      & refl & refl & refl & tt & tt
+      & refl & refl & refl & refl & refl & refl
+      & refl & (refl, refl) & refl & refl & (refl, tt, tt, refl) & tt;
+  exec_type = tt;
+  status = refl;
+  both = λ h. absurd cc;
+  typed = λ h. absurd cc;
+  timed = λ h. absurd cc;
+  dates = refl;
+  dated = λ h. absurd cc;
+  types = refl;
+  execs = refl;
+  months = refl;
+  days = refl;
+}
+
+-- ---- the two reports
+
+other_letter : (letter k n : ℕ) → letter ≡ k → (k == n) ≡ false → (letter == n) ≡ true → ⊥
+other_letter letter k n is apart e =
+    let P : ℕ → Type 0 = λ l. (l == n) ≡ true in
+    let there : (k == n) ≡ true = subst P is e in
+    absurd (let not = sym there ∙ apart in cc)
+
+report_ordinary : (m : Message) → IsComplete tables50.report_table m → IsOrdinary m
+report_ordinary m c =
+    ordinary_by (down_rules (Same 41)) report_own 56 reports50.execution_report report_goes m c.sound
+    c.month refl refl refl (λ h. refl) (λ h. absurd (other_letter m.letter 56 57 c.sound.letter refl h))
+
+reject_ordinary : (m : Message) → IsComplete tables50.cancel_reject_table m → IsOrdinary m
+reject_ordinary m c =
+    ordinary_by (down_rules (Original None)) (reject_own None) 57 reports50.cancel_reject
+    (reject_goes None tt) m c.sound c.month tt tt tt
+    (λ h. absurd (other_letter m.letter 57 56 c.sound.letter refl h)) (λ h. (refl, refl))
+
+ordinary : (m : Message) → IsReport50 m → IsOrdinary m
+ordinary m (Reports50 c) = report_ordinary m c
+ordinary m (Rejects50 c) = reject_ordinary m c
+
+-- WHAT GOES DOWN MEANS THE SAME
+pub goes_meaning : (known : Said) (m w : Message) → IsReport50 m → down_message known m ≡ Ok w
+    → report42 w ≡ option_map (filled known) (report50 m)
+goes_meaning known m w report down = keeps_sense known m w (ordinary m report) down
+
+-- the rules of a letter
+pub rules_of : (known : Said) (m : Message) (letter : ℕ) → m.letter ≡ letter
+    → rules_for known m
+    ≡ (if letter == 57 then down_rules (Original known) else down_rules (Same 41))
+rules_of known m letter is =
+    ap (λ (l : ℕ). if l == 57 then down_rules (Original known) else down_rules (Same 41)) is
+
+-- what lacks nothing, by its rules
+pub record Down (rules : List Rule) (m w : Message) : Type 0 where
+  pub lack : lack_by kinds rules m ≡ None
+  pub is : by_rules kinds rules m ≡ w
+
+pub down_by : (known : Said) (m w : Message) (rules : List Rule) → rules_for known m ≡ rules
+    → down_message known m ≡ Ok w → Down rules m w
+down_by known m w rules is down =
+    let p = not_lacking (lack_by kinds (rules_for known m) m) (by_rules kinds (rules_for known m) m)
+    w down in
+    let P : List Rule → Type 0 = λ rs. Down rs m w in
+    subst P is (record { lack = p.0; is = p.1 })
+
+-- WHAT GOES DOWN IS SOUND
+pub report_sound : (m w : Message) → IsComplete tables50.report_table m
+    → Down (down_rules (Same 41)) m w → IsSound judge tables42.execution_report_table w
+report_sound m w c d =
+    let P : Message → Type 0 = λ x. IsSound judge tables42.execution_report_table x in
+    subst P d.is (sound_down (down_rules (Same 41)) report_own 56 reports50.execution_report
+    report_goes m c.sound c.month (has_codes (Same 41) m d.lack)
+    (none_each (kinds.lack m) (down_rules (Same 41)) d.lack))
+
+pub reject_sound : (known : Said) → IfSome known IsId → (m w : Message)
+    → IsComplete tables50.cancel_reject_table m → Down (down_rules (Original known)) m w
+    → IsSound judge tables42.cancel_reject_table w
+reject_sound known id m w c d =
+    let P : Message → Type 0 = λ x. IsSound judge tables42.cancel_reject_table x in
+    subst P d.is (sound_down (down_rules (Original known)) (reject_own known) 57
+    reports50.cancel_reject (reject_goes known id) m c.sound c.month
+    (has_codes (Original known) m d.lack)
+    (none_each (kinds.lack m) (down_rules (Original known)) d.lack))
+
+-- ---- what is written is read again
+
+report_again : (w : Message) → IsSound judge tables42.execution_report_table w
+    → message42 (56 ∷ []) (content tables42.execution_report_table w) None ≡ Ok (without_resend w)
+unfolding message42
+report_again w sound = read_again tables42.execution_report_table w refl refl sound
+
+reject_again : (w : Message) → IsSound judge tables42.cancel_reject_table w
+    → message42 (57 ∷ []) (content tables42.cancel_reject_table w) None ≡ Ok (without_resend w)
+unfolding message42
+reject_again w sound = read_again tables42.cancel_reject_table w refl refl sound
+
+-- ---- what is written is what the rules write
+
+report_written : (m w : Message) → IsComplete tables50.report_table m
+    → Down (down_rules (Same 41)) m w
+    → content tables42.execution_report_table w ≡ content_by kinds (down_rules (Same 41)) m
+report_written m w c d =
+    let items = reports50.execution_report in
+    let P : Message → Type 0 = λ x. content tables42.execution_report_table x
+    ≡ content_by kinds (down_rules (Same 41)) m in
+    subst P d.is (sym (content_made kinds items (make items) m
+    (source.outline_is tables50.report_table m c.sound) are_kinds (down_rules (Same 41)) report_own
+    (each_made items)))
+
+reject_written : (known : Said) (m w : Message) → IsComplete tables50.cancel_reject_table m
+    → Down (down_rules (Original known)) m w
+    → content tables42.cancel_reject_table w ≡ content_by kinds (down_rules (Original known)) m
+reject_written known m w c d =
+    let items = reports50.cancel_reject in
+    let P : Message → Type 0 = λ x. content tables42.cancel_reject_table x
+    ≡ content_by kinds (down_rules (Original known)) m in
+    subst P d.is (sym (content_made kinds items (make items) m
+    (source.outline_is tables50.cancel_reject_table m c.sound) are_kinds
+    (down_rules (Original known)) (reject_own known) (each_made items)))
+
+-- WHAT GOES DOWN STANDS FOR IT.
+pub goes_down : GoDown
+goes_down known id m w (Reports50 c) down =
+    let h = report_ordinary m c in
+    let rules = rules_of known m 56 c.sound.letter in
+    let d = down_by known m w (down_rules (Same 41)) rules down in
+    let sound = report_sound m w c d in
+    let P : ℕ → Type 0 = λ l. message42 (l ∷ []) (content (table_at l) w) None
+    ≡ Ok (without_resend w) in
+    record {
+      sound = Reports42 sound;
+      means = keeps_sense known m w h down;
+      books = keeps_books known m w h down;
+      by_rules = ap (λ (l : ℕ). content (table_at l) w) sound.letter ∙ report_written m w c d
+          ∙ ap (λ rs. content_by kinds rs m) (sym rules);
+      again = subst P (sym sound.letter) (report_again w sound);
+    }
+goes_down known id m w (Rejects50 c) down =
+    let h = reject_ordinary m c in
+    let rules = rules_of known m 57 c.sound.letter in
+    let d = down_by known m w (down_rules (Original known)) rules down in
+    let sound = reject_sound known id m w c d in
+    let P : ℕ → Type 0 = λ l. message42 (l ∷ []) (content (table_at l) w) None
+    ≡ Ok (without_resend w) in
+    record {
+      sound = Rejects42 sound;
+      means = keeps_sense known m w h down;
+      books = keeps_books known m w h down;
+      by_rules = ap (λ (l : ℕ). content (table_at l) w) sound.letter ∙ reject_written known m w c d
+          ∙ ap (λ rs. content_by kinds rs m) (sym rules);
+      again = subst P (sym sound.letter) (reject_again w sound);
+    }

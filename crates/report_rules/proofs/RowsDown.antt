@@ -1,0 +1,308 @@
+-- What FIX 4.2 says otherwise than FIX 5.0 SP2 has a canonical spelling there: codes, ids, reasons
+-- and texts.
+use Rattle.std.proofs.Common.{◌≡◌, ◌≤◌, ◌<◌, ◌+◌, ◌^◌, ℕ, zero, suc, Bool, true, false, List, []}
+use Rattle.std.proofs.Common.{◌∷◌}
+use Rattle.std.proofs.Common.{◌++◌, codes, length, take, Option, Some, None, refl, sym, ap, subst}
+use Rattle.std.proofs.Common.{arith, nat_le, lit≤, length-append, unwrap_or}
+use Rattle.std.specs.Prelude.{IsSome, IfSome, Ok, Err, Result, ◌==◌, ◌||◌}
+use Rattle.std.specs.Prelude.{if◌then◌else◌}
+use Rattle.std.specs.Fmt.{decimal, digits}
+use Rattle.std.specs.Str.{bytes_eq}
+use Rattle.std.specs.List.{AllByRecursion, list_any}
+use Rattle.std.proofs.lemmas.Bool.Decides.{nat_tests}
+use Rattle.std.proofs.lemmas.Slice.Eq.{bytes_eq-Decides}
+use Rattle.std.proofs.lemmas.Fmt.{digits_decimal, length-decimal-le}
+use Rattle.typed_fields.specs.declared.fault.FieldFault.{FieldFault}
+use Rattle.typed_fields.specs.declared.fault.FieldFault.TheVariants.{Range}
+use Rattle.typed_fields.specs.declared.number.Number.{Number as NumberValue}
+use Rattle.typed_fields.specs.Digits.{are_digits, number_of}
+use Rattle.typed_fields.specs.Number.{number_text, read_number}
+use Rattle.typed_fields.proofs.DigitsLemmas.{numerals}
+use Rattle.typed_fields.proofs.SpellingLemmas.{judged_ok}
+use Rattle.field_groups.specs.Field.{Field, is_soh}
+use Rattle.field_groups.specs.HeadValues.{number_in, is_number}
+use Rattle.message_tables.specs.Tables.{Spells, Required, Optional}
+use Rattle.message_tables.specs.Tables.{Said, Cell, Place, Tag, ◌>>=◌, first_of}
+use Rattle.message_tables.specs.Tables.{is_place, is_one_of, or_else, party_in, said_at, text_in}
+use Rattle.message_tables.specs.Content.{line_fields}
+use Rattle.value_kinds.specs.ValueKind.{Id, Text, Reason, Code, Known, known}
+use Rattle.value_kinds.specs.ValueKind.{spelling, spelt, if_in_range}
+use Rattle.row_values.specs.Kinds.{Value, judge, row, verdict_of}
+use Rattle.row_values.specs.Groups.{parties}
+use Rattle.reports_fix50.specs.Sense.{reason_told, telling}
+use Rattle.sound_laws.specs.Sound.{IsClear, IsSaid, IsLine}
+use Rattle.sound_laws.proofs.Each.{either}
+use Rattle.sound_laws.proofs.Judged50.{clear_front}
+use Rattle.sound_laws.proofs.RowsSaid.{optional_said, required_said, same_value}
+use Rattle.sound_laws.proofs.RowsSaid.{code_spelled}
+use Rattle.sound_laws.proofs.SpelledAgain.{clear_joined, digits_clear}
+use Rattle.rule_rows.proofs.Source.{IsSpelled}
+use Rattle.report_rules.proofs.Shared.{IsCodeOf}
+use Rattle.report_rules.specs.Down.{IsId}
+use Rattle.report_rules.specs.Rules.{id_down, reason_down, within}
+
+-- ---- codes
+
+known_by : (listed : Bool) (text : List ℕ)
+    → verdict_of (known listed text) ≡ Spells text → listed ≡ true
+known_by true text h = refl
+known_by false text h = absurd cc
+
+pub is_known_of : (fields : List Field) (listed text : List ℕ)
+    → judge fields (Value (Known listed)) text ≡ Spells text → IsCodeOf listed text
+unfolding judge spelling
+is_known_of fields listed [] h = absurd cc
+is_known_of fields listed (code ∷ []) h =
+    record { code = code; is = refl; listed = known_by (is_one_of listed code) (code ∷ []) h }
+is_known_of fields listed (a ∷ b ∷ text) h =
+    absurd (let k = known_by false (a ∷ b ∷ text) h in cc)
+
+pub known_down : (before after : List Field) (listed : List ℕ) (said : Said)
+    → IfSome said (λ text. judge before (Value (Known listed)) text ≡ Spells text)
+    → IfSome said (λ text. judge after (Value (Code listed)) text ≡ Spells text)
+known_down before after listed None h = tt
+known_down before after listed (Some text) h =
+    let t = is_known_of before listed text h in
+    let P : List ℕ → Type 0 = λ x. judge after (Value (Code listed)) x ≡ Spells x in
+    subst P (sym t.is) (code_spelled after listed t.code t.listed)
+
+-- ---- ids
+
+pub id_said : (before after : List Field) (status : Bool) (id : Said) → IsSome id
+    → IsSpelled before (Value Id) id
+    → IsSaid judge after (row Required 17 Id) (id_down status id)
+unfolding judge spelling
+id_said before after status None there h = absurd cc
+id_said before after true (Some id) there h =
+    required_said after 17 (Value Id) (Some (codes "0")) refl refl refl
+id_said before after false (Some id) there h =
+    required_said after 17 (Value Id) (Some id) refl
+    (same_value before after Id (Some id) h.spelled) h.clear
+
+-- the id of a line, which each line says
+line_id : (line : List Cell) → IsLine judge parties.rows line → IsId (text_in line 448)
+unfolding judge
+line_id [] said = absurd said
+line_id (cell ∷ cells) said =
+    let fields = line_fields (cell ∷ cells) in
+    let at : said_at (cell ∷ cells) (Tag 448) ≡ cell.1 =
+    ap (λ (p : Place). if is_place p (Tag 448) then cell.1 else said_at cells (Tag 448)) said.0 in
+    let P : Said → Type 0 = λ s. IsId (unwrap_or s []) in
+    subst P (sym at) (by cell.1 (said.1.needed refl) said.1.spelled said.1.clear)
+  where
+    by : (s : Said) → IsSome s
+        → IfSome s (λ text. judge (line_fields (cell ∷ cells)) (Value Id) text ≡ Spells text)
+        → IfSome s IsClear → IsId (unwrap_or s [])
+    by None there spelled clear = absurd cc
+    by (Some text) there spelled clear = (spelled, clear)
+
+pub party_id : (role : ℕ) (lines : List (List Cell))
+    → AllByRecursion (IsLine judge parties.rows) lines → IfSome (party_in role lines) IsId
+unfolding first_of
+party_id role [] said = tt
+party_id role (line ∷ lines) said =
+    by (bytes_eq (text_in line 452) (decimal role)) (party_id role lines said.1)
+  where
+    by : (b : Bool) → IfSome (party_in role lines) IsId
+        → IfSome (or_else (if b then Some (text_in line 448) else None) (party_in role lines)) IsId
+    by true later = line_id line said.0
+    by false later = later
+
+pub ids_said : (fields : List Field) (tag : ℕ) (id : Said)
+    → IfSome id IsId → IsSaid judge fields (row Optional tag Id) id
+unfolding judge
+ids_said fields tag None h = optional_said fields tag (Value Id) None tt tt
+ids_said fields tag (Some id) h = optional_said fields tag (Value Id) (Some id) h.0 h.1
+
+-- ---- reasons
+
+-- the reasons that stand for later ones
+abbrev pub is_other : List ℕ → Bool
+is_other other = bytes_eq other (codes "0") || (bytes_eq other (codes "2") || bytes_eq other (codes "4"))
+
+abbrev IsReason : List ℕ → Type 0
+IsReason text = (judge [] (Value Reason) text ≡ Spells text) × IsClear text
+
+reason_0 : IsReason (codes "0")
+unfolding judge spelling are_digits number_of digits
+reason_0 = (refl, refl)
+
+reason_2 : IsReason (codes "2")
+unfolding judge spelling are_digits number_of digits
+reason_2 = (refl, refl)
+
+reason_4 : IsReason (codes "4")
+unfolding judge spelling are_digits number_of digits
+reason_4 = (refl, refl)
+
+other_reason : (other : List ℕ) → is_other other ≡ true → IsReason other
+other_reason other h = by (bytes_eq other (codes "0")) (bytes_eq other (codes "2"))
+    (bytes_eq other (codes "4")) refl refl refl h
+  where
+    by : (a b c : Bool) → bytes_eq other (codes "0") ≡ a → bytes_eq other (codes "2") ≡ b
+        → bytes_eq other (codes "4") ≡ c → (a || (b || c)) ≡ true → IsReason other
+    by true b c e f g h =
+        subst IsReason (sym ((bytes_eq-Decides other (codes "0")).0 e)) reason_0
+    by false true c e f g h =
+        subst IsReason (sym ((bytes_eq-Decides other (codes "2")).0 f)) reason_2
+    by false false true e f g h =
+        subst IsReason (sym ((bytes_eq-Decides other (codes "4")).0 g)) reason_4
+    by false false false e f g h = absurd cc
+
+pub reason_said : (before after : List Field) (tag last : ℕ) (other : List ℕ)
+    → is_other other ≡ true → (reason : Said) → IsSpelled before (Value Reason) reason
+    → IsSaid judge after (row Optional tag Reason) (reason_down last other reason)
+unfolding judge
+reason_said before after tag last other is None h =
+    optional_said after tag (Value Reason) None tt tt
+reason_said before after tag last other is (Some reason) h =
+    optional_said after tag (Value Reason) (Some (within last other reason (number_in reason)))
+    (by (number_in reason)).0 (by (number_in reason)).1
+  where
+    by : (n : Option ℕ) → IsReason (within last other reason n)
+    by None = (h.spelled, h.clear)
+    by (Some n) = test (nat_le n last)
+      where
+        test : (b : Bool) → IsReason (if b then reason else other)
+        test true = (h.spelled, h.clear)
+        test false = other_reason other is
+
+-- ---- the number of a reason
+
+-- a reason is at most 9,999
+in_range_of : (n : NumberValue) (text : List ℕ)
+    → verdict_of (spelt number_text (if_in_range (λ m. nat_le m.value 9999) (Ok n))) ≡ Spells text
+    → n.value ≤ 9999
+in_range_of n text h = by (nat_le n.value 9999) refl h
+  where
+    by : (b : Bool) → nat_le n.value 9999 ≡ b
+        → verdict_of (spelt number_text (if b then Ok n else Err Range)) ≡ Spells text
+        → n.value ≤ 9999
+    by true e h = grind (arith, nat_tests)
+    by false e h = absurd cc
+
+small_by : (text : List ℕ) (r : Result NumberValue FieldFault) → read_number text ≡ r
+    → verdict_of (spelt number_text (if_in_range (λ m. nat_le m.value 9999) r)) ≡ Spells text
+    → number_of text ≤ 9999
+small_by text (Ok n) e h =
+    let low = in_range_of n text h in
+    let is = (judged_ok text _ _ (record { value = number_of text }) n e).value in
+    let P : ℕ → Type 0 = λ k. k ≤ 9999 in
+    subst P (sym (ap (λ (x : NumberValue). x.value) is)) low
+small_by text (Err fault) e h = absurd cc
+
+pub small_reason : (fields : List Field) (text : List ℕ)
+    → judge fields (Value Reason) text ≡ Spells text → IfSome (number_in text) (λ n. n ≤ 9999)
+unfolding judge spelling number_in number_of
+small_reason fields [] h = absurd cc
+small_reason fields (b ∷ bs) h = by (is_number (b ∷ bs))
+  where
+    by : (good : Bool)
+        → IfSome (if good then Some (number_of (b ∷ bs)) else None) (λ n. n ≤ 9999)
+    by true = small_by (b ∷ bs) (read_number (b ∷ bs)) refl h
+    by false = tt
+
+-- ---- texts
+
+-- nothing, or some bytes behind a first one
+abbrev pub Begins : List ℕ → Type 0
+Begins [] = Unit {0}
+Begins (b ∷ []) = ⊥
+Begins (b ∷ c ∷ bs) = Unit {0}
+
+-- what a text tells of reasons, of at most so many bytes
+pub record IsTold (most : ℕ) (told : List ℕ) : Type 0 where
+  pub short : length told ≤ most
+  pub clear : IsClear told
+  pub begins : Begins told
+
+one_told : (tag n : ℕ) → tag < 1000 → n ≤ 9999
+    → IsTold 12 (codes " [" ++ decimal tag ++ codes "=" ++ decimal n ++ codes "]")
+one_told tag n small few =
+    let wide : n < 2 ^ 64 = omega (arith, few) in
+    let wide_tag : tag < 2 ^ 64 = omega (arith, small) in
+    let one = length-decimal-le 4 n (omega arith) (omega (arith, few)) wide in
+    let two = length-decimal-le 3 tag (omega arith) (omega (arith, small)) wide_tag in
+    let digits = digits_clear (decimal n) (digits_decimal numerals n wide) in
+    let tags = digits_clear (decimal tag) (digits_decimal numerals tag wide_tag) in
+    record {
+      short = omega (
+        arith,
+        one,
+        two,
+        length-append (decimal tag ++ codes "=" ++ decimal n) (codes "]"),
+        length-append (decimal tag ++ codes "=") (decimal n),
+        length-append (decimal tag) (codes "="),
+      );
+      clear = clear_joined (decimal tag ++ codes "=" ++ decimal n) (codes "]")
+          (clear_joined (decimal tag ++ codes "=") (decimal n)
+          (clear_joined (decimal tag) (codes "=") tags refl) digits) refl;
+      begins = tt;
+    }
+
+told_of : (tag last : ℕ) (reason : Option ℕ) → tag < 1000
+    → IfSome reason (λ n. n ≤ 9999) → IsTold 12 (reason_told tag last reason)
+told_of tag last None small h = record { short = lit≤ tt; clear = refl; begins = tt }
+told_of tag last (Some n) small h = by (nat_le n last)
+  where
+    by : (b : Bool) → IsTold 12 (if b then []
+        else codes " [" ++ decimal tag ++ codes "=" ++ decimal n ++ codes "]")
+    by true = record { short = lit≤ tt; clear = refl; begins = tt }
+    by false = one_told tag n small h
+
+pub told_said : (fields : List Field) (tag last : ℕ) (reason : Said) → tag < 1000
+    → IsSpelled fields (Value Reason) reason
+    → IsTold 12 (reason_told tag last (reason >>= number_in))
+told_said fields tag last None small h = told_of tag last None small tt
+told_said fields tag last (Some text) small h =
+    told_of tag last (number_in text) small (small_reason fields text h.spelled)
+
+pub told_both : (p q : ℕ) (one two : List ℕ) → IsTold p one → IsTold q two
+    → IsTold (p + q) (one ++ two)
+told_both p q one two h k = record {
+  short = let low = h.short in let also = k.short in omega (arith, low, also, length-append one two);
+  clear = clear_joined one two h.clear k.clear;
+  begins = by one h.begins;
+}
+  where
+    by : (xs : List ℕ) → Begins xs → Begins (xs ++ two)
+    by [] b = k.begins
+    by (x ∷ []) b = absurd b
+    by (x ∷ y ∷ ys) b = tt
+
+text_spelled : (text : List ℕ) → 1 ≤ length text → length text ≤ 2048
+    → verdict_of (spelling Text text) ≡ Spells text
+unfolding spelling
+text_spelled [] some few = absurd (omega (arith, some))
+text_spelled (b ∷ bs) some few =
+    let low : nat_le (length (b ∷ bs)) 2048 ≡ true = grind (arith, nat_tests) in
+    ap (λ (good : Bool). verdict_of (if good then Ok (Some (b ∷ bs)) else Err Range)) low
+
+take_most : (n : ℕ) (xs : List ℕ) → length (take n xs) ≤ n
+take_most zero xs = lit≤ tt
+take_most (suc n) [] = omega arith
+take_most (suc n) (x ∷ xs) = let rest = take_most n xs in omega (arith, rest)
+
+clear_tail : (b : ℕ) (bs : List ℕ) → IsClear (b ∷ bs) → IsClear bs
+clear_tail b bs h = (either (b == 1) (list_any is_soh bs) h).1
+
+pub text_said : (before after : List Field) (text : Said) (told : List ℕ) → IsTold 48 told
+    → IsSpelled before (Value Text) text
+    → IsSaid judge after (row Optional 58 Text) (telling text told)
+unfolding judge
+text_said before after text [] h s =
+    optional_said after 58 (Value Text) text (same_value before after Text text s.spelled) s.clear
+text_said before after text (b ∷ []) h s = absurd h.begins
+text_said before after None (b ∷ c ∷ bs) h s =
+    let short = h.short in
+    optional_said after 58 (Value Text) (Some (c ∷ bs))
+    (text_spelled (c ∷ bs) (omega arith) (omega (arith, short)))
+    (clear_tail b (c ∷ bs) h.clear)
+text_said before after (Some text) (b ∷ c ∷ bs) h s =
+    let short = h.short in
+    let front = take_most 2000 text in
+    let whole = length-append (take 2000 text) (b ∷ c ∷ bs) in
+    optional_said after 58 (Value Text) (Some (take 2000 text ++ (b ∷ c ∷ bs)))
+    (text_spelled (take 2000 text ++ (b ∷ c ∷ bs)) (omega (arith, whole))
+    (omega (arith, whole, short, front)))
+    (clear_joined (take 2000 text) (b ∷ c ∷ bs) (clear_front 2000 text s.clear) h.clear)

@@ -1,0 +1,3 @@
+pub mod CodeRules
+pub mod Down
+pub mod Rules

@@ -1,0 +1,239 @@
+-- A month and its day as a date, and the month beside it.
+use Rattle.std.proofs.Common.{◌≡◌, ℕ, List, [], ◌∷◌, ◌++◌, length, take, Bool, true, false, Option}
+use Rattle.std.proofs.Common.{Some, None, refl, sym, ap, ◌∙◌, codes, arith, subst}
+use Rattle.std.proofs.lemmas.Bool.{eqb-true}
+use Rattle.std.proofs.lemmas.Str.{digit_value_digit}
+use Rattle.std.proofs.lemmas.List.{take_at}
+use Rattle.std.specs.Prelude.{IfSome, ◌&&◌, ◌==◌, Ok, Err, Result, if◌then◌else◌}
+use Rattle.std.specs.Char.{is_ascii_digit}
+use Rattle.std.specs.Str.Parse.{digits_value}
+use Rattle.std.specs.Result.{result_ok}
+use Rattle.typed_fields.specs.declared.fault.FieldFault.{FieldFault}
+use Rattle.typed_fields.specs.declared.fault.FieldFault.TheVariants.{Form}
+use Rattle.typed_fields.specs.declared.month_year.MonthYear.{MonthYear as MonthValue}
+use Rattle.typed_fields.specs.Digits.{has_pattern, have_marks, number_of}
+use Rattle.typed_fields.specs.Day.{is_date, day_number}
+use Rattle.typed_fields.specs.MonthYear.{read_month_year, year_in, month_in}
+use Rattle.typed_fields.proofs.SpellingLemmas.{judged_ok, judged_good, digit_bounds}
+use Rattle.field_groups.specs.Field.{Field}
+use Rattle.value_kinds.specs.ValueKind.{MonthYear, Day, DayOfMonth, Spelling, spelling, spelt, formed}
+use Rattle.value_kinds.specs.ValueKind.{number_of_two}
+use Rattle.message_tables.specs.Tables.{Verdict, Spells, Outside, Wrong, Said, ◌>>=◌, text_of}
+use Rattle.message_tables.specs.Tables.{value_at}
+use Rattle.row_values.specs.Kinds.{Value, DayOf, MonthBeside, judge, verdict_of, in_month, month_at}
+use Rattle.row_values.specs.Kinds.{if_spelled, month_beside}
+use Rattle.sound_laws.proofs.Each.{both}
+use Rattle.request_rules.specs.Rules.{date_up}
+
+-- two digits
+pub record IsTwo (text : List ℕ) : Type 0 where
+  pub ten : ℕ
+  pub one : ℕ
+  pub is : text ≡ ten ∷ one ∷ []
+  pub tens : is_ascii_digit ten ≡ true
+  pub ones : is_ascii_digit one ≡ true
+
+pub two_value : (text : List ℕ) → IsTwo text → digits_value 10 text ≡ number_of_two text
+two_value text h =
+    let a = digit_bounds h.ten h.tens in
+    let b = digit_bounds h.one h.ones in
+    let d = digit_value_digit h.ten a in
+    let e = digit_value_digit h.one b in
+    let same : digits_value 10 (h.ten ∷ h.one ∷ []) ≡ number_of_two (h.ten ∷ h.one ∷ []) =
+    omega (arith, d, e) in
+    ap (digits_value 10) h.is ∙ same ∙ ap number_of_two (sym h.is)
+
+formed_two : (good : Bool) (bytes text : List ℕ)
+    → verdict_of (formed good bytes) ≡ Spells text → good ≡ true
+formed_two true bytes text h = refl
+formed_two false bytes text h = absurd cc
+
+padded : (good : Bool) (one : ℕ)
+    → verdict_of (if good then Ok (Some (48 ∷ one ∷ [])) else Err Form) ≡ Spells (one ∷ []) → ⊥
+padded true one h = cc
+padded false one h = cc
+
+pub is_two : (text : List ℕ) → verdict_of (spelling DayOfMonth text) ≡ Spells text → IsTwo text
+unfolding spelling
+is_two [] h = absurd cc
+is_two (one ∷ []) h = absurd (padded (is_ascii_digit one) one h)
+is_two (ten ∷ one ∷ []) h =
+    let p = both (is_ascii_digit ten) (is_ascii_digit one)
+    (formed_two (is_ascii_digit ten && is_ascii_digit one) (ten ∷ one ∷ []) (ten ∷ one ∷ []) h) in
+    record { ten = ten; one = one; is = refl; tens = p.0; ones = p.1 }
+is_two (a ∷ b ∷ c ∷ text) h = absurd cc
+
+-- any day is spelled in two digits
+two_of : (bytes text : List ℕ) → verdict_of (spelling DayOfMonth bytes) ≡ Spells text → IsTwo text
+unfolding spelling
+two_of [] text h = absurd cc
+two_of (one ∷ []) text h = by (is_ascii_digit one) refl h
+  where
+    by : (good : Bool) → is_ascii_digit one ≡ good
+        → verdict_of (if good then Ok (Some (48 ∷ one ∷ [])) else Err Form) ≡ Spells text
+        → IsTwo text
+    by true e h = record { ten = 48; one = one; is = cc; tens = refl; ones = e }
+    by false e h = absurd cc
+two_of (ten ∷ one ∷ []) text h = by (is_ascii_digit ten && is_ascii_digit one) refl h
+  where
+    by : (good : Bool) → (is_ascii_digit ten && is_ascii_digit one) ≡ good
+        → verdict_of (formed good (ten ∷ one ∷ [])) ≡ Spells text → IsTwo text
+    by true e h =
+        let p = both (is_ascii_digit ten) (is_ascii_digit one) e in
+        record { ten = ten; one = one; is = cc; tens = p.0; ones = p.1 }
+    by false e h = absurd cc
+two_of (a ∷ b ∷ c ∷ bytes) text h = absurd cc
+
+-- a day that its month has
+abbrev HasDay : Option MonthValue → List ℕ → Type 0
+HasDay month day =
+    IfSome month (λ m. is_date m.year m.month (number_of_two day) ≡ true)
+
+record IsDayIn (month : Option MonthValue) (day : List ℕ) : Type 0 where
+  spelled : verdict_of (spelling DayOfMonth day) ≡ Spells day
+  there : HasDay month day
+
+day_in : (month : Option MonthValue) (v : Verdict) (day : List ℕ)
+    → in_month month v ≡ Spells day → (v ≡ Spells day) × HasDay month day
+day_in None v day h = (h, tt)
+day_in (Some month) (Spells other) day h =
+    by (is_date month.year month.month (number_of_two other)) refl h
+  where
+    by : (good : Bool) → is_date month.year month.month (number_of_two other) ≡ good
+        → (if good then Spells other else Wrong 5) ≡ Spells day
+        → (Spells other ≡ Spells day)
+        × (is_date month.year month.month (number_of_two day) ≡ true)
+    by true e h = let same : other ≡ day = cc in (h, rw (← same) e)
+    by false e h = absurd cc
+day_in (Some month) Outside day h = absurd cc
+day_in (Some month) (Wrong reason) day h = absurd cc
+
+-- a day of FIX 4.2 has two digits
+pub day_value : (fields : List Field) (day : List ℕ) → judge fields (DayOf 200) day ≡ Spells day
+    → digits_value 10 day ≡ number_of_two day
+unfolding judge
+day_value fields day h = two_value day
+    (is_two day (day_in (month_at 200 fields) (verdict_of (spelling DayOfMonth day)) day h).0)
+
+pub day_two : (fields : List Field) (bytes text : List ℕ)
+    → judge fields (DayOf 200) bytes ≡ Spells text → IsTwo text
+unfolding judge
+day_two fields bytes text h = two_of bytes text
+    (day_in (month_at 200 fields) (verdict_of (spelling DayOfMonth bytes)) text h).0
+
+-- ---- a month
+
+abbrev month_of : List ℕ → MonthValue
+month_of text = record { year = year_in text; month = month_in text }
+
+month_read : (text : List ℕ) (r : Result MonthValue FieldFault)
+    → verdict_of (spelt (λ _. text) r) ≡ Spells text → (x : MonthValue) × (r ≡ Ok x)
+month_read text (Ok x) h = (x, refl)
+month_read text (Err fault) h = absurd cc
+
+record IsMonth (text : List ℕ) : Type 0 where
+  form : has_pattern (codes "YYYYMM") text ≡ true
+  read : read_month_year text ≡ Ok (month_of text)
+
+is_month : (text : List ℕ) → verdict_of (spelling MonthYear text) ≡ Spells text → IsMonth text
+unfolding spelling
+is_month [] h = absurd cc
+is_month (b ∷ bs) h =
+    let read = month_read (b ∷ bs) (read_month_year (b ∷ bs)) h in
+    let parts = judged_ok (b ∷ bs) _ _ (month_of (b ∷ bs)) read.0 read.1 in record {
+      form = parts.form;
+      read = judged_good (b ∷ bs) _ _ (month_of (b ∷ bs)) parts.some parts.form parts.bound;
+    }
+
+six : (text : List ℕ) → has_pattern (codes "YYYYMM") text ≡ true → length text ≡ 6
+unfolding has_pattern
+six text h = sym (eqb-true 6 (length text)
+    (both (6 == length text) (have_marks (codes "YYYYMM") text) h).0)
+
+pub month_length : (fields : List Field) (text : List ℕ)
+    → judge fields (Value MonthYear) text ≡ Spells text → length text ≡ 6
+unfolding judge
+month_length fields text h = six text (is_month text h).form
+
+-- ---- a date
+
+date_by : (month day : List ℕ) → has_pattern (codes "YYYYMM") month ≡ true → IsTwo day
+    → is_date (year_in month) (month_in month) (number_of_two day) ≡ true
+    → verdict_of (spelling Day (month ++ day)) ≡ Spells (month ++ day)
+unfolding spelling has_pattern number_of
+date_by (y1 ∷ y2 ∷ y3 ∷ y4 ∷ m1 ∷ m2 ∷ []) day form two good =
+    let P : List ℕ → Type 0 = λ d. is_date (year_in (y1 ∷ y2 ∷ y3 ∷ y4 ∷ m1 ∷ m2 ∷ []))
+    (month_in (y1 ∷ y2 ∷ y3 ∷ y4 ∷ m1 ∷ m2 ∷ [])) (digits_value 10 d) ≡ true
+    → verdict_of (spelling Day (y1 ∷ y2 ∷ y3 ∷ y4 ∷ m1 ∷ m2 ∷ d))
+    ≡ Spells (y1 ∷ y2 ∷ y3 ∷ y4 ∷ m1 ∷ m2 ∷ d) in
+    subst P (sym two.is) ends
+    (rw (two_value day two) good)
+  where
+    ends : is_date (year_in (y1 ∷ y2 ∷ y3 ∷ y4 ∷ m1 ∷ m2 ∷ []))
+        (month_in (y1 ∷ y2 ∷ y3 ∷ y4 ∷ m1 ∷ m2 ∷ []))
+        (digits_value 10 (two.ten ∷ two.one ∷ [])) ≡ true
+        → verdict_of (spelling Day (y1 ∷ y2 ∷ y3 ∷ y4 ∷ m1 ∷ m2 ∷ two.ten ∷ two.one ∷ []))
+        ≡ Spells (y1 ∷ y2 ∷ y3 ∷ y4 ∷ m1 ∷ m2 ∷ two.ten ∷ two.one ∷ [])
+    ends date =
+        let p1 = both (is_ascii_digit y1) _ form in
+        let p2 = both (is_ascii_digit y2) _ p1.1 in
+        let p3 = both (is_ascii_digit y3) _ p2.1 in
+        let p4 = both (is_ascii_digit y4) _ p3.1 in
+        let p5 = both (is_ascii_digit m1) _ p4.1 in
+        let p6 = both (is_ascii_digit m2) _ p5.1 in
+        let text = y1 ∷ y2 ∷ y3 ∷ y4 ∷ m1 ∷ m2 ∷ two.ten ∷ two.one ∷ [] in
+        let marks : has_pattern (codes "YYYYMMDD") text ≡ true =
+        rw (p1.0, p2.0, p3.0, p4.0, p5.0, p6.0, two.tens, two.ones) refl in
+        ap (λ r. verdict_of (spelt (λ _. text) r))
+        (judged_good text _ _ (record { day = day_number text }) refl marks date)
+date_by text day form two good = absurd (omega (arith, six text form))
+
+module _ (fields42 fields50 : List Field) (month day : List ℕ) where
+  -- a date of FIX 5.0 SP2
+  pub date_spelled : value_at 200 fields42 ≡ Some month
+      → judge fields42 (Value MonthYear) month ≡ Spells month
+      → judge fields42 (DayOf 200) day ≡ Spells day
+      → judge fields50 (Value Day) (month ++ day) ≡ Spells (month ++ day)
+  unfolding judge
+  date_spelled at spelled in_it =
+      let m = is_month month spelled in
+      let said : month_at 200 fields42 ≡ Some (month_of month) =
+      ap (λ (value : Said). value >>= (λ t. result_ok (read_month_year t))) at
+      ∙ ap result_ok m.read in
+      let d = day_in (Some (month_of month)) (verdict_of (spelling DayOfMonth day)) day
+      (sym (ap (λ (o : Option MonthValue). in_month o (verdict_of (spelling DayOfMonth day))) said)
+      ∙ in_it) in
+      date_by month day m.form (is_two day d.0) d.1
+
+-- the month is that of the date
+pub month_first : (month day : List ℕ) → length month ≡ 6 → take 6 (month ++ day) ≡ month
+month_first month day long = take_at month day 6 long
+
+spells_ok : (spelled : Spelling) (text : List ℕ)
+    → verdict_of spelled ≡ Spells text → if_spelled spelled ≡ Spells text
+spells_ok (Ok (Some other)) text h = h
+spells_ok (Ok None) text h = absurd cc
+spells_ok (Err fault) text h = absurd cc
+
+no_month : verdict_of (spelling MonthYear []) ≡ Spells [] → ⊥
+unfolding spelling
+no_month h = cc
+
+module _ (fields42 fields50 : List Field) where
+  -- the month of FIX 5.0 SP2, beside the date
+  pub month_spelled : (month day : Said) → value_at 541 fields50 ≡ date_up month day
+      → IfSome month (λ text. judge fields42 (Value MonthYear) text ≡ Spells text)
+      → IfSome (date_up month day) (λ text. judge fields50 (Value Day) text ≡ Spells text)
+      → IfSome month (λ text. judge fields50 (MonthBeside 541) text ≡ Spells text)
+  unfolding judge
+  month_spelled None day at h d = tt
+  month_spelled (Some []) day at h d = absurd (no_month h)
+  month_spelled (Some (b ∷ month)) None at h d =
+      ap (λ (date : Said). month_beside (date >>= (λ text. text_of (verdict_of (spelling Day text))))
+      (b ∷ month)) at
+      ∙ spells_ok (spelling MonthYear (b ∷ month)) (b ∷ month) h
+  month_spelled (Some (b ∷ month)) (Some day) at h d =
+      ap (λ (date : Said). month_beside (date >>= (λ text. text_of (verdict_of (spelling Day text))))
+      (b ∷ month)) at
+      ∙ ap (λ (v : Verdict). month_beside (text_of v) (b ∷ month)) d
+      ∙ ap Spells (month_first (b ∷ month) day (month_length fields42 (b ∷ month) h))

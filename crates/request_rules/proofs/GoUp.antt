@@ -1,0 +1,262 @@
+-- What goes up of a request stands for it: the four tables.
+use Rattle.std.proofs.Common.{◌≡◌, ℕ, List, [], ◌∷◌, length, true, false, Option, Some, None}
+use Rattle.std.proofs.Common.{refl, sym, ap, subst, ◌∙◌, codes}
+use Rattle.std.specs.Prelude.{IfSome, Ok, ◌==◌, if◌then◌else◌}
+use Rattle.std.specs.List.{flat_map}
+use Rattle.std.specs.Str.Parse.{digits_value}
+use Rattle.field_groups.specs.Field.{Field}
+use Rattle.value_kinds.specs.ValueKind.{Code, MonthYear, number_of_two}
+use Rattle.message_tables.specs.Tables.{Item, Message, Said, Spells, Tag, Role, ◌>>=◌, code_of}
+use Rattle.message_tables.specs.Tables.{is_one_of}
+use Rattle.message_tables.specs.FirstFault.{message_of}
+use Rattle.message_tables.specs.Content.{content}
+use Rattle.first_faults.specs.Faults.{told}
+use Rattle.order_meaning.specs.Request.{Request, RequestKind, New, Cancel, Replace, Status}
+use Rattle.row_values.specs.Kinds.{Kind, Value, DayOf, judge}
+use Rattle.rows_fix42.specs.Header.{table as table42}
+use Rattle.rows_fix50.specs.Header.{completed_by, month_by, table as table50}
+use Rattle.dict_fix42.specs.Sense as sense42
+use Rattle.dict_fix42.specs.Sense.{request42}
+use Rattle.dict_fix42.specs.Requests as requests42
+use Rattle.dict_fix50.specs.Message.{message50}
+use Rattle.dict_fix50.specs.Sense.{request50}
+use Rattle.sound_laws.specs.Sound.{IsSound, without_resend}
+use Rattle.sound_laws.proofs.Completed.{completed_again}
+use Rattle.sound_laws.proofs.ContentAgain.{read_again}
+use Rattle.sound_laws.proofs.Lookups.{places_apart}
+use Rattle.sound_laws.proofs.PlainFields.{clear_fields}
+use Rattle.sound_laws.proofs.Stages.{item_tags}
+use Rattle.sound_laws.proofs.TableFits as fits
+use Rattle.sound_laws.proofs.TableFits.{table_fits}
+use Rattle.rule_rows.proofs.Looked.{has_lines_of, says}
+use Rattle.rule_rows.proofs.Made.{content_made}
+use Rattle.rule_rows.proofs.Source as source
+use Rattle.request_rules.specs.Canonical.{IsCanonical}
+use Rattle.request_rules.specs.Canonical as canonical
+use Rattle.request_rules.specs.Lack.{lack_if}
+use Rattle.request_rules.specs.Rules.{at, date_up, kinds, party_lines, up_content, up_lack}
+use Rattle.request_rules.specs.Rules.{up_message, up_rules}
+use Rattle.request_rules.specs.Up.{GoUp, IsOrdinary, IsRequest42, News, Cancels, Replaces, ReadGoUp}
+use Rattle.request_rules.specs.Up.{StandsFor, Statuses}
+use Rattle.request_rules.proofs.DatesUp.{month_length, month_first, day_value}
+use Rattle.request_rules.proofs.KindsUp.{are_kinds, own}
+use Rattle.request_rules.proofs.LacksUp.{lack_is}
+use Rattle.request_rules.proofs.SenseUp.{keeps_sense}
+use Rattle.request_rules.proofs.SoundUp.{sound_up, month42, day42, time42}
+use Rattle.request_rules.proofs.Sound42.{read_is_sound}
+use Rattle.request_rules.proofs.TablesUp.{GoesUp, each_made, items_up, make}
+use Rattle.request_rules.proofs.TermsUp.{is_code_of, is_other}
+
+-- ---- what the tables of FIX 4.2 ask for
+
+months : (fields : List Field) (month : Said)
+    → IfSome month (λ text. judge fields (Value MonthYear) text ≡ Spells text)
+    → IfSome month (λ text. length text ≡ 6)
+months fields None h = tt
+months fields (Some text) h = month_length fields text h
+
+days : (fields : List Field) (day : Said)
+    → IfSome day (λ text. judge fields (DayOf 200) text ≡ Spells text)
+    → IfSome day (λ text. digits_value 10 text ≡ number_of_two text)
+days fields None h = tt
+days fields (Some text) h = day_value fields text h
+
+times : (fields : List Field) (time : Said)
+    → IfSome time (λ text. judge fields (Value (Code (codes "0123456"))) text ≡ Spells text)
+    → IfSome (time >>= code_of) (λ code. (code == 55) ≡ false)
+times fields None h = tt
+times fields (Some text) h =
+    let t = is_code_of fields (codes "0123456") text h in
+    let P : List ℕ → Type 0 = λ x. IfSome (code_of x) (λ code. (code == 55) ≡ false) in
+    subst P (sym t.is) (is_other fields t.code t.listed)
+
+month_of_date : (month day : Said) → IfSome month (λ text. length text ≡ 6)
+    → month ≡ month_by (date_up month day) month
+month_of_date None day six = refl
+month_of_date (Some month) None six = refl
+month_of_date (Some month) (Some day) six =
+    ap (λ (t : List ℕ). Some t) (sym (month_first month day six))
+
+-- the request of a letter
+abbrev asked : ℕ → (RequestKind → Request) → Option Request
+asked letter f =
+    if letter == 68 then Some (f New) else
+    (if letter == 70 then Some (f Cancel) else
+    (if letter == 71 then Some (f Replace) else
+    (if letter == 72 then Some (f Status) else None)))
+
+-- ---- a message of a table that goes up
+
+-- what goes up, by a table of FIX 5.0 SP2
+record IsUp (letter : ℕ) (items : List (Item Kind)) (m : Message) : Type 0 where
+  canonical : IsCanonical letter items (up_message m)
+  content_is : up_content m ≡ content (table50 letter items) (up_message m)
+  means : request50 (up_message m) ≡ request42 m
+  again : completed_by (told (message_of judge (table50 letter items) (up_content m)))
+      ≡ Ok (without_resend (up_message m))
+
+module _ (letter : ℕ) (kind : RequestKind) (items : List (Item Kind)) (goes : GoesUp items)
+    (is : (f : RequestKind → Request) → asked letter f ≡ Some (f kind))
+    (fit : table_fits (table50 letter (items_up items)) [] ≡ true)
+    (bare : is_one_of (flat_map item_tags (items_up items)) 97 ≡ false)
+    (m : Message) (sound : IsSound judge (table42 letter items) m)
+    (lack : lack_if (request42 m) ≡ None) where
+  abbrev fields42 : List Field
+  fields42 = content (table42 letter items) m
+
+  ordinary : IsOrdinary m
+  ordinary = record {
+    month = months fields42 (at m 200) (month42 letter items goes m sound).spelled;
+    day = days fields42 (at m 205) (day42 letter items goes m sound).spelled;
+    time = times fields42 (at m 59) (time42 letter items goes m sound).spelled;
+  }
+
+  no_lack : up_lack m ≡ None
+  no_lack =
+      let request : request42 m ≡ Some (sense42.request_of kind m) =
+      ap (λ (n : ℕ). asked n (λ k. sense42.request_of k m)) sound.letter
+      ∙ is (λ k. sense42.request_of k m) in
+      sym (lack_is kind m) ∙ (sym (ap lack_if request) ∙ lack)
+
+  as_canonical : IsCanonical letter (items_up items) (up_message m)
+  as_canonical = record {
+    sound = sound_up letter items goes m sound no_lack;
+    month = says kinds are_kinds up_rules own m (Tag 200)
+        ∙ month_of_date (at m 200) (at m 205) ordinary.month
+        ∙ sym (λ i. month_by (says kinds are_kinds up_rules own m (Tag 541) i)
+        (says kinds are_kinds up_rules own m (Tag 200) i));
+    parties = has_lines_of kinds are_kinds up_rules own m 453
+        ∙ sym (λ i. party_lines (says kinds are_kinds up_rules own m (Role 3) i)
+        (says kinds are_kinds up_rules own m (Role 1) i)
+        (says kinds are_kinds up_rules own m (Role 4) i));
+  }
+
+  by_table : up_content m ≡ content (table50 letter (items_up items)) (up_message m)
+  by_table = content_made kinds items (make items) m
+      (source.outline_is (table42 letter items) m sound) are_kinds up_rules own (each_made items)
+
+  is_up : IsUp letter (items_up items) m
+  is_up =
+      let t = table50 letter (items_up items) in
+      let w = up_message m in record {
+        canonical = as_canonical;
+        content_is = by_table;
+        means = keeps_sense m ordinary lack;
+        again = ap (λ fields. completed_by (told (message_of judge t fields))) by_table
+            ∙ ap completed_by (read_again t w fit bare as_canonical.sound)
+            ∙ ap (λ (x : Message). Ok x) (completed_again w as_canonical.month
+            (ap places_apart as_canonical.sound.places ∙ fits.places_are_apart t w [] fit) false);
+      }
+
+-- ---- THE FOUR REQUESTS
+
+new_goes : GoesUp requests42.new_order
+new_goes = record {
+  carried = refl;
+  month = refl;
+  day = refl;
+  type = refl;
+  time = refl;
+  capacity = refl;
+  client = refl;
+  broker = refl;
+  firm = refl;
+  month_alone = refl;
+  date_alone = refl;
+  timed = refl;
+  type_alone = λ e. refl;
+}
+
+cancel_goes : GoesUp requests42.cancel_request
+cancel_goes = record {
+  carried = refl;
+  month = refl;
+  day = refl;
+  type = tt;
+  time = tt;
+  capacity = tt;
+  client = refl;
+  broker = refl;
+  firm = tt;
+  month_alone = refl;
+  date_alone = refl;
+  timed = refl;
+  type_alone = λ e. absurd cc;
+}
+
+replace_goes : GoesUp requests42.replace_request
+replace_goes = record {
+  carried = refl;
+  month = refl;
+  day = refl;
+  type = refl;
+  time = refl;
+  capacity = refl;
+  client = refl;
+  broker = refl;
+  firm = refl;
+  month_alone = refl;
+  date_alone = refl;
+  timed = refl;
+  type_alone = λ e. refl;
+}
+
+status_goes : GoesUp requests42.status_request
+status_goes = record {
+  carried = refl;
+  month = refl;
+  day = refl;
+  type = tt;
+  time = tt;
+  capacity = tt;
+  client = refl;
+  broker = refl;
+  firm = tt;
+  month_alone = refl;
+  date_alone = refl;
+  timed = refl;
+  type_alone = λ e. absurd cc;
+}
+
+module _ (m : Message) where
+  abbrev IsAgain : ℕ → Type 0
+  IsAgain letter =
+      message50 (letter ∷ []) (up_content m) None ≡ Ok (without_resend (up_message m))
+
+  stands_for : IsRequest42 m → lack_if (request42 m) ≡ None → StandsFor m
+  unfolding message50
+  stands_for (News s) lack =
+      let up = is_up 68 New requests42.new_order new_goes (λ f. refl) refl refl m s lack in record {
+        request = canonical.News up.canonical up.content_is;
+        means = up.means;
+        again = subst IsAgain (sym s.letter) up.again;
+      }
+  stands_for (Cancels s) lack =
+      let up = is_up 70 Cancel requests42.cancel_request cancel_goes (λ f. refl) refl refl m s lack
+      in record {
+        request = canonical.Cancels up.canonical up.content_is;
+        means = up.means;
+        again = subst IsAgain (sym s.letter) up.again;
+      }
+  stands_for (Replaces s) lack =
+      let up = is_up 71 Replace requests42.replace_request replace_goes (λ f. refl) refl refl m s
+      lack in record {
+        request = canonical.Replaces up.canonical up.content_is;
+        means = up.means;
+        again = subst IsAgain (sym s.letter) up.again;
+      }
+  stands_for (Statuses s) lack =
+      let up = is_up 72 Status requests42.status_request status_goes (λ f. refl) refl refl m s lack
+      in record {
+        request = canonical.Statuses up.canonical up.content_is;
+        means = up.means;
+        again = subst IsAgain (sym s.letter) up.again;
+      }
+
+-- WHAT GOES UP STANDS FOR A MESSAGE.
+pub go_up : GoUp
+go_up m request lack = stands_for m request lack
+
+pub read_go_up : ReadGoUp
+read_go_up msg_type fields m are read lack =
+    stands_for m (read_is_sound fields (clear_fields judge None fields are) msg_type m read) lack

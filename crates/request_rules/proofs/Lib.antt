@@ -1,0 +1,15 @@
+pub mod DateWritten
+pub mod DatesUp
+pub mod GoUp
+pub mod GoodFields
+pub mod KindsUp
+pub mod LacksUp
+pub mod PartiesPut
+pub mod PartiesUp
+pub mod PutUp
+pub mod SenseUp
+pub mod SlotsUp
+pub mod Sound42
+pub mod SoundUp
+pub mod TablesUp
+pub mod TermsUp

@@ -1,0 +1,113 @@
+-- The parties of FIX 4.2's fields as lines of FIX 5.0 SP2: they are a sound group, and say each
+-- party by its role.
+use Rattle.std.proofs.Common.{◌≡◌, ℕ, List, [], Some, None, refl, lit≤}
+use Rattle.std.specs.Prelude.{IfSome}
+use Rattle.std.specs.Fmt.{decimal, digits}
+use Rattle.typed_fields.specs.Digits.{are_digits, number_of}
+use Rattle.value_kinds.specs.ValueKind.{Id, Number, spelling}
+use Rattle.message_tables.specs.Tables.{Spells, Said, first_of, party_in}
+use Rattle.message_tables.specs.Content.{line_fields}
+use Rattle.row_values.specs.Kinds.{Value, judge}
+use Rattle.row_values.specs.Groups.{parties}
+use Rattle.row_values.specs.Lines.{party_cells}
+use Rattle.sound_laws.specs.Sound.{IsClear, IsLine, IsGroup}
+use Rattle.sound_laws.proofs.Each.{◌&◌}
+use Rattle.sound_laws.proofs.RowsSaid.{required_said}
+use Rattle.request_rules.specs.Rules.{Who, Client, Broker, Firm, role_of, party_lines}
+
+-- the id of a party, where there is one
+abbrev pub IsPartyId : Said → Type 0
+IsPartyId id = IfSome id (λ text. (judge [] (Value Id) text ≡ Spells text) × IsClear text)
+
+abbrev IsRole : ℕ → Type 0
+IsRole role =
+    (judge [] (Value Number) (decimal role) ≡ Spells (decimal role)) × IsClear (decimal role)
+
+is_role : (who : Who) → IsRole (role_of who)
+unfolding judge spelling digits are_digits number_of
+is_role Client = (refl, refl)
+is_role Broker = (refl, refl)
+is_role Firm = (refl, refl)
+
+party_line : (id : List ℕ) (who : Who) → (judge [] (Value Id) id ≡ Spells id) × IsClear id
+    → IsLine judge parties.rows (party_cells (record { id = id; role = role_of who }))
+unfolding judge spelling
+party_line id who h =
+    let fields = line_fields (party_cells (record { id = id; role = role_of who })) in
+    let role = is_role who in (
+      refl,
+      required_said fields 448 (Value Id) (Some id) refl h.0 h.1,
+      (
+        refl,
+        record { needed = λ e. refl; spelled = refl; again = refl; clear = refl },
+        (
+          refl,
+          required_said fields 452 (Value Number) (Some (decimal (role_of who))) refl role.0 role.1,
+          tt,
+        ),
+      ),
+    )
+
+pub parties_said : (client broker firm : Said)
+    → IsPartyId client → IsPartyId broker → IsPartyId firm
+    → IsGroup judge parties (party_lines client broker firm)
+parties_said None None None c b f = record { few = lit≤ tt; said = tt }
+parties_said (Some client) None None c b f =
+    record { few = lit≤ tt; said = party_line client Client c & tt }
+parties_said None (Some broker) None c b f =
+    record { few = lit≤ tt; said = party_line broker Broker b & tt }
+parties_said None None (Some firm) c b f =
+    record { few = lit≤ tt; said = party_line firm Firm f & tt }
+parties_said (Some client) (Some broker) None c b f = record {
+  few = lit≤ tt;
+  said = party_line client Client c & party_line broker Broker b & tt;
+}
+parties_said (Some client) None (Some firm) c b f = record {
+  few = lit≤ tt;
+  said = party_line client Client c & party_line firm Firm f & tt;
+}
+parties_said None (Some broker) (Some firm) c b f = record {
+  few = lit≤ tt;
+  said = party_line broker Broker b & party_line firm Firm f & tt;
+}
+parties_said (Some client) (Some broker) (Some firm) c b f = record {
+  few = lit≤ tt;
+  said = party_line client Client c & party_line broker Broker b & party_line firm Firm f & tt;
+}
+
+-- the id that the lines say for a role
+abbrev pub id_for : Who → Said → Said → Said → Said
+id_for Client client broker firm = client
+id_for Broker client broker firm = broker
+id_for Firm client broker firm = firm
+
+abbrev AreRoles : Said → Said → Said → Type 0
+AreRoles client broker firm = (who : Who)
+    → id_for who client broker firm ≡ party_in (role_of who) (party_lines client broker firm)
+
+pub roles_said : (client broker firm : Said) → AreRoles client broker firm
+unfolding digits first_of
+roles_said None None None Client = refl
+roles_said None None None Broker = refl
+roles_said None None None Firm = refl
+roles_said (Some client) None None Client = refl
+roles_said (Some client) None None Broker = refl
+roles_said (Some client) None None Firm = refl
+roles_said None (Some broker) None Client = refl
+roles_said None (Some broker) None Broker = refl
+roles_said None (Some broker) None Firm = refl
+roles_said None None (Some firm) Client = refl
+roles_said None None (Some firm) Broker = refl
+roles_said None None (Some firm) Firm = refl
+roles_said (Some client) (Some broker) None Client = refl
+roles_said (Some client) (Some broker) None Broker = refl
+roles_said (Some client) (Some broker) None Firm = refl
+roles_said (Some client) None (Some firm) Client = refl
+roles_said (Some client) None (Some firm) Broker = refl
+roles_said (Some client) None (Some firm) Firm = refl
+roles_said None (Some broker) (Some firm) Client = refl
+roles_said None (Some broker) (Some firm) Broker = refl
+roles_said None (Some broker) (Some firm) Firm = refl
+roles_said (Some client) (Some broker) (Some firm) Client = refl
+roles_said (Some client) (Some broker) (Some firm) Broker = refl
+roles_said (Some client) (Some broker) (Some firm) Firm = refl

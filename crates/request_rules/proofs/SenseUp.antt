@@ -1,0 +1,223 @@
+-- What goes up by the rules means what it meant.
+use Rattle.std.proofs.Common.{◌≡◌, ℕ, [], ◌∷◌, map, Bool, true, false, Option, Some}
+use Rattle.std.proofs.Common.{None, refl, sym, ap, subst, ◌∙◌, codes, unwrap_or, option_map, length}
+use Rattle.std.proofs.lemmas.Bool.{eqb-true}
+use Rattle.std.proofs.lemmas.List.{drop_at}
+use Rattle.std.specs.Prelude.{IfSome, ◌==◌, ◌||◌, if◌then◌else◌}
+use Rattle.std.specs.Str.Parse.{digits_value}
+use Rattle.value_kinds.specs.ValueKind.{number_of_two}
+use Rattle.message_tables.specs.Tables.{Place, Tag, Role, Said, Message, ◌>>=◌, code_of, flag_of}
+use Rattle.message_tables.specs.Tables.{lines_of, said_at, code_if}
+use Rattle.order_meaning.specs.Request.{Request, RequestKind, New, Cancel, Replace, Status}
+use Rattle.order_meaning.specs.Request.{OrderType, MarketOnClose}
+use Rattle.order_meaning.specs.Request.{LimitOnClose}
+use Rattle.row_values.specs.Amounts.{amount_of, alloc_of, session_of}
+use Rattle.rows_fix42.specs.Meaning as meaning42
+use Rattle.rows_fix50.specs.Meaning as meaning50
+use Rattle.dict_fix42.specs.Sense as sense42
+use Rattle.dict_fix50.specs.Sense as sense50
+use Rattle.request_rules.specs.Rules.{at, date_up, kinds, time_up, type_up, up_message, up_rules}
+use Rattle.request_rules.specs.Lack.{lack_in, lack_of, lack_if, lacks_time, lacks_capacity}
+use Rattle.request_rules.specs.Up.{IsOrdinary, KeepsSense}
+use Rattle.rule_rows.specs.ByRules.{At, Grouped}
+use Rattle.rule_rows.proofs.Looked as looked
+use Rattle.request_rules.proofs.KindsUp.{are_kinds, own}
+
+-- ---- a maturity
+
+same_maturity : (month day : Said) → IfSome month (λ text. length text ≡ 6)
+    → IfSome day (λ text. digits_value 10 text ≡ number_of_two text)
+    → meaning50.maturity_of month (date_up month day) ≡ meaning42.maturity_of month day
+same_maturity None day six two = refl
+same_maturity (Some month) None six two = refl
+same_maturity (Some month) (Some day) six two =
+    ap (λ (d : ℕ). Some (record { month = month; day = Some d }))
+    (ap (digits_value 10) (drop_at month day 6 six) ∙ two)
+
+-- ---- the terms of an order
+
+abbrev Terms : Type 0
+Terms = Option OrderType × Option ℕ
+
+-- what they mean in either version
+abbrev terms50 : Said → Said → Terms
+terms50 ord_type time = meaning50.terms_of (ord_type >>= code_of) (time >>= code_of)
+
+abbrev terms42 : Said → Said → Terms
+terms42 ord_type time = (
+  (ord_type >>= code_of) >>= meaning42.order_type_of,
+  meaning42.time_of (meaning42.is_on_close (ord_type >>= code_of)) (time >>= code_of),
+)
+
+module _ (time : Said) (other : IfSome (time >>= code_of) (λ code. (code == 55) ≡ false)) where
+  -- no code of a type
+  no_type : ◌≡◌ {A = Terms} (None, time >>= code_of)
+      (None, meaning42.time_of false (time >>= code_of))
+  no_type = by (time >>= code_of)
+    where
+      by : (code : Option ℕ) → ◌≡◌ {A = Terms} (None, code) (None, meaning42.time_of false code)
+      by None = refl
+      by (Some code) = refl
+
+  -- on close, with no other time
+  on_close : (type : OrderType) → ((t : ℕ) → lacks_time (Some type) (Some t) ≡ true)
+      → lacks_time (Some type) (meaning42.time_of true (time >>= code_of)) ≡ false
+      → ◌≡◌ {A = Terms} (Some type, None) (Some type, meaning42.time_of true (time >>= code_of))
+  on_close type lacks h = by (meaning42.time_of true (time >>= code_of)) h
+    where
+      by : (t : Option ℕ) → lacks_time (Some type) t ≡ false
+          → ◌≡◌ {A = Terms} (Some type, None) (Some type, t)
+      by None h = refl
+      by (Some t) h = absurd (let l = lacks t in cc)
+
+  -- not on close
+  plain : (code : ℕ) → (code == 53) ≡ false → (code == 66) ≡ false
+      → meaning50.terms_of (Some code) (time >>= code_of)
+      ≡ (meaning42.order_type_of code, meaning42.time_of (meaning42.is_on_close (Some code)) (time >>= code_of))
+  plain code five b = by (time >>= code_of) other
+    where
+      by : (t : Option ℕ) → IfSome t (λ x. (x == 55) ≡ false)
+          → meaning50.terms_of (Some code) t
+          ≡ (meaning42.order_type_of code, meaning42.time_of (meaning42.is_on_close (Some code)) t)
+      by None h = rw (five, b) refl
+      by (Some t) h = rw (five, b, h) refl
+
+  one_code : (code : ℕ)
+      → lacks_time (terms42 (Some (code ∷ [])) time).0 (terms42 (Some (code ∷ [])) time).1 ≡ false
+      → terms50 (type_up (Some (code ∷ []))) (time_up (Some (code ∷ [])) time)
+      ≡ terms42 (Some (code ∷ [])) time
+  one_code code h = by (code == 53) (code == 66) refl refl
+    where
+      P : ℕ → Type 0
+      P c = lacks_time (terms42 (Some (c ∷ [])) time).0 (terms42 (Some (c ∷ [])) time).1 ≡ false
+          → terms50 (type_up (Some (c ∷ []))) (time_up (Some (c ∷ [])) time)
+          ≡ terms42 (Some (c ∷ [])) time
+
+      left : (five b : Bool) → five ≡ false → b ≡ false
+          → terms50 (if five then Some (codes "1") else (if b then Some (codes "2")
+          else Some (code ∷ []))) (if five || b then Some (codes "7") else time)
+          ≡ meaning50.terms_of (Some code) (time >>= code_of)
+      left true b e f = absurd cc
+      left false true e f = absurd cc
+      left false false e f = refl
+
+      by : (five b : Bool) → (code == 53) ≡ five → (code == 66) ≡ b
+          → terms50 (type_up (Some (code ∷ []))) (time_up (Some (code ∷ [])) time)
+          ≡ terms42 (Some (code ∷ [])) time
+      by true b e f =
+          subst P (sym (eqb-true code 53 e)) (λ l. on_close MarketOnClose (λ t. refl) l) h
+      by false true e f =
+          subst P (sym (eqb-true code 66 f)) (λ l. on_close LimitOnClose (λ t. refl) l) h
+      by false false e f = left (code == 53) (code == 66) e f ∙ plain code e f
+
+  same_terms : (ord_type : Said)
+      → lacks_time (terms42 ord_type time).0 (terms42 ord_type time).1 ≡ false
+      → terms50 (type_up ord_type) (time_up ord_type time) ≡ terms42 ord_type time
+  same_terms None h = no_type
+  same_terms (Some []) h = no_type
+  same_terms (Some (code ∷ [])) h = one_code code h
+  same_terms (Some (a ∷ b ∷ text)) h = no_type
+
+-- ---- any request
+
+-- it lacks no time
+says_time : (ord_type : Option OrderType) (time capacity : Option ℕ)
+    → lack_in ord_type time capacity ≡ None → lacks_time ord_type time ≡ false
+says_time ord_type time capacity h = by (lacks_time ord_type time) (lacks_capacity capacity) h
+  where
+    by : (late lacks : Bool)
+        → ◌≡◌ {A = Option ℕ} (if late then Some 59 else (if lacks then Some 47 else None)) None → late ≡ false
+    by true lacks h = absurd cc
+    by false lacks h = refl
+
+module _ (m : Message) where
+  says : (place : Place) → said_at (up_message m).cells place
+      ≡ looked.said_by kinds m (looked.rule_at kinds (At place) up_rules)
+  says place = looked.says kinds are_kinds up_rules own m place
+
+  has_lines_of : (count : ℕ) → lines_of count (up_message m).groups
+      ≡ looked.lines_by kinds m (looked.rule_at kinds (Grouped count) up_rules)
+  has_lines_of count = looked.has_lines_of kinds are_kinds up_rules own m count
+
+  maturity : IsOrdinary m
+      → meaning50.maturity_of (at (up_message m) 200) (at (up_message m) 541)
+      ≡ meaning42.maturity_of (at m 200) (at m 205)
+  maturity h = (λ i. meaning50.maturity_of (says (Tag 200) i) (says (Tag 541) i))
+      ∙ same_maturity (at m 200) (at m 205) h.month h.day
+
+  terms : IsOrdinary m → lacks_time (terms42 (at m 40) (at m 59)).0 (terms42 (at m 40) (at m 59)).1
+      ≡ false
+      → terms50 (at (up_message m) 40) (at (up_message m) 59) ≡ terms42 (at m 40) (at m 59)
+  terms h said = (λ i. terms50 (says (Tag 40) i) (says (Tag 59) i))
+      ∙ same_terms (at m 59) h.time (at m 40) said
+
+  means : IsOrdinary m → (kind : RequestKind) → lack_of (sense42.request_of kind m) ≡ None
+      → sense50.request_of kind (up_message m) ≡ sense42.request_of kind m
+  means h kind lack =
+      let timed = says_time (terms42 (at m 40) (at m 59)).0 (terms42 (at m 40) (at m 59)).1
+      (code_if m.cells 47) lack in
+      let mature = maturity h in
+      let term = terms h timed in
+      λ i. record {
+        kind = kind;
+        resend = m.resend;
+        cl_ord_id = unwrap_or (says (Tag 11) i) [];
+        orig_id = says (Tag 41) i;
+        order_id = says (Tag 37) i;
+        client_id = says (Role 3) i;
+        exec_broker = says (Role 1) i;
+        clearing_firm = says (Role 4) i;
+        account = says (Tag 1) i;
+        allocs = map alloc_of (has_lines_of 78 i);
+        settl_type = says (Tag 63) i >>= code_of;
+        settl_date = says (Tag 64) i;
+        hand_inst = says (Tag 21) i >>= code_of;
+        exec_inst = says (Tag 18) i;
+        min_qty = says (Tag 110) i >>= amount_of;
+        max_floor = says (Tag 1138) i >>= amount_of;
+        ex_destination = says (Tag 100) i;
+        sessions = map session_of (has_lines_of 386 i);
+        symbol = unwrap_or (says (Tag 55) i) [];
+        symbol_sfx = says (Tag 65) i;
+        security_id = says (Tag 48) i;
+        id_source = says (Tag 22) i >>= code_of;
+        security_type = says (Tag 167) i;
+        maturity = mature i;
+        security_exchange = says (Tag 207) i;
+        side = unwrap_or (says (Tag 54) i >>= code_of) 0;
+        locate = option_map flag_of (says (Tag 114) i);
+        transact_time = says (Tag 60) i;
+        order_qty = says (Tag 38) i >>= amount_of;
+        ord_type = (term i).0;
+        price = says (Tag 44) i >>= amount_of;
+        stop_px = says (Tag 99) i >>= amount_of;
+        currency = says (Tag 15) i;
+        time_in_force = (term i).1;
+        effective_time = says (Tag 168) i;
+        expire_date = says (Tag 432) i;
+        expire_time = says (Tag 126) i;
+        capacity = says (Tag 528) i >>= code_of;
+        open_close = says (Tag 77) i >>= code_of;
+        text = says (Tag 58) i;
+      }
+
+-- the request of a letter
+by_letter : (f g : RequestKind → Request)
+    → ((kind : RequestKind) → lack_of (f kind) ≡ None → g kind ≡ f kind) → (d c r s : Bool)
+    → lack_if (if d then Some (f New) else (if c then Some (f Cancel) else
+    (if r then Some (f Replace) else (if s then Some (f Status) else None)))) ≡ None
+    → (if d then Some (g New) else (if c then Some (g Cancel) else
+    (if r then Some (g Replace) else (if s then Some (g Status) else None))))
+    ≡ (if d then Some (f New) else (if c then Some (f Cancel) else
+    (if r then Some (f Replace) else (if s then Some (f Status) else None))))
+by_letter f g same true c r s h = ap (λ (x : Request). Some x) (same New h)
+by_letter f g same false true r s h = ap (λ (x : Request). Some x) (same Cancel h)
+by_letter f g same false false true s h = ap (λ (x : Request). Some x) (same Replace h)
+by_letter f g same false false false true h = ap (λ (x : Request). Some x) (same Status h)
+by_letter f g same false false false false h = refl
+
+-- IT MEANS THE SAME.
+pub keeps_sense : KeepsSense
+keeps_sense m h lack =
+    by_letter (λ kind. sense42.request_of kind m) (λ kind. sense50.request_of kind (up_message m))
+    (means m h) (m.letter == 68) (m.letter == 70) (m.letter == 71) (m.letter == 72) lack

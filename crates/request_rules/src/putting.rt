@@ -1,0 +1,40 @@
+//! The content of FIX 5.0 SP2 of a request of FIX 4.2, written straight from the fields of its body.
+
+ghost use Rattle.std.specs.Prelude.{◌≡◌, IfErr, OnErr, OnOk};
+ghost use Rattle.dict_fix42.specs.Sense.{request42};
+ghost use Rattle.request_rules.specs.Good.{IsGood, said};
+ghost use Rattle.request_rules.specs.Lack.{lack_if};
+ghost use Rattle.request_rules.specs.Put.{IsPut, Lacks};
+
+use crate::reading::Good;
+use crate::rules::up_rules;
+use crate::writing::{first_lack, put_rules};
+use order_meaning::Lack;
+
+/// Appends the content of FIX 5.0 SP2 of a request, rule by rule.
+///
+/// # Errors
+///
+/// `Tag` exactly where FIX 5.0 SP2 cannot say what the field of this tag says, 59 before 47;
+/// `NoMemory` for want of memory. Then `out` is unchanged.
+pub fn put_up(good: &Good<'_, '_>, out: &mut Vec<u8>) -> Result<(), Lack>
+    requires { IsGood good.now }
+    ensures ok { OnOk result (IsPut (said good.now) out.old.items out.new.items) }
+    ensures lack { IfErr result (Lacks (said good.now)) }
+    ensures err { OnErr result (out.new.items ≡ out.old.items) }
+{
+    let rules = up_rules();
+    match first_lack(good, rules) {
+        Some(tag) => Err(Lack::Tag(tag)),
+        None => Ok(put_rules(good, rules, out)?),
+    }
+}
+
+/// The tag of what FIX 5.0 SP2 cannot say of a request: 59 before 47. It takes no memory.
+pub fn lack_up(good: &Good<'_, '_>) -> Option<u32>
+    requires { IsGood good.now }
+    ensures { result ≡ lack_if (request42 (said good.now)) }
+{
+    let rules = up_rules();
+    first_lack(good, rules)
+}

@@ -1,0 +1,274 @@
+//! Writing the content of FIX 5.0 SP2 rule by rule.
+
+ghost use Rattle.std.specs.Prelude.{◌≡◌, ◌++◌, IsTrue, OnErr, OnOk, length};
+ghost use Rattle.std.specs.Io.{StartsWith};
+ghost use Rattle.std.specs.List.{flat_map};
+ghost use Rattle.std.specs.Option.{option_map};
+ghost use Rattle.field_groups.specs.Field.{body_of};
+ghost use Rattle.message_tables.specs.Content.{cell_fields, group_fields};
+ghost use Rattle.message_tables.specs.Tables.{Tag, first_of};
+ghost use Rattle.party_translate.specs.Parties.{line_of};
+ghost use Rattle.rows_fix42.specs.Meaning.{is_on_close};
+ghost use Rattle.rule_rows.specs.Rows.{have_written_lines};
+ghost use Rattle.request_rules.specs.CodeRules.{byte_of, lacks_by, party_fields, writes, wrote};
+ghost use Rattle.request_rules.specs.Good.{table};
+ghost use Rattle.request_rules.specs.Rules as rules;
+ghost use Rattle.request_rules.specs.Rules.{is_late, is_unlisted, lack_if, party_lines};
+ghost use Rattle.request_rules.specs.Rules.{time_up, type_up};
+
+use crate::reading::Good;
+use crate::rules::Rule;
+use field_groups::{put_byte, put_field, put_number};
+use row_slots::{put_slot, slot_at, value};
+use row_values::{Part, Value, month_and_day};
+use rule_rows::{put_count, put_lines, put_one, put_text};
+use std::alloc::AllocError;
+
+/// TimeInForce(59): at the close.
+const AT_CLOSE: u8 = b'7';
+
+/// PartyIDSource(447): proprietary.
+const PROPRIETARY: u8 = b'D';
+
+/// What a call answers that appends: an error only for want of memory. What stood there stays.
+type Appended = Result<(), AllocError>;
+
+/// The code that a text is, if it is one byte.
+#[inline(always)]
+fn code_of(text: Option<&[u8]>) -> Option<u8>
+    ensures { result ≡ byte_of (option_map (λ t. t.now) text.entry) }
+{
+    match text {
+        Some([byte]) => Some(*byte),
+        _ => None,
+    }
+}
+
+/// Whether an OrdType is on close: market (5) or limit (B).
+#[inline(always)]
+fn is_on_close(ord_type: Option<u8>) -> bool
+    ensures { result ≡ is_on_close ord_type }
+{
+    match ord_type {
+        None => false,
+        Some(code) => code == b'5' || code == b'B',
+    }
+}
+
+/// Appends OrdType(40): market and limit on close are market and limit, at the close.
+fn put_type(out: &mut Vec<u8>, ord_type: Option<&[u8]>) -> Appended
+    ensures done { OnOk result (out.new.items ≡ out.old.items
+        ++ body_of (cell_fields (Tag 40, type_up (option_map (λ t. t.now) ord_type.entry)))) }
+    ensures kept { StartsWith out.new.items out.old.items }
+{
+    match code_of(ord_type) {
+        Some(b'5') => put_byte(out, 40, b'1'),
+        Some(b'B') => put_byte(out, 40, b'2'),
+        _ => put_text(out, 40, ord_type),
+    }
+}
+
+/// Appends TimeInForce(59), by which FIX 5.0 SP2 says that an order is on close.
+fn put_time(out: &mut Vec<u8>, ord_type: Option<&[u8]>, time: Option<&[u8]>) -> Appended
+    ensures done { OnOk result (out.new.items ≡ out.old.items ++ body_of (cell_fields (
+      Tag 59,
+      time_up (option_map (λ t. t.now) ord_type.entry) (option_map (λ t. t.now) time.entry),
+    ))) }
+    ensures kept { StartsWith out.new.items out.old.items }
+{
+    if is_on_close(code_of(ord_type)) {
+        put_byte(out, 59, AT_CLOSE)
+    } else {
+        put_text(out, 59, time)
+    }
+}
+
+/// Appends the month of a maturity.
+fn put_month(out: &mut Vec<u8>, good: &Good<'_, '_>) -> Appended
+    ensures done { OnOk result (out.new.items ≡ out.old.items ++ body_of
+        (wrote (table good.now) good.now.fields.now good.now.slots rules.Month)) }
+    ensures kept { StartsWith out.new.items out.old.items }
+{
+    let maturity = month_and_day(good.fields);
+    put_one(out, Part::Row(200, Value::Month(&maturity)))
+}
+
+/// Appends the date of a maturity that has a day.
+#[tactic(auto, using(crate::proofs::DateWritten::date_written))]
+fn put_date(out: &mut Vec<u8>, good: &Good<'_, '_>) -> Appended
+    ensures done { OnOk result (out.new.items ≡ out.old.items ++ body_of
+        (wrote (table good.now) good.now.fields.now good.now.slots rules.Date)) }
+    ensures kept { StartsWith out.new.items out.old.items }
+{
+    let maturity = month_and_day(good.fields);
+    put_one(out, Part::Row(541, Value::Date(&maturity)))
+}
+
+/// How many parties an id is.
+fn count_of(id: Option<&[u8]>) -> usize
+    ensures { result ≡ length (line_of 0 (option_map (λ t. t.now) id.entry)) }
+{
+    match id {
+        None => 0,
+        Some(_) => 1,
+    }
+}
+
+/// Appends the line of a party of a role, where there is an id for it.
+fn put_party(out: &mut Vec<u8>, id: Option<&[u8]>, role: u32) -> Appended
+    ensures done { OnOk result (out.new.items ≡ out.old.items
+        ++ body_of (party_fields role (option_map (λ t. t.now) id.entry))) }
+    ensures kept { StartsWith out.new.items out.old.items }
+{
+    let Some(id) = id else { return Ok(()) };
+    put_field(out, 448, id)?;
+    put_byte(out, 447, PROPRIETARY)?;
+    put_number(out, 452, role)
+}
+
+/// Appends the parties of the roles 3, 1 and 4.
+fn put_parties(
+    out: &mut Vec<u8>,
+    client: Option<&[u8]>,
+    broker: Option<&[u8]>,
+    firm: Option<&[u8]>,
+) -> Appended
+    ensures done { OnOk result (out.new.items ≡ out.old.items
+        ++ body_of (group_fields 453 (party_lines (option_map (λ t. t.now) client.entry)
+        (option_map (λ t. t.now) broker.entry) (option_map (λ t. t.now) firm.entry)))) }
+    ensures kept { StartsWith out.new.items out.old.items }
+{
+    put_count(
+        out,
+        453,
+        count_of(client) + count_of(broker) + count_of(firm),
+    )?;
+    put_party(out, client, 3)?;
+    put_party(out, broker, 1)?;
+    put_party(out, firm, 4)
+}
+
+/// Appends what a rule says that can say it.
+fn put_said(good: &Good<'_, '_>, rule: &Rule, out: &mut Vec<u8>) -> Appended
+    requires { IsTrue (have_written_lines (table good.now).items) }
+    ensures done { OnOk result (out.new.items
+        ≡ out.old.items ++ body_of (writes good.now rule.now)) }
+    ensures kept { StartsWith out.new.items out.old.items }
+{
+    let fields = good.fields;
+    let slots = &good.slots;
+    match rule {
+        Rule::Same(tag) => put_slot(out, fields, slot_at(slots, *tag), *tag),
+        Rule::Moved(from, to) => put_slot(out, fields, slot_at(slots, *from), *to),
+        Rule::Listed(from, to, _) => put_slot(out, fields, slot_at(slots, *from), *to),
+        Rule::Parties => put_parties(
+            out,
+            value(fields, slot_at(slots, 109)),
+            value(fields, slot_at(slots, 76)),
+            value(fields, slot_at(slots, 439)),
+        ),
+        Rule::Client => Ok(()),
+        Rule::Broker => Ok(()),
+        Rule::Firm => Ok(()),
+        Rule::Month => put_month(out, good),
+        Rule::Date => put_date(out, good),
+        Rule::OrdType => put_type(out, value(fields, slot_at(slots, 40))),
+        Rule::Time => put_time(
+            out,
+            value(fields, slot_at(slots, 40)),
+            value(fields, slot_at(slots, 59)),
+        ),
+        Rule::Lines(count) => put_lines(out, fields, good.table, *count),
+    }
+}
+
+/// Whether an order on close has another time.
+fn is_late(ord_type: Option<u8>, time: Option<u8>) -> bool
+    ensures { result ≡ is_late ord_type time }
+{
+    match time {
+        None => false,
+        Some(time) => is_on_close(ord_type) && time != b'0',
+    }
+}
+
+/// Whether a code is not listed.
+fn is_unlisted(listed: &[u8], code: Option<u8>) -> bool
+    ensures { result ≡ is_unlisted listed.now code }
+{
+    match code {
+        None => false,
+        Some(code) => !listed.contains(&code),
+    }
+}
+
+/// A lack, where there is one.
+fn lack_if(lacks: bool, tag: u32) -> Option<u32>
+    ensures { result ≡ lack_if lacks tag }
+{
+    if lacks { Some(tag) } else { None }
+}
+
+/// The tag that a rule cannot say.
+fn lacked(good: &Good<'_, '_>, rule: &Rule) -> Option<u32>
+    ensures { result ≡ lacks_by good.now rule.now }
+{
+    let fields = good.fields;
+    match rule {
+        Rule::Time => {
+            let ord_type = code_of(value(fields, slot_at(&good.slots, 40)));
+            lack_if(
+                is_late(ord_type, code_of(value(fields, slot_at(&good.slots, 59)))),
+                59,
+            )
+        }
+        Rule::Listed(from, _, listed) => {
+            let code = code_of(value(fields, slot_at(&good.slots, *from)));
+            lack_if(is_unlisted(listed, code), *from)
+        }
+        _ => None,
+    }
+}
+
+/// Appends what rules say that can say it.
+#[tactic(auto, using(row_values::proofs::Contents::still_kept))]
+fn put_all(good: &Good<'_, '_>, rules: &[Rule], out: &mut Vec<u8>) -> Appended
+    requires { IsTrue (have_written_lines (table good.now).items) }
+    ensures done { OnOk result (out.new.items
+        ≡ out.old.items ++ body_of (flat_map (writes good.now) rules.now)) }
+    ensures kept { StartsWith out.new.items out.old.items }
+{
+    for rule in rules {
+        put_said(good, rule, out)?;
+    }
+    Ok(())
+}
+
+/// Appends what rules say that can say it, all or nothing.
+pub(crate) fn put_rules(good: &Good<'_, '_>, rules: &[Rule], out: &mut Vec<u8>) -> Appended
+    requires { IsTrue (have_written_lines (table good.now).items) }
+    ensures done { OnOk result (out.new.items
+        ≡ out.old.items ++ body_of (flat_map (writes good.now) rules.now)) }
+    ensures err { OnErr result (out.new.items ≡ out.old.items) }
+{
+    let start = out.len();
+    match put_all(good, rules, out) {
+        Ok(()) => Ok(()),
+        Err(error) => {
+            out.truncate(start);
+            Err(error)
+        }
+    }
+}
+
+/// The tag that the first rule that lacks a spelling cannot say.
+pub(crate) fn first_lack(good: &Good<'_, '_>, rules: &[Rule]) -> Option<u32>
+    ensures { result ≡ first_of (lacks_by good.now) rules.now }
+{
+    for rule in rules {
+        if let Some(tag) = lacked(good, rule) {
+            return Some(tag);
+        }
+    }
+    None
+}

@@ -1,0 +1,121 @@
+-- A request as a struct: its content is split and read again, and so is that of what goes up.
+use Rattle.std.proofs.Common.{◌≡◌, ◌≤◌, ℕ, List, [], ◌∷◌, Bool, true, Option, None}
+use Rattle.std.proofs.Common.{Ok, Err, refl, sym, ap, ◌∙◌, subst, arith}
+use Rattle.std.specs.List.{list_all}
+use Rattle.field_groups.specs.declared.fault.SplitFault.{SplitFault}
+use Rattle.field_groups.specs.Data.{is_data_tag}
+use Rattle.field_groups.specs.Field.{Field, body_of}
+use Rattle.field_groups.specs.Fields.{SplitsInto}
+use Rattle.field_groups.proofs.Determined.{determined}
+use Rattle.field_groups.proofs.Plain.{plain_again}
+use Rattle.message_tables.specs.Content.{content}
+use Rattle.message_tables.specs.Tables.{Message, Table}
+use Rattle.order_meaning.specs.declared.fault.Fault.{Fault}
+use Rattle.row_values.specs.Kinds.{Kind, judge}
+use Rattle.rows_fix42.specs.Header.{table}
+use Rattle.sound_laws.specs.Sound.{IsSound, without_resend}
+use Rattle.sound_laws.proofs.PlainFields.{AreFew, all_of, few_of, has_good_tags, most_of, times}
+use Rattle.dict_fix42.specs.Content.{content42}
+use Rattle.dict_fix42.specs.Message.{message42}
+use Rattle.dict_fix42.specs.Requests.{new_order, cancel_request, replace_request, status_request}
+use Rattle.dict_fix42.specs.Said.{says as says42, new_says, cancel_says, replace_says, status_says}
+use Rattle.dict_fix42.specs.Sense.{request42}
+use Rattle.dict_fix42.specs.declared.requests.Msg42.{Msg42}
+use Rattle.dict_fix42.specs.declared.requests.Msg42.TheVariants as messages
+use Rattle.dict_fix50.specs.Message.{message50}
+use Rattle.dict_fix50.specs.Said.{says as says50}
+use Rattle.dict_fix50.specs.Sense.{request50}
+use Rattle.dict_fix50.specs.declared.requests.Msg50.{Msg50}
+use Rattle.request_rules.specs.Canonical.{IsRequest}
+use Rattle.request_rules.specs.Good.{IsRead}
+use Rattle.request_rules.specs.Lack.{lack_if}
+use Rattle.request_rules.specs.Rules.{up_content, up_message}
+use Rattle.request_rules.specs.Up.{IsRequest42, News, Cancels, Replaces, Statuses}
+use Rattle.request_rules.proofs.GoUp.{go_up}
+use Rattle.request_translate.specs.Up.{IsSound42}
+use Rattle.request_translate.proofs.AgainFields.{request_few}
+use Rattle.request_translate.proofs.WrittenAgain.{again42}
+
+-- few fields are split again
+few_again : (fields : List Field) → AreFew fields → SplitsInto (body_of fields) fields None
+few_again fields few = plain_again fields (all_of fields few.plain) (omega (arith, few.few))
+
+few42 : (t : Table Kind) (m : Message) → list_all has_good_tags t.items ≡ true
+    → most_of t.items ≤ 240 → IsSound judge t m → SplitsInto (body_of (content t m)) (content t m) None
+few42 t m good most sound = few_again (content t m) (few_of judge t m good most sound)
+
+split42 : (msg : Msg42) → IsSound42 msg → SplitsInto (body_of (content42 msg)) (content42 msg) None
+unfolding is_data_tag times
+split42 (messages.New m) s = few42 (table 68 new_order) (new_says m) refl (omega arith) s
+split42 (messages.Cancel m) s = few42 (table 70 cancel_request) (cancel_says m) refl (omega arith) s
+split42 (messages.Replace m) s =
+    few42 (table 71 replace_request) (replace_says m) refl (omega arith) s
+split42 (messages.Status m) s = few42 (table 72 status_request) (status_says m) refl (omega arith) s
+
+asked : (msg : Msg42) → IsSound42 msg → IsRequest42 (says42 msg)
+asked (messages.New m) s = News s
+asked (messages.Cancel m) s = Cancels s
+asked (messages.Replace m) s = Replaces s
+asked (messages.Status m) s = Statuses s
+
+-- a body that is these fields is split into them
+split_is : (body : List ℕ) (written fields : List Field) (fault : Option SplitFault)
+    → body ≡ body_of written → SplitsInto (body_of written) written None
+    → SplitsInto body fields fault → (fields ≡ written) × (fault ≡ None)
+split_is body written fields fault is again split =
+    let P : List ℕ → Type 0 = λ b. SplitsInto b fields fault in
+    determined (body_of written) fields written fault None (subst P is split) again
+
+module _ (msg : Msg42) (sound : IsSound42 msg) (type body : List ℕ)
+    (typed : type ≡ (says42 msg).letter ∷ []) (fields : List Field) (fault : Option SplitFault)
+    (split : SplitsInto body fields fault) where
+  abbrev m : Message
+  m = says42 msg
+
+  -- ---- its content
+
+  module _ (is : body ≡ body_of (content42 msg)) where
+    reads : message42 type fields fault ≡ Ok (without_resend m)
+    reads =
+        let same = split_is body (content42 msg) fields fault is (split42 msg sound) split in
+        (λ i. message42 (typed i) (same.0 i) (same.1 i)) ∙ again42 msg sound
+
+    pub no_fault : (told : Fault) → message42 type fields fault ≡ Err told → ⊥
+    no_fault told h = absurd (let no = sym reads ∙ h in cc)
+
+    pub message_is : (n : Message) → IsRead type fields fault n → n ≡ without_resend m
+    message_is n read =
+        let e = sym read.read ∙ ap (λ (f : Option SplitFault). message42 type fields f)
+        (sym read.whole) ∙ reads in cc
+
+  -- ---- and that of what goes up
+
+  module _ (is : body ≡ body_of (up_content m)) (said : lack_if (request42 m) ≡ None) where
+    reads_up : message50 type fields fault ≡ Ok (without_resend (up_message m))
+    reads_up =
+        let stands = go_up m (asked msg sound) said in
+        let again = few_again (up_content m)
+        (request_few (up_message m) (up_content m) stands.request) in
+        let same = split_is body (up_content m) fields fault is again split in
+        (λ i. message50 (typed i) (same.0 i) (same.1 i)) ∙ stands.again
+
+    pub no_fault_up : (told : Fault) → message50 type fields fault ≡ Err told → ⊥
+    no_fault_up told h = absurd (let no = sym reads_up ∙ h in cc)
+
+    module _ (read written : Msg50) (resend : Bool)
+        (reads_as : message50 type fields fault ≡ Ok (says50 read))
+        (resent : says50 written ≡ record (says50 read) { resend = resend })
+        (mine : resend ≡ m.resend) where
+      pub up_is : says50 written ≡ up_message m
+      up_is =
+          let same : says50 read ≡ without_resend (up_message m) =
+          let e = sym reads_as ∙ reads_up in cc in
+          resent ∙ (λ i. record (same i) { resend = mine i })
+
+      pub means : request50 (says50 written) ≡ request42 m
+      means = ap request50 up_is ∙ (go_up m (asked msg sound) said).means
+
+      pub canonical : IsRequest (says50 written) (up_content m)
+      canonical =
+          let P : Message → Type 0 = λ x. IsRequest x (up_content m) in
+          subst P (sym up_is) (go_up m (asked msg sound) said).request
