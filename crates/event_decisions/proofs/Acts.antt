@@ -151,7 +151,8 @@ says_break (act ∷ acts) = says_break acts
 -- messages of the session alone
 pub data Tells (w : What) (acts : List Act) : Type 0 where
   Gets : acts ≡ Take ∷ [] → is_for_application w ≡ true → Tells w acts
-  Rejected : (tag reason : ℕ) → acts ≡ Take ∷ Say (admin.Reject tag reason) ∷ [] → Tells w acts
+  Rejected : (tag reason : ℕ) → w ≡ what.Faulty tag reason
+      → acts ≡ Take ∷ Say (admin.Reject tag reason) ∷ [] → Tells w acts
   Broken : says_break acts ≡ true → Tells w acts
   Sessions : (takes acts ≡ true → is_for_application w ≡ false) → says_admin acts ≡ true
       → Tells w acts
@@ -224,7 +225,7 @@ rows_tell S25 w m n now s p = own w _ p.0.session refl
 rows_tell (S26 from to) w m n now s p = own w _ (ap is_for_application p.0) refl
 rows_tell (S27 to) w m n now s p = own w _ (ap is_for_application p.0) refl
 rows_tell S28 w m n now s p = Broken refl
-rows_tell (S29 tag reason) w m n now s p = Rejected tag reason refl
+rows_tell (S29 tag reason) w m n now s p = Rejected tag reason p.0 refl
 rows_tell S30 w m n now s p = own w _ p.0.session refl
 rows_tell S31 w m n now s p = Gets refl p.1
 rows_tell S34 w m n now s p =
@@ -281,13 +282,15 @@ idle_picks other w n expected is = absurd is
 
 -- it counts by what it is; or it counts one, where its head is wrong
 abbrev pub WasExpected : What → (n before after : ℕ) → List Act → Type 0
-WasExpected w n before after acts = Takes (taking_by w) n before after
+WasExpected w n before after acts = (Takes (taking_by w) n before after × (before ≤ after))
     ⊎ ((n ≡ before) × (after ≡ n + 1) × (says_break acts ≡ true))
 
 was_expected : (w : What) (n before : ℕ) → IsPlain w → n ≡ before
-    → Takes (taking_by w) n before (n + 1)
-was_expected w n before is same =
-    subst (λ (t : Taking). Takes t n before (n + 1)) (sym is.counts) (same, refl)
+    → Takes (taking_by w) n before (n + 1) × (before ≤ n + 1)
+was_expected w n before is same = (
+  subst (λ (t : Taking). Takes t n before (n + 1)) (sym is.counts) (same, refl),
+  omega (arith, same),
+)
 
 counts_one : (w : What) (n before : ℕ) (b : Bool) (acts : List Act) (s : Session)
     → (n == s.numbers.next_in) ≡ b → IsPlain w
@@ -309,9 +312,9 @@ breaks_one w n true acts s at is some = inr (eqb-true n s.numbers.next_in at, re
 breaks_one w n false acts s at is some = absurd (cc some)
 
 by_what : (w v : What) (n before after : ℕ) → w ≡ v → Takes (taking_by v) n before after
-    → Takes (taking_by w) n before after
-by_what w v n before after is expected =
-    subst (λ (u : What). Takes (taking_by u) n before after) (sym is) expected
+    → before ≤ after → Takes (taking_by w) n before after × (before ≤ after)
+by_what w v n before after is expected low =
+    (subst (λ (u : What). Takes (taking_by u) n before after) (sym is) expected, low)
 
 pub rows_take : (r : Row) (w : What) (n now : ℕ) (s : Session) → Picked r w n s.numbers.next_in
     → takes (effect_of r n now s).acts ≡ true
@@ -326,20 +329,27 @@ rows_take (S14 tag) w n now s p some = breaks_one w n (n == s.numbers.next_in) _
 rows_take (S15 reason) w n now s p some = breaks_one w n (n == s.numbers.next_in) _ s refl
     (ap (λ b. b || false) (breaks_by_tag (reason == 9))) some
 rows_take (S16 to) w n now s p some =
-    inl (by_what w (what.Reset to) n s.numbers.next_in to p.0 (refl, p.1))
+    inl (by_what w (what.Reset to) n s.numbers.next_in to p.0 (refl, p.1) p.1)
 rows_take S24 w n now s p some = inl (was_expected w n s.numbers.next_in p.0 p.1)
 rows_take S25 w n now s p some = inl (was_expected w n s.numbers.next_in p.0 p.1)
 rows_take (S26 from to) w n now s p some =
-    inl (by_what w (what.ResendRequest from to) n s.numbers.next_in (n + 1) p.0 (p.1, refl))
+    inl (by_what w (what.ResendRequest from to) n s.numbers.next_in (n + 1) p.0 (p.1, refl)
+    (omega (arith, p.1)))
 rows_take (S27 to) w n now s p some =
-    inl (by_what w (what.GapFill to) n s.numbers.next_in to p.0 (p.1, inl refl))
+    inl (by_what w (what.GapFill to) n s.numbers.next_in to p.0 (p.1, inl refl)
+    (omega (arith, p.1, p.2)))
 rows_take S28 w n now s p some =
-    inl (by_what w (what.GapFill p.0) n s.numbers.next_in (n + 1) p.1 (p.2, inr refl))
+    inl (by_what w (what.GapFill p.0) n s.numbers.next_in (n + 1) p.1 (p.2, inr refl)
+    (omega (arith, p.2)))
 rows_take (S29 tag reason) w n now s p some =
-    inl (by_what w (what.Faulty tag reason) n s.numbers.next_in (n + 1) p.0 (p.1, refl))
+    inl (by_what w (what.Faulty tag reason) n s.numbers.next_in (n + 1) p.0 (p.1, refl)
+    (omega (arith, p.1)))
 rows_take S30 w n now s p some = inl (was_expected w n s.numbers.next_in p.0 p.1)
 rows_take S31 w n now s p some =
-    inl (subst (λ (t : Taking). Takes t n s.numbers.next_in (n + 1)) (sym p.0) (p.2, refl))
+    inl (
+      subst (λ (t : Taking). Takes t n s.numbers.next_in (n + 1)) (sym p.0) (p.2, refl),
+      omega (arith, p.2),
+    )
 rows_take S34 w n now s p some = absurd (cc (
   none_taken (is_test_due now s) (is_heartbeat_due now s)
       (is_ask_due s.ask now s.heart) s,

@@ -1,5 +1,6 @@
 -- What the entry of a decision is.
-use Rattle.std.proofs.Common.{◌≡◌, ℕ, ◌+◌, Bool, true, false, ◌||◌, ◌&&◌, List, [], ◌∷◌, ◌++◌, ◌⊎◌}
+use Rattle.std.proofs.Common.{◌≡◌, ◌≤◌, ℕ, ◌+◌, arith, Bool, true, false, ◌||◌, ◌&&◌}
+use Rattle.std.proofs.Common.{List, [], ◌∷◌, ◌++◌, ◌⊎◌}
 use Rattle.std.proofs.Common.{Option, Some, None, refl, sym, ap, ◌∙◌, subst, inl, inr, Ok, Err}
 use Rattle.std.proofs.Common.{append-nil}
 use Rattle.std.specs.Prelude.{Result}
@@ -216,7 +217,7 @@ frame_made names window s now words side body t given next f = by t.acts refl f.
         is_took) (subst (AreWords words)
         (sym (ap (λ (l : List Act). says_of side t.next.heart h
         (session_of side s).numbers.next_out l ++ given) are)) f.words_are)
-    by acts same (Rejected tag reason are) =
+    by acts same (Rejected tag reason faulty are) =
         let some : takes t.acts ≡ true = ap takes are in
         let n = some_number head.what head.number (session_of side s).numbers.next_in t f.expected
         some in
@@ -224,7 +225,7 @@ frame_made names window s now words side body t given next f = by t.acts refl f.
         let asks_none : asks (session.Message head) t.acts ≡ false =
         ap (asks (session.Message head)) are in
         Rejects took (session_of side s).numbers.next_out tag reason
-        (took_is (takes t.acts) side body head.number n.0 some n.1)
+        (took_is (takes t.acts) side body head.number n.0 some n.1) faulty
         (outs_none (no_given asks_none)
         ∙ ap (says_of side t.next.heart h (session_of side s).numbers.next_out) are
         ∙ ap (λ (m : ℕ). out_of side (session_of side s).numbers.next_out false
@@ -274,7 +275,7 @@ frame_taken side body true (Some n) w acts before after outs expected is breaks 
         ⊎ (TakenBy counts (Some (record { side = side; number = n; raw = body })) before after
         × Breaks outs)
     by (inl takes) = inl (subst (λ (t : Taking). Takes t n (next_in side before)
-        (next_in side after)) (sym is) takes)
+        (next_in side after)) (sym is) takes.0)
     by (inr one) = inr ((one.0, one.1), breaks one.2)
 
 expected_of : (w : What) (number : Option ℕ) (before : ℕ) (t : Step)
@@ -284,6 +285,26 @@ expected_of w None before t expected n is some = absurd (cc is)
 expected_of w (Some m) before t expected n is some =
     let same : m ≡ n = cc is in
     subst (λ (k : ℕ). WasExpected w k before t.next.numbers.next_in t.acts) same (expected some)
+
+-- no number that is expected goes down
+low_of : (w : What) (number : Option ℕ) (before : ℕ) (t : Step) (b : Bool) → takes t.acts ≡ b
+    → (takes t.acts ≡ false → t.next.numbers.next_in ≡ before) → TakesExpected w number before t
+    → before ≤ t.next.numbers.next_in
+low_of w number before t false none stays expected = omega (arith, stays none)
+low_of w None before t true some stays expected = absurd (cc (some, expected))
+low_of w (Some n) before t true some stays expected = elim (expected some) [
+  | inl takes ↦ takes.1
+  | inr one ↦ omega (arith, one.0, one.1)
+]
+
+rises_by : (side at : Side) (s : Sessions) (next : Session) (after : Next)
+    → next_in side after ≡ next_in side (numbers_of (with_session at next s))
+    → (session_of at s).numbers.next_in ≤ next.numbers.next_in
+    → next_in side (numbers_of s) ≤ next_in side after
+rises_by Client Client s next after same low = omega (arith, same, low)
+rises_by Client Venue s next after same low = omega (arith, same)
+rises_by Venue Client s next after same low = omega (arith, same)
+rises_by Venue Venue s next after same low = omega (arith, same, low)
 
 -- ---- every entry
 
@@ -298,8 +319,8 @@ none_made : (asked : Option Asked) (words : Option Words) (w : What) (e : Entry)
     → (says_break acts ≡ true → Breaks (own ++ given)) → IsMade asked words e
 none_made asked words w e acts own given took outs none idle (Gets are is) admins breaks =
     absurd (cc (ap takes are, idle))
-none_made asked words w e acts own given took outs none idle (Rejected tag reason are) admins
-    breaks = absurd (cc (ap takes are, idle))
+none_made asked words w e acts own given took outs none idle (Rejected tag reason faulty are)
+    admins breaks = absurd (cc (ap takes are, idle))
 none_made asked words w e acts own given took outs none idle (Broken is) admins breaks =
     Breaking (subst Breaks (sym outs) (breaks is))
 none_made asked words w e acts own given took outs none idle (OfSession is says) admins breaks =
@@ -311,16 +332,28 @@ MakesAt names window s now words event t e =
     Makes s (asked_by event (input_of names window event now) (Ok t)) words e
 
 made_none : (s : Sessions) (words : Option Words) (w : What) (side : Side) (heart : ℕ) (h : Heard)
-    (n : ℕ) (t : Step) (given : List Out) (e : Entry) → e.took ≡ None
+    (n : ℕ) (t : Step) (given : List Out) (e : Entry)
+    → ((x : Side) → next_in x (numbers_of s) ≤ next_in x e.next) → e.took ≡ None
     → e.outs ≡ says_of side heart h n t.acts ++ given → AreWords words given → words ≡ None
     → takes t.acts ≡ false → Tells w t.acts → Makes s None words e
-made_none s words w side heart h n t given e took outs are none idle tells = record {
+made_none s words w side heart h n t given e rises took outs are none idle tells = record {
   made = none_made None words w e t.acts (says_of side heart h n t.acts) given took outs
       (no_outs words given are none) idle tells (admin_outs side heart h n t.acts)
       (broken_outs side heart h n t.acts given);
   taken = inl (rw took tt);
   numbered = rw took tt;
+  rises = rises;
 }
+
+rises_at : (names : Names) (window : ℕ) (s : Sessions) (now : ℕ) (words : Option Words)
+    (event : Event) (t : Step) (g : Given)
+    → IsStep (session_of (side_of event) s) (input_of names window event now) t
+    → IsGiven (with_session (side_of event) t.next s) words g
+    → (x : Side) → next_in x (numbers_of s) ≤ next_in x (numbers_of g.sessions)
+rises_at names window s now words event t g step given x =
+    rises_by x (side_of event) s t.next (numbers_of g.sessions) (given.stays x)
+    (low_of _ _ (session_of (side_of event) s).numbers.next_in t (takes t.acts) refl step.stays
+    step.expected)
 
 made_at : (names : Names) (window : ℕ) (s : Sessions) (now : ℕ) (words : Option Words)
     (event : Event) (t : Step) (g : Given)
@@ -347,18 +380,23 @@ made_at names window s now words (Frame side body) t g step given silent =
           refl (broken_outs side t.next.heart (heard_in (Frame side body) (session.Message head))
           (session_of side s).numbers.next_out t.acts g.outs);
       numbered = numbered_took side body (takes t.acts) head.number refl;
+      rises = rises_at names window s now words (Frame side body) t g step given;
     }
 made_at names window s now words (Opened side) t g step given silent =
-    made_none s words _ side t.next.heart (heard_in (Opened side) session.Opened) _ t g.outs _ refl
-    refl given.gives silent step.expected step.tells
+    made_none s words _ side t.next.heart (heard_in (Opened side) session.Opened) _ t g.outs _
+    (rises_at names window s now words (Opened side) t g step given) refl refl
+    given.gives silent step.expected step.tells
 made_at names window s now words (Closed side) t g step given silent =
-    made_none s words _ side t.next.heart (heard_in (Closed side) session.Closed) _ t g.outs _ refl
-    refl given.gives silent step.expected step.tells
+    made_none s words _ side t.next.heart (heard_in (Closed side) session.Closed) _ t g.outs _
+    (rises_at names window s now words (Closed side) t g step given) refl refl
+    given.gives silent step.expected step.tells
 made_at names window s now words (Tick side) t g step given silent =
-    made_none s words _ side t.next.heart (heard_in (Tick side) session.Tick) _ t g.outs _ refl
-    refl given.gives silent step.expected step.tells
+    made_none s words _ side t.next.heart (heard_in (Tick side) session.Tick) _ t g.outs _
+    (rises_at names window s now words (Tick side) t g step given) refl refl
+    given.gives silent step.expected step.tells
 made_at names window s now words (End side) t g step given silent =
-    made_none s words _ side t.next.heart (heard_in (End side) session.End) _ t g.outs _ refl refl
+    made_none s words _ side t.next.heart (heard_in (End side) session.End) _ t g.outs _
+    (rises_at names window s now words (End side) t g step given) refl refl
     given.gives silent step.expected step.tells
 
 pub decisions_make : DecisionsMake

@@ -1,5 +1,7 @@
 -- What is known of a message where a row of the session table applies to it.
-use Rattle.std.proofs.Common.{◌≡◌, ℕ, ◌≤◌, Bool, true, false, Some, None, refl, nat_lt, nat_le}
+use Rattle.std.proofs.Common.{◌≡◌, ℕ, ◌≤◌, ◌<◌, arith, Bool, true, false, Some, None, refl}
+use Rattle.std.proofs.Common.{nat_lt, nat_le}
+use Rattle.std.proofs.lemmas.Bool.Decides.{nat_tests}
 use Rattle.std.proofs.Common.{if◌then◌else◌, subst}
 use Rattle.std.proofs.lemmas.Bool.{leb-true}
 use Rattle.std.specs.declared.option.Option.{Option}
@@ -39,7 +41,7 @@ Picked (S22 from to dup) w n expected = w ≡ what.ResendRequest from to
 Picked S24 w n expected = IsPlain w × (n ≡ expected)
 Picked S25 w n expected = IsPlain w × (n ≡ expected)
 Picked (S26 from to) w n expected = (w ≡ what.ResendRequest from to) × (n ≡ expected)
-Picked (S27 to) w n expected = (w ≡ what.GapFill to) × (n ≡ expected)
+Picked (S27 to) w n expected = (w ≡ what.GapFill to) × (n ≡ expected) × (n < to)
 Picked S28 w n expected = (to : ℕ) × (w ≡ what.GapFill to) × (n ≡ expected)
 Picked (S29 tag reason) w n expected = (w ≡ what.Faulty tag reason) × (n ≡ expected)
 Picked S30 w n expected = IsPlain w × (n ≡ expected)
@@ -84,9 +86,12 @@ GoesByNumber other = Unit {0}
 expected_picks : (w : What) (n : ℕ) → GoesByNumber w → Picked (expected_row w n) w n n
 expected_picks (what.Reset to) n by = absurd by
 expected_picks (what.FaultyReset tag reason) n by = absurd by
-expected_picks (what.GapFill to) n by =
-    elim (nat_lt n to) as (λ b. Picked (if b then S27 to else S28) (what.GapFill to) n n)
-    [ true ↦ (refl, refl) | false ↦ (to, refl, refl) ]
+expected_picks (what.GapFill to) n by = fill (nat_lt n to) refl
+  where
+    fill : (b : Bool) → nat_lt n to ≡ b
+        → Picked (if b then S27 to else S28) (what.GapFill to) n n
+    fill true above = (refl, refl, let more : n < to = grind (arith, nat_tests) in more)
+    fill false above = (to, refl, refl)
 expected_picks (what.ResendRequest from to) n by = (refl, refl)
 expected_picks (what.Faulty tag reason) n by = (refl, refl)
 expected_picks what.Reject n by = (refl, refl, refl)

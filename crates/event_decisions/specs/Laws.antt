@@ -15,7 +15,8 @@ use Rattle.session_logon.specs.Head.{kind_of, number_in}
 use Rattle.pair_entries.specs.declared.entry.Took.{Took}
 use Rattle.pair_entries.specs.declared.entry.Out.{Out}
 use Rattle.pair_entries.specs.declared.entry.Entry.{Entry}
-use Rattle.pair_journal.specs.Numbers.{GoesOn, TookGoesOn, Taking, Counts, Fills, Resets, next_out}
+use Rattle.pair_journal.specs.Numbers.{GoesOn, TookGoesOn, Taking, Counts, Fills, Resets}
+use Rattle.pair_journal.specs.Numbers.{next_in, next_out}
 use Rattle.event_decisions.specs.Body.{reading_of, fields_of, type_of}
 use Rattle.event_decisions.specs.Event.{Event, Frame}
 use Rattle.event_decisions.specs.Decide.{Sessions, AreSides, Asked, Words, Decision, Repeat}
@@ -110,12 +111,13 @@ abbrev pub asked_about : Took → Asked
 asked_about took = record { side = took.side; number = took.number; body = took.raw }
 
 -- What an entry is, where these words answer what was asked: an answer to the message that it took;
--- a session's Reject of that message; a Reject that names a message for its head or its
--- NewSeqNo(36); or messages of the sessions alone.
+-- a session's Reject of that message, which is a faulty one of the session; a Reject that names a
+-- message for its head or its NewSeqNo(36); or messages of the sessions alone.
 pub data IsMade (asked : Option Asked) (words : Option Words) (e : Entry) : Type 0 where
   Answers : (took : Took) → e.took ≡ Some took → asked ≡ Some (asked_about took)
       → AreWords words e.outs → IsMade asked words e
   Rejects : (took : Took) → (number tag reason : ℕ) → e.took ≡ Some took
+      → what_of took.side took.raw ≡ what.Faulty tag reason
       → e.outs ≡ reject_out took.side number tag reason took.number (type_of took.raw) ∷ []
       → IsMade asked words e
   Breaking : Breaks e.outs → IsMade asked words e
@@ -136,6 +138,8 @@ pub record Makes (before : Sessions) (asked : Option Asked) (words : Option Word
   pub taken : TookGoesOn taking_of (numbers_of before) e
       ⊎ (TookGoesOn counts (numbers_of before) e × Breaks e.outs)
   pub numbered : IsNumbered e.took
+  -- no number that is expected goes down
+  pub rises : (side : Side) → next_in side (numbers_of before) ≤ next_in side e.next
 
 -- words come only where something was asked
 abbrev pub IsSilent : Option Asked → Option Words → Type 0

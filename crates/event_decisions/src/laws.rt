@@ -13,8 +13,9 @@ pub fn decisions_continue()
     ensures { DecisionsContinue }
 {}
 
-/// The entry that an event decides is an answer to what it took, a session's Reject, or messages of
-/// the sessions alone; and what it took was expected.
+/// The entry that an event decides is an answer to what it took, a session's Reject of a message of
+/// its own, or messages of the sessions alone; what it took was expected, and no number that is
+/// expected goes down.
 pub fn decisions_make()
     ensures { DecisionsMake }
 {}

@@ -26,6 +26,7 @@ use Rattle.gateway_life.specs.Life.{begun, hung_up, moment_of, Done, LivesToEnd,
 use Rattle.gateway_life.specs.Life.{Follows, ToItsEnd, ToAnEvent, NotBegun}
 use Rattle.heard_laws.specs.Laws.{SidesLearn}
 use Rattle.heard_laws.specs.Learned.{learned_of_taken}
+use Rattle.book_laws.specs.Laws.{PeersAgree}
 use Rattle.gateway_life.specs.Laws.{IsTaken, MessagesAreTaken}
 use Rattle.gateway_life.proofs.Failing.{fails_by}
 use Rattle.gateway_life.proofs.GivenOut.{are_sent}
@@ -125,7 +126,7 @@ module _ (begin : lives.LivesBegin Answers) where
 
 module _ (begin : lives.LivesBegin Answers) (in_order : lives.JustifiedIsTakenInOrder)
     (read_back : lives.WhatIsSentIsRead) (fills : lives.FramesFillGaps) (learn : SidesLearn)
-    (bodies : BodiesAreRead) (given_out : AnswersAreGivenOut) where
+    (bodies : BodiesAreRead) (given_out : AnswersAreGivenOut) (peers : PeersAgree) where
   -- the outs of a lawful journal are numbered from 1 on
   numbered : (names : Names) (entries : List Entry) (client venue : List Connection) (side : Side)
       → Leaves Answers names entries client venue → NumberedFrom 1 (all_placed side entries)
@@ -155,12 +156,27 @@ module _ (begin : lives.LivesBegin Answers) (in_order : lives.JustifiedIsTakenIn
 
   pub are_taken : MessagesAreTaken
   are_taken names entries client venue left shown sound =
-      record { client = at Client client left.client; venue = at Venue venue left.venue }
+      record {
+        client = client_takes;
+        venue = venue_takes;
+        books = peers names entries client venue left.lawful sound (sent Client) (sent Venue)
+            left.client left.venue client_takes.took venue_takes.took;
+      }
     where
+      of_side : (side : Side) → NumberedFrom 1 (all_placed side entries)
+      of_side side = numbered names entries client venue side left
+
+      sent : (side : Side) → AreSent names side entries
+      sent side =
+          are_sent bodies given_out names shown side entries left.lawful sound (of_side side)
+
       at : (side : Side) (connections : List Connection)
           → IsJustified names entries side connections → IsTaken names side entries connections
       at side connections justified =
-          let of_side = numbered names entries client venue side left in
-          taken names side entries connections
-          (are_sent bodies given_out names shown side entries left.lawful sound of_side) of_side
-          justified left.lawful sound
+          taken names side entries connections (sent side) (of_side side) justified left.lawful sound
+
+      client_takes : IsTaken names Client entries client
+      client_takes = at Client client left.client
+
+      venue_takes : IsTaken names Venue entries venue
+      venue_takes = at Venue venue left.venue

@@ -20,6 +20,7 @@ use Rattle.life_laws.specs.Justified.{transcript_from, Leaves}
 use Rattle.life_laws.specs.Receiver.{read_body, message_of_out}
 use Rattle.life_laws.specs.Taken.{TakesInOrder, take_more, AreReadAsForms}
 use Rattle.heard_laws.specs.Laws.{LearnsWhatWasSaid}
+use Rattle.book_laws.specs.Laws.{BooksAreEqual}
 use Rattle.gateway_life.specs.declared.end.LifeEnd.{LifeEnd}
 use Rattle.gateway_life.specs.Life.{Done, Follows}
 
@@ -56,11 +57,13 @@ pub record IsTaken (names : Names) (side : Side) (entries : List Entry)
   pub learned : LearnsWhatWasSaid side entries connections
   pub gaps : FillsGaps names side entries
 
--- the same on both sides
+-- the same on both sides; and where both peers keep their numbers and no gap is left, the books that
+-- they rebuild are equal
 pub record AreTaken (names : Names) (entries : List Entry)
     (client_side venue_side : List Connection) : Type 0 where
   pub client : IsTaken names Client entries client_side
   pub venue : IsTaken names Venue entries venue_side
+  pub books : BooksAreEqual entries client_side venue_side
 
 -- ---- what a life leaves
 

@@ -58,7 +58,8 @@ pub record Premises (names : Names) (images : List ℕ → Type 0) (old new : To
 
 -- What is left accounts for what was written and read: the journal is lawful and justifies it, and
 -- whatever of it arrives, each side takes the beginning of what was committed to it, each message
--- once and in order, and learns of it what the other side said.
+-- once and in order, and learns of it what the other side said; and where both peers keep their
+-- numbers and no gap is left, the books that they rebuild are equal.
 pub record Accounts (names : Names) (entries : List Entry) (client venue : List Connection)
     : Type 0 where
   pub leaves : Leaves Answers names entries client venue

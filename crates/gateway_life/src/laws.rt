@@ -3,6 +3,7 @@
 ghost use Rattle.gateway_life.specs.Laws.{LivesLeave, MessagesAreTaken, FirstLivesBegin};
 ghost use Rattle.gateway_life.specs.Laws.{ReadNamesAreShown};
 
+use book_laws::laws::peers_agree;
 use event_decisions::laws::bodies_are_read;
 use heard_laws::laws::sides_learn_what_was_said;
 use life_laws::{Answering, laws as lives};
@@ -21,7 +22,8 @@ impl Answering for Messages {
 /// However it ended, a life leaves a lawful journal, which justifies all that was written and read,
 /// and on each side a receiver that took the beginning of what was committed to it, each message
 /// once and in order, that learned of it what the other side said, and whose gaps are filled by what
-/// is sent again. Each message of such a journal can be sent: what a session says, and each answer.
+/// is sent again. Where both peers keep their numbers and no gap is left, the books that they rebuild
+/// are equal. Each message of such a journal can be sent: what a session says, and each answer.
 pub fn lives_leave()
     ensures lives { LivesLeave }
     ensures taken { MessagesAreTaken }
@@ -31,6 +33,7 @@ pub fn lives_leave()
     lives::lives_begin::<Messages>();
     lives::stops_leave::<Messages>();
     sides_learn_what_was_said();
+    peers_agree();
     lives::justified_transcripts_are_taken_in_order();
     lives::repeats_fill_gaps();
     lives::what_is_sent_is_read();

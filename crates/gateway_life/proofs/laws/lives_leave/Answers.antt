@@ -11,4 +11,4 @@ pub returns-clause-taken : goal.returns-clause-taken
 returns-clause-taken c = are_taken c.lives_begin.ensures
     c.justified_transcripts_are_taken_in_order.ensures c.what_is_sent_is_read.ensures
     c.repeats_fill_gaps.ensures.frames c.sides_learn_what_was_said.ensures c.bodies_are_read.ensures
-    c.answers_are_given_out.ensures
+    c.answers_are_given_out.ensures c.peers_agree.ensures

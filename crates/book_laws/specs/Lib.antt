@@ -1,0 +1,5 @@
+pub mod SetAside
+pub mod Books
+pub mod Pairs
+pub mod Keeps
+pub mod Laws
