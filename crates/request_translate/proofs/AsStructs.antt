@@ -11,6 +11,8 @@ use Rattle.field_groups.proofs.Plain.{plain_again}
 use Rattle.message_tables.specs.Content.{content}
 use Rattle.message_tables.specs.Tables.{Message, Table}
 use Rattle.order_meaning.specs.declared.fault.Fault.{Fault}
+use Rattle.order_meaning.specs.declared.fault.Lack.{Lack}
+use Rattle.order_meaning.specs.declared.fault.Lack.TheVariants as reasons
 use Rattle.row_values.specs.Kinds.{Kind, judge}
 use Rattle.rows_fix42.specs.Header.{table}
 use Rattle.sound_laws.specs.Sound.{IsSound, without_resend}
@@ -29,6 +31,7 @@ use Rattle.dict_fix50.specs.declared.requests.Msg50.{Msg50}
 use Rattle.request_rules.specs.Canonical.{IsRequest}
 use Rattle.request_rules.specs.Good.{IsRead}
 use Rattle.request_rules.specs.Lack.{lack_if}
+use Rattle.request_rules.specs.Put.{IsPut, Lacks}
 use Rattle.request_rules.specs.Rules.{up_content, up_message}
 use Rattle.request_rules.specs.Up.{IsRequest42, News, Cancels, Replaces, Statuses}
 use Rattle.request_rules.proofs.GoUp.{go_up}
@@ -58,6 +61,14 @@ asked (messages.Cancel m) s = Cancels s
 asked (messages.Replace m) s = Replaces s
 asked (messages.Status m) s = Statuses s
 
+-- PossResend is no lack
+lack_again : (msg : Msg42)
+    → lack_if (request42 (without_resend (says42 msg))) ≡ lack_if (request42 (says42 msg))
+lack_again (messages.New m) = refl
+lack_again (messages.Cancel m) = refl
+lack_again (messages.Replace m) = refl
+lack_again (messages.Status m) = refl
+
 -- a body that is these fields is split into them
 split_is : (body : List ℕ) (written fields : List Field) (fault : Option SplitFault)
     → body ≡ body_of written → SplitsInto (body_of written) written None
@@ -83,10 +94,22 @@ module _ (msg : Msg42) (sound : IsSound42 msg) (type body : List ℕ)
     pub no_fault : (told : Fault) → message42 type fields fault ≡ Err told → ⊥
     no_fault told h = absurd (let no = sym reads ∙ h in cc)
 
-    pub message_is : (n : Message) → IsRead type fields fault n → n ≡ without_resend m
+    message_is : (n : Message) → IsRead type fields fault n → n ≡ without_resend m
     message_is n read =
         let e = sym read.read ∙ ap (λ (f : Option SplitFault). message42 type fields f)
         (sym read.whole) ∙ reads in cc
+
+    module _ (n : Message) (read : IsRead type fields fault n) where
+      pub put_is : (before after : List ℕ) → IsPut n before after → IsPut m before after
+      put_is before after put =
+          let P : Message → Type 0 = λ x. IsPut x before after in
+          let q = subst P (message_is n read) put in
+          record { said = sym (lack_again msg) ∙ q.said; bytes = q.bytes }
+
+      pub lacks : (lack : Lack) → Lacks n lack → Lacks m lack
+      lacks reasons.NoMemory h = tt
+      lacks (reasons.Tag tag) h = sym (lack_again msg)
+          ∙ ap (λ (x : Message). lack_if (request42 x)) (sym (message_is n read)) ∙ h
 
   -- ---- and that of what goes up
 
@@ -98,9 +121,6 @@ module _ (msg : Msg42) (sound : IsSound42 msg) (type body : List ℕ)
         (request_few (up_message m) (up_content m) stands.request) in
         let same = split_is body (up_content m) fields fault is again split in
         (λ i. message50 (typed i) (same.0 i) (same.1 i)) ∙ stands.again
-
-    pub no_fault_up : (told : Fault) → message50 type fields fault ≡ Err told → ⊥
-    no_fault_up told h = absurd (let no = sym reads_up ∙ h in cc)
 
     module _ (read written : Msg50) (resend : Bool)
         (reads_as : message50 type fields fault ≡ Ok (says50 read))

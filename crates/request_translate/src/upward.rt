@@ -16,7 +16,7 @@ ghost use Rattle.request_translate.specs.Up.{IsSound42};
 use dict_fix42::{Msg42, type42, write42};
 use dict_fix50::{Msg50, read50};
 use field_groups::split;
-use order_meaning::{Fault, Lack};
+use order_meaning::Lack;
 use request_rules::{good_request, put_up};
 use std::alloc::Global;
 
@@ -93,7 +93,7 @@ pub fn up(alloc: Global, msg: &Msg42) -> Result<Msg50, Lack>
             set_resend(&mut written, resend(msg));
             Ok(written)
         }
-        Err(Fault::NoMemory) => Err(Lack::NoMemory),
-        Err(_) => unreachable!(),
+        // What goes up is read again, so that memory alone can be wanted.
+        Err(_) => Err(Lack::NoMemory),
     }
 }
