@@ -1,5 +1,5 @@
 -- The content of the request that stands for fields, as it is appended.
-use Rattle.std.proofs.Common.{◌++◌, ◌≤◌, ℕ, List, Option, ap, ◌∙◌, length, length-append, arith}
+use Rattle.std.proofs.Common.{◌≤◌, ℕ, List, Option, ap, ◌∙◌, length, length-append, arith}
 use Rattle.field_groups.specs.declared.fault.SplitFault.{SplitFault}
 use Rattle.field_groups.specs.Field.{Field, body_of}
 use Rattle.request_rules.specs.Rules.{up_content}

@@ -1,15 +1,15 @@
 -- A sound message of FIX 5.0 SP2 stays sound where its month is completed by its date.
 use Rattle.std.proofs.Common.{◌≡◌, ℕ, List, [], ◌∷◌, map, Some, None, Bool, true, false}
 use Rattle.std.proofs.Common.{refl, sym, ap, subst, ◌∙◌, codes, take, arith}
-use Rattle.std.specs.Prelude.{IfSome, not, ◌&&◌, ◌||◌, ◌==◌, if◌then◌else◌}
+use Rattle.std.specs.Prelude.{IfSome, not, ◌&&◌, ◌==◌}
 use Rattle.std.specs.List.{AllByRecursion, flat_map, list_any, list_all}
 use Rattle.std.proofs.lemmas.Bool.{eqb-true}
 use Rattle.std.proofs.lemmas.Bool.Decides.{nat_tests}
 use Rattle.field_groups.specs.Field.{Field}
 use Rattle.field_groups.specs.Data.{is_data_tag}
 use Rattle.message_tables.specs.Tables.{Verdict, Spells, Need, Required, Optional, Lenient, Fixed}
-use Rattle.message_tables.specs.Tables.{When, Row, Item, One, Party, Lines, Table, Message, Cell}
-use Rattle.message_tables.specs.Tables.{Said, Place, Tag, Role, is_place, said_at, value_at, says}
+use Rattle.message_tables.specs.Tables.{When, Row, Item, One, Party, Lines, Table, Message}
+use Rattle.message_tables.specs.Tables.{Said, Tag, Role, is_place, said_at, value_at, says}
 use Rattle.message_tables.specs.Tables.{or_else, ◌>>=◌, text_of, is_needed, is_listed}
 use Rattle.message_tables.specs.Content.{content, cell_fields, item_fields}
 use Rattle.value_kinds.specs.ValueKind.{Day, spelling}

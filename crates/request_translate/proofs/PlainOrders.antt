@@ -20,28 +20,21 @@ use Rattle.typed_fields.specs.Dec.{dec_text, is_dec_form, is_dec_bounded}
 use Rattle.typed_fields.specs.Stamp.{is_stamp_form, spells_moment, stamp_in}
 use Rattle.value_kinds.specs.ValueKind.{ValueKind, Filled, Id, Code, Stamp, Qty, Price, spelling}
 use Rattle.value_kinds.specs.ValueKind.{spelt, if_in_range}
-use Rattle.row_values.specs.Kinds.{Kind, Value, judge}
-use Rattle.row_values.specs.Groups.{allocs, sessions}
-use Rattle.message_tables.specs.Tables.{Cell, Message, Tag, Role, Required, Optional, Lenient}
-use Rattle.message_tables.specs.Tables.{Spells, first_of, party_in}
+use Rattle.row_values.specs.Kinds.{judge}
+use Rattle.message_tables.specs.Tables.{Cell, Message, Tag}
+use Rattle.message_tables.specs.Tables.{first_of}
 use Rattle.message_tables.specs.FirstFault.{first_fault, message_of}
-use Rattle.message_tables.specs.Content.{content}
 use Rattle.dict_fix42.specs.Message.{message42}
 use Rattle.dict_fix42.specs.Sense.{request42}
-use Rattle.rows_fix50.specs.Header.{table}
-use Rattle.dict_fix50.specs.Requests.{new_order}
-use Rattle.dict_fix50.specs.Sense.{request50}
 use Rattle.translation.specs.declared.error.TranslateError.{TranslateError}
 use Rattle.translation.specs.declared.error.TranslateError.TheVariants as errors
 use Rattle.request_translate.specs.Lack.{lack_if}
-use Rattle.sound_laws.specs.Sound.{IsClear, IsSaid, IsGroup}
 use Rattle.translation.specs.Header.{with_content}
 use Rattle.request_translate.specs.Translation.{StandsFor, IsOutcome, IsTooLong}
 use Rattle.request_translate.specs.Plain.{PlainOrder, IsValue, HasPlainValues, client_field}
 use Rattle.request_translate.specs.Plain.{client_party, terms, plain_fields, translated_fields}
 use Rattle.request_translate.specs.Plain.{PlainOrdersAreTranslated}
 use Rattle.sound_laws.proofs.PlainFields.{plain_field, all_of}
-use Rattle.sound_laws.proofs.RowsSaid.{optional_said, lenient_said, required_said}
 use Rattle.sound_laws.proofs.Each.{◌&◌, both, each_joined}
 use Rattle.request_translate.proofs.Outcomes.{good_not_faulty, good_not_lacking, same_content}
 use Rattle.request_translate.proofs.Outcomes.{same_up, stands_by}

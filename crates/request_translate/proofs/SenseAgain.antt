@@ -1,10 +1,10 @@
 -- What is written of a request is read again as that request, behind its header.
-use Rattle.std.proofs.Common.{◌≡◌, ℕ, List, [], ◌∷◌, ◌++◌, codes, Option, Some}
-use Rattle.std.proofs.Common.{None, Bool, true, false, Ok, Err, Result, refl, sym, ap, subst, ◌∙◌}
+use Rattle.std.proofs.Common.{◌≡◌, ℕ, List, ◌∷◌, ◌++◌, codes, Option, Some}
+use Rattle.std.proofs.Common.{None, Bool, true, false, Ok, Result, refl, sym, ap, subst, ◌∙◌}
 use Rattle.std.specs.Prelude.{unwrap_or, if◌then◌else◌}
 use Rattle.std.specs.Option.{option_map}
 use Rattle.std.specs.Result.{result_ok}
-use Rattle.std.specs.List.{AllByRecursion, flat_map}
+use Rattle.std.specs.List.{AllByRecursion}
 use Rattle.std.specs.Str.{bytes_eq}
 use Rattle.value_kinds.specs.ValueKind.{Filled, Flag}
 use Rattle.message_tables.specs.declared.table_fault.TableFault.{TableFault}
@@ -21,10 +21,9 @@ use Rattle.dict_fix42.specs.Sense.{sense42, request42}
 use Rattle.row_values.specs.Kinds.{Kind, Version, judge}
 use Rattle.first_faults.specs.Faults as row_faults
 use Rattle.dict_fix50.specs.Message as read50
-use Rattle.rows_fix50.specs.Header.{table, completed, completed_by}
+use Rattle.rows_fix50.specs.Header.{table, completed_by}
 use Rattle.dict_fix50.specs.Requests.{new_order, cancel_request, replace_request, status_request}
 use Rattle.dict_fix50.specs.Sense.{sense50, request50}
-use Rattle.sound_laws.specs.Sound.{places_of}
 use Rattle.sound_laws.proofs.Completed.{completed_again}
 use Rattle.sound_laws.proofs.Each.{◌&◌}
 use Rattle.sound_laws.proofs.Lookups.{places_apart}
