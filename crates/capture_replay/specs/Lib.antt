@@ -1,4 +1,5 @@
 pub mod Rounds
+pub mod Stops
 pub mod Replay
 pub mod Lived
 pub mod Drills

@@ -10,6 +10,7 @@ use Rattle.gateway_config.specs.declared.config.Config.{Config}
 use Rattle.gateway_life.specs.declared.end.LifeEnd.{LifeEnd}
 use Rattle.gateway_life.specs.Life.{Done, IsJournal}
 use Rattle.gateway_life.specs.Laws.{AreShown}
+use Rattle.gateway_life.specs.Watched.{WereCommitted}
 use Rattle.drop_taps.specs.Shown.{TapState, HaveSeen}
 use Rattle.capture_text.specs.declared.capture.Capture.{Capture}
 use Rattle.capture_text.specs.declared.capture.Event.{Event}
@@ -33,7 +34,7 @@ pub record IsLived {T : Type 0} (state : T → TapState) (config : Config) (line
     moment = moment_after before.moment lines;
   })
   pub more : List Entry
-  pub committed : entries ≡ before.entries ++ more
+  pub committed : WereCommitted end (before.entries ++ more) entries
   pub saw : HaveSeen state seen now more
 
 -- such a life is lived over whatever lives before it have left, with their clock at this moment

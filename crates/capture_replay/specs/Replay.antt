@@ -19,13 +19,16 @@ use Rattle.gateway_life.specs.declared.end.LifeEnd.TheVariants as ends
 use Rattle.gateway_life.specs.Life.{Done}
 use Rattle.gateway_life.specs.Laws.{AreTaken}
 use Rattle.gateway_life.specs.Lived.{IsLeft}
+use Rattle.gateway_life.specs.Watched.{WereCommitted}
 use Rattle.drop_taps.specs.Shown.{TapState, HaveSeen}
 use Rattle.capture_text.specs.declared.capture.Capture.{Capture}
 use Rattle.capture_text.specs.declared.capture.Event.{Event}
+use Rattle.capture_text.specs.Capture.{stop_of}
 use Rattle.replay_lines.specs.declared.printing.PrintError.{PrintError}
 use Rattle.replay_lines.specs.Pieces.{pieces_of}
 use Rattle.replay_lines.specs.ReplayLines.{life_lines, last_lines}
 use Rattle.capture_replay.specs.Rounds.{is_round, script_of, moment_after, moments_from}
+use Rattle.capture_replay.specs.Stops.{may_end}
 
 -- how the gateway of a capture is set up: SendingTime may be 120 seconds from the present moment
 abbrev pub config_with : Names → (heart : ℕ) → Config
@@ -64,12 +67,6 @@ after left life = record {
   moment = life.moment;
 }
 
--- a life that ended by a disk fault or for want of memory
-abbrev pub is_fault : LifeEnd → Bool
-is_fault ends.DiskFault = true
-is_fault ends.NoMemory = true
-is_fault end = false
-
 -- A LIFE OF A CAPTURE, over what lives before it have left. Its wires play what its lines let come,
 -- and its clock, which runs on from the lives before, gives their moments. What it leaves goes on
 -- from what was there, and accounts for all that was read and written, in it and before: whatever
@@ -88,7 +85,7 @@ pub record IsPlayed (config : Config) (lines : List Event) (before : Left) (life
   pub taken : AreTaken config.names life.entries
       (after before life).client (after before life).venue
   pub moment : life.moment ≡ moment_after before.moment lines
-  pub whole : is_fault life.end ≡ false
+  pub whole : may_end (stop_of lines) life.end ≡ true
 
 -- The first lives of a capture, one after another, over what was left before. The taps saw what
 -- each of them committed, in order.
@@ -98,7 +95,7 @@ ArePlayed state config left seen lives [] now = now ≡ seen
 ArePlayed state config left seen [] (life ∷ played) now = ⊥
 ArePlayed {T} state config left seen (lines ∷ lives) (life ∷ played) now =
     IsPlayed config lines left life × (between : List T) × (more : List Entry)
-    × (life.entries ≡ left.entries ++ more) × HaveSeen state seen between more
+    × WereCommitted life.end (left.entries ++ more) life.entries × HaveSeen state seen between more
     × ArePlayed state config (after left life) between lives played now
 
 -- ---- what is printed

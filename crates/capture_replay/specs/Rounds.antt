@@ -10,8 +10,9 @@ use Rattle.wires.specs.Wire.{Came, Nothing, Opened, Bytes, Closed}
 use Rattle.capture_text.specs.declared.capture.Event.{Event}
 use Rattle.capture_text.specs.declared.capture.Event.TheVariants as event
 
--- every line but `at` is a round
+-- every line but `stop` and `at` is a round
 abbrev pub is_round : Event → Bool
+is_round (event.Stop call image) = false
 is_round (event.At ms) = false
 is_round event = true
 
@@ -45,5 +46,6 @@ moment_after now (event ∷ life) = moment_after now life
 -- the moment of each round, from this one on, and that of the end
 abbrev pub moments_from : ℕ → List Event → List ℕ
 moments_from now [] = now ∷ []
+moments_from now (event.Stop call image ∷ life) = moments_from now life
 moments_from now (event.At ms ∷ life) = moments_from ms life
 moments_from now (event ∷ life) = now ∷ moments_from now life

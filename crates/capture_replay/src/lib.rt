@@ -12,6 +12,7 @@ mod last;
 mod life;
 mod replaying;
 mod rounds;
+mod stops;
 mod wire;
 
 pub use drilling::drill;

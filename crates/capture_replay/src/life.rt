@@ -6,15 +6,14 @@ ghost use Rattle.drop_taps.specs.Shown.{HaveSeen, state_by};
 ghost use Rattle.capture_text.specs.Line.{IsBounded};
 ghost use Rattle.capture_replay.specs.Lived.{LivesOn};
 
-use crate::ends::is_fault;
 use crate::rounds::{moments_of, rounds_of};
+use crate::stops::{disk_of, image_of, may_end};
 use crate::wire::LifeWire;
 use capture_text::Life;
 use drop_taps::Tap;
 use gateway_config::Config;
 use gateway_life::{LifeEnd, live};
 use order_meaning::Side;
-use outside::{Image, MemDisk};
 use pair_journal::laws::an_image_has_one_reading;
 use replay_lines::CallLog;
 use std::alloc::{AllocError, Global};
@@ -29,12 +28,12 @@ pub(crate) struct Lived {
     pub(crate) venue: CallLog,
     /// How it ended.
     pub(crate) end: LifeEnd,
-    /// The bytes of the disk.
+    /// The bytes of the disk, as its stop leaves them.
     pub(crate) image: Vec<u8>,
 }
 
-/// Lives a life of a capture over a disk of these bytes; the clock says this moment before the
-/// first that a line tells.
+/// Lives a life of a capture over a disk of these bytes, up to its stop; the clock says this moment
+/// before the first that a line tells.
 ///
 /// # Errors
 /// `AllocError` where memory was refused to the life or to a form in memory.
@@ -60,7 +59,8 @@ pub(crate) fn live_lines(
     let mut client = LifeWire::new(alloc, Side::Client, life);
     let mut venue = LifeWire::new(alloc, Side::Venue, life);
     let mut clock = ListClock::new(moments);
-    let mut disk = MemDisk::new(alloc, image, Vec::new(alloc));
+    let stop = life.stop();
+    let mut disk = disk_of(alloc, stop, image);
     let end = live(
         alloc,
         config,
@@ -72,7 +72,7 @@ pub(crate) fn live_lines(
         rounds,
     );
     let (client, venue) = (client.into_calls(), venue.into_calls());
-    if disk.refused() || !clock.is_told() || is_fault(&end) {
+    if disk.refused() || !clock.is_told() || !may_end(stop, &end) {
         return Err(AllocError);
     }
     let Some(client) = client else {
@@ -81,7 +81,7 @@ pub(crate) fn live_lines(
     let Some(venue) = venue else {
         return Err(AllocError);
     };
-    let image = disk.image(Image::New)?;
+    let image = disk.image(image_of(stop))?;
     Ok(Lived {
         client,
         venue,

@@ -2,10 +2,17 @@
 
 ghost use Rattle.std.specs.Prelude.{◌≡◌, ◌-◌, length, IfOk};
 ghost use Rattle.capture_text.specs.Kept.{event_of};
-ghost use Rattle.capture_replay.specs.Rounds.{told_moment, moment_after, moments_from};
+ghost use Rattle.capture_replay.specs.Rounds.{is_round, told_moment, moment_after, moments_from};
 
 use capture_text::{Life, Line};
 use std::alloc::{AllocError, Global};
+
+/// Whether a line is a round.
+pub(crate) fn is_round(line: Line<'_>) -> bool
+    ensures { result ≡ is_round (event_of line.entry) }
+{
+    !matches!(line, Line::Stop(..) | Line::At(_))
+}
 
 /// The moment that a line tells.
 fn told_moment(line: Line<'_>) -> Option<u64>
@@ -41,10 +48,10 @@ pub(crate) fn moments_of(alloc: Global, from: u64, life: &Life) -> Result<Vec<u6
     let mut now = from;
     let mut left = life.lines();
     while let Some(line) = left.next() {
-        if let Some(ms) = told_moment(line) {
-            now = ms;
-        } else {
+        if is_round(line) {
             moments.push(now)?;
+        } else if let Some(ms) = told_moment(line) {
+            now = ms;
         }
     }
     moments.push(now)?;

@@ -14,6 +14,7 @@ ghost use Rattle.replay_lines.specs.CallLog.{call_of};
 ghost use Rattle.capture_replay.specs.Rounds.{is_round, arrival};
 ghost use Rattle.capture_replay.specs.LifeWire.{unplayed};
 
+use crate::rounds::is_round;
 use capture_text::{Life, Line, Lines};
 use frame_grammar::{FrameError, Kind, write_frame};
 use order_meaning::Side;
@@ -113,13 +114,6 @@ fn give_item(within: bool, item: &Script, buf: &mut [u8]) -> Arrival
         Script::Closed if within => Arrival::Closed,
         _ => Arrival::Nothing,
     }
-}
-
-/// Whether a line is a round.
-fn is_round(line: Line<'_>) -> bool
-    ensures { result ≡ is_round (event_of line.entry) }
-{
-    !matches!(line, Line::At(_))
 }
 
 /// The next line that is a round; it is behind then, with those before it.

@@ -15,6 +15,7 @@ use Rattle.capture_text.proofs.Written.{written_once}
 pub no_text : (side : Side) (text : List ℕ)
     → ((bytes : List ℕ) → All IsByte bytes → IsRound bytes → text ≢ map written bytes)
     → LineSays (letter side ++ codes " " ++ text) None
+no_text Client text none (event.Stop call image) bounded is = differ 0 is refl
 no_text Client text none (event.At ms) bounded is = differ 0 is refl
 no_text Client text none event.Tick bounded is = differ 0 is refl
 no_text Client text none (event.Opened Client) bounded is = differ 1 is refl
@@ -26,6 +27,7 @@ no_text Client text none (event.Text Client bytes) (are, round) is =
 no_text Client text none (event.Text Venue bytes) bounded is = differ 0 is refl
 no_text Client text none (event.Frame Client body) bounded is = differ 1 is refl
 no_text Client text none (event.Frame Venue body) bounded is = differ 0 is refl
+no_text Venue text none (event.Stop call image) bounded is = differ 0 is refl
 no_text Venue text none (event.At ms) bounded is = differ 0 is refl
 no_text Venue text none event.Tick bounded is = differ 0 is refl
 no_text Venue text none (event.Opened Client) bounded is = differ 0 is refl
@@ -43,6 +45,7 @@ pub no_frame : (side : Side) (text : List ℕ)
     → ((body : List ℕ) → All IsByte body → IsBody body → IsRound (frame_of (kind_of side) body)
     → text ≢ map written body)
     → LineSays (letter side ++ codes "f " ++ text) None
+no_frame Client text none (event.Stop call image) bounded is = differ 0 is refl
 no_frame Client text none (event.At ms) bounded is = differ 0 is refl
 no_frame Client text none event.Tick bounded is = differ 0 is refl
 no_frame Client text none (event.Opened Client) bounded is = differ 1 is refl
@@ -54,6 +57,7 @@ no_frame Client text none (event.Text Venue bytes) bounded is = differ 0 is refl
 no_frame Client text none (event.Frame Client body) (are, sound, round) is =
     none body are sound round (behind 3 is)
 no_frame Client text none (event.Frame Venue body) bounded is = differ 0 is refl
+no_frame Venue text none (event.Stop call image) bounded is = differ 0 is refl
 no_frame Venue text none (event.At ms) bounded is = differ 0 is refl
 no_frame Venue text none event.Tick bounded is = differ 0 is refl
 no_frame Venue text none (event.Opened Client) bounded is = differ 0 is refl

@@ -11,7 +11,7 @@ use Rattle.order_meaning.specs.declared.Side.{Side}
 use Rattle.order_meaning.specs.declared.Side.TheVariants.{Client, Venue}
 use Rattle.capture_text.specs.declared.capture.Event.{Event}
 use Rattle.capture_text.specs.declared.capture.Event.TheVariants as event
-use Rattle.capture_text.specs.Capture.{letter, line_of, life_lines, is_open, MayStand}
+use Rattle.capture_text.specs.Capture.{letter, line_of, life_lines, is_open, is_fresh, MayStand}
 use Rattle.capture_text.specs.Capture.{AreEvents}
 use Rattle.capture_text.specs.Life.{behind, Begun, Follows}
 use Rattle.capture_text.proofs.Bytes.{differ}
@@ -24,6 +24,7 @@ end = codes "end"
 
 -- the line of an event does not end a life
 pub not_end : (e : Event) → line_of e ≡ end → ⊥
+not_end (event.Stop call image) is = differ 0 is refl
 not_end (event.At ms) is = differ 0 is refl
 not_end event.Tick is = differ 0 is refl
 not_end (event.Opened Client) is = differ 0 is refl
@@ -73,20 +74,23 @@ behind_lives (life ∷ lives) (top ∷ all) more sound is =
 
 -- ---- which sides are open is read off the lines
 
--- the same sides are open
+-- the same sides are open, and no line stands before both of them
 abbrev Same : List Event → List Event → Type 0
-Same before other = (side : Side) → is_open side before ≡ is_open side other
+Same before other = ((side : Side) → is_open side before ≡ is_open side other)
+    × (is_fresh before ≡ is_fresh other)
 
 same_stands : (before other : List Event) (e : Event)
     → Same before other → MayStand before e → MayStand other e
+same_stands before other (event.Stop call image) same (fresh, some, small) =
+    (sym same.1 ∙ fresh, some, small)
 same_stands before other (event.At ms) same may = may
 same_stands before other event.Tick same may = may
-same_stands before other (event.Opened side) same may = sym (same side) ∙ may
-same_stands before other (event.Closed side) same may = sym (same side) ∙ may
+same_stands before other (event.Opened side) same may = sym (same.0 side) ∙ may
+same_stands before other (event.Closed side) same may = sym (same.0 side) ∙ may
 same_stands before other (event.Text side bytes) same (is, are, round) =
-    (sym (same side) ∙ is, are, round)
+    (sym (same.0 side) ∙ is, are, round)
 same_stands before other (event.Frame side body) same (is, are, sound, round) =
-    (sym (same side) ∙ is, are, sound, round)
+    (sym (same.0 side) ∙ is, are, sound, round)
 
 -- what a line does to a side
 abbrev effect : Side → List ℕ → Bool → Bool
@@ -97,6 +101,7 @@ effect side line was =
 
 effect_is : (side : Side) (e : Event) (before : List Event)
     → is_open side (e ∷ before) ≡ effect side (line_of e) (is_open side before)
+effect_is Client (event.Stop call image) before = refl
 effect_is Client (event.At ms) before = refl
 effect_is Client event.Tick before = refl
 effect_is Client (event.Opened Client) before = refl
@@ -107,6 +112,7 @@ effect_is Client (event.Text Client bytes) before = refl
 effect_is Client (event.Text Venue bytes) before = refl
 effect_is Client (event.Frame Client body) before = refl
 effect_is Client (event.Frame Venue body) before = refl
+effect_is Venue (event.Stop call image) before = refl
 effect_is Venue (event.At ms) before = refl
 effect_is Venue event.Tick before = refl
 effect_is Venue (event.Opened Client) before = refl
@@ -120,11 +126,13 @@ effect_is Venue (event.Frame Venue body) before = refl
 
 same_next : (before other : List Event) (e o : Event)
     → Same before other → line_of e ≡ line_of o → Same (e ∷ before) (o ∷ other)
-same_next before other e o same is side =
-    effect_is side e before
-    ∙ ap (λ (line : List ℕ). effect side line (is_open side before)) is
-    ∙ ap (λ (was : Bool). effect side (line_of o) was) (same side)
-    ∙ sym (effect_is side o other)
+same_next before other e o same is = (
+  λ side. effect_is side e before
+      ∙ ap (λ (line : List ℕ). effect side line (is_open side before)) is
+      ∙ ap (λ (was : Bool). effect side (line_of o) was) (same.0 side)
+      ∙ sym (effect_is side o other),
+  refl,
+)
 
 -- behind events of a life a line ends it, or is that of an event that may stand there
 goes_on : (events all before other : List Event) (line : List ℕ) (x y : Texts)
@@ -137,7 +145,7 @@ goes_on [] (o ∷ all) before other line x y same (may, sound) is =
     inr (
       o,
       (tail_same line (line_of o) x (map line_of all ++ end ∷ y) is).0,
-      same_stands other before o (λ side. sym (same side)) may,
+      same_stands other before o (λ side. sym (same.0 side), sym same.1) may,
     )
 goes_on (e ∷ events) [] before other line x y same sound is =
     absurd (not_end e (tail_same (line_of e) end (map line_of events ++ line ∷ x) y is).0)
@@ -227,7 +235,7 @@ outside_within lives events part other follows begun =
         → flat_map life_lines left ≡ codes "life" ∷ map line_of events ++ part ∷ begun.rest → ⊥
     none [] sound is = absurd (cc is)
     none (top ∷ left) sound is = elim (goes_on events top [] [] part begun.rest
-        (flat_map life_lines left) (λ side. refl) (All-head (AreEvents []) top left sound)
+        (flat_map life_lines left) (λ side. refl, refl) (All-head (AreEvents []) top left sound)
         (sym (straight_tail top left ∙ (tail_same (codes "life") (codes "life") _ _ is).1))) [
           | inl ends ↦ other ends
           | inr (e, is, may) ↦ follows e may is

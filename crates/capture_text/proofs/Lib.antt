@@ -9,3 +9,4 @@ pub mod Whole
 pub mod Worked
 pub mod Written
 pub mod Kept
+pub mod StopLine

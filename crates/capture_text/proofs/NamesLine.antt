@@ -26,7 +26,7 @@ IsWord word = All other word
 is_other : (byte : ℕ) → 33 ≤ byte → other byte
 is_other byte low = ne_eqb byte 32 (λ is. absurd (omega (arith, low, is)))
 
-word_of_digits : (n : ℕ) → n < 2 ^ 64 → IsWord (decimal n)
+pub word_of_digits : (n : ℕ) → n < 2 ^ 64 → IsWord (decimal n)
 word_of_digits n fits = decimal_by_steps (λ m ds. IsWord ds)
     (λ m small. All-cons other (48 + m) [] (is_other (48 + m) (omega arith)) (All-nil other))
     (λ m ds large rest. All-append other ds ((48 + m % 10) ∷ []) rest

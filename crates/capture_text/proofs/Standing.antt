@@ -4,19 +4,20 @@ use Rattle.std.proofs.Common.{◌∙◌, ap, Some, None, if◌then◌else◌}
 use Rattle.order_meaning.specs.declared.Side.TheVariants.{Client, Venue}
 use Rattle.capture_text.specs.declared.capture.Event.{Event}
 use Rattle.capture_text.specs.declared.capture.Event.TheVariants as event
-use Rattle.capture_text.specs.Capture.{line_of, is_open, MayStand}
+use Rattle.capture_text.specs.Capture.{line_of, is_open, is_fresh, MayStand}
 use Rattle.capture_text.specs.Line.{IsBounded, LineSays}
 use Rattle.capture_text.specs.Life.{Follows}
 
--- where the client and the venue are open
-abbrev allowed : Bool → Bool → List ℕ → Bool
-allowed client venue line =
+-- where the client and the venue are open, and where no line stands before
+abbrev allowed : Bool → Bool → Bool → List ℕ → Bool
+allowed client venue fresh line =
     if get_or line 0 0 == 99 then (if get_or line 1 0 == 43 then not client else client)
     else if get_or line 0 0 == 118 then (if get_or line 1 0 == 43 then not venue else venue)
+    else if get_or line 0 0 == 115 then fresh
     else true
 
 abbrev at : List Event → List ℕ → Bool
-at before line = allowed (is_open Client before) (is_open Venue before) line
+at before line = allowed (is_open Client before) (is_open Venue before) (is_fresh before) line
 
 not_open : (test : Bool) → test ≡ false → not test ≡ true
 not_open test is = ap not is
@@ -26,6 +27,7 @@ was_not true is = absurd (cc is)
 was_not false is = refl
 
 stands : (before : List Event) (e : Event) → MayStand before e → at before (line_of e) ≡ true
+stands before (event.Stop call image) may = may.0
 stands before (event.At ms) may = refl
 stands before event.Tick may = refl
 stands before (event.Opened Client) may = not_open (is_open Client before) may
@@ -39,6 +41,7 @@ stands before (event.Frame Venue body) may = may.0
 
 may_stand : (before : List Event) (e : Event) → IsBounded e → at before (line_of e) ≡ true
     → MayStand before e
+may_stand before (event.Stop call image) (some, small) is = (is, some, small)
 may_stand before (event.At ms) small is = small
 may_stand before event.Tick bounded is = tt
 may_stand before (event.Opened Client) bounded is = was_not (is_open Client before) is
@@ -51,6 +54,7 @@ may_stand before (event.Frame Client body) (are, sound, round) is = (is, are, so
 may_stand before (event.Frame Venue body) (are, sound, round) is = (is, are, sound, round)
 
 is_bounded : (before : List Event) (e : Event) → MayStand before e → IsBounded e
+is_bounded before (event.Stop call image) (is, some, small) = (some, small)
 is_bounded before (event.At ms) small = small
 is_bounded before event.Tick may = tt
 is_bounded before (event.Opened side) may = tt

@@ -3,6 +3,7 @@ use Rattle.std.proofs.Common.{◌≡◌, [], ◌∷◌, ◌++◌, refl, true, fa
 use Rattle.std.specs.Prelude.{codes}
 use Rattle.std.specs.Fmt.{digits}
 use Rattle.order_meaning.specs.declared.Side.TheVariants.{Client, Venue}
+use Rattle.outside.specs.declared.mem_disk.Image.TheVariants as image
 use Rattle.capture_text.specs.declared.capture.Event.TheVariants as event
 use Rattle.capture_text.specs.declared.capture.Capture.{Capture}
 use Rattle.capture_text.specs.Capture.{lines_of, is_open}
@@ -17,15 +18,16 @@ capture = record {
     venue_peer = codes "VENU";
   };
   heart = 30;
-  lives = (event.At 1704189600000 ∷ event.Opened Client
+  lives = (event.Stop 21 image.Torn ∷ event.At 1704189600000 ∷ event.Opened Client
       ∷ event.Text Client (codes "8=FIX" ++ 1 ∷ [])
       ∷ event.Opened Venue ∷ event.Frame Venue (codes "35=0" ++ 1 ∷ []) ∷ event.Closed Client
       ∷ event.Tick ∷ []) ∷ [] ∷ [];
 }
 
 lines : lines_of capture ≡ codes "fixgate capture 1" ∷ codes "names GATE CLNT HUB VENU 30"
-    ∷ codes "life" ∷ codes "at 1704189600000" ∷ codes "c+" ∷ codes "c 8=FIX|" ∷ codes "v+"
-    ∷ codes "vf 35=0|" ∷ codes "c-" ∷ codes "tick" ∷ codes "end" ∷ codes "life" ∷ codes "end" ∷ []
+    ∷ codes "life" ∷ codes "stop 21 torn" ∷ codes "at 1704189600000" ∷ codes "c+" ∷ codes "c 8=FIX|"
+    ∷ codes "v+" ∷ codes "vf 35=0|" ∷ codes "c-" ∷ codes "tick" ∷ codes "end"
+    ∷ codes "life" ∷ codes "end" ∷ []
 unfolding digits
 lines = refl
 

@@ -1,6 +1,8 @@
 -- Own: a capture, and the lines in which it is written; docs/DEFINITIONS.md, "Captures".
 use Rattle.std.specs.Prelude.{◌≡◌, ◌≢◌, ℕ, ◌≤◌, ◌<◌, ◌^◌, ◌==◌, ◌⊎◌, Bool, true, false}
-use Rattle.std.specs.Prelude.{List, [], ◌∷◌, ◌++◌, map, length, All, codes, if◌then◌else◌}
+use Rattle.std.specs.Prelude.{List, [], ◌∷◌, ◌++◌, map, length, All, codes}
+use Rattle.std.specs.Prelude.{if◌then◌else◌, Some, None}
+use Rattle.std.specs.declared.option.Option.{Option}
 use Rattle.std.specs.List.{flat_map, join_with_byte}
 use Rattle.std.specs.Fmt.{decimal}
 use Rattle.frame_grammar.specs.declared.frame.Kind.{Kind}
@@ -9,6 +11,8 @@ use Rattle.frame_grammar.specs.Frame.{IsBody, frame_of}
 use Rattle.order_meaning.specs.declared.Side.{Side}
 use Rattle.order_meaning.specs.declared.Side.TheVariants.{Client, Venue}
 use Rattle.order_meaning.specs.declared.names.Names.{Names}
+use Rattle.outside.specs.declared.mem_disk.Image.{Image}
+use Rattle.outside.specs.declared.mem_disk.Image.TheVariants as image
 use Rattle.capture_text.specs.declared.capture.Event.{Event}
 use Rattle.capture_text.specs.declared.capture.Event.TheVariants as event
 use Rattle.capture_text.specs.declared.capture.Capture.{Capture}
@@ -23,8 +27,15 @@ abbrev pub letter : Side → List ℕ
 letter Client = codes "c"
 letter Venue = codes "v"
 
+abbrev pub image_word : Image → List ℕ
+image_word image.Old = codes "old"
+image_word image.New = codes "new"
+image_word image.Torn = codes "torn"
+
 -- the line of an event
 abbrev pub line_of : Event → List ℕ
+line_of (event.Stop call image) =
+    join_with_byte 32 (codes "stop" ∷ decimal call ∷ image_word image ∷ [])
 line_of (event.At ms) = codes "at " ++ decimal ms
 line_of event.Tick = codes "tick"
 line_of (event.Opened side) = letter side ++ codes "+"
@@ -70,6 +81,11 @@ is_open Venue (event.Closed Venue ∷ before) = false
 is_open side (event ∷ before) = is_open side before
 is_open side [] = false
 
+-- no line stands before
+abbrev pub is_fresh : List Event → Bool
+is_fresh [] = true
+is_fresh (event ∷ before) = false
+
 abbrev pub kind_of : Side → Kind
 kind_of Client = Fix42
 kind_of Venue = Fixt11
@@ -80,6 +96,8 @@ IsRound bytes = (1 ≤ length bytes) × (length bytes ≤ 4096)
 
 -- an event may stand behind these, the last of which stands first
 abbrev pub MayStand : List Event → Event → Type 0
+MayStand before (event.Stop call image) =
+    (is_fresh before ≡ true) × (1 ≤ call) × (call ≤ 1000000)
 MayStand before (event.At ms) = ms < 2 ^ 64
 MayStand before event.Tick = Unit {0}
 MayStand before (event.Opened side) = is_open side before ≡ false
@@ -94,6 +112,16 @@ MayStand before (event.Frame side body) =
 abbrev pub AreEvents : List Event → List Event → Type 0
 AreEvents before [] = Unit {0}
 AreEvents before (event ∷ events) = MayStand before event × AreEvents (event ∷ before) events
+
+-- the number of the first write or sync that a stop lets fail, and the image that it leaves
+abbrev pub told_stop : Event → Option (ℕ × Image)
+told_stop (event.Stop call image) = Some (call, image)
+told_stop event = None
+
+-- the stop of a life, which its first line tells
+abbrev pub stop_of : List Event → Option (ℕ × Image)
+stop_of [] = None
+stop_of (event ∷ events) = told_stop event
 
 pub record IsCapture (capture : Capture) : Type 0 where
   pub client_our : IsName capture.names.client_our

@@ -8,7 +8,7 @@ use Rattle.capture_text.specs.declared.capture.Event.{Event}
 use Rattle.capture_text.specs.declared.life.Open.{Open}
 use Rattle.capture_text.specs.declared.reading.CaptureFault.{CaptureFault}
 use Rattle.capture_text.specs.declared.reading.CaptureFault.TheVariants.{Line, NoMemory}
-use Rattle.capture_text.specs.Capture.{line_of, life_lines, is_open, MayStand, AreEvents}
+use Rattle.capture_text.specs.Capture.{line_of, life_lines, is_open, is_fresh, MayStand, AreEvents}
 use Rattle.capture_text.specs.Reading.{parts}
 
 -- a number of a line, up to the last value
@@ -20,10 +20,11 @@ abbrev pub behind : List Event → List Event → List Event
 behind before [] = before
 behind before (event ∷ events) = behind (event ∷ before) events
 
--- which sides are open
+-- which sides are open, and whether no line stands before
 pub record AreOpen (sides : Open) (before : List Event) : Type 0 where
   pub client : sides.client ≡ is_open Client before
   pub venue : sides.venue ≡ is_open Venue before
+  pub fresh : sides.fresh ≡ is_fresh before
 
 -- the event of a line that may stand behind these, or the line is that of none
 abbrev pub Follows : List ℕ → List Event → Option Event → Type 0

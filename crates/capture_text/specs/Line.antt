@@ -1,5 +1,5 @@
 -- Inside: what the readers of single lines answer.
-use Rattle.std.specs.Prelude.{◌≡◌, ◌≢◌, ◌<◌, ◌^◌, ℕ, List, map, All}
+use Rattle.std.specs.Prelude.{◌≡◌, ◌≢◌, ◌<◌, ◌≤◌, ◌^◌, ℕ, List, map, All}
 use Rattle.std.specs.Prelude.{Some, None}
 use Rattle.std.specs.declared.option.Option.{Option}
 use Rattle.frame_grammar.specs.Frame.{IsBody, frame_of}
@@ -14,6 +14,7 @@ Writes text None = (bytes : List ℕ) → All IsByte bytes → text ≢ map writ
 
 -- the bounds of an event, wherever it stands
 abbrev pub IsBounded : Event → Type 0
+IsBounded (event.Stop call image) = (1 ≤ call) × (call ≤ 1000000)
 IsBounded (event.At ms) = ms < 2 ^ 64
 IsBounded (event.Text side bytes) = All IsByte bytes × IsRound bytes
 IsBounded (event.Frame side body) =

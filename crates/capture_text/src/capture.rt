@@ -4,18 +4,22 @@ ghost use Rattle.std.specs.Prelude.{◌≡◌, ◌<◌, ◌++◌, [], ◌∷◌,
 ghost use Rattle.std.specs.Prelude.{OnOk, OnErr};
 ghost use Rattle.std.specs.Prelude.{vec_len, vec_capacity};
 ghost use Rattle.capture_text.specs.declared.capture.Event.{Event};
-ghost use Rattle.capture_text.specs.declared.capture.Event.TheVariants.{At};
 ghost use Rattle.capture_text.specs.declared.capture.Mark.{Mark};
-ghost use Rattle.capture_text.specs.Kept.{event_of, events_of, next_moment, next_piece, AreWhole};
+ghost use Rattle.capture_text.specs.Capture.{told_stop, stop_of};
+ghost use Rattle.capture_text.specs.Kept.{event_of, events_of, first_number, next_piece, AreWhole};
 
 use kept_pieces::{Left, Pieces};
 use order_meaning::{Bytes, Names, Side};
+use outside::Image;
 use std::alloc::{AllocError, Global};
 use std::marker::Model;
 
-/// What a line of a life says. All but `At` is a round of the gateway.
+/// What a line of a life says. All but `Stop` and `At` is a round of the gateway.
 #[derive(Debug, Drop)]
 pub enum Event {
+    /// `stop K IMAGE`, the first line of a life: of its disk the writes and syncs from the K-th on
+    /// fail, from 1 to 1,000,000, and every call behind that one; and this image is left.
+    Stop(u64, Image),
     /// `at MS`: the clock from here on, in milliseconds since 1970-01-01 00:00 UTC.
     At(u64),
     /// `tick`: a round with nothing.
@@ -33,6 +37,8 @@ pub enum Event {
 /// An event of a life, as the life has it.
 #[derive(Clone, Copy, Debug)]
 pub enum Line<'a> {
+    /// As [`Event::Stop`].
+    Stop(u64, Image),
     /// As [`Event::At`].
     At(u64),
     /// As [`Event::Tick`].
@@ -47,9 +53,10 @@ pub enum Line<'a> {
     Frame(Side, &'a [u8]),
 }
 
-/// What an event is, without its moment and its bytes.
+/// What an event is, without its number and its bytes.
 #[derive(Clone, Copy, Debug)]
 pub(crate) enum Mark {
+    Stop(Image),
     At,
     Tick,
     Opened(Side),
@@ -62,7 +69,7 @@ pub(crate) enum Mark {
 #[derive(Debug, Drop)]
 pub struct Life {
     marks: Vec<Mark>,
-    moments: Vec<u64>,
+    numbers: Vec<u64>,
     pieces: Pieces,
 }
 
@@ -73,16 +80,16 @@ impl Model for Life {
 
     ghost Value = { List Event };
 
-    ghost view = { λ l. events_of l.marks.items l.moments.items l.pieces };
+    ghost view = { λ l. events_of l.marks.items l.numbers.items l.pieces };
 
-    ghost invariant = { λ l. AreWhole l.marks.items l.moments.items l.pieces };
+    ghost invariant = { λ l. AreWhole l.marks.items l.numbers.items l.pieces };
 }
 
 /// The events that are left of a life, seen as their list.
 #[derive(Debug, Drop)]
 pub struct Lines<'a> {
     marks: &'a [Mark],
-    moments: &'a [u64],
+    numbers: &'a [u64],
     pieces: Left<'a>,
 }
 
@@ -93,7 +100,7 @@ impl<'a> Model for Lines<'a> {
 
     ghost Value = { List Event };
 
-    ghost view = { λ l. events_of l.marks.now l.moments.now l.pieces };
+    ghost view = { λ l. events_of l.marks.now l.numbers.now l.pieces };
 }
 
 // Adds a mark, for which there is room.
@@ -106,13 +113,13 @@ fn put_mark(marks: &mut Vec<Mark>, mark: Mark)
     }
 }
 
-// The next moment, which is then behind.
-fn next_moment(moments: &mut &[u64]) -> u64
-    ensures value { result ≡ next_moment moments.old.now }
-    ensures rest { moments.new.now ≡ drop 1 moments.old.now }
+// The next number, which is then behind.
+fn next_number(numbers: &mut &[u64]) -> u64
+    ensures value { result ≡ first_number numbers.old.now }
+    ensures rest { numbers.new.now ≡ drop 1 numbers.old.now }
 {
-    match moments.split_off_first() {
-        Some(ms) => *ms,
+    match numbers.split_off_first() {
+        Some(number) => *number,
         None => 0,
     }
 }
@@ -128,18 +135,29 @@ fn next_piece<'a>(pieces: &mut Left<'a>) -> &'a [u8]
     }
 }
 
-// The event of a mark, with the next moment or piece where it takes one.
-fn line_of<'a>(mark: Mark, moments: &mut &[u64], pieces: &mut Left<'a>) -> Line<'a>
-    ensures { (marks : List Mark) → events_of (mark ∷ marks) moments.old.now pieces.old
-        ≡ event_of result ∷ events_of marks moments.new.now pieces.new }
+// The event of a mark, with the next number or piece where it takes one.
+fn line_of<'a>(mark: Mark, numbers: &mut &[u64], pieces: &mut Left<'a>) -> Line<'a>
+    ensures { (marks : List Mark) → events_of (mark ∷ marks) numbers.old.now pieces.old
+        ≡ event_of result ∷ events_of marks numbers.new.now pieces.new }
 {
     match mark {
-        Mark::At => Line::At(next_moment(moments)),
+        Mark::Stop(image) => Line::Stop(next_number(numbers), image),
+        Mark::At => Line::At(next_number(numbers)),
         Mark::Tick => Line::Tick,
         Mark::Opened(side) => Line::Opened(side),
         Mark::Closed(side) => Line::Closed(side),
         Mark::Text(side) => Line::Text(side, next_piece(pieces)),
         Mark::Frame(side) => Line::Frame(side, next_piece(pieces)),
+    }
+}
+
+// The stop that a line tells.
+fn told_stop(line: Line<'_>) -> Option<(u64, Image)>
+    ensures { result ≡ told_stop (event_of line.entry) }
+{
+    match line {
+        Line::Stop(call, image) => Some((call, image)),
+        _ => None,
     }
 }
 
@@ -150,7 +168,7 @@ impl Life {
     {
         Life {
             marks: Vec::new(alloc),
-            moments: Vec::new(alloc),
+            numbers: Vec::new(alloc),
             pieces: Pieces::new(alloc),
         }
     }
@@ -164,7 +182,8 @@ impl Life {
         ensures err { OnErr result (self.new ≡ self.old) }
     {
         match event {
-            Event::At(ms) => self.push_moment(ms),
+            Event::Stop(call, image) => self.push_number(Mark::Stop(image), call),
+            Event::At(ms) => self.push_number(Mark::At, ms),
             Event::Tick => self.push_mark(Mark::Tick),
             Event::Opened(side) => self.push_mark(Mark::Opened(side)),
             Event::Closed(side) => self.push_mark(Mark::Closed(side)),
@@ -183,14 +202,15 @@ impl Life {
         Ok(())
     }
 
-    // Adds a moment.
-    fn push_moment(&mut self, ms: u64) -> Result<(), AllocError>
-        ensures ok { OnOk result (self.new ≡ self.old ++ At ms ∷ []) }
+    // Adds an event of this number.
+    fn push_number(&mut self, mark: Mark, number: u64) -> Result<(), AllocError>
+        requires { AreWhole (mark ∷ []) (number ∷ []) [] }
+        ensures ok { OnOk result (self.new ≡ self.old ++ events_of (mark ∷ []) (number ∷ []) []) }
         ensures err { OnErr result (self.new ≡ self.old) }
     {
         self.marks.reserve(1)?;
-        self.moments.push(ms)?;
-        put_mark(&mut self.marks, Mark::At);
+        self.numbers.push(number)?;
+        put_mark(&mut self.marks, mark);
         Ok(())
     }
 
@@ -213,9 +233,17 @@ impl Life {
     {
         Lines {
             marks: &self.marks,
-            moments: &self.moments,
+            numbers: &self.numbers,
             pieces: self.pieces.left(),
         }
+    }
+
+    /// The stop that its first line tells: the number of the first write or sync that fails, and
+    /// the image that is left. It takes no memory.
+    pub fn stop(&self) -> Option<(u64, Image)>
+        ensures { result ≡ stop_of self.now }
+    {
+        told_stop(self.lines().next()?)
     }
 }
 
@@ -228,7 +256,7 @@ impl<'a> Lines<'a> {
     {
         let (mark, marks) = self.marks.split_first()?;
         self.marks = marks;
-        Some(line_of(*mark, &mut self.moments, &mut self.pieces))
+        Some(line_of(*mark, &mut self.numbers, &mut self.pieces))
     }
 }
 

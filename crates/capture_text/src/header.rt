@@ -6,15 +6,12 @@ ghost use Rattle.capture_text.specs.Capture.{IsName};
 ghost use Rattle.capture_text.specs.Header.{cuts, IsShort, HeartSays, AreNames, NamesLine};
 ghost use Rattle.capture_text.specs.Header.{written_names};
 
-use crate::lines::cut_at;
+use crate::lines::{BLANK, cut_at};
 use crate::number::number;
 use order_meaning::{Name, Names};
 
 /// The first line of a capture.
 pub(crate) const TITLE: &[u8] = b"fixgate capture 1";
-
-/// What stands between words.
-const BLANK: u8 = b' ';
 
 /// The most seconds of HeartBtInt(108).
 const MAX_HEART: u64 = 3600;

@@ -12,11 +12,12 @@ use crate::{CaptureFault, Event, Life};
 use order_meaning::Side;
 use std::alloc::{AllocError, Global};
 
-/// Which sides are open.
+/// Which sides are open, and whether no line stands before.
 #[derive(Clone, Copy, Debug)]
 struct Open {
     client: bool,
     venue: bool,
+    fresh: bool,
 }
 
 impl Open {
@@ -36,6 +37,7 @@ impl Open {
             → IsTrue result ↔ MayStand before event.now }
     {
         match event {
+            Event::Stop(..) => self.fresh,
             Event::At(_) | Event::Tick => true,
             Event::Opened(side) => !self.is_open(*side),
             Event::Closed(side) => self.is_open(*side),
@@ -44,29 +46,33 @@ impl Open {
         }
     }
 
-    /// Which sides are open after an event.
+    /// The same after an event.
     fn after(self, event: &Event) -> Open
         ensures { (before : List Event) → AreOpen self before
             → AreOpen result (event.now ∷ before) }
     {
+        let later = Open {
+            fresh: false,
+            ..self
+        };
         match event {
             Event::Opened(Side::Client) => Open {
                 client: true,
-                ..self
+                ..later
             },
             Event::Opened(Side::Venue) => Open {
                 venue: true,
-                ..self
+                ..later
             },
             Event::Closed(Side::Client) => Open {
                 client: false,
-                ..self
+                ..later
             },
             Event::Closed(Side::Venue) => Open {
                 venue: false,
-                ..self
+                ..later
             },
-            _ => self,
+            _ => later,
         }
     }
 }
@@ -101,6 +107,7 @@ pub(crate) fn read_life<'a>(
     let mut sides = Open {
         client: false,
         venue: false,
+        fresh: true,
     };
     let mut rest = text;
     let mut number = before;

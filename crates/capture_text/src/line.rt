@@ -1,18 +1,25 @@
 //! The lines of events.
 
-ghost use Rattle.std.specs.Prelude.{◌≡◌, ◌↔◌, ◌<◌, ◌≤◌, ◌++◌, codes, IfOk, IfSome, IsNone, IsTrue};
+ghost use Rattle.std.specs.Prelude.{◌≡◌, ◌≢◌, ◌↔◌, ◌<◌, ◌≤◌, ◌++◌, codes, IfOk};
+ghost use Rattle.std.specs.Prelude.{IfSome, IsNone, IsTrue};
+ghost use Rattle.outside.specs.declared.mem_disk.Image.{Image};
 ghost use Rattle.frame_grammar.specs.Frame.{IsBody, frame_of};
-ghost use Rattle.capture_text.specs.Capture.{written, letter, kind_of, IsByte, IsRound};
+ghost use Rattle.capture_text.specs.Capture.{written, letter, image_word, kind_of, IsByte, IsRound};
 ghost use Rattle.capture_text.specs.Line.{Writes, LineSays};
 
 use crate::Event;
+use crate::lines::{BLANK, cut_at};
 use crate::number::number;
 use frame_grammar::{FrameError, Kind, MAX_BODY, SOH, write_frame};
 use order_meaning::{Bytes, Side};
+use outside::Image;
 use std::alloc::{AllocError, Global};
 
 /// The most bytes of a round.
 const MAX_ROUND: usize = 4096;
+
+/// The largest number of a write or sync at which a life stops.
+const MAX_STOP: u64 = 1_000_000;
 
 /// The byte that a byte of a line stands for: SOH for `|`, and else itself; none outside 32 to 126.
 fn byte_of(byte: u8) -> Option<u8>
@@ -118,12 +125,39 @@ fn read_behind(alloc: Global, side: Side, behind: &[u8]) -> Result<Option<Event>
     }
 }
 
+/// The image of a word.
+fn image_of(word: &[u8]) -> Option<Image>
+    ensures some { IfSome result (λ image. word.now ≡ image_word image) }
+    ensures none { IsNone result → (image : Image) → word.now ≢ image_word image }
+{
+    match word {
+        b"old" => Some(Image::Old),
+        b"new" => Some(Image::New),
+        b"torn" => Some(Image::Torn),
+        _ => None,
+    }
+}
+
+/// The stop of what stands behind `stop `.
+fn stop_of(text: &[u8]) -> Option<Event>
+    ensures { LineSays (codes "stop " ++ text.now) result }
+{
+    let (digits, word) = cut_at(text, BLANK)?;
+    let call = number(digits)?;
+    let image = image_of(word)?;
+    if call < 1 || MAX_STOP < call {
+        return None;
+    }
+    Some(Event::Stop(call, image))
+}
+
 /// The event of a line; none exactly where it is the line of none.
 pub(crate) fn read_event(alloc: Global, line: &[u8]) -> Result<Option<Event>, AllocError>
     ensures { IfOk result (LineSays line.now) }
 {
     match line {
         b"tick" => Ok(Some(Event::Tick)),
+        [b's', b't', b'o', b'p', b' ', text @ ..] => Ok(stop_of(text)),
         [b'a', b't', b' ', digits @ ..] => Ok(number(digits).map(Event::At)),
         [b'c', behind @ ..] => read_behind(alloc, Side::Client, behind),
         [b'v', behind @ ..] => read_behind(alloc, Side::Venue, behind),

@@ -9,6 +9,9 @@ ghost use Rattle.capture_text.specs.Header.{cuts};
 /// The byte that ends a line.
 const LF: u8 = b'\n';
 
+/// What stands between words.
+pub(crate) const BLANK: u8 = b' ';
+
 /// Where a byte stands first in a text.
 fn place_of(text: &[u8], byte: u8) -> Option<usize>
     ensures { result ≡ position (λ b. b == byte) text.now }

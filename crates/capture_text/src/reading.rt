@@ -82,8 +82,8 @@ fn read_lives(alloc: Global, text: &[u8]) -> Result<Lives, CaptureFault>
 /// Reads a capture: the line `fixgate capture 1`; `names A B C D H` with the four CompIDs, each of
 /// 1 to 35 bytes from 33 to 126, and HeartBtInt(108) of 0 to 3,600 seconds; and at least one life,
 /// which is a line `life`, a line for each [`Event`](crate::Event) and a line `end`. LF ends each
-/// line. Bytes may come of a side that is open, and a side closes where it is open and opens where
-/// it is not. Numbers have no zero in front.
+/// line. A stop stands first in its life. Bytes may come of a side that is open, and a side closes
+/// where it is open and opens where it is not. Numbers have no zero in front.
 ///
 /// # Errors
 /// `Line` exactly where this is the first line with which no capture goes on; a text that ends too
