@@ -1,5 +1,6 @@
 -- Inside: the events of a life as they are kept, by marks, numbers and pieces.
 use Rattle.std.specs.Prelude.{ℕ, List, [], ◌∷◌, drop, ⊤}
+use Rattle.kept_pieces.specs.Pieces.{first_piece}
 use Rattle.capture_text.specs.declared.capture.Event.{Event}
 use Rattle.capture_text.specs.declared.capture.Event.TheVariants as event
 use Rattle.capture_text.specs.declared.capture.Line.{Line}
@@ -21,10 +22,6 @@ abbrev pub first_number : List ℕ → ℕ
 first_number [] = 0
 first_number (number ∷ numbers) = number
 
-abbrev pub next_piece : List (List ℕ) → List ℕ
-next_piece [] = []
-next_piece (piece ∷ pieces) = piece
-
 -- the events of marks, each with the next number or the next piece where it takes one
 abbrev pub events_of : List Mark → List ℕ → List (List ℕ) → List Event
 events_of [] numbers pieces = []
@@ -38,9 +35,9 @@ events_of (mark.Opened side ∷ marks) numbers pieces =
 events_of (mark.Closed side ∷ marks) numbers pieces =
     event.Closed side ∷ events_of marks numbers pieces
 events_of (mark.Text side ∷ marks) numbers pieces =
-    event.Text side (next_piece pieces) ∷ events_of marks numbers (drop 1 pieces)
+    event.Text side (first_piece pieces) ∷ events_of marks numbers (drop 1 pieces)
 events_of (mark.Frame side ∷ marks) numbers pieces =
-    event.Frame side (next_piece pieces) ∷ events_of marks numbers (drop 1 pieces)
+    event.Frame side (first_piece pieces) ∷ events_of marks numbers (drop 1 pieces)
 
 -- there are just the numbers and the pieces that the marks take
 abbrev pub AreWhole : List Mark → List ℕ → List (List ℕ) → Type 0

@@ -2,11 +2,10 @@
 
 ghost use Rattle.std.specs.Prelude.{◌≡◌, ◌<◌, ◌++◌, [], ◌∷◌, List, drop, IfSome, IsNone};
 ghost use Rattle.std.specs.Prelude.{OnOk, OnErr};
-ghost use Rattle.std.specs.Prelude.{vec_len, vec_capacity};
 ghost use Rattle.capture_text.specs.declared.capture.Event.{Event};
 ghost use Rattle.capture_text.specs.declared.capture.Mark.{Mark};
 ghost use Rattle.capture_text.specs.Capture.{told_stop, stop_of};
-ghost use Rattle.capture_text.specs.Kept.{event_of, events_of, first_number, next_piece, AreWhole};
+ghost use Rattle.capture_text.specs.Kept.{event_of, events_of, first_number, AreWhole};
 
 use kept_pieces::{Left, Pieces};
 use order_meaning::{Bytes, Names, Side};
@@ -103,18 +102,8 @@ impl<'a> Model for Lines<'a> {
     ghost view = { λ l. events_of l.marks.now l.numbers.now l.pieces };
 }
 
-// Adds a mark, for which there is room.
-fn put_mark(marks: &mut Vec<Mark>, mark: Mark)
-    requires { vec_len marks.old < vec_capacity marks.old }
-    ensures { marks.new.items ≡ marks.old.items ++ mark ∷ [] }
-{
-    if marks.push(mark).is_err() {
-        unreachable!();
-    }
-}
-
-// The next number, which is then behind.
-fn next_number(numbers: &mut &[u64]) -> u64
+// The next number, which is then behind; 0 where none is left.
+fn next_or_zero(numbers: &mut &[u64]) -> u64
     ensures value { result ≡ first_number numbers.old.now }
     ensures rest { numbers.new.now ≡ drop 1 numbers.old.now }
 {
@@ -124,30 +113,19 @@ fn next_number(numbers: &mut &[u64]) -> u64
     }
 }
 
-// The next piece, which is then behind.
-fn next_piece<'a>(pieces: &mut Left<'a>) -> &'a [u8]
-    ensures value { result.now ≡ next_piece pieces.old }
-    ensures rest { pieces.new ≡ drop 1 pieces.old }
-{
-    match pieces.next() {
-        Some(piece) => piece,
-        None => &[],
-    }
-}
-
 // The event of a mark, with the next number or piece where it takes one.
 fn line_of<'a>(mark: Mark, numbers: &mut &[u64], pieces: &mut Left<'a>) -> Line<'a>
     ensures { (marks : List Mark) → events_of (mark ∷ marks) numbers.old.now pieces.old
         ≡ event_of result ∷ events_of marks numbers.new.now pieces.new }
 {
     match mark {
-        Mark::Stop(image) => Line::Stop(next_number(numbers), image),
-        Mark::At => Line::At(next_number(numbers)),
+        Mark::Stop(image) => Line::Stop(next_or_zero(numbers), image),
+        Mark::At => Line::At(next_or_zero(numbers)),
         Mark::Tick => Line::Tick,
         Mark::Opened(side) => Line::Opened(side),
         Mark::Closed(side) => Line::Closed(side),
-        Mark::Text(side) => Line::Text(side, next_piece(pieces)),
-        Mark::Frame(side) => Line::Frame(side, next_piece(pieces)),
+        Mark::Text(side) => Line::Text(side, pieces.next_or_empty()),
+        Mark::Frame(side) => Line::Frame(side, pieces.next_or_empty()),
     }
 }
 
@@ -210,7 +188,7 @@ impl Life {
     {
         self.marks.reserve(1)?;
         self.numbers.push(number)?;
-        put_mark(&mut self.marks, mark);
+        self.marks.push_reserved(mark);
         Ok(())
     }
 
@@ -223,7 +201,7 @@ impl Life {
     {
         self.marks.reserve(1)?;
         self.pieces.push(piece)?;
-        put_mark(&mut self.marks, mark);
+        self.marks.push_reserved(mark);
         Ok(())
     }
 

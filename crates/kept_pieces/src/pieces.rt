@@ -1,6 +1,7 @@
 //! Pieces of bytes, and what is left of them to a reader.
 
-ghost use Rattle.std.specs.Prelude.{◌≡◌, ◌++◌, ◌∷◌, [], IfSome, IsNone, OnOk, OnErr};
+ghost use Rattle.std.specs.Prelude.{◌≡◌, ◌++◌, ◌∷◌, [], drop, OnOk, OnErr};
+ghost use Rattle.kept_pieces.specs.Pieces.{first_piece};
 
 use std::alloc::{AllocError, Global};
 use std::marker::Model;
@@ -62,9 +63,7 @@ impl Pieces {
     {
         self.lengths.reserve(1)?;
         self.bytes.extend_from_slice(piece)?;
-        if self.lengths.push(piece.len()).is_err() {
-            unreachable!();
-        }
+        self.lengths.push_reserved(piece.len());
         Ok(())
     }
 
@@ -80,16 +79,17 @@ impl Pieces {
 }
 
 impl<'a> Left<'a> {
-    /// The next piece, which is then behind.
-    pub fn next(&mut self) -> Option<&'a [u8]>
-        ensures some { IfSome result (λ piece. self.old ≡ piece.now ∷ self.new) }
-        ensures none { IsNone result → self.old ≡ [] }
-        ensures stays { IsNone result → self.new ≡ [] }
+    /// The next piece, which is then behind; no bytes where none is left.
+    pub fn next_or_empty(&mut self) -> &'a [u8]
+        ensures value { result.now ≡ first_piece self.old }
+        ensures rest { self.new ≡ drop 1 self.old }
     {
-        let (length, lengths) = self.lengths.split_first()?;
+        let Some((length, lengths)) = self.lengths.split_first() else {
+            return &[];
+        };
         let (piece, bytes) = self.bytes.split_at(*length);
         self.lengths = lengths;
         self.bytes = bytes;
-        Some(piece)
+        piece
     }
 }

@@ -1,5 +1,6 @@
 -- Inside: the calls on a wire as they are kept, by marks and pieces.
 use Rattle.std.specs.Prelude.{ℕ, List, [], ◌∷◌, drop, true, ⊤}
+use Rattle.kept_pieces.specs.Pieces.{first_piece}
 use Rattle.wires.specs.Wire.{WireCall, Poll, Send, HangUp, Nothing, Opened, Bytes, Closed}
 use Rattle.replay_lines.specs.declared.call_log.Call.{Call}
 use Rattle.replay_lines.specs.declared.call_log.Call.TheVariants as call
@@ -14,20 +15,16 @@ call_of call.Closed = Poll Closed
 call_of (call.Sent piece) = Send piece.now piece.now true
 call_of call.HungUp = HangUp
 
-abbrev pub next_piece : List (List ℕ) → List ℕ
-next_piece [] = []
-next_piece (piece ∷ pieces) = piece
-
 -- the calls of marks, each with the next piece where it takes one
 abbrev pub calls_of : List Mark → List (List ℕ) → List WireCall
 calls_of [] pieces = []
 calls_of (mark.Nothing ∷ marks) pieces = Poll Nothing ∷ calls_of marks pieces
 calls_of (mark.Opened ∷ marks) pieces = Poll Opened ∷ calls_of marks pieces
 calls_of (mark.Bytes ∷ marks) pieces =
-    Poll (Bytes (next_piece pieces)) ∷ calls_of marks (drop 1 pieces)
+    Poll (Bytes (first_piece pieces)) ∷ calls_of marks (drop 1 pieces)
 calls_of (mark.Closed ∷ marks) pieces = Poll Closed ∷ calls_of marks pieces
 calls_of (mark.Sent ∷ marks) pieces =
-    Send (next_piece pieces) (next_piece pieces) true ∷ calls_of marks (drop 1 pieces)
+    Send (first_piece pieces) (first_piece pieces) true ∷ calls_of marks (drop 1 pieces)
 calls_of (mark.HungUp ∷ marks) pieces = HangUp ∷ calls_of marks pieces
 
 -- there are just the pieces that the marks take

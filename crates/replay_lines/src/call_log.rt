@@ -1,9 +1,9 @@
 //! The calls on a wire, as they are kept until they are printed.
 
 ghost use Rattle.std.specs.Prelude.{◌≡◌, ◌<◌, ◌++◌, [], ◌∷◌, List, length, drop, IfSome, IsNone};
-ghost use Rattle.std.specs.Prelude.{OnOk, OnErr, vec_len, vec_capacity};
+ghost use Rattle.std.specs.Prelude.{OnOk, OnErr};
 ghost use Rattle.replay_lines.specs.declared.call_log.Mark.{Mark};
-ghost use Rattle.replay_lines.specs.CallLog.{call_of, calls_of, next_piece, AreWhole};
+ghost use Rattle.replay_lines.specs.CallLog.{call_of, calls_of, AreWhole};
 
 use kept_pieces::{Left, Pieces};
 use std::alloc::{AllocError, Global};
@@ -73,27 +73,6 @@ impl<'a> Model for Calls<'a> {
     ghost view = { λ c. calls_of c.marks.now c.pieces };
 }
 
-// Adds a mark, for which there is room.
-fn put_mark(marks: &mut Vec<Mark>, mark: Mark)
-    requires { vec_len marks.old < vec_capacity marks.old }
-    ensures { marks.new.items ≡ marks.old.items ++ mark ∷ [] }
-{
-    if marks.push(mark).is_err() {
-        unreachable!();
-    }
-}
-
-// The next piece, which is then behind.
-fn next_piece<'a>(pieces: &mut Left<'a>) -> &'a [u8]
-    ensures value { result.now ≡ next_piece pieces.old }
-    ensures rest { pieces.new ≡ drop 1 pieces.old }
-{
-    match pieces.next() {
-        Some(piece) => piece,
-        None => &[],
-    }
-}
-
 // The call of a mark, with the next piece where it takes one.
 fn call_of<'a>(mark: Mark, pieces: &mut Left<'a>) -> Call<'a>
     ensures { (marks : List Mark) → calls_of (mark ∷ marks) pieces.old
@@ -102,9 +81,9 @@ fn call_of<'a>(mark: Mark, pieces: &mut Left<'a>) -> Call<'a>
     match mark {
         Mark::Nothing => Call::Nothing,
         Mark::Opened => Call::Opened,
-        Mark::Bytes => Call::Bytes(next_piece(pieces)),
+        Mark::Bytes => Call::Bytes(pieces.next_or_empty()),
         Mark::Closed => Call::Closed,
-        Mark::Sent => Call::Sent(next_piece(pieces)),
+        Mark::Sent => Call::Sent(pieces.next_or_empty()),
         Mark::HungUp => Call::HungUp,
     }
 }
@@ -156,7 +135,7 @@ impl CallLog {
     {
         self.marks.reserve(1)?;
         self.pieces.push(piece)?;
-        put_mark(&mut self.marks, mark);
+        self.marks.push_reserved(mark);
         Ok(())
     }
 

@@ -6,18 +6,18 @@ use Rattle.capture_text.proofs.capture.Life.push_piece.Goals as goal
 
 pub invariant_of-self-2 : goal.invariant_of-self-2
 invariant_of-self-2 c =
-    let marked : c.put_mark.new.marks.items
+    let marked : c.push_reserved.new.self.items
     ≡ c.self.inside.marks.items ++ c.args.mark ∷ [] = search rules in
-    still_whole c.self.inside.marks.items c.put_mark.new.marks.items c.self.inside.numbers.items
+    still_whole c.self.inside.marks.items c.push_reserved.new.self.items c.self.inside.numbers.items
     c.self.inside.numbers.items c.self.inside.pieces c.push.new.self c.args.mark []
     (c.args.piece.now ∷ []) marked (sym (append-nil c.self.inside.numbers.items))
     c.in_ok-push.ensures.ok c.self.invariant c.requires
 
 pub returns-clause-ok : goal.returns-clause-ok
 returns-clause-ok c =
-    let marked : c.put_mark.new.marks.items
+    let marked : c.push_reserved.new.self.items
     ≡ c.self.inside.marks.items ++ c.args.mark ∷ [] = search rules in
-    one_more c.self.inside.marks.items c.put_mark.new.marks.items c.self.inside.numbers.items
+    one_more c.self.inside.marks.items c.push_reserved.new.self.items c.self.inside.numbers.items
     c.self.inside.numbers.items c.self.inside.pieces c.push.new.self c.args.mark []
     (c.args.piece.now ∷ []) marked (sym (append-nil c.self.inside.numbers.items))
     c.in_ok-push.ensures.ok c.self.invariant ∙ ap (λ (l : List Event). l ++ events_of (c.args.mark

@@ -8,7 +8,7 @@ returns-clause-ok c =
     let lengths = c.self.inside.lengths.items in
     let bytes = c.self.inside.bytes.items in
     let piece = c.args.piece.now in
-    let longer : c.push.new.self.items ≡ lengths ++ length piece ∷ [] = search rules in
+    let longer : c.push_reserved.new.self.items ≡ lengths ++ length piece ∷ [] = search rules in
     let more : c.extend_from_slice.new.self.items ≡ bytes ++ piece = search rules in
     ap (λ ls. cut_by ls c.extend_from_slice.new.self.items) longer
     ∙ ap (cut_by (lengths ++ length piece ∷ [])) more
