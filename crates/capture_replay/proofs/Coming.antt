@@ -2,6 +2,7 @@
 use Rattle.std.proofs.Common.{◌≡◌, ◌∙◌, ℕ, suc, ◌≤◌, Bool, true, false, List, [], ◌∷◌}
 use Rattle.std.proofs.Common.{drop, filter, map, All, refl, sym, ap, subst, arith}
 use Rattle.std.proofs.Common.{if◌then◌else◌}
+use Rattle.std.proofs.lemmas.List.Elements.{All-filter, All-head, All-tail}
 use Rattle.wires.specs.Wire.{Came, Nothing, Opened, Bytes, Closed, Broken}
 use Rattle.wires.specs.Script.{next_of, rest_of}
 use Rattle.wires.specs.Play.{bytes_ahead}
@@ -17,60 +18,24 @@ use Rattle.capture_replay.specs.Rounds.{is_round, arrival, script_of}
 -- each line comes whole at one poll
 short : (side : Side) (line : Event) (rest : List Came) → IsBounded line
     → bytes_ahead (arrival side line ∷ rest) ≤ POLL_LEN
-short Client (event.At ms) rest bounded = omega arith
-short Client event.Tick rest bounded = omega arith
-short Client (event.Opened Client) rest bounded = omega arith
-short Client (event.Opened Venue) rest bounded = omega arith
-short Client (event.Closed Client) rest bounded = omega arith
-short Client (event.Closed Venue) rest bounded = omega arith
 short Client (event.Text Client bytes) rest bounded = bounded.1.1
-short Client (event.Text Venue bytes) rest bounded = omega arith
-short Client (event.Frame Client bytes) rest bounded = bounded.2.1
-short Client (event.Frame Venue bytes) rest bounded = omega arith
-short Venue (event.At ms) rest bounded = omega arith
-short Venue event.Tick rest bounded = omega arith
-short Venue (event.Opened Client) rest bounded = omega arith
-short Venue (event.Opened Venue) rest bounded = omega arith
-short Venue (event.Closed Client) rest bounded = omega arith
-short Venue (event.Closed Venue) rest bounded = omega arith
-short Venue (event.Text Client bytes) rest bounded = omega arith
+short Client (event.Frame Client body) rest bounded = bounded.2.1
 short Venue (event.Text Venue bytes) rest bounded = bounded.1.1
-short Venue (event.Frame Client bytes) rest bounded = omega arith
-short Venue (event.Frame Venue bytes) rest bounded = bounded.2.1
+short Venue (event.Frame Venue body) rest bounded = bounded.2.1
+short side line rest bounded = omega arith
 
-first_of : (line : Event) (lines : List Event) → All IsBounded (line ∷ lines) → IsBounded line
-first_of line lines all = all 0 line (omega arith)
-
-pub rest_of_all : (line : Event) (lines : List Event) → All IsBounded (line ∷ lines)
-    → All IsBounded lines
-rest_of_all line lines all = λ i d within. all (suc i) d (omega (arith, within))
-
-script_short : (side : Side) (lines : List Event) → All IsBounded lines
-    → bytes_ahead (script_of side lines) ≤ POLL_LEN
-script_short side [] all = omega arith
-script_short side (event.At ms ∷ lines) all =
-    script_short side lines (rest_of_all (event.At ms) lines all)
-script_short side (event.Tick ∷ lines) all =
-    short side event.Tick (script_of side lines)
-    (first_of event.Tick lines all)
-script_short side (event.Opened of ∷ lines) all =
-    short side (event.Opened of) (script_of side lines)
-    (first_of (event.Opened of) lines all)
-script_short side (event.Closed of ∷ lines) all =
-    short side (event.Closed of) (script_of side lines)
-    (first_of (event.Closed of) lines all)
-script_short side (event.Text of bytes ∷ lines) all =
-    short side (event.Text of bytes) (script_of side lines)
-    (first_of (event.Text of bytes) lines all)
-script_short side (event.Frame of body ∷ lines) all =
-    short side (event.Frame of body) (script_of side lines)
-    (first_of (event.Frame of body) lines all)
+all_short : (side : Side) (rounds : List Event) → All IsBounded rounds
+    → bytes_ahead (map (arrival side) rounds) ≤ POLL_LEN
+all_short side [] all = omega arith
+all_short side (line ∷ rounds) all =
+    short side line (map (arrival side) rounds) (All-head IsBounded line rounds all)
 
 -- so a poll with room for a round goes on by one
 pub goes_on : (within : Bool) (side : Side) (lines : List Event) → All IsBounded lines
     → drop 1 (script_of side lines) ≡ rest_of within POLL_LEN (script_of side lines)
 goes_on within side lines all =
-    sym (rest_short within POLL_LEN (script_of side lines) (script_short side lines all))
+    sym (rest_short within POLL_LEN (script_of side lines)
+    (all_short side (filter is_round lines) (All-filter is_round IsBounded lines all)))
 
 -- ---- the next line that is a round
 
@@ -84,10 +49,12 @@ module _ (line : Event) (lines rest : List Event) (is : lines ≡ line ∷ rest)
       ∙ ap (λ (b : Bool). if b then line ∷ filter is_round rest else filter is_round rest) round
 
   pub first_bounded : All IsBounded lines → IsBounded line
-  first_bounded all = first_of line rest (subst (λ (l : List Event). All IsBounded l) is all)
+  first_bounded all =
+      All-head IsBounded line rest (subst (λ (l : List Event). All IsBounded l) is all)
 
   pub rest_bounded : All IsBounded lines → All IsBounded rest
-  rest_bounded all = rest_of_all line rest (subst (λ (l : List Event). All IsBounded l) is all)
+  rest_bounded all =
+      All-tail IsBounded line rest (subst (λ (l : List Event). All IsBounded l) is all)
 
 pub none_bounded : (lines : List Event) → lines ≡ [] → All IsBounded lines
 none_bounded lines none = subst (λ (l : List Event). All IsBounded l) (sym none)
@@ -105,12 +72,11 @@ next_first within room Closed rest = refl
 next_first within room Broken rest = refl
 
 module _ (side : Side) (lines rest : List Event) where
-  pub comes : (line : Event) (item : Came) (within : Bool) (room : ℕ)
-      → filter is_round lines ≡ line ∷ filter is_round rest → item ≡ arrival side line
-      → next_of within room (item ∷ []) ≡ next_of within room (script_of side lines)
-  comes line item within room is of =
-      ap (λ (i : Came). next_of within room (i ∷ [])) of
-      ∙ sym (next_first within room (arrival side line) (script_of side rest))
+  pub comes : (line : Event) (within : Bool) (room : ℕ)
+      → filter is_round lines ≡ line ∷ filter is_round rest
+      → next_of within room (arrival side line ∷ []) ≡ next_of within room (script_of side lines)
+  comes line within room is =
+      sym (next_first within room (arrival side line) (script_of side rest))
       ∙ ap (λ (l : List Event). next_of within room (map (arrival side) l)) (sym is)
 
   pub none_comes : (within : Bool) (room : ℕ) → filter is_round lines ≡ []

@@ -8,7 +8,7 @@ ghost use Rattle.capture_text.specs.Capture.{kind_of};
 ghost use Rattle.capture_text.specs.Kept.{event_of};
 ghost use Rattle.capture_text.specs.Line.{IsBounded};
 ghost use Rattle.wires.specs.Wire.{Bytes, Poll, came_by, Fits, within_after};
-ghost use Rattle.wires.specs.Script.{item_of, next_of};
+ghost use Rattle.wires.specs.Script.{next_of};
 ghost use Rattle.wires.specs.MemWire.{plays, noted, lost};
 ghost use Rattle.replay_lines.specs.CallLog.{call_of};
 ghost use Rattle.capture_replay.specs.Rounds.{is_round, arrival};
@@ -22,7 +22,7 @@ use outside::{Calls, Failed, fill};
 use replay_lines::{Call, CallLog};
 use std::alloc::{AllocError, Global};
 use std::marker::Model;
-use wires::{Arrival, Script, Wire};
+use wires::{Arrival, Wire};
 
 /// A wire of one side, on which the lines of a life come, a round a poll, and then nothing. It
 /// fails for want of memory alone.
@@ -87,32 +87,28 @@ fn arrive(within: bool, bytes: &[u8], buf: &mut [u8]) -> Arrival
     Arrival::Bytes(fill(buf, bytes))
 }
 
-/// What a line lets come of a side, as an item of a script.
-fn item(alloc: Global, side: Side, line: Line<'_>) -> Result<Script, AllocError>
-    requires { IsBounded (event_of line) }
-    ensures { IfOk result (λ item. item_of item ≡ arrival side (event_of line.entry)) }
+/// What a line lets come of a side; its bytes are put at the front of the buffer.
+fn give_line(
+    alloc: Global,
+    side: Side,
+    within: bool,
+    line: Line<'_>,
+    buf: &mut [u8],
+) -> Result<Arrival, AllocError>
+    requires room { 0 < length buf.old }
+    requires bounded { IsBounded (event_of line) }
+    ensures came { IfOk result (λ arrived. came_by arrived buf.new ≡
+        next_of within (length buf.old) (arrival side (event_of line.entry) ∷ [])) }
+    ensures fits { IfOk result (λ arrived. Fits arrived buf.new) }
 {
     match line {
-        Line::Opened(of) if of == side => Ok(Script::Opened),
-        Line::Closed(of) if of == side => Ok(Script::Closed),
-        Line::Text(of, bytes) if of == side => Ok(Script::Bytes(bytes.to_vec(alloc)?)),
-        Line::Frame(of, body) if of == side => Ok(Script::Bytes(frame(alloc, side, body)?)),
-        _ => Ok(Script::Nothing),
-    }
-}
-
-/// What comes of this item.
-fn give_item(within: bool, item: &Script, buf: &mut [u8]) -> Arrival
-    requires room { 0 < length buf.old }
-    ensures came { came_by result buf.new ≡
-        next_of within (length buf.old) (item_of item.now ∷ []) }
-    ensures fits { Fits result buf.new }
-{
-    match item {
-        Script::Bytes(bytes) => arrive(within, bytes, buf),
-        Script::Opened if !within => Arrival::Opened,
-        Script::Closed if within => Arrival::Closed,
-        _ => Arrival::Nothing,
+        Line::Opened(of) if of == side && !within => Ok(Arrival::Opened),
+        Line::Closed(of) if of == side && within => Ok(Arrival::Closed),
+        Line::Text(of, bytes) if of == side => Ok(arrive(within, bytes, buf)),
+        Line::Frame(of, body) if of == side => {
+            Ok(arrive(within, &frame(alloc, side, body)?, buf))
+        }
+        _ => Ok(Arrival::Nothing),
     }
 }
 
@@ -209,10 +205,7 @@ impl<'a> LifeWire<'a> {
         ensures left { self.new ≡ record self.old { script = drop 1 self.old.script } }
     {
         match next_round(&mut self.lines) {
-            Some(line) => {
-                let item = item(self.alloc, self.side, line)?;
-                Ok(give_item(self.within, &item, buf))
-            }
+            Some(line) => give_line(self.alloc, self.side, self.within, line, buf),
             None => Ok(Arrival::Nothing),
         }
     }
