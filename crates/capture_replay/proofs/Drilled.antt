@@ -1,6 +1,6 @@
 -- The day of a drill, from what is said of its life.
 use Rattle.std.proofs.Common.{◌≡◌, ◌≢◌, ◌∙◌, ℕ, List, [], length, refl, sym, ap, subst, inl, inr}
-use Rattle.std.proofs.Common.{Result, Ok, Err, All, arith}
+use Rattle.std.proofs.Common.{Result, Ok, Err, All, arith, None, true}
 use Rattle.std.specs.Prelude.{⊤, IsErrAnd}
 use Rattle.std.specs.declared.option.Option.{Option}
 use Rattle.std.specs.Io.KnownBytes.{Appends}
@@ -10,6 +10,8 @@ use Rattle.pair_entries.specs.declared.entry.Entry.{Entry}
 use Rattle.pair_journal.specs.Numbers.{first_numbers, numbers_after}
 use Rattle.wires.specs.Wire.{WireCall}
 use Rattle.gateway_life.specs.declared.end.LifeEnd.{LifeEnd}
+use Rattle.gateway_life.specs.declared.end.LifeEnd.TheVariants as ends
+use Rattle.gateway_life.specs.Watched.{WereCommitted}
 use Rattle.gateway_config.specs.declared.config.Config.{Config}
 use Rattle.gateway_life.specs.Life.{IsJournal}
 use Rattle.gateway_life.specs.Laws.{FirstLivesBegin}
@@ -25,6 +27,7 @@ use Rattle.capture_replay.specs.Replay.{Played, config_with, nothing, end_name}
 use Rattle.capture_replay.specs.Lived.{IsLived, LivesOn}
 use Rattle.capture_replay.specs.Drills.{IsDrilled, Drills, lines_of_drill}
 use Rattle.capture_replay.specs.Rounds.{moment_after}
+use Rattle.capture_replay.specs.Stops.{may_end}
 use Rattle.drop_taps.proofs.Showing.{seen_none}
 use Rattle.capture_replay.proofs.EachLine.{all_bounded}
 use Rattle.capture_replay.proofs.Shown.{are_shown}
@@ -69,6 +72,17 @@ module _ {T : Type 0} (state : T → TapState) (first count : ℕ) (seen now : L
   pub day_left : (left : Names) × (entries : List Entry) × IsJournal left entries image
   day_left = (drill_names, _, day_lived.played.is_left.journal)
 
+-- without a stop all that was committed was seen
+all_committed : (end : LifeEnd) (known found : List Entry) → may_end None end ≡ true
+    → WereCommitted end known found → found ≡ known
+all_committed ends.Done known found whole were = were
+all_committed ends.DiskFault known found whole were = absurd (cc whole)
+all_committed (ends.JournalRefused at) known found whole were = were
+all_committed (ends.NamesDiffer kept given) known found whole were = were
+all_committed ends.JournalFull known found whole were = were
+all_committed (ends.NumbersSpent side) known found whole were = were
+all_committed ends.NoMemory known found whole were = were
+
 -- its lines are within their bounds
 pub day_bounded : (first count : ℕ) (lines : List Event) → lines ≡ drill_events first count
     → IsCapture (drill_capture first count) → All IsBounded lines
@@ -92,7 +106,9 @@ module _ {T : Type 0} (state : T → TapState) (first count : ℕ) (seen now : L
   is : IsDrilled state first count seen now life
   is = record {
     played = lived.played;
-    saw = subst (λ (es : List Entry). HaveSeen state seen now es) (sym lived.committed) lived.saw;
+    saw = subst (λ (es : List Entry). HaveSeen state seen now es)
+        (sym (all_committed end lived.more lived.entries lived.played.whole lived.committed))
+        lived.saw;
   }
 
   -- how many orders of each kind there are

@@ -16,6 +16,7 @@ use Rattle.pair_journal.specs.Numbers.{first_numbers, numbers_after}
 use Rattle.gateway_config.specs.declared.config.Config.{Config}
 use Rattle.gateway_life.specs.declared.end.LifeEnd.{LifeEnd}
 use Rattle.gateway_life.specs.Life.{IsJournal}
+use Rattle.gateway_life.specs.Watched.{WereCommitted}
 use Rattle.message_answers.specs.Answer.{Answers}
 use Rattle.life_laws.specs.Justified.{Leaves}
 use Rattle.gateway_life.specs.Laws.{AreShown, FirstLivesBegin}
@@ -92,7 +93,8 @@ played_more : {T : Type 0} (state : T → TapState) (config : Config) (left : Le
     → lines ≡ get_or lives (length played) lines
     → ArePlayed state config left seen lives played between
     → IsPlayed config lines (left_after left played) life
-    → life.entries ≡ (left_after left played).entries ++ more → HaveSeen state between now more
+    → WereCommitted life.end ((left_after left played).entries ++ more) life.entries
+    → HaveSeen state between now more
     → ArePlayed state config left seen lives (played ++ life ∷ []) now
 played_more state config left seen between now [] played lines life more within there are is
     goes_on saw =
@@ -123,7 +125,8 @@ module _ {T : Type 0} (state : T → TapState) (capture : Capture)
     (lines : List Event) (life : Played) (more : List Entry)
     (within : count < length capture.lives) (there : lines ≡ get_or capture.lives count lines)
     (is : IsPlayed (config_of capture) lines (left_after nothing so_far.played) life)
-    (goes_on : life.entries ≡ (left_after nothing so_far.played).entries ++ more)
+    (goes_on : WereCommitted life.end ((left_after nothing so_far.played).entries ++ more)
+    life.entries)
     (saw : HaveSeen state between now more) where
   -- with this life
   abbrev pub longer : List Played

@@ -22,12 +22,13 @@ use Rattle.gateway_life.specs.Laws.{AreShown}
 use Rattle.gateway_life.specs.Lived.{Told, told, Premises, IsLeft}
 use Rattle.drop_taps.specs.Shown.{TapState}
 use Rattle.gateway_life.specs.Watched.{TapsSaw, WereCommitted}
-use Rattle.gateway_life.specs.declared.end.LifeEnd.TheVariants as ends
 use Rattle.gateway_life.proofs.Living.{same_journal}
 use Rattle.pair_journal.specs.Laws.{HasOneReading}
 use Rattle.capture_text.specs.declared.capture.Event.{Event}
+use Rattle.capture_text.specs.Capture.{stop_of}
 use Rattle.capture_replay.specs.Rounds.{is_round, script_of, moments_from}
-use Rattle.capture_replay.specs.Replay.{Left, is_fault}
+use Rattle.capture_replay.specs.Replay.{Left}
+use Rattle.capture_replay.specs.Stops.{may_end}
 use Rattle.capture_replay.specs.LifeWire.{unplayed}
 use Rattle.capture_replay.specs.Lived.{IsLived, LivesOn}
 use Rattle.capture_replay.proofs.EachLine.{rounds_are}
@@ -63,17 +64,6 @@ done client venue clock = record {
   venue = venue;
   moments = moments_given clock.listed clock.asked;
 }
-
--- but for a fault, what was known to be committed is all
-committed : (end : LifeEnd) (known found : List Entry) → is_fault end ≡ false
-    → WereCommitted end known found → found ≡ known
-committed ends.Done known found whole were = were
-committed ends.DiskFault known found whole were = absurd (cc whole)
-committed (ends.JournalRefused at) known found whole were = were
-committed (ends.NamesDiffer kept given) known found whole were = were
-committed ends.JournalFull known found whole were = were
-committed (ends.NumbersSpent side) known found whole were = were
-committed ends.NoMemory known found whole were = were
 
 -- what a disk, wires and a clock in memory tell
 abbrev pub told_of : DiskState → (client venue : WireState) → ClockState → Told
@@ -123,7 +113,7 @@ module _ {T : Type 0} (state : T → TapState) (seen now : List T) (config : Con
   pub lived : ((i : List ℕ) → HasOneReading i)
       → plays client (script_of Client lines) → plays venue (script_of Venue lines)
       → clock.listed ≡ moments_from before.moment lines → rounds ≡ length (filter is_round lines)
-      → IsImageOf disk image → is_fault end ≡ false
+      → IsImageOf disk image → may_end (stop_of lines) end ≡ true
       → IsJournal config.names before.entries bytes → AreShown config.names
       → Leaves Answers config.names before.entries before.client before.venue
       → IsLived state config lines before seen now (Some client_calls) (Some venue_calls) end
@@ -152,8 +142,8 @@ module _ {T : Type 0} (state : T → TapState) (seen now : List T) (config : Con
         more = saw.more;
         committed = let (found, is, were) = saw.left (only_fresh bytes fail fuse) before.entries
             journal image among in
-            same_journal one config.names image entries found left.journal is
-            ∙ committed end (before.entries ++ saw.more) found whole were;
+            subst (WereCommitted end (before.entries ++ saw.more))
+            (sym (same_journal one config.names image entries found left.journal is)) were;
         saw = saw.seen;
       }
 
@@ -184,7 +174,7 @@ module _ {T : Type 0} (state : T → TapState) (seen now : List T) (config : Con
       → venue0 ≡ unplayed Venue lines → clock0 ≡ record { listed = listed; asked = 0 }
       → listed ≡ moments_from from lines → rounds ≡ length listed - 1 → IsImageOf disk image
       → client.recorded ≡ Some client_calls → venue.recorded ≡ Some venue_calls
-      → is_some (moments_told clock) ≡ true → is_fault end ≡ false
+      → is_some (moments_told clock) ≡ true → may_end (stop_of lines) end ≡ true
       → LivesOn state config lines from bytes seen now (Some client_calls) (Some venue_calls) end
       image
   lives_on one is_disk is_client is_venue is_clock listed_is rounds_is among

@@ -1,7 +1,6 @@
 -- Own: what the lines of a life let come, round by round; docs/DEFINITIONS.md, "A replay".
-use Rattle.std.specs.Prelude.{ℕ, Bool, true, false, List, [], ◌∷◌, map, filter}
-use Rattle.std.specs.Prelude.{Some, None}
-use Rattle.std.specs.declared.option.Option.{Option}
+use Rattle.std.specs.Prelude.{ℕ, Bool, true, false, List, [], ◌∷◌, ◌++◌, map, filter, fold}
+use Rattle.std.specs.Prelude.{if◌then◌else◌}
 use Rattle.frame_grammar.specs.declared.frame.Kind.TheVariants.{Fix42, Fixt11}
 use Rattle.frame_grammar.specs.Frame.{frame_of}
 use Rattle.order_meaning.specs.declared.Side.{Side}
@@ -15,11 +14,6 @@ abbrev pub is_round : Event → Bool
 is_round (event.Stop call image) = false
 is_round (event.At ms) = false
 is_round event = true
-
--- the moment that a line tells
-abbrev pub told_moment : Event → Option ℕ
-told_moment (event.At ms) = Some ms
-told_moment event = None
 
 -- what a line lets come of a side
 abbrev pub arrival : Side → Event → Came
@@ -37,15 +31,16 @@ arrival side event = Nothing
 abbrev pub script_of : Side → List Event → List Came
 script_of side life = map (arrival side) (filter is_round life)
 
--- the moment that the clock says behind lines, from this one on
+-- the moment that the clock says behind a line, and behind lines
+abbrev pub now_after : ℕ → Event → ℕ
+now_after now (event.At ms) = ms
+now_after now event = now
+
 abbrev pub moment_after : ℕ → List Event → ℕ
-moment_after now [] = now
-moment_after now (event.At ms ∷ life) = moment_after ms life
-moment_after now (event ∷ life) = moment_after now life
+moment_after now life = fold now_after now life
 
 -- the moment of each round, from this one on, and that of the end
 abbrev pub moments_from : ℕ → List Event → List ℕ
 moments_from now [] = now ∷ []
-moments_from now (event.Stop call image ∷ life) = moments_from now life
-moments_from now (event.At ms ∷ life) = moments_from ms life
-moments_from now (event ∷ life) = now ∷ moments_from now life
+moments_from now (event ∷ life) =
+    (if is_round event then now ∷ [] else []) ++ moments_from (now_after now event) life

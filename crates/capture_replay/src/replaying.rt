@@ -22,8 +22,8 @@ use std::alloc::Global;
 /// Lives the lives of a capture one after another over a disk in memory, the first over an unborn
 /// one. Each side's wire gives what the lines of that side say, round by round, and the clock says
 /// the moments of the `at` lines; it runs on from life to life, from 0 at the first. A life with a
-/// stop ends at it by a disk fault, and the next one begins with the image that it leaves. Each life
-/// has its lines in one put, and then come those of the journal that the last has left.
+/// stop ends at it by a disk fault, and the next one begins with the image that it leaves. The
+/// lines of each life are one put, and then those of the journal that the last has left.
 ///
 /// # Errors
 /// `OutputFault` only where the sink's count of faults rose in this call; `NoMemory` for want of

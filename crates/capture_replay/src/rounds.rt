@@ -2,7 +2,7 @@
 
 ghost use Rattle.std.specs.Prelude.{◌≡◌, ◌-◌, length, IfOk};
 ghost use Rattle.capture_text.specs.Kept.{event_of};
-ghost use Rattle.capture_replay.specs.Rounds.{is_round, told_moment, moment_after, moments_from};
+ghost use Rattle.capture_replay.specs.Rounds.{is_round, now_after, moment_after, moments_from};
 
 use capture_text::{Life, Line};
 use std::alloc::{AllocError, Global};
@@ -14,13 +14,13 @@ pub(crate) fn is_round(line: Line<'_>) -> bool
     !matches!(line, Line::Stop(..) | Line::At(_))
 }
 
-/// The moment that a line tells.
-fn told_moment(line: Line<'_>) -> Option<u64>
-    ensures { result ≡ told_moment (event_of line.entry) }
+/// The moment that the clock says behind a line.
+fn now_after(now: u64, line: Line<'_>) -> u64
+    ensures { result ≡ now_after now (event_of line.entry) }
 {
     match line {
-        Line::At(ms) => Some(ms),
-        _ => None,
+        Line::At(ms) => ms,
+        _ => now,
     }
 }
 
@@ -32,9 +32,7 @@ pub(crate) fn moment_after(from: u64, life: &Life) -> u64
     let mut now = from;
     let mut left = life.lines();
     while let Some(line) = left.next() {
-        if let Some(ms) = told_moment(line) {
-            now = ms;
-        }
+        now = now_after(now, line);
     }
     now
 }
@@ -50,9 +48,8 @@ pub(crate) fn moments_of(alloc: Global, from: u64, life: &Life) -> Result<Vec<u6
     while let Some(line) = left.next() {
         if is_round(line) {
             moments.push(now)?;
-        } else if let Some(ms) = told_moment(line) {
-            now = ms;
         }
+        now = now_after(now, line);
     }
     moments.push(now)?;
     Ok(moments)

@@ -53,7 +53,7 @@ may_stand before (event.Text Venue bytes) (are, round) is = (is, are, round)
 may_stand before (event.Frame Client body) (are, sound, round) is = (is, are, sound, round)
 may_stand before (event.Frame Venue body) (are, sound, round) is = (is, are, sound, round)
 
-is_bounded : (before : List Event) (e : Event) → MayStand before e → IsBounded e
+pub is_bounded : (before : List Event) (e : Event) → MayStand before e → IsBounded e
 is_bounded before (event.Stop call image) (is, some, small) = (some, small)
 is_bounded before (event.At ms) small = small
 is_bounded before event.Tick may = tt

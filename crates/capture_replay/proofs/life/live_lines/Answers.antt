@@ -1,9 +1,9 @@
 use Rattle.std.proofs.Common.{◌≡◌, ◌-◌, [], false, true, rules, length, Some}
 use Rattle.std.specs.Prelude.{is_some}
-use Rattle.outside.specs.declared.mem_disk.Fuse.TheVariants.{Unlit}
 use Rattle.wires.specs.Clock.{moments_told}
 use Rattle.drop_taps.proofs.Showing.{seen_none}
-use Rattle.capture_replay.specs.Replay.{is_fault}
+use Rattle.capture_text.specs.Capture.{stop_of}
+use Rattle.capture_replay.specs.Stops.{fuse_of, may_end}
 use Rattle.capture_replay.proofs.Living.{lives_on}
 use Rattle.capture_replay.proofs.life.live_lines.Goals as goal
 
@@ -18,9 +18,9 @@ returns-clause-lived g c =
     in
     let client_told : live.new.client.recorded ≡ Some c.in-Some.client = search rules in
     let venue_told : live.new.venue.recorded ≡ Some c.in-Some-venue.venue = search rules in
-    let whole : is_fault live.result ≡ false = search rules in
+    let whole : may_end (stop_of c.args.life.now) live.result ≡ true = search rules in
     lives_on _ c.args.taps.now.items live.new.taps.items c.args.config.now c.args.life.now
-    c.new-disk.result live.new.disk c.new-client.result live.new.client c.new-venue.result
+    c.disk_of-disk.result live.new.disk c.new-client.result live.new.client c.new-venue.result
     live.new.venue c.new-clock.result live.new.clock live.result c.rounds_of-rounds.result
     (record {
       taps = live.ensures.taps;
@@ -29,8 +29,9 @@ returns-clause-lived g c =
       venue_plays = live.ensures.venue_plays;
       follows = live.ensures.follows;
     })
-    c.args.from c.args.image.items c.new.result.items
-    c.in_ok-moments.moments.items c.in_ok-image.image.items Unlit c.in-Some.client c.in-Some-venue.venue
-    c.an_image_has_one_reading.ensures c.new-disk.ensures c.new-client.ensures c.new-venue.ensures
+    c.args.from c.args.image.items [] c.in_ok-moments.moments.items
+    c.in_ok-image.image.items (fuse_of c.stop-stop.result) c.in-Some.client c.in-Some-venue.venue
+    c.an_image_has_one_reading.ensures c.disk_of-disk.ensures c.new-client.ensures
+    c.new-venue.ensures
     c.new-clock.ensures c.in_ok-moments.ensures rounds c.in_ok-image.ensures.among
     client_told venue_told clock_told whole
