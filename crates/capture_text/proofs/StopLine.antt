@@ -89,3 +89,5 @@ module _ (text digits word : List ℕ) (cut : cuts 32 text ≡ digits ∷ cuts 3
       some,
       small,
     )
+
+pub ruleset what_stops = (no_blank, no_number, no_image, out_of_bounds, is_stop)

@@ -35,7 +35,7 @@ image_word image.Torn = codes "torn"
 -- the line of an event
 abbrev pub line_of : Event → List ℕ
 line_of (event.Stop call image) =
-    join_with_byte 32 (codes "stop" ∷ decimal call ∷ image_word image ∷ [])
+    codes "stop " ++ decimal call ++ (codes " " ++ image_word image)
 line_of (event.At ms) = codes "at " ++ decimal ms
 line_of event.Tick = codes "tick"
 line_of (event.Opened side) = letter side ++ codes "+"

@@ -138,17 +138,25 @@ fn image_of(word: &[u8]) -> Option<Image>
     }
 }
 
-/// The stop of what stands behind `stop `.
+/// What stands behind `stop `.
+#[tactic(auto, using(crate::proofs::StopLine::what_stops))]
 fn stop_of(text: &[u8]) -> Option<Event>
     ensures { LineSays (codes "stop " ++ text.now) result }
 {
-    let (digits, word) = cut_at(text, BLANK)?;
-    let call = number(digits)?;
-    let image = image_of(word)?;
-    if call < 1 || MAX_STOP < call {
+    let Some((digits, word)) = cut_at(text, BLANK) else {
         return None;
+    };
+    let Some(call) = number(digits) else {
+        return None;
+    };
+    let Some(image) = image_of(word) else {
+        return None;
+    };
+    if 1 <= call && call <= MAX_STOP {
+        Some(Event::Stop(call, image))
+    } else {
+        None
     }
-    Some(Event::Stop(call, image))
 }
 
 /// The event of a line; none exactly where it is the line of none.
