@@ -1,12 +1,13 @@
 -- The lines of a life, one more at a time.
 use Rattle.std.proofs.Common.{◌≡◌, ◌∙◌, ℕ, zero, suc, ◌+◌, ◌<◌, List, [], ◌∷◌}
 use Rattle.std.proofs.Common.{◌++◌, length, get_or, filter, All, Bool, true, false}
-use Rattle.std.proofs.Common.{refl, sym, ap, append_assoc, append-nil, arith, if◌then◌else◌}
+use Rattle.std.proofs.Common.{refl, sym, ap, append_assoc, arith, if◌then◌else◌}
 use Rattle.capture_text.specs.declared.capture.Event.{Event}
 use Rattle.capture_text.specs.Capture.{MayStand, AreEvents}
 use Rattle.capture_text.specs.Line.{IsBounded}
 use Rattle.capture_text.proofs.Standing.{is_bounded}
-use Rattle.capture_replay.specs.Rounds.{is_round, now_after, moment_after, moments_from}
+use Rattle.capture_replay.specs.Rounds.{is_round, now_after, moment_after}
+use Rattle.capture_replay.specs.Rounds.{moments_at, moments_from}
 
 -- ---- bounds
 
@@ -22,33 +23,19 @@ all_bounded life events = bounded_in [] life events
 
 -- ---- moments
 
-module _ (line : Event) (left rest : List Event) (is : left ≡ line ∷ rest)
-    (moments all : List ℕ) (now : ℕ) (was : moments ++ moments_from now left ≡ all) where
-  one_more : (round : Bool) → is_round line ≡ round
-      → (moments ++ (if round then now ∷ [] else [])) ++ moments_from (now_after now line) rest
-      ≡ all
-  one_more round of =
-      append_assoc moments (if round then now ∷ [] else []) (moments_from (now_after now line) rest)
-      ∙ ap (λ (l : List ℕ). moments ++ l)
-      (ap (λ (b : Bool). (if b then now ∷ [] else []) ++ moments_from (now_after now line) rest)
-      (sym of) ∙ sym (ap (moments_from now) is)) ∙ was
-
-  pub round_more : is_round line ≡ true
-      → (moments ++ now ∷ []) ++ moments_from (now_after now line) rest ≡ all
-  round_more = one_more true
-
-  pub other_more : is_round line ≡ false
-      → moments ++ moments_from (now_after now line) rest ≡ all
-  other_more of =
-      ap (λ (l : List ℕ). l ++ moments_from (now_after now line) rest) (sym (append-nil moments))
-      ∙ one_more false of
+pub one_more : (line : Event) (left rest : List Event) (moments all : List ℕ) (now : ℕ)
+    → left ≡ line ∷ rest → moments ++ moments_from now left ≡ all
+    → (moments ++ moments_at now line) ++ moments_from (now_after now line) rest ≡ all
+one_more line left rest moments all now is was =
+    append_assoc moments (moments_at now line) (moments_from (now_after now line) rest)
+    ∙ ap (λ (l : List ℕ). moments ++ l) (sym (ap (moments_from now) is)) ∙ was
 
 pub at_end : (left : List Event) (moments all : List ℕ) (now : ℕ) → left ≡ []
     → moments ++ moments_from now left ≡ all → moments ++ now ∷ [] ≡ all
 at_end left moments all now none was =
     ap (λ l. moments ++ moments_from now l) (sym none) ∙ was
 
-pub ruleset moment_more = (round_more, other_more, at_end)
+pub ruleset moment_more = (one_more, at_end)
 
 -- as many moments as rounds, and that of the end
 pub rounds_are : (now : ℕ) (life : List Event)

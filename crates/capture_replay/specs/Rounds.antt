@@ -39,8 +39,12 @@ now_after now event = now
 abbrev pub moment_after : ℕ → List Event → ℕ
 moment_after now life = fold now_after now life
 
+-- the moment of a line that is a round
+abbrev pub moments_at : ℕ → Event → List ℕ
+moments_at now event = if is_round event then now ∷ [] else []
+
 -- the moment of each round, from this one on, and that of the end
 abbrev pub moments_from : ℕ → List Event → List ℕ
 moments_from now [] = now ∷ []
 moments_from now (event ∷ life) =
-    (if is_round event then now ∷ [] else []) ++ moments_from (now_after now event) life
+    moments_at now event ++ moments_from (now_after now event) life

@@ -1,8 +1,9 @@
 //! The moments of the rounds of a life.
 
-ghost use Rattle.std.specs.Prelude.{◌≡◌, ◌-◌, length, IfOk};
+ghost use Rattle.std.specs.Prelude.{◌≡◌, ◌-◌, ◌++◌, length, IfOk, OnOk};
 ghost use Rattle.capture_text.specs.Kept.{event_of};
-ghost use Rattle.capture_replay.specs.Rounds.{is_round, now_after, moment_after, moments_from};
+ghost use Rattle.capture_replay.specs.Rounds.{is_round, now_after, moment_after};
+ghost use Rattle.capture_replay.specs.Rounds.{moments_at, moments_from};
 
 use capture_text::{Life, Line};
 use std::alloc::{AllocError, Global};
@@ -37,6 +38,17 @@ pub(crate) fn moment_after(from: u64, life: &Life) -> u64
     now
 }
 
+/// Adds the moment of a line that is a round.
+fn push_round(moments: &mut Vec<u64>, now: u64, line: Line<'_>) -> Result<(), AllocError>
+    ensures { OnOk result (moments.new.items ≡
+        moments.old.items ++ moments_at now (event_of line.entry)) }
+{
+    if is_round(line) {
+        moments.push(now)?;
+    }
+    Ok(())
+}
+
 /// The moment of each round, and that of the end: this one before the first that a line tells.
 #[tactic(auto, using(crate::proofs::EachLine::moment_more))]
 pub(crate) fn moments_of(alloc: Global, from: u64, life: &Life) -> Result<Vec<u64>, AllocError>
@@ -46,9 +58,7 @@ pub(crate) fn moments_of(alloc: Global, from: u64, life: &Life) -> Result<Vec<u6
     let mut now = from;
     let mut left = life.lines();
     while let Some(line) = left.next() {
-        if is_round(line) {
-            moments.push(now)?;
-        }
+        push_round(&mut moments, now, line)?;
         now = now_after(now, line);
     }
     moments.push(now)?;
