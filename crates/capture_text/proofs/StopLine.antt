@@ -86,8 +86,7 @@ module _ (text digits word : List ℕ) (cut : cuts 32 text ≡ digits ∷ cuts 3
           ∙ ap (λ (d : List ℕ). d ∷ cuts 32 word) number
           ∙ ap (λ (w : List ℕ). decimal call ∷ cuts 32 w) named
           ∙ ap (λ (ws : List (List ℕ)). decimal call ∷ ws) (one_word image))),
-      some,
-      small,
+      (some, small),
     )
 
 pub ruleset what_stops = (no_blank, no_number, no_image, out_of_bounds, is_stop)
