@@ -8,18 +8,24 @@ use Rattle.wires.specs.Script.{next_of, rest_of}
 use Rattle.wires.specs.Play.{bytes_ahead}
 use Rattle.wires.specs.declared.wire.TheConstants.{POLL_LEN}
 use Rattle.wires.proofs.Played.{rest_short}
+use Rattle.frame_grammar.specs.Frame.{frame_of}
 use Rattle.order_meaning.specs.declared.Side.{Side}
 use Rattle.order_meaning.specs.declared.Side.TheVariants.{Client, Venue}
 use Rattle.capture_text.specs.declared.capture.Event.{Event}
 use Rattle.capture_text.specs.declared.capture.Event.TheVariants as event
+use Rattle.capture_text.specs.Capture.{kind_of}
 use Rattle.capture_text.specs.Line.{IsBounded}
 use Rattle.capture_replay.specs.Rounds.{is_round, arrival, script_of}
 
 -- each line comes whole at one poll
 short : (side : Side) (line : Event) (rest : List Came) → IsBounded line
     → bytes_ahead (arrival side line ∷ rest) ≤ POLL_LEN
+short Client (event.Opened Client) rest bounded = omega arith
+short Client (event.Closed Client) rest bounded = omega arith
 short Client (event.Text Client bytes) rest bounded = bounded.1.1
 short Client (event.Frame Client body) rest bounded = bounded.2.1
+short Venue (event.Opened Venue) rest bounded = omega arith
+short Venue (event.Closed Venue) rest bounded = omega arith
 short Venue (event.Text Venue bytes) rest bounded = bounded.1.1
 short Venue (event.Frame Venue body) rest bounded = bounded.2.1
 short side line rest bounded = omega arith
@@ -61,6 +67,14 @@ none_bounded lines none = subst (λ (l : List Event). All IsBounded l) (sym none
     (λ k d within. absurd (omega (arith, within)))
 
 pub ruleset looking = (at_round, at_none, first_bounded, rest_bounded)
+
+-- a frame of a side
+pub frame_comes : (side of : Side) (body : List ℕ) → of ≡ side
+    → Bytes (frame_of (kind_of side) body) ≡ arrival side (event.Frame of body)
+frame_comes Client Client body same = refl
+frame_comes Client Venue body same = absurd (cc same)
+frame_comes Venue Client body same = absurd (cc same)
+frame_comes Venue Venue body same = refl
 
 -- what comes next is of the first item
 next_first : (within : Bool) (room : ℕ) (item : Came) (rest : List Came)
