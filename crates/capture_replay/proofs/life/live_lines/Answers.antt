@@ -1,4 +1,4 @@
-use Rattle.std.proofs.Common.{◌≡◌, ◌-◌, [], false, true, rules, length, Some}
+use Rattle.std.proofs.Common.{◌≡◌, ◌-◌, [], true, rules, length, Some}
 use Rattle.std.specs.Prelude.{is_some}
 use Rattle.wires.specs.Clock.{moments_told}
 use Rattle.drop_taps.proofs.Showing.{seen_none}
