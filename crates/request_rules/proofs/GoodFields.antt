@@ -10,7 +10,6 @@ use Rattle.order_meaning.specs.declared.fault.Fault.{Fault}
 use Rattle.order_meaning.specs.declared.fault.Fault.TheVariants.{NotSupported}
 use Rattle.row_values.specs.Kinds.{Kind, judge}
 use Rattle.dict_fix42.specs.Message.{message42, table_of}
-use Rattle.row_slots.specs.Slots.{no_slots, with_items}
 use Rattle.request_rules.specs.declared.reading.Good.{Good}
 use Rattle.request_rules.specs.Good.{IsGood, IsRead, said, table}
 
@@ -28,13 +27,11 @@ module _ (msg_type : List ℕ) (fields : List Field) (stopped : Option SplitFaul
 
   module _ (good : Good) (is : Some (table good) ≡ table_of msg_type)
       (clean : (good.fields.now ≡ fields) × (stopped ≡ None)
-      × (first_fault judge (table good) fields ≡ None))
-      (filled : good.slots ≡ with_items good.fields.now (table good).items no_slots) where
+      × (first_fault judge (table good) fields ≡ None)) where
     pub good_is : IsGood good
     good_is = record {
       typed = (msg_type, sym is);
       none = ap (first_fault judge (table good)) clean.0 ∙ clean.2;
-      filled = filled;
     }
 
     pub read_is : IsRead msg_type fields stopped (said good)

@@ -1,5 +1,6 @@
 pub mod DateWritten
 pub mod DatesUp
+pub mod FieldsUp
 pub mod GoUp
 pub mod GoodFields
 pub mod KindsUp
@@ -8,7 +9,6 @@ pub mod PartiesPut
 pub mod PartiesUp
 pub mod PutUp
 pub mod SenseUp
-pub mod SlotsUp
 pub mod Sound42
 pub mod SoundUp
 pub mod TablesUp

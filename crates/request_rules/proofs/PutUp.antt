@@ -5,13 +5,11 @@ use Rattle.std.proofs.lemmas.List.{at_drop_all, at_drop_more}
 use Rattle.std.proofs.Common.{Bool, false, codes}
 use Rattle.std.specs.Prelude.{◌==◌, if◌then◌else◌}
 use Rattle.std.specs.Str.{bytes_eq}
-use Rattle.std.specs.List.{flat_map}
+use Rattle.std.specs.List.{flat_map, list_all}
 use Rattle.field_groups.specs.Field.{Field, body_of}
 use Rattle.message_tables.specs.FirstFault.{first_fault, message_in}
 use Rattle.message_tables.specs.Tables.{Table, first_of, or_else}
 use Rattle.order_meaning.specs.Request.{Request, RequestKind, New, Cancel, Replace, Status}
-use Rattle.row_slots.specs.Slots.{no_slots, with_items}
-use Rattle.row_slots.specs.declared.slots.Slot.{Slot}
 use Rattle.row_values.specs.Kinds.{Kind, judge}
 use Rattle.rows_fix42.specs.Header.{table as table42}
 use Rattle.rule_rows.specs.Rows.{have_written_lines}
@@ -19,36 +17,36 @@ use Rattle.dict_fix42.specs.Message.{table_of}
 use Rattle.dict_fix42.specs.Requests as requests42
 use Rattle.dict_fix42.specs.Sense.{request42, request_of}
 use Rattle.request_rules.specs.declared.rules.Rule.{Rule as CodeRule}
-use Rattle.request_rules.specs.CodeRules.{lacked, rule_of, wrote}
+use Rattle.request_rules.specs.CodeRules.{is_read, lacked, rule_of, wrote}
 use Rattle.request_rules.specs.Lack.{lack_if}
 use Rattle.request_rules.specs.Good.{IsTable42}
 use Rattle.request_rules.specs.Put.{IsPut}
 use Rattle.request_rules.specs.Rules.{up_rules}
 use Rattle.request_rules.proofs.LacksUp.{lack_is}
-use Rattle.request_rules.proofs.SlotsUp.{HasSlots, content_read, lack_read}
+use Rattle.request_rules.proofs.FieldsUp.{HasRows, content_read, lack_read}
 
 -- ---- the four tables
 
-new_slots : HasSlots (table42 68 requests42.new_order)
-new_slots =
-    record { rows = refl; can = refl; own = refl; stand = refl; month = refl; day = refl }
+new_rows : HasRows (table42 68 requests42.new_order)
+new_rows =
+    record { own = refl; out = refl; texts = refl; decimals = refl; month = refl; day = refl }
 
-cancel_slots : HasSlots (table42 70 requests42.cancel_request)
-cancel_slots =
-    record { rows = refl; can = refl; own = refl; stand = refl; month = refl; day = refl }
+cancel_rows : HasRows (table42 70 requests42.cancel_request)
+cancel_rows =
+    record { own = refl; out = refl; texts = refl; decimals = refl; month = refl; day = refl }
 
-replace_slots : HasSlots (table42 71 requests42.replace_request)
-replace_slots =
-    record { rows = refl; can = refl; own = refl; stand = refl; month = refl; day = refl }
+replace_rows : HasRows (table42 71 requests42.replace_request)
+replace_rows =
+    record { own = refl; out = refl; texts = refl; decimals = refl; month = refl; day = refl }
 
-status_slots : HasSlots (table42 72 requests42.status_request)
-status_slots =
-    record { rows = refl; can = refl; own = refl; stand = refl; month = refl; day = refl }
+status_rows : HasRows (table42 72 requests42.status_request)
+status_rows =
+    record { own = refl; out = refl; texts = refl; decimals = refl; month = refl; day = refl }
 
 -- what is known of the table of a request
 pub record IsKnown (table : Table Kind) : Type 0 where
   pub own : table_of (table.letter ∷ []) ≡ Some table
-  pub slots : HasSlots table
+  pub rows : HasRows table
   pub written : have_written_lines table.items ≡ true
   pub kind : RequestKind
   pub request : (f : RequestKind → Request)
@@ -59,19 +57,19 @@ pub record IsKnown (table : Table Kind) : Type 0 where
 
 new_known : IsKnown (table42 68 requests42.new_order)
 new_known =
-    record { own = refl; slots = new_slots; written = refl; kind = New; request = λ f. refl }
+    record { own = refl; rows = new_rows; written = refl; kind = New; request = λ f. refl }
 
 cancel_known : IsKnown (table42 70 requests42.cancel_request)
 cancel_known =
-    record { own = refl; slots = cancel_slots; written = refl; kind = Cancel; request = λ f. refl }
+    record { own = refl; rows = cancel_rows; written = refl; kind = Cancel; request = λ f. refl }
 
 replace_known : IsKnown (table42 71 requests42.replace_request)
 replace_known =
-    record { own = refl; slots = replace_slots; written = refl; kind = Replace; request = λ f. refl }
+    record { own = refl; rows = replace_rows; written = refl; kind = Replace; request = λ f. refl }
 
 status_known : IsKnown (table42 72 requests42.status_request)
 status_known =
-    record { own = refl; slots = status_slots; written = refl; kind = Status; request = λ f. refl }
+    record { own = refl; rows = status_rows; written = refl; kind = Status; request = λ f. refl }
 
 pub known : (table : Table Kind) → IsTable42 table → IsKnown table
 known table (msg_type, is) =
@@ -99,51 +97,26 @@ known table (msg_type, is) =
 pub lines_written : (table : Table Kind) → IsTable42 table → have_written_lines table.items ≡ true
 lines_written table is = (known table is).written
 
--- ---- rules of the code
-
-module _ (table : Table Kind) (fields : List Field) (slots : List Slot) where
-  contents_of : (rules : List CodeRule)
-      → flat_map (λ rule. wrote table fields slots (rule_of rule)) rules
-      ≡ flat_map (wrote table fields slots) (map rule_of rules)
-  contents_of [] = refl
-  contents_of (rule ∷ rules) =
-      ap (λ fs. wrote table fields slots (rule_of rule) ++ fs) (contents_of rules)
-
-  lacks_of : (rules : List CodeRule)
-      → first_of (λ rule. lacked table fields slots (rule_of rule)) rules
-      ≡ first_of (lacked table fields slots) (map rule_of rules)
-  unfolding first_of
-  lacks_of [] = refl
-  lacks_of (rule ∷ rules) =
-      ap (or_else (lacked table fields slots (rule_of rule))) (lacks_of rules)
-
 -- ---- what is put
 
 module _ (table : Table Kind) (is : IsTable42 table) (fields : List Field)
     (none : first_fault judge table fields ≡ None) (rules : List CodeRule)
-    (are : map rule_of rules ≡ up_rules) (slots : List Slot)
-    (filled : slots ≡ with_items fields table.items no_slots) where
-  pub lack_told : first_of (λ rule. lacked table fields slots (rule_of rule)) rules
+    (are : map rule_of rules ≡ up_rules) (read : list_all is_read rules ≡ true) where
+  pub lack_told : first_of (lacked fields) rules
       ≡ lack_if (request42 (message_in judge table fields))
   lack_told =
       let k = known table is in
       let m = message_in judge table fields in
-      lacks_of table fields slots rules
-      ∙ (λ i. first_of (lacked table fields (filled i)) (are i))
-      ∙ lack_read table k.slots fields none ∙ sym (lack_is k.kind m)
+      lack_read table k.rows fields none rules are ∙ sym (lack_is k.kind m)
       ∙ sym (ap lack_if (k.request (λ kind. request_of kind m)))
 
-  pub put : (before after : List ℕ)
-      → first_of (λ rule. lacked table fields slots (rule_of rule)) rules ≡ None
-      → after ≡ before
-      ++ body_of (flat_map (λ rule. wrote table fields slots (rule_of rule)) rules)
+  pub put : (before after : List ℕ) → first_of (lacked fields) rules ≡ None
+      → after ≡ before ++ body_of (flat_map (wrote table fields) rules)
       → IsPut (message_in judge table fields) before after
   put before after lack bytes = record {
     said = sym lack_told ∙ lack;
     bytes = bytes ∙ ap (λ fs. before ++ body_of fs)
-        (contents_of table fields slots rules
-        ∙ (λ i. flat_map (wrote table fields (filled i)) (are i))
-        ∙ content_read table (known table is).slots fields none);
+        (content_read table (known table is).rows fields none rules are read);
   }
 
 -- ---- the first lack of rules, rule by rule

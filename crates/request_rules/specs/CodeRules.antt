@@ -1,16 +1,19 @@
--- Inside: what the code writes by a rule of fields, whose rows have slots.
-use Rattle.std.specs.Prelude.{ℕ, List, [], Option}
+-- Inside: what the code writes by a rule, straight from fields.
+use Rattle.std.specs.Prelude.{ℕ, Bool, true, false, not, List, [], Option, Some, None, option_map}
+use Rattle.std.specs.Prelude.{option_and_then}
 use Rattle.std.specs.List.{flat_map}
+use Rattle.std.specs.Result.{result_ok}
+use Rattle.typed_fields.specs.Dec.{dec_text, read_dec}
 use Rattle.field_groups.specs.Field.{Field}
 use Rattle.message_tables.specs.Content.{cell_fields, group_fields, line_fields}
 use Rattle.message_tables.specs.FirstFault.{message_in}
-use Rattle.message_tables.specs.Tables.{Said, Table, Tag, ◌>>=◌, code_of, lines_of}
+use Rattle.message_tables.specs.Tables.{Row, Said, Table, Tag, ◌>>=◌, code_of, lines_of, row_at}
+use Rattle.message_tables.specs.Tables.{rows_of, value_at}
 use Rattle.party_translate.specs.Parties.{line_of}
-use Rattle.row_slots.specs.Slots.{slot_at, slot_said, slot_value}
-use Rattle.row_slots.specs.declared.slots.Slot.{Slot}
 use Rattle.row_values.specs.Lines.{party_cells}
 use Rattle.row_values.specs.Kinds.{DayOf, Kind, Value, judge, said}
-use Rattle.value_kinds.specs.ValueKind.{MonthYear}
+use Rattle.value_kinds.specs.ValueKind.{MonthYear, Price, Qty}
+use Rattle.dict_fix42.specs.Requests.{replace_request}
 use Rattle.request_rules.specs.declared.rules.Rule.{Rule as CodeRule}
 use Rattle.request_rules.specs.declared.rules.Rule.TheVariants as rules
 use Rattle.request_rules.specs.declared.reading.Good.{Good}
@@ -21,6 +24,7 @@ use Rattle.request_rules.specs.Rules.{party_lines, rule_lack, time_up, type_up}
 
 abbrev pub rule_of : CodeRule → Rule
 rule_of (rules.Same tag) = Same tag
+rule_of (rules.Decimal tag) = Same tag
 rule_of (rules.Moved from to) = Moved from to
 rule_of (rules.Listed from to listed) = Listed from to listed.now
 rule_of rules.Parties = Parties
@@ -41,38 +45,61 @@ byte_of said = said >>= code_of
 abbrev pub party_fields : ℕ → Said → List Field
 party_fields role id = flat_map (λ line. line_fields (party_cells line)) (line_of role id)
 
-module _ (table : Table Kind) (fields : List Field) (filled : List Slot) where
-  abbrev pub said_by : ℕ → Said
-  said_by tag = slot_said fields (slot_at filled tag)
+-- tags of decimal numbers, which may be spelled otherwise; G has each of them
+abbrev pub is_number : Option (Row Kind) → Bool
+is_number None = false
+is_number (Some row) = of_kind row.kind
+  where
+    of_kind : Kind → Bool
+    of_kind (Value Qty) = true
+    of_kind (Value Price) = true
+    of_kind kind = false
 
-  -- the value of a slot, as it stands
+abbrev pub is_decimal : ℕ → Bool
+is_decimal tag = is_number (row_at tag (flat_map rows_of replace_request))
+
+-- whether a rule of the code respells just the decimal numbers; what is moved is one
+abbrev pub is_read : CodeRule → Bool
+is_read (rules.Same tag) = not (is_decimal tag)
+is_read (rules.Decimal tag) = is_decimal tag
+is_read rule = true
+
+-- the decimal number that a text spells, if it spells one, in its canonical spelling
+abbrev pub decimal_text : Said → Said
+decimal_text said = option_map dec_text (option_and_then (λ b. result_ok (read_dec b)) said)
+
+module _ (table : Table Kind) (fields : List Field) where
+  -- the value of the first field of a tag, as it stands, and the decimal number that it spells
   abbrev pub text_by : ℕ → Said
-  text_by tag = slot_value fields (slot_at filled tag)
+  text_by tag = value_at tag fields
+
+  abbrev pub decimal_by : ℕ → Said
+  decimal_by tag = decimal_text (value_at tag fields)
 
   abbrev pub month_by : Said
   month_by = said fields 200 (Value MonthYear)
 
   -- WHAT A RULE WRITES of fields
-  abbrev pub wrote : Rule → List Field
-  wrote (Same tag) = cell_fields (Tag tag, said_by tag)
-  wrote (Moved from to) = cell_fields (Tag to, said_by from)
-  wrote (Listed from to listed) = cell_fields (Tag to, said_by from)
-  wrote Parties = group_fields 453 (party_lines (text_by 109) (text_by 76) (text_by 439))
-  wrote (PartyOf who) = []
-  wrote Month = cell_fields (Tag 200, month_by)
-  wrote Date = cell_fields (Tag 541, date_up month_by (said fields 205 (DayOf 200)))
-  wrote OrdType = cell_fields (Tag 40, type_up (text_by 40))
-  wrote Time = cell_fields (Tag 59, time_up (text_by 40) (text_by 59))
-  wrote (Lines count) =
+  abbrev pub wrote : CodeRule → List Field
+  wrote (rules.Same tag) = cell_fields (Tag tag, text_by tag)
+  wrote (rules.Decimal tag) = cell_fields (Tag tag, decimal_by tag)
+  wrote (rules.Moved from to) = cell_fields (Tag to, decimal_by from)
+  wrote (rules.Listed from to listed) = cell_fields (Tag to, text_by from)
+  wrote rules.Parties = group_fields 453 (party_lines (text_by 109) (text_by 76) (text_by 439))
+  wrote rules.Client = []
+  wrote rules.Broker = []
+  wrote rules.Firm = []
+  wrote rules.Month = cell_fields (Tag 200, month_by)
+  wrote rules.Date = cell_fields (Tag 541, date_up month_by (said fields 205 (DayOf 200)))
+  wrote rules.OrdType = cell_fields (Tag 40, type_up (text_by 40))
+  wrote rules.Time = cell_fields (Tag 59, time_up (text_by 40) (text_by 59))
+  wrote (rules.Lines count) =
       group_fields count (lines_of count (message_in judge table fields).groups)
 
-  -- and what it lacks
-  abbrev pub lacked : Rule → Option ℕ
-  lacked rule = rule_lack text_by rule
+-- and what it lacks
+abbrev pub lacked : List Field → CodeRule → Option ℕ
+lacked fields rule = rule_lack (λ tag. value_at tag fields) (rule_of rule)
 
 -- the same of what the code holds
 abbrev pub writes : Good → CodeRule → List Field
-writes good rule = wrote (table good) good.fields.now good.slots (rule_of rule)
-
-abbrev pub lacks_by : Good → CodeRule → Option ℕ
-lacks_by good rule = lacked (table good) good.fields.now good.slots (rule_of rule)
+writes good rule = wrote (table good) good.fields.now rule

@@ -5,7 +5,6 @@ use Rattle.field_groups.specs.Field.{Field}
 use Rattle.message_tables.specs.CodeTables.{table_of as code_table}
 use Rattle.message_tables.specs.FirstFault.{first_fault, message_in}
 use Rattle.message_tables.specs.Tables.{Message, Table}
-use Rattle.row_slots.specs.Slots.{no_slots, with_items}
 use Rattle.row_values.specs.CodeKinds.{kind_of}
 use Rattle.row_values.specs.Kinds.{Kind, judge}
 use Rattle.dict_fix42.specs.Message.{message42, table_of}
@@ -25,7 +24,6 @@ said good = message_in judge (table good) good.fields.now
 pub record IsGood (good : Good) : Type 0 where
   pub typed : IsTable42 (table good)
   pub none : first_fault judge (table good) good.fields.now ≡ None
-  pub filled : good.slots ≡ with_items good.fields.now (table good).items no_slots
 
 -- fields of a whole body of a type that are read as this message
 pub record IsRead (msg_type : List ℕ) (fields : List Field) (stopped : Option SplitFault)

@@ -9,7 +9,6 @@ use field_groups::{Fields, Split};
 use first_faults::good_fields;
 use message_tables::Table;
 use order_meaning::Fault;
-use row_slots::{Slots, slots_of};
 use row_values::Kind;
 
 /// The fields of a request that are whole and at no fault beside the table of its type.
@@ -19,8 +18,6 @@ pub struct Good<'s, 'a> {
     pub table: &'static Table<Kind>,
     /// The fields.
     pub fields: &'s Fields<'a>,
-    /// The slots of the rows of the table.
-    pub slots: Slots,
 }
 
 /// The fields of a body of a type, where they are whole and at no fault. It takes no memory.
@@ -40,11 +37,7 @@ pub fn good_request<'s, 'a>(msg_type: &[u8], split: &'s Split<'a>) -> Result<Goo
     match request_table(msg_type) {
         None => Err(Fault::NotSupported),
         Some(table) => match good_fields(table, split) {
-            Ok(fields) => Ok(Good {
-                table,
-                fields,
-                slots: slots_of(table, fields),
-            }),
+            Ok(fields) => Ok(Good { table, fields }),
             Err(fault) => Err(fault),
         },
     }

@@ -1,15 +1,18 @@
 //! The rules by which a request goes up, as the code has them.
 
-ghost use Rattle.std.specs.Prelude.{◌≡◌, map};
-ghost use Rattle.request_rules.specs.CodeRules.{rule_of};
+ghost use Rattle.std.specs.Prelude.{◌≡◌, map, true};
+ghost use Rattle.std.specs.List.{list_all};
+ghost use Rattle.request_rules.specs.CodeRules.{is_read, rule_of};
 ghost use Rattle.request_rules.specs.Rules.{up_rules};
 
 /// How FIX 5.0 SP2 says one line of its table.
 #[derive(Clone, Copy, Debug)]
 pub(crate) enum Rule {
-    /// The field of a tag, as FIX 4.2 says it.
+    /// The field of a tag, as it stands.
     Same(u32),
-    /// The field of another tag, as FIX 4.2 says it.
+    /// The field of a tag, a decimal number.
+    Decimal(u32),
+    /// The field of another tag, a decimal number.
     Moved(u32, u32),
     /// A code of another tag, one of these.
     Listed(u32, u32, &'static [u8]),
@@ -33,7 +36,9 @@ pub(crate) enum Rule {
     Lines(u32),
 }
 
-use Rule::{Broker, Client, Date, Firm, Lines, Listed, Month, Moved, OrdType, Parties, Same, Time};
+use Rule::{
+    Broker, Client, Date, Decimal, Firm, Lines, Listed, Month, Moved, OrdType, Parties, Same, Time,
+};
 
 /// The rules, in the order of writing.
 #[rattlefmt::skip]
@@ -51,7 +56,7 @@ const UP_RULES: &[Rule] = &[
     Same(64), // SettlDate
     Same(21), // HandlInst
     Same(18), // ExecInst
-    Same(110), // MinQty
+    Decimal(110), // MinQty
     Moved(111, 1138), // MaxFloor, DisplayQty
     Same(100), // ExDestination
     Lines(386), // NoTradingSessions
@@ -66,10 +71,10 @@ const UP_RULES: &[Rule] = &[
     Same(54), // Side
     Same(114), // LocateReqd
     Same(60), // TransactTime
-    Same(38), // OrderQty
+    Decimal(38), // OrderQty
     OrdType,
-    Same(44), // Price
-    Same(99), // StopPx
+    Decimal(44), // Price
+    Decimal(99), // StopPx
     Same(15), // Currency
     Time,
     Same(168), // EffectiveTime
@@ -82,7 +87,8 @@ const UP_RULES: &[Rule] = &[
 
 /// The rules.
 pub(crate) fn up_rules() -> &'static [Rule]
-    ensures { map rule_of result.now ≡ up_rules }
+    ensures rules { map rule_of result.now ≡ up_rules }
+    ensures read { list_all is_read result.now ≡ true }
 {
     UP_RULES
 }

@@ -10,16 +10,18 @@ ghost use Rattle.message_tables.specs.Tables.{Tag, first_of};
 ghost use Rattle.party_translate.specs.Parties.{line_of};
 ghost use Rattle.rows_fix42.specs.Meaning.{is_on_close};
 ghost use Rattle.rule_rows.specs.Rows.{have_written_lines};
-ghost use Rattle.request_rules.specs.CodeRules.{byte_of, lacks_by, party_fields, writes, wrote};
+ghost use Rattle.request_rules.specs.declared.rules.Rule.TheVariants as rules;
+ghost use Rattle.request_rules.specs.CodeRules.{byte_of, decimal_text, lacked, party_fields};
+ghost use Rattle.request_rules.specs.CodeRules.{writes, wrote};
 ghost use Rattle.request_rules.specs.Good.{table};
-ghost use Rattle.request_rules.specs.Rules as rules;
 ghost use Rattle.request_rules.specs.Rules.{is_late, is_unlisted, lack_if, party_lines};
 ghost use Rattle.request_rules.specs.Rules.{time_up, type_up};
 
 use crate::reading::Good;
 use crate::rules::Rule;
-use field_groups::{put_byte, put_field, put_number};
-use row_slots::{put_slot, slot_at, value};
+use field_groups::{Fields, put_byte, put_field, put_number};
+use message_tables::Lookup;
+use row_slots::put_decimal;
 use row_values::{Part, Value, month_and_day};
 use rule_rows::{put_count, put_lines, put_one, put_text};
 use std::alloc::AllocError;
@@ -55,6 +57,19 @@ fn is_on_close(ord_type: Option<u8>) -> bool
     }
 }
 
+/// Appends the field of the decimal number that a text spells, if it spells one.
+#[inline(always)]
+fn put_spelled(out: &mut Vec<u8>, tag: u32, text: Option<&[u8]>) -> Appended
+    ensures done { OnOk result (out.new.items ≡ out.old.items
+        ++ body_of (cell_fields (Tag tag, decimal_text (option_map (λ t. t.now) text.entry)))) }
+    ensures kept { StartsWith out.new.items out.old.items }
+{
+    match text {
+        None => Ok(()),
+        Some(text) => put_decimal(out, tag, text),
+    }
+}
+
 /// Appends OrdType(40): market and limit on close are market and limit, at the close.
 fn put_type(out: &mut Vec<u8>, ord_type: Option<&[u8]>) -> Appended
     ensures done { OnOk result (out.new.items ≡ out.old.items
@@ -86,7 +101,7 @@ fn put_time(out: &mut Vec<u8>, ord_type: Option<&[u8]>, time: Option<&[u8]>) -> 
 /// Appends the month of a maturity.
 fn put_month(out: &mut Vec<u8>, good: &Good<'_, '_>) -> Appended
     ensures done { OnOk result (out.new.items ≡ out.old.items ++ body_of
-        (wrote (table good.now) good.now.fields.now good.now.slots rules.Month)) }
+        (wrote (table good.now) good.now.fields.now rules.Month)) }
     ensures kept { StartsWith out.new.items out.old.items }
 {
     let maturity = month_and_day(good.fields);
@@ -97,7 +112,7 @@ fn put_month(out: &mut Vec<u8>, good: &Good<'_, '_>) -> Appended
 #[tactic(auto, using(crate::proofs::DateWritten::date_written))]
 fn put_date(out: &mut Vec<u8>, good: &Good<'_, '_>) -> Appended
     ensures done { OnOk result (out.new.items ≡ out.old.items ++ body_of
-        (wrote (table good.now) good.now.fields.now good.now.slots rules.Date)) }
+        (wrote (table good.now) good.now.fields.now rules.Date)) }
     ensures kept { StartsWith out.new.items out.old.items }
 {
     let maturity = month_and_day(good.fields);
@@ -156,28 +171,19 @@ fn put_said(good: &Good<'_, '_>, rule: &Rule, out: &mut Vec<u8>) -> Appended
     ensures kept { StartsWith out.new.items out.old.items }
 {
     let fields = good.fields;
-    let slots = &good.slots;
     match rule {
-        Rule::Same(tag) => put_slot(out, fields, slot_at(slots, *tag), *tag),
-        Rule::Moved(from, to) => put_slot(out, fields, slot_at(slots, *from), *to),
-        Rule::Listed(from, to, _) => put_slot(out, fields, slot_at(slots, *from), *to),
-        Rule::Parties => put_parties(
-            out,
-            value(fields, slot_at(slots, 109)),
-            value(fields, slot_at(slots, 76)),
-            value(fields, slot_at(slots, 439)),
-        ),
+        Rule::Same(tag) => put_text(out, *tag, fields.value(*tag)),
+        Rule::Decimal(tag) => put_spelled(out, *tag, fields.value(*tag)),
+        Rule::Moved(from, to) => put_spelled(out, *to, fields.value(*from)),
+        Rule::Listed(from, to, _) => put_text(out, *to, fields.value(*from)),
+        Rule::Parties => put_parties(out, fields.value(109), fields.value(76), fields.value(439)),
         Rule::Client => Ok(()),
         Rule::Broker => Ok(()),
         Rule::Firm => Ok(()),
         Rule::Month => put_month(out, good),
         Rule::Date => put_date(out, good),
-        Rule::OrdType => put_type(out, value(fields, slot_at(slots, 40))),
-        Rule::Time => put_time(
-            out,
-            value(fields, slot_at(slots, 40)),
-            value(fields, slot_at(slots, 59)),
-        ),
+        Rule::OrdType => put_type(out, fields.value(40)),
+        Rule::Time => put_time(out, fields.value(40), fields.value(59)),
         Rule::Lines(count) => put_lines(out, fields, good.table, *count),
     }
 }
@@ -209,23 +215,20 @@ fn lack_if(lacks: bool, tag: u32) -> Option<u32>
     if lacks { Some(tag) } else { None }
 }
 
-/// The tag that a rule cannot say.
-fn lacked(good: &Good<'_, '_>, rule: &Rule) -> Option<u32>
-    ensures { result ≡ lacks_by good.now rule.now }
+/// The tag that a rule cannot say of fields.
+#[inline(always)]
+fn lacked(fields: &Fields<'_>, rule: &Rule) -> Option<u32>
+    ensures { result ≡ lacked fields.now rule.now }
 {
-    let fields = good.fields;
     match rule {
-        Rule::Time => {
-            let ord_type = code_of(value(fields, slot_at(&good.slots, 40)));
-            lack_if(
-                is_late(ord_type, code_of(value(fields, slot_at(&good.slots, 59)))),
-                59,
-            )
-        }
-        Rule::Listed(from, _, listed) => {
-            let code = code_of(value(fields, slot_at(&good.slots, *from)));
-            lack_if(is_unlisted(listed, code), *from)
-        }
+        Rule::Time => lack_if(
+            is_late(code_of(fields.value(40)), code_of(fields.value(59))),
+            59,
+        ),
+        Rule::Listed(from, _, listed) => lack_if(
+            is_unlisted(listed, code_of(fields.value(*from))),
+            *from,
+        ),
         _ => None,
     }
 }
@@ -262,11 +265,11 @@ pub(crate) fn put_rules(good: &Good<'_, '_>, rules: &[Rule], out: &mut Vec<u8>) 
 }
 
 /// The tag that the first rule that lacks a spelling cannot say.
-pub(crate) fn first_lack(good: &Good<'_, '_>, rules: &[Rule]) -> Option<u32>
-    ensures { result ≡ first_of (lacks_by good.now) rules.now }
+pub(crate) fn first_lack(fields: &Fields<'_>, rules: &[Rule]) -> Option<u32>
+    ensures { result ≡ first_of (lacked fields.now) rules.now }
 {
     for rule in rules {
-        if let Some(tag) = lacked(good, rule) {
+        if let Some(tag) = lacked(fields, rule) {
             return Some(tag);
         }
     }

@@ -7,4 +7,4 @@ mod slots;
 mod values;
 
 pub use slots::{SLOTS, Slot, Slots, slot_at, slots_of};
-pub use values::{code, decimal, number, put_slot, value};
+pub use values::{code, decimal, number, put_decimal, put_slot, value};

@@ -74,8 +74,12 @@ pub fn number(fields: &Fields<'_>, slot: Slot) -> Option<Number>
 }
 
 /// Appends a field of the decimal number that a value spells, if it spells one.
+///
+/// # Errors
+///
+/// As [`put_slot`].
 #[inline(never)]
-fn put_decimal(out: &mut Vec<u8>, tag: u32, value: &[u8]) -> Result<(), AllocError>
+pub fn put_decimal(out: &mut Vec<u8>, tag: u32, value: &[u8]) -> Result<(), AllocError>
     ensures done { OnOk result (out.new.items ≡ out.old.items
         ++ body_of (cell_fields (Tag tag, option_map dec_text (result_ok (read_dec value.now))))) }
     ensures kept { StartsWith out.new.items out.old.items }

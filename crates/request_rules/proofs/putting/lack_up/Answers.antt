@@ -7,5 +7,5 @@ pub returns : goal.returns
 returns c =
     c.first_lack.ensures
     ∙ lack_told (table c.args.good.now) c.requires.typed c.args.good.now.fields.now
-    c.requires.none c.up_rules-rules.result.now c.up_rules-rules.ensures c.args.good.now.slots
-    c.requires.filled
+    c.requires.none c.up_rules-rules.result.now c.up_rules-rules.ensures.rules
+    c.up_rules-rules.ensures.read

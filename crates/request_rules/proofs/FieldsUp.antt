@@ -1,0 +1,348 @@
+-- What the code reads of fields at no fault is what their message says: it writes rule by rule what
+-- the rules write of the message, and lacks what they lack.
+use Rattle.std.proofs.Common.{◌≡◌, ℕ, List, [], ◌∷◌, ◌++◌, map, Bool, true, false, Some, None}
+use Rattle.std.proofs.Common.{refl, sym, ap, subst, ◌∙◌}
+use Rattle.std.proofs.lemmas.Bool.{eqb-true}
+use Rattle.std.specs.Prelude.{◌||◌, ◌&&◌, ◌==◌, not, if◌then◌else◌}
+use Rattle.std.specs.declared.option.Option.{Option}
+use Rattle.std.specs.List.{AllByRecursion, flat_map, list_all}
+use Rattle.field_groups.specs.Field.{Field}
+use Rattle.message_tables.specs.Tables.{Cell, Item, One, Party, Lines as LinesOf, Message}
+use Rattle.message_tables.specs.Tables.{Need, Lenient, Fixed, Row, Said, Table, Tag, all_rows}
+use Rattle.message_tables.specs.Tables.{cells_of, code_of, first_of, is_one_of, or_else, row_at}
+use Rattle.message_tables.specs.Tables.{said_at, says, value_at, ◌>>=◌}
+use Rattle.message_tables.specs.Content.{cell_fields, group_fields}
+use Rattle.message_tables.specs.FirstFault.{beyond, by_row, first_fault, is_passed, message_in}
+use Rattle.message_tables.specs.FirstFault.{without_row, wrong}
+use Rattle.value_kinds.specs.ValueKind.{ValueKind, MonthYear, Price, Qty}
+use Rattle.row_values.specs.Kinds.{DayOf, Kind, Value, judge, said}
+use Rattle.row_values.proofs.Texts.{price_said, qty_at_said}
+use Rattle.sound_laws.proofs.AsTheyStand.{as_said, is_own, qty_stands}
+use Rattle.sound_laws.proofs.Each.{both, not_true}
+use Rattle.sound_laws.proofs.Good.{IsGood, all_good, held}
+use Rattle.sound_laws.proofs.RowsSaid.{row_of_tag}
+use Rattle.row_slots.proofs.Filled.{tag_is}
+use Rattle.rule_rows.specs.ByRules.{rule_fields}
+use Rattle.request_rules.specs.declared.rules.Rule.{Rule as CodeRule}
+use Rattle.request_rules.specs.declared.rules.Rule.TheVariants as rules
+use Rattle.request_rules.specs.CodeRules.{decimal_text, is_decimal, is_read, lacked, rule_of, wrote}
+use Rattle.request_rules.specs.Rules.{Rule, Same, Moved, Listed, Time}
+use Rattle.request_rules.specs.Rules.{at, date_up, is_late, is_unlisted, kinds}
+use Rattle.request_rules.specs.Rules.{lack_if, party_lines, rule_lack, time_up, type_up}
+use Rattle.request_rules.specs.Rules.{up_content, up_lack}
+use Rattle.request_rules.specs.Rules.{up_rules}
+use Rattle.request_rules.proofs.TablesUp.{day_row, month_row}
+
+-- the tags whose values are written as they stand, and those of decimal numbers
+abbrev pub texts_read : Rule → List ℕ
+texts_read (Same tag) = if is_decimal tag then [] else tag ∷ []
+texts_read (Listed from to listed) = from ∷ []
+texts_read rule = []
+
+abbrev pub decimals_read : Rule → List ℕ
+decimals_read (Same tag) = if is_decimal tag then tag ∷ [] else []
+decimals_read (Moved from to) = from ∷ []
+decimals_read rule = []
+
+abbrev pub text_tags : List ℕ
+text_tags = 109 ∷ 76 ∷ 439 ∷ 40 ∷ 59 ∷ flat_map texts_read up_rules
+
+abbrev pub decimal_tags : List ℕ
+decimal_tags = flat_map decimals_read up_rules
+
+-- whether a rule reads such tags alone
+abbrev pub reads_tags : Rule → Bool
+reads_tags (Same tag) =
+    if is_decimal tag then is_one_of decimal_tags tag else is_one_of text_tags tag
+reads_tags (Moved from to) = is_one_of decimal_tags from
+reads_tags (Listed from to listed) = is_one_of text_tags from
+reads_tags rule = true
+
+-- rows whose values are faults where they are outside the profile
+abbrev pub is_strict : Need → Bool
+is_strict Lenient = false
+is_strict (Fixed text) = false
+is_strict need = true
+
+abbrev pub is_text : Option (Row Kind) → Bool
+is_text None = true
+is_text (Some row) = of_kind row.kind && is_strict row.need
+  where
+    of_kind : Kind → Bool
+    of_kind (Value kind) = is_own kind
+    of_kind kind = false
+
+abbrev pub is_number : Option (Row Kind) → Bool
+is_number None = true
+is_number (Some row) = of_kind row.kind && is_strict row.need
+  where
+    of_kind : Kind → Bool
+    of_kind (Value Qty) = true
+    of_kind (Value Price) = true
+    of_kind kind = false
+
+abbrev pub read_tags : List ℕ
+read_tags = text_tags ++ decimal_tags
+
+-- A TABLE whose rows say what the code reads
+pub record HasRows (table : Table Kind) : Type 0 where
+  pub own : map (λ tag. row_at tag (all_rows table)) read_tags
+      ≡ map (λ tag. row_of_tag tag table.items) read_tags
+  pub out : list_all (λ tag. not (is_passed table tag)) read_tags ≡ true
+  pub texts : list_all (λ tag. is_text (row_of_tag tag table.items)) text_tags ≡ true
+  pub decimals : list_all (λ tag. is_number (row_of_tag tag table.items)) decimal_tags ≡ true
+  pub month : row_of_tag 200 table.items ≡ Some month_row
+  pub day : row_of_tag 205 table.items ≡ Some day_row
+
+-- what holds of each of some tags holds of one among them
+one_of : (P : ℕ → Type 0) (tags : List ℕ) → AllByRecursion P tags → (tag : ℕ)
+    → is_one_of tags tag ≡ true → P tag
+one_of P [] each tag there = absurd cc
+one_of P (one ∷ tags) each tag there =
+    or (one == tag) refl there (λ later. one_of P tags each.1 tag later)
+  where
+    or : (b : Bool) → (one == tag) ≡ b → (b || is_one_of tags tag) ≡ true
+        → (is_one_of tags tag ≡ true → P tag) → P tag
+    or true e there later = subst P (eqb-true one tag e) each.0
+    or false e there later = later there
+
+among : (test : ℕ → Bool) (tags : List ℕ) → list_all test tags ≡ true → (tag : ℕ)
+    → is_one_of tags tag ≡ true → test tag ≡ true
+among test tags all tag there = one_of (λ t. test t ≡ true) tags (by tags all) tag there
+  where
+    by : (tags : List ℕ) → list_all test tags ≡ true → AllByRecursion (λ t. test t ≡ true) tags
+    by [] all = tt
+    by (tag ∷ tags) all = let p = both (test tag) (list_all test tags) all in (p.0, by tags p.1)
+
+alike : (f g : ℕ → Option (Row Kind)) (tags : List ℕ) → map f tags ≡ map g tags → (tag : ℕ)
+    → is_one_of tags tag ≡ true → f tag ≡ g tag
+alike f g tags same tag there = one_of (λ t. f t ≡ g t) tags (by tags same) tag there
+  where
+    by : (tags : List ℕ) → map f tags ≡ map g tags → AllByRecursion (λ t. f t ≡ g t) tags
+    by [] same = tt
+    by (tag ∷ tags) same =
+        let here : f tag ≡ g tag = cc in
+        let rest : map f tags ≡ map g tags = cc in (here, by tags rest)
+
+in_front : (tag : ℕ) (xs ys : List ℕ) → is_one_of xs tag ≡ true → is_one_of (xs ++ ys) tag ≡ true
+in_front tag [] ys there = absurd cc
+in_front tag (x ∷ xs) ys there = by (x == tag) there (λ later. in_front tag xs ys later)
+  where
+    by : (b : Bool) → (b || is_one_of xs tag) ≡ true
+        → (is_one_of xs tag ≡ true → is_one_of (xs ++ ys) tag ≡ true)
+        → (b || is_one_of (xs ++ ys) tag) ≡ true
+    by true there later = refl
+    by false there later = later there
+
+behind : (tag : ℕ) (xs ys : List ℕ) → is_one_of ys tag ≡ true → is_one_of (xs ++ ys) tag ≡ true
+behind tag [] ys there = there
+behind tag (x ∷ xs) ys there = by (x == tag) (behind tag xs ys there)
+  where
+    by : (b : Bool) → is_one_of (xs ++ ys) tag ≡ true → (b || is_one_of (xs ++ ys) tag) ≡ true
+    by true later = refl
+    by false later = later
+
+-- ---- what fields say by the rows of a table
+
+abbrev row_says : List Field → Option (Row Kind) → Said
+row_says fields None = None
+row_says fields (Some row) = says row.need (judge fields row.kind) (value_at row.tag fields)
+
+said_is : (fields : List Field) (groups : List (ℕ × List (List Cell))) (tag : ℕ)
+    (items : List (Item Kind))
+    → said_at (flat_map (cells_of judge fields groups) items) (Tag tag)
+    ≡ row_says fields (row_of_tag tag items)
+said_is fields groups tag [] = refl
+said_is fields groups tag (Party role ∷ items) = said_is fields groups tag items
+said_is fields groups tag (LinesOf group ∷ items) = said_is fields groups tag items
+said_is fields groups tag (One row ∷ items) =
+    by (row.tag == tag) (said_is fields groups tag items)
+  where
+    by : (b : Bool)
+        → said_at (flat_map (cells_of judge fields groups) items) (Tag tag)
+        ≡ row_says fields (row_of_tag tag items)
+        → (if b then says row.need (judge fields row.kind) (value_at row.tag fields)
+        else said_at (flat_map (cells_of judge fields groups) items) (Tag tag))
+        ≡ row_says fields (if b then Some row else row_of_tag tag items)
+    by true rest = refl
+    by false rest = rest
+
+module _ (table : Table Kind) (has : HasRows table) (fields : List Field)
+    (none : first_fault judge table fields ≡ None) where
+  abbrev m : Message
+  m = message_in judge table fields
+
+  says_row : (tag : ℕ) → at m tag ≡ row_says fields (row_of_tag tag table.items)
+  says_row tag = said_is fields m.groups tag table.items
+
+  -- a tag that has no row, in a table where each field has one, has no field
+  none_there : (tag : ℕ) → row_at tag (all_rows table) ≡ None → is_passed table tag ≡ false
+      → value_at tag fields ≡ None
+  none_there tag no out = by (value_at tag fields) refl
+    where
+      bad : (b : List ℕ) → wrong (tag, without_row false b) ≡ None
+          → beyond (tag, without_row false b) ≡ None → ⊥
+      bad [] w o = absurd cc
+      bad (byte ∷ bytes) w o = absurd cc
+
+      by : (o : Said) → value_at tag fields ≡ o → o ≡ None
+      by None at = refl
+      by (Some bytes) at =
+          let good = held (IsGood judge table fields) tag fields bytes at
+          (all_good judge table fields none) in
+          let mark : by_row judge (is_passed table tag) fields bytes (row_at tag (all_rows table))
+          ≡ without_row false bytes = λ i. by_row judge (out i) fields bytes (no i) in
+          absurd (bad bytes (rw (sym mark) good.0) (rw (sym mark) good.1))
+
+  -- WHAT THE CODE READS at a tag, where that has a row, and where it has none
+  module _ (tag : ℕ) (there : is_one_of read_tags tag ≡ true) where
+    own_row : row_at tag (all_rows table) ≡ row_of_tag tag table.items
+    own_row = alike (λ t. row_at t (all_rows table)) (λ t. row_of_tag t table.items) read_tags
+        has.own tag there
+
+    no_field : row_of_tag tag table.items ≡ None → value_at tag fields ≡ None
+    no_field no = none_there tag (own_row ∙ no) (not_true (is_passed table tag)
+        (among (λ t. not (is_passed table t)) read_tags has.out tag there))
+
+    by_row_of : (P : Option (Row Kind) → Bool) (Q : Said → Type 0)
+        → P (row_of_tag tag table.items) ≡ true
+        → (value_at tag fields ≡ None → Q None)
+        → ((kind : Kind) (need : Need)
+        → row_at tag (all_rows table) ≡ Some (record { tag = tag; kind = kind; need = need })
+        → P (Some (record { tag = tag; kind = kind; need = need })) ≡ true
+        → Q (says need (judge fields kind) (value_at tag fields)))
+        → Q (at m tag)
+    by_row_of P Q test no yes =
+        subst Q (sym (says_row tag)) (by (row_of_tag tag table.items) refl test)
+      where
+        by : (o : Option (Row Kind)) → row_of_tag tag table.items ≡ o → P o ≡ true
+            → Q (row_says fields o)
+        by None e t = no (no_field e)
+        by (Some row) e t =
+            let is : row.tag ≡ tag = tag_is tag table.items row e in
+            let here : Some row
+            ≡ Some (record { tag = tag; kind = row.kind; need = row.need }) =
+            λ i. Some (record { tag = is i; kind = row.kind; need = row.need }) in
+            subst (λ (t : ℕ). Q (says row.need (judge fields row.kind) (value_at t fields)))
+            (sym is) (yes row.kind row.need (own_row ∙ e ∙ here) (ap P (sym here) ∙ t))
+
+  text_is : (tag : ℕ) → is_one_of text_tags tag ≡ true → value_at tag fields ≡ at m tag
+  text_is tag there =
+      by_row_of tag (in_front tag text_tags decimal_tags there) is_text
+      (λ said. value_at tag fields ≡ said)
+      (among (λ t. is_text (row_of_tag t table.items)) text_tags has.texts tag there) (λ no. no) by
+    where
+      of_value : (kind : ValueKind) (need : Need)
+          → row_at tag (all_rows table)
+          ≡ Some (record { tag = tag; kind = Value kind; need = need })
+          → is_own kind ≡ true → is_strict need ≡ true
+          → value_at tag fields ≡ says need (judge fields (Value kind)) (value_at tag fields)
+      of_value kind Lenient its own strict = absurd cc
+      of_value kind (Fixed text) its own strict = absurd cc
+      of_value kind need its own strict = as_said table fields none need tag kind refl own its
+
+      by : (kind : Kind) (need : Need)
+          → row_at tag (all_rows table) ≡ Some (record { tag = tag; kind = kind; need = need })
+          → is_text (Some (record { tag = tag; kind = kind; need = need })) ≡ true
+          → value_at tag fields ≡ says need (judge fields kind) (value_at tag fields)
+      by (Value kind) need its t =
+          let p = both (is_own kind) (is_strict need) t in of_value kind need its p.0 p.1
+      by kind need its t = absurd cc
+
+  decimal_is : (tag : ℕ) → is_one_of decimal_tags tag ≡ true
+      → decimal_text (value_at tag fields) ≡ at m tag
+  decimal_is tag there =
+      by_row_of tag (behind tag text_tags decimal_tags there) is_number
+      (λ said. decimal_text (value_at tag fields) ≡ said)
+      (among (λ t. is_number (row_of_tag t table.items)) decimal_tags has.decimals tag there)
+      (λ no. ap decimal_text no) by
+    where
+      by : (kind : Kind) (need : Need)
+          → row_at tag (all_rows table) ≡ Some (record { tag = tag; kind = kind; need = need })
+          → is_number (Some (record { tag = tag; kind = kind; need = need })) ≡ true
+          → decimal_text (value_at tag fields) ≡ says need (judge fields kind) (value_at tag fields)
+      by kind Lenient its t = absurd cc
+      by kind (Fixed text) its t = absurd cc
+      by (Value Qty) need its t =
+          qty_stands table fields none need tag refl its ∙ qty_at_said fields tag
+      by (Value Price) need its t = price_said fields tag
+      by kind need its t = absurd cc
+
+  month_is : said fields 200 (Value MonthYear) ≡ at m 200
+  month_is = sym (says_row 200 ∙ ap (row_says fields) has.month)
+
+  day_is : said fields 205 (DayOf 200) ≡ at m 205
+  day_is = sym (says_row 205 ∙ ap (row_says fields) has.day)
+
+  -- ---- ONE LEMMA FOR EACH KIND OF RULE
+
+  rule_read : (rule : CodeRule) → is_read rule ≡ true → reads_tags (rule_of rule) ≡ true
+      → wrote table fields rule ≡ rule_fields kinds m (rule_of rule)
+  rule_read (rules.Same tag) form ok = by (is_decimal tag) form ok
+    where
+      by : (b : Bool) → not b ≡ true
+          → (if b then is_one_of decimal_tags tag else is_one_of text_tags tag) ≡ true
+          → cell_fields (Tag tag, value_at tag fields) ≡ cell_fields (Tag tag, at m tag)
+      by true form ok = absurd cc
+      by false form ok = ap (λ s. cell_fields (Tag tag, s)) (text_is tag ok)
+  rule_read (rules.Decimal tag) form ok = by (is_decimal tag) form ok
+    where
+      by : (b : Bool) → b ≡ true
+          → (if b then is_one_of decimal_tags tag else is_one_of text_tags tag) ≡ true
+          → cell_fields (Tag tag, decimal_text (value_at tag fields))
+          ≡ cell_fields (Tag tag, at m tag)
+      by true form ok = ap (λ s. cell_fields (Tag tag, s)) (decimal_is tag ok)
+      by false form ok = absurd cc
+  rule_read (rules.Moved from to) form ok = ap (λ s. cell_fields (Tag to, s)) (decimal_is from ok)
+  rule_read (rules.Listed from to listed) form ok =
+      ap (λ s. cell_fields (Tag to, s)) (text_is from ok)
+  rule_read rules.Parties form ok = λ i. group_fields 453
+      (party_lines (text_is 109 refl i) (text_is 76 refl i) (text_is 439 refl i))
+  rule_read rules.Client form ok = refl
+  rule_read rules.Broker form ok = refl
+  rule_read rules.Firm form ok = refl
+  rule_read rules.Month form ok = ap (λ s. cell_fields (Tag 200, s)) month_is
+  rule_read rules.Date form ok = λ i. cell_fields (Tag 541, date_up (month_is i) (day_is i))
+  rule_read rules.OrdType form ok = ap (λ s. cell_fields (Tag 40, type_up s)) (text_is 40 refl)
+  rule_read rules.Time form ok =
+      λ i. cell_fields (Tag 59, time_up (text_is 40 refl i) (text_is 59 refl i))
+  rule_read (rules.Lines count) form ok = refl
+
+  rule_lacks : (rule : Rule) → reads_tags rule ≡ true
+      → rule_lack (λ tag. value_at tag fields) rule ≡ kinds.lack m rule
+  rule_lacks Time ok =
+      λ i. lack_if (is_late (text_is 40 refl i >>= code_of) (text_is 59 refl i >>= code_of)) 59
+  rule_lacks (Listed from to listed) ok =
+      ap (λ s. lack_if (is_unlisted listed (s >>= code_of)) from) (text_is from ok)
+  rule_lacks rule ok = refl
+
+  rules_read : (rules : List CodeRule) → list_all is_read rules ≡ true
+      → list_all reads_tags (map rule_of rules) ≡ true
+      → flat_map (wrote table fields) rules
+      ≡ flat_map (rule_fields kinds m) (map rule_of rules)
+  rules_read [] form ok = refl
+  rules_read (rule ∷ rules) form ok =
+      let f = both (is_read rule) (list_all is_read rules) form in
+      let p = both (reads_tags (rule_of rule)) (list_all reads_tags (map rule_of rules)) ok in
+      λ i. rule_read rule f.0 p.0 i ++ rules_read rules f.1 p.1 i
+
+  rules_lack : (rules : List CodeRule) → list_all reads_tags (map rule_of rules) ≡ true
+      → first_of (lacked fields) rules ≡ first_of (kinds.lack m) (map rule_of rules)
+  unfolding first_of
+  rules_lack [] ok = refl
+  rules_lack (rule ∷ rules) ok =
+      let p = both (reads_tags (rule_of rule)) (list_all reads_tags (map rule_of rules)) ok in
+      λ i. or_else (rule_lacks (rule_of rule) p.0 i) (rules_lack rules p.1 i)
+
+  module _ (rules : List CodeRule) (are : map rule_of rules ≡ up_rules) where
+    reads_all : list_all reads_tags (map rule_of rules) ≡ true
+    reads_all = ap (list_all reads_tags) are ∙ refl
+
+    -- WHAT THE CODE WRITES is the content of what goes up, and it lacks what that lacks
+    pub content_read : list_all is_read rules ≡ true
+        → flat_map (wrote table fields) rules ≡ up_content m
+    content_read read =
+        rules_read rules read reads_all ∙ ap (flat_map (rule_fields kinds m)) are
+
+    pub lack_read : first_of (lacked fields) rules ≡ up_lack m
+    lack_read = rules_lack rules reads_all ∙ ap (first_of (kinds.lack m)) are
