@@ -1,12 +1,11 @@
 -- What the code has read of the fields of a report at no fault.
 use Rattle.std.proofs.Common.{◌≡◌, ◌<◌, ◌^◌, ℕ, List, [], ◌∷◌, Bool, true, false, Option, Some}
 use Rattle.std.proofs.Common.{None, refl}
-use Rattle.std.proofs.Common.{sym, ap, ◌∙◌, map, arith, option_map, lit<}
-use Rattle.std.specs.Prelude.{IfSome, nat_lt, unwrap_or, ◌==◌, Result, Ok, Err}
+use Rattle.std.proofs.Common.{sym, ap, ◌∙◌, map, option_map, lit<}
+use Rattle.std.specs.Prelude.{IfSome, unwrap_or, ◌==◌, Result, Ok, Err}
 use Rattle.std.specs.Borrow.{Bor}
 use Rattle.std.specs.List.{AllByRecursion}
 use Rattle.std.specs.Result.{result_ok}
-use Rattle.std.proofs.lemmas.Bool.Decides.{nat_tests}
 use Rattle.typed_fields.specs.declared.dec.Dec.{Dec}
 use Rattle.typed_fields.specs.declared.fault.FieldFault.{FieldFault}
 use Rattle.typed_fields.specs.declared.number.Number.{Number}
@@ -15,7 +14,6 @@ use Rattle.typed_fields.specs.Number.{IsNumber, number_text, read_number}
 use Rattle.typed_fields.proofs.DecLaws.{dec_is_stable}
 use Rattle.typed_fields.proofs.NumberLaws.{number_in_bound}
 use Rattle.field_groups.specs.Field.{Field}
-use Rattle.field_groups.specs.Index.{slot_of}
 use Rattle.message_tables.specs.Tables.{Item, Message, Row, Said, ◌>>=◌, all_rows}
 use Rattle.message_tables.specs.Tables.{code_of, group_says, lines_of, party_in, row_at}
 use Rattle.message_tables.specs.FirstFault.{first_fault, message_in}
@@ -91,7 +89,7 @@ module _ (letter : ℕ) (items : List (Item Kind)) (fields : Bor (List Field)) (
   m = completed (message_in judge (table50 letter items) fields.now)
 
   abbrev Facts : Type 0
-  Facts = Option (Row Kind) × Bool × Bool × Bool × Bool
+  Facts = Option (Row Kind) × Bool × Bool × Bool
 
   -- a tag by whose row the code reads
   abbrev pub IsRead : ℕ → Type 0
@@ -99,32 +97,25 @@ module _ (letter : ℕ) (items : List (Item Kind)) (fields : Bor (List Field)) (
     row_at tag (all_rows (table50 letter items)),
     can_say (row_of_tag tag items),
     is_own tag items,
-    nat_lt (slot_of tag) 512,
     tag == 200,
   )
-      (row_of_tag tag items, true, true, true, false)
-
-  below : (n : ℕ) → nat_lt n 512 ≡ true → n < 512
-  below n h = grind (arith, nat_tests)
-
-  within : (tag : ℕ) → IsRead tag → slot_of tag < 512
-  within tag h = below (slot_of tag) (ap (λ (f : Facts). f.3) h)
+      (row_of_tag tag items, true, true, false)
 
   own : (tag : ℕ) → IsRead tag → is_own tag items ≡ true
   own tag h = ap (λ (f : Facts). f.2) h
 
   said : (tag : ℕ) → IsRead tag → says s tag ≡ at m tag
   said tag h =
-      slot_says (table50 letter items) fields.now none tag (within tag h)
+      slot_says (table50 letter items) fields.now none tag
       (ap (λ (f : Facts). f.0) h) (ap (λ (f : Facts). f.1) h) (own tag h)
-      ∙ sym (at_other fields.now letter items tag (ap (λ (f : Facts). f.4) h))
+      ∙ sym (at_other fields.now letter items tag (ap (λ (f : Facts). f.3) h))
 
   -- and its kind
   abbrev Reads : (Kind → Bool) → ℕ → Type 0
   Reads test tag = IsRead tag × (if_row test (row_of_tag tag items) ≡ true)
 
   stood : (tag : ℕ) → Reads is_standing tag → stands s tag ≡ at m tag
-  stood tag h = tag_stands fields.now items tag (within tag h.0) (own tag h.0) h.1 ∙ said tag h.0
+  stood tag h = tag_stands fields.now items tag (own tag h.0) h.1 ∙ said tag h.0
 
   code_said : (tag : ℕ) → Reads is_standing tag
       → slot_code fields.now (slot_at s.slots tag) ≡ (at m tag >>= code_of)
@@ -133,7 +124,7 @@ module _ (letter : ℕ) (items : List (Item Kind)) (fields : Bor (List Field)) (
   number_said : (tag : ℕ) → Reads is_numeral tag
       → at m tag ≡ option_map number_text (numbered s tag)
   number_said tag h =
-      sym (said tag h.0) ∙ tag_numbers fields.now items tag (within tag h.0) (own tag h.0) h.1
+      sym (said tag h.0) ∙ tag_numbers fields.now items tag (own tag h.0) h.1
 
   number_good : (tag : ℕ) → IfSome (numbered s tag) IsNumber
   number_good tag = bounded (slot_value fields.now (slot_at s.slots tag))
@@ -144,7 +135,7 @@ module _ (letter : ℕ) (items : List (Item Kind)) (fields : Bor (List Field)) (
   amount_said tag h =
       units_are (slot_value fields.now (slot_at s.slots tag))
       ∙ ap (λ (t : Said). (unwrap_or (t >>= amount_of) no_amount).units)
-      (sym (tag_decimal fields.now items tag (within tag h.0) (own tag h.0) h.1) ∙ said tag h.0)
+      (sym (tag_decimal fields.now items tag (own tag h.0) h.1) ∙ said tag h.0)
 
   -- WHAT SEVERAL RULES READ has such rows, the month, and the lines of the other side
   pub record AreRead : Type 0 where
@@ -228,15 +219,15 @@ module _ (fields : Bor (List Field)) (groups : Groups) (known : Option (Bor (Lis
   month_at : month_by (stands source 541) (says source 200) ≡ at report 200
   month_at =
       ap (λ (d : Said). month_by d (says source 200))
-      (tag_stands fields.now execution_report 541 (lit< tt) refl refl
-      ∙ slot_says report_table fields.now none 541 (lit< tt) refl refl refl)
+      (tag_stands fields.now execution_report 541 refl refl
+      ∙ slot_says report_table fields.now none 541 refl refl refl)
       ∙ by (row_says fields.now (row_of_tag 541 execution_report)) refl
       ∙ sym (at_month fields.now 56 execution_report refl)
     where
       alone : row_says fields.now (row_of_tag 541 execution_report) ≡ None
           → says source 200 ≡ row_says fields.now (row_of_tag 200 execution_report)
       alone e =
-          ap (slot_said fields.now) (slot_filled fields.now 200 execution_report (lit< tt) refl)
+          ap (slot_said fields.now) (slot_filled fields.now 200 execution_report refl)
           ∙ month_says fields.now 200 541 (sym (date_said fields.now 541) ∙ e)
 
       by : (d : Said) → row_says fields.now (row_of_tag 541 execution_report) ≡ d
@@ -289,10 +280,10 @@ module _ (fields : Bor (List Field)) (groups : Groups) (known : Option (Bor (Lis
 
   -- a cancel reject has neither a date nor a month
   no_date : stands rejected 541 ≡ None
-  no_date = ap (slot_value fields.now) (slot_filled fields.now 541 cancel_reject (lit< tt) refl)
+  no_date = ap (slot_value fields.now) (slot_filled fields.now 541 cancel_reject refl)
 
   no_month : says rejected 200 ≡ None
-  no_month = ap (slot_said fields.now) (slot_filled fields.now 200 cancel_reject (lit< tt) refl)
+  no_month = ap (slot_said fields.now) (slot_filled fields.now 200 cancel_reject refl)
 
   pub reject_read : IsReadAs (known_of rejected) reject rejected
   reject_read = source_read 57 cancel_reject fields groups known none (record {

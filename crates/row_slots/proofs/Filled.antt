@@ -5,11 +5,11 @@ use Rattle.std.proofs.Common.{length, get_or, take, map, Option, Some, None, ref
 use Rattle.std.proofs.Common.{arith}
 use Rattle.std.specs.Prelude.{◌==◌, ◌&&◌, not, replicate, if◌then◌else◌}
 use Rattle.std.proofs.Math.ListN.{set}
+use Rattle.std.proofs.Math.Nat.{mod-lt}
 use Rattle.std.proofs.lemmas.List.{get_or-set_same, get_or-set_other, length-set, map_more}
 use Rattle.std.proofs.lemmas.Bool.{eqb-true}
 use Rattle.std.proofs.lemmas.Bool.Decides.{nat_tests}
 use Rattle.field_groups.specs.Field.{Field}
-use Rattle.field_groups.specs.Index.{slot_of}
 use Rattle.message_tables.specs.declared.table.Item.{Item as CodeItem}
 use Rattle.message_tables.specs.CodeTables.{item_of}
 use Rattle.message_tables.specs.Tables.{Row, Item, One, Party, Lines}
@@ -20,7 +20,7 @@ use Rattle.sound_laws.proofs.Each.{both}
 use Rattle.sound_laws.proofs.RowsSaid.{row_of_tag}
 use Rattle.row_slots.specs.declared.slots.Slot.{Slot}
 use Rattle.row_slots.specs.declared.slots.Slot.TheVariants as slots
-use Rattle.row_slots.specs.Slots.{no_slots, row_slot, slot_at, with_item, with_items}
+use Rattle.row_slots.specs.Slots.{no_slots, row_slot, slot_at, slot_of, with_item, with_items}
 
 -- ---- the loop
 
@@ -144,10 +144,9 @@ module _ (fields : List Field) where
   empty_at (suc n) zero = refl
   empty_at (suc n) (suc i) = empty_at n i
 
-  pub slot_filled : (tag : ℕ) (items : List (Item Kind)) → slot_of tag < 512
-      → is_own tag items ≡ true
+  pub slot_filled : (tag : ℕ) (items : List (Item Kind)) → is_own tag items ≡ true
       → slot_at (with_items fields items no_slots) tag
       ≡ slot_by (row_of_tag tag items) slots.Empty
-  slot_filled tag items within h =
-      own_slot tag items no_slots within h
-      ∙ ap (λ (s : Slot). slot_by (row_of_tag tag items) s) (empty_at 512 (slot_of tag))
+  slot_filled tag items h =
+      own_slot tag items no_slots (mod-lt tag (omega arith)) h
+      ∙ ap (λ (s : Slot). slot_by (row_of_tag tag items) s) (empty_at 256 (slot_of tag))

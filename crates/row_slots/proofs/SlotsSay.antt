@@ -16,7 +16,6 @@ use Rattle.typed_fields.specs.Dec.{dec_text, read_dec}
 use Rattle.typed_fields.specs.MonthYear.{read_month_year}
 use Rattle.typed_fields.specs.Number.{number_text, read_number}
 use Rattle.field_groups.specs.Field.{Field}
-use Rattle.field_groups.specs.Index.{slot_of}
 use Rattle.message_tables.specs.Tables.{Need, Required, Optional, Lenient, Fixed, When, Row, Table}
 use Rattle.message_tables.specs.Tables.{Item, Verdict, Spells, Outside, Wrong, Said, ◌>>=◌}
 use Rattle.message_tables.specs.Tables.{all_rows}
@@ -307,13 +306,13 @@ module _ (table : Table Kind) (fields : List Field) (none : first_fault judge ta
         (strict_is tag kind need refl its bytes first))
 
     -- WHAT THE SLOT OF A TAG SAYS
-    pub slot_says : (tag : ℕ) → slot_of tag < 512
+    pub slot_says : (tag : ℕ)
         → row_at tag (all_rows table) ≡ row_of_tag tag table.items
         → can_say (row_of_tag tag table.items) ≡ true → is_own tag table.items ≡ true
         → slot_said fields (slot_at (with_items fields table.items no_slots) tag)
         ≡ row_says fields (row_of_tag tag table.items)
-    slot_says tag within its can own =
-        ap (slot_said fields) (slot_filled fields tag table.items within own)
+    slot_says tag its can own =
+        ap (slot_said fields) (slot_filled fields tag table.items own)
         ∙ by (row_of_tag tag table.items) refl can
       where
         by : (o : Option (Row Kind)) → row_of_tag tag table.items ≡ o → can_say o ≡ true
@@ -442,32 +441,31 @@ module _ (fields : List Field) where
   -- what holds of the slot of a tag, by the kind of its row
   by_tag : (test : Kind → Bool) (P : Slot → Type 0) → P slots.Empty
       → ((kind : Kind) (place : ℕ) → test kind ≡ true → P (slot_in kind place))
-      → (items : List (Item Kind)) (tag : ℕ) → slot_of tag < 512
+      → (items : List (Item Kind)) (tag : ℕ)
       → if_row test (row_of_tag tag items) ≡ true → is_own tag items ≡ true
       → P (slot_at (with_items fields items no_slots) tag)
-  by_tag test P empty full items tag within kind own =
-      subst P (sym (slot_filled fields tag items within own)) (by (row_of_tag tag items) kind)
+  by_tag test P empty full items tag kind own =
+      subst P (sym (slot_filled fields tag items own)) (by (row_of_tag tag items) kind)
     where
       by : (o : Option (Row Kind)) → if_row test o ≡ true → P (slot_by fields o slots.Empty)
       by None h = empty
       by (Some row) h = by_slot fields row P empty (λ place. full row.kind place h)
 
-  module _ (items : List (Item Kind)) (tag : ℕ) (within : slot_of tag < 512)
-      (own : is_own tag items ≡ true) where
+  module _ (items : List (Item Kind)) (tag : ℕ) (own : is_own tag items ≡ true) where
     abbrev the_slot : Slot
     the_slot = slot_at (with_items fields items no_slots) tag
 
     pub tag_stands : if_row is_standing (row_of_tag tag items) ≡ true
         → slot_value fields the_slot ≡ slot_said fields the_slot
     unfolding Stand
-    tag_stands kind = by_tag is_standing Stand refl stand items tag within kind own
+    tag_stands kind = by_tag is_standing Stand refl stand items tag kind own
 
     pub tag_numbers : if_row is_numeral (row_of_tag tag items) ≡ true
         → slot_said fields the_slot ≡ option_map number_text (slot_number fields the_slot)
     unfolding Numeral
-    tag_numbers kind = by_tag is_numeral Numeral refl numeral items tag within kind own
+    tag_numbers kind = by_tag is_numeral Numeral refl numeral items tag kind own
 
     pub tag_decimal : if_row is_decimal (row_of_tag tag items) ≡ true
         → slot_said fields the_slot ≡ option_map dec_text (slot_decimal fields the_slot)
     unfolding Decimally
-    tag_decimal kind = by_tag is_decimal Decimally refl decimally items tag within kind own
+    tag_decimal kind = by_tag is_decimal Decimally refl decimally items tag kind own

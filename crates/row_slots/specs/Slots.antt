@@ -1,5 +1,5 @@
 -- Inside: what one pass over the rows of a table finds of each; no clause of run rests on it.
-use Rattle.std.specs.Prelude.{◌≡◌, ◌==◌, ℕ, Bool, true, false, List, [], ◌∷◌, Option, Some, None}
+use Rattle.std.specs.Prelude.{◌≡◌, ◌==◌, ◌%◌, ℕ, Bool, true, false, List, [], ◌∷◌, Option, Some, None}
 use Rattle.std.specs.Prelude.{position}
 use Rattle.std.specs.Prelude.{replicate, slice_index_or, slice_set, if◌then◌else◌}
 use Rattle.std.specs.List.{slice_get}
@@ -10,7 +10,6 @@ use Rattle.typed_fields.specs.declared.number.Number.{Number as NumberValue}
 use Rattle.typed_fields.specs.Dec.{dec_text, read_dec}
 use Rattle.typed_fields.specs.Number.{number_text, read_number}
 use Rattle.field_groups.specs.Field.{Field}
-use Rattle.field_groups.specs.Index.{slot_of, slots as slot_count}
 use Rattle.message_tables.specs.declared.table_fault.Mark.{Mark}
 use Rattle.message_tables.specs.Tables.{Need, Lenient, Fixed, Row, Item, One, Table, Said, ◌>>=◌}
 use Rattle.message_tables.specs.Tables.{all_rows, code_of, row_at, says, value_at}
@@ -67,6 +66,10 @@ abbrev pub weighs : Need → Mark → Bool
 weighs Lenient mark = is_good mark
 weighs need mark = true
 
+-- the slot of a tag: no two rows of a table share one
+abbrev pub slot_of : ℕ → ℕ
+slot_of tag = tag % 256
+
 module _ (fields : List Field) where
   -- what fields say by a row
   abbrev pub row_says : Option (Row Kind) → Said
@@ -98,7 +101,7 @@ module _ (fields : List Field) where
   with_items (item ∷ items) filled = with_items items (with_item item filled)
 
 abbrev pub no_slots : List Slot
-no_slots = replicate slot_count slots.Empty
+no_slots = replicate 256 slots.Empty
 
 abbrev pub slot_at : List Slot → ℕ → Slot
 slot_at filled tag = slice_index_or filled (slot_of tag) slots.Empty

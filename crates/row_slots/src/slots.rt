@@ -1,27 +1,20 @@
 //! The slots of the rows of a table, filled in one pass.
 
 ghost use Rattle.std.specs.Prelude.{◌≡◌, ◌<◌, map, position};
-ghost use Rattle.field_groups.specs.Index.{slot_of};
 ghost use Rattle.message_tables.specs.CodeTables.{item_of, row_of};
 ghost use Rattle.message_tables.specs.CodeTables.{table_of as code_table};
 ghost use Rattle.message_tables.specs.Plain.{is_good};
 ghost use Rattle.row_values.specs.CodeKinds.{kind_of};
-ghost use Rattle.row_slots.specs.Slots.{counts, no_slots, row_slot, slot_at, slot_in, with_item};
-ghost use Rattle.row_slots.specs.Slots.{with_items};
+ghost use Rattle.row_slots.specs.Slots.{counts, no_slots, row_slot, slot_at, slot_in, slot_of};
+ghost use Rattle.row_slots.specs.Slots.{with_item, with_items};
 
 use field_groups::Fields;
 use message_tables::{Item, Mark, Need, Row, Table};
 use row_values::Kind;
 use value_kinds::ValueKind;
 
-/// The tags below this one have a slot each.
-const OWN: u32 = 448;
-
-/// The slots that all other tags share.
-const SHARED: u32 = 64;
-
 /// How many slots there are.
-pub const SLOTS: usize = 512;
+pub const SLOTS: usize = 256;
 
 /// What the field of a row says.
 #[derive(Clone, Copy, Debug)]
@@ -29,14 +22,14 @@ pub enum Slot {
     /// Nothing: no field stands there, or its value counts for nothing.
     Empty,
     /// The value of the field at this place, as it stands.
-    Stands(u16),
+    Stands(u8),
     /// The decimal number that the value at this place spells.
-    Decimal(u16),
+    Decimal(u8),
     /// The number that the value at this place spells.
-    Number(u16),
+    Number(u8),
 }
 
-/// The slots of the rows of a table, by their tags.
+/// The slots of the rows of a table, by their tags: no two rows share one.
 pub type Slots = [Slot; SLOTS];
 
 /// The slot of a tag.
@@ -45,11 +38,7 @@ fn slot_of(tag: u32) -> usize
     ensures value { result ≡ slot_of tag }
     ensures within { result < SLOTS }
 {
-    if tag < OWN {
-        tag as usize
-    } else {
-        (OWN + tag % SHARED) as usize
-    }
+    tag as usize % SLOTS
 }
 
 /// Whether a value was found to be good.
@@ -77,7 +66,7 @@ fn counts(row: &Row<Kind>, fields: &Fields<'_>, value: &[u8]) -> bool
 
 /// How a value of a kind is said.
 #[inline(always)]
-fn slot_in(kind: &Kind, place: u16) -> Slot
+fn slot_in(kind: &Kind, place: u8) -> Slot
     ensures { result ≡ slot_in (kind_of kind.now) place }
 {
     match kind {
@@ -98,7 +87,7 @@ fn row_slot(row: &Row<Kind>, fields: &Fields<'_>) -> Slot
             None => Slot::Empty,
             Some((_, value)) => {
                 if counts(row, fields, value) {
-                    slot_in(&row.kind, place as u16)
+                    slot_in(&row.kind, place as u8)
                 } else {
                     Slot::Empty
                 }

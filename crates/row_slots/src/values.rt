@@ -20,7 +20,7 @@ use typed_fields::{Dec, FieldValue, MAX_SPELLING, Number};
 
 /// The value at a place.
 #[inline(always)]
-fn value_at<'a>(fields: &Fields<'a>, place: u16) -> Option<&'a [u8]>
+fn value_at<'a>(fields: &Fields<'a>, place: u8) -> Option<&'a [u8]>
     ensures { option_map (λ v. v.now) result ≡ value_of fields.now place }
 {
     match fields.at(place as usize) {
