@@ -7,6 +7,7 @@ use Rattle.std.specs.Prelude.{◌||◌, ◌&&◌, ◌==◌, not, if◌then◌els
 use Rattle.std.specs.declared.option.Option.{Option}
 use Rattle.std.specs.List.{AllByRecursion, flat_map, list_all}
 use Rattle.field_groups.specs.Field.{Field}
+use Rattle.message_tables.specs.declared.table_fault.Mark.{Mark}
 use Rattle.message_tables.specs.Tables.{Cell, Item, One, Party, Lines as LinesOf, Message}
 use Rattle.message_tables.specs.Tables.{Need, Lenient, Fixed, Row, Said, Table, Tag, all_rows}
 use Rattle.message_tables.specs.Tables.{cells_of, code_of, first_of, is_one_of, or_else, row_at}
@@ -14,7 +15,7 @@ use Rattle.message_tables.specs.Tables.{said_at, says, value_at, ◌>>=◌}
 use Rattle.message_tables.specs.Content.{cell_fields, group_fields}
 use Rattle.message_tables.specs.FirstFault.{beyond, by_row, first_fault, is_passed, message_in}
 use Rattle.message_tables.specs.FirstFault.{without_row, wrong}
-use Rattle.value_kinds.specs.ValueKind.{ValueKind, MonthYear, Price, Qty}
+use Rattle.value_kinds.specs.ValueKind.{MonthYear, Price, Qty}
 use Rattle.row_values.specs.Kinds.{DayOf, Kind, Value, judge, said}
 use Rattle.row_values.proofs.Texts.{price_said, qty_at_said}
 use Rattle.sound_laws.proofs.AsTheyStand.{as_said, is_own, qty_stands}
@@ -25,7 +26,8 @@ use Rattle.row_slots.proofs.Filled.{tag_is}
 use Rattle.rule_rows.specs.ByRules.{rule_fields}
 use Rattle.request_rules.specs.declared.rules.Rule.{Rule as CodeRule}
 use Rattle.request_rules.specs.declared.rules.Rule.TheVariants as rules
-use Rattle.request_rules.specs.CodeRules.{decimal_text, is_decimal, is_read, lacked, rule_of, wrote}
+use Rattle.request_rules.specs.CodeRules.{decimal_text, is_amount, is_decimal, is_read}
+use Rattle.request_rules.specs.CodeRules.{lacked, rule_of, wrote}
 use Rattle.request_rules.specs.Rules.{Rule, Same, Moved, Listed, Time}
 use Rattle.request_rules.specs.Rules.{at, date_up, is_late, is_unlisted, kinds}
 use Rattle.request_rules.specs.Rules.{lack_if, party_lines, rule_lack, time_up, type_up}
@@ -64,22 +66,17 @@ is_strict Lenient = false
 is_strict (Fixed text) = false
 is_strict need = true
 
+abbrev pub is_own_kind : Kind → Bool
+is_own_kind (Value kind) = is_own kind
+is_own_kind kind = false
+
 abbrev pub is_text : Option (Row Kind) → Bool
 is_text None = true
-is_text (Some row) = of_kind row.kind && is_strict row.need
-  where
-    of_kind : Kind → Bool
-    of_kind (Value kind) = is_own kind
-    of_kind kind = false
+is_text (Some row) = is_strict row.need && is_own_kind row.kind
 
 abbrev pub is_number : Option (Row Kind) → Bool
 is_number None = true
-is_number (Some row) = of_kind row.kind && is_strict row.need
-  where
-    of_kind : Kind → Bool
-    of_kind (Value Qty) = true
-    of_kind (Value Price) = true
-    of_kind kind = false
+is_number (Some row) = is_strict row.need && is_amount row.kind
 
 abbrev pub read_tags : List ℕ
 read_tags = text_tags ++ decimal_tags
@@ -192,7 +189,8 @@ module _ (table : Table Kind) (has : HasRows table) (fields : List Field)
           (all_good judge table fields none) in
           let mark : by_row judge (is_passed table tag) fields bytes (row_at tag (all_rows table))
           ≡ without_row false bytes = λ i. by_row judge (out i) fields bytes (no i) in
-          absurd (bad bytes (rw (sym mark) good.0) (rw (sym mark) good.1))
+          absurd (bad bytes (sym (ap (λ (m : Mark). wrong (tag, m)) mark) ∙ good.0)
+          (sym (ap (λ (m : Mark). beyond (tag, m)) mark) ∙ good.1))
 
   -- WHAT THE CODE READS at a tag, where that has a row, and where it has none
   module _ (tag : ℕ) (there : is_one_of read_tags tag ≡ true) where
@@ -223,8 +221,9 @@ module _ (table : Table Kind) (has : HasRows table) (fields : List Field)
             let here : Some row
             ≡ Some (record { tag = tag; kind = row.kind; need = row.need }) =
             λ i. Some (record { tag = is i; kind = row.kind; need = row.need }) in
-            subst (λ (t : ℕ). Q (says row.need (judge fields row.kind) (value_at t fields)))
-            (sym is) (yes row.kind row.need (own_row ∙ e ∙ here) (ap P (sym here) ∙ t))
+            let R : ℕ → Type 0 =
+            λ n. Q (says row.need (judge fields row.kind) (value_at n fields)) in
+            subst R (sym is) (yes row.kind row.need (own_row ∙ e ∙ here) (ap P (sym here) ∙ t))
 
   text_is : (tag : ℕ) → is_one_of text_tags tag ≡ true → value_at tag fields ≡ at m tag
   text_is tag there =
@@ -232,22 +231,22 @@ module _ (table : Table Kind) (has : HasRows table) (fields : List Field)
       (λ said. value_at tag fields ≡ said)
       (among (λ t. is_text (row_of_tag t table.items)) text_tags has.texts tag there) (λ no. no) by
     where
-      of_value : (kind : ValueKind) (need : Need)
-          → row_at tag (all_rows table)
-          ≡ Some (record { tag = tag; kind = Value kind; need = need })
-          → is_own kind ≡ true → is_strict need ≡ true
-          → value_at tag fields ≡ says need (judge fields (Value kind)) (value_at tag fields)
-      of_value kind Lenient its own strict = absurd cc
-      of_value kind (Fixed text) its own strict = absurd cc
-      of_value kind need its own strict = as_said table fields none need tag kind refl own its
+      of_kind : (kind : Kind) (need : Need)
+          → row_at tag (all_rows table) ≡ Some (record { tag = tag; kind = kind; need = need })
+          → is_strict need ≡ true → is_own_kind kind ≡ true
+          → value_at tag fields ≡ says need (judge fields kind) (value_at tag fields)
+      of_kind kind Lenient its strict own = absurd cc
+      of_kind kind (Fixed text) its strict own = absurd cc
+      of_kind (Value kind) need its strict own =
+          as_said table fields none need tag kind refl own its
+      of_kind kind need its strict own = absurd cc
 
       by : (kind : Kind) (need : Need)
           → row_at tag (all_rows table) ≡ Some (record { tag = tag; kind = kind; need = need })
           → is_text (Some (record { tag = tag; kind = kind; need = need })) ≡ true
           → value_at tag fields ≡ says need (judge fields kind) (value_at tag fields)
-      by (Value kind) need its t =
-          let p = both (is_own kind) (is_strict need) t in of_value kind need its p.0 p.1
-      by kind need its t = absurd cc
+      by kind need its t =
+          let p = both (is_strict need) (is_own_kind kind) t in of_kind kind need its p.0 p.1
 
   decimal_is : (tag : ℕ) → is_one_of decimal_tags tag ≡ true
       → decimal_text (value_at tag fields) ≡ at m tag
@@ -257,16 +256,23 @@ module _ (table : Table Kind) (has : HasRows table) (fields : List Field)
       (among (λ t. is_number (row_of_tag t table.items)) decimal_tags has.decimals tag there)
       (λ no. ap decimal_text no) by
     where
+      of_kind : (kind : Kind) (need : Need)
+          → row_at tag (all_rows table) ≡ Some (record { tag = tag; kind = kind; need = need })
+          → is_strict need ≡ true → is_amount kind ≡ true
+          → decimal_text (value_at tag fields) ≡ says need (judge fields kind) (value_at tag fields)
+      of_kind kind Lenient its strict amount = absurd cc
+      of_kind kind (Fixed text) its strict amount = absurd cc
+      of_kind (Value Qty) need its strict amount =
+          qty_stands table fields none need tag refl its ∙ qty_at_said fields tag
+      of_kind (Value Price) need its strict amount = price_said fields tag
+      of_kind kind need its strict amount = absurd cc
+
       by : (kind : Kind) (need : Need)
           → row_at tag (all_rows table) ≡ Some (record { tag = tag; kind = kind; need = need })
           → is_number (Some (record { tag = tag; kind = kind; need = need })) ≡ true
           → decimal_text (value_at tag fields) ≡ says need (judge fields kind) (value_at tag fields)
-      by kind Lenient its t = absurd cc
-      by kind (Fixed text) its t = absurd cc
-      by (Value Qty) need its t =
-          qty_stands table fields none need tag refl its ∙ qty_at_said fields tag
-      by (Value Price) need its t = price_said fields tag
-      by kind need its t = absurd cc
+      by kind need its t =
+          let p = both (is_strict need) (is_amount kind) t in of_kind kind need its p.0 p.1
 
   month_is : said fields 200 (Value MonthYear) ≡ at m 200
   month_is = sym (says_row 200 ∙ ap (row_says fields) has.month)

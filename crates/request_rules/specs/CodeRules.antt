@@ -45,18 +45,18 @@ byte_of said = said >>= code_of
 abbrev pub party_fields : ℕ → Said → List Field
 party_fields role id = flat_map (λ line. line_fields (party_cells line)) (line_of role id)
 
--- tags of decimal numbers, which may be spelled otherwise; G has each of them
-abbrev pub is_number : Option (Row Kind) → Bool
-is_number None = false
-is_number (Some row) = of_kind row.kind
-  where
-    of_kind : Kind → Bool
-    of_kind (Value Qty) = true
-    of_kind (Value Price) = true
-    of_kind kind = false
+-- kinds of decimal numbers, which may be spelled otherwise, and their tags; G has each of them
+abbrev pub is_amount : Kind → Bool
+is_amount (Value Qty) = true
+is_amount (Value Price) = true
+is_amount kind = false
+
+abbrev pub is_amount_row : Option (Row Kind) → Bool
+is_amount_row None = false
+is_amount_row (Some row) = is_amount row.kind
 
 abbrev pub is_decimal : ℕ → Bool
-is_decimal tag = is_number (row_at tag (flat_map rows_of replace_request))
+is_decimal tag = is_amount_row (row_at tag (flat_map rows_of replace_request))
 
 -- whether a rule of the code respells just the decimal numbers; what is moved is one
 abbrev pub is_read : CodeRule → Bool

@@ -10,7 +10,6 @@ ghost use Rattle.message_tables.specs.Tables.{Tag, first_of};
 ghost use Rattle.party_translate.specs.Parties.{line_of};
 ghost use Rattle.rows_fix42.specs.Meaning.{is_on_close};
 ghost use Rattle.rule_rows.specs.Rows.{have_written_lines};
-ghost use Rattle.request_rules.specs.declared.rules.Rule.TheVariants as rules;
 ghost use Rattle.request_rules.specs.CodeRules.{byte_of, decimal_text, lacked, party_fields};
 ghost use Rattle.request_rules.specs.CodeRules.{writes, wrote};
 ghost use Rattle.request_rules.specs.Good.{table};
@@ -101,7 +100,7 @@ fn put_time(out: &mut Vec<u8>, ord_type: Option<&[u8]>, time: Option<&[u8]>) -> 
 /// Appends the month of a maturity.
 fn put_month(out: &mut Vec<u8>, good: &Good<'_, '_>) -> Appended
     ensures done { OnOk result (out.new.items ≡ out.old.items ++ body_of
-        (wrote (table good.now) good.now.fields.now rules.Month)) }
+        (wrote (table good.now) good.now.fields.now Rule.Month)) }
     ensures kept { StartsWith out.new.items out.old.items }
 {
     let maturity = month_and_day(good.fields);
@@ -112,7 +111,7 @@ fn put_month(out: &mut Vec<u8>, good: &Good<'_, '_>) -> Appended
 #[tactic(auto, using(crate::proofs::DateWritten::date_written))]
 fn put_date(out: &mut Vec<u8>, good: &Good<'_, '_>) -> Appended
     ensures done { OnOk result (out.new.items ≡ out.old.items ++ body_of
-        (wrote (table good.now) good.now.fields.now rules.Date)) }
+        (wrote (table good.now) good.now.fields.now Rule.Date)) }
     ensures kept { StartsWith out.new.items out.old.items }
 {
     let maturity = month_and_day(good.fields);
