@@ -175,7 +175,7 @@ module _ (table : Table Kind) (has : HasRows table) (fields : List Field)
   -- a tag that has no row, in a table where each field has one, has no field
   none_there : (tag : ℕ) → row_at tag (all_rows table) ≡ None → is_passed table tag ≡ false
       → value_at tag fields ≡ None
-  none_there tag no out = by (value_at tag fields) refl
+  none_there tag absent out = by (value_at tag fields) refl
     where
       bad : (b : List ℕ) → wrong (tag, without_row false b) ≡ None
           → beyond (tag, without_row false b) ≡ None → ⊥
@@ -183,12 +183,12 @@ module _ (table : Table Kind) (has : HasRows table) (fields : List Field)
       bad (byte ∷ bytes) w o = absurd cc
 
       by : (o : Said) → value_at tag fields ≡ o → o ≡ None
-      by None at = refl
-      by (Some bytes) at =
-          let good = held (IsGood judge table fields) tag fields bytes at
+      by None there = refl
+      by (Some bytes) there =
+          let good = held (IsGood judge table fields) tag fields bytes there
           (all_good judge table fields none) in
           let mark : by_row judge (is_passed table tag) fields bytes (row_at tag (all_rows table))
-          ≡ without_row false bytes = λ i. by_row judge (out i) fields bytes (no i) in
+          ≡ without_row false bytes = λ i. by_row judge (out i) fields bytes (absent i) in
           absurd (bad bytes (sym (ap (λ (m : Mark). wrong (tag, m)) mark) ∙ good.0)
           (sym (ap (λ (m : Mark). beyond (tag, m)) mark) ∙ good.1))
 
@@ -199,7 +199,7 @@ module _ (table : Table Kind) (has : HasRows table) (fields : List Field)
         has.own tag there
 
     no_field : row_of_tag tag table.items ≡ None → value_at tag fields ≡ None
-    no_field no = none_there tag (own_row ∙ no) (not_true (is_passed table tag)
+    no_field absent = none_there tag (own_row ∙ absent) (not_true (is_passed table tag)
         (among (λ t. not (is_passed table t)) read_tags has.out tag there))
 
     by_row_of : (P : Option (Row Kind) → Bool) (Q : Said → Type 0)
@@ -210,12 +210,12 @@ module _ (table : Table Kind) (has : HasRows table) (fields : List Field)
         → P (Some (record { tag = tag; kind = kind; need = need })) ≡ true
         → Q (says need (judge fields kind) (value_at tag fields)))
         → Q (at m tag)
-    by_row_of P Q test no yes =
+    by_row_of P Q test missing found =
         subst Q (sym (says_row tag)) (by (row_of_tag tag table.items) refl test)
       where
         by : (o : Option (Row Kind)) → row_of_tag tag table.items ≡ o → P o ≡ true
             → Q (row_says fields o)
-        by None e t = no (no_field e)
+        by None e t = missing (no_field e)
         by (Some row) e t =
             let is : row.tag ≡ tag = tag_is tag table.items row e in
             let here : Some row
@@ -223,13 +223,13 @@ module _ (table : Table Kind) (has : HasRows table) (fields : List Field)
             λ i. Some (record { tag = is i; kind = row.kind; need = row.need }) in
             let R : ℕ → Type 0 =
             λ n. Q (says row.need (judge fields row.kind) (value_at n fields)) in
-            subst R (sym is) (yes row.kind row.need (own_row ∙ e ∙ here) (ap P (sym here) ∙ t))
+            subst R (sym is) (found row.kind row.need (own_row ∙ e ∙ here) (ap P (sym here) ∙ t))
 
   text_is : (tag : ℕ) → is_one_of text_tags tag ≡ true → value_at tag fields ≡ at m tag
   text_is tag there =
       by_row_of tag (in_front tag text_tags decimal_tags there) is_text
       (λ said. value_at tag fields ≡ said)
-      (among (λ t. is_text (row_of_tag t table.items)) text_tags has.texts tag there) (λ no. no) by
+      (among (λ t. is_text (row_of_tag t table.items)) text_tags has.texts tag there) (λ absent. absent) by
     where
       of_kind : (kind : Kind) (need : Need)
           → row_at tag (all_rows table) ≡ Some (record { tag = tag; kind = kind; need = need })
@@ -254,7 +254,7 @@ module _ (table : Table Kind) (has : HasRows table) (fields : List Field)
       by_row_of tag (behind tag text_tags decimal_tags there) is_number
       (λ said. decimal_text (value_at tag fields) ≡ said)
       (among (λ t. is_number (row_of_tag t table.items)) decimal_tags has.decimals tag there)
-      (λ no. ap decimal_text no) by
+      (λ absent. ap decimal_text absent) by
     where
       of_kind : (kind : Kind) (need : Need)
           → row_at tag (all_rows table) ≡ Some (record { tag = tag; kind = kind; need = need })
