@@ -33,12 +33,10 @@ fn put_number_word(out: &mut Vec<u8>, word: &str) -> Result<(), AllocError> {
 
 // The byte of a side in a journal; 0 where there is none.
 fn side_byte(word: &str) -> u8 {
-    if word == "Client" {
-        1
-    } else if word == "Venue" {
-        2
-    } else {
-        0
+    match word {
+        "Client" => 1,
+        "Venue" => 2,
+        _ => 0,
     }
 }
 

@@ -25,16 +25,12 @@ fn side_answer(
     side: Side,
     text: &str,
 ) -> Result<String, AllocError> {
-    if call == "opened" {
-        opened(alloc, core, journal, side)
-    } else if call == "closed" {
-        closed(alloc, core, journal, side)
-    } else if call == "frame" {
-        frame(alloc, core, journal, side, text)
-    } else if call == "held" {
-        held(alloc, core, journal, side, text)
-    } else {
-        format!(in alloc; "no such call")
+    match call {
+        "opened" => opened(alloc, core, journal, side),
+        "closed" => closed(alloc, core, journal, side),
+        "frame" => frame(alloc, core, journal, side, text),
+        "held" => held(alloc, core, journal, side, text),
+        _ => format!(in alloc; "no such call"),
     }
 }
 
@@ -95,18 +91,13 @@ impl World {
 
     // The answer to a row.
     fn text(&mut self, alloc: Global, call: &str, given: &str) -> Result<String, AllocError> {
-        if call == "journal" {
-            self.begin(alloc)
-        } else if call == "entry" {
-            self.put(alloc, given)
-        } else if call == "answer" {
-            answer(alloc, &self.image, given)
-        } else if call == "number-of" || call == "orig-of" {
-            chained(alloc, &self.image, call, given)
-        } else if call == "restart" {
-            self.restart(alloc)
-        } else {
-            self.planned(alloc, call, given)
+        match call {
+            "journal" => self.begin(alloc),
+            "entry" => self.put(alloc, given),
+            "answer" => answer(alloc, &self.image, given),
+            "number-of" | "orig-of" => chained(alloc, &self.image, call, given),
+            "restart" => self.restart(alloc),
+            _ => self.planned(alloc, call, given),
         }
     }
 }

@@ -18,11 +18,9 @@ pub(crate) fn disk(alloc: Global, image: &[u8], word: &str) -> Result<MemDisk, A
 
 /// Which image a crash leaves.
 pub(crate) fn pick(word: &str) -> Image {
-    if word == "old" {
-        Image::Old
-    } else if word == "torn" {
-        Image::Torn
-    } else {
-        Image::New
+    match word {
+        "old" => Image::Old,
+        "torn" => Image::Torn,
+        _ => Image::New,
     }
 }

@@ -29,30 +29,24 @@ impl<'a> Message<'a> {
     // The message with another field.
     fn with(self, tag: &'a str, value: &'a str) -> Message<'a> {
         let mut message = self;
-        if tag == "35" {
-            message.msg_type = value;
-        } else if tag == "34" {
-            message.number = number(value).unwrap_or(0);
-        } else if tag == "36" {
-            message.new_number = number(value).unwrap_or(0);
-        } else if tag == "11" {
-            message.order = value;
-        } else if tag == "17" {
-            message.report = value;
+        match tag {
+            "35" => message.msg_type = value,
+            "34" => message.number = number(value).unwrap_or(0),
+            "36" => message.new_number = number(value).unwrap_or(0),
+            "11" => message.order = value,
+            "17" => message.report = value,
+            _ => {}
         }
         message
     }
 
     // The id of an order or of a report, and `j` for a refusal.
     fn id(&self) -> &'a str {
-        if self.msg_type == "D" {
-            self.order
-        } else if self.msg_type == "8" {
-            self.report
-        } else if self.msg_type == "j" {
-            "j"
-        } else {
-            ""
+        match self.msg_type {
+            "D" => self.order,
+            "8" => self.report,
+            "j" => "j",
+            _ => "",
         }
     }
 }

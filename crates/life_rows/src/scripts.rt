@@ -29,16 +29,12 @@ impl Poll {
 
 // What a poll gives.
 fn script_item(alloc: Global, item: &str) -> Result<Script, AllocError> {
-    if item == "nothing" {
-        Ok(Script::Nothing)
-    } else if item == "opened" {
-        Ok(Script::Opened)
-    } else if item == "closed" {
-        Ok(Script::Closed)
-    } else if item == "empty" {
-        Ok(Script::Bytes(Vec::new(alloc)))
-    } else {
-        Ok(Script::Bytes(bytes_of(alloc, &SIGNS, item)?))
+    match item {
+        "nothing" => Ok(Script::Nothing),
+        "opened" => Ok(Script::Opened),
+        "closed" => Ok(Script::Closed),
+        "empty" => Ok(Script::Bytes(Vec::new(alloc))),
+        _ => Ok(Script::Bytes(bytes_of(alloc, &SIGNS, item)?)),
     }
 }
 

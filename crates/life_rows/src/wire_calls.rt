@@ -93,17 +93,15 @@ pub(crate) fn wire_answer(
     call: &str,
     given: &str,
 ) -> Result<String, AllocError> {
-    if call == "gives" {
-        poll_text(alloc, wire)
-    } else if call == "send" {
-        send_text(alloc, wire, given.as_bytes())
-    } else if call == "shows" {
-        wire_text(alloc, wire)
-    } else if call == "hangs-up" {
-        hung_up_text(alloc, wire, given)
-    } else {
-        wire.hang_up();
-        format!(in alloc; "done")
+    match call {
+        "gives" => poll_text(alloc, wire),
+        "send" => send_text(alloc, wire, given.as_bytes()),
+        "shows" => wire_text(alloc, wire),
+        "hangs-up" => hung_up_text(alloc, wire, given),
+        _ => {
+            wire.hang_up();
+            format!(in alloc; "done")
+        }
     }
 }
 

@@ -93,12 +93,10 @@ fn told(alloc: Global, wire: &MemWire, expected: &[u8]) -> Result<String, AllocE
 
 // The words of a life of which one call fails.
 fn failing_words(alloc: Global, device: &str, call: &str) -> Result<String, AllocError> {
-    let (disk, client, venue) = if device == "disk" {
-        (call, "-", "-")
-    } else if device == "client" {
-        ("-", call, "-")
-    } else {
-        ("-", "-", call)
+    let (disk, client, venue) = match device {
+        "disk" => (call, "-", "-"),
+        "client" => ("-", call, "-"),
+        _ => ("-", "-", call),
     };
     format!(in alloc; "day-client day-venue 9 {disk} {client} {venue}")
 }
@@ -143,10 +141,10 @@ impl World {
     }
 
     // Puts a poll behind a script.
-    fn put(&mut self, alloc: Global, given: &str) -> Result<String, AllocError> {
-        self.polls
-            .push(Poll::new(alloc, word(given, 0), behind(given, 1))?)?;
-        Ok(String::new(alloc))
+    fn put(&mut self, alloc: Global, given: &str) -> Result<(), AllocError> {
+        let poll = Poll::new(alloc, word(given, 0), behind(given, 1))?;
+        self.polls.push(poll)?;
+        Ok(())
     }
 
     // A life over the present bytes.
@@ -261,20 +259,14 @@ impl World {
         call: &str,
         given: &str,
     ) -> Result<String, AllocError> {
-        if call == "life" {
-            self.life(alloc, given)
-        } else if call == "serve" {
-            self.served(alloc, given)
-        } else if call == "tapped" {
-            self.tapped(alloc, given)
-        } else if call == "told" {
-            self.told(alloc, given)
-        } else if call == "connections" {
-            self.connections(alloc)
-        } else if call == "show" {
-            shows(alloc, &mut disk(alloc, &self.image, "-")?, given)
-        } else {
-            self.wire_answer(alloc, call, given)
+        match call {
+            "life" => self.life(alloc, given),
+            "serve" => self.served(alloc, given),
+            "tapped" => self.tapped(alloc, given),
+            "told" => self.told(alloc, given),
+            "connections" => self.connections(alloc),
+            "show" => shows(alloc, &mut disk(alloc, &self.image, "-")?, given),
+            _ => self.wire_answer(alloc, call, given),
         }
     }
 
@@ -291,37 +283,26 @@ impl World {
         call: &str,
         given: &str,
     ) -> Result<String, AllocError> {
-        if call == "wire" {
-            return self.begin_wire(alloc, given);
-        } else if call == "clock" {
-            return clock_text(alloc, given);
-        } else if call == "quiet" {
-            return quiet_text(alloc);
-        }
-        match &mut self.wire {
-            Some(wire) => wire_answer(alloc, wire, call, given),
-            None => format!(in alloc; "no wire"),
+        match (call, &mut self.wire) {
+            ("wire", _) => self.begin_wire(alloc, given),
+            ("clock", _) => clock_text(alloc, given),
+            ("quiet", _) => quiet_text(alloc),
+            (_, Some(wire)) => wire_answer(alloc, wire, call, given),
+            (_, None) => format!(in alloc; "no wire"),
         }
     }
 
     // The answer to a row.
     fn text(&mut self, alloc: Global, call: &str, given: &str) -> Result<String, AllocError> {
-        if call == "poll" {
-            self.put(alloc, given)
-        } else if call == "empty" {
-            self.image.clear();
-            Ok(String::new(alloc))
-        } else if call == "holds" {
-            self.image = stream(alloc, &self.polls, given)?;
-            Ok(String::new(alloc))
-        } else if call == "crash" {
-            self.crash(pick(word(given, 0)))?;
-            Ok(String::new(alloc))
-        } else if call == "fails" {
-            self.two_lives(alloc, given)
-        } else {
-            self.life_answer(alloc, call, given)
+        match call {
+            "poll" => self.put(alloc, given)?,
+            "empty" => self.image.clear(),
+            "holds" => self.image = stream(alloc, &self.polls, given)?,
+            "crash" => self.crash(pick(word(given, 0)))?,
+            "fails" => return self.two_lives(alloc, given),
+            _ => return self.life_answer(alloc, call, given),
         }
+        Ok(String::new(alloc))
     }
 }
 

@@ -6,27 +6,21 @@ use std::alloc::{AllocError, Global};
 
 // The answers that are bytes.
 fn frame_answer(alloc: Global, call: &str, given: &str) -> Result<Vec<u8>, AllocError> {
-    if call == "frame" {
-        frames::frame(alloc, given)
-    } else if call == "long" {
-        frames::long_frame(alloc, given)
-    } else {
-        frames::gap_fill(alloc, given)
+    match call {
+        "frame" => frames::frame(alloc, given),
+        "long" => frames::long_frame(alloc, given),
+        _ => frames::gap_fill(alloc, given),
     }
 }
 
 // The answers that are texts.
 fn text_answer(alloc: Global, call: &str, given: &str) -> Result<String, AllocError> {
-    if call == "head" {
-        logons::head(alloc, given)
-    } else if call == "check-logon" {
-        logons::checked(alloc, given)
-    } else if call == "say" {
-        logons::said(alloc, given)
-    } else if call == "fields" {
-        logons::counted(alloc, given)
-    } else {
-        sessions::answer(alloc, call, given)
+    match call {
+        "head" => logons::head(alloc, given),
+        "check-logon" => logons::checked(alloc, given),
+        "say" => logons::said(alloc, given),
+        "fields" => logons::counted(alloc, given),
+        _ => sessions::answer(alloc, call, given),
     }
 }
 

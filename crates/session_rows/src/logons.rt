@@ -101,25 +101,18 @@ pub(crate) fn counted(alloc: Global, text: &str) -> Result<String, AllocError> {
 
 // Why a Logout is sent: a name and up to two numbers.
 fn why(name: &str, a: u32, b: u32) -> Option<Why> {
-    if name == "TooLow" {
-        Some(Why::TooLow {
+    match name {
+        "TooLow" => Some(Why::TooLow {
             expected: a,
             got: b,
-        })
-    } else if name == "NoNumber" {
-        Some(Why::NoNumber)
-    } else if name == "Logon" {
-        Some(Why::Logon(a))
-    } else if name == "CompId" {
-        Some(Why::CompId)
-    } else if name == "Clock" {
-        Some(Why::Clock)
-    } else if name == "Answer" {
-        Some(Why::Answer)
-    } else if name == "End" {
-        Some(Why::End)
-    } else {
-        None
+        }),
+        "NoNumber" => Some(Why::NoNumber),
+        "Logon" => Some(Why::Logon(a)),
+        "CompId" => Some(Why::CompId),
+        "Clock" => Some(Why::Clock),
+        "Answer" => Some(Why::Answer),
+        "End" => Some(Why::End),
+        _ => None,
     }
 }
 
@@ -138,25 +131,19 @@ fn logged_out(text: &str) -> Option<Admin> {
 
 // The message of these words.
 fn admin(text: &str) -> Option<Admin> {
-    let name = word(text, 0);
-    if name == "Logon" {
-        Some(Admin::Logon {
+    match word(text, 0) {
+        "Logon" => Some(Admin::Logon {
             reset: is_yes(word(text, 1)),
-        })
-    } else if name == "Logout" {
-        logged_out(text)
-    } else if name == "Heartbeat" {
-        Some(Admin::Heartbeat {
+        }),
+        "Logout" => logged_out(text),
+        "Heartbeat" => Some(Admin::Heartbeat {
             echo: is_yes(word(text, 1)),
-        })
-    } else if name == "TestRequest" {
-        Some(Admin::TestRequest)
-    } else if name == "ResendRequest" {
-        Some(Admin::ResendRequest {
+        }),
+        "TestRequest" => Some(Admin::TestRequest),
+        "ResendRequest" => Some(Admin::ResendRequest {
             from: number(word(text, 1))?,
-        })
-    } else {
-        rejected(text)
+        }),
+        _ => rejected(text),
     }
 }
 

@@ -20,16 +20,12 @@ pub(crate) fn is_yes(word: &str) -> bool {
 }
 
 fn link(word: &str) -> Option<LinkState> {
-    if word == "Down" {
-        Some(LinkState::Down)
-    } else if word == "Wait" {
-        Some(LinkState::Wait)
-    } else if word == "Asked" {
-        Some(LinkState::Asked)
-    } else if word == "Active" {
-        Some(LinkState::Active)
-    } else {
-        None
+    match word {
+        "Down" => Some(LinkState::Down),
+        "Wait" => Some(LinkState::Wait),
+        "Asked" => Some(LinkState::Asked),
+        "Active" => Some(LinkState::Active),
+        _ => None,
     }
 }
 
@@ -72,49 +68,38 @@ fn numbered_kind(name: &str, a: u32, b: u32) -> Option<What>
     ensures { IfSome result (λ what. HasNumbers what) }
 {
     if a == 0 || a > ALL_USED {
-        None
-    } else if name == "GapFill" {
-        Some(What::GapFill { to: a })
-    } else if name == "Reset" {
-        Some(What::Reset { to: a })
-    } else if name == "ResendRequest" && a <= MAX_MSG_SEQ_NUM {
-        Some(What::ResendRequest { from: a, to: b })
-    } else {
-        None
+        return None;
+    }
+    match name {
+        "GapFill" => Some(What::GapFill { to: a }),
+        "Reset" => Some(What::Reset { to: a }),
+        "ResendRequest" if a <= MAX_MSG_SEQ_NUM => Some(What::ResendRequest { from: a, to: b }),
+        _ => None,
     }
 }
 
 fn faulty_kind(name: &str, tag: u32, reason: u8) -> Option<What>
     ensures { IfSome result (λ what. HasNumbers what) }
 {
-    if name == "BadLogon" {
-        Some(What::BadLogon { tag })
-    } else if name == "FaultyReset" {
-        Some(What::FaultyReset { tag, reason })
-    } else if name == "Faulty" {
-        Some(What::Faulty { tag, reason })
-    } else {
-        None
+    match name {
+        "BadLogon" => Some(What::BadLogon { tag }),
+        "FaultyReset" => Some(What::FaultyReset { tag, reason }),
+        "Faulty" => Some(What::Faulty { tag, reason }),
+        _ => None,
     }
 }
 
 fn plain_kind(name: &str, heart: u32, reset: bool) -> Option<What>
     ensures { IfSome result (λ what. HasNumbers what) }
 {
-    if name == "Logon" {
-        Some(What::Logon { heart, reset })
-    } else if name == "Heartbeat" {
-        Some(What::Heartbeat)
-    } else if name == "TestRequest" {
-        Some(What::TestRequest)
-    } else if name == "Reject" {
-        Some(What::Reject)
-    } else if name == "Logout" {
-        Some(What::Logout)
-    } else if name == "App" {
-        Some(What::App)
-    } else {
-        None
+    match name {
+        "Logon" => Some(What::Logon { heart, reset }),
+        "Heartbeat" => Some(What::Heartbeat),
+        "TestRequest" => Some(What::TestRequest),
+        "Reject" => Some(What::Reject),
+        "Logout" => Some(What::Logout),
+        "App" => Some(What::App),
+        _ => None,
     }
 }
 
@@ -225,23 +210,18 @@ fn called(
     now: u64,
     text: &str,
 ) -> Result<String, AllocError> {
-    if call == "message" {
-        heard(alloc, session, now, text)
-    } else if call == "tick" {
-        stepped(alloc, session.on_tick(now))
-    } else if call == "open" {
-        stepped(alloc, session.on_open(now))
-    } else if call == "end" {
-        stepped(alloc, session.on_end(now))
-    } else if call == "give" {
-        given(alloc, session, now)
-    } else if call == "closed" {
-        session_words(alloc, &session.on_closed())
-    } else if call == "new" {
-        let new = Session::new(session.side, session.numbers, session.heart);
-        session_words(alloc, &new)
-    } else {
-        format!(in alloc; "no such call")
+    match call {
+        "message" => heard(alloc, session, now, text),
+        "tick" => stepped(alloc, session.on_tick(now)),
+        "open" => stepped(alloc, session.on_open(now)),
+        "end" => stepped(alloc, session.on_end(now)),
+        "give" => given(alloc, session, now),
+        "closed" => session_words(alloc, &session.on_closed()),
+        "new" => {
+            let new = Session::new(session.side, session.numbers, session.heart);
+            session_words(alloc, &new)
+        }
+        _ => format!(in alloc; "no such call"),
     }
 }
 
