@@ -1,8 +1,8 @@
 //! Frames of messages and of gap fills.
 
-use crate::logons::{names, type_and_fields};
+use crate::logons::type_and_fields;
 use crate::sessions::is_yes;
-use order_meaning::{Names, Side};
+use order_meaning::{Name, Names, Side};
 use pair_entries::{MAX_AT, MAX_CONTENT, MAX_TYPE};
 use row_words::{SOH, behind, bytes_of, long_number, number, side_of, word};
 use session_core::MAX_MSG_SEQ_NUM;
@@ -93,24 +93,25 @@ fn frame_between(alloc: Global, names: Option<Names>, given: &str) -> Result<Vec
     }
 }
 
-// Names of which each is another.
-fn four_names() -> Option<Names> {
-    names(b"GATE", b"CLNT", b"GATE5", b"VENU")
+// The client's names, and these of the session with the venue.
+fn names(our: &[u8], peer: &[u8]) -> Option<Names> {
+    Some(Names {
+        client_our: Name::new(b"GATE")?,
+        client_peer: Name::new(b"CLNT")?,
+        venue_our: Name::new(our)?,
+        venue_peer: Name::new(peer)?,
+    })
 }
 
 /// The frame of a message: given are the side, the number, the moment of the first time and that of
 /// now, PossResend(97), whether it is sent again, and its type and content.
 pub(crate) fn frame(alloc: Global, given: &str) -> Result<Vec<u8>, AllocError> {
-    frame_between(alloc, four_names(), given)
+    frame_between(alloc, names(b"GATE5", b"VENU"), given)
 }
 
 /// The same between names that are as long as a name may be.
 pub(crate) fn long_frame(alloc: Global, given: &str) -> Result<Vec<u8>, AllocError> {
-    frame_between(
-        alloc,
-        names(b"GATE", b"CLNT", &[b'O'; 35], &[b'P'; 35]),
-        given,
-    )
+    frame_between(alloc, names(&[b'O'; 35], &[b'P'; 35]), given)
 }
 
 // Writes the frame of a gap fill, whose numbers and moments are within their bounds.
@@ -139,7 +140,11 @@ fn filled(alloc: Global, names: &Names, sending: &Sending, to: u32) -> Result<Ve
 /// The frame of a gap fill: given are the side, the first number, the moment of the first time and
 /// that of now, and the last number.
 pub(crate) fn gap_fill(alloc: Global, given: &str) -> Result<Vec<u8>, AllocError> {
-    match (four_names(), read_sending(given), number(word(given, 4))) {
+    match (
+        names(b"GATE5", b"VENU"),
+        read_sending(given),
+        number(word(given, 4)),
+    ) {
         (Some(names), Some(sending), Some(to)) => filled(alloc, &names, &sending, to),
         _ => Vec::from_slice(alloc, b"no gap to fill"),
     }

@@ -1,23 +1,14 @@
 //! What is read of a message, and what is said. Its type is that of the field 35 which a text
 //! begins with.
 
+use crate::entries::names;
 use crate::sessions::is_yes;
 use field_groups::split;
 use order_meaning::Side;
 use row_words::{SOH, behind, bytes_of, long_number, number, shown, side_of, word};
 use session_core::{Admin, Head, Why};
-use session_logon::{Name, Names, Said42, check_logon, read_head, say};
+use session_logon::{Said42, check_logon, read_head, say};
 use std::alloc::{AllocError, Global};
-
-/// The names of both sessions, which differ but for the gateway's own.
-pub(crate) fn names(our: &[u8], peer: &[u8], venue_our: &[u8], venue_peer: &[u8]) -> Option<Names> {
-    Some(Names {
-        client_our: Name::new(our)?,
-        client_peer: Name::new(peer)?,
-        venue_our: Name::new(venue_our)?,
-        venue_peer: Name::new(venue_peer)?,
-    })
-}
 
 /// The type of a text that begins with the field 35, and what is behind that.
 pub(crate) fn type_and_fields(text: &str) -> Option<(&str, &str)> {
@@ -34,7 +25,7 @@ fn read(
     body: &[u8],
 ) -> Result<Option<Head>, AllocError> {
     let split = split(alloc, body)?;
-    let Some(names) = names(b"GATE", b"CLNT", b"GATE", b"VENU") else {
+    let Some(names) = names() else {
         return Ok(None);
     };
     Ok(Some(read_head(side, &names, window, msg_type.as_bytes(), &split, now)))

@@ -216,7 +216,7 @@ fn called(
         "open" => stepped(alloc, session.on_open(now)),
         "end" => stepped(alloc, session.on_end(now)),
         "give" => given(alloc, session, now),
-        "closed" => session_words(alloc, &session.on_closed()),
+        "on-closed" => session_words(alloc, &session.on_closed()),
         "new" => {
             let new = Session::new(session.side, session.numbers, session.heart);
             session_words(alloc, &new)

@@ -1,8 +1,9 @@
-//! What the rows before have made: a journal, and a core behind it.
+//! The calls of rows, and what the rows before have made: a journal, and a core behind it.
 
 use crate::answers::{answer, chained};
 use crate::entries::{put_birth, put_entry};
 use crate::plans::{active, closed, frame, held, numbers, opened, restarted};
+use crate::{frames, logons, sessions};
 use gateway_core::Core;
 use order_meaning::Side;
 use pair_journal::Journal;
@@ -51,6 +52,17 @@ fn core_answer(
     }
 }
 
+// A call on a session and its messages.
+fn session_answer(alloc: Global, call: &str, given: &str) -> Result<String, AllocError> {
+    match call {
+        "head" => logons::head(alloc, given),
+        "check-logon" => logons::checked(alloc, given),
+        "say" => logons::said(alloc, given),
+        "fields" => logons::counted(alloc, given),
+        _ => sessions::answer(alloc, call, given),
+    }
+}
+
 impl World {
     pub(crate) fn new(alloc: Global) -> World {
         World {
@@ -89,7 +101,7 @@ impl World {
         }
     }
 
-    // The answer to a row.
+    // The answer to a row, as a text.
     fn text(&mut self, alloc: Global, call: &str, given: &str) -> Result<String, AllocError> {
         match call {
             "journal" => self.begin(alloc),
@@ -97,14 +109,21 @@ impl World {
             "answer" => answer(alloc, &self.image, given),
             "number-of" | "orig-of" => chained(alloc, &self.image, call, given),
             "restart" => self.restart(alloc),
-            _ => self.planned(alloc, call, given),
+            "active" | "opened" | "closed" | "frame" | "held" | "numbers" => {
+                self.planned(alloc, call, given)
+            }
+            _ => session_answer(alloc, call, given),
         }
     }
 }
 
 impl Answers for World {
     fn answer(&mut self, alloc: Global, call: &str, given: &str) -> Result<Vec<u8>, AllocError> {
-        let text = self.text(alloc, call, given)?;
-        bytes_of(alloc, &[SOH], &text)
+        match call {
+            "frame-out" => frames::frame(alloc, given),
+            "long" => frames::long_frame(alloc, given),
+            "fill" => frames::gap_fill(alloc, given),
+            _ => bytes_of(alloc, &[SOH], &self.text(alloc, call, given)?),
+        }
     }
 }
