@@ -1,6 +1,6 @@
 //! The forms of the command line.
 
-ghost use Rattle.std.specs.Prelude.{◌≡◌, ◌≤◌, ◌<◌, ◌^◌, map, IfSome};
+ghost use Rattle.std.specs.Prelude.{◌≡◌, ◌≤◌, ◌<◌, ◌^◌, [], ◌∷◌, map, IfSome};
 ghost use Rattle.std.specs.String.{string_bytes};
 ghost use Rattle.gateway_top.specs.Command.{command_of, is_between, number_in, drill_of};
 ghost use Rattle.gateway_top.specs.Command.{IsWithin};
@@ -73,34 +73,44 @@ fn drill_of(first: &str, count: &str) -> Option<Command>
     })
 }
 
+/// The command of one word.
+fn of_one(word: &str) -> Option<Command>
+    ensures command { result ≡ command_of (word.now ∷ []) }
+    ensures within { IfSome result IsWithin }
+{
+    match word {
+        "--help" => Some(Command::Help),
+        "--version" => Some(Command::Version),
+        "show" => Some(Command::Show),
+        "replay" => Some(Command::Replay),
+        _ => None,
+    }
+}
+
+/// The command of two words.
+fn of_two(first: &str, second: &str) -> Option<Command>
+    ensures command { result ≡ command_of (first.now ∷ second.now ∷ []) }
+    ensures within { IfSome result IsWithin }
+{
+    match (first, second) {
+        ("translate", "up") => Some(Command::Stream(Task::TranslateUp)),
+        ("translate", "down") => Some(Command::Stream(Task::TranslateDown)),
+        ("check", "client") => Some(Command::Stream(Task::CheckClient)),
+        ("check", "venue") => Some(Command::Stream(Task::CheckVenue)),
+        ("serve", rounds) => number_in(1, MAX_ROUNDS, rounds).map(Command::Serve),
+        _ => None,
+    }
+}
+
 /// The command of these words; `None` where they are none of the forms.
 pub(crate) fn read_command(words: &[String]) -> Option<Command>
     ensures command { result ≡ command_of (map string_bytes words.now) }
     ensures within { IfSome result IsWithin }
 {
     match words {
-        [word] if word.as_str() == "--help" => Some(Command::Help),
-        [word] if word.as_str() == "--version" => Some(Command::Version),
-        [word] if word.as_str() == "show" => Some(Command::Show),
-        [word] if word.as_str() == "replay" => Some(Command::Replay),
-        [first, second] if first.as_str() == "translate" && second.as_str() == "up" => {
-            Some(Command::Stream(Task::TranslateUp))
-        }
-        [first, second] if first.as_str() == "translate" && second.as_str() == "down" => {
-            Some(Command::Stream(Task::TranslateDown))
-        }
-        [first, second] if first.as_str() == "check" && second.as_str() == "client" => {
-            Some(Command::Stream(Task::CheckClient))
-        }
-        [first, second] if first.as_str() == "check" && second.as_str() == "venue" => {
-            Some(Command::Stream(Task::CheckVenue))
-        }
-        [first, second] if first.as_str() == "serve" => {
-            number_in(1, MAX_ROUNDS, second.as_str()).map(Command::Serve)
-        }
-        [first, second, third] if first.as_str() == "drill" => {
-            drill_of(second.as_str(), third.as_str())
-        }
+        [word] => of_one(word),
+        [first, second] => of_two(first, second),
+        [first, second, third] if first.as_str() == "drill" => drill_of(second, third),
         _ => None,
     }
 }
