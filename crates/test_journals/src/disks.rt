@@ -1,25 +1,44 @@
 //! A source, a sink and a disk in memory, which fail at the listed calls.
 
-ghost use Rattle.std.specs.Prelude.{◌≤◌, length, IfOk};
+ghost use Rattle.std.specs.Prelude.{◌≡◌, ◌≤◌, length, false, IfOk, IsTrue};
 
 use outside::*;
 use std::alloc::{AllocError, Global};
 use std::test::Fail;
 
+/// Whether a read answers so and leaves this in its room; another read may follow it.
+fn gives(
+    source: &mut MemSource,
+    room: &mut [u8; 3],
+    answer: Result<usize, Failed>,
+    left: &[u8; 3],
+) -> bool
+    requires { source.old.ended ≡ false }
+    ensures { IsTrue result → source.new.ended ≡ false }
+{
+    match source.read(room) {
+        Ok(0) => false,
+        came => came == answer && *room == *left,
+    }
+}
+
+/// Whether a source of five bytes of which reads 2 and 4 fail gives them, three at a time.
+fn gives_all(source: &mut MemSource) -> bool
+    requires { source.old.ended ≡ false }
+{
+    let mut room = [0u8; 3];
+    gives(source, &mut room, Ok(3), b"abc")
+        && gives(source, &mut room, Err(Failed), b"abc")
+        && gives(source, &mut room, Ok(2), b"dec")
+        && gives(source, &mut room, Err(Failed), b"dec")
+        && source.read(&mut room) == Ok(0)
+}
+
 #[test]
 fn a_source_gives_its_bytes_once_and_fails_where_listed(rt: HostRuntime) -> Result<(), Fail> {
     let content = b"abcde".to_vec(rt.alloc())?;
     let mut source = MemSource::new(content, vec![in rt.alloc(); 2, 4]?);
-    let mut buf = [0u8; 3];
-    assert_eq!(rt; source.read(&mut buf), Ok(3));
-    assert_eq!(rt; buf, *b"abc");
-    assert_eq!(rt; source.read(&mut buf), Err(Failed));
-    assert_eq!(rt; buf, *b"abc");
-    assert_eq!(rt; source.read(&mut buf), Ok(2));
-    assert_eq!(rt; buf, *b"dec");
-    assert_eq!(rt; source.read(&mut buf), Err(Failed));
-    assert_eq!(rt; source.read(&mut buf), Ok(0));
-    assert!(rt; !source.refused());
+    assert!(rt; gives_all(&mut source) && !source.refused());
     Ok(())
 }
 
@@ -37,8 +56,8 @@ fn puts(sink: &mut MemSink) -> [Result<(), Failed>; 4] {
 fn a_sink_holds_what_was_put_and_fails_where_listed(rt: HostRuntime) -> Result<(), Fail> {
     let fail = vec![in rt.alloc(); 2]?;
     let mut sink = MemSink::new(rt.alloc(), fail);
-    assert_eq!(rt; puts(&mut sink), [Ok(()), Err(Failed), Ok(()), Ok(())]);
-    assert!(rt; sink.bytes() == b"abc".as_slice() && !sink.refused());
+    let answers = puts(&mut sink) == [Ok(()), Err(Failed), Ok(()), Ok(())];
+    assert!(rt; answers && sink.bytes() == b"abc".as_slice() && !sink.refused());
     Ok(())
 }
 
@@ -126,8 +145,8 @@ fn does_all(disk: &mut MemDisk) -> Result<bool, AllocError>
 fn a_disk_tells_what_a_crash_may_leave(rt: HostRuntime) -> Result<(), Fail> {
     let content = b"abcdef".to_vec(rt.alloc())?;
     let mut disk = MemDisk::new(rt.alloc(), content, vec![in rt.alloc(); 3, 5]?);
-    assert!(rt; does_all(&mut disk)?);
-    assert!(rt; disk.calls() == CALLS.as_slice() && !disk.refused());
+    let does = does_all(&mut disk)?;
+    assert!(rt; does && disk.calls() == CALLS.as_slice() && !disk.refused());
     Ok(())
 }
 
@@ -151,8 +170,7 @@ fn passes_no_more(disk: &mut MemDisk) -> Result<bool, AllocError>
 #[test]
 fn a_fuse_lets_so_many_writes_and_syncs_pass(rt: HostRuntime) -> Result<(), Fail> {
     let mut disk = fused(rt.alloc())?;
-    assert!(rt; passes_two(&mut disk));
-    assert!(rt; passes_no_more(&mut disk)?);
+    assert!(rt; passes_two(&mut disk) && passes_no_more(&mut disk)?);
     Ok(())
 }
 

@@ -119,12 +119,13 @@ fn line_len(entry: &Entry) -> Option<usize> {
     }
 }
 
+const _: () = prove!(8_408 <= MAX_LINE);
+
 // 8,189 bytes of a type, and 219 others.
 #[test]
 fn the_longest_line_has_room(rt: HostRuntime) -> Result<(), Fail> {
     let raw = long_raw(rt.alloc(), 8_189)?;
     let entry = longest(rt.alloc(), raw)?;
     assert_eq!(rt; line_len(&entry), Some(8_408));
-    assert!(rt; 8_408 <= MAX_LINE);
     Ok(())
 }
