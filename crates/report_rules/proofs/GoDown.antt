@@ -30,7 +30,7 @@ use Rattle.report_rules.proofs.SenseDown.{keeps_books, keeps_sense, has_codes, n
 use Rattle.report_rules.proofs.SoundDown.{ordinary_by, sound_down}
 use Rattle.report_rules.proofs.TablesDown.{GoesDown, each_made, items_down, make}
 
--- THE TABLES OF FIX 4.2 are what the rules make of those of FIX 5.0 SP2
+-- What the rules make of the items of FIX 5.0 SP2 are those of FIX 4.2.
 pub reports_made : items_down reports50.execution_report (down_rules (Same 41))
     ≡ reports42.execution_report
 reports_made = refl

@@ -15,8 +15,7 @@ use Rattle.reports_fix42.specs.Sense.{report42}
 use Rattle.reports_fix42.specs.Step.{step42}
 use Rattle.reports_fix50.specs.Sense.{report50}
 use Rattle.reports_fix50.specs.Step.{step50}
-use Rattle.report_rules.specs.Rules.{written}
-use Rattle.report_rules.specs.Rules.{down_message}
+use Rattle.report_rules.specs.Rules.{down_message, written}
 use Rattle.translation.specs.declared.lengths.TheConstants.{MAX_CONTENT}
 use Rattle.translation.specs.declared.error.TranslateError.{TranslateError}
 use Rattle.translation.specs.declared.error.TranslateError.TheVariants as errors

@@ -7,9 +7,8 @@ use Rattle.message_tables.specs.Tables.{Message, ◌>>=◌, code_of}
 use Rattle.order_meaning.specs.declared.fault.Fault.{Fault}
 use Rattle.order_meaning.specs.declared.refusal.Refusal.{Refusal}
 use Rattle.first_faults.specs.Gives.{Tells}
-use Rattle.report_rules.specs.Rules.{written}
 use Rattle.reports_fix50.specs.Reading.{exec_type_said}
-use Rattle.report_rules.specs.Rules.{down_message, lacks_type}
+use Rattle.report_rules.specs.Rules.{down_message, lacks_type, written}
 use Rattle.translation.specs.declared.error.TranslateError.{TranslateError}
 use Rattle.translation.specs.declared.error.TranslateError.TheVariants as errors
 use Rattle.translation.specs.Header.{type_of}
