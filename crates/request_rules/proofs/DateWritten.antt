@@ -7,8 +7,7 @@ use Rattle.typed_fields.specs.MonthYear.{month_year_text}
 use Rattle.typed_fields.specs.declared.month_year.MonthYear.{MonthYear as MonthValue}
 use Rattle.field_groups.specs.Field.{Field, body_of}
 use Rattle.value_kinds.specs.ValueKind.{two_digit_text, MonthYear}
-use Rattle.message_tables.specs.Tables.{Verdict, Spells, Outside, Wrong, Said, Tag, ◌>>=◌, text_of}
-use Rattle.message_tables.specs.Tables.{value_at}
+use Rattle.message_tables.specs.Tables.{Verdict, Spells, Said, Tag, ◌>>=◌, text_of, value_at}
 use Rattle.message_tables.specs.Content.{cell_fields}
 use Rattle.row_values.specs.declared.lines.Maturity.{Maturity}
 use Rattle.row_values.specs.Kinds.{Value, DayOf, judge, said}
@@ -16,23 +15,26 @@ use Rattle.row_values.specs.Maturity.{IsMaturity}
 use Rattle.row_values.specs.Lines.{date_text}
 use Rattle.sound_laws.proofs.ShortDays.{short_by, two_texts}
 use Rattle.request_rules.specs.Rules.{date_up}
-use Rattle.request_rules.proofs.DatesUp.{IsTwo, day_two}
+use Rattle.sound_laws.proofs.SpelledAgain.{IsTwo}
+use Rattle.request_rules.proofs.DatesUp.{day_two}
 
 said_two : (fields : List Field) (day : List ℕ) (value : Option (List ℕ))
-    → Some day ≡ (value >>= (λ bytes. text_of (judge fields (DayOf 200) bytes))) → IsTwo day
+    → Some day ≡ (value >>= (λ bytes. text_of (judge fields (DayOf 200) bytes)))
+    → (bytes : List ℕ) × IsTwo bytes day
 said_two fields day None h = absurd cc
 said_two fields day (Some bytes) h = by (judge fields (DayOf 200) bytes) refl h
   where
-    by : (v : Verdict) → judge fields (DayOf 200) bytes ≡ v → Some day ≡ text_of v → IsTwo day
+    by : (v : Verdict) → judge fields (DayOf 200) bytes ≡ v → Some day ≡ text_of v
+        → (bytes : List ℕ) × IsTwo bytes day
     by (Spells text) e h =
-        let same : text ≡ day = cc in day_two fields bytes day (e ∙ ap Spells same)
-    by Outside e h = absurd cc
-    by (Wrong reason) e h = absurd cc
+        let same : text ≡ day = cc in (bytes, day_two fields bytes day (e ∙ ap Spells same))
+    by other e h = absurd cc
 
-two_texts_of : (day : ℕ) → IsTwo (two_digit_text day) → zero_padded 2 day ≡ two_digit_text day
-two_texts_of day two =
+two_texts_of : (bytes : List ℕ) (day : ℕ) → IsTwo bytes (two_digit_text day)
+    → zero_padded 2 day ≡ two_digit_text day
+two_texts_of bytes day two =
     let ten : 48 + day / 10 ≡ two.ten = let is = two.is in cc in
-    two_texts day (short_by day (ap is_ascii_digit ten ∙ two.tens))
+    two_texts day (short_by day (ap is_ascii_digit ten ∙ two.ten_digit))
 
 date_is : (fields : List Field) (month : MonthValue) (day : Option ℕ) (said_month said_day : Said)
     → (Some (month_year_text month)) ≡ said_month → option_map two_digit_text day ≡ said_day
@@ -41,7 +43,7 @@ date_is : (fields : List Field) (month : MonthValue) (day : Option ℕ) (said_mo
 date_is fields month None said_month said_day m d is = λ i. date_up (m i) (d i)
 date_is fields month (Some day) said_month said_day m d is =
     let two = said_two fields (two_digit_text day) (value_at 205 fields) (d ∙ is) in
-    ap (λ (t : List ℕ). Some (month_year_text month ++ t)) (two_texts_of day two)
+    ap (λ (t : List ℕ). Some (month_year_text month ++ t)) (two_texts_of two.0 day two.1)
     ∙ (λ i. date_up (m i) (d i))
 
 some_month : (month : List ℕ) (s : Said) → Some month ≡ s → s ≡ None → ⊥

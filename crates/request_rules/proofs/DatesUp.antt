@@ -4,96 +4,48 @@ use Rattle.std.proofs.Common.{Some, None, refl, sym, ap, ◌∙◌, codes, arith
 use Rattle.std.proofs.lemmas.Bool.{eqb-true}
 use Rattle.std.proofs.lemmas.Str.{digit_value_digit}
 use Rattle.std.proofs.lemmas.List.{take_at}
-use Rattle.std.specs.Prelude.{IfSome, ◌&&◌, ◌==◌, Ok, Err, Result, if◌then◌else◌}
+use Rattle.std.specs.Prelude.{IfSome, ◌==◌, Ok, Err, Result, if◌then◌else◌}
 use Rattle.std.specs.Char.{is_ascii_digit}
 use Rattle.std.specs.Str.Parse.{digits_value}
 use Rattle.std.specs.Result.{result_ok}
 use Rattle.typed_fields.specs.declared.fault.FieldFault.{FieldFault}
-use Rattle.typed_fields.specs.declared.fault.FieldFault.TheVariants.{Form}
 use Rattle.typed_fields.specs.declared.month_year.MonthYear.{MonthYear as MonthValue}
 use Rattle.typed_fields.specs.Digits.{has_pattern, have_marks, number_of}
 use Rattle.typed_fields.specs.Day.{is_date, day_number}
 use Rattle.typed_fields.specs.MonthYear.{read_month_year, year_in, month_in}
 use Rattle.typed_fields.proofs.SpellingLemmas.{judged_ok, judged_good, digit_bounds}
 use Rattle.field_groups.specs.Field.{Field}
-use Rattle.value_kinds.specs.ValueKind.{MonthYear, Day, DayOfMonth, Spelling, spelling, spelt, formed}
+use Rattle.value_kinds.specs.ValueKind.{MonthYear, Day, DayOfMonth, Spelling, spelling, spelt}
 use Rattle.value_kinds.specs.ValueKind.{number_of_two}
-use Rattle.message_tables.specs.Tables.{Verdict, Spells, Outside, Wrong, Said, ◌>>=◌, text_of}
-use Rattle.message_tables.specs.Tables.{value_at}
+use Rattle.message_tables.specs.Tables.{Verdict, Spells, Wrong, Said, ◌>>=◌, text_of, value_at}
 use Rattle.row_values.specs.Kinds.{Value, DayOf, MonthBeside, judge, verdict_of, in_month, month_at}
 use Rattle.row_values.specs.Kinds.{if_spelled, month_beside}
 use Rattle.sound_laws.proofs.Each.{both}
+use Rattle.sound_laws.proofs.PlainRows.{spelled}
+use Rattle.sound_laws.proofs.SpelledAgain.{IsTwo, two_of}
 use Rattle.request_rules.specs.Rules.{date_up}
 
--- two digits
-pub record IsTwo (text : List ℕ) : Type 0 where
-  pub ten : ℕ
-  pub one : ℕ
-  pub is : text ≡ ten ∷ one ∷ []
-  pub tens : is_ascii_digit ten ≡ true
-  pub ones : is_ascii_digit one ≡ true
+-- ---- a day
 
-pub two_value : (text : List ℕ) → IsTwo text → digits_value 10 text ≡ number_of_two text
-two_value text h =
-    let a = digit_bounds h.ten h.tens in
-    let b = digit_bounds h.one h.ones in
-    let d = digit_value_digit h.ten a in
-    let e = digit_value_digit h.one b in
+two_value : (bytes text : List ℕ) → IsTwo bytes text → digits_value 10 text ≡ number_of_two text
+two_value bytes text h =
+    let d = digit_value_digit h.ten (digit_bounds h.ten h.ten_digit) in
+    let e = digit_value_digit h.one (digit_bounds h.one h.one_digit) in
     let same : digits_value 10 (h.ten ∷ h.one ∷ []) ≡ number_of_two (h.ten ∷ h.one ∷ []) =
     omega (arith, d, e) in
     ap (digits_value 10) h.is ∙ same ∙ ap number_of_two (sym h.is)
 
-formed_two : (good : Bool) (bytes text : List ℕ)
-    → verdict_of (formed good bytes) ≡ Spells text → good ≡ true
-formed_two true bytes text h = refl
-formed_two false bytes text h = absurd cc
-
-padded : (good : Bool) (one : ℕ)
-    → verdict_of (if good then Ok (Some (48 ∷ one ∷ [])) else Err Form) ≡ Spells (one ∷ []) → ⊥
-padded true one h = cc
-padded false one h = cc
-
-pub is_two : (text : List ℕ) → verdict_of (spelling DayOfMonth text) ≡ Spells text → IsTwo text
-unfolding spelling
-is_two [] h = absurd cc
-is_two (one ∷ []) h = absurd (padded (is_ascii_digit one) one h)
-is_two (ten ∷ one ∷ []) h =
-    let p = both (is_ascii_digit ten) (is_ascii_digit one)
-    (formed_two (is_ascii_digit ten && is_ascii_digit one) (ten ∷ one ∷ []) (ten ∷ one ∷ []) h) in
-    record { ten = ten; one = one; is = refl; tens = p.0; ones = p.1 }
-is_two (a ∷ b ∷ c ∷ text) h = absurd cc
-
 -- any day is spelled in two digits
-two_of : (bytes text : List ℕ) → verdict_of (spelling DayOfMonth bytes) ≡ Spells text → IsTwo text
-unfolding spelling
-two_of [] text h = absurd cc
-two_of (one ∷ []) text h = by (is_ascii_digit one) refl h
-  where
-    by : (good : Bool) → is_ascii_digit one ≡ good
-        → verdict_of (if good then Ok (Some (48 ∷ one ∷ [])) else Err Form) ≡ Spells text
-        → IsTwo text
-    by true e h = record { ten = 48; one = one; is = cc; tens = refl; ones = e }
-    by false e h = absurd cc
-two_of (ten ∷ one ∷ []) text h = by (is_ascii_digit ten && is_ascii_digit one) refl h
-  where
-    by : (good : Bool) → (is_ascii_digit ten && is_ascii_digit one) ≡ good
-        → verdict_of (formed good (ten ∷ one ∷ [])) ≡ Spells text → IsTwo text
-    by true e h =
-        let p = both (is_ascii_digit ten) (is_ascii_digit one) e in
-        record { ten = ten; one = one; is = cc; tens = p.0; ones = p.1 }
-    by false e h = absurd cc
-two_of (a ∷ b ∷ c ∷ bytes) text h = absurd cc
+is_two : (bytes text : List ℕ) → verdict_of (spelling DayOfMonth bytes) ≡ Spells text
+    → IsTwo bytes text
+is_two bytes text h = two_of bytes text (spelled (spelling DayOfMonth bytes) text h)
 
 -- a day that its month has
 abbrev HasDay : Option MonthValue → List ℕ → Type 0
 HasDay month day =
     IfSome month (λ m. is_date m.year m.month (number_of_two day) ≡ true)
 
-record IsDayIn (month : Option MonthValue) (day : List ℕ) : Type 0 where
-  spelled : verdict_of (spelling DayOfMonth day) ≡ Spells day
-  there : HasDay month day
-
-day_in : (month : Option MonthValue) (v : Verdict) (day : List ℕ)
+pub day_in : (month : Option MonthValue) (v : Verdict) (day : List ℕ)
     → in_month month v ≡ Spells day → (v ≡ Spells day) × HasDay month day
 day_in None v day h = (h, tt)
 day_in (Some month) (Spells other) day h =
@@ -105,20 +57,19 @@ day_in (Some month) (Spells other) day h =
         × (is_date month.year month.month (number_of_two day) ≡ true)
     by true e h = let same : other ≡ day = cc in (h, rw (← same) e)
     by false e h = absurd cc
-day_in (Some month) Outside day h = absurd cc
-day_in (Some month) (Wrong reason) day h = absurd cc
+day_in other v day h = absurd cc
 
 -- a day of FIX 4.2 has two digits
 pub day_value : (fields : List Field) (day : List ℕ) → judge fields (DayOf 200) day ≡ Spells day
     → digits_value 10 day ≡ number_of_two day
 unfolding judge
-day_value fields day h = two_value day
-    (is_two day (day_in (month_at 200 fields) (verdict_of (spelling DayOfMonth day)) day h).0)
+day_value fields day h = two_value day day
+    (is_two day day (day_in (month_at 200 fields) (verdict_of (spelling DayOfMonth day)) day h).0)
 
 pub day_two : (fields : List Field) (bytes text : List ℕ)
-    → judge fields (DayOf 200) bytes ≡ Spells text → IsTwo text
+    → judge fields (DayOf 200) bytes ≡ Spells text → IsTwo bytes text
 unfolding judge
-day_two fields bytes text h = two_of bytes text
+day_two fields bytes text h = is_two bytes text
     (day_in (month_at 200 fields) (verdict_of (spelling DayOfMonth bytes)) text h).0
 
 -- ---- a month
@@ -157,7 +108,7 @@ month_length fields text h = six text (is_month text h).form
 
 -- ---- a date
 
-date_by : (month day : List ℕ) → has_pattern (codes "YYYYMM") month ≡ true → IsTwo day
+date_by : (month day : List ℕ) → has_pattern (codes "YYYYMM") month ≡ true → IsTwo day day
     → is_date (year_in month) (month_in month) (number_of_two day) ≡ true
     → verdict_of (spelling Day (month ++ day)) ≡ Spells (month ++ day)
 unfolding spelling has_pattern number_of
@@ -167,7 +118,7 @@ date_by (y1 ∷ y2 ∷ y3 ∷ y4 ∷ m1 ∷ m2 ∷ []) day form two good =
     → verdict_of (spelling Day (y1 ∷ y2 ∷ y3 ∷ y4 ∷ m1 ∷ m2 ∷ d))
     ≡ Spells (y1 ∷ y2 ∷ y3 ∷ y4 ∷ m1 ∷ m2 ∷ d) in
     subst P (sym two.is) ends
-    (rw (two_value day two) good)
+    (rw (two_value day day two) good)
   where
     ends : is_date (year_in (y1 ∷ y2 ∷ y3 ∷ y4 ∷ m1 ∷ m2 ∷ []))
         (month_in (y1 ∷ y2 ∷ y3 ∷ y4 ∷ m1 ∷ m2 ∷ []))
@@ -183,7 +134,7 @@ date_by (y1 ∷ y2 ∷ y3 ∷ y4 ∷ m1 ∷ m2 ∷ []) day form two good =
         let p6 = both (is_ascii_digit m2) _ p5.1 in
         let text = y1 ∷ y2 ∷ y3 ∷ y4 ∷ m1 ∷ m2 ∷ two.ten ∷ two.one ∷ [] in
         let marks : has_pattern (codes "YYYYMMDD") text ≡ true =
-        rw (p1.0, p2.0, p3.0, p4.0, p5.0, p6.0, two.tens, two.ones) refl in
+        rw (p1.0, p2.0, p3.0, p4.0, p5.0, p6.0, two.ten_digit, two.one_digit) refl in
         ap (λ r. verdict_of (spelt (λ _. text) r))
         (judged_good text _ _ (record { day = day_number text }) refl marks date)
 date_by text day form two good = absurd (omega (arith, six text form))
@@ -203,7 +154,7 @@ module _ (fields42 fields50 : List Field) (month day : List ℕ) where
       let d = day_in (Some (month_of month)) (verdict_of (spelling DayOfMonth day)) day
       (sym (ap (λ (o : Option MonthValue). in_month o (verdict_of (spelling DayOfMonth day))) said)
       ∙ in_it) in
-      date_by month day m.form (is_two day d.0) d.1
+      date_by month day m.form (is_two day day d.0) d.1
 
 -- the month is that of the date
 pub month_first : (month day : List ℕ) → length month ≡ 6 → take 6 (month ++ day) ≡ month
@@ -212,8 +163,7 @@ month_first month day long = take_at month day 6 long
 spells_ok : (spelled : Spelling) (text : List ℕ)
     → verdict_of spelled ≡ Spells text → if_spelled spelled ≡ Spells text
 spells_ok (Ok (Some other)) text h = h
-spells_ok (Ok None) text h = absurd cc
-spells_ok (Err fault) text h = absurd cc
+spells_ok other text h = absurd cc
 
 no_month : verdict_of (spelling MonthYear []) ≡ Spells [] → ⊥
 unfolding spelling

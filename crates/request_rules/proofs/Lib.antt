@@ -1,3 +1,4 @@
+pub mod ByType
 pub mod DateWritten
 pub mod DatesUp
 pub mod FieldsUp

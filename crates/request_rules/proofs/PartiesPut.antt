@@ -1,6 +1,6 @@
 -- The count and the lines of three parties are their group.
-use Rattle.std.proofs.Common.{◌≡◌, ◌+◌, ◌++◌, ℕ, List, Some, None, refl, sym, ap, ◌∙◌}
-use Rattle.std.proofs.Common.{append_assoc, length}
+use Rattle.std.proofs.Common.{◌≡◌, ◌+◌, ◌++◌, ℕ, List, Some, None, refl, sym, ap, ◌∙◌, append_assoc}
+use Rattle.std.proofs.Common.{length}
 use Rattle.std.specs.Prelude.{Err, Ok, OnOk, Result}
 use Rattle.field_groups.specs.Field.{Field, body_of}
 use Rattle.message_tables.specs.Content.{group_fields}

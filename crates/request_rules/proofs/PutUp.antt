@@ -1,8 +1,7 @@
 -- What `put_up` appends is the content of what goes up, or its lack is told.
-use Rattle.std.proofs.Common.{◌≡◌, ◌++◌, ℕ, List, [], ◌∷◌, map, true, Option, Some, None, refl, sym, ap}
-use Rattle.std.proofs.Common.{subst, ◌∙◌, ◌<◌, ◌≤◌, ◌+◌, drop, get_or, length}
+use Rattle.std.proofs.Common.{◌≡◌, ◌++◌, ℕ, List, [], ◌∷◌, map, true, Option, Some, None, refl, sym}
+use Rattle.std.proofs.Common.{ap, subst, ◌∙◌, ◌<◌, ◌≤◌, ◌+◌, drop, get_or, length}
 use Rattle.std.proofs.lemmas.List.{at_drop_all, at_drop_more}
-use Rattle.std.proofs.Common.{Bool, false, codes}
 use Rattle.std.specs.Prelude.{◌==◌, if◌then◌else◌}
 use Rattle.std.specs.Str.{bytes_eq}
 use Rattle.std.specs.List.{flat_map, list_all}
@@ -11,10 +10,8 @@ use Rattle.message_tables.specs.FirstFault.{first_fault, message_in}
 use Rattle.message_tables.specs.Tables.{Table, first_of, or_else}
 use Rattle.order_meaning.specs.Request.{Request, RequestKind, New, Cancel, Replace, Status}
 use Rattle.row_values.specs.Kinds.{Kind, judge}
-use Rattle.rows_fix42.specs.Header.{table as table42}
 use Rattle.rule_rows.specs.Rows.{have_written_lines}
 use Rattle.dict_fix42.specs.Message.{table_of}
-use Rattle.dict_fix42.specs.Requests as requests42
 use Rattle.dict_fix42.specs.Sense.{request42, request_of}
 use Rattle.request_rules.specs.declared.rules.Rule.{Rule as CodeRule}
 use Rattle.request_rules.specs.CodeRules.{is_read, lacked, rule_of, wrote}
@@ -22,26 +19,11 @@ use Rattle.request_rules.specs.Lack.{lack_if}
 use Rattle.request_rules.specs.Good.{IsTable42}
 use Rattle.request_rules.specs.Put.{IsPut}
 use Rattle.request_rules.specs.Rules.{up_rules}
+use Rattle.request_rules.proofs.ByType.{asked42, by_type}
 use Rattle.request_rules.proofs.LacksUp.{lack_is}
 use Rattle.request_rules.proofs.FieldsUp.{HasRows, content_read, lack_read}
 
 -- ---- the four tables
-
-new_rows : HasRows (table42 68 requests42.new_order)
-new_rows =
-    record { own = refl; out = refl; texts = refl; decimals = refl; month = refl; day = refl }
-
-cancel_rows : HasRows (table42 70 requests42.cancel_request)
-cancel_rows =
-    record { own = refl; out = refl; texts = refl; decimals = refl; month = refl; day = refl }
-
-replace_rows : HasRows (table42 71 requests42.replace_request)
-replace_rows =
-    record { own = refl; out = refl; texts = refl; decimals = refl; month = refl; day = refl }
-
-status_rows : HasRows (table42 72 requests42.status_request)
-status_rows =
-    record { own = refl; out = refl; texts = refl; decimals = refl; month = refl; day = refl }
 
 -- what is known of the table of a request
 pub record IsKnown (table : Table Kind) : Type 0 where
@@ -55,44 +37,30 @@ pub record IsKnown (table : Table Kind) : Type 0 where
       (if table.letter == 71 then Some (f Replace) else
       (if table.letter == 72 then Some (f Status) else None)))) ≡ Some (f kind)
 
-new_known : IsKnown (table42 68 requests42.new_order)
-new_known =
-    record { own = refl; rows = new_rows; written = refl; kind = New; request = λ f. refl }
+rows : (kind : RequestKind) → HasRows (asked42 kind)
+rows New =
+    record { own = refl; out = refl; texts = refl; decimals = refl; month = refl; day = refl }
+rows Cancel =
+    record { own = refl; out = refl; texts = refl; decimals = refl; month = refl; day = refl }
+rows Replace =
+    record { own = refl; out = refl; texts = refl; decimals = refl; month = refl; day = refl }
+rows Status =
+    record { own = refl; out = refl; texts = refl; decimals = refl; month = refl; day = refl }
 
-cancel_known : IsKnown (table42 70 requests42.cancel_request)
-cancel_known =
-    record { own = refl; rows = cancel_rows; written = refl; kind = Cancel; request = λ f. refl }
-
-replace_known : IsKnown (table42 71 requests42.replace_request)
-replace_known =
-    record { own = refl; rows = replace_rows; written = refl; kind = Replace; request = λ f. refl }
-
-status_known : IsKnown (table42 72 requests42.status_request)
-status_known =
-    record { own = refl; rows = status_rows; written = refl; kind = Status; request = λ f. refl }
+each : (kind : RequestKind) → IsKnown (asked42 kind)
+each New = record { own = refl; rows = rows New; written = refl; kind = New; request = λ f. refl }
+each Cancel =
+    record { own = refl; rows = rows Cancel; written = refl; kind = Cancel; request = λ f. refl }
+each Replace =
+    record { own = refl; rows = rows Replace; written = refl; kind = Replace; request = λ f. refl }
+each Status =
+    record { own = refl; rows = rows Status; written = refl; kind = Status; request = λ f. refl }
 
 pub known : (table : Table Kind) → IsTable42 table → IsKnown table
 known table (msg_type, is) =
-    by (bytes_eq msg_type (codes "D")) (bytes_eq msg_type (codes "F"))
-    (bytes_eq msg_type (codes "G")) (bytes_eq msg_type (codes "H")) is
-  where
-    same : (own : Table Kind) → ◌≡◌ {A = Option (Table Kind)} (Some own) (Some table)
-        → IsKnown own → IsKnown table
-    same own e known =
-        let is : own ≡ table = cc in
-        let P : Table Kind → Type 0 = λ t. IsKnown t in subst P is known
-
-    by : (d f g h : Bool)
-        → (if d then Some (table42 68 requests42.new_order) else
-        (if f then Some (table42 70 requests42.cancel_request) else
-        (if g then Some (table42 71 requests42.replace_request) else
-        (if h then Some (table42 72 requests42.status_request) else None)))) ≡ Some table
-        → IsKnown table
-    by true f g h e = same (table42 68 requests42.new_order) e new_known
-    by false true g h e = same (table42 70 requests42.cancel_request) e cancel_known
-    by false false true h e = same (table42 71 requests42.replace_request) e replace_known
-    by false false false true e = same (table42 72 requests42.status_request) e status_known
-    by false false false false e = absurd cc
+    by_type (λ t of42 of50. of42 ≡ Some table → IsKnown table) (λ t no. absurd cc)
+    (λ kind e. let same : asked42 kind ≡ table = cc in
+    let P : Table Kind → Type 0 = λ t. IsKnown t in subst P same (each kind)) msg_type is
 
 pub lines_written : (table : Table Kind) → IsTable42 table → have_written_lines table.items ≡ true
 lines_written table is = (known table is).written

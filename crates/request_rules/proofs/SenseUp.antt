@@ -1,6 +1,6 @@
 -- What goes up by the rules means what it meant.
-use Rattle.std.proofs.Common.{◌≡◌, ℕ, [], ◌∷◌, map, Bool, true, false, Option, Some}
-use Rattle.std.proofs.Common.{None, refl, sym, ap, subst, ◌∙◌, codes, unwrap_or, option_map, length}
+use Rattle.std.proofs.Common.{◌≡◌, ℕ, [], ◌∷◌, map, Bool, true, false, Option, Some, None, refl}
+use Rattle.std.proofs.Common.{sym, ap, subst, ◌∙◌, codes, unwrap_or, option_map, length}
 use Rattle.std.proofs.lemmas.Bool.{eqb-true}
 use Rattle.std.proofs.lemmas.List.{drop_at}
 use Rattle.std.specs.Prelude.{IfSome, ◌==◌, ◌||◌, if◌then◌else◌}
@@ -9,8 +9,7 @@ use Rattle.value_kinds.specs.ValueKind.{number_of_two}
 use Rattle.message_tables.specs.Tables.{Place, Tag, Role, Said, Message, ◌>>=◌, code_of, flag_of}
 use Rattle.message_tables.specs.Tables.{lines_of, said_at, code_if}
 use Rattle.order_meaning.specs.Request.{Request, RequestKind, New, Cancel, Replace, Status}
-use Rattle.order_meaning.specs.Request.{OrderType, MarketOnClose}
-use Rattle.order_meaning.specs.Request.{LimitOnClose}
+use Rattle.order_meaning.specs.Request.{OrderType, MarketOnClose, LimitOnClose}
 use Rattle.row_values.specs.Amounts.{amount_of, alloc_of, session_of}
 use Rattle.rows_fix42.specs.Meaning as meaning42
 use Rattle.rows_fix50.specs.Meaning as meaning50
@@ -97,9 +96,8 @@ module _ (time : Said) (other : IfSome (time >>= code_of) (λ code. (code == 55)
           → terms50 (if five then Some (codes "1") else (if b then Some (codes "2")
           else Some (code ∷ []))) (if five || b then Some (codes "7") else time)
           ≡ meaning50.terms_of (Some code) (time >>= code_of)
-      left true b e f = absurd cc
-      left false true e f = absurd cc
       left false false e f = refl
+      left other b e f = absurd cc
 
       by : (five b : Bool) → (code == 53) ≡ five → (code == 66) ≡ b
           → terms50 (type_up (Some (code ∷ []))) (time_up (Some (code ∷ [])) time)

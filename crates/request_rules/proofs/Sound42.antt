@@ -1,56 +1,41 @@
 -- What is read of the fields of a request of FIX 4.2 is a sound message.
-use Rattle.std.proofs.Common.{◌≡◌, ℕ, List, [], ◌∷◌, Option, Some, None, Bool, true, false, refl}
-use Rattle.std.proofs.Common.{sym, ap, subst, ◌∙◌, codes}
-use Rattle.std.specs.Prelude.{Result, Ok, Err, not, ◌&&◌, ◌||◌, ◌==◌, if◌then◌else◌}
+use Rattle.std.proofs.Common.{◌≡◌, ℕ, List, [], ◌∷◌, Some, None, Bool, true, false, refl, sym, ap}
+use Rattle.std.proofs.Common.{subst, ◌∙◌}
+use Rattle.std.specs.Prelude.{Result, Ok, Err, not, ◌&&◌, ◌||◌, ◌==◌}
 use Rattle.std.specs.Result.{result_ok}
 use Rattle.std.specs.List.{AllByRecursion, flat_map, list_all}
-use Rattle.std.specs.Str.{bytes_eq}
 use Rattle.std.proofs.lemmas.Bool.{eqb-true}
 use Rattle.typed_fields.specs.declared.fault.FieldFault.{FieldFault}
 use Rattle.typed_fields.specs.declared.month_year.MonthYear.{MonthYear as MonthValue}
 use Rattle.typed_fields.specs.MonthYear.{read_month_year}
-use Rattle.typed_fields.specs.Day.{is_date}
-use Rattle.value_kinds.specs.ValueKind.{MonthYear, DayOfMonth, spelling, spelt, number_of_two}
+use Rattle.value_kinds.specs.ValueKind.{MonthYear, DayOfMonth, spelling, spelt}
 use Rattle.field_groups.specs.Field.{Field}
 use Rattle.field_groups.specs.Data.{is_data_tag}
-use Rattle.message_tables.specs.Tables.{Verdict, Spells, Outside, Wrong, Need, Required, Optional}
-use Rattle.message_tables.specs.Tables.{Lenient, Fixed, When, Stands, Is, Row, Item, One, Party}
-use Rattle.message_tables.specs.Tables.{Lines, Table, Message, Said, ◌>>=◌, has_tag, value_at}
-use Rattle.message_tables.specs.Tables.{is_needed, text_of, groups_of, said_at, Tag}
-use Rattle.message_tables.specs.FirstFault.{first_fault, message_in, message_of}
+use Rattle.message_tables.specs.Tables.{Spells, Need, Required, Optional, When, Stands, Row, Item}
+use Rattle.message_tables.specs.Tables.{One, Party, Lines, Table, Message, Said, ◌>>=◌, has_tag}
+use Rattle.message_tables.specs.Tables.{value_at, is_needed, text_of, groups_of, said_at, Tag}
+use Rattle.message_tables.specs.FirstFault.{message_in}
 use Rattle.message_tables.specs.Content.{content}
 use Rattle.message_tables.proofs.Clean.{stands, value_at-none}
-use Rattle.row_values.specs.Kinds.{Kind, Value, Byte, DayOf, MonthBeside, TimeBeside, Version}
-use Rattle.row_values.specs.Kinds.{judge, verdict_of, month_at, in_month}
+use Rattle.row_values.specs.Kinds.{Kind, Value, DayOf, judge, verdict_of, month_at, in_month}
 use Rattle.dict_fix42.specs.Message.{message42}
 use Rattle.rows_fix42.specs.Header.{table}
-use Rattle.first_faults.specs.Faults.{message_by, told}
+use Rattle.first_faults.specs.Faults.{message_by}
 use Rattle.dict_fix42.specs.Requests.{new_order, cancel_request, replace_request, status_request}
 use Rattle.sound_laws.specs.Sound.{IsClear, IsSound}
 use Rattle.sound_laws.proofs.Each.{both, not_true}
 use Rattle.sound_laws.proofs.ContentValues.{is_alone, value_said}
 use Rattle.sound_laws.proofs.PlainRows.{value_again, value_clear, HasPlainRows, allocs_plain}
-use Rattle.sound_laws.proofs.PlainRows.{sessions_plain, allocs_apart, sessions_apart}
-use Rattle.sound_laws.proofs.PlainRows.{unfixed, plain_items, of_message}
+use Rattle.sound_laws.proofs.PlainRows.{sessions_plain, allocs_apart, sessions_apart, unfixed}
+use Rattle.sound_laws.proofs.PlainRows.{plain_items, of_message}
 use Rattle.sound_laws.proofs.ReadSound.{IsClearField, IsStableRow, IsStableItem, IsTable}
 use Rattle.sound_laws.proofs.ReadSound.{read_sound}
+use Rattle.order_meaning.specs.Request.{RequestKind, New, Cancel, Replace, Status}
 use Rattle.request_rules.specs.Up.{IsRequest42, News, Cancels, Replaces, Statuses}
+use Rattle.request_rules.proofs.ByType.{asked42, by_type}
+use Rattle.request_rules.proofs.DatesUp.{day_in}
 
 -- ---- the values of FIX 4.2
-
--- a day that its month has is a day
-day_in : (month : Option MonthValue) (v : Verdict) (day : List ℕ)
-    → in_month month v ≡ Spells day → v ≡ Spells day
-day_in None v day h = h
-day_in (Some month) (Spells other) day h =
-    by (is_date month.year month.month (number_of_two other)) h
-  where
-    by : (good : Bool)
-        → (if good then Spells other else Wrong 5) ≡ Spells day → Spells other ≡ Spells day
-    by true h = h
-    by false h = absurd cc
-day_in (Some month) Outside day h = absurd cc
-day_in (Some month) (Wrong reason) day h = absurd cc
 
 -- the needs and kinds of the rows of FIX 4.2
 abbrev ours_need : Need → Bool
@@ -100,13 +85,7 @@ module _ (table : Table Kind) (fields : List Field) where
         by : is_needed (When ((Stands 205 ∷ []) ∷ [])) after ≡ true
             → is_needed (When ((Stands 205 ∷ []) ∷ [])) fields ≡ true
         by e = all_of (has_tag 205 after) (has_tag 205 fields) same_day e
-    kept_need Lenient h n = absurd cc
-    kept_need (Fixed text) h n = absurd cc
-    kept_need (When []) h n = absurd cc
-    kept_need (When ([] ∷ more)) h n = absurd cc
-    kept_need (When ((Is tag listed ∷ tests) ∷ more)) h n = absurd cc
-    kept_need (When ((Stands tag ∷ test ∷ tests) ∷ more)) h n = absurd cc
-    kept_need (When ((Stands tag ∷ []) ∷ other ∷ more)) h n = absurd cc
+    kept_need other h n = absurd cc
 
     ours_again : (kind : Kind) → ours_kind kind ≡ true → (bytes text : List ℕ)
         → judge fields kind bytes ≡ Spells text → judge after kind text ≡ Spells text
@@ -117,25 +96,19 @@ module _ (table : Table Kind) (fields : List Field) where
         let month_is : month_at month after ≡ month_at month fields = let P : ℕ → Type 0 =
         λ t. month_at t after ≡ month_at t fields in subst P (sym is) same_month in
         let first =
-        day_in (month_at month fields) (verdict_of (spelling DayOfMonth bytes)) text e in
+        (day_in (month_at month fields) (verdict_of (spelling DayOfMonth bytes)) text e).0 in
         let again = value_again DayOfMonth bytes text first in
         ap (λ mo. in_month mo (verdict_of (spelling DayOfMonth text))) month_is
         ∙ ap (in_month (month_at month fields)) (again ∙ sym first) ∙ e
-    ours_again (Byte listed) h bytes text e = absurd cc
-    ours_again (MonthBeside date) h bytes text e = absurd cc
-    ours_again (TimeBeside ord_type) h bytes text e = absurd cc
-    ours_again Version h bytes text e = absurd cc
+    ours_again other h bytes text e = absurd cc
 
     ours_clear : (kind : Kind) → ours_kind kind ≡ true → (bytes text : List ℕ)
         → IsClear bytes → judge fields kind bytes ≡ Spells text → IsClear text
     unfolding judge
     ours_clear (Value kind) h bytes text c e = value_clear kind bytes text c e
     ours_clear (DayOf month) h bytes text c e = value_clear DayOfMonth bytes
-        text c (day_in (month_at month fields) (verdict_of (spelling DayOfMonth bytes)) text e)
-    ours_clear (Byte listed) h bytes text c e = absurd cc
-    ours_clear (MonthBeside date) h bytes text c e = absurd cc
-    ours_clear (TimeBeside ord_type) h bytes text c e = absurd cc
-    ours_clear Version h bytes text c e = absurd cc
+        text c (day_in (month_at month fields) (verdict_of (spelling DayOfMonth bytes)) text e).0
+    ours_clear other h bytes text c e = absurd cc
 
     stable_row : (row : Row Kind) → is_ours_row row ≡ true → IsStableRow judge table fields row
     stable_row row h =
@@ -162,11 +135,6 @@ module _ (table : Table Kind) (fields : List Field) where
 abbrev month_said : List Field → Said
 month_said fields =
     value_at 200 fields >>= (λ bytes. text_of (judge fields (Value MonthYear) bytes))
-
-read_by : (text : List ℕ) (r : Result MonthValue FieldFault)
-    → text_of (verdict_of (spelt (λ _. text) r)) >>= (λ t. result_ok r) ≡ result_ok r
-read_by text (Ok x) = refl
-read_by text (Err fault) = refl
 
 read_again : (text : List ℕ) (r : Result MonthValue FieldFault) → read_month_year text ≡ r →
     text_of (verdict_of (spelt (λ _. text) r)) >>= (λ t. result_ok (read_month_year t))
@@ -209,81 +177,51 @@ module _ (fields after : List Field) where
 -- ---- the four messages
 
 module _ (fields : List Field) (clear : AllByRecursion (IsClearField judge) fields) where
-  -- the table of a letter
-  abbrev Reads : ℕ → List (Item Kind) → Type 0
-  Reads letter items = first_fault judge (table letter items) fields ≡ None
-      → IsSound judge (table letter items) (message_in judge (table letter items) fields)
-
+  -- what is read by a table
   table_read : (letter : ℕ) (items : List (Item Kind)) → IsTable judge (table letter items) fields
       → list_all is_ours items ≡ true → AllByRecursion HasPlainRows (flat_map groups_of items)
       → is_alone 200 items ≡ true → is_alone 205 items ≡ true
       → said_at (message_in judge (table letter items) fields).cells (Tag 200) ≡ month_said fields
       → said_at (message_in judge (table letter items) fields).cells (Tag 205) ≡ day_said fields
-      → Reads letter items
-  table_read letter items is ours plain month day month_is day_is h =
+      → (x : Message) → message_by (Some (table letter items)) fields None ≡ Ok x
+      → IsSound judge (table letter items) x
+  table_read letter items is ours plain month day month_is day_is =
       let t = table letter items in
       let m = message_in judge t fields in
-      read_sound judge t fields is (plain_items t fields items plain)
+      of_message t fields (IsSound judge t)
+      (read_sound judge t fields is (plain_items t fields items plain)
       (λ groups. stable_items t fields
       (same_month_by fields (content t m) (value_said judge m 200 items month groups ∙ month_is))
       (same_day_by fields (content t m) (value_said judge m 205 items day groups ∙ day_is))
       items ours)
-      clear h
+      clear)
 
-  new_read : Reads 68 new_order
+  each : (x : Message) (kind : RequestKind) → message_by (Some (asked42 kind)) fields None ≡ Ok x
+      → IsRequest42 x
   unfolding is_data_tag
-  new_read = table_read 68 new_order (record {
+  each x New e = News (table_read 68 new_order (record {
     rows = refl;
     places = refl;
     counts = refl;
     plain = (allocs_apart, (sessions_apart, tt));
-  }) refl (allocs_plain, (sessions_plain, tt)) refl refl refl refl
-
-  cancel_read : Reads 70 cancel_request
-  unfolding is_data_tag
-  cancel_read = table_read 70 cancel_request
-      (record { rows = refl; places = refl; counts = refl; plain = tt }) refl tt refl refl refl refl
-
-  replace_read : Reads 71 replace_request
-  unfolding is_data_tag
-  replace_read = table_read 71 replace_request (record {
+  }) refl (allocs_plain, (sessions_plain, tt)) refl refl refl refl x e)
+  each x Cancel e = Cancels (table_read 70 cancel_request
+      (record { rows = refl; places = refl; counts = refl; plain = tt })
+      refl tt refl refl refl refl x e)
+  each x Replace e = Replaces (table_read 71 replace_request (record {
     rows = refl;
     places = refl;
     counts = refl;
     plain = (allocs_apart, (sessions_apart, tt));
-  }) refl (allocs_plain, (sessions_plain, tt)) refl refl refl refl
-
-  status_read : Reads 72 status_request
-  unfolding is_data_tag
-  status_read = table_read 72 status_request
-      (record { rows = refl; places = refl; counts = refl; plain = tt }) refl tt refl refl refl refl
-
-  by_table : (letter : ℕ) (items : List (Item Kind)) (x : Message)
-      → Reads letter items → told (message_of judge (table letter items) fields) ≡ Ok x →
-      IsSound judge (table letter items) x
-  by_table letter items x h e =
-      of_message (table letter items) fields (IsSound judge (table letter items)) h x e
-
-  by_type : (d f g h : Bool) (x : Message) → message_by
-      (if d then Some (table 68 new_order) else (if f then Some (table 70 cancel_request) else
-      (if g then Some (table 71 replace_request)
-      else (if h then Some (table 72 status_request) else None))))
-      fields
-      None
-      ≡ Ok
-      x
-      → IsRequest42
-      x
-  by_type true f g h x e = News (by_table 68 new_order x new_read e)
-  by_type false true g h x e = Cancels (by_table 70 cancel_request x cancel_read e)
-  by_type false false true h x e = Replaces (by_table 71 replace_request x replace_read e)
-  by_type false false false true x e = Statuses (by_table 72 status_request x status_read e)
-  by_type false false false false x e = absurd cc
+  }) refl (allocs_plain, (sessions_plain, tt)) refl refl refl refl x e)
+  each x Status e = Statuses (table_read 72 status_request
+      (record { rows = refl; places = refl; counts = refl; plain = tt })
+      refl tt refl refl refl refl x e)
 
   -- WHAT IS READ IS SOUND.
   pub read_is_sound : (msg_type : List ℕ) (x : Message)
       → message42 msg_type fields None ≡ Ok x → IsRequest42 x
   unfolding message42
   read_is_sound msg_type x e =
-      by_type (bytes_eq msg_type (codes "D")) (bytes_eq msg_type (codes "F"))
-      (bytes_eq msg_type (codes "G")) (bytes_eq msg_type (codes "H")) x e
+      by_type (λ t of42 of50. message_by of42 fields None ≡ Ok x → IsRequest42 x)
+      (λ t no. absurd cc) (each x) msg_type e

@@ -6,14 +6,14 @@ use Rattle.std.proofs.lemmas.Bool.Decides.{nat_tests}
 use Rattle.std.specs.Prelude.{IsSome, IfSome, ◌||◌, ◌==◌, not}
 use Rattle.std.specs.List.{AllByRecursion, list_any}
 use Rattle.field_groups.specs.Field.{Field, is_soh}
-use Rattle.message_tables.specs.Tables.{Need, Required, Optional, Lenient, Fixed, When, Row, Item, One}
-use Rattle.message_tables.specs.Tables.{Party, Lines as LinesOf, RepeatingGroup, Message, Said, Tag}
-use Rattle.message_tables.specs.Tables.{Role, Spells, Cell, said_at, lines_of, party_in, groups_of}
+use Rattle.message_tables.specs.Tables.{Need, Required, Optional, Lenient, Row, Item, One, Party}
+use Rattle.message_tables.specs.Tables.{Lines as LinesOf, RepeatingGroup, Message, Said, Tag, Role}
+use Rattle.message_tables.specs.Tables.{Spells, Cell, said_at, lines_of, party_in, groups_of}
 use Rattle.message_tables.specs.Tables.{value_at, ◌>>=◌, code_of, is_one_of}
 use Rattle.message_tables.specs.Content.{content}
 use Rattle.value_kinds.specs.ValueKind.{Code, Id, MonthYear, Day, OneByte, formed, spelling}
-use Rattle.row_values.specs.Kinds.{Kind, Value, Byte, DayOf, MonthBeside, TimeBeside, Version, judge}
-use Rattle.row_values.specs.Kinds.{row, verdict_of}
+use Rattle.row_values.specs.Kinds.{Kind, Value, Byte, DayOf, MonthBeside, TimeBeside, judge, row}
+use Rattle.row_values.specs.Kinds.{verdict_of}
 use Rattle.row_values.specs.Groups.{parties}
 use Rattle.rows_fix42.specs.Header.{table as table42}
 use Rattle.rows_fix50.specs.Header.{header as header50, table as table50}
@@ -24,22 +24,21 @@ use Rattle.sound_laws.proofs.ContentValues.{GroupSaid, is_alone}
 use Rattle.sound_laws.proofs.SpelledAgain.{clear_joined}
 use Rattle.rule_rows.specs.ByRules.{At}
 use Rattle.rule_rows.specs.Rows.{group_at}
-use Rattle.rule_rows.proofs.Items.{carried, count_is, group_item, has_one, has_row, item_if}
-use Rattle.rule_rows.proofs.Items.{moved, row_there}
+use Rattle.rule_rows.proofs.Items.{carried, count_is, group_item, has_one, has_row, item_if, moved}
+use Rattle.rule_rows.proofs.Items.{row_there}
 use Rattle.rule_rows.proofs.Looked.{IsFound, all_found, each_rule, has_lines_of, lines_by}
 use Rattle.rule_rows.proofs.Source as source
 use Rattle.rule_rows.proofs.Source.{IsSpelled, carried_said, is_less}
 use Rattle.rule_rows.proofs.Sound as made
 use Rattle.request_rules.specs.Rules.{Rule, Same, Moved, Listed, Parties, PartyOf, Month, Date}
 use Rattle.request_rules.specs.Rules.{OrdType, Time, Lines, Who, Client, Broker, Firm, at, date_up}
-use Rattle.request_rules.specs.Rules.{is_unlisted, kinds, lack_if, role_of, tag_of}
-use Rattle.request_rules.specs.Rules.{up_lack, up_message, up_rules}
+use Rattle.request_rules.specs.Rules.{is_unlisted, kinds, lack_if, role_of, tag_of, up_lack}
+use Rattle.request_rules.specs.Rules.{up_message, up_rules}
 use Rattle.request_rules.proofs.KindsUp.{are_kinds, own}
 use Rattle.request_rules.proofs.TablesUp.{GoesUp, IsRow, beside, can_go_up, capacity_row}
-use Rattle.request_rules.proofs.TablesUp.{coded_need, day_row}
-use Rattle.request_rules.proofs.TablesUp.{each_made, has_rule, is_carried, is_coded}
-use Rattle.request_rules.proofs.TablesUp.{is_plain, is_value, items_up, make, month_row, time_row}
-use Rattle.request_rules.proofs.TablesUp.{type_row, up_need}
+use Rattle.request_rules.proofs.TablesUp.{coded_need, day_row, each_made, has_rule, is_carried}
+use Rattle.request_rules.proofs.TablesUp.{is_coded, is_plain, is_value, items_up, make, month_row}
+use Rattle.request_rules.proofs.TablesUp.{time_row, type_row, up_need}
 use Rattle.request_rules.proofs.PartiesUp.{IsPartyId, parties_said, roles_said, id_for}
 use Rattle.request_rules.proofs.DatesUp.{date_spelled, month_spelled}
 use Rattle.request_rules.proofs.TermsUp.{are_listed, listed_said, type_said, time_said}
@@ -51,9 +50,7 @@ less_is : (need : Need) (coded : Bool) → is_plain need ≡ true
 less_is Required coded h = refl
 less_is Optional true h = refl
 less_is Optional false h = refl
-less_is Lenient coded h = absurd cc
-less_is (Fixed text) coded h = absurd cc
-less_is (When condition) coded h = absurd cc
+less_is other coded h = absurd cc
 
 row_up : (fields42 fields50 : List Field) (to : ℕ) (row : Row Kind) (said : Said)
     → can_go_up (Some row) ≡ true → IsSaid judge fields42 row said
@@ -68,11 +65,7 @@ row_up fields42 fields50 to row said ok h =
     by (Value kind) value plain h = carried_said fields42 fields50 row.tag to kind row.need
         (coded_need row.need (is_coded (Value kind))) said
         (less_is row.need (is_coded (Value kind)) plain) h
-    by (Byte listed) value plain h = absurd cc
-    by (DayOf month) value plain h = absurd cc
-    by (MonthBeside date) value plain h = absurd cc
-    by (TimeBeside ord_type) value plain h = absurd cc
-    by Version value plain h = absurd cc
+    by other value plain h = absurd cc
 
 -- ---- a code that is listed
 
@@ -291,8 +284,7 @@ module _ (letter : ℕ) (items : List (Item Kind)) (goes : GoesUp items) (m : Me
       where
         by : (a b : Bool) → b ≡ a → (a || (b || false)) ≡ true → a ≡ true
         by true b e h = refl
-        by false true e h = absurd cc
-        by false false e h = absurd cc
+        by other b e h = absurd cc
 
     typed : has_rule items OrdType ≡ true → has_row items 40 ≡ true
     typed h = sym (row_there items 40) ∙ sym (has_one items (Tag 40)) ∙ h

@@ -1,12 +1,11 @@
 -- The table that the rules make of a table of FIX 4.2. Each table of FIX 5.0 SP2 is what they make of
 -- the table of FIX 4.2 with its letter.
-use Rattle.std.proofs.Common.{◌≡◌, ℕ, Bool, true, false, not, List}
-use Rattle.std.proofs.Common.{codes, Option, Some, None}
+use Rattle.std.proofs.Common.{◌≡◌, ℕ, Bool, true, false, not, List, codes, Option, Some, None}
 use Rattle.std.specs.Prelude.{IfSome, ◌&&◌, ◌==◌}
 use Rattle.std.specs.List.{list_any, list_all}
 use Rattle.field_groups.specs.Field.{is_soh}
-use Rattle.message_tables.specs.Tables.{Need, Required, Optional, Lenient, When, Row, Item, One, Party}
-use Rattle.message_tables.specs.Tables.{Lines as LinesOf}
+use Rattle.message_tables.specs.Tables.{Need, Required, Optional, Lenient, When, Row, Item, One}
+use Rattle.message_tables.specs.Tables.{Party, Lines as LinesOf}
 use Rattle.value_kinds.specs.ValueKind.{Code, Codes, Word, Id, OneByte, MonthYear, Day}
 use Rattle.row_values.specs.Kinds.{Kind, Value, Byte, DayOf, MonthBeside, TimeBeside, row}
 use Rattle.row_values.specs.Groups.{parties}
@@ -15,8 +14,8 @@ use Rattle.sound_laws.proofs.ContentValues.{is_alone}
 use Rattle.sound_laws.proofs.RowsSaid.{row_of_tag}
 use Rattle.rule_rows.specs.ByRules.{outline_of}
 use Rattle.rule_rows.specs.Rows.{group_at}
-use Rattle.rule_rows.proofs.Items.{carried, group_item, group_made, has_row, item_if}
-use Rattle.rule_rows.proofs.Items.{item_made, row_made}
+use Rattle.rule_rows.proofs.Items.{carried, group_item, group_made, has_row, item_if, item_made}
+use Rattle.rule_rows.proofs.Items.{row_made}
 use Rattle.rule_rows.proofs.Made.{IsMade, made}
 use Rattle.request_rules.specs.Rules.{Rule, Same, Moved, Listed, Parties, PartyOf, Month, Date}
 use Rattle.request_rules.specs.Rules.{OrdType, Time, Lines, has, kinds, role_of, up_rules}

@@ -1,18 +1,30 @@
 -- OrdType, TimeInForce and OrderCapacity as FIX 5.0 SP2 says them.
-use Rattle.std.proofs.Common.{◌≡◌, ℕ, List, [], ◌∷◌, Bool, true, false, Some, None, refl}
-use Rattle.std.proofs.Common.{sym, ap, subst, ◌∙◌, codes}
+use Rattle.std.proofs.Common.{◌≡◌, ℕ, List, [], ◌∷◌, Bool, true, false, Some, None, refl, sym, ap}
+use Rattle.std.proofs.Common.{subst, ◌∙◌, codes}
 use Rattle.std.proofs.lemmas.Bool.{eqb-true}
-use Rattle.std.proofs.lemmas.Slice.Eq.{bytes_eq-Decides}
-use Rattle.std.specs.Prelude.{IsSome, IfSome, not, ◌||◌, ◌==◌, Ok, if◌then◌else◌}
-use Rattle.std.specs.List.{list_any}
+use Rattle.std.specs.Prelude.{IsSome, IfSome, not, ◌||◌, ◌==◌, Ok}
+use Rattle.std.specs.List.{AllByRecursion, list_any}
 use Rattle.field_groups.specs.Field.{Field, is_soh}
 use Rattle.value_kinds.specs.ValueKind.{Code, spelling, listed_word, is_code}
-use Rattle.message_tables.specs.Tables.{Spells, Required, Lenient, Said, is_one_of}
-use Rattle.message_tables.specs.Tables.{is_listed, value_at}
+use Rattle.message_tables.specs.Tables.{Spells, Required, Lenient, Said, is_one_of, is_listed}
+use Rattle.message_tables.specs.Tables.{value_at}
 use Rattle.row_values.specs.Kinds.{Value, Byte, TimeBeside, judge, verdict_of, counted, is_at_close}
 use Rattle.sound_laws.specs.Sound.{IsSaid}
+use Rattle.sound_laws.proofs.Each.{◌&◌}
 use Rattle.sound_laws.proofs.RowsSaid.{lenient_said, listed_clear, code_said}
 use Rattle.request_rules.specs.Rules.{type_up, time_up}
+
+-- what holds of each of some numbers holds of one among them
+pub one_of : (P : ℕ → Type 0) (tags : List ℕ) → AllByRecursion P tags → (tag : ℕ)
+    → is_one_of tags tag ≡ true → P tag
+one_of P [] each tag there = absurd cc
+one_of P (one ∷ tags) each tag there =
+    or (one == tag) refl there (λ later. one_of P tags each.1 tag later)
+  where
+    or : (b : Bool) → (one == tag) ≡ b → (b || is_one_of tags tag) ≡ true
+        → (is_one_of tags tag ≡ true → P tag) → P tag
+    or true e there later = subst P (eqb-true one tag e) each.0
+    or false e there later = later there
 
 -- a listed code
 pub record IsCodeOf (codes_of : List ℕ) (text : List ℕ) : Type 0 where
@@ -35,48 +47,18 @@ is_code_of fields listed (a ∷ b ∷ text) h = absurd (let k = word_by false (a
 
 -- ---- OrdType
 
--- a type of FIX 4.2 that is not on close is one of FIX 5.0 SP2
-plain_type : (code : ℕ) → is_one_of (codes "12345B") code ≡ true → (code == 53) ≡ false
-    → (code == 66) ≡ false → is_one_of (codes "1234") code ≡ true
-plain_type code h five b =
-    by (49 == code) (50 == code) (51 == code) (52 == code) (53 == code) (66 == code)
-    (turned 53 code five) (turned 66 code b) h
-  where
-    turned : (a c : ℕ) → (c == a) ≡ false → (a == c) ≡ false
-    turned a c e = by (a == c) refl
-      where
-        by : (same : Bool) → (a == c) ≡ same → same ≡ false
-        by false f = refl
-        by true f = absurd (
-            let is : a ≡ c = eqb-true a c f in
-            let P : ℕ → Type 0 = λ x. (x == a) ≡ false in
-            let Q : ℕ → Type 0 = λ x. (a == x) ≡ true in
-            let no : (a == a) ≡ false = subst P (sym is) e in
-            let yes : (a == a) ≡ true = subst Q (sym is) f in cc)
-
-    by : (a b c d e f : Bool) → e ≡ false → f ≡ false
-        → (a || (b || (c || (d || (e || (f || false)))))) ≡ true
-        → (a || (b || (c || (d || false)))) ≡ true
-    by true b c d e f x y h = refl
-    by false true c d e f x y h = refl
-    by false false true d e f x y h = refl
-    by false false false true e f x y h = refl
-    by false false false false e f x y h = absurd cc
-
 module _ (fields50 : List Field) where
   abbrev IsType : Said → Type 0
   IsType said =
       IsSaid judge fields50 (record { tag = 40; kind = Value (Code (codes "1234")); need = Required }) said
 
   type_of : (code : ℕ) → is_one_of (codes "12345B") code ≡ true → IsType (type_up (Some (code ∷ [])))
-  type_of code h = by (code == 53) (code == 66) refl refl
-    where
-      by : (five b : Bool) → (code == 53) ≡ five → (code == 66) ≡ b
-          → IsType (if five then Some (codes "1") else (if b then Some (codes "2")
-          else Some (code ∷ [])))
-      by true b e f = code_said fields50 40 (codes "1234") 49 refl refl
-      by false true e f = code_said fields50 40 (codes "1234") 50 refl refl
-      by false false e f = code_said fields50 40 (codes "1234") code refl (plain_type code h e f)
+  type_of code h =
+      let says : (c : ℕ) → is_one_of (codes "1234") c ≡ true → list_any is_soh (codes "1234") ≡ false
+      → IsType (Some (c ∷ [])) = λ c there none. code_said fields50 40 (codes "1234") c none there in
+      one_of (λ c. IsType (type_up (Some (c ∷ [])))) (codes "12345B")
+      (says 49 refl refl & says 50 refl refl & says 51 refl refl & says 52 refl refl
+      & says 49 refl refl & says 50 refl refl & tt) code h
 
   pub type_said : (fields42 : List Field) (ord_type : Said) → IsSome ord_type
       → IfSome ord_type (λ t. judge fields42 (Value (Code (codes "12345B"))) t ≡ Spells t)
@@ -108,50 +90,15 @@ module _ (fields50 : List Field) where
 
   -- a time of FIX 4.2 is not at the close
   pub is_other : (code : ℕ) → is_one_of (codes "0123456") code ≡ true → (code == 55) ≡ false
-  is_other code h = by (code == 55) refl
-    where
-      by : (b : Bool) → (code == 55) ≡ b → b ≡ false
-      by false e = refl
-      by true e = absurd (
-          let P : ℕ → Type 0 = λ x. is_one_of (codes "0123456") x ≡ true in
-          let k : false ≡ true = subst P (eqb-true code 55 e) h in cc)
-
-  not_close : (code : ℕ) → (code == 55) ≡ false → is_at_close (code ∷ []) ≡ false
-  not_close code h = by (is_at_close (code ∷ [])) refl
-    where
-      by : (b : Bool) → is_at_close (code ∷ []) ≡ b → b ≡ false
-      by false e = refl
-      by true e = absurd (
-          let same : code ∷ [] ≡ 55 ∷ [] = (bytes_eq-Decides (code ∷ []) (codes "7")).0 e in
-          let is : code ≡ 55 = cc in
-          let P : ℕ → Type 0 = λ x. (x == 55) ≡ false in
-          let k : true ≡ false = subst P is h in cc)
-
-  more_codes : (code : ℕ) → is_one_of (codes "0123456") code ≡ true
-      → is_one_of (codes "01234567") code ≡ true
-  more_codes code h = by (48 == code) (49 == code) (50 == code) (51 == code) (52 == code)
-      (53 == code) (54 == code) h
-    where
-      by : (a b c d e f g : Bool)
-          → (a || (b || (c || (d || (e || (f || (g || false))))))) ≡ true
-          → (a || (b || (c || (d || (e || (f || (g || ((55 == code) || false)))))))) ≡ true
-      by true b c d e f g h = refl
-      by false true c d e f g h = refl
-      by false false true d e f g h = refl
-      by false false false true e f g h = refl
-      by false false false false true f g h = refl
-      by false false false false false true g h = refl
-      by false false false false false false true h = refl
-      by false false false false false false false h = absurd cc
+  is_other code h = one_of (λ c. (c == 55) ≡ false) (codes "0123456")
+      (refl & refl & refl & refl & refl & refl & refl & tt) code h
 
   other_counts : (code : ℕ) → is_one_of (codes "0123456") code ≡ true
       → judge fields50 (TimeBeside 40) (code ∷ []) ≡ Spells (code ∷ [])
   unfolding judge spelling
   other_counts code h =
-      ap (λ (close : Bool). counted (not close || is_listed (codes "12") (value_at 40 fields50))
-      (verdict_of (Ok (listed_word (is_code (codes "01234567") (code ∷ [])) (code ∷ [])))))
-      (not_close code (is_other code h))
-      ∙ ap (λ (listed : Bool). verdict_of (Ok (listed_word listed (code ∷ [])))) (more_codes code h)
+      one_of (λ c. judge fields50 (TimeBeside 40) (c ∷ []) ≡ Spells (c ∷ [])) (codes "0123456")
+      (refl & refl & refl & refl & refl & refl & refl & tt) code h
 
   other_time : (fields42 : List Field) (time : Said)
       → IfSome time (λ t. judge fields42 (Value (Code (codes "0123456"))) t ≡ Spells t)
@@ -166,17 +113,15 @@ module _ (fields50 : List Field) where
 
   module _ (fields42 : List Field) (time : Said)
       (timely : IfSome time (λ t. judge fields42 (Value (Code (codes "0123456"))) t ≡ Spells t)) where
-    time_of : (code : ℕ) → value_at 40 fields50 ≡ type_up (Some (code ∷ []))
+    time_of : (code : ℕ) → is_one_of (codes "12345B") code ≡ true
+        → value_at 40 fields50 ≡ type_up (Some (code ∷ []))
         → IsTime (time_up (Some (code ∷ [])) time)
-    time_of code at = by (code == 53) (code == 66) at
-      where
-        by : (five b : Bool)
-            → value_at 40 fields50 ≡ (if five then Some (codes "1") else (if b then Some (codes "2")
-            else Some (code ∷ [])))
-            → IsTime (if five || b then Some (codes "7") else time)
-        by true b at = at_close 49 at refl
-        by false true at = at_close 50 at refl
-        by false false at = other_time fields42 time timely
+    time_of code h =
+        let P : ℕ → Type 0 = λ c. value_at 40 fields50 ≡ type_up (Some (c ∷ []))
+        → IsTime (time_up (Some (c ∷ [])) time) in
+        let other = other_time fields42 time timely in
+        one_of P (codes "12345B") ((λ at. other) & (λ at. other) & (λ at. other) & (λ at. other)
+        & (λ at. at_close 49 at refl) & (λ at. at_close 50 at refl) & tt) code h
 
     pub time_said : (ord_type : Said) → IsSome ord_type
         → IfSome ord_type (λ t. judge fields42 (Value (Code (codes "12345B"))) t ≡ Spells t)
@@ -186,7 +131,7 @@ module _ (fields50 : List Field) where
         let t = is_code_of fields42 (codes "12345B") text h in
         let P : List ℕ → Type 0 = λ x. value_at 40 fields50 ≡ type_up (Some x)
         → IsTime (time_up (Some x) time) in
-        subst P (sym t.is) (λ a. time_of t.code a) at
+        subst P (sym t.is) (time_of t.code t.listed) at
 
 -- ---- OrderCapacity
 
@@ -200,8 +145,7 @@ pub listed_said : (fields50 : List Field) (to : ℕ) (listed : List ℕ) (said :
     → IsSaid judge fields50 (record { tag = to; kind = Byte listed; need = Lenient }) said
 unfolding judge spelling
 listed_said fields50 to listed None clear h = lenient_said fields50 to (Byte listed) None tt tt
-listed_said fields50 to listed (Some []) clear h = absurd cc
 listed_said fields50 to listed (Some (code ∷ [])) clear h =
     lenient_said fields50 to (Byte listed) (Some (code ∷ []))
     (ap (λ (b : Bool). counted b (Spells (code ∷ []))) h) (listed_clear listed code clear h)
-listed_said fields50 to listed (Some (a ∷ b ∷ text)) clear h = absurd cc
+listed_said fields50 to listed other clear h = absurd cc
