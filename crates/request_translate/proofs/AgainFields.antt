@@ -1,28 +1,64 @@
--- What is written of a request is split again into the fields that were written.
-use Rattle.std.proofs.Common.{◌≡◌, ◌≤◌, List, true, None, refl, sym, subst, arith}
+-- What a request asks for; and that what is written of it is split again into its fields.
+use Rattle.std.proofs.Common.{◌≡◌, ◌≤◌, List, true, Option, Some, None, refl, sym, subst, arith}
+use Rattle.std.specs.Option.{option_map}
 use Rattle.std.specs.List.{list_all}
 use Rattle.field_groups.specs.Data.{is_data_tag}
 use Rattle.field_groups.specs.Field.{Field, AreFields, body_of}
 use Rattle.field_groups.specs.Fields.{SplitsInto}
+use Rattle.message_tables.specs.Content.{content}
 use Rattle.message_tables.specs.Tables.{Message}
-use Rattle.order_meaning.specs.Request.{RequestKind, New, Cancel, Replace, Status}
-use Rattle.row_values.specs.Kinds as row_kinds
-use Rattle.rows_fix50.specs.Header.{table}
+use Rattle.order_meaning.specs.Request.{Request, RequestKind, New, Cancel, Replace, Status}
+use Rattle.row_values.specs.Kinds.{judge}
+use Rattle.dict_fix50.specs.Sense.{request50}
+use Rattle.request_rules.specs.Canonical.{IsCanonical}
+use Rattle.request_rules.proofs.ByType.{asked50, items50, letter_of}
 use Rattle.translation.specs.Header.{type_of, with_content}
-use Rattle.request_translate.specs.Translation.{IsRequest}
-use Rattle.request_translate.proofs.Outcomes.{kind_in, letter_asked, items_asked, of_kind}
+use Rattle.request_translate.specs.Translation.{IsRequest, News, Cancels, Replaces, Statuses}
 use Rattle.sound_laws.proofs.PlainFields.{has_good_tags, most_of, times, AreFew, few_of}
 use Rattle.translation.proofs.SplitAgain.{fields_again}
 use Rattle.translation.proofs.Writable.{IsType}
 
-good_tags : (kind : RequestKind) → list_all has_good_tags (items_asked kind) ≡ true
+-- ---- what a request asks for
+
+-- what a canonical request asks for
+abbrev pub kind_in : {m : Message} {written : List Field} → IsRequest m written → RequestKind
+kind_in (News c w) = New
+kind_in (Cancels c w) = Cancel
+kind_in (Replaces c w) = Replace
+kind_in (Statuses c w) = Status
+
+abbrev pub kind_of : Message → Option RequestKind
+kind_of m = option_map (λ (r : Request). r.kind) (request50 m)
+
+pub kind_is : (m : Message) (written : List Field) (r : IsRequest m written)
+    → kind_of m ≡ Some (kind_in r)
+kind_is m written (News c w) = rw c.sound.letter refl
+kind_is m written (Cancels c w) = rw c.sound.letter refl
+kind_is m written (Replaces c w) = rw c.sound.letter refl
+kind_is m written (Statuses c w) = rw c.sound.letter refl
+
+-- a canonical request of what it asks for, and its content
+pub record IsOfKind (r : Message) (written : List Field) (kind : RequestKind) : Type 0 where
+  pub canonical : IsCanonical (letter_of kind) (items50 kind) r
+  pub is : written ≡ content (asked50 kind) r
+
+pub of_kind : (r : Message) (written : List Field)
+    → (request : IsRequest r written) → IsOfKind r written (kind_in request)
+of_kind r written (News c w) = record { canonical = c; is = w }
+of_kind r written (Cancels c w) = record { canonical = c; is = w }
+of_kind r written (Replaces c w) = record { canonical = c; is = w }
+of_kind r written (Statuses c w) = record { canonical = c; is = w }
+
+-- ---- its fields
+
+good_tags : (kind : RequestKind) → list_all has_good_tags (items50 kind) ≡ true
 unfolding is_data_tag
 good_tags New = refl
 good_tags Cancel = refl
 good_tags Replace = refl
 good_tags Status = refl
 
-few_asked : (kind : RequestKind) → most_of (items_asked kind) ≤ 240
+few_asked : (kind : RequestKind) → most_of (items50 kind) ≤ 240
 unfolding times
 few_asked New = omega arith
 few_asked Cancel = omega arith
@@ -34,7 +70,7 @@ request_few m written request =
     let P : List Field → Type 0 = λ fs. AreFew fs in
     let kind = kind_in request in
     let of = of_kind m written request in
-    subst P (sym of.is) (few_of row_kinds.judge (table (letter_asked kind) (items_asked kind)) m
+    subst P (sym of.is) (few_of judge (asked50 kind) m
     (good_tags kind) (few_asked kind) of.canonical.sound)
 
 -- WHAT IS WRITTEN IS SPLIT AGAIN.

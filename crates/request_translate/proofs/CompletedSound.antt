@@ -1,20 +1,19 @@
 -- A sound message of FIX 5.0 SP2 stays sound where its month is completed by its date.
-use Rattle.std.proofs.Common.{◌≡◌, ℕ, List, [], ◌∷◌, map, Some, None, Bool, true, false}
-use Rattle.std.proofs.Common.{refl, sym, ap, subst, ◌∙◌, codes, take, arith}
+use Rattle.std.proofs.Common.{◌≡◌, ℕ, List, [], ◌∷◌, map, Some, None, Bool, true, false, refl, sym}
+use Rattle.std.proofs.Common.{ap, subst, ◌∙◌, codes, take, arith}
 use Rattle.std.specs.Prelude.{IfSome, not, ◌&&◌, ◌==◌}
 use Rattle.std.specs.List.{AllByRecursion, flat_map, list_any, list_all}
 use Rattle.std.proofs.lemmas.Bool.{eqb-true}
 use Rattle.std.proofs.lemmas.Bool.Decides.{nat_tests}
 use Rattle.field_groups.specs.Field.{Field}
 use Rattle.field_groups.specs.Data.{is_data_tag}
-use Rattle.message_tables.specs.Tables.{Verdict, Spells, Need, Required, Optional, Lenient, Fixed}
-use Rattle.message_tables.specs.Tables.{When, Row, Item, One, Party, Lines, Table, Message}
-use Rattle.message_tables.specs.Tables.{Said, Tag, Role, is_place, said_at, value_at, says}
-use Rattle.message_tables.specs.Tables.{or_else, ◌>>=◌, text_of, is_needed, is_listed}
+use Rattle.message_tables.specs.Tables.{Verdict, Spells, Need, Required, Optional, Lenient, Row}
+use Rattle.message_tables.specs.Tables.{Item, One, Party, Lines, Table, Message, Said, Tag, Role}
+use Rattle.message_tables.specs.Tables.{is_place, said_at, value_at, says, or_else, ◌>>=◌, text_of}
+use Rattle.message_tables.specs.Tables.{is_needed, is_listed}
 use Rattle.message_tables.specs.Content.{content, cell_fields, item_fields}
 use Rattle.value_kinds.specs.ValueKind.{Day, spelling}
-use Rattle.row_values.specs.Kinds.{Kind, Value, Byte, DayOf, MonthBeside, TimeBeside, Version}
-use Rattle.row_values.specs.Kinds.{judge, verdict_of, date_at}
+use Rattle.row_values.specs.Kinds.{Kind, MonthBeside, judge, verdict_of, date_at}
 use Rattle.rows_fix50.specs.Header.{completed, month_by}
 use Rattle.sound_laws.specs.Sound.{IsClear, IsSaid, IsItem, IsSound, places_of}
 use Rattle.sound_laws.specs.Complete.{HasMonthOfDate}
@@ -72,16 +71,14 @@ pub kept_need : (need : Need) → ours_need need ≡ true → (before after : Li
 kept_need Required h before after n = refl
 kept_need Optional h before after n = n
 kept_need Lenient h before after n = n
-kept_need (Fixed text) h before after n = absurd cc
-kept_need (When condition) h before after n = absurd cc
+kept_need other h before after n = absurd cc
 
 says_again : (need : Need) → ours_need need ≡ true → (j : List ℕ → Verdict) (said : Said)
     → IfSome said (λ text. j text ≡ Spells text) → says need j said ≡ said
 says_again Required h j said e = text_again judge j said e
 says_again Optional h j said e = text_again judge j said e
 says_again Lenient h j said e = text_again judge j said e
-says_again (Fixed text) h j said e = absurd cc
-says_again (When condition) h j said e = absurd cc
+says_again other h j said e = absurd cc
 
 month_judged : (kind : Kind) → month_kind kind ≡ true → (fields : List Field) (day : List ℕ)
     → date_at 541 fields ≡ Some day → judge fields kind (take 6 day) ≡ Spells (take 6 day)
@@ -90,11 +87,7 @@ month_judged (MonthBeside date) h fields day at =
     let P : ℕ → Type 0 =
     λ t. judge fields (MonthBeside t) (take 6 day) ≡ Spells (take 6 day) in
     subst P (sym is) (month_of_date fields day at)
-month_judged (Value kind) h fields day at = absurd cc
-month_judged (Byte listed) h fields day at = absurd cc
-month_judged (DayOf month) h fields day at = absurd cc
-month_judged (TimeBeside ord_type) h fields day at = absurd cc
-month_judged Version h fields day at = absurd cc
+month_judged other h fields day at = absurd cc
 
 -- ---- a message
 

@@ -1,6 +1,5 @@
 -- A frame and its translation mean the same, however they are read.
-use Rattle.std.proofs.Common.{◌≡◌, ℕ, List, [], true, Option, Some, None, refl, sym, ap}
-use Rattle.std.proofs.Common.{subst, ◌∙◌}
+use Rattle.std.proofs.Common.{◌≡◌, ℕ, List, [], true, Option, Some, None, refl, sym, ap, subst, ◌∙◌}
 use Rattle.std.specs.Prelude.{is_some}
 use Rattle.std.specs.Option.{option_map}
 use Rattle.std.specs.Result.{result_ok}
@@ -18,7 +17,7 @@ use Rattle.translation.specs.Header.{type_of, with_content}
 use Rattle.request_rules.specs.Rules.{up_message}
 use Rattle.request_translate.specs.Translation.{IsUp, KeepSense}
 use Rattle.request_translate.specs.Laws.{FramesKeepSense}
-use Rattle.request_translate.proofs.Outcomes.{kind_is}
+use Rattle.request_translate.proofs.AgainFields.{kind_is}
 
 some_of : (o : Option Request) (kind : RequestKind)
     → option_map (λ (r : Request). r.kind) o ≡ Some kind → is_some o ≡ true

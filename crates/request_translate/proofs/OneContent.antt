@@ -1,22 +1,22 @@
 -- Canonical requests that mean the same have the same content: each row is written alike of both.
-use Rattle.std.proofs.Common.{◌≡◌, ℕ, zero, suc, List, [], ◌∷◌, ◌++◌, codes, Option, Some, refl, sym}
-use Rattle.std.proofs.Common.{ap, subst, ◌∙◌}
-use Rattle.std.proofs.Common.{unwrap_or, option_map, true}
+use Rattle.std.proofs.Common.{◌≡◌, ℕ, zero, suc, List, [], ◌∷◌, ◌++◌, codes, Option, Some, refl}
+use Rattle.std.proofs.Common.{sym, ap, map, subst, ◌∙◌, unwrap_or, option_map, true}
 use Rattle.std.specs.List.{AllByRecursion, slice_get, flat_map}
 use Rattle.value_kinds.specs.ValueKind as kinds
+use Rattle.value_kinds.specs.ValueKind.{code_text}
 use Rattle.row_values.specs.Kinds as of50
 use Rattle.row_values.specs.Groups as row_groups
 use Rattle.field_groups.specs.Field.{Field}
 use Rattle.message_tables.specs.Tables.{Item, One, Party, Lines, Need, Required, Optional, Lenient}
-use Rattle.message_tables.specs.Tables.{Tag, Said, Message, ◌>>=◌, said_at, lines_of}
-use Rattle.message_tables.specs.Tables.{code_of, flag_of}
+use Rattle.message_tables.specs.Tables.{Tag, Said, Message, ◌>>=◌, said_at, lines_of, code_of}
+use Rattle.message_tables.specs.Tables.{flag_of}
 use Rattle.message_tables.specs.Content.{content, item_fields, cell_fields, group_fields}
 use Rattle.order_meaning.specs.Request.{Request, RequestKind, New, Cancel, Replace, Status}
 use Rattle.rows_fix50.specs.Header.{table}
 use Rattle.dict_fix50.specs.Requests.{new_order, cancel_request, replace_request, status_request}
 use Rattle.dict_fix50.specs.Sense.{request50, request_of}
-use Rattle.row_values.specs.Amounts.{amount_of}
-use Rattle.sound_laws.specs.Sound.{IsItem}
+use Rattle.row_values.specs.Amounts.{alloc_of, amount_of, session_of}
+use Rattle.sound_laws.specs.Sound.{IsItem, IsSaid}
 use Rattle.request_rules.specs.Canonical.{IsCanonical}
 use Rattle.request_rules.specs.Rules.{party_lines}
 use Rattle.request_translate.specs.Laws.{HaveOneContent}
@@ -67,48 +67,50 @@ module _ (f g : List Field) (m n : Message) where
   said : (tag : ℕ) {kind : of50.Kind} {need : Need} → at m tag ≡ at n tag → Row tag kind need
   said tag e a b = ap (λ (s : Said). cell_fields (Tag tag, s)) e
 
+  -- a row whose meaning gives back what it says
+  row_by : {A : Type 0} (means : Said → A) (back : A → Said) (tag : ℕ) {kind : of50.Kind}
+      {need : Need} → ((fields : List Field) (said : Said)
+      → IsSaid of50.judge fields (record { tag = tag; kind = kind; need = need }) said
+      → back (means said) ≡ said) → means (at m tag) ≡ means (at n tag) → Row tag kind need
+  row_by means back tag is e a b = said tag
+      (same.same_by means back (at m tag) (at n tag) (is f (at m tag) a) (is g (at n tag) b) e) a b
+
   text : (tag : ℕ) {kind : of50.Kind}
       → unwrap_or (at m tag) [] ≡ unwrap_or (at n tag) [] → Row tag kind Required
-  text tag e a b = ap (λ (s : Said). cell_fields (Tag tag, s))
-      (same.same_text (at m tag) (at n tag) (a.needed refl) (b.needed refl) e)
+  text tag = row_by (λ s. unwrap_or s []) (λ t. Some t) tag
+      (λ fields s is. same.text_back s (is.needed refl))
 
   code : (tag : ℕ) (listed : List ℕ) {need : Need} → at m tag >>= code_of ≡ at n tag >>= code_of
       → Row tag (of50.Value (kinds.Code listed)) need
-  code tag listed e a b = ap (λ (s : Said). cell_fields (Tag tag, s))
-      (same.same_code (at m tag) (at n tag) (same.codes_said f listed (at m tag) a.spelled)
-      (same.codes_said g listed (at n tag) b.spelled) e)
+  code tag listed = row_by (λ s. s >>= code_of) (option_map code_text) tag
+      (λ fields s is. same.code_back s (same.codes_said fields listed s is.spelled))
 
   code_in : (tag : ℕ) (listed : List ℕ)
       → unwrap_or (at m tag >>= code_of) 0 ≡ unwrap_or (at n tag >>= code_of) 0
       → Row tag (of50.Value (kinds.Code listed)) Required
-  code_in tag listed e a b = ap (λ (s : Said). cell_fields (Tag tag, s))
-      (same.same_code_in (at m tag) (at n tag) (a.needed refl) (b.needed refl)
-      (same.codes_said f listed (at m tag) a.spelled)
-      (same.codes_said g listed (at n tag) b.spelled) e)
+  code_in tag listed = row_by (λ s. unwrap_or (s >>= code_of) 0) (λ c. Some (code_text c)) tag
+      (λ fields s is. same.code_in_back s (is.needed refl)
+      (same.codes_said fields listed s is.spelled))
 
   byte : (tag : ℕ) (listed : List ℕ) {need : Need} → at m tag >>= code_of ≡ at n tag >>= code_of
       → Row tag (of50.Byte listed) need
-  byte tag listed e a b = ap (λ (s : Said). cell_fields (Tag tag, s))
-      (same.same_code (at m tag) (at n tag) (same.bytes_said f listed (at m tag) a.spelled)
-      (same.bytes_said g listed (at n tag) b.spelled) e)
+  byte tag listed = row_by (λ s. s >>= code_of) (option_map code_text) tag
+      (λ fields s is. same.code_back s (same.bytes_said fields listed s is.spelled))
 
   qty : (tag : ℕ) {need : Need} → at m tag >>= amount_of ≡ at n tag >>= amount_of
       → Row tag (of50.Value kinds.Qty) need
-  qty tag e a b = ap (λ (s : Said). cell_fields (Tag tag, s))
-      (same.same_amount (at m tag) (at n tag) (same.qtys_said f (at m tag) a.spelled)
-      (same.qtys_said g (at n tag) b.spelled) e)
+  qty tag = row_by (λ s. s >>= amount_of) same.amounts_back tag
+      (λ fields s is. same.qtys_back fields s is.spelled)
 
   price : (tag : ℕ) {need : Need} → at m tag >>= amount_of ≡ at n tag >>= amount_of
       → Row tag (of50.Value kinds.Price) need
-  price tag e a b = ap (λ (s : Said). cell_fields (Tag tag, s))
-      (same.same_amount (at m tag) (at n tag) (same.prices_said f (at m tag) a.spelled)
-      (same.prices_said g (at n tag) b.spelled) e)
+  price tag = row_by (λ s. s >>= amount_of) same.amounts_back tag
+      (λ fields s is. same.prices_back fields s is.spelled)
 
   flag : (tag : ℕ) {need : Need} → option_map flag_of (at m tag) ≡ option_map flag_of (at n tag)
       → Row tag (of50.Value kinds.Flag) need
-  flag tag e a b = ap (λ (s : Said). cell_fields (Tag tag, s))
-      (same.same_flag (at m tag) (at n tag) (same.flags_said f (at m tag) a.spelled)
-      (same.flags_said g (at n tag) b.spelled) e)
+  flag tag = row_by (option_map flag_of) (option_map same.flag_back) tag
+      (λ fields s is. same.flags_back fields s is.spelled)
 
   party : (role : ℕ) → Alike (Party role)
   party role a b = refl
@@ -132,8 +134,9 @@ module _ (f g : List Field) (m n : Message) where
     account = said 1 (ap (λ (r : Request). r.account) e)
 
     allocs : Alike (Lines row_groups.allocs)
-    allocs a b = ap (group_fields 78) (same.same_allocs (lines_of 78 m.groups)
-        (lines_of 78 n.groups) a.said b.said (ap (λ (r : Request). r.allocs) e))
+    allocs a b = ap (group_fields 78) (same.same_by (map alloc_of) (map same.alloc_cells)
+        (lines_of 78 m.groups) (lines_of 78 n.groups) (same.allocs_back _ a.said)
+        (same.allocs_back _ b.said) (ap (λ (r : Request). r.allocs) e))
 
     settl_type : {need : Need} → Row 63 (of50.Value (kinds.Code (codes "0123456789"))) need
     settl_type = code 63 (codes "0123456789") (ap (λ (r : Request). r.settl_type) e)
@@ -157,8 +160,9 @@ module _ (f g : List Field) (m n : Message) where
     ex_destination = said 100 (ap (λ (r : Request). r.ex_destination) e)
 
     sessions : Alike (Lines row_groups.sessions)
-    sessions a b = ap (group_fields 386) (same.same_sessions (lines_of 386 m.groups)
-        (lines_of 386 n.groups) a.said b.said (ap (λ (r : Request). r.sessions) e))
+    sessions a b = ap (group_fields 386) (same.same_by (map session_of) (map same.session_cells)
+        (lines_of 386 m.groups) (lines_of 386 n.groups) (same.sessions_back _ a.said)
+        (same.sessions_back _ b.said) (ap (λ (r : Request). r.sessions) e))
 
     symbol : {kind : of50.Kind} → Row 55 kind Required
     symbol = text 55 (ap (λ (r : Request). r.symbol) e)
@@ -253,22 +257,38 @@ module _ (letter : ℕ) (items : List (Item of50.Kind)) where
   item_said m c i item is =
       item_at (IsItem of50.judge (fields_of m) m) i items item is c.sound.items
 
-  terms : (m : Message) → IsCanonical letter items m → (i j : ℕ)
-      → slice_get items i ≡ Some (One
-      (record { tag = 40; kind = of50.Value (kinds.Code (codes "1234")); need = Required }))
-      → slice_get items j
-      ≡ Some (One (record { tag = 59; kind = of50.TimeBeside 40; need = Lenient }))
-      → is_alone 40 items ≡ true → same.TermsSaid (at m 40) (at m 59)
-  terms m c i j type_is time_is alone =
-      let ord_type = item_said m c i (One
-      (record { tag = 40; kind = of50.Value (kinds.Code (codes "1234")); need = Required })) type_is
-      in
-      let time = item_said m c j
-      (One (record { tag = 59; kind = of50.TimeBeside 40; need = Lenient })) time_is in
-      same.terms_said (fields_of m) (at m 40) (at m 59)
+  abbrev type_row : Item of50.Kind
+  type_row =
+      One (record { tag = 40; kind = of50.Value (kinds.Code (codes "1234")); need = Required })
+
+  abbrev time_row : Item of50.Kind
+  time_row = One (record { tag = 59; kind = of50.TimeBeside 40; need = Lenient })
+
+  abbrev date_row : Item of50.Kind
+  date_row = One (record { tag = 541; kind = of50.Value kinds.Day; need = Optional })
+
+  -- the rows in which others have a part, and their meaning, which gives them back
+  abbrev terms_at : Message → Said × Said
+  terms_at m = (at m 40, at m 59)
+
+  terms_back : (i j : ℕ) → slice_get items i ≡ Some type_row → slice_get items j ≡ Some time_row
+      → is_alone 40 items ≡ true → (m : Message) → IsCanonical letter items m
+      → same.terms_text (same.terms_said (terms_at m)) ≡ terms_at m
+  terms_back i j type_is time_is alone m c =
+      let ord_type = item_said m c i type_row type_is in
+      same.terms_back (fields_of m) (at m 40) (at m 59)
       (value_said of50.judge m 40 items alone
       (groups_said of50.judge (fields_of m) m items c.sound.items))
-      (ord_type.needed refl) ord_type.spelled time.spelled
+      (ord_type.needed refl) ord_type.spelled (item_said m c j time_row time_is).spelled
+
+  abbrev maturity_at : Message → Said × Said
+  maturity_at m = (at m 200, at m 541)
+
+  maturity_back : (i : ℕ) → slice_get items i ≡ Some date_row
+      → (m : Message) → IsCanonical letter items m
+      → same.maturity_text (same.maturity_said (maturity_at m)) ≡ maturity_at m
+  maturity_back i is m c = same.maturity_back (fields_of m) (at m 200) (at m 541) c.month
+      (item_said m c i date_row is).spelled
 
   module _ (m n : Message) (c : IsCanonical letter items m) (d : IsCanonical letter items n)
       (kind : RequestKind) (e : request_of kind m ≡ request_of kind n) where
@@ -280,21 +300,20 @@ module _ (letter : ℕ) (items : List (Item of50.Kind)) where
         let firm = ap (λ (r : Request). r.clearing_firm) e in
         c.parties ∙ (λ i. party_lines (client i) (broker i) (firm i)) ∙ sym d.parties
 
-    maturity : (i : ℕ) → slice_get items i
-        ≡ Some (One (record { tag = 541; kind = of50.Value kinds.Day; need = Optional }))
-        → IsMaturity m n
+    maturity : (i : ℕ) → slice_get items i ≡ Some date_row → IsMaturity m n
     maturity i is =
-        let day = One (record { tag = 541; kind = of50.Value kinds.Day; need = Optional }) in
-        let a = item_said m c i day is in let b = item_said n d i day is in
-        same.same_maturity (at m 200) (at m 541) (at n 200) (at n 541) c.month d.month
-        (same.dates_said (fields_of m) (at m 541) a.spelled)
-        (same.dates_said (fields_of n) (at n 541) b.spelled) (ap (λ (r : Request). r.maturity) e)
+        let both = same.same_by same.maturity_said same.maturity_text (maturity_at m)
+        (maturity_at n) (maturity_back i is m c) (maturity_back i is n d)
+        (ap (λ (r : Request). r.maturity) e) in
+        (λ j. (both j).0, λ j. (both j).1)
 
-    same_terms : same.TermsSaid (at m 40) (at m 59) → same.TermsSaid (at n 40) (at n 59)
-        → AreTerms m n
-    same_terms s t =
-        same.same_terms (at m 40) (at m 59) (at n 40) (at n 59) s t
-        (ap (λ (r : Request). r.ord_type) e) (ap (λ (r : Request). r.time_in_force) e)
+    terms : (i j : ℕ) → slice_get items i ≡ Some type_row → slice_get items j ≡ Some time_row
+        → is_alone 40 items ≡ true → AreTerms m n
+    terms i j type_is time_is alone =
+        let both = same.same_by same.terms_said same.terms_text (terms_at m) (terms_at n)
+        (terms_back i j type_is time_is alone m c) (terms_back i j type_is time_is alone n d)
+        (ap (λ (r : Request). (r.ord_type, r.time_in_force)) e) in
+        (λ k. (both k).0, λ k. (both k).1)
 
     one_content : AllByRecursion (Alike (fields_of m) (fields_of n) m n) items
         → fields_of m ≡ fields_of n
@@ -315,8 +334,7 @@ module _ (letter : ℕ) (items : List (Item of50.Kind)) where
       AllByRecursion (Alike (fields_of m) (fields_of n) m n) items
 
   -- a type of message with one content, by the place of its MaturityDate
-  have_one_content : (kind : RequestKind) (date : ℕ) → slice_get items date
-      ≡ Some (One (record { tag = 541; kind = of50.Value kinds.Day; need = Optional }))
+  have_one_content : (kind : RequestKind) (date : ℕ) → slice_get items date ≡ Some date_row
       → ((m : Message) → m.letter ≡ letter → request50 m ≡ Some (request_of kind m))
       → RowsAlike kind → HaveOneContent letter items
   have_one_content kind date is asked rows m n c d same =
@@ -330,8 +348,7 @@ pub news : HaveOneContent 68 new_order
 news = have_one_content 68 new_order New 21 refl (λ m letter. rw letter refl)
     (λ m n c d e parties date. new_rows
     (fields_of 68 new_order m) (fields_of 68 new_order n) m n New e parties date
-    (same_terms 68 new_order m n c d New e
-    (terms 68 new_order m c 27 31 refl refl refl) (terms 68 new_order n d 27 31 refl refl refl)))
+    (terms 68 new_order m n c d New e 27 31 refl refl refl))
 
 pub cancels : HaveOneContent 70 cancel_request
 cancels = have_one_content 70 cancel_request Cancel 13 refl (λ m letter. rw letter refl)
@@ -342,9 +359,7 @@ pub replaces : HaveOneContent 71 replace_request
 replaces = have_one_content 71 replace_request Replace 23 refl (λ m letter. rw letter refl)
     (λ m n c d e parties date. replace_rows
     (fields_of 71 replace_request m) (fields_of 71 replace_request n) m n Replace e parties date
-    (same_terms 71 replace_request m n c d Replace e
-    (terms 71 replace_request m c 29 33 refl refl refl)
-    (terms 71 replace_request n d 29 33 refl refl refl)))
+    (terms 71 replace_request m n c d Replace e 29 33 refl refl refl))
 
 pub statuses : HaveOneContent 72 status_request
 statuses = have_one_content 72 status_request Status 12 refl (λ m letter. rw letter refl)

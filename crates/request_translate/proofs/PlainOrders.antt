@@ -1,9 +1,10 @@
 -- A plain order: what it says in FIX 4.2, the request of FIX 5.0 SP2 that means the same, and the
 -- frame of its translation.
-use Rattle.std.proofs.Common.{◌≡◌, ◌≤◌, ◌*◌, ℕ, List, [], ◌∷◌, ◌++◌, map, length, lit≤}
-use Rattle.std.proofs.Common.{codes, Option, Some, None, Result, Ok, Err, Bool, true, false, refl}
-use Rattle.std.proofs.Common.{sym, ap, subst, ◌∙◌, arith, length-append}
-use Rattle.std.specs.Prelude.{IfSome, nat_le, ◌==◌, ◌||◌, if◌then◌else◌}
+use Rattle.std.proofs.Common.{◌≡◌, ◌≤◌, ◌*◌, ℕ, List, [], ◌∷◌, ◌++◌, map, length, lit≤, codes}
+use Rattle.std.proofs.Common.{Option, Some, None, Result, Ok, Err, Bool, true, false, refl, sym, ap}
+use Rattle.std.proofs.Common.{subst, ◌∙◌, arith, length-append}
+use Rattle.std.specs.Prelude.{IfSome, nat_le, not, ◌||◌, if◌then◌else◌}
+use Rattle.std.specs.Int.{is_negative}
 use Rattle.std.specs.Fmt.{digits, decimal}
 use Rattle.std.specs.List.{AllByRecursion}
 use Rattle.std.proofs.lemmas.Bool.Decides.{nat_tests}
@@ -13,31 +14,32 @@ use Rattle.field_groups.specs.Data.{is_data_tag}
 use Rattle.field_groups.specs.Field.{Field, IsPlainField, body_of, field_bytes}
 use Rattle.field_groups.specs.Fields.{SplitsInto}
 use Rattle.field_groups.proofs.Plain.{plain_again}
-use Rattle.typed_fields.specs.declared.fault.FieldFault.TheVariants.{Empty, Form, Range}
+use Rattle.typed_fields.specs.declared.fault.FieldFault.{FieldFault}
+use Rattle.typed_fields.specs.declared.fault.FieldFault.TheVariants.{Range}
+use Rattle.typed_fields.proofs.DigitsLemmas.{length-has_pattern}
+use Rattle.typed_fields.proofs.SpellingLemmas.{judged_ok}
 use Rattle.typed_fields.specs.Reading.{judged}
 use Rattle.typed_fields.specs.Digits.{has_pattern}
 use Rattle.typed_fields.specs.Dec.{dec_text, is_dec_form, is_dec_bounded}
 use Rattle.typed_fields.specs.Stamp.{is_stamp_form, spells_moment, stamp_in}
 use Rattle.value_kinds.specs.ValueKind.{ValueKind, Filled, Id, Code, Stamp, Qty, Price, spelling}
-use Rattle.value_kinds.specs.ValueKind.{spelt, if_in_range}
+use Rattle.value_kinds.specs.ValueKind.{Spelling, spelt, if_in_range}
 use Rattle.row_values.specs.Kinds.{judge}
-use Rattle.message_tables.specs.Tables.{Cell, Message, Tag}
-use Rattle.message_tables.specs.Tables.{first_of}
+use Rattle.message_tables.specs.Tables.{Cell, Message, Tag, first_of}
 use Rattle.message_tables.specs.FirstFault.{first_fault, message_of}
+use Rattle.message_tables.specs.Content.{content}
 use Rattle.dict_fix42.specs.Message.{message42}
 use Rattle.dict_fix42.specs.Sense.{request42}
-use Rattle.translation.specs.declared.error.TranslateError.{TranslateError}
-use Rattle.translation.specs.declared.error.TranslateError.TheVariants as errors
 use Rattle.request_translate.specs.Lack.{lack_if}
 use Rattle.translation.specs.Header.{with_content}
-use Rattle.request_translate.specs.Translation.{StandsFor, IsOutcome, IsTooLong}
+use Rattle.request_translate.specs.Translation.{IsGood}
 use Rattle.request_translate.specs.Plain.{PlainOrder, IsValue, HasPlainValues, client_field}
 use Rattle.request_translate.specs.Plain.{client_party, terms, plain_fields, translated_fields}
 use Rattle.request_translate.specs.Plain.{PlainOrdersAreTranslated}
 use Rattle.sound_laws.proofs.PlainFields.{plain_field, all_of}
 use Rattle.sound_laws.proofs.Each.{◌&◌, both, each_joined}
-use Rattle.request_translate.proofs.Outcomes.{good_not_faulty, good_not_lacking, same_content}
-use Rattle.request_translate.proofs.Outcomes.{same_up, stands_by}
+use Rattle.request_translate.proofs.Outcomes.{IsToldBy, fit, fits, good_is, is_told, one_told}
+use Rattle.request_translate.proofs.Outcomes.{outcome}
 use Rattle.request_rules.specs.Rules.{up_content}
 
 -- cells of tags at which nothing is said
@@ -214,29 +216,16 @@ code_length listed (b ∷ []) h = omega arith
 code_length listed (b ∷ c ∷ bs) h = absurd cc
 
 -- a value that was read has its form
-form_holds : {A : Type 0} (write : A → List ℕ) (good : A → Bool) (bytes text : List ℕ)
-    (form bound : Bool) (x : A)
-    → spelt write (if_in_range good (judged bytes form bound x)) ≡ Ok (Some text) → form ≡ true
-form_holds write good [] text form bound x h = absurd cc
-form_holds write good (b ∷ bs) text true bound x h = refl
-form_holds write good (b ∷ bs) text false bound x h = by (length (b ∷ bs) == 0) h
+form_is : {A : Type 0} (say : Result A FieldFault → Spelling) (text : List ℕ)
+    → ((fault : FieldFault) → say (Err fault) ≡ Ok (Some text) → ⊥)
+    → (bytes : List ℕ) (form bound : Bool) (x : A)
+    → say (judged bytes form bound x) ≡ Ok (Some text) → form ≡ true
+form_is {A = A} say text none bytes form bound x h = by (judged bytes form bound x) refl h
   where
-    by : (empty : Bool)
-        → spelt write (if_in_range good (if empty then Err Empty else Err Form)) ≡ Ok (Some text)
-        → false ≡ true
-    by true h = absurd cc
-    by false h = absurd cc
-
-form_is : {A : Type 0} (write : A → List ℕ) (bytes text : List ℕ) (form bound : Bool) (x : A)
-    → spelt write (judged bytes form bound x) ≡ Ok (Some text) → form ≡ true
-form_is write [] text form bound x h = absurd cc
-form_is write (b ∷ bs) text true bound x h = refl
-form_is write (b ∷ bs) text false bound x h = by (length (b ∷ bs) == 0) h
-  where
-    by : (empty : Bool)
-        → spelt write (if empty then Err Empty else Err Form) ≡ Ok (Some text) → false ≡ true
-    by true h = absurd cc
-    by false h = absurd cc
+    by : (r : Result A FieldFault) → judged bytes form bound x ≡ r → say r ≡ Ok (Some text)
+        → form ≡ true
+    by (Ok y) e h = (judged_ok bytes form bound x y e).form
+    by (Err fault) e h = absurd (none fault h)
 
 dec_length : (text : List ℕ) → is_dec_form text ≡ true → length text ≤ 128
 dec_length text h = let most = (both (nat_le (length text) 32) _ h).0 in grind (arith, nat_tests)
@@ -244,20 +233,15 @@ dec_length text h = let most = (both (nat_le (length text) 32) _ h).0 in grind (
 qty_length : (text : List ℕ) → spelling Qty text ≡ Ok (Some text) → length text ≤ 128
 unfolding spelling
 qty_length [] h = omega arith
-qty_length (b ∷ bs) h = dec_length (b ∷ bs) (form_holds dec_text _ (b ∷ bs) (b ∷ bs)
-    (is_dec_form (b ∷ bs)) (is_dec_bounded (b ∷ bs)) _ h)
+qty_length (b ∷ bs) h = dec_length (b ∷ bs)
+    (form_is (λ r. spelt dec_text (if_in_range (λ d. not (is_negative d.units)) r)) (b ∷ bs)
+    (λ fault e. absurd cc) (b ∷ bs) (is_dec_form (b ∷ bs)) (is_dec_bounded (b ∷ bs)) _ h)
 
 price_length : (text : List ℕ) → spelling Price text ≡ Ok (Some text) → length text ≤ 128
 unfolding spelling
 price_length [] h = omega arith
-price_length (b ∷ bs) h = dec_length (b ∷ bs) (form_is dec_text (b ∷ bs) (b ∷ bs)
-    (is_dec_form (b ∷ bs)) (is_dec_bounded (b ∷ bs)) _ h)
-
-pattern_length : (marks text : List ℕ)
-    → has_pattern marks text ≡ true → length marks ≡ length text
-unfolding has_pattern
-pattern_length marks text h =
-    let same = (both (length marks == length text) _ h).0 in grind (arith, nat_tests)
+price_length (b ∷ bs) h = dec_length (b ∷ bs) (form_is (spelt dec_text) (b ∷ bs)
+    (λ fault e. absurd cc) (b ∷ bs) (is_dec_form (b ∷ bs)) (is_dec_bounded (b ∷ bs)) _ h)
 
 stamp_length : (text : List ℕ) → spelling Stamp text ≡ Ok (Some text) → length text ≤ 128
 unfolding spelling
@@ -265,16 +249,16 @@ stamp_length [] h = omega arith
 stamp_length (b ∷ bs) h =
     let text = b ∷ bs in
     by (has_pattern (codes "YYYYMMDD-HH:MM:SS") text) refl
-    (form_is (λ _. text) text text (is_stamp_form text) (spells_moment text) (stamp_in text) h)
+    (form_is (spelt (λ _. text)) text (λ fault e. absurd cc) text (is_stamp_form text)
+    (spells_moment text) (stamp_in text) h)
   where
     by : (whole : Bool) → has_pattern (codes "YYYYMMDD-HH:MM:SS") (b ∷ bs) ≡ whole
         → (whole || has_pattern (codes "YYYYMMDD-HH:MM:SS.sss") (b ∷ bs)) ≡ true
         → length (b ∷ bs) ≤ 128
     by true e h =
-        let same = pattern_length (codes "YYYYMMDD-HH:MM:SS") (b ∷ bs) e in omega (arith, same)
+        omega (arith, length-has_pattern (codes "YYYYMMDD-HH:MM:SS") (b ∷ bs) e)
     by false e h =
-        let same = pattern_length (codes "YYYYMMDD-HH:MM:SS.sss") (b ∷ bs) h in
-        omega (arith, same)
+        omega (arith, length-has_pattern (codes "YYYYMMDD-HH:MM:SS.sss") (b ∷ bs) h)
 
 party_fields_short : (client : Option (List ℕ))
     → IfSome client (IsValue Id) → AllByRecursion IsShort (client_party client)
@@ -400,44 +384,29 @@ module _ (o : PlainOrder) (v : HasPlainValues o) where
 
   -- ---- its one outcome
 
-  stands : StandsFor body (plain_fields o) (content_fields o)
-  stands = stands_by body (plain_fields o) (content_fields o) (record {
-    message = said42 o;
-    split = split;
-    read = read o v;
-    said = lacks_nothing o;
-  }) (content_is o o.client_id o.limit refl refl)
+  framed : Ok (frame_of Fixt11 (body_of (translated_fields o))) ≡ outcome (plain_fields o) None
+  framed =
+      let fields = plain_fields o in
+      let good : IsGood body fields = record {
+        message = said42 o;
+        split = split;
+        read = read o v;
+        said = lacks_nothing o;
+      } in
+      let content = content_is o o.client_id o.limit refl refl in
+      let up = up_is o o.client_id o.limit refl refl in
+      let whole = subst (λ (fs : List Field). length (body_of fs) ≤ 8192) (sym up) body_fits in
+      let fitting = ap (fits fields) (sym content) ∙ fit fields (content_fields o) content_fits whole
+      in
+      ap (λ (fs : List Field). Ok (frame_of Fixt11 (body_of fs)))
+      (sym up ∙ ap (with_content fields) content)
+      ∙ good_is body fields good true fitting
 
-  same_body : (fields written : List Field) → StandsFor body fields written
-      → body_of (with_content fields written) ≡ body_of (translated_fields o)
-  same_body fields written s =
-      same_up body fields (plain_fields o) written (content_fields o) s stands
-      ∙ ap body_of (up_is o o.client_id o.limit refl refl)
-
-  not_long : IsTooLong body → ⊥
-  not_long t =
-      let content =
-      same_content body t.fields (plain_fields o) t.written (content_fields o) t.stands stands in
-      let P : List Field → Type 0 = λ fields. length (body_of fields) ≤ 7936 in
-      let fits : length (body_of t.written) ≤ _ = subst P (sym content) content_fits in
-      let long = t.long fits in
-      let same = ap (λ (bytes : List ℕ). length bytes) (same_body t.fields t.written t.stands) in
-      let most = body_fits in
-      absurd (omega (arith, long, same, most))
-
-  pub outcome_is : (outcome : Result (List ℕ) TranslateError) → IsOutcome body outcome
-      → outcome ≡ Ok (frame_of Fixt11 (body_of (translated_fields o)))
-  outcome_is (Ok text) s =
-      let u = s.stands in
-      let up = u.bytes ∙ same_body u.fields u.written u.stands in
-      ap (λ (t : List ℕ). Ok t) (s.written ∙ ap (frame_of Fixt11) up)
-  outcome_is (Err (errors.Faulty fault)) t =
-      absurd (good_not_faulty body (plain_fields o) fault stands.good t)
-  outcome_is (Err (errors.Lacking tag)) t =
-      absurd (good_not_lacking body (plain_fields o) tag stands.good t)
-  outcome_is (Err errors.TooLong) t = absurd (not_long t)
-  outcome_is (Err errors.NoMemory) t = absurd t
+  pub told : IsToldBy body (Ok (frame_of Fixt11 (body_of (translated_fields o))))
+  told = record { fields = plain_fields o; stopped = None; split = split; is = framed }
 
 -- THE ONE OUTCOME OF A PLAIN ORDER
 pub plain_orders : PlainOrdersAreTranslated
-plain_orders o outcome v is = outcome_is o v outcome is
+plain_orders o outcome v is =
+    one_told (body_of (plain_fields o)) outcome (Ok (frame_of Fixt11 (body_of (translated_fields o))))
+    (is_told (body_of (plain_fields o)) outcome is) (told o v)

@@ -1,60 +1,76 @@
--- What two canonical requests say at a row is the same where they mean the same there.
-use Rattle.std.proofs.Common.{◌≡◌, ℕ, ℤ, List, [], ◌∷◌, ◌++◌, map, take, drop, length, codes}
-use Rattle.std.proofs.Common.{Option, Some, None, Bool, true, false, refl, sym, ap, subst, ◌∙◌}
-use Rattle.std.proofs.Common.{option_map, unwrap_or, arith}
-use Rattle.std.specs.Prelude.{IsSome, IfSome, not, ◌||◌, ◌&&◌, ◌==◌, Result, Ok, Err, if◌then◌else◌}
+-- What a canonical request says at a row is what its meaning there gives back, so that two that mean
+-- the same there say the same.
+use Rattle.std.proofs.Common.{◌≡◌, ℕ, List, [], ◌∷◌, ◌++◌, map, take, drop, length, codes, Option}
+use Rattle.std.proofs.Common.{Some, None, Bool, true, false, refl, sym, ap, subst, ◌∙◌, option_map}
+use Rattle.std.proofs.Common.{unwrap_or, arith, length-drop}
+use Rattle.std.specs.Prelude.{IsSome, IfSome, not, ◌&&◌, ◌||◌, ◌==◌, Result, Ok, Err, if◌then◌else◌}
 use Rattle.std.specs.List.{AllByRecursion}
 use Rattle.std.specs.Result.{result_ok}
 use Rattle.std.proofs.lemmas.Bool.{eqb-true}
-use Rattle.std.proofs.lemmas.Slice.Eq.{bytes_eq-Decides}
 use Rattle.std.proofs.lemmas.Bool.Decides.{nat_tests}
-use Rattle.typed_fields.specs.declared.fault.FieldFault.{FieldFault}
-use Rattle.typed_fields.specs.declared.fault.FieldFault.TheVariants.{Empty, Form, Range}
-use Rattle.typed_fields.specs.declared.dec.Dec.{Dec as DecValue}
-use Rattle.typed_fields.specs.declared.day.Day.{Day as DayValue}
-use Rattle.typed_fields.specs.Day.{spells_date, day_number}
-use Rattle.typed_fields.specs.Digits.{has_pattern, are_digits}
-use Rattle.typed_fields.proofs.DigitsLemmas.{length-has_pattern, digits_of_pattern}
-use Rattle.rows_fix50.specs.Header.{month_by}
-use Rattle.std.specs.Char.{is_ascii_digit}
-use Rattle.std.specs.Int.{IsInRange}
-use Rattle.std.specs.Str.Parse.{digits_value}
-use Rattle.std.proofs.lemmas.Int.Digits.{digits_value_push}
-use Rattle.std.proofs.lemmas.Str.{digit_value_digit}
 use Rattle.std.proofs.lemmas.List.{take-append-drop, take_all}
-use Rattle.std.proofs.Common.{length-drop}
+use Rattle.typed_fields.specs.declared.fault.FieldFault.{FieldFault}
+use Rattle.typed_fields.specs.declared.fault.FieldFault.TheVariants.{Range}
+use Rattle.typed_fields.specs.declared.dec.Dec.{Dec as DecValue}
 use Rattle.typed_fields.specs.declared.flag.Flag.{Flag as FlagValue}
-use Rattle.typed_fields.specs.Flag.{is_flag_form}
+use Rattle.typed_fields.specs.Day.{read_day}
 use Rattle.typed_fields.specs.Dec.{dec_text, read_dec}
-use Rattle.value_kinds.specs.ValueKind as kinds
-use Rattle.value_kinds.specs.ValueKind.{spelling, spelt, if_in_range, is_code}
-use Rattle.value_kinds.specs.ValueKind.{listed_word, units_of_text}
+use Rattle.typed_fields.specs.Digits.{are_digits, has_pattern, number_of, zero_padded}
+use Rattle.typed_fields.specs.Flag.{flag_text, is_flag_form, read_flag}
+use Rattle.typed_fields.proofs.DigitsLemmas.{digits_of_pattern, length-has_pattern}
+use Rattle.typed_fields.proofs.SpellingLemmas.{judged_ok, zero_padded-number_of}
 use Rattle.field_groups.specs.Field.{Field}
+use Rattle.value_kinds.specs.ValueKind as kinds
+use Rattle.value_kinds.specs.ValueKind.{code_text, if_in_range, is_code, spelling, spelt}
+use Rattle.value_kinds.specs.ValueKind.{units_of_text}
 use Rattle.message_tables.specs.Tables.{Verdict, Spells, Outside, Wrong, Tag, Said, Cell, ◌>>=◌}
-use Rattle.message_tables.specs.Tables.{code_of, is_one_of, is_listed, flag_of, value_at}
+use Rattle.message_tables.specs.Tables.{code_of, flag_of, is_listed, is_one_of, value_at}
 use Rattle.message_tables.specs.Content.{line_fields}
 use Rattle.order_meaning.specs.declared.Amount.{Amount}
 use Rattle.order_meaning.specs.Request.{OrderType, Market, Limit, Stop, StopLimit, MarketOnClose}
 use Rattle.order_meaning.specs.Request.{LimitOnClose, NeutralAlloc, NeutralSession, NeutralMaturity}
-use Rattle.row_values.specs.Kinds.{Value, Byte, TimeBeside, judge, verdict_of, counted, is_at_close}
+use Rattle.row_values.specs.Amounts.{amount_of, alloc_of, session_of}
 use Rattle.row_values.specs.Groups.{allocs, sessions}
-use Rattle.dict_fix50.specs.Sense.{alloc_of, session_of}
-use Rattle.row_values.specs.Amounts.{amount_of}
-use Rattle.rows_fix50.specs.Meaning.{terms_of, day_of, maturity_of}
+use Rattle.row_values.specs.Kinds.{Value, Byte, TimeBeside, judge, verdict_of, counted, is_at_close}
+use Rattle.rows_fix50.specs.Header.{month_by}
+use Rattle.rows_fix50.specs.Meaning.{terms_of, maturity_of}
 use Rattle.sound_laws.specs.Sound.{IsLine}
+use Rattle.sound_laws.proofs.Each.{◌&◌, both}
+use Rattle.request_rules.proofs.TermsUp.{is_code_of, one_of}
 
--- ---- texts
+-- what the meanings of two give back is the same where they mean the same
+pub same_by : {S A : Type 0} (means : S → A) (back : A → S) (a b : S)
+    → back (means a) ≡ a → back (means b) ≡ b → means a ≡ means b → a ≡ b
+same_by means back a b x y e = sym x ∙ ap back e ∙ y
 
-pub same_text : (a b : Said) → IsSome a → IsSome b → unwrap_or a [] ≡ unwrap_or b [] → a ≡ b
-same_text None b x y e = absurd cc
-same_text (Some a) None x y e = absurd cc
-same_text (Some a) (Some b) x y e = ap (λ (t : List ℕ). Some t) e
+-- ---- texts and codes
 
--- ---- codes
+pub text_back : (said : Said) → IsSome said → Some (unwrap_or said []) ≡ said
+text_back None there = absurd cc
+text_back (Some text) there = refl
 
-pub record IsByte (text : List ℕ) : Type 0 where
-  pub byte : ℕ
-  pub is : text ≡ byte ∷ []
+-- a text of one byte
+abbrev IsByte : List ℕ → Type 0
+IsByte text = (code : ℕ) × (text ≡ code_text code)
+
+pub code_back : (said : Said) → IfSome said IsByte → option_map code_text (said >>= code_of) ≡ said
+code_back None h = refl
+code_back (Some text) (code, is) =
+    ap (λ (t : List ℕ). option_map code_text (code_of t)) is
+    ∙ ap (λ (t : List ℕ). Some t) (sym is)
+
+pub code_in_back : (said : Said) → IsSome said → IfSome said IsByte
+    → Some (code_text (unwrap_or (said >>= code_of) 0)) ≡ said
+code_in_back None there h = absurd cc
+code_in_back (Some text) there (code, is) =
+    ap (λ (t : List ℕ). Some (code_text (unwrap_or (code_of t) 0))) is
+    ∙ ap (λ (t : List ℕ). Some t) (sym is)
+
+pub codes_said : (fields : List Field) (listed : List ℕ) (said : Said)
+    → IfSome said (λ t. judge fields (Value (kinds.Code listed)) t ≡ Spells t) → IfSome said IsByte
+codes_said fields listed None h = tt
+codes_said fields listed (Some text) h =
+    let k = is_code_of fields listed text h in (k.code, k.is)
 
 counted_spells : (counts : Bool) (v : Verdict) (text : List ℕ)
     → counted counts v ≡ Spells text → (counts ≡ true) × (v ≡ Spells text)
@@ -63,71 +79,34 @@ counted_spells false (Spells other) text h = absurd cc
 counted_spells false Outside text h = absurd cc
 counted_spells false (Wrong reason) text h = absurd cc
 
-code_is : (listed text : List ℕ)
-    → verdict_of (spelling (kinds.Code listed) text) ≡ Spells text → IsByte text
-unfolding spelling
-code_is listed [] h = absurd cc
-code_is listed (b ∷ []) h = record { byte = b; is = refl }
-code_is listed (b ∷ c ∷ text) h = absurd cc
-
-pub codes_said : (fields : List Field) (listed : List ℕ) (said : Said)
-    → IfSome said (λ t. judge fields (Value (kinds.Code listed)) t ≡ Spells t) → IfSome said IsByte
-unfolding judge
-codes_said fields listed None h = tt
-codes_said fields listed (Some text) h = code_is listed text h
-
-byte_is : (listed text : List ℕ) (v : Verdict)
-    → counted (is_code listed text) v ≡ Spells text → IsByte text
-byte_is listed [] v h = absurd (let x = counted_spells false v [] h in cc)
-byte_is listed (b ∷ []) v h = record { byte = b; is = refl }
-byte_is listed (b ∷ c ∷ text) v h = absurd (let x = counted_spells false v (b ∷ c ∷ text) h in cc)
+byte_is : (listed text : List ℕ) → is_code listed text ≡ true → IsByte text
+byte_is listed (b ∷ []) h = (b, refl)
+byte_is listed other h = absurd cc
 
 pub bytes_said : (fields : List Field) (listed : List ℕ) (said : Said)
     → IfSome said (λ t. judge fields (Byte listed) t ≡ Spells t) → IfSome said IsByte
 unfolding judge
 bytes_said fields listed None h = tt
-bytes_said fields listed (Some text) h =
-    byte_is listed text (verdict_of (spelling kinds.OneByte text)) h
-
-pub same_code : (a b : Said)
-    → IfSome a IsByte → IfSome b IsByte → a >>= code_of ≡ b >>= code_of → a ≡ b
-same_code None None x y e = refl
-same_code None (Some b) x y e = absurd (let k = ap code_of y.is in cc)
-same_code (Some a) None x y e = absurd (let k = ap code_of x.is in cc)
-same_code (Some a) (Some b) x y e =
-    let k = ap code_of x.is in let l = ap code_of y.is in
-    let same : x.byte ≡ y.byte = cc in
-    ap (λ (t : List ℕ). Some t) (x.is ∙ ap (λ (c : ℕ). c ∷ []) same ∙ sym y.is)
-
-pub same_code_in : (a b : Said) → IsSome a → IsSome b → IfSome a IsByte → IfSome b IsByte →
-    unwrap_or (a >>= code_of) 0 ≡ unwrap_or (b >>= code_of) 0 → a ≡ b
-same_code_in None b s t x y e = absurd cc
-same_code_in (Some a) None s t x y e = absurd cc
-same_code_in (Some a) (Some b) s t x y e =
-    let k : unwrap_or (code_of a) 0 ≡ x.byte = ap (λ (u : List ℕ). unwrap_or (code_of u) 0) x.is in
-    let l : unwrap_or (code_of b) 0 ≡ y.byte = ap (λ (u : List ℕ). unwrap_or (code_of u) 0) y.is in
-    let same : x.byte ≡ y.byte = sym k ∙ e ∙ l in
-    ap (λ (u : List ℕ). Some u) (x.is ∙ ap (λ (c : ℕ). c ∷ []) same ∙ sym y.is)
+bytes_said fields listed (Some text) h = byte_is listed text
+    (counted_spells (is_code listed text) (verdict_of (spelling kinds.OneByte text)) text h).0
 
 -- ---- amounts
 
-pub record IsAmount (text : List ℕ) : Type 0 where
-  pub units : ℤ
-  pub means : amount_of text ≡ Some (record { units = units })
-  pub spelled : text ≡ dec_text (record { units = units })
+pub amount_text : Amount → List ℕ
+amount_text amount = dec_text (record { units = amount.units })
 
-abbrev amount_as : Result DecValue FieldFault → Option Amount
-amount_as r = option_map (λ (u : ℤ). record { units = u }) (option_map (λ d. d.units) (result_ok r))
+abbrev pub amounts_back : Option Amount → Said
+amounts_back amount = option_map amount_text amount
 
-record Reads (r : Result DecValue FieldFault) (text : List ℕ) : Type 0 where
-  units : ℤ
-  means : amount_as r ≡ Some (record { units = units })
-  spelled : text ≡ dec_text (record { units = units })
+abbrev read_amount : Result DecValue FieldFault → Option Amount
+read_amount r =
+    option_map (λ units. record { units = units }) (option_map (λ d. d.units) (result_ok r))
 
-reads : (r : Result DecValue FieldFault) (text : List ℕ)
-    → verdict_of (spelt dec_text r) ≡ Spells text → Reads r text
-reads (Ok d) text h = record { units = d.units; means = refl; spelled = cc }
-reads (Err fault) text h = absurd cc
+read_back : (r : Result DecValue FieldFault) (text : List ℕ)
+    → verdict_of (spelt dec_text r) ≡ Spells text → amounts_back (read_amount r) ≡ Some text
+unfolding amount_text
+read_back (Ok d) text h = cc
+read_back (Err fault) text h = absurd cc
 
 in_range : (good : DecValue → Bool) (r : Result DecValue FieldFault) (text : List ℕ)
     → verdict_of (spelt dec_text (if_in_range good r)) ≡ Spells text →
@@ -140,457 +119,256 @@ in_range good (Ok d) text h = by (good d) h
     by false h = absurd cc
 in_range good (Err fault) text h = h
 
-amount_by : (text : List ℕ) → Reads (read_dec text) text → IsAmount text
-unfolding units_of_text
-amount_by text r = record { units = r.units; means = r.means; spelled = r.spelled }
+pub prices_back : (fields : List Field) (said : Said)
+    → IfSome said (λ t. judge fields (Value kinds.Price) t ≡ Spells t)
+    → amounts_back (said >>= amount_of) ≡ said
+unfolding judge spelling units_of_text
+prices_back fields None h = refl
+prices_back fields (Some []) h = absurd cc
+prices_back fields (Some (b ∷ text)) h = read_back (read_dec (b ∷ text)) (b ∷ text) h
 
-price_is : (text : List ℕ) → verdict_of (spelling kinds.Price text) ≡ Spells text → IsAmount text
-unfolding spelling
-price_is [] h = absurd cc
-price_is (b ∷ text) h = amount_by (b ∷ text) (reads (read_dec (b ∷ text)) (b ∷ text) h)
-
-qty_is : (text : List ℕ) → verdict_of (spelling kinds.Qty text) ≡ Spells text → IsAmount text
-unfolding spelling
-qty_is [] h = absurd cc
-qty_is (b ∷ text) h = amount_by (b ∷ text)
-    (reads (read_dec (b ∷ text)) (b ∷ text) (in_range _ (read_dec (b ∷ text)) (b ∷ text) h))
-
-pub qtys_said : (fields : List Field) (said : Said)
-    → IfSome said (λ t. judge fields (Value kinds.Qty) t ≡ Spells t) → IfSome said IsAmount
-unfolding judge
-qtys_said fields None h = tt
-qtys_said fields (Some text) h = qty_is text h
-
-pub prices_said : (fields : List Field) (said : Said)
-    → IfSome said (λ t. judge fields (Value kinds.Price) t ≡ Spells t) → IfSome said IsAmount
-unfolding judge
-prices_said fields None h = tt
-prices_said fields (Some text) h = price_is text h
-
-pub same_amount : (a b : Said)
-    → IfSome a IsAmount → IfSome b IsAmount → a >>= amount_of ≡ b >>= amount_of → a ≡ b
-same_amount None None x y e = refl
-same_amount None (Some b) x y e = absurd (let k = y.means in cc)
-same_amount (Some a) None x y e = absurd (let k = x.means in cc)
-same_amount (Some a) (Some b) x y e =
-    let means : ◌≡◌ {A = Option Amount} (Some (record { units = x.units }))
-    (Some (record { units = y.units })) = sym x.means ∙ e ∙ y.means in
-    let same : x.units ≡ y.units =
-    ap (λ (o : Option Amount). (unwrap_or o (record { units = x.units })).units) means in
-    ap (λ (t : List ℕ). Some t)
-    (x.spelled ∙ ap (λ (u : ℤ). dec_text (record { units = u })) same ∙ sym y.spelled)
+pub qtys_back : (fields : List Field) (said : Said)
+    → IfSome said (λ t. judge fields (Value kinds.Qty) t ≡ Spells t)
+    → amounts_back (said >>= amount_of) ≡ said
+unfolding judge spelling units_of_text
+qtys_back fields None h = refl
+qtys_back fields (Some []) h = absurd cc
+qtys_back fields (Some (b ∷ text)) h = read_back (read_dec (b ∷ text)) (b ∷ text)
+    (in_range _ (read_dec (b ∷ text)) (b ∷ text) h)
 
 -- ---- flags
 
-pub record IsFlagText (text : List ℕ) : Type 0 where
-  pub back : text ≡ (if flag_of text then 89 else 78) ∷ []
+abbrev pub flag_back : Bool → List ℕ
+flag_back is_yes = flag_text (record { yes = is_yes })
 
-flag_by : (is_yes is_no : Bool) (b : ℕ)
-    → (b == 89) ≡ is_yes → (b == 78) ≡ is_no → (is_yes || is_no) ≡ true → IsFlagText (b ∷ [])
-flag_by true other b y n h = let is : b ≡ 89 = eqb-true b 89 y in let P : ℕ → Type 0 =
-    λ c. IsFlagText (c ∷ []) in subst P (sym is) (record { back = refl })
-flag_by false true b y n h = let is : b ≡ 78 = eqb-true b 78 n in let P : ℕ → Type 0 =
-    λ c. IsFlagText (c ∷ []) in subst P (sym is) (record { back = refl })
-flag_by false false b y n h = absurd cc
-
-form_by : (none form : Bool) (text : List ℕ) (flag : FlagValue) →
-    verdict_of (spelt (λ _. text) (if none then Err Empty
-    else (if form then (if true then Ok flag else Err Range) else Err Form))) ≡ Spells text
-    → form ≡ true
-form_by true form text flag h = absurd cc
-form_by false true text flag h = refl
-form_by false false text flag h = absurd cc
-
-flag_is : (text : List ℕ) → verdict_of (spelling kinds.Flag text) ≡ Spells text → IsFlagText text
-unfolding spelling
-flag_is [] h = absurd cc
-flag_is (b ∷ []) h = flag_by (b == 89)
-    (b == 78) b refl refl (form_by false (b == 89 || b == 78) (b ∷ []) (record { yes = b == 89 }) h)
-flag_is (b ∷ c ∷ text) h =
-    let long : (length (b ∷ c ∷ text) == 1) ≡ false = grind (arith, nat_tests) in
-    absurd (let k = form_by (length (b ∷ c ∷ text) == 0) (is_flag_form (b ∷ c ∷ text)) (b
-    ∷ c ∷ text) (record { yes = b == 89 }) h in not_form (length (b ∷ c ∷ text) == 1) _ long k)
+flag_is : (b : ℕ) → (b == 89 || b == 78) ≡ true → flag_back (flag_of (b ∷ [])) ≡ b ∷ []
+flag_is b h = by (b == 89) (b == 78) refl refl h
   where
-    not_form : (one rest : Bool) → one ≡ false → (one && rest) ≡ true → ⊥
-    not_form true rest e k = cc
-    not_form false rest e k = cc
+    P : ℕ → Type 0
+    P c = flag_back (flag_of (c ∷ [])) ≡ c ∷ []
 
-pub flags_said : (fields : List Field) (said : Said)
-    → IfSome said (λ t. judge fields (Value kinds.Flag) t ≡ Spells t) → IfSome said IsFlagText
-unfolding judge
-flags_said fields None h = tt
-flags_said fields (Some text) h = flag_is text h
+    by : (one other : Bool) → (b == 89) ≡ one → (b == 78) ≡ other → (one || other) ≡ true → P b
+    by true other y n h = subst P (sym (eqb-true b 89 y)) refl
+    by false true y n h = subst P (sym (eqb-true b 78 n)) refl
+    by false false y n h = absurd cc
 
-pub same_flag : (a b : Said) → IfSome a IsFlagText
-    → IfSome b IsFlagText → option_map flag_of a ≡ option_map flag_of b → a ≡ b
-same_flag None None x y e = refl
-same_flag None (Some b) x y e = absurd cc
-same_flag (Some a) None x y e = absurd cc
-same_flag (Some a) (Some b) x y e =
-    let same : flag_of a ≡ flag_of b = some_same (flag_of a) (flag_of b) e in
-    ap (λ (t : List ℕ). Some t)
-    (x.back ∙ ap (λ (yes : Bool). (if yes then 89 else 78) ∷ []) same ∙ sym y.back)
+flag_form : (text : List ℕ) (r : Result FlagValue FieldFault)
+    → verdict_of (spelt (λ _. text) r) ≡ Spells text → (x : FlagValue) × (r ≡ Ok x)
+flag_form text (Ok x) h = (x, refl)
+flag_form text (Err fault) h = absurd cc
+
+pub flags_back : (fields : List Field) (said : Said)
+    → IfSome said (λ t. judge fields (Value kinds.Flag) t ≡ Spells t)
+    → option_map flag_back (option_map flag_of said) ≡ said
+unfolding judge spelling
+flags_back fields None h = refl
+flags_back fields (Some []) h = absurd cc
+flags_back fields (Some (b ∷ bs)) h =
+    let r = flag_form (b ∷ bs) (read_flag (b ∷ bs)) h in
+    by bs (judged_ok (b ∷ bs) (is_flag_form (b ∷ bs)) true (record { yes = b == 89 }) r.0 r.1).form
   where
-    some_same : (p q : Bool) → Some p ≡ Some q → p ≡ q
-    some_same p q e = cc
+    by : (more : List ℕ) → ((length (b ∷ more) == 1) && (b == 89 || b == 78)) ≡ true
+        → Some (flag_back (flag_of (b ∷ more))) ≡ Some (b ∷ more)
+    by [] h = ap (λ (t : List ℕ). Some t) (flag_is b h)
+    by (c ∷ more) h =
+        let long : (length (b ∷ c ∷ more) == 1) ≡ false = grind (arith, nat_tests) in
+        let one = (both (length (b ∷ c ∷ more) == 1) (b == 89 || b == 78) h).0 in
+        absurd (let no : false ≡ true = sym long ∙ one in cc)
 
 -- ---- OrdType and TimeInForce
 
-abbrev Terms : Type 0
-Terms = Option OrderType × Option ℕ
-
 -- the codes of what they mean
-abbrev codes_back : Option OrderType → Option ℕ → ℕ × Option ℕ
-codes_back None time = (0, None)
-codes_back (Some Market) time = (49, time)
-codes_back (Some Limit) time = (50, time)
-codes_back (Some Stop) time = (51, time)
-codes_back (Some StopLimit) time = (52, time)
-codes_back (Some MarketOnClose) time = (49, Some 55)
-codes_back (Some LimitOnClose) time = (50, Some 55)
+abbrev codes_of : Option OrderType → Option ℕ → ℕ × Option ℕ
+codes_of None time = (0, None)
+codes_of (Some Market) time = (49, time)
+codes_of (Some Limit) time = (50, time)
+codes_of (Some Stop) time = (51, time)
+codes_of (Some StopLimit) time = (52, time)
+codes_of (Some MarketOnClose) time = (49, Some 55)
+codes_of (Some LimitOnClose) time = (50, Some 55)
+
+abbrev texts_of : ℕ × Option ℕ → Said × Said
+texts_of both = (Some (code_text both.0), option_map code_text both.1)
+
+-- what both mean, and what that gives back
+abbrev pub terms_said : Said × Said → Option OrderType × Option ℕ
+terms_said both = terms_of (both.0 >>= code_of) (both.1 >>= code_of)
+
+abbrev pub terms_text : Option OrderType × Option ℕ → Said × Said
+terms_text terms = texts_of (codes_of terms.0 terms.1)
 
 -- a TimeInForce that may stand beside an OrdType
 abbrev IsBeside : ℕ → Option ℕ → Type 0
 IsBeside code time =
-    IfSome time (λ t. (not (is_at_close (t ∷ [])) || is_one_of (codes "12") code) ≡ true)
+    IfSome time (λ t. (not (is_at_close (code_text t)) || is_one_of (codes "12") code) ≡ true)
 
 abbrev IsBack : ℕ → Option ℕ → Type 0
 IsBack code time =
-    codes_back (terms_of (Some code) time).0 (terms_of (Some code) time).1 ≡ (code, time)
+    codes_of (terms_of (Some code) time).0 (terms_of (Some code) time).1 ≡ (code, time)
 
-close_is : (t : ℕ) (close : Bool) → is_at_close (t ∷ []) ≡ close → (t == 55) ≡ close
-close_is t true e = let same : t ∷ [] ≡ 55 ∷ [] =
-    (bytes_eq-Decides (t ∷ []) (codes "7")).0 e in let is : t ≡ 55 = cc in rw is refl
-close_is t false e = by (t == 55) refl
-  where
-    by : (five : Bool) → (t == 55) ≡ five → five ≡ false
-    by true f = absurd (let is : t ≡ 55 = eqb-true t 55 f in let P : ℕ → Type 0 =
-        λ x. is_at_close (x ∷ []) ≡ false in let no : true ≡ false = subst P is e in cc)
-    by false f = refl
-
+-- a TimeInForce of 7 or another
 by_time : (code : ℕ) → IsBack code None → ((t : ℕ) → (t == 55) ≡ false → IsBack code (Some t))
     → (is_one_of (codes "12") code ≡ true → IsBack code (Some 55)) →
     (time : Option ℕ) → IsBeside code time → IsBack code time
 by_time code none other close None h = none
-by_time code none other close (Some t) h = by (is_at_close (t ∷ [])) refl h
+by_time code none other close (Some t) h = by (t == 55) refl
   where
-    by : (at_close : Bool) → is_at_close (t ∷ []) ≡ at_close
-        → (not at_close || is_one_of (codes "12") code) ≡ true → IsBack code (Some t)
-    by true e h = let is : t ≡ 55 = eqb-true t 55 (close_is t true e) in let P : ℕ → Type 0 =
-        λ x. IsBack code (Some x) in subst P (sym is) (close h)
-    by false e h = other t (close_is t false e)
+    by : (b : Bool) → (t == 55) ≡ b → IsBack code (Some t)
+    by true e =
+        let is : t ≡ 55 = eqb-true t 55 e in
+        let P : ℕ → Type 0 = λ x. IsBack code (Some x) in
+        let Q : ℕ → Type 0 =
+        λ x. (not (is_at_close (code_text x)) || is_one_of (codes "12") code) ≡ true in
+        subst P (sym is) (close (subst Q is h))
+    by false e = other t e
 
-pub codes_are_back : (code : ℕ) (time : Option ℕ)
-    → is_one_of (codes "1234") code ≡ true → IsBeside code time → IsBack code time
-codes_are_back code time h beside =
-    by_code (49 == code) (50 == code) (51 == code) (52 == code) refl refl refl refl h
-  where
-    at : (c : ℕ)
-        → c ≡ code → ((time : Option ℕ) → IsBeside c time → IsBack c time) → IsBack code time
-    at c e each = let P : ℕ → Type 0 =
-        λ x. (time : Option ℕ) → IsBeside x time → IsBack x time in (subst P e each) time beside
+codes_are_back : (code : ℕ) → is_one_of (codes "1234") code ≡ true
+    → (time : Option ℕ) → IsBeside code time → IsBack code time
+codes_are_back code h =
+    let P : ℕ → Type 0 = λ c. (time : Option ℕ) → IsBeside c time → IsBack c time in
+    one_of P (codes "1234") (by_time 49 refl (λ t other. rw other refl) (λ close. refl)
+    & by_time 50 refl (λ t other. rw other refl) (λ close. refl)
+    & by_time 51 refl (λ t other. rw other refl) (λ close. absurd cc)
+    & by_time 52 refl (λ t other. rw other refl) (λ close. absurd cc) & tt) code h
 
-    by_code : (a b c d : Bool) → (49 == code) ≡ a → (50 == code) ≡ b → (51 == code) ≡ c
-        → (52 == code) ≡ d → (a || (b || (c || (d || false)))) ≡ true → IsBack code time
-    by_code true b c d e f g i h =
-        at 49 (eqb-true 49 code e) (by_time 49 refl (λ t other. rw other refl) (λ close. refl))
-    by_code false true c d e f g i h =
-        at 50 (eqb-true 50 code f) (by_time 50 refl (λ t other. rw other refl) (λ close. refl))
-    by_code false false true d e f g i h =
-        at 51 (eqb-true 51 code g) (by_time 51 refl (λ t other. rw other refl) (λ close. absurd cc))
-    by_code false false false true e f g i h =
-        at 52 (eqb-true 52 code i) (by_time 52 refl (λ t other. rw other refl) (λ close. absurd cc))
-    by_code false false false false e f g i h = absurd cc
+both_back : (code : ℕ) (time : Option ℕ) → IsBack code time
+    → terms_text (terms_said (texts_of (code, time))) ≡ texts_of (code, time)
+both_back code None h = ap texts_of h
+both_back code (Some t) h = ap texts_of h
 
-abbrev byte_text : ℕ → List ℕ
-byte_text code = code ∷ []
-
--- the codes that OrdType and TimeInForce say
-pub record TermsSaid (ord_type time_in_force : Said) : Type 0 where
-  pub code : ℕ
-  pub time : Option ℕ
-  pub type_is : ord_type ≡ Some (byte_text code)
-  pub time_is : time_in_force ≡ option_map byte_text time
-  pub listed : is_one_of (codes "1234") code ≡ true
-  pub beside : IsBeside code time
-
-listed_is : (listed : List ℕ) (b : ℕ) → verdict_of (Ok (listed_word (is_one_of listed b) (b ∷ [])))
-    ≡ Spells (b ∷ []) → is_one_of listed b ≡ true
-listed_is listed b h = by (is_one_of listed b) h
-  where
-    by : (good : Bool) → verdict_of (Ok (listed_word good (b ∷ []))) ≡ Spells (b ∷ []) → good ≡ true
-    by true h = refl
-    by false h = absurd cc
-
-record TypeSaid (said : Said) : Type 0 where
-  code : ℕ
-  is : said ≡ Some (byte_text code)
-  listed : is_one_of (codes "1234") code ≡ true
-
-type_by : (text : List ℕ)
-    → verdict_of (spelling (kinds.Code (codes "1234")) text) ≡ Spells text → TypeSaid (Some text)
-unfolding spelling
-type_by [] h = absurd cc
-type_by (b ∷ []) h = record { code = b; is = refl; listed = listed_is (codes "1234") b h }
-type_by (b ∷ c ∷ text) h = absurd cc
-
-type_said : (fields : List Field) (said : Said) → IsSome said → IfSome
-    said (λ t. judge fields (Value (kinds.Code (codes "1234"))) t ≡ Spells t) → TypeSaid said
-unfolding judge
-type_said fields None there h = absurd cc
-type_said fields (Some text) there h = type_by text h
-
-record TimeSaid (code : ℕ) (said : Said) : Type 0 where
+-- the code of a TimeInForce beside an OrdType
+record IsTime (code : ℕ) (said : Said) : Type 0 where
   time : Option ℕ
-  is : said ≡ option_map byte_text time
+  is : said ≡ option_map code_text time
   beside : IsBeside code time
 
-time_by : (code : ℕ) (text : List ℕ)
-    → counted (not (is_at_close text) || is_listed (codes "12") (Some (byte_text code)))
-    (verdict_of (spelling (kinds.Code (codes "01234567")) text)) ≡ Spells text
-    → TimeSaid code (Some text)
-unfolding spelling
-time_by code [] h = absurd (let x = counted_spells (not (is_at_close []) || is_listed
-    (codes "12") (Some (byte_text code))) (Wrong 4) [] h in let w : Wrong 4 ≡ Spells [] = x.1 in cc)
-time_by code (b ∷ []) h =
-    let x = counted_spells (not (is_at_close (b ∷ [])) || is_one_of (codes "12") code)
-    (verdict_of (spelling (kinds.Code (codes "01234567")) (b ∷ []))) (b ∷ []) h in
-    record { time = Some b; is = refl; beside = x.0 }
-time_by code (b ∷ c ∷ text) h =
-    absurd (let x = counted_spells (not (is_at_close (b ∷ c ∷ text))
-    || is_listed (codes "12") (Some (byte_text code))) Outside (b ∷ c ∷ text) h in
-    let w : Outside ≡ Spells (b ∷ c ∷ text) = x.1 in cc)
-
-time_said : (fields : List Field) (code : ℕ) (said : Said)
-    → value_at 40 fields ≡ Some (byte_text code)
-    → IfSome said (λ t. judge fields (TimeBeside 40) t ≡ Spells t) → TimeSaid code said
+time_is : (fields : List Field) (code : ℕ) (said : Said)
+    → value_at 40 fields ≡ Some (code_text code)
+    → IfSome said (λ t. judge fields (TimeBeside 40) t ≡ Spells t) → IsTime code said
 unfolding judge
-time_said fields code None at h = record { time = None; is = refl; beside = tt }
-time_said fields code (Some text) at h =
-    time_by code text (sym (ap (λ (v : Said). counted (not (is_at_close text) || is_listed
-    (codes "12") v) (verdict_of (spelling (kinds.Code (codes "01234567")) text))) at) ∙ h)
-
-pub terms_said : (fields : List Field) (ord_type time : Said)
-    → value_at 40 fields ≡ ord_type → IsSome ord_type →
-    IfSome ord_type (λ t. judge fields (Value (kinds.Code (codes "1234"))) t ≡ Spells t)
-    → IfSome time (λ t. judge fields (TimeBeside 40) t ≡ Spells t) → TermsSaid ord_type time
-terms_said fields ord_type time at there h k =
-    let t = type_said fields ord_type there h in
-    let u = time_said fields t.code time (at ∙ t.is) k in
+time_is fields code None at h = record { time = None; is = refl; beside = tt }
+time_is fields code (Some text) at h =
+    let counts = counted_spells (not (is_at_close text) || is_listed (codes "12")
+    (value_at 40 fields)) (verdict_of (spelling (kinds.Code (codes "01234567")) text)) text h in
+    let k = is_code_of fields (codes "01234567") text counts.1 in
+    let beside : (not (is_at_close text) || is_listed (codes "12") (Some (code_text code)))
+    ≡ true = ap (λ (v : Said). not (is_at_close text) || is_listed (codes "12") v) (sym at)
+    ∙ counts.0 in
     record {
-      code = t.code;
-      time =
-          u.time;
-      type_is = t.is;
-      time_is = u.is;
-      listed = t.listed;
-      beside = u.beside;
+      time = Some k.code;
+      is = ap (λ (t : List ℕ). Some t) k.is;
+      beside = ap (λ (t : List ℕ). not (is_at_close t) || is_one_of (codes "12") code) (sym k.is)
+          ∙ beside;
     }
 
-code_back : (time : Option ℕ) → option_map byte_text time >>= code_of ≡ time
-code_back None = refl
-code_back (Some t) = refl
-
-abbrev meant : Said → Said → Terms
-meant ord_type time = terms_of (ord_type >>= code_of) (time >>= code_of)
-
-meant_is : (a b : Said) (s : TermsSaid a b) → meant a b ≡ terms_of (Some s.code) s.time
-meant_is a b s = ap (λ (x : Said). meant x b) s.type_is
-    ∙ ap (λ (y : Said). terms_of (Some s.code) (y >>= code_of)) s.time_is
-    ∙ ap (λ (t : Option ℕ). terms_of (Some s.code) t) (code_back s.time)
-
-abbrev back : Terms → ℕ × Option ℕ
-back terms = codes_back terms.0 terms.1
-
-pub same_terms : (a b c d : Said) → TermsSaid a b → TermsSaid c d
-    → (meant a b).0 ≡ (meant c d).0 → (meant a b).1 ≡ (meant c d).1 → (a ≡ c) × (b ≡ d)
-same_terms a b c d s t e f =
-    let both : meant a b ≡ meant c d = λ i. (e i, f i) in
-    let same : ◌≡◌ {A = ℕ × Option ℕ} (s.code, s.time) (t.code, t.time) =
-    sym (codes_are_back s.code s.time s.listed s.beside) ∙ ap back (sym (meant_is a b s)
-    ∙ both ∙ meant_is c d t) ∙ codes_are_back t.code t.time t.listed t.beside in (
-      s.type_is ∙ ap (λ (p : ℕ × Option ℕ). Some (byte_text p.0)) same ∙ sym t.type_is,
-      s.time_is ∙ ap (λ (p : ℕ × Option ℕ). option_map byte_text p.1) same ∙ sym t.time_is,
-    )
-
-both_true : (a b : Bool) → (a && b) ≡ true → (a ≡ true) × (b ≡ true)
-both_true true true h = (refl, refl)
-both_true true false h = absurd cc
-both_true false b h = absurd cc
+pub terms_back : (fields : List Field) (ord_type time : Said)
+    → value_at 40 fields ≡ ord_type → IsSome ord_type →
+    IfSome ord_type (λ t. judge fields (Value (kinds.Code (codes "1234"))) t ≡ Spells t)
+    → IfSome time (λ t. judge fields (TimeBeside 40) t ≡ Spells t)
+    → terms_text (terms_said (ord_type, time)) ≡ (ord_type, time)
+terms_back fields None time at there h k = absurd cc
+terms_back fields (Some text) time at there h k =
+    let c = is_code_of fields (codes "1234") text h in
+    let type : Some text ≡ Some (code_text c.code) = ap (λ (t : List ℕ). Some t) c.is in
+    let t = time_is fields c.code time (at ∙ type) k in
+    let is : ◌≡◌ {A = Said × Said} (Some text, time) (texts_of (c.code, t.time)) =
+    λ i. (type i, t.is i) in
+    ap (λ (both : Said × Said). terms_text (terms_said both)) is
+    ∙ both_back c.code t.time (codes_are_back c.code c.listed t.time t.beside) ∙ sym is
 
 -- ---- Maturity
 
-pub record IsDate (date : List ℕ) : Type 0 where
-  pub form : has_pattern (codes "YYYYMMDD") date ≡ true
-
-date_form : (none form bound : Bool) (date : List ℕ) (day : DayValue) →
-    verdict_of (spelt (λ _. date) (if none then Err Empty
-    else (if form then (if bound then Ok day else Err Range) else Err Form))) ≡ Spells date
-    → form ≡ true
-date_form true form bound date day h = absurd cc
-date_form false true bound date day h = refl
-date_form false false bound date day h = absurd cc
-
-date_is : (date : List ℕ) → verdict_of (spelling kinds.Day date) ≡ Spells date → IsDate date
-unfolding spelling
-date_is [] h = absurd cc
-date_is (b ∷ date) h = record {
-  form = date_form (length (b ∷ date) == 0) (has_pattern (codes "YYYYMMDD") (b ∷ date))
-      (spells_date (b ∷ date)) (b ∷ date) (record { day = day_number (b ∷ date) }) h;
-}
-
-pub dates_said : (fields : List Field) (said : Said)
-    → IfSome said (λ t. judge fields (Value kinds.Day) t ≡ Spells t) → IfSome said IsDate
-unfolding judge
-dates_said fields None h = tt
-dates_said fields (Some date) h = date_is date h
-
-range : (c : ℕ) → is_ascii_digit c ≡ true → IsInRange 48 57 c
-range c h = grind (arith, nat_tests)
-
-two_same : (x y u v : ℕ)
-    → IsInRange 48 57 x → IsInRange 48 57 y → IsInRange 48 57 u → IsInRange 48 57 v →
-    digits_value 10 (x ∷ y ∷ []) ≡ digits_value 10 (u ∷ v ∷ []) → (x ≡ u) × (y ≡ v)
-two_same x y u v a b c d e =
-    let p = digits_value_push 10 (x ∷ []) y in let q = digits_value_push 10 [] x in
-    let r = digits_value_push 10 (u ∷ []) v in let s = digits_value_push 10 [] u in
-    let zero_of : digits_value 10 [] ≡ 0 = refl in
-    let dx = digit_value_digit x a in let dy =
-    digit_value_digit y b in let du = digit_value_digit u c in let dv = digit_value_digit v d in
-    (omega (arith, p, q, r, s), omega (arith, p, q, r, s))
-
-two_digits : (ds es : List ℕ) → length ds ≡ 2 → length es ≡ 2 → are_digits ds ≡ true
-    → are_digits es ≡ true → digits_value 10 ds ≡ digits_value 10 es → ds ≡ es
-unfolding are_digits
-two_digits (x ∷ y ∷ []) (u ∷ v ∷ []) l k a b e =
-    let p = both_true (is_ascii_digit x) (is_ascii_digit y && true) a in let q =
-    both_true (is_ascii_digit u) (is_ascii_digit v && true) b in
-    let same = two_same x y u v (range x p.0) (range y (both_true (is_ascii_digit y) true p.1).0)
-    (range u q.0) (range v (both_true (is_ascii_digit v) true q.1).0) e in
-    λ i. same.0 i ∷ same.1 i ∷ []
-two_digits [] es l k a b e = absurd (omega arith)
-two_digits (x ∷ []) es l k a b e = absurd (omega arith)
-two_digits (x ∷ y ∷ z ∷ ds) es l k a b e = absurd (omega arith)
-two_digits (x ∷ y ∷ []) [] l k a b e = absurd (omega arith)
-two_digits (x ∷ y ∷ []) (u ∷ []) l k a b e = absurd (omega arith)
-two_digits (x ∷ y ∷ []) (u ∷ v ∷ w ∷ es) l k a b e = absurd (omega arith)
-
-last_two : (date : List ℕ)
-    → IsDate date → (length (drop 6 date) ≡ 2) × (are_digits (drop 6 date) ≡ true)
-last_two date is =
-    let long : length date ≡ 8 = length-has_pattern (codes "YYYYMMDD") date is.form in
+-- a date is its month, and the two digits of its day
+date_back : (fields : List Field) (date : List ℕ)
+    → judge fields (Value kinds.Day) date ≡ Spells date
+    → take 6 date ++ zero_padded 2 (number_of (drop 6 date)) ≡ date
+unfolding judge spelling
+date_back fields [] h = absurd cc
+date_back fields (b ∷ bs) h =
+    let date = b ∷ bs in
+    let r = by (read_day date) h in
+    let form : has_pattern (codes "YYYYMMDD") date ≡ true = (judged_ok date _ _ _ r.0 r.1).form in
+    let long : length date ≡ 8 = length-has_pattern (codes "YYYYMMDD") date form in
     let short : length (drop 6 date) ≡ 2 = simp length-drop (omega arith) in
     let whole : take 2 (drop 6 date) ≡ drop 6 date = take_all 2 (drop 6 date) (omega arith) in
-    let ds = digits_of_pattern (codes "YYYYMMDD") date 6 8 is.form refl in
-    (short, sym (ap are_digits whole) ∙ ds)
+    let ds = digits_of_pattern (codes "YYYYMMDD") date 6 8 form refl in
+    let digits : are_digits (drop 6 date) ≡ true = sym (ap are_digits whole) ∙ ds in
+    let two : zero_padded 2 (number_of (drop 6 date)) ≡ drop 6 date =
+    ap (λ (n : ℕ). zero_padded n (number_of (drop 6 date))) (sym short)
+    ∙ zero_padded-number_of (drop 6 date) digits in
+    ap (λ (ds : List ℕ). take 6 date ++ ds) two ∙ take-append-drop 6 date
+  where
+    by : {A : Type 0} (r : Result A FieldFault)
+        → verdict_of (spelt (λ _. b ∷ bs) r) ≡ Spells (b ∷ bs) → (x : A) × (r ≡ Ok x)
+    by (Ok x) h = (x, refl)
+    by (Err fault) h = absurd cc
 
-same_date : (a b : List ℕ) → IsDate a → IsDate b → take 6 a ≡ take 6 b → day_of a ≡ day_of b → a ≡ b
-same_date a b x y month day =
-    let p = last_two a x in let q = last_two b y in
-    let days = two_digits (drop 6 a) (drop 6 b) p.0 q.0 p.1 q.1 day in
-    sym (take-append-drop 6 a) ∙ (λ i. month i ++ days i) ∙ take-append-drop 6 b
+abbrev dated : List ℕ → Option ℕ → Said × Said
+dated month day = (Some month, option_map (λ d. month ++ zero_padded 2 d) day)
 
-pub same_maturity : (a b c d : Said) → a ≡ month_by b a → c ≡ month_by d c
-    → IfSome b IsDate → IfSome d IsDate → maturity_of a b ≡ maturity_of c d → (a ≡ c) × (b ≡ d)
-same_maturity None None None None m n x y e = (refl, refl)
-same_maturity None None (Some c) None m n x y e = absurd cc
-same_maturity (Some a) None None None m n x y e = absurd cc
-same_maturity (Some a) None (Some c) None m n x y e = (
-  let k : ◌≡◌ {A = NeutralMaturity} (record { month = a; day = None })
-      (record { month = c; day = None }) = cc in ap (λ (r : NeutralMaturity). Some r.month) k,
-  refl,
-)
-same_maturity None (Some b) c d m n x y e = absurd cc
-same_maturity a b None (Some d) m n x y e = absurd cc
-same_maturity None None (Some c) (Some d) m n x y e = absurd cc
-same_maturity (Some a) None (Some c) (Some d) m n x y e = absurd (let k : ◌≡◌ {A = NeutralMaturity}
-    (record { month = a; day = None }) (record { month = c; day = Some (day_of d) }) =
-    cc in let l = ap (λ (r : NeutralMaturity). r.day) k in cc)
-same_maturity (Some a) (Some b) None None m n x y e = absurd cc
-same_maturity (Some a) (Some b) (Some c) None m n x y e =
-    absurd (let k : ◌≡◌ {A = NeutralMaturity} (record { month = a; day = Some (day_of b) })
-    (record { month = c; day = None }) = cc in let l = ap (λ (r : NeutralMaturity). r.day) k in cc)
-same_maturity (Some a) (Some b) (Some c) (Some d) m n x y e =
-    let k : ◌≡◌ {A = NeutralMaturity} (record { month = a; day = Some (day_of b) })
-    (record { month = c; day = Some (day_of d) }) = cc in
-    let month : a ≡ c = ap (λ (r : NeutralMaturity). r.month) k in
-    let days : Some (day_of b) ≡ Some (day_of d) = ap (λ (r : NeutralMaturity). r.day) k in
-    let day : day_of b ≡ day_of d = cc in
-    let mb : a ≡ take 6 b = cc in let nd : c ≡ take 6 d = cc in
-    let date = same_date b d x y (sym mb ∙ month ∙ nd) day in
-    (ap (λ (t : List ℕ). Some t) month, ap (λ (t : List ℕ). Some t) date)
+abbrev pub maturity_text : Option NeutralMaturity → Said × Said
+maturity_text None = (None, None)
+maturity_text (Some maturity) = dated maturity.month maturity.day
+
+abbrev pub maturity_said : Said × Said → Option NeutralMaturity
+maturity_said both = maturity_of both.0 both.1
+
+pub maturity_back : (fields : List Field) (month date : Said) → month ≡ month_by date month
+    → IfSome date (λ t. judge fields (Value kinds.Day) t ≡ Spells t)
+    → maturity_text (maturity_said (month, date)) ≡ (month, date)
+unfolding number_of
+maturity_back fields None None m h = refl
+maturity_back fields None (Some date) m h = absurd cc
+maturity_back fields (Some month) None m h = refl
+maturity_back fields (Some month) (Some date) m h =
+    let is : month ≡ take 6 date = cc in
+    let back : month ++ zero_padded 2 (number_of (drop 6 date)) ≡ date =
+    ap (λ (t : List ℕ). t ++ zero_padded 2 (number_of (drop 6 date))) is
+    ∙ date_back fields date h in
+    λ i. (Some month, Some (back i))
 
 -- ---- groups
 
-pub record AllocSaid (line : List Cell) : Type 0 where
-  pub account : List ℕ
-  pub qty : Said
-  pub is : line ≡ (Tag 79, Some account) ∷ (Tag 80, qty) ∷ []
-  pub amount : IfSome qty IsAmount
+-- the lines that meanings give back
+lines_back : {A : Type 0} (means : List Cell → A) (back : A → List Cell) (P : List Cell → Type 0)
+    → ((line : List Cell) → P line → back (means line) ≡ line)
+    → (lines : List (List Cell)) → AllByRecursion P lines → map back (map means lines) ≡ lines
+lines_back means back P each [] h = refl
+lines_back means back P each (line ∷ lines) h =
+    λ i. each line h.0 i ∷ lines_back means back P each lines h.1 i
 
-alloc_line : (line : List Cell) → IsLine judge allocs.rows line → AllocSaid line
-alloc_line [] h = absurd h
-alloc_line (a ∷ []) h = absurd h.2
-alloc_line (a ∷ b ∷ c ∷ line) h = absurd h.2.2
-alloc_line (a ∷ b ∷ []) h = by a.1 refl (h.1.needed refl)
-  where
-    by : (said : Said) → a.1 ≡ said → IsSome said → AllocSaid (a ∷ b ∷ [])
-    by None e there = absurd cc
-    by (Some text) e there = record {
-      account = text;
-      qty = b.1;
-      is = λ i. (h.0 i, e i)
-          ∷ (h.2.0 i, b.1) ∷ [];
-      amount = qtys_said (line_fields (a ∷ b ∷ [])) b.1 h.2.1.spelled;
-    }
+abbrev pub alloc_cells : NeutralAlloc → List Cell
+alloc_cells alloc = (Tag 79, Some alloc.account) ∷ (Tag 80, amounts_back alloc.qty) ∷ []
 
-same_alloc : (l k : List Cell) → AllocSaid l → AllocSaid k → alloc_of l ≡ alloc_of k → l ≡ k
-same_alloc l k s t e =
-    let f = sym (ap alloc_of s.is) ∙ e ∙ ap alloc_of t.is in
-    let account : s.account ≡ t.account = ap (λ (a : NeutralAlloc). a.account) f in
-    let qty = same_amount s.qty t.qty s.amount t.amount (ap (λ (a : NeutralAlloc). a.qty) f) in
-    s.is ∙ (λ i. (Tag 79, Some (account i)) ∷ (Tag 80, qty i) ∷ []) ∙ sym t.is
+alloc_back : (line : List Cell) → IsLine judge allocs.rows line
+    → alloc_cells (alloc_of line) ≡ line
+alloc_back [] h = absurd h
+alloc_back (a ∷ []) h = absurd h.2
+alloc_back (a ∷ b ∷ c ∷ line) h = absurd h.2.2
+alloc_back (a ∷ b ∷ []) h =
+    let account = text_back a.1 (h.1.needed refl) in
+    let qty = qtys_back (line_fields (a ∷ b ∷ [])) b.1 h.2.1.spelled in
+    let is : a ∷ b ∷ [] ≡ (Tag 79, a.1) ∷ (Tag 80, b.1) ∷ [] =
+    λ i. (h.0 i, a.1) ∷ (h.2.0 i, b.1) ∷ [] in
+    ap (λ (l : List Cell). alloc_cells (alloc_of l)) is
+    ∙ (λ i. (Tag 79, account i) ∷ (Tag 80, qty i) ∷ []) ∙ sym is
 
-pub same_allocs : (xs ys : List (List Cell)) → AllByRecursion (IsLine judge allocs.rows) xs
-    → AllByRecursion (IsLine judge allocs.rows) ys → map alloc_of xs ≡ map alloc_of ys → xs ≡ ys
-same_allocs [] [] h k e = refl
-same_allocs [] (y ∷ ys) h k e = absurd cc
-same_allocs (x ∷ xs) [] h k e = absurd cc
-same_allocs (x ∷ xs) (y ∷ ys) h k e =
-    let first : alloc_of x ≡ alloc_of y = cc in let rest : map alloc_of xs ≡ map alloc_of ys = cc in
-    let p = same_alloc x y (alloc_line x h.0) (alloc_line y k.0) first in let q =
-    same_allocs xs ys h.1 k.1 rest in
-    λ i. p i ∷ q i
+pub allocs_back : (lines : List (List Cell)) → AllByRecursion (IsLine judge allocs.rows) lines
+    → map alloc_cells (map alloc_of lines) ≡ lines
+allocs_back = lines_back alloc_of alloc_cells (IsLine judge allocs.rows) alloc_back
 
-pub record SessionSaid (line : List Cell) : Type 0 where
-  pub id : List ℕ
-  pub is : line ≡ (Tag 336, Some id) ∷ []
+abbrev pub session_cells : NeutralSession → List Cell
+session_cells session = (Tag 336, Some session.id) ∷ []
 
-session_line : (line : List Cell) → IsLine judge sessions.rows line → SessionSaid line
-session_line [] h = absurd h
-session_line (a ∷ b ∷ line) h = absurd h.2
-session_line (a ∷ []) h = by a.1 refl (h.1.needed refl)
-  where
-    by : (said : Said) → a.1 ≡ said → IsSome said → SessionSaid (a ∷ [])
-    by None e there = absurd cc
-    by (Some text) e there = record { id = text; is = λ i. (h.0 i, e i) ∷ [] }
+session_back : (line : List Cell) → IsLine judge sessions.rows line
+    → session_cells (session_of line) ≡ line
+session_back [] h = absurd h
+session_back (a ∷ b ∷ line) h = absurd h.2
+session_back (a ∷ []) h =
+    let is : a ∷ [] ≡ (Tag 336, a.1) ∷ [] = λ i. (h.0 i, a.1) ∷ [] in
+    ap (λ (l : List Cell). session_cells (session_of l)) is
+    ∙ ap (λ (s : Said). (Tag 336, s) ∷ []) (text_back a.1 (h.1.needed refl)) ∙ sym is
 
-same_session : (l k : List Cell)
-    → SessionSaid l → SessionSaid k → session_of l ≡ session_of k → l ≡ k
-same_session l k s t e =
-    let f = sym (ap session_of s.is) ∙ e ∙ ap session_of t.is in
-    let id : s.id ≡ t.id = ap (λ (a : NeutralSession). a.id) f in
-    s.is ∙ (λ i. (Tag 336, Some (id i)) ∷ []) ∙ sym t.is
-
-pub same_sessions : (xs ys : List (List Cell)) → AllByRecursion (IsLine judge sessions.rows) xs
-    → AllByRecursion (IsLine judge sessions.rows) ys
-    → map session_of xs ≡ map session_of ys → xs ≡ ys
-same_sessions [] [] h k e = refl
-same_sessions [] (y ∷ ys) h k e = absurd cc
-same_sessions (x ∷ xs) [] h k e = absurd cc
-same_sessions (x ∷ xs) (y ∷ ys) h k e =
-    let first : session_of x ≡ session_of y =
-    cc in let rest : map session_of xs ≡ map session_of ys = cc in
-    let p = same_session x y (session_line x h.0) (session_line y k.0) first in let q =
-    same_sessions xs ys h.1 k.1 rest in
-    λ i. p i ∷ q i
+pub sessions_back : (lines : List (List Cell)) → AllByRecursion (IsLine judge sessions.rows) lines
+    → map session_cells (map session_of lines) ≡ lines
+sessions_back = lines_back session_of session_cells (IsLine judge sessions.rows) session_back

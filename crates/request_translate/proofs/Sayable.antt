@@ -15,12 +15,11 @@ use Rattle.order_meaning.specs.Request.{OrderType, Market, Limit, Stop, StopLimi
 use Rattle.order_meaning.specs.Request.{LimitOnClose}
 use Rattle.row_values.specs.Kinds.{Kind, judge, Byte, counted, verdict_of}
 use Rattle.dict_fix50.specs.Message.{message50, message50_by}
-use Rattle.rows_fix50.specs.Header.{table, completed, completed_by}
+use Rattle.rows_fix50.specs.Header.{completed, completed_by}
 use Rattle.first_faults.specs.Faults.{told}
-use Rattle.dict_fix50.specs.Requests.{new_order, cancel_request, replace_request, status_request}
 use Rattle.dict_fix50.specs.Sense.{sense50, request50, request_of}
 use Rattle.rows_fix50.specs.Meaning.{terms_of}
-use Rattle.std.specs.Str.{bytes_eq}
+use Rattle.request_rules.proofs.ByType.{asked50, by_type}
 use Rattle.request_translate.specs.Lack.{lacks_time, lacks_capacity, lack_in, lack_of}
 use Rattle.request_translate.specs.Laws.{LacksNothing}
 
@@ -95,9 +94,8 @@ abbrev tag_of : Bool → Bool → Option ℕ
 tag_of time capacity = if time then Some 59 else (if capacity then Some 47 else None)
 
 by_tests : (time capacity : Bool) → time ≡ false → capacity ≡ false → tag_of time capacity ≡ None
-by_tests true capacity e f = absurd (cc)
-by_tests false true e f = absurd (cc)
 by_tests false false e f = refl
+by_tests other capacity e f = absurd cc
 
 by_parts : (ord_type : Option OrderType) (time capacity : Option ℕ)
     → lacks_time ord_type time ≡ false → lacks_capacity capacity ≡ false →
@@ -112,26 +110,14 @@ of_message kind m h = by_parts (terms_of (code_if m.cells 40) (code_if m.cells 5
     (terms_of (code_if m.cells 40) (code_if m.cells 59)).1
     (code_if m.cells 528) (terms_lack_nothing (code_if m.cells 40) (code_if m.cells 59)) h
 
-new_is_sayable : (fields : List Field)
-    → IsSayable (request50 (completed (message_in judge (table 68 new_order) fields)))
-new_is_sayable fields = of_message New (completed (message_in judge (table 68 new_order) fields))
+each : (fields : List Field) (kind : RequestKind)
+    → IsSayable (request50 (completed (message_in judge (asked50 kind) fields)))
+each fields New = of_message New (completed (message_in judge (asked50 New) fields))
     (capacity_lacks_nothing fields (value_at 528 fields))
-
-cancel_is_sayable : (fields : List Field)
-    → IsSayable (request50 (completed (message_in judge (table 70 cancel_request) fields)))
-cancel_is_sayable fields =
-    of_message Cancel (completed (message_in judge (table 70 cancel_request) fields)) refl
-
-replace_is_sayable : (fields : List Field)
-    → IsSayable (request50 (completed (message_in judge (table 71 replace_request) fields)))
-replace_is_sayable fields =
-    of_message Replace (completed (message_in judge (table 71 replace_request) fields))
+each fields Cancel = of_message Cancel (completed (message_in judge (asked50 Cancel) fields)) refl
+each fields Replace = of_message Replace (completed (message_in judge (asked50 Replace) fields))
     (capacity_lacks_nothing fields (value_at 528 fields))
-
-status_is_sayable : (fields : List Field)
-    → IsSayable (request50 (completed (message_in judge (table 72 status_request) fields)))
-status_is_sayable fields =
-    of_message Status (completed (message_in judge (table 72 status_request) fields)) refl
+each fields Status = of_message Status (completed (message_in judge (asked50 Status) fields)) refl
 
 by_fault : (fault : Option TableFault) (m : Message) → IsSayable (request50 (completed m))
     → IsSayable (result_ok (told50 (unless fault m)) >>= request50)
@@ -145,24 +131,8 @@ unfolding message_of
 by_message table fields h =
     by_fault (first_fault judge table fields) (message_in judge table fields) h
 
-by_type : (d f g h : Bool) (fields : List Field) → IsSayable (result_ok (message50_by
-    (if d then Some (table 68 new_order) else (if f then Some (table 70 cancel_request) else
-    (if g then Some (table 71 replace_request)
-    else (if h then Some (table 72 status_request) else None))))
-    fields
-    None)
-    >>=
-    request50)
-by_type true f g h fields = by_message (table 68 new_order) fields (new_is_sayable fields)
-by_type false true g h fields =
-    by_message (table 70 cancel_request) fields (cancel_is_sayable fields)
-by_type false false true h fields =
-    by_message (table 71 replace_request) fields (replace_is_sayable fields)
-by_type false false false true fields =
-    by_message (table 72 status_request) fields (status_is_sayable fields)
-by_type false false false false fields = tt
-
 pub sayable : LacksNothing
 unfolding sense50 message50
-sayable msg_type fields = by_type (bytes_eq msg_type (codes "D")) (bytes_eq msg_type (codes "F"))
-    (bytes_eq msg_type (codes "G")) (bytes_eq msg_type (codes "H")) fields
+sayable msg_type fields =
+    by_type (λ t of42 of50. IsSayable (result_ok (message50_by of50 fields None) >>= request50))
+    (λ t. tt) (λ kind. by_message (asked50 kind) fields (each fields kind)) msg_type

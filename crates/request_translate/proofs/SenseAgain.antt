@@ -1,11 +1,11 @@
 -- What is written of a request is read again as that request, behind its header.
-use Rattle.std.proofs.Common.{◌≡◌, ℕ, List, ◌∷◌, ◌++◌, codes, Option, Some}
-use Rattle.std.proofs.Common.{None, Bool, true, false, Ok, Result, refl, sym, ap, subst, ◌∙◌}
-use Rattle.std.specs.Prelude.{unwrap_or, if◌then◌else◌}
+use Rattle.std.proofs.Common.{◌≡◌, ℕ, List, ◌∷◌, ◌++◌, Option, Some, None, Bool, true, false, Ok}
+use Rattle.std.proofs.Common.{Result, refl, sym, ap, subst, ◌∙◌}
+use Rattle.std.specs.Prelude.{unwrap_or}
 use Rattle.std.specs.Option.{option_map}
 use Rattle.std.specs.Result.{result_ok}
 use Rattle.std.specs.List.{AllByRecursion}
-use Rattle.std.specs.Str.{bytes_eq}
+use Rattle.request_rules.proofs.ByType.{asked42, asked50, by_type, items42, items50, letter_of}
 use Rattle.value_kinds.specs.ValueKind.{Filled, Flag}
 use Rattle.message_tables.specs.declared.table_fault.TableFault.{TableFault}
 use Rattle.field_groups.specs.Field.{Field}
@@ -16,13 +16,11 @@ use Rattle.order_meaning.specs.Request.{Request, RequestKind, New, Cancel, Repla
 use Rattle.order_meaning.specs.declared.fault.Fault.{Fault}
 use Rattle.rows_fix42.specs.Header as header42
 use Rattle.dict_fix42.specs.Message as read42
-use Rattle.dict_fix42.specs.Requests as requests42
 use Rattle.dict_fix42.specs.Sense.{sense42, request42}
 use Rattle.row_values.specs.Kinds.{Kind, Version, judge}
 use Rattle.first_faults.specs.Faults as row_faults
 use Rattle.dict_fix50.specs.Message as read50
 use Rattle.rows_fix50.specs.Header.{table, completed_by}
-use Rattle.dict_fix50.specs.Requests.{new_order, cancel_request, replace_request, status_request}
 use Rattle.dict_fix50.specs.Sense.{sense50, request50}
 use Rattle.sound_laws.proofs.Completed.{completed_again}
 use Rattle.sound_laws.proofs.Each.{◌&◌}
@@ -38,8 +36,7 @@ use Rattle.translation.proofs.CarriedHeader.{own_said}
 use Rattle.translation.proofs.Writable.{IsType}
 use Rattle.request_rules.specs.Canonical.{IsCanonical}
 use Rattle.request_translate.specs.Translation.{IsRequest}
-use Rattle.request_translate.proofs.Outcomes.{kind_in, kind_is, letter_asked, items_asked}
-use Rattle.request_translate.proofs.Outcomes.{IsOfKind, of_kind}
+use Rattle.request_translate.proofs.AgainFields.{kind_in, kind_is, IsOfKind, of_kind}
 use Rattle.request_translate.proofs.Sayable.{told50}
 
 abbrev up_fields_of : List ℕ → List Field → List Field → List Field
@@ -153,19 +150,18 @@ module _ (msg_type : List ℕ) (fields : List Field) (x r : Message) (is_type : 
         × (resend_in (request42 y) ≡ Some y.resend)
 
     -- what was asked for is what is asked for
-    one_kind : (kind : RequestKind) (letter42 : ℕ) (items42 : List (Item Kind))
-        → IsBehind msg_type fields r (letter_asked kind) (items_asked kind)
-        → Fits msg_type fields r (letter_asked kind) (items_asked kind)
-        → IsAskedBy kind letter42
-        → ((y : Message) → y.letter ≡ letter_asked kind → resend_in (request50 y) ≡ Some y.resend)
-        → row_faults.told (message_of judge (header42.table letter42 items42) fields) ≡ Ok x
+    one_kind : (kind : RequestKind)
+        → IsBehind msg_type fields r (letter_of kind) (items50 kind)
+        → Fits msg_type fields r (letter_of kind) (items50 kind)
+        → IsAskedBy kind (letter_of kind)
+        → ((y : Message) → y.letter ≡ letter_of kind → resend_in (request50 y) ≡ Some y.resend)
+        → row_faults.message_by (Some (asked42 kind)) fields None ≡ Ok x
         → (written : List Field) → IsRequest r written →
-        result_ok (told50 (message_of judge (table (letter_asked kind) (items_asked kind))
-        (up_fields_of msg_type fields written))) >>= request50 ≡ request42 x
+        result_ok (read50.message50_by (Some (asked50 kind))
+        (up_fields_of msg_type fields written) None) >>= request50 ≡ request42 x
     unfolding IsAskedBy
-    one_kind kind letter42 items42 behind fit asked mine e written request =
-        let t = table (letter_asked kind) (items_asked kind) in
-        let read = read_of (header42.table letter42 items42) fields x e in
+    one_kind kind behind fit asked mine e written request =
+        let read = read_of (asked42 kind) fields x e in
         let theirs = asked x (ap (λ (y : Message). y.letter) (sym read.is)) in
         let kinds_are : Some (kind_in request) ≡ Some kind = sym (kind_is r written request)
         ∙ ap (option_map (λ (q : Request). q.kind)) means ∙ theirs.0 in
@@ -173,37 +169,26 @@ module _ (msg_type : List ℕ) (fields : List Field) (x r : Message) (is_type : 
         let Q : RequestKind → Type 0 = λ k. IsOfKind r written k in
         let of : IsOfKind r written kind = subst Q same (of_kind r written request) in
         let P : List Field → Type 0 = λ fs. result_ok (told50
-        (message_of judge t (up_fields_of msg_type fields fs))) >>= request50 ≡ request42 x in
+        (message_of judge (asked50 kind) (up_fields_of msg_type fields fs)))
+        >>= request50 ≡ request42 x in
         subst P (sym of.is)
-        (one_table (letter_asked kind) letter42 (items_asked kind) items42 behind fit
+        (one_table (letter_of kind) (letter_of kind) (items50 kind) (items42 kind) behind fit
         of.canonical read (mine r of.canonical.sound.letter) theirs.1)
 
     -- A REQUEST IS READ AGAIN with the sense that it had.
-    again_by : (written : List Field) → IsRequest r written → (d f g h : Bool)
-        → row_faults.message_by (if d then Some (header42.table 68 requests42.new_order)
-        else (if f then Some (header42.table 70 requests42.cancel_request)
-        else (if g then Some (header42.table 71 requests42.replace_request)
-        else (if h then Some (header42.table 72 requests42.status_request) else None))))
-        fields None ≡ Ok x →
-        result_ok (read50.message50_by
-        (if d then Some (table 68 new_order) else (if f then Some (table 70 cancel_request)
-        else (if g then Some (table 71 replace_request)
-        else (if h then Some (table 72 status_request) else None))))
+    each : (written : List Field) → IsRequest r written → (kind : RequestKind)
+        → row_faults.message_by (Some (asked42 kind)) fields None ≡ Ok x →
+        result_ok (read50.message50_by (Some (asked50 kind))
         (up_fields_of msg_type fields written) None) >>= request50 ≡ request42 x
     unfolding IsAskedBy
-    again_by written request true f g h e =
-        one_kind New 68 requests42.new_order refl refl
+    each written request New e = one_kind New refl refl
         (λ y is. (rw is refl, rw is refl)) (λ y is. rw is refl) e written request
-    again_by written request false true g h e =
-        one_kind Cancel 70 requests42.cancel_request refl refl
+    each written request Cancel e = one_kind Cancel refl refl
         (λ y is. (rw is refl, rw is refl)) (λ y is. rw is refl) e written request
-    again_by written request false false true h e =
-        one_kind Replace 71 requests42.replace_request refl refl
+    each written request Replace e = one_kind Replace refl refl
         (λ y is. (rw is refl, rw is refl)) (λ y is. rw is refl) e written request
-    again_by written request false false false true e =
-        one_kind Status 72 requests42.status_request refl refl
+    each written request Status e = one_kind Status refl refl
         (λ y is. (rw is refl, rw is refl)) (λ y is. rw is refl) e written request
-    again_by written request false false false false e = absurd cc
 
     -- WHAT IS WRITTEN HAS THE SENSE OF WHAT WAS READ.
     pub same_sense : (written : List Field)
@@ -211,6 +196,9 @@ module _ (msg_type : List ℕ) (fields : List Field) (x r : Message) (is_type : 
         sense50 msg_type ((35, msg_type) ∷ carried fields ++ written) ≡ sense42 msg_type fields
     unfolding sense50 sense42 read50.message50 read42.message42
     same_sense written request e =
-        again_by written request (bytes_eq msg_type (codes "D")) (bytes_eq msg_type (codes "F"))
-        (bytes_eq msg_type (codes "G")) (bytes_eq msg_type (codes "H")) e
+        let P : List ℕ → Option (Table Kind) → Option (Table Kind) → Type 0 = λ t of42 of50.
+        row_faults.message_by of42 fields None ≡ Ok x
+        → result_ok (read50.message50_by of50 (up_fields_of msg_type fields written) None)
+        >>= request50 ≡ request42 x in
+        by_type P (λ t no. absurd cc) (each written request) msg_type e
         ∙ sym (ap (λ (y : Result Message Fault). result_ok y >>= request42) e)

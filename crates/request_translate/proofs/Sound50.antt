@@ -1,10 +1,9 @@
 -- What is read of the fields of a request of FIX 5.0 SP2 is a sound message that says the month of
 -- its date.
-use Rattle.std.proofs.Common.{◌≡◌, ℕ, List, [], ◌∷◌, Some, None, Bool, true, false, refl}
-use Rattle.std.proofs.Common.{sym, subst, ◌∙◌, codes}
-use Rattle.std.specs.Prelude.{Result, Ok, Err, IfSome, if◌then◌else◌}
+use Rattle.std.proofs.Common.{◌≡◌, ℕ, List, [], ◌∷◌, Some, None, Bool, true, false, refl, sym}
+use Rattle.std.proofs.Common.{subst, ◌∙◌}
+use Rattle.std.specs.Prelude.{Result, Ok, Err, IfSome}
 use Rattle.std.specs.List.{AllByRecursion, flat_map, list_any, list_all}
-use Rattle.std.specs.Str.{bytes_eq}
 use Rattle.field_groups.specs.Field.{Field}
 use Rattle.field_groups.specs.Data.{is_data_tag}
 use Rattle.order_meaning.specs.declared.fault.Fault.{Fault}
@@ -19,19 +18,20 @@ use Rattle.dict_fix50.specs.Message.{message50, message50_by}
 use Rattle.dict_fix50.specs.Requests.{new_order, cancel_request, replace_request, status_request}
 use Rattle.sound_laws.specs.Sound.{IsClear, IsSound, places_of}
 use Rattle.sound_laws.specs.Complete.{IsComplete}
+use Rattle.order_meaning.specs.Request.{RequestKind, New, Cancel, Replace, Status}
+use Rattle.request_rules.proofs.ByType.{asked50, by_type}
 use Rattle.request_translate.specs.Up.{IsRequest50, News, Cancels, Replaces, Statuses}
 use Rattle.sound_laws.proofs.Each.{both, not_true}
 use Rattle.sound_laws.proofs.ContentValues.{is_alone, value_said, groups_said, GroupSaid}
-use Rattle.sound_laws.proofs.PlainRows.{HasPlainRows, parties_plain, allocs_plain}
-use Rattle.sound_laws.proofs.PlainRows.{sessions_plain, parties_apart, allocs_apart}
-use Rattle.sound_laws.proofs.PlainRows.{sessions_apart, unfixed, plain_items, of_message}
+use Rattle.sound_laws.proofs.PlainRows.{HasPlainRows, parties_plain, allocs_plain, sessions_plain}
+use Rattle.sound_laws.proofs.PlainRows.{parties_apart, allocs_apart, sessions_apart, unfixed}
+use Rattle.sound_laws.proofs.PlainRows.{plain_items, of_message}
 use Rattle.sound_laws.proofs.ReadSound.{IsClearField, IsStableRow, IsStableItem, IsTable}
 use Rattle.sound_laws.proofs.ReadSound.{read_sound}
-use Rattle.sound_laws.proofs.Judged50.{AreAlike, judged_again, judged_clear, clear_date}
-use Rattle.sound_laws.proofs.Judged50.{date_said, type_said, date_kept, type_kept}
+use Rattle.sound_laws.proofs.Judged50.{AreAlike, judged_again, judged_clear, clear_date, date_said}
+use Rattle.sound_laws.proofs.Judged50.{type_said, date_kept, type_kept}
 use Rattle.request_translate.proofs.CompletedSound.{is_ours, is_ours_row, ours, ours_need}
-use Rattle.request_translate.proofs.CompletedSound.{kept_need, completed_sound}
-use Rattle.request_translate.proofs.CompletedSound.{completed_month}
+use Rattle.request_translate.proofs.CompletedSound.{kept_need, completed_sound, completed_month}
 
 module _ (fields : List Field) (clear : AllByRecursion (IsClearField judge) fields) where
   -- ---- before its month is completed
@@ -78,11 +78,6 @@ module _ (fields : List Field) (clear : AllByRecursion (IsClearField judge) fiel
         ≡ date_said fields
     types : timed ≡ true → SaysTypes letter items
 
-  -- what is read by a table
-  abbrev Reads : ℕ → List (Item Kind) → Type 0
-  Reads letter items = first_fault judge (table letter items) fields ≡ None
-      → IsComplete (table letter items) (completed (message_in judge (table letter items) fields))
-
   date_same : date_said fields ≡ date_at 541 fields
   unfolding judge
   date_same = refl
@@ -107,8 +102,8 @@ module _ (fields : List Field) (clear : AllByRecursion (IsClearField judge) fiel
       sound none = read_sound judge t fields is.once (plain_items t fields items is.plain)
           (λ groups. stable_items timed t (alike groups) items is.known) clear none
 
-      table_read : Reads letter items
-      table_read none =
+      complete : first_fault judge t fields ≡ None → IsComplete t (completed m)
+      complete none =
           let s = sound none in
           let groups = groups_said judge (content t m) m items s.items in
           let there : said_at m.cells (Tag 541) ≡ date_at 541 fields = is.date_is ∙ date_same in
@@ -120,11 +115,24 @@ module _ (fields : List Field) (clear : AllByRecursion (IsClearField judge) fiel
             month = completed_month timed t m is.month at_date no_soh s;
           }
 
+      -- what is read by the table
+      table_read : (x : Message) → message50_by (Some t) fields None ≡ Ok x → IsComplete t x
+      table_read = by_completed (told (message_of judge t fields))
+          (of_message t fields (λ y. IsComplete t (completed y)) complete)
+        where
+          by_completed : (r : Result Message Fault)
+              → ((y : Message) → r ≡ Ok y → IsComplete t (completed y))
+              → (x : Message) → completed_by r ≡ Ok x → IsComplete t x
+          by_completed (Ok y) h x e = let same : completed y ≡ x = cc in
+              subst (IsComplete t) same (h y refl)
+          by_completed (Err fault) h x e = absurd cc
+
   -- ---- the four messages
 
-  new_read : Reads 68 new_order
+  each : (x : Message) (kind : RequestKind)
+      → message50_by (Some (asked50 kind)) fields None ≡ Ok x → IsRequest50 x
   unfolding is_data_tag
-  new_read = table_read true 68 new_order (record {
+  each x New e = News (table_read true 68 new_order (record {
     once = record {
       rows = refl;
       places = refl;
@@ -137,11 +145,8 @@ module _ (fields : List Field) (clear : AllByRecursion (IsClearField judge) fiel
     date = refl;
     date_is = refl;
     types = λ _. record { alone = refl; said = refl };
-  })
-
-  cancel_read : Reads 70 cancel_request
-  unfolding is_data_tag
-  cancel_read = table_read false 70 cancel_request (record {
+  }) x e)
+  each x Cancel e = Cancels (table_read false 70 cancel_request (record {
     once = record { rows = refl; places = refl; counts = refl; plain = (parties_apart, tt) };
     known = refl;
     plain = (parties_plain, tt);
@@ -149,11 +154,8 @@ module _ (fields : List Field) (clear : AllByRecursion (IsClearField judge) fiel
     date = refl;
     date_is = refl;
     types = λ untrue. absurd cc;
-  })
-
-  replace_read : Reads 71 replace_request
-  unfolding is_data_tag
-  replace_read = table_read true 71 replace_request (record {
+  }) x e)
+  each x Replace e = Replaces (table_read true 71 replace_request (record {
     once = record {
       rows = refl;
       places = refl;
@@ -166,11 +168,8 @@ module _ (fields : List Field) (clear : AllByRecursion (IsClearField judge) fiel
     date = refl;
     date_is = refl;
     types = λ _. record { alone = refl; said = refl };
-  })
-
-  status_read : Reads 72 status_request
-  unfolding is_data_tag
-  status_read = table_read false 72 status_request (record {
+  }) x e)
+  each x Status e = Statuses (table_read false 72 status_request (record {
     once = record { rows = refl; places = refl; counts = refl; plain = (parties_apart, tt) };
     known = refl;
     plain = (parties_plain, tt);
@@ -178,43 +177,12 @@ module _ (fields : List Field) (clear : AllByRecursion (IsClearField judge) fiel
     date = refl;
     date_is = refl;
     types = λ untrue. absurd cc;
-  })
-
-  -- a message of a table that was read
-  by_completed : (P : Message → Type 0) (r : Result Message Fault)
-      → ((y : Message) → r ≡ Ok y → P (completed y)) →
-      (x : Message) → completed_by r ≡ Ok x → P x
-  by_completed P (Ok y) h x e = let same : completed y ≡ x = cc in subst P same (h y refl)
-  by_completed P (Err fault) h x e = absurd cc
-
-  by_table : (letter : ℕ) (items : List (Item Kind)) (x : Message) → Reads letter items
-      → completed_by (told (message_of judge (table letter items) fields)) ≡ Ok x
-      → IsComplete (table letter items) x
-  by_table letter items x h e =
-      let t = table letter items in
-      by_completed (IsComplete t) (told (message_of judge t fields))
-      (of_message t fields (λ y. IsComplete t (completed y)) h) x e
-
-  by_type : (d f g h : Bool) (x : Message) → message50_by
-      (if d then Some (table 68 new_order) else (if f then Some (table 70 cancel_request) else
-      (if g then Some (table 71 replace_request)
-      else (if h then Some (table 72 status_request) else None))))
-      fields
-      None
-      ≡ Ok
-      x
-      → IsRequest50
-      x
-  by_type true f g h x e = News (by_table 68 new_order x new_read e)
-  by_type false true g h x e = Cancels (by_table 70 cancel_request x cancel_read e)
-  by_type false false true h x e = Replaces (by_table 71 replace_request x replace_read e)
-  by_type false false false true x e = Statuses (by_table 72 status_request x status_read e)
-  by_type false false false false x e = absurd cc
+  }) x e)
 
   -- WHAT IS READ IS SOUND, AND COMPLETE.
   pub read_is_complete : (msg_type : List ℕ) (x : Message) → message50 msg_type fields None ≡ Ok x
       → IsRequest50 x
   unfolding message50
   read_is_complete msg_type x e =
-      by_type (bytes_eq msg_type (codes "D")) (bytes_eq msg_type (codes "F"))
-      (bytes_eq msg_type (codes "G")) (bytes_eq msg_type (codes "H")) x e
+      by_type (λ t of42 of50. message50_by of50 fields None ≡ Ok x → IsRequest50 x)
+      (λ t no. absurd cc) (each x) msg_type e

@@ -12,13 +12,12 @@ use Rattle.translation.specs.Header.{type_of, carried, with_content}
 use Rattle.request_rules.specs.Rules.{up_content, up_message}
 use Rattle.request_rules.specs.Up.{StandsFor as GoesUp}
 use Rattle.request_rules.proofs.GoUp.{read_go_up}
-use Rattle.request_translate.specs.Translation.{IsGood, StandsFor}
-use Rattle.request_translate.specs.Translation.{IsTranslation, IsRefused, IsRefusedByCheck}
+use Rattle.request_translate.specs.Translation.{IsGood, StandsFor, IsTranslation, IsRefused}
+use Rattle.request_translate.specs.Translation.{IsRefusedByCheck}
 use Rattle.request_translate.specs.Writing.{IsUpOf, LackNothing, Refuses, RefusesUp}
 use Rattle.dict_fix42.specs.Sense.{sense42}
 use Rattle.dict_fix50.specs.Sense.{sense50}
 use Rattle.request_translate.proofs.AgainFields.{split_again}
-use Rattle.request_translate.proofs.Outcomes.{stands_by}
 use Rattle.request_translate.proofs.SenseAgain.{same_sense}
 use Rattle.row_values.specs.Kinds.{judge}
 use Rattle.sound_laws.proofs.PlainFields.{clear_fields}
@@ -51,7 +50,12 @@ module _ (body : List ℕ) (fields : List Field)
   stands : (asked : LackNothing fields stopped)
       → StandsFor body fields (up_content asked.message)
   unfolding good
-  stands asked = stands_by body fields (up_content asked.message) (good asked) refl
+  stands asked = record {
+    good = good asked;
+    by_rules = refl;
+    canonical = (goes asked).request;
+    means = (goes asked).means;
+  }
 
   pub can_be_written : (up : List ℕ) → IsUpOf fields stopped up → IsWritable up
   can_be_written up is =
@@ -123,16 +127,8 @@ module _ (body : List ℕ) (fields : List Field)
       → Refuses fields stopped error → IsRefusedByCheck body error
   refused_by errors.NoMemory h = tt
   refused_by errors.TooLong h = h
-  refused_by (errors.Faulty fault) h =
-      record { fields = fields; stopped = stopped; split = split; read = h }
-  refused_by (errors.Lacking tag) h = record {
-    fields =
-        fields;
-    message = h.0;
-    split = whole h.1.whole;
-    read = h.1.read;
-    lack = h.2;
-  }
+  refused_by (errors.Faulty fault) h = refused (errors.Faulty fault) h
+  refused_by (errors.Lacking tag) h = refused (errors.Lacking tag) h
 
   pub refused_by_check : (r : Result (Unit {0}) TranslateError) → IfErr r (Refuses fields stopped)
       → IfErr r (IsRefusedByCheck body)
