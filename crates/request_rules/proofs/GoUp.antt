@@ -19,8 +19,9 @@ use Rattle.dict_fix42.specs.Sense as sense42
 use Rattle.dict_fix42.specs.Sense.{request42}
 use Rattle.dict_fix42.specs.Requests as requests42
 use Rattle.dict_fix50.specs.Message.{message50}
-use Rattle.dict_fix50.specs.Sense.{request50}
+use Rattle.sound_laws.specs.Complete.{HasMonthOfDate}
 use Rattle.sound_laws.specs.Sound.{IsSound, without_resend}
+use Rattle.sound_laws.proofs.Each.{◌&◌}
 use Rattle.sound_laws.proofs.Completed.{completed_again}
 use Rattle.sound_laws.proofs.ContentAgain.{read_again}
 use Rattle.sound_laws.proofs.Lookups.{places_apart}
@@ -31,7 +32,7 @@ use Rattle.sound_laws.proofs.TableFits.{table_fits}
 use Rattle.rule_rows.proofs.Looked.{has_lines_of, says}
 use Rattle.rule_rows.proofs.Made.{content_made}
 use Rattle.rule_rows.proofs.Source as source
-use Rattle.request_rules.specs.Canonical.{IsCanonical}
+use Rattle.request_rules.specs.Canonical.{IsCanonical, IsRequest}
 use Rattle.request_rules.specs.Canonical as canonical
 use Rattle.request_rules.specs.Lack.{lack_if}
 use Rattle.request_rules.specs.Rules.{at, date_up, kinds, party_lines, up_content, up_lack}
@@ -87,13 +88,16 @@ asked letter f =
 
 -- ---- a message of a table that goes up
 
--- what goes up, by a table of FIX 5.0 SP2
-record IsUp (letter : ℕ) (items : List (Item Kind)) (m : Message) : Type 0 where
-  canonical : IsCanonical letter items (up_message m)
-  content_is : up_content m ≡ content (table50 letter items) (up_message m)
-  means : request50 (up_message m) ≡ request42 m
-  again : completed_by (told (message_of judge (table50 letter items) (up_content m)))
-      ≡ Ok (without_resend (up_message m))
+-- what is written of a sound message that says the month of its date is read again
+pub content_again : (letter : ℕ) (items : List (Item Kind))
+    → table_fits (table50 letter items) [] ≡ true → is_one_of (flat_map item_tags items) 97 ≡ false
+    → (m : Message) → IsSound judge (table50 letter items) m → HasMonthOfDate m
+    → completed_by (told (message_of judge (table50 letter items) (content (table50 letter items) m)))
+    ≡ Ok (without_resend m)
+content_again letter items fit bare m sound month =
+    let t = table50 letter items in
+    ap completed_by (read_again t m fit bare sound) ∙ ap (λ (x : Message). Ok x)
+    (completed_again m month (ap places_apart sound.places ∙ fits.places_are_apart t m [] fit) false)
 
 module _ (letter : ℕ) (kind : RequestKind) (items : List (Item Kind)) (goes : GoesUp items)
     (is : (f : RequestKind → Request) → asked letter f ≡ Some (f kind))
@@ -135,17 +139,23 @@ module _ (letter : ℕ) (kind : RequestKind) (items : List (Item Kind)) (goes : 
   by_table = content_made kinds items (make items) m
       (source.outline_is (table42 letter items) m sound) are_kinds up_rules own (each_made items)
 
-  is_up : IsUp letter (items_up items) m
-  is_up =
-      let t = table50 letter (items_up items) in
-      let w = up_message m in record {
-        canonical = as_canonical;
-        content_is = by_table;
+  abbrev IsAgain : ℕ → Type 0
+  IsAgain n = message50 (n ∷ []) (up_content m) None ≡ Ok (without_resend (up_message m))
+
+  stands : (IsCanonical letter (items_up items) (up_message m)
+      → up_content m ≡ content (table50 letter (items_up items)) (up_message m)
+      → IsRequest (up_message m) (up_content m))
+      → message50 (letter ∷ []) (up_content m) None
+      ≡ completed_by (told (message_of judge (table50 letter (items_up items)) (up_content m)))
+      → StandsFor m
+  stands make reads =
+      let t = table50 letter (items_up items) in record {
+        request = make as_canonical by_table;
         means = keeps_sense m ordinary lack;
-        again = ap (λ fields. completed_by (told (message_of judge t fields))) by_table
-            ∙ ap completed_by (read_again t w fit bare as_canonical.sound)
-            ∙ ap (λ (x : Message). Ok x) (completed_again w as_canonical.month
-            (ap places_apart as_canonical.sound.places ∙ fits.places_are_apart t w [] fit) false);
+        again = subst IsAgain (sym sound.letter) (reads
+            ∙ ap (λ fields. completed_by (told (message_of judge t fields))) by_table
+            ∙ content_again letter (items_up items) fit bare (up_message m) as_canonical.sound
+            as_canonical.month);
       }
 
 -- ---- THE FOUR REQUESTS
@@ -153,14 +163,7 @@ module _ (letter : ℕ) (kind : RequestKind) (items : List (Item Kind)) (goes : 
 new_goes : GoesUp requests42.new_order
 new_goes = record {
   carried = refl;
-  month = refl;
-  day = refl;
-  type = refl;
-  time = refl;
-  capacity = refl;
-  client = refl;
-  broker = refl;
-  firm = refl;
+  rows = refl & refl & refl & refl & refl & refl & refl & refl & tt;
   month_alone = refl;
   date_alone = refl;
   timed = refl;
@@ -170,14 +173,7 @@ new_goes = record {
 cancel_goes : GoesUp requests42.cancel_request
 cancel_goes = record {
   carried = refl;
-  month = refl;
-  day = refl;
-  type = tt;
-  time = tt;
-  capacity = tt;
-  client = refl;
-  broker = refl;
-  firm = tt;
+  rows = refl & refl & tt & tt & tt & refl & refl & tt & tt;
   month_alone = refl;
   date_alone = refl;
   timed = refl;
@@ -187,14 +183,7 @@ cancel_goes = record {
 replace_goes : GoesUp requests42.replace_request
 replace_goes = record {
   carried = refl;
-  month = refl;
-  day = refl;
-  type = refl;
-  time = refl;
-  capacity = refl;
-  client = refl;
-  broker = refl;
-  firm = refl;
+  rows = refl & refl & refl & refl & refl & refl & refl & refl & tt;
   month_alone = refl;
   date_alone = refl;
   timed = refl;
@@ -204,58 +193,27 @@ replace_goes = record {
 status_goes : GoesUp requests42.status_request
 status_goes = record {
   carried = refl;
-  month = refl;
-  day = refl;
-  type = tt;
-  time = tt;
-  capacity = tt;
-  client = refl;
-  broker = refl;
-  firm = tt;
+  rows = refl & refl & tt & tt & tt & refl & refl & tt & tt;
   month_alone = refl;
   date_alone = refl;
   timed = refl;
   type_alone = λ e. absurd cc;
 }
 
-module _ (m : Message) where
-  abbrev IsAgain : ℕ → Type 0
-  IsAgain letter =
-      message50 (letter ∷ []) (up_content m) None ≡ Ok (without_resend (up_message m))
-
-  stands_for : IsRequest42 m → lack_if (request42 m) ≡ None → StandsFor m
-  unfolding message50
-  stands_for (News s) lack =
-      let up = is_up 68 New requests42.new_order new_goes (λ f. refl) refl refl m s lack in record {
-        request = canonical.News up.canonical up.content_is;
-        means = up.means;
-        again = subst IsAgain (sym s.letter) up.again;
-      }
-  stands_for (Cancels s) lack =
-      let up = is_up 70 Cancel requests42.cancel_request cancel_goes (λ f. refl) refl refl m s lack
-      in record {
-        request = canonical.Cancels up.canonical up.content_is;
-        means = up.means;
-        again = subst IsAgain (sym s.letter) up.again;
-      }
-  stands_for (Replaces s) lack =
-      let up = is_up 71 Replace requests42.replace_request replace_goes (λ f. refl) refl refl m s
-      lack in record {
-        request = canonical.Replaces up.canonical up.content_is;
-        means = up.means;
-        again = subst IsAgain (sym s.letter) up.again;
-      }
-  stands_for (Statuses s) lack =
-      let up = is_up 72 Status requests42.status_request status_goes (λ f. refl) refl refl m s lack
-      in record {
-        request = canonical.Statuses up.canonical up.content_is;
-        means = up.means;
-        again = subst IsAgain (sym s.letter) up.again;
-      }
-
 -- WHAT GOES UP STANDS FOR A MESSAGE.
+stands_for : (m : Message) → IsRequest42 m → lack_if (request42 m) ≡ None → StandsFor m
+unfolding message50
+stands_for m (News s) lack = stands 68 New requests42.new_order new_goes (λ f. refl) refl refl m s
+    lack canonical.News refl
+stands_for m (Cancels s) lack = stands 70 Cancel requests42.cancel_request cancel_goes (λ f. refl)
+    refl refl m s lack canonical.Cancels refl
+stands_for m (Replaces s) lack = stands 71 Replace requests42.replace_request replace_goes
+    (λ f. refl) refl refl m s lack canonical.Replaces refl
+stands_for m (Statuses s) lack = stands 72 Status requests42.status_request status_goes (λ f. refl)
+    refl refl m s lack canonical.Statuses refl
+
 pub go_up : GoUp
-go_up m request lack = stands_for m request lack
+go_up = stands_for
 
 pub read_go_up : ReadGoUp
 read_go_up msg_type fields m are read lack =

@@ -29,20 +29,13 @@ says_none m (Lines count) h = refl
 
 says_no_lines : (m : Message) (rule : Rule) → has (outline m) rule ≡ false
     → kinds.lines m rule ≡ []
-says_no_lines m (Same tag) h = refl
-says_no_lines m (Moved from to) h = refl
-says_no_lines m (Listed from to listed) h = refl
 says_no_lines m Parties h =
     let p = either (has_place (outline m) (Tag 109))
     (has_any (outline m) (Tag 76 ∷ Tag 439 ∷ [])) h in
     let q = either (has_place (outline m) (Tag 76)) (has_any (outline m) (Tag 439 ∷ [])) p.1 in
     rw (none_at m.cells (Tag 109) p.0, none_at m.cells (Tag 76) q.0, absent m (Tag 439) q.1) refl
-says_no_lines m (PartyOf who) h = refl
-says_no_lines m Month h = refl
-says_no_lines m Date h = refl
-says_no_lines m OrdType h = refl
-says_no_lines m Time h = refl
 says_no_lines m (Lines count) h = no_lines m.groups count h
+says_no_lines m rule h = refl
 
 pub are_kinds : AreKinds kinds
 are_kinds = record { none = says_none; no_lines = says_no_lines }

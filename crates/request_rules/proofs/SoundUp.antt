@@ -4,7 +4,7 @@ use Rattle.std.proofs.Common.{sym, ap, subst, ◌∙◌, codes, length, arith}
 use Rattle.std.proofs.lemmas.Bool.{eqb-true}
 use Rattle.std.proofs.lemmas.Bool.Decides.{nat_tests}
 use Rattle.std.specs.Prelude.{IsSome, IfSome, ◌||◌, ◌==◌, not}
-use Rattle.std.specs.List.{AllByRecursion, list_any}
+use Rattle.std.specs.List.{AllByRecursion, list_any, slice_get}
 use Rattle.field_groups.specs.Field.{Field, is_soh}
 use Rattle.message_tables.specs.Tables.{Need, Required, Optional, Lenient, Row, Item, One, Party}
 use Rattle.message_tables.specs.Tables.{Lines as LinesOf, RepeatingGroup, Message, Said, Tag, Role}
@@ -35,10 +35,10 @@ use Rattle.request_rules.specs.Rules.{OrdType, Time, Lines, Who, Client, Broker,
 use Rattle.request_rules.specs.Rules.{is_unlisted, kinds, lack_if, role_of, tag_of, up_lack}
 use Rattle.request_rules.specs.Rules.{up_message, up_rules}
 use Rattle.request_rules.proofs.KindsUp.{are_kinds, own}
-use Rattle.request_rules.proofs.TablesUp.{GoesUp, IsRow, beside, can_go_up, capacity_row}
-use Rattle.request_rules.proofs.TablesUp.{coded_need, day_row, each_made, has_rule, is_carried}
-use Rattle.request_rules.proofs.TablesUp.{is_coded, is_plain, is_value, items_up, make, month_row}
-use Rattle.request_rules.proofs.TablesUp.{time_row, type_row, up_need}
+use Rattle.request_rules.proofs.TablesUp.{GoesUp, at_index, own_rows, IsRow, beside, can_go_up}
+use Rattle.request_rules.proofs.TablesUp.{capacity_row, coded_need, day_row, each_made, has_rule}
+use Rattle.request_rules.proofs.TablesUp.{is_carried, is_coded, is_plain, is_value, items_up, make}
+use Rattle.request_rules.proofs.TablesUp.{month_row, time_row, type_row, up_need}
 use Rattle.request_rules.proofs.PartiesUp.{IsPartyId, parties_said, roles_said, id_for}
 use Rattle.request_rules.proofs.DatesUp.{date_spelled, month_spelled}
 use Rattle.request_rules.proofs.TermsUp.{are_listed, listed_said, type_said, time_said}
@@ -137,23 +137,26 @@ module _ (letter : ℕ) (items : List (Item Kind)) (goes : GoesUp items) (m : Me
   abbrev Spelled : Kind → ℕ → Type 0
   Spelled kind tag = IsSpelled fields42 kind (at m tag)
 
-  spelled : (row : Row Kind) → IsRow items row → Spelled row.kind row.tag
-  spelled row is = source.spelled_by (table42 letter items) m sound row is
+  own_row : (row : Row Kind) (i : ℕ) → slice_get own_rows i ≡ Some row → IsRow items row
+  own_row row i at = at_index (IsRow items) i own_rows row at goes.rows
+
+  spelled : (row : Row Kind) (i : ℕ) → slice_get own_rows i ≡ Some row → Spelled row.kind row.tag
+  spelled row i at = source.spelled_by (table42 letter items) m sound row (own_row row i at)
 
   pub month42 : Spelled (Value MonthYear) 200
-  month42 = spelled month_row goes.month
+  month42 = spelled month_row 0 refl
 
   pub day42 : Spelled (DayOf 200) 205
-  day42 = spelled day_row goes.day
+  day42 = spelled day_row 1 refl
 
   type42 : Spelled (Value (Code (codes "12345B"))) 40
-  type42 = spelled type_row goes.type
+  type42 = spelled type_row 2 refl
 
   pub time42 : Spelled (Value (Code (codes "0123456"))) 59
-  time42 = spelled time_row goes.time
+  time42 = spelled time_row 3 refl
 
   has_type : has_row items 40 ≡ true → IsSome (at m 40)
-  has_type there = source.is_there (table42 letter items) m sound type_row refl there goes.type
+  has_type there = source.is_there (table42 letter items) m sound type_row refl there (own_row type_row 2 refl)
 
   party_id : (tag : ℕ) → Spelled (Value Id) tag → IsPartyId (at m tag)
   party_id tag h = by (at m tag) h.spelled h.clear
@@ -175,9 +178,9 @@ module _ (letter : ℕ) (items : List (Item Kind)) (goes : GoesUp items) (m : Me
   three =
       let P : List (List Cell) → Type 0 = λ lines. IsGroup judge parties lines in
       subst P (sym parties_are) (parties_said (at m 109) (at m 76) (at m 439)
-      (party_id 109 (spelled (row Optional 109 Id) goes.client))
-      (party_id 76 (spelled (row Optional 76 Id) goes.broker))
-      (party_id 439 (spelled (row Optional 439 Id) goes.firm)))
+      (party_id 109 (spelled (row Optional 109 Id) 5 refl))
+      (party_id 76 (spelled (row Optional 76 Id) 6 refl))
+      (party_id 439 (spelled (row Optional 439 Id) 7 refl)))
 
   abbrev HasGroups : Option (Item Kind) → Type 0
   HasGroups item = IfSome item (λ item. AllByRecursion (GroupSaid judge w) (groups_of item))
@@ -206,17 +209,11 @@ module _ (letter : ℕ) (items : List (Item Kind)) (goes : GoesUp items) (m : Me
   rule_groups : (rule : Rule) → IsFound kinds up_rules rule → RuleGroups rule
   rule_groups (Same tag) found = no_group tag (row_of_tag tag items)
   rule_groups (Moved from to) found = no_group to (row_of_tag from items)
-  rule_groups (Listed from to listed) found = no_groups (has_rule items (Listed from to listed)) _ refl
   rule_groups Parties found = by (has_rule items Parties)
     where
       by : (b : Bool) → HasGroups (item_if b (LinesOf parties))
       by true = (three, tt)
       by false = tt
-  rule_groups (PartyOf who) found = no_groups (has_rule items (PartyOf who)) _ refl
-  rule_groups Month found = no_groups (has_rule items Month) _ refl
-  rule_groups Date found = no_groups (has_rule items Date) _ refl
-  rule_groups OrdType found = no_groups (has_rule items OrdType) _ refl
-  rule_groups Time found = no_groups (has_rule items Time) _ refl
   rule_groups (Lines count) found =
       by (group_at count items) (group_up count found (group_at count items) refl)
     where
@@ -225,6 +222,7 @@ module _ (letter : ℕ) (items : List (Item Kind)) (goes : GoesUp items) (m : Me
           → HasGroups (group_item group)
       by None h = tt
       by (Some group) h = (h, tt)
+  rule_groups rule found = no_groups (has_rule items rule) _ refl
 
   -- ---- items
 
@@ -308,7 +306,7 @@ module _ (letter : ℕ) (items : List (Item Kind)) (goes : GoesUp items) (m : Me
     listed_case from to listed ok lack =
         let P : ℕ → Type 0 = λ tag. Spelled (Value OneByte) tag in
         let capacity : Spelled (Value OneByte) from =
-        subst P (sym (eqb-true from 47 ok)) (spelled capacity_row goes.capacity) in
+        subst P (sym (eqb-true from 47 ok)) (spelled capacity_row 4 refl) in
         code_listed fields42 listed (at m from) capacity.spelled
         (lacks_not (is_unlisted listed (at m from >>= code_of)) from lack)
 

@@ -1,8 +1,9 @@
 -- The table that the rules make of a table of FIX 4.2. Each table of FIX 5.0 SP2 is what they make of
 -- the table of FIX 4.2 with its letter.
-use Rattle.std.proofs.Common.{◌≡◌, ℕ, Bool, true, false, not, List, codes, Option, Some, None}
+use Rattle.std.proofs.Common.{zero, suc, [], ◌∷◌, subst, ◌≡◌, ℕ, Bool, true, false, not, List}
+use Rattle.std.proofs.Common.{codes, Option, Some, None}
 use Rattle.std.specs.Prelude.{IfSome, ◌&&◌, ◌==◌}
-use Rattle.std.specs.List.{list_any, list_all}
+use Rattle.std.specs.List.{AllByRecursion, list_any, list_all, slice_get}
 use Rattle.field_groups.specs.Field.{is_soh}
 use Rattle.message_tables.specs.Tables.{Need, Required, Optional, Lenient, When, Row, Item, One}
 use Rattle.message_tables.specs.Tables.{Party, Lines as LinesOf}
@@ -74,15 +75,8 @@ module _ (items : List (Item Kind)) where
   pub each_made : (rule : Rule) → IsMade kinds items make rule
   each_made (Same tag) = row_made items up_need tag tag
   each_made (Moved from to) = row_made items up_need from to
-  each_made (Listed from to listed) =
-      item_made (has_rule (Listed from to listed)) (beside to (Byte listed))
-  each_made Parties = item_made (has_rule Parties) (LinesOf parties)
-  each_made (PartyOf who) = item_made (has_rule (PartyOf who)) (Party (role_of who))
-  each_made Month = item_made (has_rule Month) (beside 200 (MonthBeside 541))
-  each_made Date = item_made (has_rule Date) (One (row Optional 541 Day))
-  each_made OrdType = item_made (has_rule OrdType) (One (row Required 40 (Code (codes "1234"))))
-  each_made Time = item_made (has_rule Time) (beside 59 (TimeBeside 40))
   each_made (Lines count) = group_made items count
+  each_made rule = item_made (has_rule rule) _
 
   -- THE TABLE of FIX 5.0 SP2
   abbrev pub items_up : List (Item Kind)
@@ -114,18 +108,22 @@ capacity_row = row Optional 47 OneByte
 abbrev pub IsRow : List (Item Kind) → Row Kind → Type 0
 IsRow items own = IfSome (row_of_tag own.tag items) (λ other. other ≡ own)
 
+-- what holds of each holds of the one at a place
+pub at_index : {A : Type 0} (P : A → Type 0) (i : ℕ) (xs : List A) (x : A)
+    → slice_get xs i ≡ Some x → AllByRecursion P xs → P x
+at_index P i [] x e h = absurd cc
+at_index P zero (y ∷ ys) x e h = let same : y ≡ x = cc in subst P same h.0
+at_index P (suc i) (y ∷ ys) x e h = at_index P i ys x e h.1
+
+abbrev pub own_rows : List (Row Kind)
+own_rows = month_row ∷ day_row ∷ type_row ∷ time_row ∷ capacity_row ∷
+    row Optional 109 Id ∷ row Optional 76 Id ∷ row Optional 439 Id ∷ []
+
 -- A TABLE GOES UP: each of its rows that the rules carry is judged by itself, those that are said
 -- otherwise are these, and what values are judged by has one place.
 pub record GoesUp (items : List (Item Kind)) : Type 0 where
   pub carried : list_all (is_carried items) up_rules ≡ true
-  pub month : IsRow items month_row
-  pub day : IsRow items day_row
-  pub type : IsRow items type_row
-  pub time : IsRow items time_row
-  pub capacity : IsRow items capacity_row
-  pub client : IsRow items (row Optional 109 Id)
-  pub broker : IsRow items (row Optional 76 Id)
-  pub firm : IsRow items (row Optional 439 Id)
+  pub rows : AllByRecursion (IsRow items) own_rows
   pub month_alone : is_alone 200 items ≡ true
   pub date_alone : is_alone 541 (items_up items) ≡ true
   pub timed : has_row items 59 ≡ has_row items 40
