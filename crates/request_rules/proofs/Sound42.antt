@@ -12,8 +12,8 @@ use Rattle.value_kinds.specs.ValueKind.{MonthYear, DayOfMonth, spelling, spelt}
 use Rattle.field_groups.specs.Field.{Field}
 use Rattle.field_groups.specs.Data.{is_data_tag}
 use Rattle.message_tables.specs.Tables.{Spells, Need, Required, Optional, When, Stands, Row, Item}
-use Rattle.message_tables.specs.Tables.{One, Party, Lines, Table, Message, Said, ◌>>=◌, has_tag}
-use Rattle.message_tables.specs.Tables.{value_at, is_needed, text_of, groups_of, said_at, Tag}
+use Rattle.message_tables.specs.Tables.{Table, Message, Said, ◌>>=◌, has_tag, value_at, is_needed}
+use Rattle.message_tables.specs.Tables.{text_of, groups_of, said_at, Tag}
 use Rattle.message_tables.specs.FirstFault.{message_in}
 use Rattle.message_tables.specs.Content.{content}
 use Rattle.message_tables.proofs.Clean.{stands, value_at-none}
@@ -28,8 +28,8 @@ use Rattle.sound_laws.proofs.ContentValues.{is_alone, value_said}
 use Rattle.sound_laws.proofs.PlainRows.{value_again, value_clear, HasPlainRows, allocs_plain}
 use Rattle.sound_laws.proofs.PlainRows.{sessions_plain, allocs_apart, sessions_apart, unfixed}
 use Rattle.sound_laws.proofs.PlainRows.{plain_items, of_message}
-use Rattle.sound_laws.proofs.ReadSound.{IsClearField, IsStableRow, IsStableItem, IsTable}
-use Rattle.sound_laws.proofs.ReadSound.{read_sound}
+use Rattle.sound_laws.proofs.ReadSound.{IsClearField, IsStableRow, IsTable, read_sound, row_passes}
+use Rattle.sound_laws.proofs.ReadSound.{stable_items}
 use Rattle.order_meaning.specs.Request.{RequestKind, New, Cancel, Replace, Status}
 use Rattle.request_rules.specs.Up.{IsRequest42, News, Cancels, Replaces, Statuses}
 use Rattle.request_rules.proofs.ByType.{asked42, by_type}
@@ -51,10 +51,6 @@ ours_kind kind = false
 
 abbrev is_ours_row : Row Kind → Bool
 is_ours_row row = not (is_data_tag row.tag) && (ours_need row.need && ours_kind row.kind)
-
-abbrev is_ours : Item Kind → Bool
-is_ours (One row) = is_ours_row row
-is_ours item = true
 
 -- ---- a table
 
@@ -122,14 +118,6 @@ module _ (table : Table Kind) (fields : List Field) where
           bare = not_true (is_data_tag row.tag) a.0;
         }
 
-    stable_items : (items : List (Item Kind))
-        → list_all is_ours items ≡ true → AllByRecursion (IsStableItem judge table fields) items
-    stable_items [] h = tt
-    stable_items (One row ∷ items) h = let p = both (is_ours_row row) (list_all is_ours items) h
-        in (stable_row row p.0, stable_items items p.1)
-    stable_items (Party role ∷ items) h = (tt, stable_items items h)
-    stable_items (Lines group ∷ items) h = (tt, stable_items items h)
-
 -- ---- the month and the day of the content are those of the fields
 
 abbrev month_said : List Field → Said
@@ -179,7 +167,7 @@ module _ (fields after : List Field) where
 module _ (fields : List Field) (clear : AllByRecursion (IsClearField judge) fields) where
   -- what is read by a table
   table_read : (letter : ℕ) (items : List (Item Kind)) → IsTable judge (table letter items) fields
-      → list_all is_ours items ≡ true → AllByRecursion HasPlainRows (flat_map groups_of items)
+      → list_all (row_passes is_ours_row) items ≡ true → AllByRecursion HasPlainRows (flat_map groups_of items)
       → is_alone 200 items ≡ true → is_alone 205 items ≡ true
       → said_at (message_in judge (table letter items) fields).cells (Tag 200) ≡ month_said fields
       → said_at (message_in judge (table letter items) fields).cells (Tag 205) ≡ day_said fields
@@ -190,9 +178,9 @@ module _ (fields : List Field) (clear : AllByRecursion (IsClearField judge) fiel
       let m = message_in judge t fields in
       of_message t fields (IsSound judge t)
       (read_sound judge t fields is (plain_items t fields items plain)
-      (λ groups. stable_items t fields
+      (λ groups. stable_items judge t fields is_ours_row (stable_row t fields
       (same_month_by fields (content t m) (value_said judge m 200 items month groups ∙ month_is))
-      (same_day_by fields (content t m) (value_said judge m 205 items day groups ∙ day_is))
+      (same_day_by fields (content t m) (value_said judge m 205 items day groups ∙ day_is)))
       items ours)
       clear)
 

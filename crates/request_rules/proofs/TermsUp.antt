@@ -1,30 +1,17 @@
 -- OrdType, TimeInForce and OrderCapacity as FIX 5.0 SP2 says them.
 use Rattle.std.proofs.Common.{◌≡◌, ℕ, List, [], ◌∷◌, Bool, true, false, Some, None, refl, sym, ap}
 use Rattle.std.proofs.Common.{subst, ◌∙◌, codes}
-use Rattle.std.proofs.lemmas.Bool.{eqb-true}
 use Rattle.std.specs.Prelude.{IsSome, IfSome, not, ◌||◌, ◌==◌, Ok}
-use Rattle.std.specs.List.{AllByRecursion, list_any}
+use Rattle.std.specs.List.{list_any}
 use Rattle.field_groups.specs.Field.{Field, is_soh}
 use Rattle.value_kinds.specs.ValueKind.{Code, spelling, listed_word, is_code}
 use Rattle.message_tables.specs.Tables.{Spells, Required, Lenient, Said, is_one_of, is_listed}
 use Rattle.message_tables.specs.Tables.{value_at}
 use Rattle.row_values.specs.Kinds.{Value, Byte, TimeBeside, judge, verdict_of, counted, is_at_close}
 use Rattle.sound_laws.specs.Sound.{IsSaid}
-use Rattle.sound_laws.proofs.Each.{◌&◌}
+use Rattle.sound_laws.proofs.Each.{◌&◌, one_of}
 use Rattle.sound_laws.proofs.RowsSaid.{lenient_said, listed_clear, code_said}
 use Rattle.request_rules.specs.Rules.{type_up, time_up}
-
--- what holds of each of some numbers holds of one among them
-pub one_of : (P : ℕ → Type 0) (tags : List ℕ) → AllByRecursion P tags → (tag : ℕ)
-    → is_one_of tags tag ≡ true → P tag
-one_of P [] each tag there = absurd cc
-one_of P (one ∷ tags) each tag there =
-    or (one == tag) refl there (λ later. one_of P tags each.1 tag later)
-  where
-    or : (b : Bool) → (one == tag) ≡ b → (b || is_one_of tags tag) ≡ true
-        → (is_one_of tags tag ≡ true → P tag) → P tag
-    or true e there later = subst P (eqb-true one tag e) each.0
-    or false e there later = later there
 
 -- a listed code
 pub record IsCodeOf (codes_of : List ℕ) (text : List ℕ) : Type 0 where

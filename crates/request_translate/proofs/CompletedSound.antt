@@ -19,7 +19,7 @@ use Rattle.sound_laws.specs.Sound.{IsClear, IsSaid, IsItem, IsSound, places_of}
 use Rattle.sound_laws.specs.Complete.{HasMonthOfDate}
 use Rattle.sound_laws.proofs.Each.{both}
 use Rattle.sound_laws.proofs.ContentValues.{value_at-append, row_value}
-use Rattle.sound_laws.proofs.ReadSound.{text_again}
+use Rattle.sound_laws.proofs.ReadSound.{row_passes, text_again}
 use Rattle.sound_laws.proofs.Completed.{other_said, month_said, same_places}
 use Rattle.sound_laws.proofs.Judged50.{ours_kind, AreAlike, judged_again, month_of_date}
 use Rattle.sound_laws.proofs.Judged50.{clear_front}
@@ -46,8 +46,7 @@ is_ours_row timed row = not (is_data_tag row.tag)
     && (ours_need row.need && (ours_kind timed row.kind && of_month (row.tag == 200) row.kind))
 
 abbrev pub is_ours : Bool → Item Kind → Bool
-is_ours timed (One row) = is_ours_row timed row
-is_ours timed item = true
+is_ours timed = row_passes (is_ours_row timed)
 
 -- what holds of a row
 pub record IsOurs (timed : Bool) (row : Row Kind) : Type 0 where

@@ -23,8 +23,8 @@ use Rattle.field_groups.specs.Field.{Field}
 use Rattle.value_kinds.specs.ValueKind as kinds
 use Rattle.value_kinds.specs.ValueKind.{code_text, if_in_range, is_code, spelling, spelt}
 use Rattle.value_kinds.specs.ValueKind.{units_of_text}
-use Rattle.message_tables.specs.Tables.{Verdict, Spells, Outside, Wrong, Tag, Said, Cell, ◌>>=◌}
-use Rattle.message_tables.specs.Tables.{code_of, flag_of, is_listed, is_one_of, value_at}
+use Rattle.message_tables.specs.Tables.{Spells, Tag, Said, Cell, ◌>>=◌, code_of, flag_of, is_listed}
+use Rattle.message_tables.specs.Tables.{is_one_of, value_at}
 use Rattle.message_tables.specs.Content.{line_fields}
 use Rattle.order_meaning.specs.declared.Amount.{Amount}
 use Rattle.order_meaning.specs.Request.{OrderType, Market, Limit, Stop, StopLimit, MarketOnClose}
@@ -35,8 +35,9 @@ use Rattle.row_values.specs.Kinds.{Value, Byte, TimeBeside, judge, verdict_of, c
 use Rattle.rows_fix50.specs.Header.{month_by}
 use Rattle.rows_fix50.specs.Meaning.{terms_of, maturity_of}
 use Rattle.sound_laws.specs.Sound.{IsLine}
-use Rattle.sound_laws.proofs.Each.{◌&◌, both}
-use Rattle.request_rules.proofs.TermsUp.{is_code_of, one_of}
+use Rattle.sound_laws.proofs.Each.{◌&◌, both, one_of}
+use Rattle.sound_laws.proofs.Judged50.{counts}
+use Rattle.request_rules.proofs.TermsUp.{is_code_of}
 
 -- what the meanings of two give back is the same where they mean the same
 pub same_by : {S A : Type 0} (means : S → A) (back : A → S) (a b : S)
@@ -72,13 +73,6 @@ codes_said fields listed None h = tt
 codes_said fields listed (Some text) h =
     let k = is_code_of fields listed text h in (k.code, k.is)
 
-counted_spells : (counts : Bool) (v : Verdict) (text : List ℕ)
-    → counted counts v ≡ Spells text → (counts ≡ true) × (v ≡ Spells text)
-counted_spells true v text h = (refl, h)
-counted_spells false (Spells other) text h = absurd cc
-counted_spells false Outside text h = absurd cc
-counted_spells false (Wrong reason) text h = absurd cc
-
 byte_is : (listed text : List ℕ) → is_code listed text ≡ true → IsByte text
 byte_is listed (b ∷ []) h = (b, refl)
 byte_is listed other h = absurd cc
@@ -88,7 +82,7 @@ pub bytes_said : (fields : List Field) (listed : List ℕ) (said : Said)
 unfolding judge
 bytes_said fields listed None h = tt
 bytes_said fields listed (Some text) h = byte_is listed text
-    (counted_spells (is_code listed text) (verdict_of (spelling kinds.OneByte text)) text h).0
+    (counts (is_code listed text) (verdict_of (spelling kinds.OneByte text)) text h).0
 
 -- ---- amounts
 
@@ -248,12 +242,12 @@ time_is : (fields : List Field) (code : ℕ) (said : Said)
 unfolding judge
 time_is fields code None at h = record { time = None; is = refl; beside = tt }
 time_is fields code (Some text) at h =
-    let counts = counted_spells (not (is_at_close text) || is_listed (codes "12")
+    let counted = counts (not (is_at_close text) || is_listed (codes "12")
     (value_at 40 fields)) (verdict_of (spelling (kinds.Code (codes "01234567")) text)) text h in
-    let k = is_code_of fields (codes "01234567") text counts.1 in
+    let k = is_code_of fields (codes "01234567") text counted.1 in
     let beside : (not (is_at_close text) || is_listed (codes "12") (Some (code_text code)))
     ≡ true = ap (λ (v : Said). not (is_at_close text) || is_listed (codes "12") v) (sym at)
-    ∙ counts.0 in
+    ∙ counted.0 in
     record {
       time = Some k.code;
       is = ap (λ (t : List ℕ). Some t) k.is;

@@ -1,14 +1,13 @@
 -- What is read of the fields of a request of FIX 5.0 SP2 is a sound message that says the month of
 -- its date.
-use Rattle.std.proofs.Common.{◌≡◌, ℕ, List, [], ◌∷◌, Some, None, Bool, true, false, refl, sym}
-use Rattle.std.proofs.Common.{subst, ◌∙◌}
+use Rattle.std.proofs.Common.{◌≡◌, ℕ, List, Some, None, Bool, true, false, refl, sym, subst, ◌∙◌}
 use Rattle.std.specs.Prelude.{Result, Ok, Err, IfSome}
 use Rattle.std.specs.List.{AllByRecursion, flat_map, list_any, list_all}
 use Rattle.field_groups.specs.Field.{Field}
 use Rattle.field_groups.specs.Data.{is_data_tag}
 use Rattle.order_meaning.specs.declared.fault.Fault.{Fault}
-use Rattle.message_tables.specs.Tables.{Row, Item, One, Party, Lines, Table, Message, Tag, is_place}
-use Rattle.message_tables.specs.Tables.{Said, said_at, groups_of, groups_in}
+use Rattle.message_tables.specs.Tables.{Row, Item, Table, Message, Tag, is_place, Said, said_at}
+use Rattle.message_tables.specs.Tables.{groups_of, groups_in}
 use Rattle.message_tables.specs.FirstFault.{first_fault, message_in, message_of}
 use Rattle.message_tables.specs.Content.{content}
 use Rattle.row_values.specs.Kinds.{Kind, judge, date_at}
@@ -21,13 +20,13 @@ use Rattle.sound_laws.specs.Complete.{IsComplete}
 use Rattle.order_meaning.specs.Request.{RequestKind, New, Cancel, Replace, Status}
 use Rattle.request_rules.proofs.ByType.{asked50, by_type}
 use Rattle.request_translate.specs.Up.{IsRequest50, News, Cancels, Replaces, Statuses}
-use Rattle.sound_laws.proofs.Each.{both, not_true}
+use Rattle.sound_laws.proofs.Each.{not_true}
 use Rattle.sound_laws.proofs.ContentValues.{is_alone, value_said, groups_said, GroupSaid}
 use Rattle.sound_laws.proofs.PlainRows.{HasPlainRows, parties_plain, allocs_plain, sessions_plain}
 use Rattle.sound_laws.proofs.PlainRows.{parties_apart, allocs_apart, sessions_apart, unfixed}
 use Rattle.sound_laws.proofs.PlainRows.{plain_items, of_message}
-use Rattle.sound_laws.proofs.ReadSound.{IsClearField, IsStableRow, IsStableItem, IsTable}
-use Rattle.sound_laws.proofs.ReadSound.{read_sound}
+use Rattle.sound_laws.proofs.ReadSound.{IsClearField, IsStableRow, IsTable, read_sound}
+use Rattle.sound_laws.proofs.ReadSound.{stable_items}
 use Rattle.sound_laws.proofs.Judged50.{AreAlike, judged_again, judged_clear, clear_date, date_said}
 use Rattle.sound_laws.proofs.Judged50.{type_said, date_kept, type_kept}
 use Rattle.request_translate.proofs.CompletedSound.{is_ours, is_ours_row, ours, ours_need}
@@ -51,15 +50,6 @@ module _ (fields : List Field) (clear : AllByRecursion (IsClearField judge) fiel
       fixed = λ text e. absurd (unfixed ours_need (λ other. refl) row.need o.need text e);
       bare = not_true (is_data_tag row.tag) o.bare;
     }
-
-    stable_items : (items : List (Item Kind)) → list_all (is_ours timed) items ≡ true
-        → AllByRecursion (IsStableItem judge table fields) items
-    stable_items [] h = tt
-    stable_items (One row ∷ items) h =
-        let p = both (is_ours_row timed row) (list_all (is_ours timed) items) h in
-        (stable_row row p.0, stable_items items p.1)
-    stable_items (Party role ∷ items) h = (tt, stable_items items h)
-    stable_items (Lines group ∷ items) h = (tt, stable_items items h)
 
   -- ---- a table
 
@@ -100,7 +90,8 @@ module _ (fields : List Field) (clear : AllByRecursion (IsClearField judge) fiel
 
       sound : first_fault judge t fields ≡ None → IsSound judge t m
       sound none = read_sound judge t fields is.once (plain_items t fields items is.plain)
-          (λ groups. stable_items timed t (alike groups) items is.known) clear none
+          (λ groups. stable_items judge t fields (is_ours_row timed)
+          (stable_row timed t (alike groups)) items is.known) clear none
 
       complete : first_fault judge t fields ≡ None → IsComplete t (completed m)
       complete none =

@@ -1,7 +1,6 @@
 -- What a slot says is what the row says of fields at no fault.
 use Rattle.std.proofs.Common.{◌≡◌, ◌<◌, ℕ, List, [], ◌∷◌, Bool, true, false, Option, Some, None}
-use Rattle.std.proofs.Common.{refl}
-use Rattle.std.proofs.Common.{sym, ap, ◌∙◌, subst, codes}
+use Rattle.std.proofs.Common.{refl, sym, ap, ◌∙◌, subst, codes}
 use Rattle.std.specs.Prelude.{IsSome, nat_le, not, ◌||◌, ◌==◌, ◌&&◌, Result, Ok, Err, position}
 use Rattle.std.specs.Prelude.{if◌then◌else◌}
 use Rattle.std.proofs.lemmas.Bool.{eqb-true}
@@ -16,34 +15,31 @@ use Rattle.typed_fields.specs.Dec.{dec_text, read_dec}
 use Rattle.typed_fields.specs.MonthYear.{read_month_year}
 use Rattle.typed_fields.specs.Number.{number_text, read_number}
 use Rattle.field_groups.specs.Field.{Field}
-use Rattle.message_tables.specs.Tables.{Need, Required, Optional, Lenient, Fixed, When, Row, Table}
-use Rattle.message_tables.specs.Tables.{Item, Verdict, Spells, Outside, Wrong, Said, ◌>>=◌}
-use Rattle.message_tables.specs.Tables.{all_rows}
-use Rattle.message_tables.specs.Tables.{is_listed, row_at, says, text_of, value_at}
+use Rattle.message_tables.specs.Tables.{Need, Lenient, Fixed, Row, Table, Item, Verdict, Spells}
+use Rattle.message_tables.specs.Tables.{Outside, Wrong, Said, ◌>>=◌, all_rows, is_listed, row_at}
+use Rattle.message_tables.specs.Tables.{says, text_of, value_at}
 use Rattle.message_tables.specs.FirstFault.{first_fault, mark_of}
 use Rattle.message_tables.specs.Plain.{is_good}
 use Rattle.message_tables.proofs.ByPlace.{found_at, found_by_place}
 use Rattle.message_tables.specs.TableLaws.{IsStrict}
 use Rattle.message_tables.specs.declared.table_fault.Mark.{Mark}
 use Rattle.message_tables.proofs.Clean.{spells}
-use Rattle.value_kinds.specs.ValueKind.{ValueKind, Filled, Id, Text, OneByte, Code, Known, Codes}
-use Rattle.value_kinds.specs.ValueKind.{Word, Currency, Flag, Number, Reason, Qty, Price, Stamp}
-use Rattle.value_kinds.specs.ValueKind.{Day, MonthYear, DayOfMonth, Spelling, spelling, spelt}
-use Rattle.value_kinds.specs.ValueKind.{if_in_range, most_reason}
-use Rattle.row_values.specs.Kinds.{Kind, Value, Byte, DayOf, MonthBeside, TimeBeside, Version}
-use Rattle.row_values.specs.Kinds.{counted, date_at, filled, if_spelled, is_at_close, judge}
-use Rattle.row_values.specs.Kinds.{month_beside, verdict_of}
-use Rattle.sound_laws.proofs.AsTheyStand.{is_own as is_verbatim, own}
+use Rattle.value_kinds.specs.ValueKind.{ValueKind, Code, Number, Reason, Qty, Price, MonthYear}
+use Rattle.value_kinds.specs.ValueKind.{DayOfMonth, spelling, spelt, if_in_range, most_reason}
+use Rattle.row_values.specs.Kinds.{Kind, Value, MonthBeside, TimeBeside, date_at, filled}
+use Rattle.row_values.specs.Kinds.{if_spelled, is_at_close, judge, month_beside, verdict_of}
+use Rattle.sound_laws.proofs.Judged50.{counts}
+use Rattle.sound_laws.proofs.PlainRows.{spelled}
+use Rattle.sound_laws.proofs.SpelledAgain.{is_own as is_verbatim, own_bytes}
 use Rattle.sound_laws.proofs.Each.{both}
 use Rattle.sound_laws.proofs.Good.{IsGood, all_good, held}
 use Rattle.sound_laws.proofs.RowsSaid.{row_of_tag}
 use Rattle.row_slots.specs.declared.slots.Slot.{Slot}
 use Rattle.row_slots.specs.declared.slots.Slot.TheVariants as slots
 use Rattle.row_slots.specs.Slots.{SlotsSay, counts, is_slotted, is_unfixed, row_slot, slot_found}
-use Rattle.row_slots.specs.Slots.{slot_held, slot_in, slot_said}
-use Rattle.row_slots.specs.Slots.{no_slots, row_says, slot_at, slot_decimal, slot_number}
-use Rattle.row_slots.specs.Slots.{slot_value}
-use Rattle.row_slots.specs.Slots.{value_of, weighs, with_items}
+use Rattle.row_slots.specs.Slots.{slot_held, slot_in, slot_said, no_slots, row_says, slot_at}
+use Rattle.row_slots.specs.Slots.{slot_decimal, slot_number, slot_value, value_of, weighs}
+use Rattle.row_slots.specs.Slots.{with_items}
 use Rattle.row_slots.proofs.Filled.{is_own, slot_by, slot_filled, tag_is}
 
 -- ---- a value that is spelled
@@ -66,16 +62,11 @@ module _ (fields : List Field) (place : ℕ) (tag : ℕ) (bytes : List ℕ)
   value_is : value_of fields place ≡ Some bytes
   value_is = ap (option_map (λ (f : Field). f.1)) at
 
-  spelled_ok : (s : Spelling) (text : List ℕ) → verdict_of s ≡ Spells text → s ≡ Ok (Some text)
-  spelled_ok (Ok (Some other)) text h = let same : other ≡ text = cc in ap (λ t. Ok (Some t)) same
-  spelled_ok (Ok None) text h = absurd cc
-  spelled_ok (Err fault) text h = absurd cc
-
   stands : (kind : ValueKind) (text : List ℕ) → is_verbatim kind ≡ true
       → verdict_of (spelling kind bytes) ≡ Spells text → value_of fields place ≡ Some text
   stands kind text is h =
       value_is ∙ ap (λ (t : List ℕ). Some t)
-      (own kind is bytes text (spelled_ok (spelling kind bytes) text h))
+      (sym (own_bytes kind bytes is text (spelled (spelling kind bytes) text h)))
 
   read_as : {A : Type 0} (write : A → List ℕ) (r : Result A FieldFault) (text : List ℕ)
       → verdict_of (spelt write r) ≡ Spells text → option_map write (result_ok r) ≡ Some text
@@ -158,22 +149,15 @@ module _ (fields : List Field) (place : ℕ) (tag : ℕ) (bytes : List ℕ)
   by_value DayOfMonth text is h = absurd cc
   by_value kind text is h = stands kind text refl h
 
-  counted_spells : (b : Bool) (v : Verdict) (text : List ℕ) → counted b v ≡ Spells text
-      → v ≡ Spells text
-  counted_spells true v text h = h
-  counted_spells false (Spells other) text h = absurd cc
-  counted_spells false Outside text h = absurd cc
-  counted_spells false (Wrong reason) text h = absurd cc
-
   in_kind : (kind : Kind) (text : List ℕ) → is_slotted kind ≡ true
       → judge fields kind bytes ≡ Spells text
       → slot_said fields (slot_in kind place) ≡ Some text
   unfolding judge
   in_kind (Value kind) text is h = by_value kind text is h
   in_kind (TimeBeside ord_type) text is h =
-      stands (Code (codes "01234567")) text refl (counted_spells
+      stands (Code (codes "01234567")) text refl (counts
       (not (is_at_close bytes) || is_listed (codes "12") (value_at ord_type fields))
-      (verdict_of (spelling (Code (codes "01234567")) bytes)) text h)
+      (verdict_of (spelling (Code (codes "01234567")) bytes)) text h).1
   in_kind kind text is h = absurd cc
 
 -- ---- a row
@@ -276,8 +260,7 @@ module _ (fields : List Field) (tag : ℕ) (kind : Kind) (need : Need) where
       by : (v : Verdict) → judge fields kind bytes ≡ v → IsSome (text_of v)
           → slot_said fields (slot_in kind place) ≡ text_of v
       by (Spells text) e some = in_kind fields place tag bytes at kind text is e
-      by Outside e some = absurd cc
-      by (Wrong reason) e some = absurd cc
+      by other e some = absurd cc
 
 module _ (table : Table Kind) (fields : List Field) (none : first_fault judge table fields ≡ None)
   where

@@ -47,11 +47,8 @@ free_says (When condition) j value h = refl
 
 fixed_says : (need : Need) (j : List ℕ → Verdict) (value : Option (List ℕ)) (text : List ℕ)
     → Some text ≡ fixed_text need → Some text ≡ says need j value
-fixed_says Required j value text h = absurd cc
-fixed_says Optional j value text h = absurd cc
-fixed_says Lenient j value text h = absurd cc
 fixed_says (Fixed other) j value text h = h
-fixed_says (When condition) j value text h = absurd cc
+fixed_says other j value text h = absurd cc
 
 -- a row whose value does not stand fixed
 pub row_free : (fields : List Field) (row : Row Kind) → None ≡ fixed_text row.need

@@ -16,9 +16,8 @@ use Rattle.rule_rows.specs.ByRules.{rule_groups}
 
 same_place : (a b : Place) → is_place a b ≡ true → a ≡ b
 same_place (Tag a) (Tag b) h = ap (λ (tag : ℕ). Tag tag) (eqb-true a b h)
-same_place (Tag a) (Role b) h = absurd cc
-same_place (Role a) (Tag b) h = absurd cc
 same_place (Role a) (Role b) h = ap (λ (role : ℕ). Role role) (eqb-true a b h)
+same_place other more h = absurd cc
 
 pub none_at : (cells : List Cell) (place : Place)
     → list_any (λ one. is_place one place) (map (λ cell. cell.0) cells) ≡ false
@@ -52,9 +51,8 @@ is_target a b = false
 
 same_target : (a b : Target) → is_target a b ≡ true → a ≡ b
 same_target (At a) (At b) h = ap (λ (place : Place). At place) (same_place a b h)
-same_target (At a) (Grouped b) h = absurd cc
-same_target (Grouped a) (At b) h = absurd cc
 same_target (Grouped a) (Grouped b) h = ap (λ (count : ℕ). Grouped count) (eqb-true a b h)
+same_target other more h = absurd cc
 
 -- ---- rules
 

@@ -73,7 +73,6 @@ module _ {Rule : Type 0} (kinds : Kinds Rule) (items : List (Item Kind))
     places_at : (has : Bool) (target : Target) (said : Said) (item : Option (Item Kind))
         → option_map target_of item ≡ target_if has target
         → map (λ cell. cell.0) (cells_at has target said) ≡ flat_map places_of (option_to_list item)
-    places_at true target said None h = absurd cc
     places_at true target said (Some item) h =
         let P : Target → Type 0 = λ t. map (λ cell. cell.0) (cells_at true t said)
         ≡ flat_map places_of (item ∷ []) in
@@ -85,13 +84,12 @@ module _ {Rule : Type 0} (kinds : Kinds Rule) (items : List (Item Kind))
         of_item (Party role) = refl
         of_item (Lines group) = refl
     places_at false target said None h = refl
-    places_at false target said (Some item) h = absurd cc
+    places_at other target said more h = absurd cc
 
     counts_at : (has : Bool) (target : Target) (lines : List (List Cell)) (item : Option (Item Kind))
         → option_map target_of item ≡ target_if has target
         → map (λ group. group.0) (groups_at has target lines)
         ≡ map (λ group. group.count) (flat_map groups_of (option_to_list item))
-    counts_at true target lines None h = absurd cc
     counts_at true target lines (Some item) h =
         let P : Target → Type 0 = λ t. map (λ group. group.0) (groups_at true t lines)
         ≡ map (λ group. group.count) (flat_map groups_of (item ∷ [])) in
@@ -104,7 +102,7 @@ module _ {Rule : Type 0} (kinds : Kinds Rule) (items : List (Item Kind))
         of_item (Party role) = refl
         of_item (Lines group) = refl
     counts_at false target lines None h = refl
-    counts_at false target lines (Some item) h = absurd cc
+    counts_at other target lines more h = absurd cc
 
     places_made : ((rule : Rule) → IsMade rule) → (rules : List Rule)
         → map (λ cell. cell.0) (flat_map (rule_cells kinds m) rules)
@@ -170,7 +168,6 @@ module _ {Rule : Type 0} (kinds : Kinds Rule) (items : List (Item Kind))
           → kinds.has (outline m) rule ≡ has → (item : Option (Item Kind))
           → option_map target_of item ≡ target_if has (kinds.target rule)
           → rule_fields kinds m rule ≡ flat_map (item_fields w) (option_to_list item)
-      fields_made rule found true e None h = absurd cc
       fields_made rule found true e (Some item) h =
           let is = same_target item (kinds.target rule) h in
           ap (λ t. fields_at t (kinds.said m rule) (kinds.lines m rule)) (sym is)
@@ -179,7 +176,7 @@ module _ {Rule : Type 0} (kinds : Kinds Rule) (items : List (Item Kind))
       fields_made rule found false e None h =
           (λ i. fields_at (kinds.target rule) (are.none m rule e i) (are.no_lines m rule e i))
           ∙ nothing_at (kinds.target rule)
-      fields_made rule found false e (Some item) h = absurd cc
+      fields_made rule found other e more h = absurd cc
 
       contents_made : ((rule : Rule) → IsMade rule) → (rules : List Rule)
           → AllByRecursion (IsFound kinds all) rules

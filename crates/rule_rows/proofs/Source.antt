@@ -47,12 +47,7 @@ carried_said source target from to kind need Lenient said ok h = lenient_said ta
     (Value kind) said (same_value source target kind said h.spelled) h.clear
 carried_said source target from to kind Required Required said ok h = required_said target to
     (Value kind) said (h.needed refl) (same_value source target kind said h.spelled) h.clear
-carried_said source target from to kind Optional Required said ok h = absurd cc
-carried_said source target from to kind Lenient Required said ok h = absurd cc
-carried_said source target from to kind (Fixed text) Required said ok h = absurd cc
-carried_said source target from to kind (When condition) Required said ok h = absurd cc
-carried_said source target from to kind need (Fixed text) said ok h = absurd cc
-carried_said source target from to kind need (When condition) said ok h = absurd cc
+carried_said source target from to kind need other said ok h = absurd cc
 
 -- ---- a sound message
 

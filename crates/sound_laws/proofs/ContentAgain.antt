@@ -1,14 +1,14 @@
 -- What is written of a sound message is read again, but for PossResend, which its content does not
 -- have.
-use Rattle.std.proofs.Common.{◌≡◌, List, [], ◌∷◌, map, Option, None, true, false}
-use Rattle.std.proofs.Common.{Ok, refl, sym, ap, ◌∙◌}
+use Rattle.std.proofs.Common.{◌≡◌, List, [], ◌∷◌, map, Option, None, true, false, Ok, refl, sym, ap}
+use Rattle.std.proofs.Common.{◌∙◌}
 use Rattle.std.specs.Prelude.{unwrap_or}
 use Rattle.std.specs.Option.{option_map}
 use Rattle.std.specs.List.{flat_map}
 use Rattle.field_groups.specs.Field.{Field}
 use Rattle.message_tables.specs.declared.table_fault.TableFault.{TableFault}
-use Rattle.message_tables.specs.Tables.{Table, Item, One, Party, Lines, Message, Said}
-use Rattle.message_tables.specs.Tables.{Tag, Role, flag_of, is_one_of, said_at, value_at}
+use Rattle.message_tables.specs.Tables.{Table, Item, One, Party, Lines, Message, Said, Tag, Role}
+use Rattle.message_tables.specs.Tables.{flag_of, is_one_of, said_at, value_at}
 use Rattle.message_tables.specs.FirstFault.{message_in, message_of, unless}
 use Rattle.message_tables.specs.Content.{content}
 use Rattle.row_values.specs.Kinds.{Kind, judge}

@@ -11,6 +11,7 @@ use Rattle.message_tables.specs.Tables.{Said, Cell, Message, or_else, value_at, 
 use Rattle.message_tables.specs.Tables.{said_at, lines_of, groups_of}
 use Rattle.message_tables.specs.Content.{cell_fields, line_fields, group_fields, item_fields}
 use Rattle.sound_laws.specs.Sound.{AreSaid, IsLine, IsGroup, IsItem}
+use Rattle.sound_laws.proofs.Each.{either}
 
 -- whether fields of a tag may stand in what an item writes
 abbrev pub writes : {Kind : Type 0} → ℕ → Item Kind → Bool
@@ -31,7 +32,7 @@ is_alone tag (item ∷ items) =
 abbrev value_if_said : Bool → Said → Said
 value_if_said same said = if same then said else None
 
-or_none : (o : Option (List ℕ)) → or_else o None ≡ o
+pub or_none : (o : Option (List ℕ)) → or_else o None ≡ o
 or_none None = refl
 or_none (Some x) = refl
 
@@ -60,11 +61,6 @@ value_at-append tag (x ∷ xs) ys =
     (value_at tag (xs ++ ys)) (value_at tag xs) (value_at tag ys) (value_at-append tag xs ys)
     ∙ ap (λ (o : Option (List ℕ)). or_else o (value_at tag ys)) (sym (value_at-cons tag x xs))
 
-either_false : (a b : Bool) → (a || b) ≡ false → (a ≡ false) × (b ≡ false)
-either_false false false h = (refl, refl)
-either_false false true h = absurd cc
-either_false true b h = absurd cc
-
 no_value : (same : Bool) → value_if_said same None ≡ None
 no_value true = refl
 no_value false = refl
@@ -83,7 +79,7 @@ module _ {Kind : Type 0} (judge : Judge Kind) where
   line_value tag fields [] (cell ∷ cells) other said = absurd said
   line_value tag fields (row ∷ rows) [] other said = absurd said
   line_value tag fields (row ∷ rows) (cell ∷ cells) other said =
-      let apart = either_false (row.tag == tag) (is_one_of (tags_of rows) tag) other in
+      let apart = either (row.tag == tag) (is_one_of (tags_of rows) tag) other in
       let here : value_at tag (cell_fields cell) ≡ None =
       ap (λ p. value_at tag (cell_fields (p, cell.1))) said.0 ∙ cell_value tag row.tag cell.1
       ∙ ap (λ (same : Bool). value_if_said same cell.1) apart.0 in
@@ -133,7 +129,7 @@ module _ {Kind : Type 0} (judge : Judge Kind) where
     lines_none : (tag : ℕ) (group : RepeatingGroup Kind) → writes tag (Lines group) ≡ false
         → GroupSaid m group → value_at tag (item_fields m (Lines group)) ≡ None
     lines_none tag group other said =
-        let apart = either_false (group.count == tag) (is_one_of (tags_of group.rows) tag) other in
+        let apart = either (group.count == tag) (is_one_of (tags_of group.rows) tag) other in
         group_value tag group (lines_of group.count m.groups) apart.0 apart.1 said.said
 
     items_value : (tag : ℕ) (items : List (Item Kind)) → list_any (writes tag) items ≡ false
@@ -141,13 +137,13 @@ module _ {Kind : Type 0} (judge : Judge Kind) where
         value_at tag (flat_map (item_fields m) items) ≡ None
     items_value tag [] other said = refl
     items_value tag (One row ∷ items) other said =
-        let apart = either_false (row.tag == tag) (list_any (writes tag) items) other in
+        let apart = either (row.tag == tag) (list_any (writes tag) items) other in
         let here : value_at tag (item_fields m (One row)) ≡ None = row_value tag row apart.0 in
         value_at-append tag (item_fields m (One row)) (flat_map (item_fields m) items)
         ∙ rw here (items_value tag items apart.1 said)
     items_value tag (Party role ∷ items) other said = items_value tag items other said
     items_value tag (Lines group ∷ items) other said =
-        let apart = either_false (writes tag (Lines group)) (list_any (writes tag) items) other in
+        let apart = either (writes tag (Lines group)) (list_any (writes tag) items) other in
         let here : value_at tag (item_fields m (Lines group)) ≡ None =
         lines_none tag group apart.0 said.0 in
         value_at-append tag (item_fields m (Lines group)) (flat_map (item_fields m) items)

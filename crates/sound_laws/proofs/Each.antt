@@ -1,8 +1,9 @@
 -- What holds of each element of a list.
 use Rattle.std.proofs.Common.{◌≡◌, ℕ, suc, List, [], ◌∷◌, ◌++◌, map, Option, Some, None, Bool, true}
-use Rattle.std.proofs.Common.{false, refl, arith}
+use Rattle.std.proofs.Common.{false, refl, subst, arith}
 use Rattle.std.specs.Prelude.{not, ◌&&◌, ◌||◌, ◌==◌}
-use Rattle.std.specs.List.{AllByRecursion, slice_get, flat_map}
+use Rattle.std.specs.List.{AllByRecursion, slice_get, flat_map, list_all}
+use Rattle.std.proofs.lemmas.Bool.{eqb-true}
 use Rattle.std.proofs.lemmas.Bool.Decides.{nat_tests}
 use Rattle.message_tables.specs.Tables.{or_else, first_of, is_one_of}
 
@@ -41,11 +42,6 @@ module _ {A : Type 0} (P : A → Type 0) where
   each_part f (b ∷ bs) h =
       (each_front (f b) (flat_map f bs) h, each_part f bs (each_back (f b) (flat_map f bs) h))
 
-  pub each_whole : {B : Type 0} (f : B → List A) (bs : List B)
-      → AllByRecursion (λ b. AllByRecursion P (f b)) bs → AllByRecursion P (flat_map f bs)
-  each_whole f [] h = tt
-  each_whole f (b ∷ bs) h = each_joined (f b) (flat_map f bs) h.0 (each_whole f bs h.1)
-
 pub each_map : {A B : Type 0} (P : B → Type 0) (f : A → B) (xs : List A)
     → AllByRecursion P (map f xs) → AllByRecursion (λ x. P (f x)) xs
 each_map P f [] h = tt
@@ -77,17 +73,42 @@ are_apart (t ∷ ts) = not (is_one_of ts t) && are_apart ts
 
 pub both : (a b : Bool) → (a && b) ≡ true → (a ≡ true) × (b ≡ true)
 both true true h = (refl, refl)
-both true false h = absurd cc
-both false b h = absurd cc
+both other b h = absurd cc
 
 pub either : (a b : Bool) → (a || b) ≡ false → (a ≡ false) × (b ≡ false)
 either false false h = (refl, refl)
-either false true h = absurd cc
-either true b h = absurd cc
+either other b h = absurd cc
 
 pub not_true : (b : Bool) → not b ≡ true → b ≡ false
 not_true true h = absurd cc
 not_true false h = refl
 
+pub neither : (a b : Bool) → a ≡ false → b ≡ false → (a || b) ≡ false
+neither false false h k = refl
+neither other b h k = absurd cc
+
 pub same_number : (n : ℕ) → (n == n) ≡ true
 same_number n = grind (arith, nat_tests)
+
+-- a test that all pass
+pub all_true : {A : Type 0} (test : A → Bool) (xs : List A)
+    → list_all test xs ≡ true → AllByRecursion (λ x. test x ≡ true) xs
+all_true test [] h = tt
+all_true test (x ∷ xs) h =
+    let p = both (test x) (list_all test xs) h in (p.0, all_true test xs p.1)
+
+-- what holds of each of some numbers holds of one among them
+pub one_of : (P : ℕ → Type 0) (ns : List ℕ) → AllByRecursion P ns → (n : ℕ)
+    → is_one_of ns n ≡ true → P n
+one_of P [] each n there = absurd cc
+one_of P (m ∷ ns) each n there = or (m == n) refl there (λ later. one_of P ns each.1 n later)
+  where
+    or : (b : Bool) → (m == n) ≡ b → (b || is_one_of ns n) ≡ true
+        → (is_one_of ns n ≡ true → P n) → P n
+    or true e there later = subst P (eqb-true m n e) each.0
+    or false e there later = later there
+
+-- and each differs from one that is not among them
+pub none_is : (n : ℕ) (ns : List ℕ) → is_one_of ns n ≡ false → AllByRecursion (λ m. (m == n) ≡ false) ns
+none_is n [] h = tt
+none_is n (m ∷ ns) h = let p = either (m == n) (is_one_of ns n) h in (p.0, none_is n ns p.1)

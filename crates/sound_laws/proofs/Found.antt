@@ -1,24 +1,23 @@
 -- What is written of a sound message is found again: each value at its tag, and the lines of each
 -- group.
-use Rattle.std.proofs.Common.{◌≡◌, ℕ, List, [], ◌∷◌, ◌++◌, map, Option, Some}
-use Rattle.std.proofs.Common.{None, Bool, true, false, refl, sym, ap, subst, ◌∙◌, arith}
+use Rattle.std.proofs.Common.{◌≡◌, ℕ, List, [], ◌∷◌, ◌++◌, map, Option, Some, None, Bool, true}
+use Rattle.std.proofs.Common.{false, refl, sym, ap, subst, ◌∙◌}
 use Rattle.std.specs.Prelude.{IsSome, not, ◌||◌, ◌==◌}
 use Rattle.std.specs.List.{AllByRecursion, flat_map}
-use Rattle.std.proofs.lemmas.Bool.Decides.{nat_tests}
 use Rattle.std.proofs.lemmas.List.Sums.{take_while-cons}
 use Rattle.field_groups.specs.Field.{Field}
 use Rattle.message_tables.specs.Tables.{Need, Required, Row, RepeatingGroup, Item, One, Party}
-use Rattle.message_tables.specs.Tables.{Lines}
-use Rattle.message_tables.specs.Tables.{Judge, Message, Cell, Said, Tag, GroupTags}
-use Rattle.message_tables.specs.Tables.{or_else, value_at, is_one_of, is_needed, tags_of, tags_in}
-use Rattle.message_tables.specs.Tables.{first_tag, said_at, lines_of, is_inside, run, after_tag}
-use Rattle.message_tables.specs.Tables.{from_tag, with_member, in_lines, lines_in}
+use Rattle.message_tables.specs.Tables.{Lines, Judge, Message, Cell, Said, Tag, GroupTags, or_else}
+use Rattle.message_tables.specs.Tables.{value_at, is_one_of, is_needed, tags_of, tags_in, first_tag}
+use Rattle.message_tables.specs.Tables.{said_at, lines_of, is_inside, run, after_tag, from_tag}
+use Rattle.message_tables.specs.Tables.{with_member, in_lines, lines_in}
 use Rattle.message_tables.specs.Content.{cell_fields, line_fields, group_fields, item_fields}
 use Rattle.sound_laws.specs.Sound.{IsLine, IsItem}
-use Rattle.sound_laws.proofs.Each.{are_apart, both, either, not_true, same_number}
-use Rattle.sound_laws.proofs.ContentValues.{value_at-append}
-use Rattle.sound_laws.proofs.Stages.{item_tags, AreOf, apart_lists, apart_back}
-use Rattle.sound_laws.proofs.Stages.{lines_of_tags, item_of, is_other, line_of}
+use Rattle.sound_laws.proofs.Each.{are_apart, both, each_back, each_by, each_front, each_joined}
+use Rattle.sound_laws.proofs.Each.{either, not_true, one_of, same_number}
+use Rattle.sound_laws.proofs.ContentValues.{or_none, value_at-append}
+use Rattle.sound_laws.proofs.Stages.{item_tags, AreOf, apart_lists, apart_back, lines_of_tags}
+use Rattle.sound_laws.proofs.Stages.{item_of, is_other, line_of}
 
 -- ---- fields of other tags
 
@@ -124,6 +123,10 @@ module _ (first : ℕ) where
       ≡ fs ++ flat_map line_fields lines in
       subst P (sym b.is) (rw (same_number first) refl)
 
+pub cell_value : (t : ℕ) (said : Said) → value_at t (cell_fields (Tag t, said)) ≡ said
+cell_value t None = refl
+cell_value t (Some text) = rw (same_number t) refl
+
 -- ---- a group behind its count
 
 -- fields of which none is inside a group
@@ -144,25 +147,20 @@ run_is g (f ∷ fs) rest ins out =
     take_while-cons (λ x. is_inside g x.0) f (fs ++ rest)
     ∙ rw ins.0 (ap (λ (xs : List Field). f ∷ xs) (run_is g fs rest ins.1 out))
 
-or_true : (a b : Bool) → a ≡ true → (a || b) ≡ true
+pub or_true : (a b : Bool) → a ≡ true → (a || b) ≡ true
 or_true true b h = refl
 or_true false b h = absurd cc
 
 pub inside_of : {Kind : Type 0} (group : RepeatingGroup Kind) (fields : List Field)
     → AreOf (tags_of group.rows) fields → Inside (tags_in group) fields
-inside_of group [] of = tt
-inside_of group (f ∷ fs) of = (
-  or_true (is_one_of (tags_of group.rows) f.0)
-      (is_one_of group.skipped f.0) of.0,
-  inside_of group fs of.1,
-)
+inside_of group = each_by _ _ (λ f of. or_true (is_one_of (tags_of group.rows) f.0)
+    (is_one_of group.skipped f.0) of)
 
 module _ {Kind : Type 0} (judge : Judge Kind) where
   none_first : (tags : List ℕ) (first : ℕ) (fields : List Field)
       → AreOf tags fields → is_one_of tags first ≡ false → NoneFirst first fields
-  none_first tags first [] of other = tt
-  none_first tags first (f ∷ fs) of other =
-      (is_other tags f.0 first of.0 other, none_first tags first fs of.1 other)
+  none_first tags first fields of other =
+      each_by _ _ (λ f of. is_other tags f.0 first of other) fields of
 
   -- a line begins with its first row
   line_begins : (row : Row Kind) (rows : List (Row Kind)) (line : List Cell)
@@ -253,20 +251,10 @@ module _ {Kind : Type 0} (judge : Judge Kind) where
     items_behind tags front all [] of other found = tt
     items_behind tags front all (item ∷ items) of other found = (
       found_behind tags front
-          all item of (front_part _ (item_tags item) (flat_map item_tags items) other) found.0,
+          all item of (each_front _ (item_tags item) (flat_map item_tags items) other) found.0,
       items_behind tags front
-          all items of (back_part _ (item_tags item) (flat_map item_tags items) other) found.1,
+          all items of (each_back _ (item_tags item) (flat_map item_tags items) other) found.1,
     )
-      where
-        front_part : (P : ℕ → Type 0) (xs ys : List ℕ)
-            → AllByRecursion P (xs ++ ys) → AllByRecursion P xs
-        front_part P [] ys h = tt
-        front_part P (x ∷ xs) ys h = (h.0, front_part P xs ys h.1)
-
-        back_part : (P : ℕ → Type 0) (xs ys : List ℕ)
-            → AllByRecursion P (xs ++ ys) → AllByRecursion P ys
-        back_part P [] ys h = h
-        back_part P (x ∷ xs) ys h = back_part P xs ys h.1
 
     -- what a group asks of its rows and of the items behind it
     abbrev pub GroupsApart : List (Item Kind) → Type 0
@@ -302,47 +290,18 @@ module _ {Kind : Type 0} (judge : Judge Kind) where
             by true h = refl
             by false h = h
 
-        all_left : (xs ys : List ℕ) (fs : List Field) → AreOf xs fs → AreOf (xs ++ ys) fs
-        all_left xs ys [] h = tt
-        all_left xs ys (f ∷ fs) h = (left xs ys f.0 h.0, all_left xs ys fs h.1)
-
-        all_right : (xs ys : List ℕ) (fs : List Field) → AreOf ys fs → AreOf (xs ++ ys) fs
-        all_right xs ys [] h = tt
-        all_right xs ys (f ∷ fs) h = (right xs ys f.0 h.0, all_right xs ys fs h.1)
-
-        joined : (tags : List ℕ) (fs gs : List Field)
-            → AreOf tags fs → AreOf tags gs → AreOf tags (fs ++ gs)
-        joined tags [] gs h k = k
-        joined tags (f ∷ fs) gs h k = (h.0, joined tags fs gs h.1 k)
-
         of_both : (fs gs : List Field) (xs ys : List ℕ)
             → AreOf xs fs → AreOf ys gs → AreOf (xs ++ ys) (fs ++ gs)
         of_both fs gs xs ys h k =
-            joined (xs ++ ys) fs gs (all_left xs ys fs h) (all_right xs ys gs k)
+            let P : List ℕ → Field → Type 0 = λ tags f. is_one_of tags f.0 ≡ true in
+            each_joined (P (xs ++ ys)) fs gs
+            (each_by (P xs) (P (xs ++ ys)) (λ f there. left xs ys f.0 there) fs h)
+            (each_by (P ys) (P (xs ++ ys)) (λ f there. right xs ys f.0 there) gs k)
 
     pub outside_of : (g : GroupTags) (tags : List ℕ) (fs : List Field)
         → AreOf tags fs → AllByRecursion (λ t. is_inside g t ≡ false) tags → Outside g fs
-    outside_of g tags [] of out = tt
-    outside_of g tags (f ∷ fs) of out = (at tags f.0 of.0 out, outside_of g tags fs of.1 out)
-      where
-        at : (tags : List ℕ) (t : ℕ) → is_one_of tags t ≡ true
-            → AllByRecursion (λ u. is_inside g u ≡ false) tags → is_inside g t ≡ false
-        at [] t h each = absurd cc
-        at (u ∷ us) t h each = by (u == t) refl h (λ there. at us t there each.1)
-          where
-            by : (b : Bool) → (u == t) ≡ b → (b || is_one_of us t) ≡ true
-                → (is_one_of us t ≡ true → is_inside g t ≡ false) → is_inside g t ≡ false
-            by true e h later = let same : u ≡ t = grind (arith, nat_tests) in let P : ℕ → Type 0 =
-                λ x. is_inside g x ≡ false in subst P same each.0
-            by false e h later = later h
-
-    or_none : (o : Option (List ℕ)) → or_else o None ≡ o
-    or_none None = refl
-    or_none (Some x) = refl
-
-    cell_value : (t : ℕ) (said : Said) → value_at t (cell_fields (Tag t, said)) ≡ said
-    cell_value t None = refl
-    cell_value t (Some text) = rw (same_number t) refl
+    outside_of g tags fs of out =
+        each_by _ _ (λ f there. one_of (λ t. is_inside g t ≡ false) tags out f.0 there) fs of
 
     -- EACH ITEM IS FOUND among what all write.
     pub items_found : (items : List (Item Kind)) → AllByRecursion (IsItem judge fields m) items

@@ -8,11 +8,10 @@ use Rattle.std.proofs.lemmas.List.Sums.{take_while-cons}
 use Rattle.message_tables.specs.declared.table_fault.TableFault.{TableFault}
 use Rattle.message_tables.specs.declared.table_fault.TableFault.TheVariants as faults
 use Rattle.field_groups.specs.Field.{Field}
-use Rattle.message_tables.specs.Tables.{Row, Need, Required, Optional, Lenient, Fixed, When, Table}
-use Rattle.message_tables.specs.Tables.{Judge, Verdict, Spells, Outside, Wrong, first_of, value_at}
-use Rattle.message_tables.specs.Tables.{has_tag, is_needed, row_at, all_rows, GroupTags, after_tag}
-use Rattle.message_tables.specs.Tables.{from_tag, is_inside, run, with_member, in_lines}
-use Rattle.message_tables.specs.Tables.{line_fields_in, lines_in, text_of, says}
+use Rattle.message_tables.specs.Tables.{Row, Need, Required, When, Table, Judge, Verdict, Spells}
+use Rattle.message_tables.specs.Tables.{first_of, value_at, has_tag, is_needed, row_at, all_rows}
+use Rattle.message_tables.specs.Tables.{GroupTags, after_tag, from_tag, is_inside, run, with_member}
+use Rattle.message_tables.specs.Tables.{in_lines, line_fields_in, lines_in, text_of, says}
 use Rattle.message_tables.specs.FirstFault.{wrong, beyond, missing, fault_if, marked, allowed}
 use Rattle.message_tables.specs.FirstFault.{mark_of, first_fault}
 use Rattle.message_tables.proofs.Clean.{clean, first_of-map}
@@ -134,8 +133,7 @@ module _ {Kind : Type 0} (judge : Judge Kind) (table : Table Kind) (fields : Lis
   is_there : (needed found : Bool) (fault : TableFault)
       → needed ≡ true → fault_if (needed && not found) fault ≡ None → found ≡ true
   is_there true true fault n h = refl
-  is_there true false fault n h = absurd cc
-  is_there false found fault n h = absurd cc
+  is_there other found fault n h = absurd cc
 
   -- a needed row that has a good value says it
   by_need : (need : Need) (tag : ℕ) (j : List ℕ → Verdict) (value : List ℕ) (of : List Field)
@@ -147,18 +145,14 @@ module _ {Kind : Type 0} (judge : Judge Kind) (table : Table Kind) (fields : Lis
       by : (v : Verdict) → wrong (tag, allowed Required (mark_of v)) ≡ None
           → beyond (tag, allowed Required (mark_of v)) ≡ None → IsSome (text_of v)
       by (Spells text) w o = refl
-      by Outside w o = absurd cc
-      by (Wrong reason) w o = absurd cc
+      by other w o = absurd cc
   by_need (When condition) tag j value of n w o = by (j value) w o
     where
       by : (v : Verdict) → wrong (tag, allowed Required (mark_of v)) ≡ None
           → beyond (tag, allowed Required (mark_of v)) ≡ None → IsSome (text_of v)
       by (Spells text) w o = refl
-      by Outside w o = absurd cc
-      by (Wrong reason) w o = absurd cc
-  by_need Optional tag j value of n w o = absurd cc
-  by_need Lenient tag j value of n w o = absurd cc
-  by_need (Fixed text) tag j value of n w o = absurd cc
+      by other w o = absurd cc
+  by_need other tag j value of n w o = absurd cc
 
   -- good fields say each row that they have to say
   pub row_is_said : (row : Row Kind) (of : List Field) → row_at row.tag (all_rows table) ≡ Some row

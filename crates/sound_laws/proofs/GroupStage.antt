@@ -1,11 +1,9 @@
 -- What is written of a sound message has each member of a group in its place.
-use Rattle.std.proofs.Common.{◌≡◌, ◌⊎◌, inl, inr, ◌≤◌, ◌<◌, ◌+◌, ℕ, List, [], ◌∷◌, ◌++◌}
-use Rattle.std.proofs.Common.{length, cond, Option, Some, None, Bool, true, false, refl, sym}
-use Rattle.std.proofs.Common.{ap, subst, ◌∙◌, arith, count_by, append_assoc}
-use Rattle.std.proofs.Common.{zero-add}
+use Rattle.std.proofs.Common.{◌≡◌, ◌⊎◌, inl, inr, ◌≤◌, ◌<◌, ◌+◌, ℕ, List, [], ◌∷◌, ◌++◌, length}
+use Rattle.std.proofs.Common.{cond, Option, Some, None, Bool, true, false, refl, sym, ap, subst}
+use Rattle.std.proofs.Common.{◌∙◌, arith, count_by, append_assoc, zero-add}
 use Rattle.std.proofs.lemmas.List.{append-nil}
-use Rattle.std.specs.Prelude.{IsSome, not, nat_le, ◌||◌, ◌==◌, if◌then◌else◌}
-use Rattle.std.specs.Prelude.{◌^◌}
+use Rattle.std.specs.Prelude.{IsSome, not, nat_le, ◌||◌, ◌==◌, if◌then◌else◌, ◌^◌}
 use Rattle.std.specs.Fmt.{decimal}
 use Rattle.std.specs.Int.{is_in_range}
 use Rattle.std.specs.Char.{is_ascii_digit}
@@ -19,22 +17,20 @@ use Rattle.message_tables.specs.declared.table_fault.TableFault.TheVariants as f
 use Rattle.field_groups.specs.HeadValues.{number_in}
 use Rattle.field_groups.specs.Field.{Field}
 use Rattle.message_tables.specs.Tables.{Need, Required, Row, RepeatingGroup, Item, One, Party}
-use Rattle.message_tables.specs.Tables.{Lines}
-use Rattle.message_tables.specs.Tables.{Judge, Message, Cell, Said, Place, Tag, GroupTags, first_of}
-use Rattle.message_tables.specs.Tables.{has_tag, is_one_of, tags_of, tags_in}
-use Rattle.message_tables.specs.Tables.{lines_of, is_inside, is_needed, groups_of, run}
-use Rattle.message_tables.specs.FirstFault.{Placed, placed_from, fault_if, lines_begun}
-use Rattle.message_tables.specs.FirstFault.{line_before, is_opened, misplaced}
-use Rattle.message_tables.specs.FirstFault.{in_groups, is_of_group}
+use Rattle.message_tables.specs.Tables.{Lines, Judge, Message, Cell, Said, Place, Tag, GroupTags}
+use Rattle.message_tables.specs.Tables.{first_of, has_tag, is_one_of, tags_of, tags_in, lines_of}
+use Rattle.message_tables.specs.Tables.{is_inside, is_needed, groups_of, run}
+use Rattle.message_tables.specs.FirstFault.{Placed, placed_from, fault_if, lines_begun, line_before}
+use Rattle.message_tables.specs.FirstFault.{is_opened, misplaced, in_groups, is_of_group}
 use Rattle.message_tables.specs.Content.{cell_fields, line_fields, group_fields, item_fields}
 use Rattle.message_tables.proofs.Few.{IsPlain}
 use Rattle.field_groups.proofs.Digits.{numerals}
 use Rattle.sound_laws.specs.Sound.{AreSaid, IsLine, IsItem}
-use Rattle.sound_laws.proofs.Each.{are_apart, both, either, not_true, same_number}
-use Rattle.sound_laws.proofs.Stages.{item_tags, AreOf, Free, back}
-use Rattle.sound_laws.proofs.Stages.{lines_of_tags, item_of, free_after}
-use Rattle.sound_laws.proofs.Stages.{others_apart, none_free, here_is, one_more}
-use Rattle.sound_laws.proofs.Found.{Begins, HasFirst, Outside, GroupsApart, group_begins}
+use Rattle.sound_laws.proofs.Each.{are_apart, both, each_by, either, none_is, not_true, one_of}
+use Rattle.sound_laws.proofs.Each.{same_number}
+use Rattle.sound_laws.proofs.Stages.{item_tags, AreOf, Free, back, lines_of_tags, item_of}
+use Rattle.sound_laws.proofs.Stages.{free_after, others_apart, none_free, here_is, one_more}
+use Rattle.sound_laws.proofs.Found.{or_true, Begins, HasFirst, Outside, GroupsApart, group_begins}
 use Rattle.sound_laws.proofs.Found.{inside_of, outside_of, items_of, run_is}
 
 -- each field in its place, with the fields before it, backwards, and those after it
@@ -69,9 +65,6 @@ apart_from g p count inside = rw (count, inside) refl
 -- ---- the fields of a group
 
 module _ (g : GroupTags) (plain : IsPlain g) where
-  begins : Field → Bool
-  begins f = f.0 == g.first
-
   -- what stands before a member
   record Before (before : List Field) (done : ℕ) (line : List Field) : Type 0 where
     opened : is_opened g before ≡ true
@@ -336,12 +329,8 @@ decimal_said n few =
 
 each_of : (tags : List ℕ) → AllByRecursion (λ t. is_one_of tags t ≡ true) tags
 each_of [] = tt
-each_of (t ∷ tags) = (here_is tags t, wider t tags tags (each_of tags))
-  where
-    wider : (t : ℕ) (all us : List ℕ) → AllByRecursion (λ u. is_one_of all u ≡ true) us
-        → AllByRecursion (λ u. is_one_of (t ∷ all) u ≡ true) us
-    wider t all [] h = tt
-    wider t all (u ∷ us) h = (one_more all t u h.0, wider t all us h.1)
+each_of (t ∷ tags) =
+    (here_is tags t, each_by _ _ (λ u h. one_more tags t u h) tags (each_of tags))
 
 module _ {Kind : Type 0} (judge : Judge Kind)
     (count : ℕ) (row : Row Kind) (rows : List (Row Kind)) (skipped : List ℕ) where
@@ -357,22 +346,13 @@ module _ {Kind : Type 0} (judge : Judge Kind)
       AllByRecursion (λ u. is_one_of skipped u ≡ false) us → AllByRecursion (IsMember g plain) us
   members plain [] mine counted kept = tt
   members plain (u ∷ us) mine counted kept = (
-    record { count = counted.0; inside = inside_by u mine.0; skipped = kept.0 },
+    record {
+      count = counted.0;
+      inside = or_true (is_one_of (tags_of (row ∷ rows)) u) (is_one_of skipped u) mine.0;
+      skipped = kept.0;
+    },
     members plain us mine.1 counted.1 kept.1,
   )
-    where
-      by : (a b : Bool) → a ≡ true → (a || b) ≡ true
-      by true b h = refl
-      by false b h = absurd cc
-
-      inside_by : (u : ℕ) → is_one_of (tags_of (row ∷ rows)) u ≡ true → is_inside g u ≡ true
-      inside_by u h = by (is_one_of (tags_of (row ∷ rows)) u) (is_one_of skipped u) h
-
-  not_this : (tag : ℕ) (us : List ℕ)
-      → is_one_of us tag ≡ false → AllByRecursion (λ u. (u == tag) ≡ false) us
-  not_this tag [] h = tt
-  not_this tag (u ∷ us) h =
-      let p = either (u == tag) (is_one_of us tag) h in (p.0, not_this tag us p.1)
 
   pub group_in_place : (plain : IsPlain g) (lines : List (List Cell))
       → row.need ≡ Required → are_apart (count ∷ tags_of (row ∷ rows)) ≡ true →
@@ -387,7 +367,7 @@ module _ {Kind : Type 0} (judge : Judge Kind)
       let tags = tags_of (row ∷ rows) in
       let p = both (not (is_one_of tags count)) (are_apart tags) apart in
       let q = both (not (is_one_of (tags_of rows) row.tag)) (are_apart (tags_of rows)) p.1 in
-      let own = members plain tags (each_of tags) (not_this count tags (not_true _ p.0)) kept in
+      let own = members plain tags (each_of tags) (none_is count tags (not_true _ p.0)) kept in
       let cut = run_is
       g fields after (inside_of group fields (lines_of_tags judge (row ∷ rows) all said)) out in
       let counted =
@@ -396,7 +376,7 @@ module _ {Kind : Type 0} (judge : Judge Kind)
         count_in
             g plain (length all) before fields after (decimal_said (length all) few) cut counted,
         lines_in_place g plain judge row rows all needed
-            said (same_number row.tag) own (not_this row.tag (tags_of rows) (not_true _ q.0)) q.1
+            said (same_number row.tag) own (none_is row.tag (tags_of rows) (not_true _ q.0)) q.1
             ((count, decimal (length all)) ∷ before) after 0 first.0 (omega (arith, few)) first.1,
       )
 
@@ -440,17 +420,6 @@ module _ {Kind : Type 0} (judge : Judge Kind) (fields : List Field) (m : Message
     ItemBeside (Lines group) = (g ≡ tags_in group) ⊎ IsOutside (item_tags (Lines group))
     ItemBeside item = IsOutside (item_tags item)
 
-    tag_outside : (tags : List ℕ) (t : ℕ)
-        → is_one_of tags t ≡ true → IsOutside tags → is_of_group t g ≡ false
-    tag_outside [] t h out = absurd cc
-    tag_outside (u ∷ us) t h out = by (u == t) refl h (λ there. tag_outside us t there out.1)
-      where
-        by : (b : Bool) → (u == t) ≡ b → (b || is_one_of us t) ≡ true
-            → (is_one_of us t ≡ true → is_of_group t g ≡ false) → is_of_group t g ≡ false
-        by true e h later = let same : u ≡ t = grind (arith, nat_tests) in let P : ℕ → Type 0 =
-            λ x. is_of_group x g ≡ false in subst P same out.0
-        by false e h later = later h
-
     field_apart : (f : Field) (before after : List Field) → is_of_group f.0 g ≡ false
         → misplaced (record { before = before; field = f; after = after }) g ≡ None
     field_apart f before after out =
@@ -462,7 +431,7 @@ module _ {Kind : Type 0} (judge : Judge Kind) (fields : List Field) (m : Message
         → AreOf tags fs → IsOutside tags → InPlace (λ p. misplaced p g ≡ None) before fs after
     outside_place tags [] before after of out = tt
     outside_place tags (f ∷ fs) before after of out = (
-      field_apart f before (fs ++ after) (tag_outside tags f.0 of.0 out),
+      field_apart f before (fs ++ after) (one_of (λ t. is_of_group t g ≡ false) tags out f.0 of.0),
       outside_place tags fs (f ∷ before) after of.1 out,
     )
 

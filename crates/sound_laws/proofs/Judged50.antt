@@ -1,8 +1,8 @@
 -- A value of a request of FIX 5.0 SP2 that is judged beside other fields is judged alike beside
 -- fields that say the same date, and the same OrdType where TimeInForce asks for it.
-use Rattle.std.proofs.Common.{◌≡◌, ℕ, zero, suc, List, [], ◌∷◌, Some, None, Bool, true, false}
-use Rattle.std.proofs.Common.{refl, sym, ap, subst, ◌∙◌, codes, take}
-use Rattle.std.specs.Prelude.{Ok, Err, IfSome, not, ◌&&◌, ◌||◌, ◌==◌}
+use Rattle.std.proofs.Common.{◌≡◌, ℕ, zero, suc, List, [], ◌∷◌, Some, None, Bool, true, false, refl}
+use Rattle.std.proofs.Common.{sym, ap, subst, ◌∙◌, codes, take}
+use Rattle.std.specs.Prelude.{Ok, IfSome, not, ◌&&◌, ◌||◌, ◌==◌}
 use Rattle.std.proofs.lemmas.Bool.{eqb-true}
 use Rattle.field_groups.specs.Field.{Field, is_soh}
 use Rattle.field_groups.specs.Data.{is_data_tag}
@@ -10,15 +10,13 @@ use Rattle.std.specs.List.{AllByRecursion, list_any}
 use Rattle.message_tables.specs.Tables.{Verdict, Spells, Outside, Wrong, Said, ◌>>=◌, value_at}
 use Rattle.message_tables.specs.Tables.{text_of, is_listed, is_one_of}
 use Rattle.value_kinds.specs.ValueKind.{ValueKind, OneByte, Code, Day, MonthYear, Spelling}
-use Rattle.value_kinds.specs.ValueKind.{spelling}
-use Rattle.value_kinds.specs.ValueKind.{is_code, listed_word}
-use Rattle.row_values.specs.Kinds.{Kind, Value, Byte, DayOf, MonthBeside, TimeBeside, Version}
-use Rattle.row_values.specs.Kinds.{judge, verdict_of, filled, if_spelled, counted, date_at}
-use Rattle.row_values.specs.Kinds.{month_beside, is_at_close}
+use Rattle.value_kinds.specs.ValueKind.{spelling, is_code, listed_word}
+use Rattle.row_values.specs.Kinds.{Kind, Value, Byte, MonthBeside, TimeBeside, judge, verdict_of}
+use Rattle.row_values.specs.Kinds.{filled, if_spelled, counted, date_at, month_beside, is_at_close}
 use Rattle.sound_laws.specs.Sound.{IsClear}
 use Rattle.sound_laws.proofs.Good.{held}
-use Rattle.sound_laws.proofs.Each.{both, either}
-use Rattle.sound_laws.proofs.SpelledAgain.{own_bytes, spelled_again, clear_or}
+use Rattle.sound_laws.proofs.Each.{both, either, neither}
+use Rattle.sound_laws.proofs.SpelledAgain.{own_bytes, spelled_again}
 use Rattle.sound_laws.proofs.PlainRows.{spelled, value_again, value_clear}
 use Rattle.sound_laws.proofs.ReadSound.{IsClearField}
 
@@ -55,8 +53,7 @@ date_is_day fields day h = by (value_at 541 fields) h
   where
     told : (v : Verdict) → text_of v ≡ Some day → v ≡ Spells day
     told (Spells text) e = cc
-    told Outside e = absurd cc
-    told (Wrong reason) e = absurd cc
+    told other e = absurd cc
 
     by : (value : Said)
         → value >>= (λ text. text_of (verdict_of (spelling Day text))) ≡ Some day → IsDay day
@@ -78,8 +75,7 @@ filled_by (b ∷ bs) v text h = h
 
 if_spells : (s : Spelling) (text : List ℕ) → if_spelled s ≡ Spells text → s ≡ Ok (Some text)
 if_spells (Ok (Some other)) text h = cc
-if_spells (Ok None) text h = absurd cc
-if_spells (Err fault) text h = absurd cc
+if_spells other text h = absurd cc
 
 filled_spelling : (text : List ℕ) → spelling MonthYear text ≡ Ok (Some text)
     → filled text (if_spelled (spelling MonthYear text)) ≡ Spells text
@@ -110,7 +106,7 @@ month_again before after (Some day) b a bytes text e =
 
 -- ---- a time beside OrdType
 
-counts : (good : Bool) (v : Verdict) (text : List ℕ)
+pub counts : (good : Bool) (v : Verdict) (text : List ℕ)
     → counted good v ≡ Spells text → (good ≡ true) × (v ≡ Spells text)
 counts true v text h = (refl, h)
 counts false (Spells other) text h = absurd cc
@@ -174,8 +170,7 @@ module _ (timed : Bool) (before after : List Field) (alike : AreAlike timed befo
       → judge after (TimeBeside t) text ≡ Spells text in
       subst P (sym is)
       (time_again before after (alike.ord_type parts.0) bytes text) e
-  judged_again (DayOf month) h bytes text e = absurd cc
-  judged_again Version h bytes text e = absurd cc
+  judged_again other h bytes text e = absurd cc
 
 -- ---- no SOH
 
@@ -184,7 +179,7 @@ clear_front zero bytes h = refl
 clear_front (suc n) [] h = refl
 clear_front (suc n) (b ∷ bs) h =
     let p = either (b == 1) (list_any is_soh bs) h in
-    clear_or (b == 1) (list_any is_soh (take n bs)) p.0 (clear_front n bs p.1)
+    neither (b == 1) (list_any is_soh (take n bs)) p.0 (clear_front n bs p.1)
 
 bare_date : is_data_tag 541 ≡ false
 unfolding is_data_tag
@@ -234,8 +229,7 @@ module _ (timed : Bool) (fields : List Field)
   judged_clear (TimeBeside ord_type) h bytes text c e = value_clear times bytes text c
       (counts (not (is_at_close bytes) || is_listed (codes "12") (value_at ord_type fields))
       (verdict_of (spelling times bytes)) text e).1
-  judged_clear (DayOf month) h bytes text c e = absurd cc
-  judged_clear Version h bytes text c e = absurd cc
+  judged_clear other h bytes text c e = absurd cc
 
 -- ---- what fields that are read say again
 
@@ -292,7 +286,5 @@ type_kept fields after at h = ap (is_listed (codes "12")) at ∙ by (value_at 40
     by : (value : Said) → is_listed (codes "12") value ≡ true
         → is_listed (codes "12")
         (value >>= (λ bytes. text_of (verdict_of (spelling (Code (codes "1234")) bytes)))) ≡ true
-    by None e = absurd cc
-    by (Some []) e = absurd cc
     by (Some (b ∷ [])) e = type_listed b e
-    by (Some (b ∷ c ∷ bs)) e = absurd cc
+    by other e = absurd cc

@@ -1,5 +1,3 @@
-pub mod ApartRows
-pub mod AsTheyStand
 pub mod Completed
 pub mod ContentAgain
 pub mod ContentValues

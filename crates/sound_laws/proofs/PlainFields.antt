@@ -1,8 +1,7 @@
 -- The fields of a sound message are no raw data, and not too many, so that a body of them is split
 -- again into them.
-use Rattle.std.proofs.Common.{rules, ◌≡◌, ◌≤◌, ◌+◌, ℕ, zero, suc, List, [], ◌∷◌, length}
-use Rattle.std.proofs.Common.{All, Option, Some, None, Bool, true, sym, subst}
-use Rattle.std.proofs.Common.{arith, length-append}
+use Rattle.std.proofs.Common.{rules, ◌≡◌, ◌≤◌, ◌+◌, ℕ, zero, suc, List, [], ◌∷◌, length, All}
+use Rattle.std.proofs.Common.{Option, Some, None, Bool, true, sym, subst, arith, length-append}
 use Rattle.std.specs.Prelude.{not, nat_le, ◌&&◌, IfSome}
 use Rattle.std.specs.List.{AllByRecursion, flat_map, list_all}
 use Rattle.std.specs.Fmt.{decimal}

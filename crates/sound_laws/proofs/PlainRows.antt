@@ -2,7 +2,7 @@
 -- written, and so are the lines of groups.
 use Rattle.std.proofs.Common.{◌≡◌, ℕ, List, [], ◌∷◌, Option, Some, None, Bool, true, false, refl}
 use Rattle.std.proofs.Common.{ap, subst, ◌∙◌, codes}
-use Rattle.std.specs.Prelude.{Ok, Err, not, ◌&&◌}
+use Rattle.std.specs.Prelude.{Ok, not, ◌&&◌}
 use Rattle.std.specs.List.{AllByRecursion, flat_map, list_all}
 use Rattle.value_kinds.specs.ValueKind.{ValueKind, Id, Number, OneByte, Spelling, spelling}
 use Rattle.message_tables.specs.declared.table_fault.TableFault.{TableFault}
@@ -13,23 +13,21 @@ use Rattle.message_tables.specs.Tables.{RepeatingGroup, Item, One, Party, Lines,
 use Rattle.message_tables.specs.Tables.{is_needed, groups_of, tags_in}
 use Rattle.message_tables.specs.FirstFault.{first_fault, message_in, message_of, unless}
 use Rattle.message_tables.proofs.Few.{IsPlain}
-use Rattle.row_values.specs.Kinds.{Kind, Value, Byte, DayOf, MonthBeside, TimeBeside, Version}
-use Rattle.row_values.specs.Kinds.{judge, verdict_of, row}
+use Rattle.row_values.specs.Kinds.{Kind, Value, judge, verdict_of, row}
 use Rattle.first_faults.specs.Faults.{told}
 use Rattle.row_values.specs.Contras.{contras}
 use Rattle.row_values.specs.Groups.{parties, allocs, sessions}
 use Rattle.sound_laws.specs.Sound.{IsClear}
 use Rattle.sound_laws.proofs.Each.{both, not_true}
 use Rattle.sound_laws.proofs.SpelledAgain.{spelled_again, spelled_clear}
-use Rattle.sound_laws.proofs.ReadSound.{IsPlainRow, IsPlainItem, IsStableRow, IsStableItem}
-use Rattle.sound_laws.proofs.ReadSound.{after}
+use Rattle.sound_laws.proofs.ReadSound.{IsPlainRow, IsPlainItem, IsStableRow, IsStableItem, after}
+use Rattle.sound_laws.proofs.ReadSound.{row_passes, stable_items}
 
 -- ---- values
 
 pub spelled : (s : Spelling) (text : List ℕ) → verdict_of s ≡ Spells text → s ≡ Ok (Some text)
 spelled (Ok (Some other)) text h = cc
-spelled (Ok None) text h = absurd cc
-spelled (Err fault) text h = absurd cc
+spelled other text h = absurd cc
 
 pub value_again : (kind : ValueKind) (bytes text : List ℕ)
     → verdict_of (spelling kind bytes) ≡ Spells text → verdict_of (spelling kind text) ≡ Spells text
@@ -75,31 +73,19 @@ plain_same : (kind : Kind) → plain_kind kind ≡ true
     → (l k : List Field) (bytes : List ℕ) → judge l kind bytes ≡ judge k kind bytes
 unfolding judge
 plain_same (Value kind) h l k bytes = refl
-plain_same (DayOf month) h l k bytes = absurd cc
-plain_same (Byte listed) h l k bytes = absurd cc
-plain_same (MonthBeside date) h l k bytes = absurd cc
-plain_same (TimeBeside ord_type) h l k bytes = absurd cc
-plain_same Version h l k bytes = absurd cc
+plain_same other h l k bytes = absurd cc
 
 plain_again : (kind : Kind) → plain_kind kind ≡ true
     → (bytes text : List ℕ) → judge [] kind bytes ≡ Spells text → judge [] kind text ≡ Spells text
 unfolding judge
 plain_again (Value kind) h bytes text e = value_again kind bytes text e
-plain_again (DayOf month) h bytes text e = absurd cc
-plain_again (Byte listed) h bytes text e = absurd cc
-plain_again (MonthBeside date) h bytes text e = absurd cc
-plain_again (TimeBeside ord_type) h bytes text e = absurd cc
-plain_again Version h bytes text e = absurd cc
+plain_again other h bytes text e = absurd cc
 
 plain_clear : (kind : Kind) → plain_kind kind ≡ true
     → (bytes text : List ℕ) → IsClear bytes → judge [] kind bytes ≡ Spells text → IsClear text
 unfolding judge
 plain_clear (Value kind) h bytes text c e = value_clear kind bytes text c e
-plain_clear (DayOf month) h bytes text c e = absurd cc
-plain_clear (Byte listed) h bytes text c e = absurd cc
-plain_clear (MonthBeside date) h bytes text c e = absurd cc
-plain_clear (TimeBeside ord_type) h bytes text c e = absurd cc
-plain_clear Version h bytes text c e = absurd cc
+plain_clear other h bytes text c e = absurd cc
 
 plain_row : (row : Row Kind) → is_plain_row row ≡ true → IsPlainRow judge row
 plain_row row h =
@@ -210,8 +196,7 @@ module _ (table : Table Kind) (fields : List Field) where
 
 -- rows that stand by themselves, whatever other rows say
 abbrev pub is_plain_item : Item Kind → Bool
-is_plain_item (One row) = is_plain_row row
-is_plain_item item = true
+is_plain_item = row_passes is_plain_row
 
 plain_stable : (table : Table Kind) (fields : List Field) (row : Row Kind)
     → IsPlainRow judge row → IsStableRow judge table fields row
@@ -229,12 +214,8 @@ plain_stable table fields row p =
 pub plain_stables : (table : Table Kind) (fields : List Field) (items : List (Item Kind))
     → list_all is_plain_item items ≡ true
     → AllByRecursion (IsStableItem judge table fields) items
-plain_stables table fields [] h = tt
-plain_stables table fields (One row ∷ items) h =
-    let p = both (is_plain_row row) (list_all is_plain_item items) h in
-    (plain_stable table fields row (plain_row row p.0), plain_stables table fields items p.1)
-plain_stables table fields (Party role ∷ items) h = (tt, plain_stables table fields items h)
-plain_stables table fields (Lines group ∷ items) h = (tt, plain_stables table fields items h)
+plain_stables table fields = stable_items judge table fields is_plain_row
+    (λ row h. plain_stable table fields row (plain_row row h))
 
 -- ---- a message of a table that was read
 

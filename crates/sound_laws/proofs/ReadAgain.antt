@@ -1,16 +1,12 @@
 -- The content of a sound message is at no fault, and is read as that message, over any judge and
 -- table.
-use Rattle.std.proofs.Common.{◌≡◌, ℕ, List, [], ◌∷◌, ◌++◌, map, None}
-use Rattle.std.proofs.Common.{true, refl, sym, ap, ◌∙◌}
+use Rattle.std.proofs.Common.{◌≡◌, ℕ, List, [], ◌∷◌, ◌++◌, map, None, true, refl, sym, ap, ◌∙◌}
 use Rattle.std.specs.List.{AllByRecursion, flat_map}
 use Rattle.field_groups.specs.Field.{Field}
-use Rattle.message_tables.specs.Tables.{RepeatingGroup, Item, One, Party}
-use Rattle.message_tables.specs.Tables.{Lines, Table, Judge, Message, Cell, Place}
-use Rattle.message_tables.specs.Tables.{groups_of, groups_in}
-use Rattle.message_tables.specs.Tables.{said_at, lines_of, cells_of}
-use Rattle.message_tables.specs.Tables.{group_says}
-use Rattle.message_tables.specs.FirstFault.{once_in, wrong_version}
-use Rattle.message_tables.specs.FirstFault.{wrong, beyond, group_tags_in}
+use Rattle.message_tables.specs.Tables.{RepeatingGroup, Item, One, Party, Lines, Table, Judge}
+use Rattle.message_tables.specs.Tables.{Message, Cell, Place, groups_of, groups_in, said_at}
+use Rattle.message_tables.specs.Tables.{lines_of, cells_of, group_says}
+use Rattle.message_tables.specs.FirstFault.{once_in, wrong_version, wrong, beyond, group_tags_in}
 use Rattle.message_tables.specs.FirstFault.{missing_of, first_fault, message_in}
 use Rattle.message_tables.specs.Content.{item_fields}
 use Rattle.sound_laws.specs.Sound.{IsItem}
@@ -18,8 +14,8 @@ use Rattle.sound_laws.proofs.Each.{are_apart, each_back, each_none}
 use Rattle.sound_laws.proofs.Lookups.{places_apart, cells_said, lines_said}
 use Rattle.sound_laws.proofs.Stages.{item_tags, MembersFree, no_twice}
 use Rattle.sound_laws.proofs.Found.{FoundAt, GroupsApart, items_found}
-use Rattle.sound_laws.proofs.Values.{RowsApart, cells_in, not_missing_item, group_again}
-use Rattle.sound_laws.proofs.Values.{item_again, HasRows, items_values, no_mark}
+use Rattle.sound_laws.proofs.Values.{RowsApart, cells_in, not_missing_item, group_again, item_again}
+use Rattle.sound_laws.proofs.Values.{HasRows, items_values, no_mark}
 use Rattle.sound_laws.proofs.GroupStage.{IsWhole, ItemBeside, none_misplaced}
 
 -- ---- a message is what its places and counts say

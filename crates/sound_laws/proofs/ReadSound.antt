@@ -1,8 +1,8 @@
 -- What is read at no fault is a sound message, over any judge and table.
 use Rattle.std.proofs.Common.{◌≡◌, ◌≤◌, ℕ, zero, suc, List, [], ◌∷◌, map, length, Option, Some}
-use Rattle.std.proofs.Common.{None, true, false, refl, sym, ap, subst, ◌∙◌, arith}
+use Rattle.std.proofs.Common.{None, Bool, true, false, refl, sym, ap, subst, ◌∙◌, arith}
 use Rattle.std.specs.Prelude.{IsSome, IfSome}
-use Rattle.std.specs.List.{AllByRecursion, flat_map, slice_get}
+use Rattle.std.specs.List.{AllByRecursion, flat_map, list_all, slice_get}
 use Rattle.std.proofs.lemmas.List.{length-map}
 use Rattle.field_groups.specs.Field.{Field}
 use Rattle.field_groups.specs.Data.{is_data_tag}
@@ -12,21 +12,25 @@ use Rattle.message_tables.specs.Tables.{Verdict, Spells, Outside, Wrong, Message
 use Rattle.message_tables.specs.Tables.{value_at, is_needed, row_at, rows_of, rows_in, all_rows}
 use Rattle.message_tables.specs.Tables.{groups_of, groups_in, GroupTags, tags_in, tags_of, lines_in}
 use Rattle.message_tables.specs.Tables.{text_of, says, first_of, said_at, lines_of, cell_of}
-use Rattle.message_tables.specs.Tables.{cells_of}
-use Rattle.message_tables.specs.Tables.{group_says}
+use Rattle.message_tables.specs.Tables.{cells_of, group_says}
 use Rattle.message_tables.specs.FirstFault.{missing, missing_of, first_fault, message_in}
 use Rattle.message_tables.specs.FirstFault.{group_tags_of, group_tags_in}
 use Rattle.message_tables.specs.Content.{content, line_fields}
 use Rattle.message_tables.proofs.Clean.{clean}
 use Rattle.message_tables.proofs.Few.{IsPlain, few}
-use Rattle.sound_laws.specs.Sound.{IsClear, IsSaid, AreSaid, IsLine, IsGroup, IsItem}
-use Rattle.sound_laws.specs.Sound.{IsSound, places_of}
-use Rattle.sound_laws.proofs.Each.{are_apart, each_at, each_back, each_part, each_map}
+use Rattle.sound_laws.specs.Sound.{IsClear, IsSaid, AreSaid, IsLine, IsGroup, IsItem, IsSound}
+use Rattle.sound_laws.specs.Sound.{places_of}
+use Rattle.sound_laws.proofs.Each.{are_apart, both, each_at, each_back, each_part, each_map}
 use Rattle.sound_laws.proofs.Each.{none_each}
-use Rattle.sound_laws.proofs.Lookups.{places_apart, cells_said, lines_said, rows_found}
-use Rattle.sound_laws.proofs.Lookups.{places_said, counts_said}
+use Rattle.sound_laws.proofs.Lookups.{places_apart, cells_said, lines_said, rows_found, places_said}
+use Rattle.sound_laws.proofs.Lookups.{counts_said}
 use Rattle.sound_laws.proofs.ContentValues.{GroupSaid}
 use Rattle.sound_laws.proofs.Good.{in_lines_each, held, IsGood, all_good, row_is_said}
+
+-- an item of which a row passes a test
+abbrev pub row_passes : {Kind : Type 0} → (Row Kind → Bool) → Item Kind → Bool
+row_passes test (One row) = test row
+row_passes test item = true
 
 module _ {Kind : Type 0} (judge : Judge Kind) where
   -- a value that was judged beside some fields, and is judged again beside others
@@ -128,6 +132,16 @@ module _ {Kind : Type 0} (judge : Judge Kind) where
     abbrev pub IsStableItem : Item Kind → Type 0
     IsStableItem (One row) = IsStableRow row
     IsStableItem item = Unit {0}
+
+    -- rows that pass a test are such
+    pub stable_items : (test : Row Kind → Bool)
+        → ((row : Row Kind) → test row ≡ true → IsStableRow row) → (items : List (Item Kind))
+        → list_all (row_passes test) items ≡ true → AllByRecursion IsStableItem items
+    stable_items test stable [] h = tt
+    stable_items test stable (One row ∷ items) h =
+        let p = both (test row) (list_all (row_passes test) items) h in
+        (stable row p.0, stable_items test stable items p.1)
+    stable_items test stable (item ∷ items) h = (tt, stable_items test stable items h)
 
     abbrev pub IsPlainItem : Item Kind → Type 0
     IsPlainItem (Lines group) = AllByRecursion IsPlainRow group.rows

@@ -8,11 +8,10 @@ use Rattle.field_groups.specs.Field.{Field, is_soh}
 use Rattle.message_tables.specs.Tables.{Verdict, Spells, Required, Optional, Lenient, Said, ◌>>=◌}
 use Rattle.message_tables.specs.Tables.{Condition, When, Row, Item, One, Party, Lines, Message, Tag}
 use Rattle.message_tables.specs.Tables.{is_needed, is_one_of, said_at, text_of}
-use Rattle.value_kinds.specs.ValueKind.{ValueKind, Code, Known, known, listed_word, spelling}
-use Rattle.value_kinds.specs.ValueKind.{code_text}
+use Rattle.value_kinds.specs.ValueKind.{ValueKind, Code, listed_word, spelling, code_text}
 use Rattle.row_values.specs.Kinds.{Kind, Value, judge, verdict_of}
 use Rattle.sound_laws.specs.Sound.{IsClear, IsSaid, IsItem}
-use Rattle.sound_laws.proofs.Each.{both}
+use Rattle.sound_laws.proofs.Each.{all_true, one_of}
 
 again_of : (j : List ℕ → Verdict) (said : Said)
     → IfSome said (λ text. j text ≡ Spells text) → said >>= (λ bytes. text_of (j bytes)) ≡ said
@@ -105,17 +104,8 @@ row_said fields m (One first ∷ items) tag row e said =
 -- what is among some is among more
 pub among : (fewer more : List ℕ) (x : ℕ) → list_all (is_one_of more) fewer ≡ true
     → is_one_of fewer x ≡ true → is_one_of more x ≡ true
-among [] more x all there = absurd cc
-among (y ∷ ys) more x all there =
-    let p = both (is_one_of more y) (list_all (is_one_of more) ys) all in
-    by (y == x) refl there (λ later. among ys more x p.1 later) p.0
-  where
-    by : (b : Bool) → (y == x) ≡ b → (b || is_one_of ys x) ≡ true
-        → (is_one_of ys x ≡ true → is_one_of more x ≡ true)
-        → is_one_of more y ≡ true → is_one_of more x ≡ true
-    by true e there later first =
-        let P : ℕ → Type 0 = λ z. is_one_of more z ≡ true in subst P (eqb-true y x e) first
-    by false e there later first = later there
+among fewer more x all there =
+    one_of (λ y. is_one_of more y ≡ true) fewer (all_true (is_one_of more) fewer all) x there
 
 -- a listed code is not SOH
 pub listed_clear : (listed : List ℕ) (code : ℕ)
@@ -128,35 +118,6 @@ listed_clear listed code none h = by (code == 1) refl
         let is : code ≡ 1 = eqb-true code 1 e in
         let P : ℕ → Type 0 = λ c. is_one_of listed c ≡ true in
         let there : is_one_of listed 1 ≡ true = subst P is h in cc)
-
-code_by : (listed : Bool) (code : ℕ)
-    → verdict_of (Ok (listed_word listed (code ∷ []))) ≡ Spells (code ∷ []) → listed ≡ true
-code_by true code h = refl
-code_by false code h = absurd cc
-
-pub listed_code : (fields : List Field) (listed : List ℕ) (code : ℕ)
-    → judge fields (Value (Code listed)) (code ∷ []) ≡ Spells (code ∷ [])
-    → is_one_of listed code ≡ true
-unfolding judge spelling
-listed_code fields listed code h = code_by (is_one_of listed code) code h
-
-pub listed_codes : (fields : List Field) (listed : List ℕ) (code : Option ℕ)
-    → IfSome (option_map code_text code)
-    (λ text. judge fields (Value (Code listed)) text ≡ Spells text)
-    → IfSome code (λ c. is_one_of listed c ≡ true)
-listed_codes fields listed None h = tt
-listed_codes fields listed (Some code) h = listed_code fields listed code h
-
-known_by : (listed : Bool) (code : ℕ)
-    → verdict_of (known listed (code ∷ [])) ≡ Spells (code ∷ []) → listed ≡ true
-known_by true code h = refl
-known_by false code h = absurd cc
-
-pub known_code : (fields : List Field) (listed : List ℕ) (code : ℕ)
-    → judge fields (Value (Known listed)) (code ∷ []) ≡ Spells (code ∷ [])
-    → is_one_of listed code ≡ true
-unfolding judge spelling
-known_code fields listed code h = known_by (is_one_of listed code) code h
 
 pub code_spelled : (fields : List Field) (listed : List ℕ) (code : ℕ)
     → is_one_of listed code ≡ true

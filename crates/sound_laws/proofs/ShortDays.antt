@@ -1,12 +1,10 @@
 -- A day of a month has two digits, which write it in both versions.
 use Rattle.std.proofs.Common.{◌≡◌, ◌<◌, ◌≤◌, ◌+◌, ◌/◌, ◌%◌, ℕ, [], ◌∷◌, true, ap, ◌∙◌, arith}
 use Rattle.std.specs.Char.{is_ascii_digit}
-use Rattle.std.specs.Str.Parse.{digits_value}
 use Rattle.std.proofs.lemmas.Bool.Decides.{nat_tests}
-use Rattle.typed_fields.specs.Digits.{zero_padded, number_of}
-use Rattle.value_kinds.specs.ValueKind.{two_digit_text, number_of_two}
+use Rattle.typed_fields.specs.Digits.{zero_padded}
+use Rattle.value_kinds.specs.ValueKind.{two_digit_text}
 use Rattle.typed_fields.proofs.DigitsLemmas.{zero_padded_two}
-use Rattle.typed_fields.proofs.SpellingLemmas.{two_back}
 
 abbrev pub IsShort : ℕ → Type 0
 IsShort day = day < 100
@@ -21,10 +19,3 @@ pub two_texts : (day : ℕ) → IsShort day → zero_padded 2 day ≡ two_digit_
 two_texts day short =
     let same : day / 10 % 10 ≡ day / 10 = omega (arith, short) in
     zero_padded_two day ∙ ap (λ (n : ℕ). (48 + n) ∷ (48 + day % 10) ∷ []) same
-
-pub two_number : (day : ℕ) → number_of_two (two_digit_text day) ≡ day
-two_number day = omega arith
-
-pub padded_number : (day : ℕ) → IsShort day → digits_value 10 (zero_padded 2 day) ≡ day
-unfolding number_of
-padded_number day short = ap (digits_value 10) (zero_padded_two day) ∙ two_back day short

@@ -2,7 +2,7 @@
 -- none.
 use Rattle.std.proofs.Common.{◌≡◌, ◌+◌, ℕ, List, [], ◌∷◌, ◌++◌, length, Some, Bool, true, false}
 use Rattle.std.proofs.Common.{refl, sym, ap, subst, ◌∙◌, arith}
-use Rattle.std.specs.Prelude.{Result, Ok, Err, not, nat_le, ◌==◌, ◌&&◌, ◌||◌, if◌then◌else◌}
+use Rattle.std.specs.Prelude.{Result, Ok, Err, not, nat_le, ◌==◌, ◌&&◌, if◌then◌else◌}
 use Rattle.std.specs.Int.{is_negative}
 use Rattle.std.specs.Char.{is_ascii_digit, is_ascii_uppercase}
 use Rattle.std.specs.List.{list_any, list_all}
@@ -17,10 +17,11 @@ use Rattle.value_kinds.specs.ValueKind.{Word, Currency, Flag, Number, Reason, Qt
 use Rattle.value_kinds.specs.ValueKind.{Day, MonthYear, DayOfMonth, Spelling, spelling, spelt}
 use Rattle.value_kinds.specs.ValueKind.{if_in_range, formed, listed_word, is_code, are_spaced}
 use Rattle.value_kinds.specs.ValueKind.{are_codes}
-use Rattle.typed_fields.specs.Number.{read_number, number_text}
+use Rattle.typed_fields.specs.Number.{read_number, number_text, is_number_form}
 use Rattle.typed_fields.specs.Dec.{read_dec, dec_text, has_minus, whole_digits, fraction_digits}
-use Rattle.typed_fields.specs.Dec.{whole_part, fraction_part, with_point, sign_text}
-use Rattle.typed_fields.specs.Digits.{without_leading_zeros, or_zero, are_digits}
+use Rattle.typed_fields.specs.Dec.{whole_part, fraction_part, with_point, sign_text, is_dec_form}
+use Rattle.typed_fields.specs.Dec.{is_dec_bounded}
+use Rattle.typed_fields.specs.Digits.{without_leading_zeros, or_zero, are_digits, number_of}
 use Rattle.typed_fields.specs.Flag.{read_flag}
 use Rattle.typed_fields.specs.Stamp.{read_stamp}
 use Rattle.typed_fields.specs.Day.{read_day}
@@ -29,13 +30,10 @@ use Rattle.typed_fields.proofs.NumberLaws.{number_reads_back, number_in_bound, n
 use Rattle.typed_fields.proofs.NumberLaws.{are_digits-or_zero}
 use Rattle.typed_fields.proofs.DecLaws.{dec_is_stable, dec_is_plain}
 use Rattle.field_groups.specs.Field.{is_soh}
-use Rattle.typed_fields.specs.Digits.{number_of}
-use Rattle.typed_fields.specs.Number.{is_number_form}
-use Rattle.typed_fields.specs.Dec.{is_dec_form, is_dec_bounded}
 use Rattle.typed_fields.proofs.DigitsLemmas.{are_digits-leading, are_digits-trailing}
 use Rattle.typed_fields.proofs.SpellingLemmas.{judged_ok}
 use Rattle.sound_laws.specs.Sound.{IsClear}
-use Rattle.sound_laws.proofs.Each.{both as both_true}
+use Rattle.sound_laws.proofs.Each.{both as both_true, either, neither}
 
 -- kinds whose values are spelled by their own bytes
 abbrev pub is_own : ValueKind → Bool
@@ -72,7 +70,6 @@ if_read (Err fault) bytes text h = absurd cc
 pub own_bytes : (kind : ValueKind) (bytes : List ℕ)
     → is_own kind ≡ true → Same (spelling kind bytes) bytes
 unfolding spelling
-own_bytes kind [] own text h = absurd cc
 own_bytes Filled (b ∷ bs) own text h = cc
 own_bytes Id (b ∷ bs) own text h = if_good (nat_le (length (b ∷ bs)) 128) Range (b ∷ bs) text h
 own_bytes Text (b ∷ bs) own text h = if_good (nat_le (length (b ∷ bs)) 2048) Range (b ∷ bs) text h
@@ -90,11 +87,7 @@ own_bytes Flag (b ∷ bs) own text h = if_read (read_flag (b ∷ bs)) (b ∷ bs)
 own_bytes Stamp (b ∷ bs) own text h = if_read (read_stamp (b ∷ bs)) (b ∷ bs) text h
 own_bytes Day (b ∷ bs) own text h = if_read (read_day (b ∷ bs)) (b ∷ bs) text h
 own_bytes MonthYear (b ∷ bs) own text h = if_read (read_month_year (b ∷ bs)) (b ∷ bs) text h
-own_bytes Number (b ∷ bs) own text h = absurd cc
-own_bytes Reason (b ∷ bs) own text h = absurd cc
-own_bytes Qty (b ∷ bs) own text h = absurd cc
-own_bytes Price (b ∷ bs) own text h = absurd cc
-own_bytes DayOfMonth (b ∷ bs) own text h = absurd cc
+own_bytes kind bytes own text h = absurd cc
 
 -- what a value was read as, by its spelling
 record Read {A : Type 0} (write : A → List ℕ) (r : Result A FieldFault) (text : List ℕ) : Type 0
@@ -194,7 +187,6 @@ pub record IsTwo (bytes text : List ℕ) : Type 0 where
 
 pub two_of : (bytes text : List ℕ) → spelling DayOfMonth bytes ≡ Ok (Some text) → IsTwo bytes text
 unfolding spelling
-two_of [] text h = absurd cc
 two_of (b ∷ []) text h = by (is_ascii_digit b) refl h
   where
     by : (good : Bool) → is_ascii_digit b ≡ good
@@ -207,9 +199,8 @@ two_of (b ∷ c ∷ []) text h = by (is_ascii_digit b) (is_ascii_digit c) refl r
     by : (x y : Bool) → is_ascii_digit b ≡ x → is_ascii_digit c ≡ y
         → formed (x && y) (b ∷ c ∷ []) ≡ Ok (Some text) → IsTwo (b ∷ c ∷ []) text
     by true true e f h = record { ten = b; one = c; is = cc; ten_digit = e; one_digit = f }
-    by true false e f h = absurd cc
-    by false y e f h = absurd cc
-two_of (b ∷ c ∷ d ∷ bs) text h = absurd cc
+    by other y e f h = absurd cc
+two_of other text h = absurd cc
 
 two_again : (ten one : ℕ) → is_ascii_digit ten ≡ true
     → is_ascii_digit one ≡ true → spelling DayOfMonth (ten ∷ one ∷ []) ≡ Ok (Some (ten ∷ one ∷ []))
@@ -235,44 +226,14 @@ spelled_again Reason bytes text h = reason_again bytes text h
 spelled_again Qty bytes text h = qty_again bytes text h
 spelled_again Price bytes text h = price_again bytes text h
 spelled_again DayOfMonth bytes text h = day_again bytes text h
-spelled_again Filled bytes text h =
-    own_again Filled bytes text (own_bytes Filled bytes refl text h) h
-spelled_again Id bytes text h = own_again Id bytes text (own_bytes Id bytes refl text h) h
-spelled_again Text bytes text h = own_again Text bytes text (own_bytes Text bytes refl text h) h
-spelled_again OneByte bytes text h =
-    own_again OneByte bytes text (own_bytes OneByte bytes refl text h) h
-spelled_again (Code listed) bytes text h =
-    own_again (Code listed) bytes text (own_bytes (Code listed) bytes refl text h) h
-spelled_again (Known listed) bytes text h =
-    own_again (Known listed) bytes text (own_bytes (Known listed) bytes refl text h) h
-spelled_again (Codes listed) bytes text h =
-    own_again (Codes listed) bytes text (own_bytes (Codes listed) bytes refl text h) h
-spelled_again (Word listed) bytes text h =
-    own_again (Word listed) bytes text (own_bytes (Word listed) bytes refl text h) h
-spelled_again Currency bytes text h =
-    own_again Currency bytes text (own_bytes Currency bytes refl text h) h
-spelled_again Flag bytes text h = own_again Flag bytes text (own_bytes Flag bytes refl text h) h
-spelled_again Stamp bytes text h = own_again Stamp bytes text (own_bytes Stamp bytes refl text h) h
-spelled_again Day bytes text h = own_again Day bytes text (own_bytes Day bytes refl text h) h
-spelled_again MonthYear bytes text h =
-    own_again MonthYear bytes text (own_bytes MonthYear bytes refl text h) h
+spelled_again kind bytes text h = own_again kind bytes text (own_bytes kind bytes refl text h) h
 
 -- ---- no SOH
-
-pub clear_or : (a b : Bool) → a ≡ false → b ≡ false → (a || b) ≡ false
-clear_or false false h k = refl
-clear_or true b h k = absurd cc
-clear_or false true h k = absurd cc
-
-clear_parts : (a b : Bool) → (a || b) ≡ false → (a ≡ false) × (b ≡ false)
-clear_parts false false h = (refl, refl)
-clear_parts true b h = absurd cc
-clear_parts false true h = absurd cc
 
 pub clear_joined : (xs ys : List ℕ) → IsClear xs → IsClear ys → IsClear (xs ++ ys)
 clear_joined [] ys h k = k
 clear_joined (x ∷ xs) ys h k =
-    let p = clear_parts (x == 1) _ h in clear_or (x == 1) _ p.0 (clear_joined xs ys p.1 k)
+    let p = either (x == 1) _ h in neither (x == 1) _ p.0 (clear_joined xs ys p.1 k)
 
 digit_clear : (d : ℕ) → is_ascii_digit d ≡ true → (d == 1) ≡ false
 digit_clear d h = grind (arith, nat_tests)
@@ -282,7 +243,7 @@ unfolding are_digits
 digits_clear [] h = refl
 digits_clear (d ∷ ds) h =
     let p = both_true (is_ascii_digit d) (list_all is_ascii_digit ds) h in
-    clear_or (d == 1) (list_any is_soh ds) (digit_clear d p.0) (digits_clear ds p.1)
+    neither (d == 1) (list_any is_soh ds) (digit_clear d p.0) (digits_clear ds p.1)
 
 sign_clear : (minus : Bool) → IsClear (sign_text minus)
 sign_clear true = refl
@@ -337,26 +298,7 @@ spelled_clear Price (b ∷ bs) text c h = let r =
     read_as dec_text (read_dec (b ∷ bs)) text h in dec_clear (b ∷ bs) text r.value r.is r.written
 spelled_clear DayOfMonth (b ∷ bs) text c h =
     let t = two_of (b ∷ bs) text h in
-    subst IsClear (sym t.is) (clear_or (t.ten == 1) (list_any is_soh (t.one ∷ [])) (digit_clear
-    t.ten t.ten_digit) (clear_or (t.one == 1) false (digit_clear t.one t.one_digit) refl))
-spelled_clear Filled (b ∷ bs) text c h =
-    subst IsClear (sym (own_bytes Filled (b ∷ bs) refl text h)) c
-spelled_clear Id (b ∷ bs) text c h = subst IsClear (sym (own_bytes Id (b ∷ bs) refl text h)) c
-spelled_clear Text (b ∷ bs) text c h = subst IsClear (sym (own_bytes Text (b ∷ bs) refl text h)) c
-spelled_clear OneByte (b ∷ bs) text c h =
-    subst IsClear (sym (own_bytes OneByte (b ∷ bs) refl text h)) c
-spelled_clear (Code listed) (b ∷ bs) text c h =
-    subst IsClear (sym (own_bytes (Code listed) (b ∷ bs) refl text h)) c
-spelled_clear (Known listed) (b ∷ bs) text c h =
-    subst IsClear (sym (own_bytes (Known listed) (b ∷ bs) refl text h)) c
-spelled_clear (Codes listed) (b ∷ bs) text c h =
-    subst IsClear (sym (own_bytes (Codes listed) (b ∷ bs) refl text h)) c
-spelled_clear (Word listed) (b ∷ bs) text c h =
-    subst IsClear (sym (own_bytes (Word listed) (b ∷ bs) refl text h)) c
-spelled_clear Currency (b ∷ bs) text c h =
-    subst IsClear (sym (own_bytes Currency (b ∷ bs) refl text h)) c
-spelled_clear Flag (b ∷ bs) text c h = subst IsClear (sym (own_bytes Flag (b ∷ bs) refl text h)) c
-spelled_clear Stamp (b ∷ bs) text c h = subst IsClear (sym (own_bytes Stamp (b ∷ bs) refl text h)) c
-spelled_clear Day (b ∷ bs) text c h = subst IsClear (sym (own_bytes Day (b ∷ bs) refl text h)) c
-spelled_clear MonthYear (b ∷ bs) text c h =
-    subst IsClear (sym (own_bytes MonthYear (b ∷ bs) refl text h)) c
+    subst IsClear (sym t.is) (neither (t.ten == 1) (list_any is_soh (t.one ∷ [])) (digit_clear
+    t.ten t.ten_digit) (neither (t.one == 1) false (digit_clear t.one t.one_digit) refl))
+spelled_clear kind (b ∷ bs) text c h =
+    subst IsClear (sym (own_bytes kind (b ∷ bs) refl text h)) c

@@ -1,22 +1,19 @@
 -- The content of a sound message is at no fault: no tag twice, each value good, no row missing.
-use Rattle.std.proofs.Common.{◌≡◌, ℕ, List, [], ◌∷◌, ◌++◌, length, Some}
-use Rattle.std.proofs.Common.{None, Bool, true, false, refl, sym, ap, subst, arith}
+use Rattle.std.proofs.Common.{◌≡◌, ℕ, List, [], ◌∷◌, ◌++◌, length, Some, None, Bool, true, false}
+use Rattle.std.proofs.Common.{refl, sym, ap, subst, arith}
 use Rattle.std.specs.Prelude.{not, ◌&&◌, ◌||◌, ◌==◌}
 use Rattle.std.specs.Fmt.{decimal}
 use Rattle.std.specs.List.{AllByRecursion, flat_map}
-use Rattle.std.proofs.lemmas.Bool.{eqb-true}
 use Rattle.std.proofs.lemmas.Bool.Decides.{nat_tests}
 use Rattle.field_groups.specs.Field.{Field}
-use Rattle.message_tables.specs.Tables.{Row, Item, One, Party, Lines}
-use Rattle.message_tables.specs.Tables.{Judge, Message, Cell, Said, Place, Tag}
-use Rattle.message_tables.specs.Tables.{first_of, has_tag, is_one_of}
-use Rattle.message_tables.specs.Tables.{tags_of, said_at}
+use Rattle.message_tables.specs.Tables.{Row, Item, One, Party, Lines, Judge, Message, Cell, Said}
+use Rattle.message_tables.specs.Tables.{Place, Tag, first_of, has_tag, is_one_of, tags_of, said_at}
 use Rattle.message_tables.specs.Tables.{lines_of}
 use Rattle.message_tables.specs.FirstFault.{placed_from, twice}
 use Rattle.message_tables.specs.Content.{cell_fields, line_fields, group_fields, item_fields}
 use Rattle.sound_laws.specs.Sound.{AreSaid, IsLine, IsItem}
-use Rattle.sound_laws.proofs.Each.{are_apart, both, either, not_true, each_joined}
-use Rattle.sound_laws.proofs.Each.{same_number}
+use Rattle.sound_laws.proofs.Each.{are_apart, both, each_back, each_by, each_front, each_joined}
+use Rattle.sound_laws.proofs.Each.{either, neither, none_is, not_true, one_of, same_number}
 
 -- the tags that an item writes
 abbrev pub item_tags : {Kind : Type 0} → Item Kind → List ℕ
@@ -33,10 +30,6 @@ abbrev pub back : List Field → List Field → List Field
 back [] before = before
 back (f ∷ fs) before = back fs (f ∷ before)
 
-pub back-append : (xs ys before : List Field) → back (xs ++ ys) before ≡ back ys (back xs before)
-back-append [] ys before = refl
-back-append (x ∷ xs) ys before = back-append xs ys (x ∷ before)
-
 pub one_more : (tags : List ℕ) (t u : ℕ) → is_one_of tags u ≡ true → is_one_of (t ∷ tags) u ≡ true
 one_more tags t u h = by (t == u)
   where
@@ -45,8 +38,7 @@ one_more tags t u h = by (t == u)
     by false = h
 
 more : (tags : List ℕ) (t : ℕ) (fields : List Field) → AreOf tags fields → AreOf (t ∷ tags) fields
-more tags t [] h = tt
-more tags t (f ∷ fs) h = (one_more tags t f.0 h.0, more tags t fs h.1)
+more tags t fields = each_by _ _ (λ f h. one_more tags t f.0 h) fields
 
 pub here_is : (tags : List ℕ) (t : ℕ) → is_one_of (t ∷ tags) t ≡ true
 here_is tags t = ap (λ (b : Bool). b || is_one_of tags t) (same_number t)
@@ -99,24 +91,9 @@ Free before tags = AllByRecursion (λ t. has_tag t before ≡ false) tags
 apart_same : (t u : ℕ) → (t == u) ≡ false → (u == t) ≡ false
 apart_same t u h = grind (arith, nat_tests)
 
-no_or : (a b : Bool) → a ≡ false → b ≡ false → (a || b) ≡ false
-no_or false false h k = refl
-no_or true b h k = absurd cc
-no_or false true h k = absurd cc
-
 pub is_other : (tags : List ℕ) (t u : ℕ)
     → is_one_of tags t ≡ true → is_one_of tags u ≡ false → (t == u) ≡ false
-is_other [] t u h k = absurd cc
-is_other (tag ∷ tags) t u h k =
-    let p = either (tag == u) (is_one_of tags u) k in
-    by (tag == t) refl h p (λ there. is_other tags t u there p.1)
-  where
-    by : (b : Bool) → (tag == t) ≡ b
-        → (b || is_one_of tags t) ≡ true → ((tag == u) ≡ false) × (is_one_of tags u ≡ false)
-        → (is_one_of tags t ≡ true → (t == u) ≡ false) → (t == u) ≡ false
-    by true e h p later = let same : tag ≡ t =
-        eqb-true tag t e in let P : ℕ → Type 0 = λ x. (x == u) ≡ false in subst P same p.0
-    by false e h p later = later h
+is_other tags t u h k = one_of (λ x. (x == u) ≡ false) tags (none_is u tags k) t h
 
 -- fields of other tags keep a tag free
 still_free : (tags : List ℕ) (t : ℕ) (fields before : List Field) → AreOf tags fields
@@ -124,7 +101,7 @@ still_free : (tags : List ℕ) (t : ℕ) (fields before : List Field) → AreOf 
 still_free tags t [] before of other free = free
 still_free tags t (f ∷ fs) before of other free =
     still_free tags t fs (f ∷ before)
-    of.1 other (no_or (f.0 == t) (has_tag t before) (is_other tags f.0 t of.0 other) free)
+    of.1 other (neither (f.0 == t) (has_tag t before) (is_other tags f.0 t of.0 other) free)
 
 -- the tags of one list stand apart from another's
 pub apart_lists : (xs ys : List ℕ)
@@ -140,15 +117,13 @@ apart_lists (x ∷ xs) ys h =
   where
     back_part : (xs ys : List ℕ) (x : ℕ)
         → is_one_of (xs ++ ys) x ≡ false → AllByRecursion (λ y. (x == y) ≡ false) ys
-    back_part [] [] x h = tt
-    back_part [] (y ∷ ys) x h =
-        let p = either (y == x) (is_one_of ys x) h in (apart_same y x p.0, back_part [] ys x p.1)
+    back_part [] ys x h = each_by _ _ (λ y other. apart_same y x other) ys (none_is x ys h)
     back_part (z ∷ zs) ys x h = back_part zs ys x (either (z == x) (is_one_of (zs ++ ys) x) h).1
 
     join : (ys : List ℕ) → AllByRecursion (λ y. (x == y) ≡ false) ys → AllByRecursion
         (λ y. is_one_of xs y ≡ false) ys → AllByRecursion (λ y. is_one_of (x ∷ xs) y ≡ false) ys
     join [] a b = tt
-    join (y ∷ ys) a b = (no_or (x == y) (is_one_of xs y) a.0 b.0, join ys a.1 b.1)
+    join (y ∷ ys) a b = (neither (x == y) (is_one_of xs y) a.0 b.0, join ys a.1 b.1)
 
 pub apart_back : (xs ys : List ℕ) → are_apart (xs ++ ys) ≡ true → are_apart ys ≡ true
 apart_back [] ys h = h
@@ -194,20 +169,10 @@ uncounted : (once tags : List ℕ) (fields before : List Field) → AreOf tags f
     → AllByRecursion (λ t. is_one_of once t ≡ false) tags → NoneTwice once before fields
 uncounted once tags [] before of other = tt
 uncounted once tags (f ∷ fs) before of other = (
-  first_false (is_one_of once f.0) (has_tag f.0 before) (at tags f.0 of.0 other),
+  first_false (is_one_of once f.0) (has_tag f.0 before)
+      (one_of (λ t. is_one_of once t ≡ false) tags other f.0 of.0),
   uncounted once tags fs (f ∷ before) of.1 other,
 )
-  where
-    at : (tags : List ℕ) (t : ℕ) → is_one_of tags t ≡ true
-        → AllByRecursion (λ u. is_one_of once u ≡ false) tags → is_one_of once t ≡ false
-    at [] t h each = absurd cc
-    at (u ∷ us) t h each = by (u == t) refl h (λ there. at us t there each.1)
-      where
-        by : (b : Bool) → (u == t) ≡ b → (b || is_one_of us t) ≡ true
-            → (is_one_of us t ≡ true → is_one_of once t ≡ false) → is_one_of once t ≡ false
-        by true e h later = let same : u ≡ t = eqb-true u t e in let P : ℕ → Type 0 =
-            λ x. is_one_of once x ≡ false in subst P same each.0
-        by false e h later = later h
 
 module _ {Kind : Type 0} (judge : Judge Kind) (once : List ℕ) (fields : List Field) (m : Message)
   where
@@ -237,14 +202,6 @@ module _ {Kind : Type 0} (judge : Judge Kind) (once : List ℕ) (fields : List F
               (lines_of_tags judge group.rows (line ∷ lines) each) members,
         )
 
-    free_front : (before : List Field) (xs ys : List ℕ) → Free before (xs ++ ys) → Free before xs
-    free_front before [] ys h = tt
-    free_front before (x ∷ xs) ys h = (h.0, free_front before xs ys h.1)
-
-    free_back : (before : List Field) (xs ys : List ℕ) → Free before (xs ++ ys) → Free before ys
-    free_back before [] ys h = h
-    free_back before (x ∷ xs) ys h = free_back before xs ys h.1
-
     pub items_twice : (items : List (Item Kind)) (before : List Field)
         → AllByRecursion (IsItem judge fields m) items → AllByRecursion MembersFree items →
         are_apart (flat_map item_tags items) ≡ true → Free before (flat_map item_tags items)
@@ -254,11 +211,15 @@ module _ {Kind : Type 0} (judge : Judge Kind) (once : List ℕ) (fields : List F
         let tags = item_tags item in
         let later = flat_map item_tags items in
         twice_joined once (item_fields m item) (flat_map (item_fields m) items) before
-        (item_twice item before said.0 members.0 (free_front before tags later free))
+        (item_twice item before said.0 members.0 (each_front _ tags later free))
         (items_twice
         items (back (item_fields m item) before) said.1 members.1 (apart_back tags later apart)
         (free_after tags later (item_fields m item) before (item_of judge fields m item said.0)
-        (apart_lists tags later apart) (free_back before tags later free)))
+        (apart_lists tags later apart) (each_back _ tags later free)))
+
+pub none_free : (tags : List ℕ) → Free [] tags
+none_free [] = tt
+none_free (t ∷ tags) = (refl, none_free tags)
 
 -- WHAT IS WRITTEN HAS NO TAG TWICE.
 pub no_twice : {Kind : Type 0} (judge : Judge Kind)
@@ -268,15 +229,7 @@ pub no_twice : {Kind : Type 0} (judge : Judge Kind)
     first_of (twice once) (placed_from [] (flat_map (item_fields m) items)) ≡ None
 no_twice judge once fields m items said members apart =
     none_twice once (flat_map (item_fields m) items) [] (items_twice
-    judge once fields m items [] said members apart (none (flat_map item_tags items)))
-  where
-    none : (tags : List ℕ) → Free [] tags
-    none [] = tt
-    none (t ∷ tags) = (refl, none tags)
-
-pub none_free : (tags : List ℕ) → Free [] tags
-none_free [] = tt
-none_free (t ∷ tags) = (refl, none_free tags)
+    judge once fields m items [] said members apart (none_free (flat_map item_tags items)))
 
 -- a tag that is none of these
 pub others_apart : (tags : List ℕ) (tag : ℕ)
@@ -284,4 +237,4 @@ pub others_apart : (tags : List ℕ) (tag : ℕ)
 others_apart [] tag h = tt
 others_apart (t ∷ tags) tag h =
     let p = either (t == tag) (is_one_of tags tag) h in
-    (no_or (tag == t) false (apart_same t tag p.0) refl, others_apart tags tag p.1)
+    (neither (tag == t) false (apart_same t tag p.0) refl, others_apart tags tag p.1)

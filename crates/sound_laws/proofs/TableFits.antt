@@ -1,7 +1,7 @@
 -- What is asked of a table so that a message written by it is read again: tests that compute, and
 -- what follows from them.
-use Rattle.std.proofs.Common.{◌≡◌, ◌⊎◌, inl, inr, ℕ, List, [], ◌∷◌, ◌++◌, map, Some, None}
-use Rattle.std.proofs.Common.{Bool, true, false, refl}
+use Rattle.std.proofs.Common.{◌≡◌, ◌⊎◌, inl, inr, ℕ, List, [], ◌∷◌, ◌++◌, map, Some, None, Bool}
+use Rattle.std.proofs.Common.{true, false, refl}
 use Rattle.std.specs.Prelude.{not, ◌&&◌, ◌||◌, ◌==◌}
 use Rattle.std.specs.List.{AllByRecursion, flat_map, list_all}
 use Rattle.std.specs.Str.{bytes_eq}
@@ -10,14 +10,13 @@ use Rattle.std.proofs.lemmas.Slice.Eq.{bytes_eq-Decides}
 use Rattle.field_groups.specs.Field.{Field}
 use Rattle.message_tables.specs.Tables.{Need, Required, Row, RepeatingGroup, Item, One, Party}
 use Rattle.message_tables.specs.Tables.{Lines, Table, Message, GroupTags, is_one_of, row_at}
-use Rattle.message_tables.specs.Tables.{rows_of}
-use Rattle.message_tables.specs.Tables.{all_rows, groups_of, groups_in, tags_of, tags_in, is_inside}
+use Rattle.message_tables.specs.Tables.{rows_of, all_rows, groups_of, groups_in, tags_of, tags_in}
+use Rattle.message_tables.specs.Tables.{is_inside}
 use Rattle.message_tables.specs.FirstFault.{once_in, is_passed, is_of_group, group_tags_in}
 use Rattle.message_tables.specs.Content.{item_fields}
-use Rattle.row_values.specs.Kinds.{Kind, Value, Byte, DayOf, MonthBeside, TimeBeside, Version}
-use Rattle.row_values.specs.Kinds.{judge}
+use Rattle.row_values.specs.Kinds.{Kind, Value, Byte, Version, judge}
 use Rattle.sound_laws.specs.Sound.{places_of}
-use Rattle.sound_laws.proofs.Each.{are_apart, both, either, not_true, each_by, each_back}
+use Rattle.sound_laws.proofs.Each.{all_true, are_apart, both, either, not_true, each_by, each_back}
 use Rattle.sound_laws.proofs.Each.{each_joined, each_part}
 use Rattle.sound_laws.proofs.Lookups.{places_apart, rows_found}
 use Rattle.sound_laws.proofs.Stages.{item_tags, MembersFree}
@@ -102,12 +101,6 @@ table_fits table front = all_hold (table_tests table (front ++ table.items))
 
 -- ---- what follows
 
-all_true : {A : Type 0} (test : A → Bool) (xs : List A)
-    → list_all test xs ≡ true → AllByRecursion (λ x. test x ≡ true) xs
-all_true test [] h = tt
-all_true test (x ∷ xs) h =
-    let p = both (test x) (list_all test xs) h in (p.0, all_true test xs p.1)
-
 all_false : (test : ℕ → Bool) (tags : List ℕ)
     → has_none test tags ≡ true → AllByRecursion (λ t. test t ≡ false) tags
 all_false test tags h =
@@ -143,9 +136,7 @@ unfolding judge
 judged_alone (Value kind) h l k text = refl
 judged_alone (Byte listed) h l k text = refl
 judged_alone Version h l k text = refl
-judged_alone (DayOf month) h l k text = absurd cc
-judged_alone (MonthBeside date) h l k text = absurd cc
-judged_alone (TimeBeside ord_type) h l k text = absurd cc
+judged_alone other h l k text = absurd cc
 
 module _ (table : Table Kind) (m : Message) (front : List (Item Kind)) where
   abbrev items : List (Item Kind)

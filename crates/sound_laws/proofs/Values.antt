@@ -12,20 +12,19 @@ use Rattle.message_tables.specs.declared.table_fault.Mark.TheVariants as marks
 use Rattle.field_groups.specs.Field.{Field}
 use Rattle.message_tables.specs.Tables.{Verdict, Spells, Need, Required, Optional, Lenient, Fixed}
 use Rattle.message_tables.specs.Tables.{When, Row, RepeatingGroup, Item, One, Party, Lines, Table}
-use Rattle.message_tables.specs.Tables.{Judge, Message, Cell, Said, Place, Tag, Role, or_else}
-use Rattle.message_tables.specs.Tables.{first_of, value_at, has_tag, is_one_of, is_needed, row_at}
-use Rattle.message_tables.specs.Tables.{all_rows, tags_of, said_at, lines_of}
-use Rattle.message_tables.specs.Tables.{says, cell_of, group_says, party_in, cells_of}
+use Rattle.message_tables.specs.Tables.{Judge, Message, Cell, Said, Place, Tag, Role, first_of}
+use Rattle.message_tables.specs.Tables.{value_at, has_tag, is_one_of, is_needed, row_at, all_rows}
+use Rattle.message_tables.specs.Tables.{tags_of, said_at, lines_of, says, cell_of, group_says}
+use Rattle.message_tables.specs.Tables.{party_in, cells_of}
 use Rattle.message_tables.specs.FirstFault.{Marked, fault_if, marked, allowed, mark_of, by_row}
 use Rattle.message_tables.specs.FirstFault.{without_row, is_passed, missing, missing_of}
 use Rattle.message_tables.specs.Content.{cell_fields, line_fields, group_fields, item_fields}
 use Rattle.message_tables.proofs.Clean.{value_at-none}
 use Rattle.sound_laws.specs.Sound.{AreSaid, IsLine, IsGroup, IsItem}
-use Rattle.sound_laws.proofs.Each.{are_apart, both, not_true, each_joined, each_none}
-use Rattle.sound_laws.proofs.Each.{same_number}
-use Rattle.sound_laws.proofs.ContentValues.{value_at-append}
+use Rattle.sound_laws.proofs.Each.{are_apart, both, not_true, each_joined, each_none, same_number}
+use Rattle.sound_laws.proofs.ContentValues.{or_none, value_at-append}
 use Rattle.sound_laws.proofs.Stages.{AreOf, apart_lists, line_of}
-use Rattle.sound_laws.proofs.Found.{FoundAt, value_behind, value_none}
+use Rattle.sound_laws.proofs.Found.{FoundAt, cell_value, value_behind, value_none}
 
 allowed_good : (need : Need) → allowed need marks.Good ≡ marks.Good
 allowed_good Required = refl
@@ -37,14 +36,6 @@ allowed_good (When condition) = refl
 some_good : (value : List ℕ) → 0 < length value → without_row true value ≡ marks.Good
 some_good [] some = absurd (omega (arith, some))
 some_good (b ∷ bs) some = refl
-
-or_none : (o : Option (List ℕ)) → or_else o None ≡ o
-or_none None = refl
-or_none (Some x) = refl
-
-cell_value : (t : ℕ) (said : Said) → value_at t (cell_fields (Tag t, said)) ≡ said
-cell_value t None = refl
-cell_value t (Some text) = rw (same_number t) refl
 
 has_value : (t : ℕ) (fields : List Field) (said : Said)
     → value_at t fields ≡ said → IsSome said → has_tag t fields ≡ true
