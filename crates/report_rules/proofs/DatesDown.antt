@@ -1,6 +1,6 @@
 -- The month and the day of a date.
-use Rattle.std.proofs.Common.{◌≡◌, ℕ, List, [], ◌∷◌, take, Bool, true, false, Option}
-use Rattle.std.proofs.Common.{Some, None, refl, sym, ap, subst, ◌∙◌, codes, arith, option_map}
+use Rattle.std.proofs.Common.{◌≡◌, ℕ, List, [], ◌∷◌, take, Bool, true, false, Option, Some, None}
+use Rattle.std.proofs.Common.{refl, sym, ap, subst, ◌∙◌, codes, arith, option_map}
 use Rattle.std.specs.Prelude.{IsSome, IfSome, drop, Ok, Err, Result, ◌&&◌, ◌||◌, if◌then◌else◌}
 use Rattle.std.specs.Result.{result_ok}
 use Rattle.std.specs.Str.Parse.{digits_value}
@@ -24,7 +24,7 @@ use Rattle.rows_fix50.specs.Header.{month_by}
 use Rattle.rows_fix50.specs.Maturity.{IsDate}
 use Rattle.rows_fix50.proofs.Dates as dates
 use Rattle.sound_laws.proofs.PlainRows.{spelled}
-use Rattle.report_rules.proofs.Shared.{is_two, two_value}
+use Rattle.sound_laws.proofs.ShortDays.{is_two, two_value}
 
 -- ---- a date
 
@@ -54,8 +54,8 @@ pub day_value : (fields : List Field) (date : List ℕ)
     → number_of_two (drop 6 date) ≡ digits_value 10 (drop 6 date)
 unfolding judge
 day_value fields date h =
-    sym (two_value (drop 6 date)
-    (is_two (drop 6 date) (two_of_date date (is_date_of date h))))
+    sym (two_value (drop 6 date) (drop 6 date)
+    (is_two (drop 6 date) (drop 6 date) (two_of_date date (is_date_of date h))))
 
 -- ---- a month
 
@@ -102,8 +102,9 @@ day_there : (date : List ℕ) → IsDate date → spells_date date ≡ true
     → is_date (year_in (take 6 date)) (month_in (take 6 date)) (number_of_two (drop 6 date)) ≡ true
 unfolding number_of
 day_there (y1 ∷ y2 ∷ y3 ∷ y4 ∷ m1 ∷ m2 ∷ d1 ∷ d2 ∷ []) is good =
-    let two = is_two (d1 ∷ d2 ∷ []) (two_of_date (y1 ∷ y2 ∷ y3 ∷ y4 ∷ m1 ∷ m2 ∷ d1 ∷ d2 ∷ []) is) in
-    ends (two_value (d1 ∷ d2 ∷ []) two) good
+    let date = y1 ∷ y2 ∷ y3 ∷ y4 ∷ m1 ∷ m2 ∷ d1 ∷ d2 ∷ [] in
+    let two = is_two (d1 ∷ d2 ∷ []) (d1 ∷ d2 ∷ []) (two_of_date date is) in
+    ends (two_value (d1 ∷ d2 ∷ []) (d1 ∷ d2 ∷ []) two) good
   where
     ends : digits_value 10 (d1 ∷ d2 ∷ []) ≡ number_of_two (d1 ∷ d2 ∷ [])
         → spells_date (y1 ∷ y2 ∷ y3 ∷ y4 ∷ m1 ∷ m2 ∷ d1 ∷ d2 ∷ []) ≡ true

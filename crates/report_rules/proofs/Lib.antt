@@ -1,7 +1,6 @@
 pub mod CodesDown
 pub mod CodeDown
 pub mod CodesSaid
-pub mod CompletedDown
 pub mod FieldsDown
 pub mod DatesDown
 pub mod GoDown
@@ -10,7 +9,6 @@ pub mod LacksDown
 pub mod PutDown
 pub mod ReadDown
 pub mod RowsDown
-pub mod Shared
 pub mod SenseDown
 pub mod Steps
 pub mod SoundDown

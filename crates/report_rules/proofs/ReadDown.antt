@@ -1,17 +1,16 @@
 -- What is read of the fields of a report of FIX 5.0 SP2 is a sound message, but for the month of
 -- its date, which is told besides.
-use Rattle.std.proofs.Common.{◌≡◌, ℕ, List, [], ◌∷◌, Some, None, Bool, true, false, refl, sym, ap}
-use Rattle.std.proofs.Common.{subst, ◌∙◌, Option}
+use Rattle.std.proofs.Common.{◌≡◌, ℕ, List, Some, None, Bool, true, false, refl, sym, ap, subst}
+use Rattle.std.proofs.Common.{◌∙◌, Option}
 use Rattle.std.specs.Prelude.{Ok, not, unwrap_or, ◌&&◌}
 use Rattle.std.specs.Option.{option_map}
-use Rattle.std.specs.List.{AllByRecursion, list_all}
+use Rattle.std.specs.List.{AllByRecursion}
 use Rattle.field_groups.specs.Field.{AreFields, Field}
 use Rattle.field_groups.specs.Data.{is_data_tag}
 use Rattle.message_tables.specs.declared.table_fault.TableFault.{TableFault}
-use Rattle.message_tables.specs.Tables.{Verdict, Spells, Outside, Wrong, Optional}
-use Rattle.message_tables.specs.Tables.{Row, Item, One, Party}
-use Rattle.message_tables.specs.Tables.{Lines, Table, Message, Said, ◌>>=◌, flag_of, groups_in}
-use Rattle.message_tables.specs.Tables.{Tag, is_listed, said_at, text_of, value_at}
+use Rattle.message_tables.specs.Tables.{Verdict, Spells, Outside, Wrong, Optional, Row, Table}
+use Rattle.message_tables.specs.Tables.{Message, Said, ◌>>=◌, flag_of, groups_in, Tag, is_listed}
+use Rattle.message_tables.specs.Tables.{said_at, text_of, value_at}
 use Rattle.message_tables.specs.FirstFault.{first_fault, message_in, message_of, unless}
 use Rattle.message_tables.specs.Content.{content}
 use Rattle.value_kinds.specs.ValueKind.{Day, Known, spelling}
@@ -28,30 +27,24 @@ use Rattle.sound_laws.proofs.PlainFields.{clear_fields}
 use Rattle.sound_laws.proofs.RowsSaid.{row_said}
 use Rattle.sound_laws.proofs.ContentValues.{GroupSaid, groups_said, value_said}
 use Rattle.sound_laws.proofs.Each.{both, not_true}
-use Rattle.sound_laws.proofs.Judged50.{AreAlike, date_kept, judged_again, judged_clear}
-use Rattle.sound_laws.proofs.Judged50.{ours_kind, type_kept}
-use Rattle.sound_laws.proofs.PlainRows.{contras_apart, contras_plain}
-use Rattle.sound_laws.proofs.PlainRows.{parties_apart, parties_plain, plain_items}
-use Rattle.sound_laws.proofs.PlainRows.{plain_stables, spelled, unfixed}
-use Rattle.sound_laws.proofs.ReadSound.{IsClearField, IsStableRow, IsStableItem}
-use Rattle.sound_laws.proofs.ReadSound.{read_sound}
+use Rattle.sound_laws.proofs.Judged50.{AreAlike, date_kept, judged_again, judged_clear, ours_kind}
+use Rattle.sound_laws.proofs.Judged50.{type_kept}
+use Rattle.sound_laws.proofs.PlainRows.{contras_apart, contras_plain, parties_apart, parties_plain}
+use Rattle.sound_laws.proofs.PlainRows.{plain_items, plain_stables, spelled, unfixed}
+use Rattle.sound_laws.proofs.ReadSound.{IsClearField, IsStableRow, IsStableItem, read_sound}
+use Rattle.sound_laws.proofs.ReadSound.{stable_items}
 use Rattle.sound_laws.proofs.SpelledAgain.{own_bytes}
 use Rattle.rule_rows.proofs.Source as source
 use Rattle.report_rules.specs.Down.{IsReport50, IsReportType, Reports50, Rejects50, Type8, Type9}
 use Rattle.report_rules.specs.Down.{WritesDown}
-use Rattle.report_rules.proofs.CompletedDown.{IsRead, KeepsType, completed_month, completed_sound}
-use Rattle.report_rules.proofs.CompletedDown.{kept_need}
-use Rattle.report_rules.proofs.CompletedDown.{ours_need}
+use Rattle.sound_laws.proofs.CompletedSound.{KeepsType, completed_month, completed_sound, kept_need}
+use Rattle.sound_laws.proofs.CompletedSound.{ours_need}
 use Rattle.report_rules.proofs.GoDown.{goes_down}
 
 -- ---- the rows of an execution report
 
 abbrev is_ours_row : Row Kind → Bool
 is_ours_row row = not (is_data_tag row.tag) && (ours_need row.need && ours_kind true row.kind)
-
-abbrev is_ours : Item Kind → Bool
-is_ours (One row) = is_ours_row row
-is_ours item = true
 
 -- a known code that fields say is the one that stands there
 known_listed : (known listed : List ℕ) (value : Said)
@@ -103,22 +96,13 @@ module _ (fields : List Field) (clear : AllByRecursion (IsClearField judge) fiel
           bare = not_true (is_data_tag row.tag) a.0;
         }
 
-    stable_items : (items : List (Item Kind)) → list_all is_ours items ≡ true
-        → AllByRecursion (IsStableItem judge report_table fields) items
-    stable_items [] h = tt
-    stable_items (One row ∷ items) h =
-        let p = both (is_ours_row row) (list_all is_ours items) h in
-        (stable_row row p.0, stable_items items p.1)
-    stable_items (Party role ∷ items) h = (tt, stable_items items h)
-    stable_items (Lines group ∷ items) h = (tt, stable_items items h)
-
   report_stable : AllByRecursion (GroupSaid judge m) (groups_in report_table)
       → AllByRecursion (IsStableItem judge report_table fields) execution_report
   unfolding is_data_tag
-  report_stable groups = stable_items (record {
+  report_stable groups = stable_items judge report_table fields is_ours_row (stable_row (record {
     date = date_kept fields after (value_said judge m 541 execution_report refl groups);
     ord_type = λ _. type_kept fields after (value_said judge m 40 execution_report refl groups);
-  }) (type_again _ fields after (value_said judge m 150 execution_report refl groups))
+  }) (type_again _ fields after (value_said judge m 150 execution_report refl groups)))
       execution_report refl
 
   pub report_sound : first_fault judge report_table fields ≡ None → IsSound judge report_table m
@@ -140,6 +124,12 @@ module _ (fields : List Field) (clear : AllByRecursion (IsClearField judge) fiel
       (λ groups. plain_stables cancel_reject_table fields cancel_reject refl) clear none
 
 -- ---- a report that was read
+
+-- what was read of a body, before the month of its date was told
+pub record IsRead (table : Table Kind) (m : Message) : Type 0 where
+  pub before : Message
+  pub sound : IsSound judge table before
+  pub is : completed before ≡ m
 
 -- a message that was read of fields by a table, at no fault
 pub record IsReadOf (table : Table Kind) (fields : List Field) (x : Message) : Type 0 where

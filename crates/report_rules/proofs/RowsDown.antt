@@ -1,11 +1,9 @@
 -- What FIX 4.2 says otherwise than FIX 5.0 SP2 has a canonical spelling there: codes, ids, reasons
 -- and texts.
 use Rattle.std.proofs.Common.{◌≡◌, ◌≤◌, ◌<◌, ◌+◌, ◌^◌, ℕ, zero, suc, Bool, true, false, List, []}
-use Rattle.std.proofs.Common.{◌∷◌}
-use Rattle.std.proofs.Common.{◌++◌, codes, length, take, Option, Some, None, refl, sym, ap, subst}
-use Rattle.std.proofs.Common.{arith, nat_le, lit≤, length-append, unwrap_or}
-use Rattle.std.specs.Prelude.{IsSome, IfSome, Ok, Err, Result, ◌==◌, ◌||◌}
-use Rattle.std.specs.Prelude.{if◌then◌else◌}
+use Rattle.std.proofs.Common.{◌∷◌, ◌++◌, codes, length, take, Option, Some, None, refl, sym, ap}
+use Rattle.std.proofs.Common.{subst, arith, nat_le, lit≤, length-append, unwrap_or}
+use Rattle.std.specs.Prelude.{IsSome, IfSome, Ok, Err, Result, ◌==◌, ◌||◌, if◌then◌else◌}
 use Rattle.std.specs.Fmt.{decimal, digits}
 use Rattle.std.specs.Str.{bytes_eq}
 use Rattle.std.specs.List.{AllByRecursion, list_any}
@@ -21,23 +19,22 @@ use Rattle.typed_fields.proofs.DigitsLemmas.{numerals}
 use Rattle.typed_fields.proofs.SpellingLemmas.{judged_ok}
 use Rattle.field_groups.specs.Field.{Field, is_soh}
 use Rattle.field_groups.specs.HeadValues.{number_in, is_number}
-use Rattle.message_tables.specs.Tables.{Spells, Required, Optional}
-use Rattle.message_tables.specs.Tables.{Said, Cell, Place, Tag, ◌>>=◌, first_of}
-use Rattle.message_tables.specs.Tables.{is_place, is_one_of, or_else, party_in, said_at, text_in}
+use Rattle.message_tables.specs.Tables.{Spells, Required, Optional, Said, Cell, Place, Tag, ◌>>=◌}
+use Rattle.message_tables.specs.Tables.{first_of, is_place, is_one_of, or_else, party_in, said_at}
+use Rattle.message_tables.specs.Tables.{text_in}
 use Rattle.message_tables.specs.Content.{line_fields}
-use Rattle.value_kinds.specs.ValueKind.{Id, Text, Reason, Code, Known, known}
-use Rattle.value_kinds.specs.ValueKind.{spelling, spelt, if_in_range}
+use Rattle.value_kinds.specs.ValueKind.{Id, Text, Reason, Code, Known, known, spelling, spelt}
+use Rattle.value_kinds.specs.ValueKind.{if_in_range}
 use Rattle.row_values.specs.Kinds.{Value, judge, row, verdict_of}
 use Rattle.row_values.specs.Groups.{parties}
 use Rattle.reports_fix50.specs.Sense.{reason_told, telling}
 use Rattle.sound_laws.specs.Sound.{IsClear, IsSaid, IsLine}
 use Rattle.sound_laws.proofs.Each.{either}
 use Rattle.sound_laws.proofs.Judged50.{clear_front}
-use Rattle.sound_laws.proofs.RowsSaid.{optional_said, required_said, same_value}
-use Rattle.sound_laws.proofs.RowsSaid.{code_spelled}
+use Rattle.sound_laws.proofs.RowsSaid.{optional_said, required_said, same_value, code_spelled}
+use Rattle.sound_laws.proofs.RowsSaid.{IsCodeOf}
 use Rattle.sound_laws.proofs.SpelledAgain.{clear_joined, digits_clear}
 use Rattle.rule_rows.proofs.Source.{IsSpelled}
-use Rattle.report_rules.proofs.Shared.{IsCodeOf}
 use Rattle.report_rules.specs.Down.{IsId}
 use Rattle.report_rules.specs.Rules.{id_down, reason_down, within}
 

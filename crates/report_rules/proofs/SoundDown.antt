@@ -1,24 +1,20 @@
 -- What goes down by each kind of rule is sound in the table that goes down.
 use Rattle.std.proofs.Common.{◌≡◌, ℕ, zero, suc, take, List, [], ◌∷◌, Bool, true, false, Option}
-use Rattle.std.proofs.Common.{Some}
-use Rattle.std.proofs.Common.{None, refl, sym, ap, subst, ◌∙◌, codes, lit≤, option_map, unwrap_or}
-use Rattle.std.proofs.Common.{arith}
+use Rattle.std.proofs.Common.{Some, None, refl, sym, ap, subst, ◌∙◌, codes, lit≤, option_map}
+use Rattle.std.proofs.Common.{unwrap_or, arith}
 use Rattle.std.specs.Prelude.{IfSome, IsSome, not, drop, ◌||◌, ◌&&◌, ◌==◌, is_some, if◌then◌else◌}
 use Rattle.std.specs.List.{AllByRecursion, list_any}
 use Rattle.std.proofs.lemmas.Bool.{eqb-true}
 use Rattle.field_groups.specs.Field.{Field, is_soh}
-use Rattle.message_tables.specs.Tables.{Condition, Need, Required, Optional, Lenient, When}
-use Rattle.message_tables.specs.Tables.{Cell, Row, Item, One, Party, Lines, RepeatingGroup, Message, Said}
+use Rattle.message_tables.specs.Tables.{Condition, Need, Required, Optional, Lenient, When, Cell}
+use Rattle.message_tables.specs.Tables.{Row, Item, One, Party, Lines, RepeatingGroup, Message, Said}
 use Rattle.message_tables.specs.Tables.{Tag, Role, Spells, ◌>>=◌, code_of, code_if, code_in}
-use Rattle.message_tables.specs.Tables.{groups_of}
-use Rattle.message_tables.specs.Tables.{has_tag, is_listed, is_needed, is_one_of, lines_of}
-use Rattle.message_tables.specs.Tables.{party_in, said_at, value_at}
+use Rattle.message_tables.specs.Tables.{groups_of, has_tag, is_listed, is_needed, is_one_of}
+use Rattle.message_tables.specs.Tables.{lines_of, party_in, said_at, value_at}
 use Rattle.message_tables.specs.Content.{content}
 use Rattle.value_kinds.specs.ValueKind.{ValueKind, Code, Known, Id, Text, Reason, code_text}
 use Rattle.value_kinds.specs.ValueKind.{MonthYear, Day, number_of_two}
-use Rattle.row_values.specs.Kinds.{Kind, Value, DayOf, TimeBeside}
-use Rattle.row_values.specs.Kinds.{judge}
-use Rattle.row_values.specs.Kinds.{is_at_close, row}
+use Rattle.row_values.specs.Kinds.{Kind, Value, DayOf, TimeBeside, judge, is_at_close, row}
 use Rattle.row_values.specs.Amounts.{amount_in}
 use Rattle.row_values.specs.Groups.{parties}
 use Rattle.order_meaning.specs.Report.{or_known}
@@ -30,9 +26,8 @@ use Rattle.reports_fix42.specs.Reports.{is_about_another, is_execution}
 use Rattle.sound_laws.specs.Sound.{IsClear, IsSaid, IsGroup, IsItem, IsSound}
 use Rattle.sound_laws.proofs.Each.{both, either}
 use Rattle.sound_laws.proofs.ContentValues.{GroupSaid, is_alone}
-use Rattle.sound_laws.proofs.RowsSaid.{row_of_tag, same_value, required_said}
-use Rattle.sound_laws.proofs.RowsSaid.{optional_said, needed_said, code_said, codes_said}
-use Rattle.sound_laws.proofs.RowsSaid.{among}
+use Rattle.sound_laws.proofs.RowsSaid.{row_of_tag, same_value, required_said, optional_said}
+use Rattle.sound_laws.proofs.RowsSaid.{needed_said, code_said, codes_said, among, is_code_of}
 use Rattle.rule_rows.specs.ByRules.{At, by_rules, has_any, has_place, outline_of}
 use Rattle.rule_rows.specs.Rows.{group_at}
 use Rattle.rule_rows.proofs.Items.{count_is, has_one, has_row, item_if, row_there, turned}
@@ -44,9 +39,8 @@ use Rattle.rule_rows.proofs.Source.{IsSpelled}
 use Rattle.report_rules.specs.Rules.{Rule, Same, Moved, Original, PartyOf, Group, ExecId, TransType}
 use Rattle.report_rules.specs.Rules.{ExecType, OrdStatus, Another, Traded, Within, Told, Month}
 use Rattle.report_rules.specs.Rules.{DayOfDate, OrdType, Time, at, at_close, coded, exec_type}
-use Rattle.report_rules.specs.Rules.{is_fill, kinds, lack_if, lacks_type, on_close}
-use Rattle.report_rules.specs.Rules.{rule_said, status_if, time_down, told, trans_type}
-use Rattle.report_rules.specs.Rules.{works_on}
+use Rattle.report_rules.specs.Rules.{is_fill, kinds, lack_if, lacks_type, on_close, rule_said}
+use Rattle.report_rules.specs.Rules.{status_if, time_down, told, trans_type, works_on}
 use Rattle.report_rules.specs.Down.{IsId, IsOrdinary}
 use Rattle.report_rules.proofs.CodesSaid.{AreCodes, are_codes, statuses, time_is_code, time_counts}
 use Rattle.report_rules.proofs.CodesSaid.{but_last, close_is, open_is}
@@ -55,7 +49,6 @@ use Rattle.report_rules.proofs.DatesDown.{only_test}
 use Rattle.report_rules.proofs.KindsDown.{are_kinds}
 use Rattle.report_rules.proofs.RowsDown.{IsTold, ids_said, id_said, is_known_of, known_down}
 use Rattle.report_rules.proofs.RowsDown.{party_id, reason_said, text_said, told_both, told_said}
-use Rattle.report_rules.proofs.Shared.{is_code_of}
 use Rattle.report_rules.proofs.TablesDown.{Fits, GoesDown, IsRow, by_type, can_go_down, carried}
 use Rattle.report_rules.proofs.TablesDown.{down_kind, down_need, each_made, has_rule, is_plain}
 use Rattle.report_rules.proofs.TablesDown.{is_value, items_down, make, month_row, needed, own_row}

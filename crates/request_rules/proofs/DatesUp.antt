@@ -2,7 +2,6 @@
 use Rattle.std.proofs.Common.{◌≡◌, ℕ, List, [], ◌∷◌, ◌++◌, length, take, Bool, true, false, Option}
 use Rattle.std.proofs.Common.{Some, None, refl, sym, ap, ◌∙◌, codes, arith, subst}
 use Rattle.std.proofs.lemmas.Bool.{eqb-true}
-use Rattle.std.proofs.lemmas.Str.{digit_value_digit}
 use Rattle.std.proofs.lemmas.List.{take_at}
 use Rattle.std.specs.Prelude.{IfSome, ◌==◌, Ok, Err, Result, if◌then◌else◌}
 use Rattle.std.specs.Char.{is_ascii_digit}
@@ -13,7 +12,7 @@ use Rattle.typed_fields.specs.declared.month_year.MonthYear.{MonthYear as MonthV
 use Rattle.typed_fields.specs.Digits.{has_pattern, have_marks, number_of}
 use Rattle.typed_fields.specs.Day.{is_date, day_number}
 use Rattle.typed_fields.specs.MonthYear.{read_month_year, year_in, month_in}
-use Rattle.typed_fields.proofs.SpellingLemmas.{judged_ok, judged_good, digit_bounds}
+use Rattle.typed_fields.proofs.SpellingLemmas.{judged_ok, judged_good}
 use Rattle.field_groups.specs.Field.{Field}
 use Rattle.value_kinds.specs.ValueKind.{MonthYear, Day, DayOfMonth, Spelling, spelling, spelt}
 use Rattle.value_kinds.specs.ValueKind.{number_of_two}
@@ -21,24 +20,11 @@ use Rattle.message_tables.specs.Tables.{Verdict, Spells, Wrong, Said, ◌>>=◌,
 use Rattle.row_values.specs.Kinds.{Value, DayOf, MonthBeside, judge, verdict_of, in_month, month_at}
 use Rattle.row_values.specs.Kinds.{if_spelled, month_beside}
 use Rattle.sound_laws.proofs.Each.{both}
-use Rattle.sound_laws.proofs.PlainRows.{spelled}
-use Rattle.sound_laws.proofs.SpelledAgain.{IsTwo, two_of}
+use Rattle.sound_laws.proofs.ShortDays.{is_two, two_value}
+use Rattle.sound_laws.proofs.SpelledAgain.{IsTwo}
 use Rattle.request_rules.specs.Rules.{date_up}
 
 -- ---- a day
-
-two_value : (bytes text : List ℕ) → IsTwo bytes text → digits_value 10 text ≡ number_of_two text
-two_value bytes text h =
-    let d = digit_value_digit h.ten (digit_bounds h.ten h.ten_digit) in
-    let e = digit_value_digit h.one (digit_bounds h.one h.one_digit) in
-    let same : digits_value 10 (h.ten ∷ h.one ∷ []) ≡ number_of_two (h.ten ∷ h.one ∷ []) =
-    omega (arith, d, e) in
-    ap (digits_value 10) h.is ∙ same ∙ ap number_of_two (sym h.is)
-
--- any day is spelled in two digits
-is_two : (bytes text : List ℕ) → verdict_of (spelling DayOfMonth bytes) ≡ Spells text
-    → IsTwo bytes text
-is_two bytes text h = two_of bytes text (spelled (spelling DayOfMonth bytes) text h)
 
 -- a day that its month has
 abbrev HasDay : Option MonthValue → List ℕ → Type 0

@@ -46,7 +46,8 @@ use Rattle.request_rules.proofs.SenseUp.{keeps_sense}
 use Rattle.request_rules.proofs.SoundUp.{sound_up, month42, day42, time42}
 use Rattle.request_rules.proofs.Sound42.{read_is_sound}
 use Rattle.request_rules.proofs.TablesUp.{GoesUp, each_made, items_up, make}
-use Rattle.request_rules.proofs.TermsUp.{is_code_of, is_other}
+use Rattle.sound_laws.proofs.RowsSaid.{is_code_of}
+use Rattle.request_rules.proofs.TermsUp.{is_other}
 
 -- ---- what the tables of FIX 4.2 ask for
 

@@ -10,27 +10,8 @@ use Rattle.message_tables.specs.Tables.{value_at}
 use Rattle.row_values.specs.Kinds.{Value, Byte, TimeBeside, judge, verdict_of, counted, is_at_close}
 use Rattle.sound_laws.specs.Sound.{IsSaid}
 use Rattle.sound_laws.proofs.Each.{◌&◌, one_of}
-use Rattle.sound_laws.proofs.RowsSaid.{lenient_said, listed_clear, code_said}
+use Rattle.sound_laws.proofs.RowsSaid.{is_code_of, lenient_said, listed_clear, code_said}
 use Rattle.request_rules.specs.Rules.{type_up, time_up}
-
--- a listed code
-pub record IsCodeOf (codes_of : List ℕ) (text : List ℕ) : Type 0 where
-  pub code : ℕ
-  pub is : text ≡ code ∷ []
-  pub listed : is_one_of codes_of code ≡ true
-
-word_by : (good : Bool) (text : List ℕ)
-    → verdict_of (Ok (listed_word good text)) ≡ Spells text → good ≡ true
-word_by true text h = refl
-word_by false text h = absurd cc
-
-pub is_code_of : (fields : List Field) (listed text : List ℕ)
-    → judge fields (Value (Code listed)) text ≡ Spells text → IsCodeOf listed text
-unfolding judge spelling
-is_code_of fields listed [] h = absurd cc
-is_code_of fields listed (code ∷ []) h =
-    record { code = code; is = refl; listed = word_by (is_one_of listed code) (code ∷ []) h }
-is_code_of fields listed (a ∷ b ∷ text) h = absurd (let k = word_by false (a ∷ b ∷ text) h in cc)
 
 -- ---- OrdType
 

@@ -1,7 +1,6 @@
 mod AgainFields
 mod Appended
 mod AsStructs
-mod CompletedSound
 mod GoodFields
 mod KeptSense
 mod Lacks

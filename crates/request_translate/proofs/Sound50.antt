@@ -1,13 +1,14 @@
 -- What is read of the fields of a request of FIX 5.0 SP2 is a sound message that says the month of
 -- its date.
-use Rattle.std.proofs.Common.{◌≡◌, ℕ, List, Some, None, Bool, true, false, refl, sym, subst, ◌∙◌}
+use Rattle.std.proofs.Common.{◌≡◌, ℕ, List, Some, None, Bool, true, false, refl, sym, ap, subst}
+use Rattle.std.proofs.Common.{◌∙◌}
 use Rattle.std.specs.Prelude.{Result, Ok, Err, IfSome}
 use Rattle.std.specs.List.{AllByRecursion, flat_map, list_any, list_all}
 use Rattle.field_groups.specs.Field.{Field}
 use Rattle.field_groups.specs.Data.{is_data_tag}
 use Rattle.order_meaning.specs.declared.fault.Fault.{Fault}
 use Rattle.message_tables.specs.Tables.{Row, Item, Table, Message, Tag, is_place, Said, said_at}
-use Rattle.message_tables.specs.Tables.{groups_of, groups_in}
+use Rattle.message_tables.specs.Tables.{groups_of, groups_in, is_listed, value_at}
 use Rattle.message_tables.specs.FirstFault.{first_fault, message_in, message_of}
 use Rattle.message_tables.specs.Content.{content}
 use Rattle.row_values.specs.Kinds.{Kind, judge, date_at}
@@ -21,7 +22,8 @@ use Rattle.order_meaning.specs.Request.{RequestKind, New, Cancel, Replace, Statu
 use Rattle.request_rules.proofs.ByType.{asked50, by_type}
 use Rattle.request_translate.specs.Up.{IsRequest50, News, Cancels, Replaces, Statuses}
 use Rattle.sound_laws.proofs.Each.{not_true}
-use Rattle.sound_laws.proofs.ContentValues.{is_alone, value_said, groups_said, GroupSaid}
+use Rattle.sound_laws.proofs.ContentValues.{is_alone, items_value, value_said, groups_said, writes}
+use Rattle.sound_laws.proofs.ContentValues.{GroupSaid}
 use Rattle.sound_laws.proofs.PlainRows.{HasPlainRows, parties_plain, allocs_plain, sessions_plain}
 use Rattle.sound_laws.proofs.PlainRows.{parties_apart, allocs_apart, sessions_apart, unfixed}
 use Rattle.sound_laws.proofs.PlainRows.{plain_items, of_message}
@@ -29,21 +31,22 @@ use Rattle.sound_laws.proofs.ReadSound.{IsClearField, IsStableRow, IsTable, read
 use Rattle.sound_laws.proofs.ReadSound.{stable_items}
 use Rattle.sound_laws.proofs.Judged50.{AreAlike, judged_again, judged_clear, clear_date, date_said}
 use Rattle.sound_laws.proofs.Judged50.{type_said, date_kept, type_kept}
-use Rattle.request_translate.proofs.CompletedSound.{is_ours, is_ours_row, ours, ours_need}
-use Rattle.request_translate.proofs.CompletedSound.{kept_need, completed_sound, completed_month}
+use Rattle.sound_laws.proofs.CompletedSound.{KeepsType, is_ours, is_ours_row, ours, ours_need}
+use Rattle.sound_laws.proofs.CompletedSound.{kept_need, completed_sound, completed_month}
 
 module _ (fields : List Field) (clear : AllByRecursion (IsClearField judge) fields) where
   -- ---- before its month is completed
 
   module _ (timed : Bool) (table : Table Kind)
-      (alike : AreAlike timed fields (content table (message_in judge table fields))) where
+      (alike : AreAlike timed fields (content table (message_in judge table fields)))
+      (kept : KeepsType fields (content table (message_in judge table fields))) where
     abbrev after : List Field
     after = content table (message_in judge table fields)
 
     stable_row : (row : Row Kind)
         → is_ours_row timed row ≡ true → IsStableRow judge table fields row
     stable_row row h = let o = ours timed row h in record {
-      kept = kept_need row.need o.need fields after;
+      kept = kept_need row.need o.need fields after kept;
       spelled = λ bytes text at e.
           judged_again timed fields after alike row.kind o.kind bytes text e;
       clear = judged_clear timed fields clear row.kind o.kind;
@@ -67,6 +70,7 @@ module _ (fields : List Field) (clear : AllByRecursion (IsClearField judge) fiel
     date_is : said_at (message_in judge (table letter items) fields).cells (Tag 541)
         ≡ date_said fields
     types : timed ≡ true → SaysTypes letter items
+    untyped : list_any (writes 150) items ≡ false
 
   date_same : date_said fields ≡ date_at 541 fields
   unfolding judge
@@ -88,10 +92,15 @@ module _ (fields : List Field) (clear : AllByRecursion (IsClearField judge) fiel
             (value_said judge m 40 items types.alone groups ∙ types.said);
       }
 
+      -- no request says an ExecType
+      kept : AllByRecursion (GroupSaid judge m) (groups_in t) → KeepsType fields (content t m)
+      kept groups listed h = absurd (let no : is_listed listed (value_at 150 (content t m)) ≡ false =
+          ap (is_listed listed) (items_value judge m 150 items is.untyped groups) in cc)
+
       sound : first_fault judge t fields ≡ None → IsSound judge t m
       sound none = read_sound judge t fields is.once (plain_items t fields items is.plain)
           (λ groups. stable_items judge t fields (is_ours_row timed)
-          (stable_row timed t (alike groups)) items is.known) clear none
+          (stable_row timed t (alike groups) (kept groups)) items is.known) clear none
 
       complete : first_fault judge t fields ≡ None → IsComplete t (completed m)
       complete none =
@@ -136,6 +145,7 @@ module _ (fields : List Field) (clear : AllByRecursion (IsClearField judge) fiel
     date = refl;
     date_is = refl;
     types = λ _. record { alone = refl; said = refl };
+    untyped = refl;
   }) x e)
   each x Cancel e = Cancels (table_read false 70 cancel_request (record {
     once = record { rows = refl; places = refl; counts = refl; plain = (parties_apart, tt) };
@@ -145,6 +155,7 @@ module _ (fields : List Field) (clear : AllByRecursion (IsClearField judge) fiel
     date = refl;
     date_is = refl;
     types = λ untrue. absurd cc;
+    untyped = refl;
   }) x e)
   each x Replace e = Replaces (table_read true 71 replace_request (record {
     once = record {
@@ -159,6 +170,7 @@ module _ (fields : List Field) (clear : AllByRecursion (IsClearField judge) fiel
     date = refl;
     date_is = refl;
     types = λ _. record { alone = refl; said = refl };
+    untyped = refl;
   }) x e)
   each x Status e = Statuses (table_read false 72 status_request (record {
     once = record { rows = refl; places = refl; counts = refl; plain = (parties_apart, tt) };
@@ -168,6 +180,7 @@ module _ (fields : List Field) (clear : AllByRecursion (IsClearField judge) fiel
     date = refl;
     date_is = refl;
     types = λ untrue. absurd cc;
+    untyped = refl;
   }) x e)
 
   -- WHAT IS READ IS SOUND, AND COMPLETE.

@@ -132,7 +132,7 @@ module _ {Kind : Type 0} (judge : Judge Kind) where
         let apart = either (group.count == tag) (is_one_of (tags_of group.rows) tag) other in
         group_value tag group (lines_of group.count m.groups) apart.0 apart.1 said.said
 
-    items_value : (tag : ℕ) (items : List (Item Kind)) → list_any (writes tag) items ≡ false
+    pub items_value : (tag : ℕ) (items : List (Item Kind)) → list_any (writes tag) items ≡ false
         → AllByRecursion (GroupSaid m) (flat_map groups_of items) →
         value_at tag (flat_map (item_fields m) items) ≡ None
     items_value tag [] other said = refl

@@ -1,4 +1,5 @@
 pub mod Completed
+pub mod CompletedSound
 pub mod ContentAgain
 pub mod ContentValues
 pub mod Each

@@ -119,6 +119,25 @@ listed_clear listed code none h = by (code == 1) refl
         let P : ℕ → Type 0 = λ c. is_one_of listed c ≡ true in
         let there : is_one_of listed 1 ≡ true = subst P is h in cc)
 
+-- a listed code
+pub record IsCodeOf (listed_codes : List ℕ) (text : List ℕ) : Type 0 where
+  pub code : ℕ
+  pub is : text ≡ code ∷ []
+  pub listed : is_one_of listed_codes code ≡ true
+
+word_by : (good : Bool) (text : List ℕ)
+    → verdict_of (Ok (listed_word good text)) ≡ Spells text → good ≡ true
+word_by true text h = refl
+word_by false text h = absurd cc
+
+pub is_code_of : (fields : List Field) (listed text : List ℕ)
+    → judge fields (Value (Code listed)) text ≡ Spells text → IsCodeOf listed text
+unfolding judge spelling
+is_code_of fields listed [] h = absurd cc
+is_code_of fields listed (code ∷ []) h =
+    record { code = code; is = refl; listed = word_by (is_one_of listed code) (code ∷ []) h }
+is_code_of fields listed (a ∷ b ∷ text) h = absurd (let k = word_by false (a ∷ b ∷ text) h in cc)
+
 pub code_spelled : (fields : List Field) (listed : List ℕ) (code : ℕ)
     → is_one_of listed code ≡ true
     → judge fields (Value (Code listed)) (code_text code) ≡ Spells (code_text code)

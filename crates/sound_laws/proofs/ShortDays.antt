@@ -1,9 +1,17 @@
 -- A day of a month has two digits, which write it in both versions.
-use Rattle.std.proofs.Common.{◌≡◌, ◌<◌, ◌≤◌, ◌+◌, ◌/◌, ◌%◌, ℕ, [], ◌∷◌, true, ap, ◌∙◌, arith}
+use Rattle.std.proofs.Common.{◌≡◌, ◌<◌, ◌≤◌, ◌+◌, ◌/◌, ◌%◌, ℕ, List, [], ◌∷◌, true, sym, ap, ◌∙◌}
+use Rattle.std.proofs.Common.{arith}
 use Rattle.std.specs.Char.{is_ascii_digit}
 use Rattle.std.proofs.lemmas.Bool.Decides.{nat_tests}
+use Rattle.std.proofs.lemmas.Str.{digit_value_digit}
+use Rattle.std.specs.Str.Parse.{digits_value}
 use Rattle.typed_fields.specs.Digits.{zero_padded}
-use Rattle.value_kinds.specs.ValueKind.{two_digit_text}
+use Rattle.typed_fields.proofs.SpellingLemmas.{digit_bounds}
+use Rattle.message_tables.specs.Tables.{Spells}
+use Rattle.row_values.specs.Kinds.{verdict_of}
+use Rattle.sound_laws.proofs.PlainRows.{spelled}
+use Rattle.sound_laws.proofs.SpelledAgain.{IsTwo, two_of}
+use Rattle.value_kinds.specs.ValueKind.{DayOfMonth, number_of_two, spelling, two_digit_text}
 use Rattle.typed_fields.proofs.DigitsLemmas.{zero_padded_two}
 
 abbrev pub IsShort : ℕ → Type 0
@@ -19,3 +27,17 @@ pub two_texts : (day : ℕ) → IsShort day → zero_padded 2 day ≡ two_digit_
 two_texts day short =
     let same : day / 10 % 10 ≡ day / 10 = omega (arith, short) in
     zero_padded_two day ∙ ap (λ (n : ℕ). (48 + n) ∷ (48 + day % 10) ∷ []) same
+
+-- the number that two digits write, in both versions
+pub two_value : (bytes text : List ℕ) → IsTwo bytes text → digits_value 10 text ≡ number_of_two text
+two_value bytes text h =
+    let d = digit_value_digit h.ten (digit_bounds h.ten h.ten_digit) in
+    let e = digit_value_digit h.one (digit_bounds h.one h.one_digit) in
+    let same : digits_value 10 (h.ten ∷ h.one ∷ []) ≡ number_of_two (h.ten ∷ h.one ∷ []) =
+    omega (arith, d, e) in
+    ap (digits_value 10) h.is ∙ same ∙ ap number_of_two (sym h.is)
+
+-- any day is spelled in two digits
+pub is_two : (bytes text : List ℕ) → verdict_of (spelling DayOfMonth bytes) ≡ Spells text
+    → IsTwo bytes text
+is_two bytes text h = two_of bytes text (spelled (spelling DayOfMonth bytes) text h)

@@ -1,7 +1,6 @@
--- A sound message of FIX 5.0 SP2 stays sound where its month is completed by its date. (This is
--- CompletedSound of request_translate, for rows that ExecType needs, too.)
-use Rattle.std.proofs.Common.{◌≡◌, ℕ, List, [], ◌∷◌, map, Some, None, Bool, true, false}
-use Rattle.std.proofs.Common.{refl, sym, ap, subst, ◌∙◌, codes, take, arith}
+-- A sound message of FIX 5.0 SP2 stays sound where its month is completed by its date.
+use Rattle.std.proofs.Common.{◌≡◌, ℕ, List, [], ◌∷◌, map, Some, None, Bool, true, false, refl, sym}
+use Rattle.std.proofs.Common.{ap, subst, ◌∙◌, codes, take, arith}
 use Rattle.std.specs.Prelude.{IfSome, not, ◌&&◌, ◌||◌, ◌==◌}
 use Rattle.std.specs.List.{AllByRecursion, flat_map, list_any, list_all}
 use Rattle.std.proofs.lemmas.Bool.{eqb-true}
@@ -9,20 +8,18 @@ use Rattle.std.proofs.lemmas.Bool.Decides.{nat_tests}
 use Rattle.field_groups.specs.Field.{Field}
 use Rattle.field_groups.specs.Data.{is_data_tag}
 use Rattle.message_tables.specs.Tables.{Verdict, Spells, Need, Required, Optional, Lenient, Fixed}
-use Rattle.message_tables.specs.Tables.{When, Stands, Is, Row, Item, One, Party, Lines, Table}
-use Rattle.message_tables.specs.Tables.{Message}
-use Rattle.message_tables.specs.Tables.{Said, Tag, Role, is_place, said_at, value_at, says}
-use Rattle.message_tables.specs.Tables.{or_else, ◌>>=◌, text_of, is_needed, is_listed}
+use Rattle.message_tables.specs.Tables.{When, Is, Row, Item, One, Party, Lines, Table, Message}
+use Rattle.message_tables.specs.Tables.{Said, Tag, Role, is_place, said_at, value_at, says, or_else}
+use Rattle.message_tables.specs.Tables.{◌>>=◌, text_of, is_needed, is_listed}
 use Rattle.message_tables.specs.Content.{content, cell_fields, item_fields}
 use Rattle.value_kinds.specs.ValueKind.{Day, spelling}
-use Rattle.row_values.specs.Kinds.{Kind, Value, Byte, DayOf, MonthBeside, TimeBeside, Version}
-use Rattle.row_values.specs.Kinds.{judge, verdict_of, date_at}
+use Rattle.row_values.specs.Kinds.{Kind, MonthBeside, judge, verdict_of, date_at}
 use Rattle.rows_fix50.specs.Header.{completed, month_by}
 use Rattle.sound_laws.specs.Sound.{IsClear, IsSaid, IsItem, IsSound, places_of}
 use Rattle.sound_laws.specs.Complete.{HasMonthOfDate}
 use Rattle.sound_laws.proofs.Each.{both}
 use Rattle.sound_laws.proofs.ContentValues.{value_at-append, row_value}
-use Rattle.sound_laws.proofs.ReadSound.{text_again}
+use Rattle.sound_laws.proofs.ReadSound.{row_passes, text_again}
 use Rattle.sound_laws.proofs.Completed.{other_said, month_said, same_places}
 use Rattle.sound_laws.proofs.Judged50.{ours_kind, AreAlike, judged_again, month_of_date}
 use Rattle.sound_laws.proofs.Judged50.{clear_front}
@@ -50,8 +47,7 @@ is_ours_row timed row = not (is_data_tag row.tag)
     && (ours_need row.need && (ours_kind timed row.kind && of_month (row.tag == 200) row.kind))
 
 abbrev pub is_ours : Bool → Item Kind → Bool
-is_ours timed (One row) = is_ours_row timed row
-is_ours timed item = true
+is_ours timed = row_passes (is_ours_row timed)
 
 -- what holds of a row
 pub record IsOurs (timed : Bool) (row : Row Kind) : Type 0 where
@@ -90,12 +86,7 @@ kept_need (When ((Is tag listed ∷ []) ∷ [])) h before after kept n =
     subst P (sym (eqb-true tag 150 h))
     (λ n. kept_test (is_listed listed (value_at 150 after))
     (is_listed listed (value_at 150 before)) (kept listed) n) n
-kept_need (Fixed text) h before after kept n = absurd cc
-kept_need (When []) h before after kept n = absurd cc
-kept_need (When ([] ∷ more)) h before after kept n = absurd cc
-kept_need (When ((Stands tag ∷ tests) ∷ more)) h before after kept n = absurd cc
-kept_need (When ((Is tag listed ∷ test ∷ tests) ∷ more)) h before after kept n = absurd cc
-kept_need (When ((Is tag listed ∷ []) ∷ other ∷ more)) h before after kept n = absurd cc
+kept_need other h before after kept n = absurd cc
 
 says_again : (need : Need) → ours_need need ≡ true → (j : List ℕ → Verdict) (said : Said)
     → IfSome said (λ text. j text ≡ Spells text) → says need j said ≡ said
@@ -112,11 +103,7 @@ month_judged (MonthBeside date) h fields day at =
     let P : ℕ → Type 0 =
     λ t. judge fields (MonthBeside t) (take 6 day) ≡ Spells (take 6 day) in
     subst P (sym is) (month_of_date fields day at)
-month_judged (Value kind) h fields day at = absurd cc
-month_judged (Byte listed) h fields day at = absurd cc
-month_judged (DayOf month) h fields day at = absurd cc
-month_judged (TimeBeside ord_type) h fields day at = absurd cc
-month_judged Version h fields day at = absurd cc
+month_judged other h fields day at = absurd cc
 
 -- ---- a message
 
@@ -186,7 +173,7 @@ module _ (timed : Bool) (table : Table Kind) (m : Message) where
     judged kind h (Some text) e = judged_again timed before after alike kind h text text e
 
     -- a row that says what it said
-    same_kept : (row : Row Kind) → IsOurs timed row → (said : Said)
+    pub same_kept : (row : Row Kind) → IsOurs timed row → (said : Said)
         → IsSaid judge before row said → IsSaid judge after row said
     same_kept row o said s =
         let spelled = judged row.kind o.kind said s.spelled in
@@ -264,9 +251,3 @@ module _ (timed : Bool) (table : Table Kind) (m : Message) where
         let month = month_said date m.cells month_there in
         month ∙ twice date (said_at m.cells (Tag 200))
         ∙ sym (λ i. month_by (same i) (month i))
-
--- what was read of a body, before the month of its date was told
-pub record IsRead (table : Table Kind) (m : Message) : Type 0 where
-  pub before : Message
-  pub sound : IsSound judge table before
-  pub is : completed before ≡ m
