@@ -1,35 +1,29 @@
 -- The lines that fields say by a group, as they are written.
 use Rattle.std.proofs.Common.{◌≡◌, ◌≤◌, ◌+◌, ◌++◌, ℕ, suc, List, [], ◌∷◌, map, length, Bool, true}
 use Rattle.std.proofs.Common.{false, Option, Some, None, refl, sym, ap, ◌∙◌, append_assoc, arith}
-use Rattle.std.proofs.Common.{◌<◌, drop, get_or, subst, take}
-use Rattle.std.proofs.lemmas.List.{append-nil, at_drop_all, at_drop_more, length-append}
-use Rattle.std.proofs.lemmas.List.{length-map}
+use Rattle.std.proofs.Common.{drop, subst, take}
+use Rattle.std.proofs.lemmas.List.{append-nil, length-append, length-map, take-append-drop}
 use Rattle.std.specs.Borrow.{Bor}
-use Rattle.std.specs.Prelude.{Err, Ok, OnOk, Result, position}
-use Rattle.message_tables.specs.CodeTables.{own_tags, seen}
-use Rattle.message_tables.specs.Tables.{first_tag, in_lines}
+use Rattle.std.specs.Prelude.{Err, Ok, OnOk, Result, position, ◌==◌, if◌then◌else◌}
+use Rattle.message_tables.specs.CodeTables.{own_tags, seen, group_of, row_of}
+use Rattle.message_tables.specs.Tables.{first_tag, in_lines, Cell, Item, Need, Required, Optional}
+use Rattle.message_tables.specs.Tables.{Lenient, Fixed, When, One, Party, Lines, RepeatingGroup}
+use Rattle.message_tables.specs.Tables.{Row, Tag, Verdict, ◌>>=◌, after_tag, cell_of, from_tag}
+use Rattle.message_tables.specs.Tables.{group_says, groups_of, line_fields_in, lines_in, lines_of}
+use Rattle.message_tables.specs.Tables.{run, says, tags_in, text_of, value_at, GroupTags, is_inside}
 use Rattle.message_tables.proofs.ByPlace.{no_lines}
 use Rattle.message_tables.proofs.Mapped.{group_tags_mapped}
 use Rattle.rule_rows.proofs.Items.{count_is}
-use Rattle.std.proofs.lemmas.List.{take-append-drop}
-use Rattle.std.specs.Prelude.{◌==◌, if◌then◌else◌}
 use Rattle.std.specs.List.{flat_map, list_all, prefix_len}
 use Rattle.field_groups.specs.Field.{Field, body_of}
-use Rattle.message_tables.specs.CodeTables.{group_of, item_of, row_of}
-use Rattle.message_tables.specs.declared.table.Item.{Item as CodeItem}
 use Rattle.message_tables.specs.declared.table.Row.{Row as CodeRow}
 use Rattle.message_tables.specs.declared.table.RepeatingGroup.{RepeatingGroup as CodeGroup}
-use Rattle.message_tables.specs.Tables.{Cell, Item, Need, Required, Optional, Lenient, Fixed, When}
-use Rattle.message_tables.specs.Tables.{One, Party, Lines, RepeatingGroup, Row, Tag, Verdict, ◌>>=◌}
-use Rattle.message_tables.specs.Tables.{after_tag, cell_of, from_tag, group_says, groups_of}
-use Rattle.message_tables.specs.Tables.{line_fields_in, lines_in, lines_of, run, says, tags_in}
-use Rattle.message_tables.specs.Tables.{text_of, value_at, GroupTags, is_inside, or_else}
 use Rattle.message_tables.specs.Content.{cell_fields, group_fields, line_fields}
 use Rattle.row_values.specs.CodeKinds.{kind_of}
 use Rattle.row_values.specs.Kinds.{Kind, judge, said}
 use Rattle.row_values.specs.Writing.{count_fields}
 use Rattle.row_values.specs.declared.kinds.Kind.{Kind as CodeKind}
-use Rattle.row_values.proofs.Contents.{body-append, group_written}
+use Rattle.row_values.proofs.Contents.{group_written}
 use Rattle.sound_laws.proofs.Each.{both}
 use Rattle.rule_rows.specs.Rows.{AreWritten, fixed_text, group_at, has_written_lines}
 use Rattle.rule_rows.specs.Rows.{have_written_lines, is_kind_written, line_by, lines_said}
@@ -151,67 +145,7 @@ count_few tags fields members count most are few all bound =
     let same = ap length are in
     let within = members_few tags fields in omega (arith, few, all, bound, long, same, within)
 
--- ---- line by line
-
--- a line more is written
-pub next_written : (write : List Field → List Field) (line : List Field)
-    (rest lines : List (List Field)) (old out next : List ℕ)
-    → next ≡ out ++ body_of (write line) → lines ≡ line ∷ rest
-    → out ++ body_of (flat_map write lines) ≡ old
-    → next ++ body_of (flat_map write rest) ≡ old
-next_written write line rest lines old out next done is known =
-    ap (λ b. b ++ body_of (flat_map write rest)) done
-    ∙ append_assoc out (body_of (write line)) (body_of (flat_map write rest))
-    ∙ ap (λ b. out ++ b) (sym (body-append (write line) (flat_map write rest)))
-    ∙ ap (λ ls. out ++ body_of (flat_map write ls)) (sym is) ∙ known
-
--- all lines are written
-pub all_written : (write : List Field → List Field) (lines : List (List Field)) (old out : List ℕ)
-    → lines ≡ [] → out ++ body_of (flat_map write lines) ≡ old → out ≡ old
-all_written write lines old out none known =
-    sym (append-nil out) ∙ ap (λ ls. out ++ body_of (flat_map write ls)) (sym none) ∙ known
-
 -- ---- the group of a count
-
-pub group_split : (count : ℕ) (item : Item Kind) (rest : List (Item Kind))
-    → group_at count (item ∷ rest) ≡ or_else (group_at count (item ∷ [])) (group_at count rest)
-group_split count (One row) rest = refl
-group_split count (Party role) rest = refl
-group_split count (Lines group) rest = by (group.count == count)
-  where
-    by : (b : Bool) → (if b then Some group else group_at count rest)
-        ≡ or_else (if b then Some group else None) (group_at count rest)
-    by true = refl
-    by false = refl
-
-module _ (count : ℕ) (all : List (CodeItem CodeKind)) (i : ℕ) (d : CodeItem CodeKind)
-    (left : group_at count (map (item_of kind_of) (drop i all))
-    ≡ group_at count (map (item_of kind_of) all)) where
-  abbrev rest : Option (RepeatingGroup Kind)
-  rest = group_at count (map (item_of kind_of) (drop (i + 1) all))
-
-  here : i < length all → or_else (group_at count (item_of kind_of (get_or all i d) ∷ [])) rest
-      ≡ group_at count (map (item_of kind_of) all)
-  here within =
-      sym (at_drop_more (λ its. group_at count (map (item_of kind_of) its)) all i d within
-      ∙ group_split count (item_of kind_of (get_or all i d))
-      (map (item_of kind_of) (drop (i + 1) all))) ∙ left
-
-  pub group_found : (o : Option (RepeatingGroup Kind)) (group : RepeatingGroup Kind)
-      → i < length all → o ≡ group_at count (item_of kind_of (get_or all i d) ∷ [])
-      → o ≡ Some group → Some group ≡ group_at count (map (item_of kind_of) all)
-  group_found o group within is some =
-      ap (λ p. or_else p rest) (sym some ∙ is) ∙ here within
-
-  pub group_passed : (o : Option (RepeatingGroup Kind)) → i < length all
-      → o ≡ group_at count (item_of kind_of (get_or all i d) ∷ []) → o ≡ None
-      → group_at count (map (item_of kind_of) (drop (i + 1) all))
-      ≡ group_at count (map (item_of kind_of) all)
-  group_passed o within is none = ap (λ p. or_else p rest) (sym none ∙ is) ∙ here within
-
-  pub group_ended : length all ≤ i → None ≡ group_at count (map (item_of kind_of) all)
-  group_ended le =
-      sym (at_drop_all (λ its. group_at count (map (item_of kind_of) its)) all i le) ∙ left
 
 rows_written : (rows : List (CodeRow CodeKind))
     → list_all (λ row. is_kind_written row.kind) (map (row_of kind_of) rows) ≡ true

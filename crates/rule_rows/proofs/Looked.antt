@@ -8,9 +8,8 @@ use Rattle.std.specs.List.{AllByRecursion, flat_map, list_all, list_any}
 use Rattle.message_tables.specs.Tables.{Place, Tag, Role, Said, Cell, Message, is_place, lines_of}
 use Rattle.message_tables.specs.Tables.{said_at}
 use Rattle.sound_laws.proofs.Each.{both, either, none_each}
-use Rattle.rule_rows.specs.ByRules.{Target, At, Grouped, Kinds, by_rules, cells_at}
-use Rattle.rule_rows.specs.ByRules.{groups_at, has_any, has_place, lack_by, outline, rule_cells}
-use Rattle.rule_rows.specs.ByRules.{rule_groups}
+use Rattle.rule_rows.specs.ByRules.{Target, At, Grouped, Kinds, by_rules, cells_at, groups_at}
+use Rattle.rule_rows.specs.ByRules.{has_any, has_place, lack_by, outline, rule_cells, rule_groups}
 
 -- ---- what the source does not have says nothing
 

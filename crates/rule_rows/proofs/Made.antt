@@ -1,12 +1,12 @@
 -- The table that rules make of a table: what they make of a message has its places and groups, and
 -- is written as its content, whatever the kinds of the rules are.
-use Rattle.std.proofs.Common.{◌≡◌, List, [], ◌∷◌, ◌++◌, map, Bool, true, false, Option, Some}
-use Rattle.std.proofs.Common.{None, refl, sym, ap, subst, ◌∙◌}
+use Rattle.std.proofs.Common.{◌≡◌, List, [], ◌∷◌, ◌++◌, map, Bool, true, false, Option, Some, None}
+use Rattle.std.proofs.Common.{refl, sym, ap, subst, ◌∙◌}
 use Rattle.std.specs.Option.{option_map}
 use Rattle.std.specs.Prelude.{option_to_list, unwrap_or}
 use Rattle.std.specs.List.{AllByRecursion, flat_map}
-use Rattle.message_tables.specs.Tables.{Item, One, Party, Lines, Message, RepeatingGroup, Tag}
-use Rattle.message_tables.specs.Tables.{Role, Said, Cell, groups_of}
+use Rattle.message_tables.specs.Tables.{Item, One, Party, Lines, Message, RepeatingGroup, Tag, Role}
+use Rattle.message_tables.specs.Tables.{Said, Cell, groups_of}
 use Rattle.message_tables.specs.Content.{cell_fields, group_fields, item_fields}
 use Rattle.row_values.specs.Kinds.{Kind}
 use Rattle.sound_laws.specs.Sound.{places_of}

@@ -1,20 +1,18 @@
 -- What rules make of a sound message is sound in the table that they make, where each rule makes an
 -- item that it says.
-use Rattle.std.proofs.Common.{◌≡◌, ℕ, List, [], ◌∷◌, Bool, true, Option, Some, None}
-use Rattle.std.proofs.Common.{sym, ap, subst, ◌∙◌}
+use Rattle.std.proofs.Common.{◌≡◌, ℕ, List, [], ◌∷◌, Bool, true, Option, Some, None, sym, ap, subst}
+use Rattle.std.proofs.Common.{◌∙◌}
 use Rattle.std.specs.Prelude.{IfSome, option_to_list}
 use Rattle.std.specs.List.{AllByRecursion, flat_map}
 use Rattle.field_groups.specs.Field.{Field}
-use Rattle.message_tables.specs.Tables.{Row, Item, RepeatingGroup, Message}
-use Rattle.message_tables.specs.Tables.{Place, Tag, Table, said_at, lines_of}
-use Rattle.message_tables.specs.Tables.{groups_of, value_at}
+use Rattle.message_tables.specs.Tables.{Row, Item, RepeatingGroup, Message, Place, Tag, Table}
+use Rattle.message_tables.specs.Tables.{said_at, groups_of, value_at}
 use Rattle.message_tables.specs.Content.{content}
 use Rattle.row_values.specs.Kinds.{Kind, judge}
 use Rattle.sound_laws.specs.Sound.{IsItem, IsSound}
 use Rattle.sound_laws.proofs.ContentValues.{GroupSaid, is_alone, value_said}
-use Rattle.rule_rows.specs.ByRules.{At, Grouped, Kinds, by_rules, outline, outline_of}
-use Rattle.rule_rows.proofs.Looked.{AreKinds, AreOwn, IsFound, has_lines_of, lines_by, rule_at}
-use Rattle.rule_rows.proofs.Looked.{said_by, says}
+use Rattle.rule_rows.specs.ByRules.{At, Kinds, by_rules, outline, outline_of}
+use Rattle.rule_rows.proofs.Looked.{AreKinds, AreOwn, IsFound, rule_at, said_by, says}
 use Rattle.rule_rows.proofs.Made.{IsMade, groups_made, items_made, made, no_more, outline_made}
 
 module _ {Rule : Type 0} (kinds : Kinds Rule) (are : AreKinds kinds) (all : List Rule)
@@ -43,13 +41,6 @@ module _ {Rule : Type 0} (kinds : Kinds Rule) (are : AreKinds kinds) (all : List
       says kinds are all own m place
       ∙ ap (λ t. said_by kinds m (rule_at kinds t all)) (sym is)
       ∙ ap (said_by kinds m) found
-
-  pub lines_are : (rule : Rule) (count : ℕ) → kinds.target rule ≡ Grouped count
-      → IsFound kinds all rule → lines_of count w.groups ≡ kinds.lines m rule
-  lines_are rule count is found =
-      has_lines_of kinds are all own m count
-      ∙ ap (λ t. lines_by kinds m (rule_at kinds t all)) (sym is)
-      ∙ ap (lines_by kinds m) found
 
   -- the groups of what a rule makes
   abbrev pub RuleGroups : Rule → Type 0

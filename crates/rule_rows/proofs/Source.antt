@@ -4,9 +4,9 @@ use Rattle.std.proofs.Common.{sym, ap, subst, ◌∙◌}
 use Rattle.std.specs.Prelude.{IsSome, IfSome, ◌==◌, is_some, if◌then◌else◌}
 use Rattle.std.specs.List.{AllByRecursion}
 use Rattle.field_groups.specs.Field.{Field}
-use Rattle.message_tables.specs.Tables.{Need, Required, Optional, Lenient, Fixed, When, Row, Item, One}
-use Rattle.message_tables.specs.Tables.{Party, Lines, RepeatingGroup, Message, Said, Tag, Spells}
-use Rattle.message_tables.specs.Tables.{Table, said_at, lines_of, is_needed, value_at}
+use Rattle.message_tables.specs.Tables.{Need, Required, Optional, Lenient, Row, Item, One, Party}
+use Rattle.message_tables.specs.Tables.{Lines, RepeatingGroup, Message, Said, Tag, Spells, Table}
+use Rattle.message_tables.specs.Tables.{said_at, lines_of, is_needed, value_at}
 use Rattle.message_tables.specs.Content.{content}
 use Rattle.value_kinds.specs.ValueKind.{ValueKind}
 use Rattle.row_values.specs.Kinds.{Kind, Value, judge}
@@ -14,10 +14,10 @@ use Rattle.sound_laws.specs.Sound.{IsClear, IsSaid, IsGroup, IsItem, IsSound}
 use Rattle.sound_laws.proofs.RowsSaid.{row_of_tag, row_said, same_value, required_said}
 use Rattle.sound_laws.proofs.RowsSaid.{optional_said, lenient_said}
 use Rattle.sound_laws.proofs.ContentValues.{groups_said, is_alone, value_said}
-use Rattle.rule_rows.specs.ByRules.{has_group, has_place, outline, outline_of}
-use Rattle.rule_rows.proofs.Looked.{none_at, no_lines}
+use Rattle.rule_rows.specs.ByRules.{has_place, outline, outline_of}
+use Rattle.rule_rows.proofs.Looked.{none_at}
 use Rattle.rule_rows.specs.Rows.{group_at}
-use Rattle.rule_rows.proofs.Items.{count_is, group_there, has_row, row_there, tag_is}
+use Rattle.rule_rows.proofs.Items.{count_is, has_row, row_there, tag_is}
 
 -- what is said by a canonical spelling without SOH
 pub record IsSpelled (fields : List Field) (kind : Kind) (said : Said) : Type 0 where
@@ -128,7 +128,3 @@ module _ (table : Table Kind) (m : Message) (sound : IsSound judge table m) wher
               let P : RepeatingGroup Kind → Type 0 =
               λ g. IsGroup judge g (lines_of g.count m.groups) in subst P same said.0
           one false e later = later e
-
-  pub no_group : (count : ℕ) → group_at count table.items ≡ None → lines_of count m.groups ≡ []
-  no_group count e = no_lines m.groups count
-      (ap (λ o. has_group o count) outline_is ∙ group_there table.items count ∙ ap is_some e)
