@@ -134,26 +134,10 @@ module _ (fields : List Field) (good : AreFields None fields) (m : Message)
           (no_report (type_of fields) fields None a' b') e
 
   report_header : HasHeader report_table
-  report_header = record {
-    sender = refl;
-    target = refl;
-    number = refl;
-    dup = refl;
-    resend = refl;
-    time = refl;
-    first_time = refl;
-  }
+  report_header = search
 
   reject_header : HasHeader cancel_reject_table
-  reject_header = record {
-    sender = refl;
-    target = refl;
-    number = refl;
-    dup = refl;
-    resend = refl;
-    time = refl;
-    first_time = refl;
-  }
+  reject_header = search
 
   module _ (w : Message) (down : down_message None m ≡ Ok w) where
     -- THE MESSAGE OF FIX 4.2 means the same, and is sound
