@@ -237,22 +237,9 @@ module _ (fields : Bor (List Field)) (groups : Groups) (known : Option (Bor (Lis
       by None e = alone e
 
   pub report_read : IsReadAs (known_of source) report source
-  report_read = source_read 56 execution_report fields groups known none (record {
-    exec_type = (refl, refl);
-    ord_status = (refl, refl);
-    leaves = (refl, refl);
-    ord_type = (refl, refl);
-    time = (refl, refl);
-    exec_id = (refl, refl);
-    original = (refl, refl);
-    text = (refl, refl);
-    date = (refl, refl);
-    rej = (refl, refl);
-    restate = (refl, refl);
-    cxl = (refl, refl);
-    month = month_at;
-    contras = says_contras report_table fields.now none 8 refl refl groups.contras contras;
-  })
+  report_read =
+      let lines = says_contras report_table fields.now none 8 refl refl groups.contras contras in
+      source_read 56 execution_report fields groups known none (search (month_at, lines))
 
   party_at : (role : ℕ) → role < 2 ^ 64
       → id_of role groups.parties ≡ party_in role (group_says judge fields.now groups50).1
@@ -286,22 +273,11 @@ module _ (fields : Bor (List Field)) (groups : Groups) (known : Option (Bor (Lis
   no_month = ap (slot_said fields.now) (slot_filled fields.now 200 cancel_reject refl)
 
   pub reject_read : IsReadAs (known_of rejected) reject rejected
-  reject_read = source_read 57 cancel_reject fields groups known none (record {
-    exec_type = (refl, refl);
-    ord_status = (refl, refl);
-    leaves = (refl, refl);
-    ord_type = (refl, refl);
-    time = (refl, refl);
-    exec_id = (refl, refl);
-    original = (refl, refl);
-    text = (refl, refl);
-    date = (refl, refl);
-    rej = (refl, refl);
-    restate = (refl, refl);
-    cxl = (refl, refl);
-    month = λ i. month_by (no_date i) (no_month i);
-    contras = ap (map contra_cells) contras;
-  })
+  reject_read =
+      let month : month_by (stands rejected 541) (says rejected 200) ≡ at reject 200 =
+      λ i. month_by (no_date i) (no_month i) in
+      let lines = ap (map contra_cells) contras in
+      source_read 57 cancel_reject fields groups known none (search (month, lines))
 
   no_party : (role : ℕ) → id_of role groups.parties ≡ None
   no_party role = ap (id_of role) parties

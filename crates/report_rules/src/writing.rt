@@ -28,24 +28,12 @@ use field_groups::{SOH, put_byte, put_field, put_number, put_tag};
 use order_meaning::Lack;
 use row_slots::{number, put_slot, slot_at, value};
 use row_values::{Contras, Part, put_content};
+use rule_rows::put_text;
 use std::alloc::{AllocError, Global};
 use typed_fields::{FieldValue, Number};
 
 /// What a call answers that appends: an error only for want of memory. What stood there stays.
 type Appended = Result<(), AllocError>;
-
-/// Appends the field of a text, if there is one.
-#[inline(always)]
-fn put_text_if(out: &mut Vec<u8>, tag: u32, text: Option<&[u8]>) -> Appended
-    ensures done { OnOk result (out.new.items
-        ≡ out.old.items ++ body_of (cell_fields (Tag tag, option_map (λ t. t.now) text.entry))) }
-    ensures kept { StartsWith out.new.items out.old.items }
-{
-    match text {
-        None => Ok(()),
-        Some(text) => put_field(out, tag, text),
-    }
-}
 
 /// Appends the field of a code, if there is one.
 #[inline(always)]
@@ -177,7 +165,7 @@ fn put_telling(out: &mut Vec<u8>, tag: u32, text: Option<&[u8]>, told: &[u8]) ->
     ensures kept { StartsWith out.new.items out.old.items }
 {
     match (told, text) {
-        ([], text) => put_text_if(out, tag, text),
+        ([], text) => put_text(out, tag, text),
         ([_, rest @ ..], None) => put_field(out, tag, rest),
         (told, Some(text)) => put_joined(out, tag, front(text), told),
     }
@@ -205,7 +193,7 @@ fn put_original(source: &Source<'_, '_, '_>, out: &mut Vec<u8>) -> Appended
 {
     match value(source.fields, slot_at(&source.slots, 41)) {
         Some(id) => put_field(out, 41, id),
-        None => put_text_if(out, 41, source.known),
+        None => put_text(out, 41, source.known),
     }
 }
 
@@ -361,7 +349,7 @@ fn put_said(alloc: Global, source: &Source<'_, '_, '_>, rule: &Rule, out: &mut V
         Rule::Same(tag) => put_slot(out, source.fields, slot_at(&source.slots, *tag), *tag),
         Rule::Moved(from, to) => put_slot(out, source.fields, slot_at(&source.slots, *from), *to),
         Rule::Original => put_original(source, out),
-        Rule::PartyOf(role, to) => put_text_if(out, *to, party(&source.groups.parties, *role)),
+        Rule::PartyOf(role, to) => put_text(out, *to, party(&source.groups.parties, *role)),
         Rule::Contras => put_contras(out, &source.groups.contras),
         Rule::ExecId => put_exec_id(source, out),
         Rule::TransType => put_code_if(out, 20, trans_type_if(source.codes.exec_type)),
