@@ -1,8 +1,2 @@
-pub mod Kept
-pub mod Books
-pub mod Same
-pub mod Values
-pub mod Means
-pub mod Readable
-pub mod Mapped
-mod Worked
+pub mod Bare
+pub mod Shell

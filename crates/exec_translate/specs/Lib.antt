@@ -1,3 +1,1 @@
-pub mod Mapping
 pub mod Down
-pub mod Written

@@ -1,60 +1,101 @@
-//! Reports of FIX 5.0 SP2 as reports of FIX 4.2.
+//! A report of FIX 5.0 SP2 as one of FIX 4.2.
 
-ghost use Rattle.std.specs.Prelude.{◌≡◌, Some, IfOk, IfErr};
+ghost use Rattle.std.specs.Prelude.{◌≡◌, [], None, Ok, IfErr, IfOk, IfSome};
 ghost use Rattle.std.specs.Option.{option_map};
-ghost use Rattle.order_meaning.specs.Book.{Book};
-ghost use Rattle.order_meaning.specs.Report.{filled, or_known};
+ghost use Rattle.sound_laws.specs.Complete.{IsComplete};
 ghost use Rattle.reports_fix42.specs.Readable as readable42;
 ghost use Rattle.reports_fix42.specs.Said as said42;
-ghost use Rattle.reports_fix42.specs.Sense.{report42};
-ghost use Rattle.reports_fix42.specs.Step.{step42};
-ghost use Rattle.reports_fix50.specs.Readable as readable50;
-ghost use Rattle.reports_fix50.specs.Said as said50;
-ghost use Rattle.reports_fix50.specs.Sense.{report50};
-ghost use Rattle.reports_fix50.specs.Step.{step50};
-ghost use Rattle.exec_translate.specs.Down.{IsMapped, LacksCodes, LacksOriginal};
-ghost use Rattle.exec_translate.specs.Written.{IsWritten, IsWrittenReject};
+ghost use Rattle.reports_fix50.specs.Message.{cancel_reject_table, report_table};
+ghost use Rattle.reports_fix50.specs.Readable.{IsReadableCancelReject, IsReadableReport};
+ghost use Rattle.reports_fix50.specs.Said.{cancel_reject_says, report_says};
+ghost use Rattle.report_rules.specs.Down.{IsId, IsPut, StandsFor};
+ghost use Rattle.report_rules.specs.Rules.{down_message};
+ghost use Rattle.exec_translate.specs.Down.{Lacks, bare, once, with_parties};
 
-use crate::cancel_rejects::{cancel_reject, original};
-use crate::mapping::exec_codes;
-use crate::reports::report;
+use field_groups::split;
 use order_meaning::Lack;
-use reports_fix42::{CancelReject42, Report42};
-use reports_fix50::{CancelReject50, Report50};
-use std::alloc::Global;
+use party_translate::from_parties;
+use report_rules::put_down;
+use reports_fix42::{CancelReject42, Report42, read_cancel_reject, read_report};
+use reports_fix50::{CancelReject50, Report50, write_cancel_reject, write_without_parties};
+use std::alloc::{AllocError, Global};
 
-/// The execution report of FIX 4.2 that means what a report of FIX 5.0 SP2 means, and changes each
-/// book alike.
-///
-/// ExecTransType(20), ExecType(150), OrdStatus(39) and ExecID(17) are those of the mapping. The
-/// first line of Parties(453) of role 3, 1 and 4 becomes ClientID(109), ExecBroker(76) and
-/// ClearingFirm(439), DisplayQty(1138) a MaxFloor(111), MaturityDate(541) a MaturityDay(205),
-/// OrderCapacity(528) a Rule80A(47), and a market or limit order at the close an OrdType(40) `5` or
-/// `B`. A reason that FIX 4.2 lacks becomes another one, and stands at the end of the text.
+/// The content of FIX 4.2 of what a report says besides its parties.
+fn report_content(alloc: Global, msg: &Report50) -> Result<Vec<u8>, Lack>
+    requires sound { IsComplete report_table (report_says msg.now) }
+    requires readable { IsReadableReport msg.now }
+    ensures ok { IfOk result (λ down. IsPut None (report_says (bare msg.now)) [] down.items) }
+    ensures lack { IfErr result (Lacks None (report_says (bare msg.now))) }
+{
+    let mut content = Vec::new(alloc);
+    write_without_parties(alloc, msg, &mut content)?;
+    let split = split(alloc, &content)?;
+    let mut down = Vec::new(alloc);
+    put_down(alloc, b"8", &split.fields, None, &mut down)?;
+    Ok(down)
+}
+
+/// A report with the parties of the venue's, and repeated where that is.
+fn with_parties(alloc: Global, msg: &Report50, report: Report42) -> Result<Report42, AllocError>
+    requires { readable42.IsReadableReport report }
+    ensures is { IfOk result (λ written. written ≡ with_parties msg.now report) }
+    ensures readable { IfOk result readable42.IsReadableReport }
+{
+    let parties = from_parties(alloc, msg.parties.as_slice())?;
+    Ok(Report42 {
+        resend: msg.resend,
+        client_id: parties.client,
+        exec_broker: parties.broker,
+        clearing_firm: parties.firm,
+        ..report
+    })
+}
+
+/// The execution report of FIX 4.2 that stands for a sound one of FIX 5.0 SP2: what the rules make
+/// of it. Of its parties the first of role 3, 1 and 4 goes down.
 ///
 /// # Errors
 ///
 /// `Lack::Tag(150)` exactly where ExecType(150) has no counterpart: of those of FIX 5.0 SP2 `J` and
 /// `K`; `Lack::NoMemory` for want of memory.
 pub fn down_report(alloc: Global, msg: &Report50) -> Result<Report42, Lack>
-    requires { readable50.IsReadableReport msg.now }
-    ensures sense { IfOk result (λ written. report42 (said42.report_says written)
-        ≡ report50 (said50.report_says msg.now)) }
-    ensures codes { IfOk result (IsMapped msg.now) }
-    ensures written { IfOk result (IsWritten msg.now) }
+    requires sound { IsComplete report_table (report_says msg.now) }
+    requires readable { IsReadableReport msg.now }
+    ensures rules { IfOk result (λ written.
+        down_message None (report_says msg.now) ≡ Ok (said42.report_says written)) }
+    ensures stands { IfOk result (λ written.
+        StandsFor None (report_says msg.now) (said42.report_says written)) }
     ensures readable { IfOk result readable42.IsReadableReport }
-    ensures book { IfOk result (λ written. (book : Book)
-        → step42 book (said42.report_says written) ≡ step50 book (said50.report_says msg.now)) }
-    ensures lack { IfErr result (LacksCodes msg.now) }
+    ensures lack { IfErr result (Lacks None (report_says msg.now)) }
 {
-    match exec_codes(msg.exec_type, msg.ord_status, msg.leaves) {
-        None => Err(Lack::Tag(150)),
-        Some(exec) => Ok(report(alloc, msg, exec)?),
+    let content = report_content(alloc, msg)?;
+    let split = split(alloc, &content)?;
+    match read_report(alloc, &split) {
+        Ok(report) => Ok(with_parties(alloc, msg, report)?),
+        // What goes down is read again, so that memory alone can be wanted.
+        Err(_) => Err(Lack::NoMemory),
     }
 }
 
-/// The cancel reject of FIX 4.2 that means what one of FIX 5.0 SP2 means, with the id `orig` that
-/// is known of the order where the venue says none, and changes each book alike.
+/// The content of FIX 4.2 of a cancel reject.
+fn reject_content(alloc: Global, msg: &CancelReject50, orig: Option<&[u8]>) -> Result<Vec<u8>, Lack>
+    requires sound { IsComplete cancel_reject_table (cancel_reject_says msg.now) }
+    requires readable { IsReadableCancelReject msg.now }
+    ensures ok { IfOk result (λ down. IsPut (option_map (λ o. o.now) orig.entry)
+        (cancel_reject_says (once msg.now)) [] down.items) }
+    ensures lack { IfErr result
+        (Lacks (option_map (λ o. o.now) orig.entry) (cancel_reject_says (once msg.now))) }
+{
+    let mut content = Vec::new(alloc);
+    write_cancel_reject(msg, &mut content)?;
+    let split = split(alloc, &content)?;
+    let mut down = Vec::new(alloc);
+    put_down(alloc, b"9", &split.fields, orig, &mut down)?;
+    Ok(down)
+}
+
+/// The cancel reject of FIX 4.2 that stands for a sound one of FIX 5.0 SP2, with the id `orig` that
+/// is known of the order where the venue says none: what the rules make of it.
 ///
 /// # Errors
 ///
@@ -65,22 +106,25 @@ pub fn down_cancel_reject(
     msg: &CancelReject50,
     orig: Option<&[u8]>,
 ) -> Result<CancelReject42, Lack>
-    requires { readable50.IsReadableCancelReject msg.now }
-    ensures sense { IfOk result (λ written. report42 (said42.cancel_reject_says written)
-        ≡ option_map (filled (option_map (λ o. o.now) orig.entry))
-        (report50 (said50.cancel_reject_says msg.now))) }
-    ensures status { IfOk result (λ written. written.ord_status ≡ msg.now.ord_status) }
-    ensures original { IfOk result (λ written. or_known msg.now.orig_id
-        (option_map (λ o. o.now) orig.entry) ≡ Some written.orig_id) }
-    ensures written { IfOk result (λ written.
-        IsWrittenReject msg.now written.orig_id written) }
+    requires sound { IsComplete cancel_reject_table (cancel_reject_says msg.now) }
+    requires readable { IsReadableCancelReject msg.now }
+    requires orig { IfSome (option_map (λ o. o.now) orig.entry) IsId }
+    ensures rules { IfOk result (λ written. down_message (option_map (λ o. o.now) orig.entry)
+        (cancel_reject_says msg.now) ≡ Ok (said42.cancel_reject_says written)) }
+    ensures stands { IfOk result (λ written. StandsFor (option_map (λ o. o.now) orig.entry)
+        (cancel_reject_says msg.now) (said42.cancel_reject_says written)) }
     ensures readable { IfOk result readable42.IsReadableCancelReject }
-    ensures book { IfOk result (λ written. (book : Book)
-        → step42 book (said42.cancel_reject_says written)
-        ≡ step50 book (said50.cancel_reject_says msg.now)) }
     ensures lack { IfErr result
-        (LacksOriginal msg.now.orig_id (option_map (λ o. o.now) orig.entry)) }
+        (Lacks (option_map (λ o. o.now) orig.entry) (cancel_reject_says msg.now)) }
 {
-    let orig_id = original(alloc, &msg.orig_id, orig)?;
-    Ok(cancel_reject(alloc, msg, orig_id)?)
+    let content = reject_content(alloc, msg, orig)?;
+    let split = split(alloc, &content)?;
+    match read_cancel_reject(alloc, &split) {
+        Ok(reject) => Ok(CancelReject42 {
+            resend: msg.resend,
+            ..reject
+        }),
+        // What goes down is read again, so that memory alone can be wanted.
+        Err(_) => Err(Lack::NoMemory),
+    }
 }

@@ -1,6 +1,6 @@
 //! Reading and writing reports and refusals of FIX 5.0 SP2.
 
-ghost use Rattle.std.specs.Prelude.{◌≡◌, ◌++◌, IfOk, None, OnErr, OnOk};
+ghost use Rattle.std.specs.Prelude.{◌≡◌, ◌++◌, [], IfOk, None, OnErr, OnOk};
 ghost use Rattle.field_groups.specs.Field.{body_of};
 ghost use Rattle.first_faults.specs.Gives.{Gives, IsCleanIf};
 ghost use Rattle.refusal_parts.specs.Once.{refusal_by};
@@ -21,7 +21,7 @@ use crate::tables;
 use crate::writing::{cancel_reject_parts, report_parts};
 use field_groups::{Fields, Split, is_type};
 use first_faults::good_fields;
-use order_meaning::{Fault, Refusal};
+use order_meaning::{Fault, Lines, Refusal};
 use refusal_parts::{business_reject, business_reject_parts, session_reject, session_reject_parts};
 use row_values::put_content;
 use std::alloc::{AllocError, Global};
@@ -122,7 +122,26 @@ pub fn write_report(msg: &Report50, out: &mut Vec<u8>) -> Result<(), AllocError>
     ensures ok { OnOk result (out.new.items ≡ out.old.items ++ body_of (report_content msg.now)) }
     ensures err { OnErr result (out.new.items ≡ out.old.items) }
 {
-    put_content(out, &report_parts(msg))
+    put_content(out, &report_parts(msg, &msg.parties))
+}
+
+/// Appends the content of an execution report whose values can be read, as `write_report` does, but
+/// without its Parties(453).
+///
+/// # Errors
+///
+/// `AllocError` for want of memory; then `out` is unchanged.
+pub fn write_without_parties(
+    alloc: Global,
+    msg: &Report50,
+    out: &mut Vec<u8>,
+) -> Result<(), AllocError>
+    requires { IsReadableReport msg.now }
+    ensures ok { OnOk result (out.new.items
+        ≡ out.old.items ++ body_of (report_content (record msg.now { parties = [] }))) }
+    ensures err { OnErr result (out.new.items ≡ out.old.items) }
+{
+    put_content(out, &report_parts(msg, &Lines::new(alloc)))
 }
 
 /// Appends the content of a cancel reject whose values can be read, as `write_report` does.

@@ -2,25 +2,29 @@
 
 ghost use Rattle.std.specs.Prelude.{◌≡◌};
 ghost use Rattle.std.specs.List.{AllByRecursion, flat_map};
+ghost use Rattle.row_values.specs.Lines.{AreReadableParties};
 ghost use Rattle.row_values.specs.Writing.{IsPart, part_fields};
 ghost use Rattle.reports_fix50.specs.Content.{cancel_reject_content, report_content};
 ghost use Rattle.reports_fix50.specs.Readable.{IsReadableCancelReject, IsReadableReport};
 
 use crate::reports::{CancelReject50, Report50};
+use order_meaning::Lines;
 use row_values::{Part, Value};
 
-/// The parts of Execution Report (8).
-pub(crate) fn report_parts(m: &Report50) -> [Part<'_>; 44]
-    requires { IsReadableReport m.now }
+/// The parts of Execution Report (8), with these parties.
+pub(crate) fn report_parts<'m>(m: &'m Report50, parties: &'m Lines) -> [Part<'m>; 44]
+    requires report { IsReadableReport m.now }
+    requires parties { AreReadableParties parties.now }
     ensures parts { AllByRecursion IsPart result }
-    ensures content { flat_map part_fields result ≡ report_content m.now }
+    ensures content { flat_map part_fields result
+        ≡ report_content (record m.now { parties = parties.now }) }
 {
     [
         Part::Row(37, Value::Text(&m.order_id)),
         Part::Row(198, Value::TextIf(&m.secondary_id)),
         Part::Row(11, Value::TextIf(&m.cl_ord_id)),
         Part::Row(41, Value::TextIf(&m.orig_id)),
-        Part::Parties(&m.parties),
+        Part::Parties(parties),
         Part::Contras(&m.contras),
         Part::Row(17, Value::Text(&m.exec_id)),
         Part::Row(19, Value::TextIf(&m.ref_id)),

@@ -105,6 +105,27 @@ month_judged (MonthBeside date) h fields day at =
     subst P (sym is) (month_of_date fields day at)
 month_judged other h fields day at = absurd cc
 
+-- ---- a row that says what it said, where the fields beside it say the same
+
+module _ (timed : Bool) (before after : List Field) (alike : AreAlike timed before after)
+    (kept : KeepsType before after) where
+  judged : (kind : Kind) → ours_kind timed kind ≡ true → (said : Said)
+      → IfSome said (λ text. judge before kind text ≡ Spells text)
+      → IfSome said (λ text. judge after kind text ≡ Spells text)
+  judged kind h None e = tt
+  judged kind h (Some text) e = judged_again timed before after alike kind h text text e
+
+  pub same_kept : (row : Row Kind) → IsOurs timed row → (said : Said)
+      → IsSaid judge before row said → IsSaid judge after row said
+  same_kept row o said s =
+      let spelled = judged row.kind o.kind said s.spelled in
+      record {
+        needed = λ n. s.needed (kept_need row.need o.need before after kept n);
+        spelled = spelled;
+        again = says_again row.need o.need (judge after row.kind) said spelled;
+        clear = s.clear;
+      }
+
 -- ---- a message
 
 module _ (timed : Bool) (table : Table Kind) (m : Message) where
@@ -166,29 +187,12 @@ module _ (timed : Bool) (table : Table Kind) (m : Message) where
     month_there : list_any (is_place (Tag 200)) (map (λ c. c.0) m.cells) ≡ true
     month_there = ap (list_any (is_place (Tag 200))) sound.places ∙ there
 
-    judged : (kind : Kind) → ours_kind timed kind ≡ true → (said : Said)
-        → IfSome said (λ text. judge before kind text ≡ Spells text)
-        → IfSome said (λ text. judge after kind text ≡ Spells text)
-    judged kind h None e = tt
-    judged kind h (Some text) e = judged_again timed before after alike kind h text text e
-
-    -- a row that says what it said
-    pub same_kept : (row : Row Kind) → IsOurs timed row → (said : Said)
-        → IsSaid judge before row said → IsSaid judge after row said
-    same_kept row o said s =
-        let spelled = judged row.kind o.kind said s.spelled in
-        record {
-          needed = λ n. s.needed (kept_need row.need o.need before after kept_type n);
-          spelled = spelled;
-          again = says_again row.need o.need (judge after row.kind) said spelled;
-          clear = s.clear;
-        }
-
     -- the row of the month
     month_kept : (row : Row Kind) → IsOurs timed row → month_kind row.kind ≡ true → (d said : Said)
         → date_at 541 after ≡ d → IfSome d IsClear → IsSaid judge before row said
         → IsSaid judge after row (month_by d said)
-    month_kept row o k None said at c s = same_kept row o said s
+    month_kept row o k None said at c s =
+        same_kept timed before after alike kept_type row o said s
     month_kept row o k (Some day) said at c s =
         let spelled = month_judged row.kind k after day at in
         record {
@@ -207,7 +211,7 @@ module _ (timed : Bool) (table : Table Kind) (m : Message) where
             → IsSaid judge after row (said_at (completed m).cells (Tag row.tag))
         by false e k = subst (λ (said : Said). IsSaid judge after row said)
             (sym (other_said date m.cells (Tag row.tag) e))
-            (same_kept row o (said_at m.cells (Tag row.tag)) s)
+            (same_kept timed before after alike kept_type row o (said_at m.cells (Tag row.tag)) s)
         by true e k =
             let is : row.tag ≡ 200 = eqb-true row.tag 200 e in
             let said : said_at (completed m).cells (Tag row.tag)

@@ -1,32 +1,24 @@
-use Rattle.std.specs.Option.{option_map}
-use Rattle.exec_translate.proofs.Means.{refusal_kept, refusal_books}
-use Rattle.exec_translate.proofs.Means.{of_its_order, original_told}
-use Rattle.exec_translate.proofs.Readable.{refusal_readable}
+use Rattle.std.proofs.Common.{option_map}
+use Rattle.std.proofs.lemmas.Result.{err_from_is_err_and}
+use Rattle.exec_translate.proofs.Shell.{reject_down, reject_lacks, reject_stands}
 use Rattle.exec_translate.proofs.downward.down_cancel_reject.Goals as goal
 
-pub returns-clause-sense : goal.returns-clause-sense
-returns-clause-sense c =
-    refusal_kept c.args.msg.now (option_map (λ o. o.now) c.args.orig) c.in_ok-orig_id.orig_id
-    c.in_ok-cancel_reject.field-0 c.requires c.in_ok-orig_id.ensures.ok
-    c.in_ok-cancel_reject.ensures
+pub returns-in_err-content-clause-lack : goal.returns-in_err-content-clause-lack
+returns-in_err-content-clause-lack c =
+    let p = err_from_is_err_and c.from_residual.result c.from_residual.ensures.1 in
+    rw (p.1, p.2) (reject_lacks c.args.msg.now (option_map (λ o. o.now) c.args.orig.entry)
+    c.in_err-content.field-0.0 c.in_err-content.ensures.lack)
 
-pub returns-clause-book : goal.returns-clause-book
-returns-clause-book c =
-    refusal_books c.args.msg.now (option_map (λ o. o.now) c.args.orig) c.in_ok-orig_id.orig_id
-    c.in_ok-cancel_reject.field-0 c.requires c.in_ok-orig_id.ensures.ok
-    c.in_ok-cancel_reject.ensures
+pub returns-in-Ok-clause-rules : goal.returns-in-Ok-clause-rules
+returns-in-Ok-clause-rules c =
+    reject_down c.args.msg.now (option_map (λ o. o.now) c.args.orig.entry) c.requires.sound
+    c.requires.orig c.in_ok-content.content.items c.deref.result.now c.in_ok-content.ensures.ok
+    c.deref.ensures.value c.in_ok-split.split.fields c.in_ok-split.split.fault
+    c.in_ok-split.ensures c.in-Ok.reject c.in-Ok.ensures.says
 
-pub returns-clause-readable : goal.returns-clause-readable
-returns-clause-readable c =
-    refusal_readable c.args.msg.now c.in_ok-orig_id.orig_id c.in_ok-cancel_reject.field-0
-    c.requires c.in_ok-cancel_reject.ensures
-
-pub returns-clause-original : goal.returns-clause-original
-returns-clause-original c =
-    original_told c.args.msg.now (option_map (λ o. o.now) c.args.orig) c.in_ok-orig_id.orig_id
-    c.in_ok-cancel_reject.field-0 c.in_ok-orig_id.ensures.ok c.in_ok-cancel_reject.ensures
-
-pub returns-clause-written : goal.returns-clause-written
-returns-clause-written c =
-    of_its_order c.args.msg.now c.in_ok-orig_id.orig_id c.in_ok-cancel_reject.field-0
-    c.in_ok-cancel_reject.ensures
+pub returns-in-Ok-clause-stands : goal.returns-in-Ok-clause-stands
+returns-in-Ok-clause-stands c =
+    reject_stands c.args.msg.now (option_map (λ o. o.now) c.args.orig.entry) c.requires.sound
+    c.requires.orig c.in_ok-content.content.items c.deref.result.now c.in_ok-content.ensures.ok
+    c.deref.ensures.value c.in_ok-split.split.fields c.in_ok-split.split.fault
+    c.in_ok-split.ensures c.in-Ok.reject c.in-Ok.ensures.says

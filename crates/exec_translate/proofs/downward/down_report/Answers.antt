@@ -1,36 +1,23 @@
-use Rattle.exec_translate.proofs.Mapped.{same_codes, same_exec}
-use Rattle.exec_translate.proofs.Means.{report_kept, report_books}
-use Rattle.exec_translate.proofs.Readable.{report_readable}
+use Rattle.std.proofs.lemmas.Result.{err_from_is_err_and}
+use Rattle.exec_translate.proofs.Shell.{report_down, report_lacks, report_stands}
 use Rattle.exec_translate.proofs.downward.down_report.Goals as goal
 
-pub returns-in_ok-report-in-Some-clause-sense : goal.returns-in_ok-report-in-Some-clause-sense
-returns-in_ok-report-in-Some-clause-sense c =
-    let is = c.in_ok-report-in-Some.ensures in
-    report_kept c.args.msg.now c.in_ok-report-in-Some.field-0 c.requires is.rows
-    (same_exec c.args.msg.now.exec_type c.in-Some.exec _ _ c.in-Some.ensures.exec is.trans_type
-    is.exec_type)
+pub returns-in_err-content-clause-lack : goal.returns-in_err-content-clause-lack
+returns-in_err-content-clause-lack c =
+    let p = err_from_is_err_and c.from_residual.result c.from_residual.ensures.1 in
+    rw (p.1, p.2) (report_lacks c.args.msg.now c.in_err-content.field-0.0
+    c.in_err-content.ensures.lack)
 
-pub returns-in_ok-report-in-Some-clause-book : goal.returns-in_ok-report-in-Some-clause-book
-returns-in_ok-report-in-Some-clause-book c =
-    let is = c.in_ok-report-in-Some.ensures in
-    report_books c.args.msg.now c.in_ok-report-in-Some.field-0 c.requires is.rows
-    (same_exec c.args.msg.now.exec_type c.in-Some.exec _ _ c.in-Some.ensures.exec is.trans_type
-    is.exec_type)
+pub returns-in-Ok-clause-rules : goal.returns-in-Ok-clause-rules
+returns-in-Ok-clause-rules c =
+    report_down c.args.msg.now c.requires.sound c.in_ok-content.content.items c.deref.result.now
+    c.in_ok-content.ensures.ok c.deref.ensures.value c.in_ok-split.split.fields
+    c.in_ok-split.split.fault c.in_ok-split.ensures c.in-Ok.report c.in-Ok.ensures.says
+    c.in_ok-with_parties-in-Ok.field-0 c.in_ok-with_parties-in-Ok.ensures.is
 
-pub returns-in_ok-report-in-Some-clause-codes : goal.returns-in_ok-report-in-Some-clause-codes
-returns-in_ok-report-in-Some-clause-codes c =
-    let is = c.in_ok-report-in-Some.ensures in
-    record {
-      exec = same_codes _ c.in-Some.exec _ _ _ c.in-Some.ensures.table is.trans_type is.exec_type
-          is.ord_status;
-      exec_id = is.rows.exec_id;
-      terms = is.rows.plain_terms;
-    }
-
-pub returns-in_ok-report-in-Some-clause-readable : goal.returns-in_ok-report-in-Some-clause-readable
-returns-in_ok-report-in-Some-clause-readable c =
-    let is = c.in_ok-report-in-Some.ensures in
-    report_readable c.args.msg.now c.in_ok-report-in-Some.field-0 c.requires is.rows
-
-pub returns-in_ok-report-in-Some-clause-written : goal.returns-in_ok-report-in-Some-clause-written
-returns-in_ok-report-in-Some-clause-written c = c.in_ok-report-in-Some.ensures.rows
+pub returns-in-Ok-clause-stands : goal.returns-in-Ok-clause-stands
+returns-in-Ok-clause-stands c =
+    report_stands c.args.msg.now c.requires.sound c.in_ok-content.content.items c.deref.result.now
+    c.in_ok-content.ensures.ok c.deref.ensures.value c.in_ok-split.split.fields
+    c.in_ok-split.split.fault c.in_ok-split.ensures c.in-Ok.report c.in-Ok.ensures.says
+    c.in_ok-with_parties-in-Ok.field-0 c.in_ok-with_parties-in-Ok.ensures.is

@@ -1,0 +1,227 @@
+-- A report as a struct: its content is split and read, and so is that of what goes down.
+use Rattle.std.proofs.Common.{◌≡◌, ℕ, List, [], ◌∷◌, ◌++◌, Option, Some, None, Ok, Err, refl, sym, ap}
+use Rattle.std.proofs.Common.{◌∙◌, drop, lit≤, subst, take}
+use Rattle.std.specs.Prelude.{IfSome}
+use Rattle.field_groups.specs.declared.fault.SplitFault.{SplitFault}
+use Rattle.field_groups.specs.Data.{is_data_tag}
+use Rattle.field_groups.specs.Field.{Field, body_of}
+use Rattle.field_groups.specs.Fields.{SplitsInto}
+use Rattle.field_groups.proofs.Determined.{determined}
+use Rattle.message_tables.specs.Content.{content}
+use Rattle.message_tables.specs.FirstFault.{first_fault}
+use Rattle.message_tables.specs.Tables.{Message, Said, Table, Tag, first_of}
+use Rattle.order_meaning.specs.declared.fault.Lack.{Lack}
+use Rattle.order_meaning.specs.declared.fault.Lack.TheVariants as lacks
+use Rattle.row_values.specs.Kinds.{Kind, judge}
+use Rattle.first_faults.specs.Faults.{message_by}
+use Rattle.rows_fix50.specs.Meaning.{id_of}
+use Rattle.reports_fix42.specs.Message as tables42
+use Rattle.reports_fix42.specs.Said as said42
+use Rattle.reports_fix42.specs.declared.reports.CancelReject42.{CancelReject42}
+use Rattle.reports_fix42.specs.declared.reports.Report42.{Report42}
+use Rattle.reports_fix50.specs.Message.{cancel_reject_table, message50, report_table}
+use Rattle.reports_fix50.specs.Message.{report_table_of}
+use Rattle.reports_fix50.specs.Said.{cancel_reject_says, report_says}
+use Rattle.reports_fix50.specs.declared.reports.CancelReject50.{CancelReject50}
+use Rattle.reports_fix50.specs.declared.reports.Report50.{Report50}
+use Rattle.sound_laws.specs.Complete.{IsComplete}
+use Rattle.sound_laws.specs.Sound.{IsSound, without_resend}
+use Rattle.sound_laws.proofs.ContentAgain.{read_again}
+use Rattle.sound_laws.proofs.PlainFields.{AreFew, few_of, times}
+use Rattle.rule_rows.specs.ByRules.{by_rules, lack_by, or_lack}
+use Rattle.report_rules.specs.Down.{IsGoodBy, IsId, IsPut, LacksDown, PutsDown, Rejects50, Reports50}
+use Rattle.report_rules.specs.Down.{StandsFor}
+use Rattle.report_rules.specs.Rules.{Original, Same, down_message, down_rules, kinds, table_at}
+use Rattle.report_rules.specs.Rules.{written}
+use Rattle.report_rules.proofs.GoDown.{Down, down_by, goes_down, reject_sound, report_sound}
+use Rattle.report_rules.proofs.GoDown.{rules_of}
+use Rattle.exec_translate.specs.Down.{Lacks, bare, once, with_parties}
+use Rattle.exec_translate.proofs.Bare.{IsReady, few_again, reject_ready, report_ready}
+
+-- a body that is these fields is split into them
+split_is : (body : List ℕ) (own fields : List Field) (fault : Option SplitFault)
+    → body ≡ body_of own → SplitsInto (body_of own) own None
+    → SplitsInto body fields fault → (fields ≡ own) × (fault ≡ None)
+split_is body own fields fault is again split =
+    let P : List ℕ → Type 0 = λ b. SplitsInto b fields fault in
+    determined (body_of own) fields own fault None (subst P is split) again
+
+-- ---- the content of a report of FIX 5.0 SP2
+
+module _ (type : List ℕ) (table : Table Kind) (m : Message) (ready : IsReady type table m)
+    (typed : report_table_of type ≡ Some table) (body : List ℕ) (fields : List Field)
+    (fault : Option SplitFault) (is : body ≡ body_of (content table m))
+    (split : SplitsInto body fields fault) where
+  same : fields ≡ content table m
+  same = (split_is body (content table m) fields fault is ready.splits split).0
+
+  pub is_good : IsGoodBy (report_table_of type) fields
+  is_good =
+      let P : Option (Table Kind) → Type 0 = λ t. IsGoodBy t fields in
+      subst P (sym typed) (ap (first_fault judge table) same ∙ ready.good)
+
+  read : message50 type fields None ≡ Ok m
+  read = ap (λ (fs : List Field). message50 type fs None) same ∙ ready.read
+
+  pub is_put : (known : Said) (before after : List ℕ) → PutsDown type known fields before after
+      → IsPut known m before after
+  is_put known before after h = h m read
+
+  pub is_lack : (known : Said) (lack : Lack) → LacksDown type known fields lack
+      → Lacks known m lack
+  is_lack known lacks.NoMemory h = tt
+  is_lack known (lacks.Tag tag) h = h m read
+
+-- ---- the content of what goes down
+
+record IsRead (table : Table Kind) (w : Message) : Type 0 where
+  splits : SplitsInto (body_of (written w)) (written w) None
+  read : message_by (Some table) (written w) None ≡ Ok (without_resend w)
+
+read_by : (table : Table Kind) (w : Message) → AreFew (content table w)
+    → message_by (Some table) (content table w) None ≡ Ok (without_resend w)
+    → written w ≡ content table w → IsRead table w
+read_by table w few again is = record {
+  splits =
+      let P : List Field → Type 0 = λ fs. SplitsInto (body_of fs) fs None in
+      subst P (sym is) (few_again (content table w) few);
+  read = ap (λ (fs : List Field). message_by (Some table) fs None) is ∙ again;
+}
+
+pub report_reads : (m w : Message) → IsComplete report_table m → down_message None m ≡ Ok w
+    → IsRead tables42.execution_report_table w
+unfolding is_data_tag times
+report_reads m w c down =
+    let t = tables42.execution_report_table in
+    let sound : IsSound judge t w = report_sound m w c
+    (down_by None m w (down_rules (Same 41)) (rules_of None m 56 c.sound.letter) down) in
+    read_by t w (few_of judge t w refl (lit≤ tt) sound) (read_again t w refl refl sound)
+    (ap (λ (l : ℕ). content (table_at l) w) sound.letter)
+
+pub reject_reads : (known : Said) → IfSome known IsId → (m w : Message)
+    → IsComplete cancel_reject_table m → down_message known m ≡ Ok w
+    → IsRead tables42.cancel_reject_table w
+unfolding is_data_tag times
+reject_reads known id m w c down =
+    let t = tables42.cancel_reject_table in
+    let sound : IsSound judge t w = reject_sound known id m w c
+    (down_by known m w (down_rules (Original known)) (rules_of known m 57 c.sound.letter) down) in
+    read_by t w (few_of judge t w refl (lit≤ tt) sound) (read_again t w refl refl sound)
+    (ap (λ (l : ℕ). content (table_at l) w) sound.letter)
+
+module _ (known : Said) (m : Message) (body : List ℕ) (put : IsPut known m [] body)
+    (table : Table Kind) (r : IsRead table put.w) (fields : List Field) (fault : Option SplitFault)
+    (split : SplitsInto body fields fault) where
+  reads : message_by (Some table) fields fault ≡ Ok (without_resend put.w)
+  reads =
+      let same = split_is body (written put.w) fields fault put.bytes r.splits split in
+      (λ i. message_by (Some table) (same.0 i) (same.1 i)) ∙ r.read
+
+  pub says_it : (x : Message) → message_by (Some table) fields fault ≡ Ok x
+      → x ≡ without_resend put.w
+  says_it x h = let e = sym h ∙ reads in cc
+
+-- ---- what a content does not have
+
+same_lack : (lack : Option ℕ) (x y : Message) (tag : ℕ) → or_lack lack x ≡ Err tag
+    → or_lack lack y ≡ Err tag
+same_lack None x y tag h = absurd cc
+same_lack (Some other) x y tag h = h
+
+module _ (msg : Report50) where
+  abbrev patch : Message → Message
+  patch x = record x {
+    resend = msg.resend;
+    cells = take 4 x.cells ++ (Tag 109, id_of 3 msg.parties) ∷ (Tag 76, id_of 1 msg.parties)
+        ∷ (Tag 439, id_of 4 msg.parties) ∷ drop 7 x.cells;
+  }
+
+  pub report_lacks : (lack : Lack) → Lacks None (report_says (bare msg)) lack
+      → Lacks None (report_says msg) lack
+  unfolding first_of
+  report_lacks lacks.NoMemory h = tt
+  report_lacks (lacks.Tag tag) h =
+      let all = down_rules (Same 41) in
+      same_lack (lack_by kinds all (report_says msg)) (by_rules kinds all (report_says (bare msg)))
+      (by_rules kinds all (report_says msg)) tag h
+
+  pub report_rules : (w : Message) (r : Report42) → down_message None (report_says (bare msg)) ≡ Ok w
+      → said42.report_says r ≡ without_resend w
+      → down_message None (report_says msg) ≡ Ok (said42.report_says (with_parties msg r))
+  unfolding first_of
+  report_rules w r down is =
+      let all = down_rules (Same 41) in
+      let d : Down all (report_says (bare msg)) w = down_by None (report_says (bare msg)) w all refl down in
+      let put : said42.report_says (with_parties msg r) ≡ by_rules kinds all (report_says msg) =
+      ap patch is ∙ ap patch (sym d.is) in
+      ap (λ (l : Option ℕ). or_lack l (by_rules kinds all (report_says msg))) d.lack
+      ∙ ap Ok (sym put)
+
+  module _ (c : IsComplete report_table (report_says msg)) (content body : List ℕ)
+      (put : IsPut None (report_says (bare msg)) [] content) (same : body ≡ content)
+      (fields : List Field) (fault : Option SplitFault) (split : SplitsInto body fields fault)
+      (r : Report42)
+      (read : message_by (Some tables42.execution_report_table) fields fault
+      ≡ Ok (said42.report_says r))
+      (x : Report42) (is : x ≡ with_parties msg r) where
+    pub report_down : down_message None (report_says msg) ≡ Ok (said42.report_says x)
+    report_down =
+        let b = report_says (bare msg) in
+        let t = tables42.execution_report_table in
+        let there : IsPut None b [] body =
+        record { w = put.w; down = put.down; bytes = same ∙ put.bytes } in
+        let back = report_reads b put.w (report_ready msg c).complete put.down in
+        report_rules put.w r put.down
+        (says_it None b body there t back fields fault split (said42.report_says r) read)
+        ∙ ap (λ (y : Report42). Ok (said42.report_says y)) (sym is)
+
+    pub report_stands : StandsFor None (report_says msg) (said42.report_says x)
+    report_stands =
+        goes_down None tt (report_says msg) (said42.report_says x) (Reports50 c) report_down
+
+module _ (msg : CancelReject50) (known : Said) where
+  pub reject_lacks : (lack : Lack) → Lacks known (cancel_reject_says (once msg)) lack
+      → Lacks known (cancel_reject_says msg) lack
+  unfolding first_of
+  reject_lacks lacks.NoMemory h = tt
+  reject_lacks (lacks.Tag tag) h =
+      let all = down_rules (Original known) in
+      same_lack (lack_by kinds all (cancel_reject_says msg))
+      (by_rules kinds all (cancel_reject_says (once msg)))
+      (by_rules kinds all (cancel_reject_says msg)) tag h
+
+  pub reject_rules : (w : Message) (r : CancelReject42)
+      → down_message known (cancel_reject_says (once msg)) ≡ Ok w
+      → said42.cancel_reject_says r ≡ without_resend w
+      → down_message known (cancel_reject_says msg)
+      ≡ Ok (said42.cancel_reject_says (record r { resend = msg.resend }))
+  unfolding first_of
+  reject_rules w r down is =
+      let all = down_rules (Original known) in
+      let again : Message → Message = λ x. record x { resend = msg.resend } in
+      let d : Down all (cancel_reject_says (once msg)) w = down_by known (cancel_reject_says (once msg)) w all refl down in
+      let put : said42.cancel_reject_says (record r { resend = msg.resend })
+      ≡ by_rules kinds all (cancel_reject_says msg) = ap again is ∙ ap again (sym d.is) in
+      ap (λ (l : Option ℕ). or_lack l (by_rules kinds all (cancel_reject_says msg))) d.lack
+      ∙ ap Ok (sym put)
+
+  module _ (c : IsComplete cancel_reject_table (cancel_reject_says msg)) (id : IfSome known IsId)
+      (content body : List ℕ) (put : IsPut known (cancel_reject_says (once msg)) [] content)
+      (same : body ≡ content) (fields : List Field) (fault : Option SplitFault)
+      (split : SplitsInto body fields fault) (r : CancelReject42)
+      (read : message_by (Some tables42.cancel_reject_table) fields fault
+      ≡ Ok (said42.cancel_reject_says r)) where
+    pub reject_down : down_message known (cancel_reject_says msg)
+        ≡ Ok (said42.cancel_reject_says (record r { resend = msg.resend }))
+    reject_down =
+        let q = cancel_reject_says (once msg) in
+        let t = tables42.cancel_reject_table in
+        let there : IsPut known q [] body =
+        record { w = put.w; down = put.down; bytes = same ∙ put.bytes } in
+        let back = reject_reads known id q put.w (reject_ready msg c).complete put.down in
+        reject_rules put.w r put.down
+        (says_it known q body there t back fields fault split (said42.cancel_reject_says r) read)
+
+    pub reject_stands : StandsFor known (cancel_reject_says msg)
+        (said42.cancel_reject_says (record r { resend = msg.resend }))
+    reject_stands = goes_down known id (cancel_reject_says msg) _ (Rejects50 c) reject_down
