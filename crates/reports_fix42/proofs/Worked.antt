@@ -1,5 +1,4 @@
--- Worked reports and refusals of FIX 4.2: their first faults, what they mean, and how a book
--- changes by them, by computation.
+-- Worked reports of FIX 4.2: what they mean, and how a book changes by them, by computation.
 use Rattle.std.specs.Prelude.{◌≡◌, ℕ, ◌*◌, Bool, true, false, pos, List, [], ◌∷◌, ◌++◌, codes, refl}
 use Rattle.std.specs.Prelude.{Some, None, Result, Ok, Err}
 use Rattle.std.specs.declared.option.Option.{Option}
@@ -9,8 +8,6 @@ use Rattle.typed_fields.specs.Digits.{are_digits, number_of, has_pattern, zero_p
 use Rattle.typed_fields.specs.Digits.{without_leading_zeros, without_trailing_zeros}
 use Rattle.order_meaning.specs.declared.Amount.{Amount}
 use Rattle.order_meaning.specs.declared.fault.Fault.{Fault}
-use Rattle.order_meaning.specs.declared.fault.Fault.TheVariants.{Session, NoCounterpart}
-use Rattle.order_meaning.specs.declared.fault.Fault.TheVariants.{NotSupported}
 use Rattle.order_meaning.specs.Request.{LimitOnClose}
 use Rattle.order_meaning.specs.Report.{Phase, New, Partial, PendingNew, PendingReplace}
 use Rattle.order_meaning.specs.Report.{Trade, Correct, Bust, Status, Other, ExecutionReport, Report}
@@ -26,13 +23,6 @@ use Rattle.row_values.specs.Kinds.{judge}
 use Rattle.reports_fix42.specs.Message.{message42, execution_report_table}
 use Rattle.reports_fix42.specs.Sense.{report_sense42, phase_of, exec_of}
 use Rattle.reports_fix42.specs.Step.{step42, change_of}
-
-abbrev session : ℕ → ℕ → Fault
-session tag reason = Session (Some tag) reason
-
-abbrev fault_in : Result Message Fault → Option Fault
-fault_in (Ok m) = None
-fault_in (Err fault) = Some fault
 
 -- ExecID, ExecTransType, ExecType and OrdStatus
 abbrev exec : (id trans_type exec_type status : List ℕ) → List Field
@@ -50,11 +40,6 @@ report_fields between leaves cum more =
     (35, codes "8") ∷ (34, codes "2") ∷ (37, codes "O1") ∷ (11, codes "A1") ∷ between ++
     (55, codes "IBM") ∷ (54, codes "1") ∷ (151, leaves) ∷ (14, cum) ∷ (6, codes "10.5") ∷ more
 
--- a report with 60 left of 100
-abbrev report : List Field → List Field → Option Fault
-report between more =
-    fault_in (message42 (codes "8") (report_fields between (codes "60") (codes "40") more) None)
-
 -- a report that a new order is taken
 abbrev taken : List Field
 taken = exec (codes "E1") (codes "0") (codes "0") (codes "0")
@@ -69,184 +54,9 @@ corrected = (19, codes "E2") ∷ exec (codes "E3") (codes "2") (codes "1") (code
 abbrev busted : List Field
 busted = (19, codes "E2") ∷ exec (codes "E4") (codes "1") (codes "0") (codes "0")
 
-pub record Reports : Type 0 where
-  pub good : report taken [] ≡ None
-  pub no_such_type : fault_in (message42 (codes "AE") [] None) ≡ Some NotSupported
-  -- twice: OrdStatus; a header tag; not a member of a group
-  pub status_twice : report taken ((39, codes "0") ∷ []) ≡ Some (session 39 13)
-  pub header_twice : report taken ((34, codes "2") ∷ []) ≡ Some (session 34 13)
-  pub members : report taken ((382, codes "2") ∷ (375, codes "B") ∷ (437, codes "40") ∷
-      (375, codes "C") ∷ (437, codes "60") ∷ (337, codes "T") ∷ [])
-      ≡ None
-  -- groups: a wrong count, none; a member before its group, before the first line, and again in
-  -- its line
-  pub wrong_count : report taken ((382, codes "2") ∷ (375, codes "B") ∷ [])
-      ≡ Some (session 382 16)
-  pub count_of_none : report taken ((382, codes "0") ∷ []) ≡ None
-  pub outside_group : report taken ((375, codes "B") ∷ (382, codes "0") ∷ [])
-      ≡ Some (session 375 15)
-  pub before_line : report taken ((382, codes "1") ∷ (437, codes "40") ∷ (375, codes "B") ∷ [])
-      ≡ Some (session 437 15)
-  pub again_in_line : report taken ((382, codes "1") ∷ (375, codes "B") ∷ (337, codes "T") ∷
-      (337, codes "T") ∷ [])
-      ≡ Some (session 337 15)
-  -- format: a reason that is none, and one past 9,999; a negative amount, which a price may be; a
-  -- negative quantity in a line; a day that June lacks; an empty value, known or not
-  pub no_reason : report taken ((103, codes "x") ∷ []) ≡ Some (session 103 6)
-  pub most_reason : report taken ((103, codes "9999") ∷ (378, codes "0009999") ∷ []) ≡ None
-  pub past_reasons : report taken ((378, codes "10000") ∷ []) ≡ Some (session 378 5)
-  pub negative : report taken ((110, codes "-1") ∷ []) ≡ Some (session 110 5)
-  pub negative_price : report traded (last (codes "40") (codes "-10.5")) ≡ None
-  pub negative_in_line : report taken ((382, codes "1") ∷ (375, codes "B") ∷ (437, codes "-1") ∷ [])
-      ≡ Some (session 437 5)
-  pub no_such_day : report taken ((200, codes "202406") ∷ (205, codes "31") ∷ [])
-      ≡ Some (session 205 5)
-  pub empty_known : report taken ((58, []) ∷ []) ≡ Some (session 58 4)
-  pub empty_unknown : report taken ((9999, []) ∷ []) ≡ Some (session 9999 4)
-  pub bad_resend : report taken ((97, codes "X") ∷ []) ≡ Some (session 97 6)
-  -- presence: what each report says; of a trade and a correction, how much and at which price; of a
-  -- correction and a bust, which execution
-  pub no_trans_type : report ((17, codes "E1") ∷ (150, codes "0") ∷ (39, codes "0") ∷ []) []
-      ≡ Some (session 20 1)
-  pub no_quantity : report traded ((31, codes "10.5") ∷ []) ≡ Some (session 32 1)
-  pub no_price : report traded ((32, codes "40") ∷ []) ≡ Some (session 31 1)
-  pub fill : report (exec (codes "E2") (codes "0") (codes "2") (codes "2")) []
-      ≡ Some (session 32 1)
-  pub no_trade : report (exec (codes "E2") (codes "0") (codes "4") (codes "4")) [] ≡ None
-  pub no_correction : report corrected [] ≡ Some (session 32 1)
-  pub correction_of_none : report (exec (codes "E3") (codes "2") (codes "1") (codes "1"))
-      (last (codes "30") (codes "10.5"))
-      ≡ Some (session 19 1)
-  pub bust : report busted [] ≡ None
-  pub bust_of_none : report (exec (codes "E4") (codes "1") (codes "0") (codes "0")) []
-      ≡ Some (session 19 1)
-  pub status : report (exec (codes "0") (codes "3") (codes "1") (codes "1")) [] ≡ None
-  pub no_month : report taken ((205, codes "30") ∷ []) ≡ Some (session 200 1)
-  -- counterpart: codes of later versions and of several bytes; a capacity outside the profile,
-  -- however long; a tag outside the profile, also within a group
-  pub later_exec_type : report (exec (codes "E2") (codes "0") (codes "F") (codes "1")) []
-      ≡ Some (NoCounterpart 150)
-  pub unknown_status : report (exec (codes "E2") (codes "0") (codes "0") (codes "F")) []
-      ≡ Some (NoCounterpart 39)
-  pub unknown_trans_type : report (exec (codes "E2") (codes "4") (codes "0") (codes "0")) []
-      ≡ Some (NoCounterpart 20)
-  pub long_code : report taken ((63, codes "11") ∷ []) ≡ Some (NoCounterpart 63)
-  pub capacity : report taken ((47, codes "A") ∷ []) ≡ None
-  pub other_capacity : report taken ((47, codes "J") ∷ []) ≡ Some (NoCounterpart 47)
-  pub long_capacity : report taken ((47, codes "AA") ∷ []) ≡ Some (NoCounterpart 47)
-  pub parties : report taken ((453, codes "0") ∷ []) ≡ Some (NoCounterpart 453)
-  pub in_line : report taken ((382, codes "1") ∷ (375, codes "B") ∷ (655, codes "x") ∷ [])
-      ≡ Some (NoCounterpart 655)
-  -- the order of the stages
-  pub form_then_twice : report taken ((103, codes "x") ∷ (39, codes "0") ∷ [])
-      ≡ Some (session 39 13)
-  pub unknown_then_missing : report traded ((9999, codes "x") ∷ []) ≡ Some (session 32 1)
-
-reports : Reports
-unfolding message42 message_of first_fault first_of number_in judge spelling are_digits number_of
-    has_pattern without_leading_zeros without_trailing_zeros digits zero_padded
-reports = record {
-  good = refl;
-  no_such_type = refl;
-  status_twice = refl;
-  header_twice = refl;
-  members = refl;
-  wrong_count = refl;
-  count_of_none = refl;
-  outside_group = refl;
-  before_line = refl;
-  again_in_line = refl;
-  no_reason = refl;
-  most_reason = refl;
-  past_reasons = refl;
-  negative = refl;
-  negative_price = refl;
-  negative_in_line = refl;
-  no_such_day = refl;
-  empty_known = refl;
-  empty_unknown = refl;
-  bad_resend = refl;
-  no_trans_type = refl;
-  no_quantity = refl;
-  no_price = refl;
-  fill = refl;
-  no_trade = refl;
-  no_correction = refl;
-  correction_of_none = refl;
-  bust = refl;
-  bust_of_none = refl;
-  status = refl;
-  no_month = refl;
-  later_exec_type = refl;
-  unknown_status = refl;
-  unknown_trans_type = refl;
-  long_code = refl;
-  capacity = refl;
-  other_capacity = refl;
-  long_capacity = refl;
-  parties = refl;
-  in_line = refl;
-  form_then_twice = refl;
-  unknown_then_missing = refl;
-}
-
 -- a cancel reject of A2, with these fields
 abbrev reject_fields : List Field → List Field
 reject_fields more = (37, codes "O1") ∷ (11, codes "A2") ∷ (39, codes "E") ∷ (434, codes "1") ∷ more
-
-abbrev reject : List Field → Option Fault
-reject more = fault_in (message42 (codes "9") (reject_fields more) None)
-
--- a Reject and a Business Message Reject of these fields
-abbrev session_reject : List Field → Option Fault
-session_reject fields = fault_in (message42 (codes "3") fields None)
-
-abbrev business_reject : List Field → Option Fault
-business_reject fields = fault_in (message42 (codes "j") fields None)
-
-pub record Refusals : Type 0 where
-  pub reject_is_good : reject ((41, codes "A1") ∷ (102, codes "7") ∷ []) ≡ None
-  pub no_original : reject [] ≡ Some (session 41 1)
-  pub past_reasons : reject ((41, codes "A1") ∷ (102, codes "10000") ∷ []) ≡ Some (session 102 5)
-  pub unknown_tag : reject ((41, codes "A1") ∷ (55, codes "IBM") ∷ []) ≡ Some (NoCounterpart 55)
-  -- a refusal passes over what is outside the profile, where it has a value
-  pub number_alone : session_reject ((45, codes "7") ∷ []) ≡ None
-  pub no_number : session_reject ((58, codes "no") ∷ []) ≡ Some (session 45 1)
-  pub bad_number : session_reject ((45, codes "x") ∷ []) ≡ Some (session 45 6)
-  pub past_numbers : session_reject ((45, codes "7") ∷ (371, codes "1000000001") ∷ [])
-      ≡ Some (session 371 5)
-  pub passed_over : session_reject ((45, codes "7") ∷ (9999, codes "x") ∷ []) ≡ None
-  pub empty : session_reject ((45, codes "7") ∷ (9999, []) ∷ []) ≡ Some (session 9999 4)
-  pub number_twice : session_reject ((45, codes "7") ∷ (45, codes "7") ∷ [])
-      ≡ Some (session 45 13)
-  pub business_is_good : business_reject ((45, codes "7") ∷ (372, codes "8") ∷ (380, codes "99") ∷
-      (58, codes "no") ∷ [])
-      ≡ None
-  pub no_type : business_reject ((45, codes "7") ∷ (380, codes "0") ∷ []) ≡ Some (session 372 1)
-  pub no_reason : business_reject ((45, codes "7") ∷ (372, codes "8") ∷ []) ≡ Some (session 380 1)
-  pub no_business_number : business_reject ((372, codes "8") ∷ (380, codes "0") ∷ [])
-      ≡ Some (session 45 1)
-
-refusals : Refusals
-unfolding message42 message_of first_fault first_of number_in judge spelling are_digits number_of
-    has_pattern without_leading_zeros without_trailing_zeros digits zero_padded
-refusals = record {
-  reject_is_good = refl;
-  no_original = refl;
-  past_reasons = refl;
-  unknown_tag = refl;
-  number_alone = refl;
-  no_number = refl;
-  bad_number = refl;
-  past_numbers = refl;
-  passed_over = refl;
-  empty = refl;
-  number_twice = refl;
-  business_is_good = refl;
-  no_type = refl;
-  no_reason = refl;
-  no_business_number = refl;
-}
 
 -- ---- what is meant
 
@@ -376,23 +186,7 @@ meanings : Meanings
 unfolding report_sense42 phase_of exec_of units_of_text message42 message_of first_fault first_of
     number_in judge spelling are_digits number_of has_pattern without_leading_zeros
     without_trailing_zeros digits zero_padded
-meanings = record {
-  whole_report = refl;
-  taken_is = refl;
-  trade_is = refl;
-  correction_is = refl;
-  bust_is = refl;
-  restated_is = refl;
-  status_is = refl;
-  status_id = refl;
-  replaced = refl;
-  pending = refl;
-  reason = refl;
-  resend = refl;
-  no_sense = refl;
-  cancel_reject = refl;
-  refusal = refl;
-}
+meanings = search
 
 -- ---- how a book changes
 
@@ -471,16 +265,7 @@ books : Books
 unfolding step42 change_of reported changed at_execution in_phase phase_of units_of_text message42
     message_of first_fault first_of number_in judge spelling are_digits number_of has_pattern
     without_leading_zeros without_trailing_zeros digits zero_padded
-books = record {
-  trade = refl;
-  correction_of_trade = refl;
-  bust = refl;
-  by_trans_type = refl;
-  status = refl;
-  again = refl;
-  reject = refl;
-  refusal = refl;
-}
+books = search
 
 -- ---- what is written
 
