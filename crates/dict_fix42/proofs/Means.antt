@@ -1,7 +1,7 @@
 -- What is read of fields at no fault is their message, row by row.
 use Rattle.std.proofs.Common.{◌≡◌, List, [], ◌∷◌, codes, None, refl}
 use Rattle.field_groups.specs.Field.{Field}
-use Rattle.message_tables.specs.Tables.{Table}
+use Rattle.message_tables.specs.Tables.{Table, Place, Said, Cell}
 use Rattle.message_tables.specs.FirstFault.{first_fault, message_in}
 use Rattle.value_kinds.specs.ValueKind.{Id, Code, Qty, Stamp}
 use Rattle.row_values.specs.Kinds.{Kind, Value, judge}
@@ -17,6 +17,12 @@ use Rattle.rows_fix42.specs.Header.{table}
 use Rattle.dict_fix42.specs.Said.{new_says, cancel_says, replace_says, status_says}
 use Rattle.dict_fix42.specs.Reading.{IsNew, IsCancel, IsReplace, IsStatus}
 
+-- a cell that is said alike, and the cells behind it
+infixr 5 ◌&◌
+◌&◌ : {place : Place} {a b : Said} {xs ys : List Cell} → a ≡ b → xs ≡ ys
+    → (place, a) ∷ xs ≡ (place, b) ∷ ys
+e & es = cell e es
+
 -- ---- New42
 
 abbrev pub new_table : Table Kind
@@ -26,45 +32,19 @@ module _ (fields : List Field) (h : first_fault judge new_table fields ≡ None)
   new_cells : (m : New42) → IsNew fields m
       → (new_says m).cells ≡ (message_in judge new_table fields).cells
   new_cells m w =
-      cell (full_text _ _ (says new_table fields h 0 11 (Value Id) refl refl) w.cl_ord_id) (
-      cell w.client_id (
-      cell w.exec_broker (
-      cell w.clearing_firm (
-      cell w.account (
-      cell w.settl_type (
-      cell w.settl_date (
-      cell (full _ _ (says new_table fields h 8 21 (Value (Code (codes "123")))
-      refl refl) w.hand_inst) (
-      cell w.exec_inst (
-      cell w.min_qty (
-      cell w.max_floor (
-      cell w.ex_destination (
-      cell (full_text _ _ (says new_table fields h 14 55 (Value Id) refl refl) w.symbol) (
-      cell w.symbol_sfx (
-      cell w.security_id (
-      cell w.id_source (
-      cell w.security_type (
-      cell w.maturity.month (
-      cell (w.maturity.day (dated new_table fields h 19 refl refl)) (
-      cell w.security_exchange (
-      cell (full _ _ (says new_table fields h 22 54 (Value (Code (codes "123456")))
-      refl refl) w.side) (
-      cell w.locate (
-      cell (full _ _ (says new_table fields h 24 60 (Value Stamp) refl refl) w.transact_time) (
-      cell (full _ _ (says new_table fields h 25 38 (Value Qty) refl refl) w.order_qty) (
-      cell (full _ _ (says new_table fields h 26 40 (Value (Code (codes "12345B")))
-      refl refl) w.ord_type) (
-      cell w.price (
-      cell w.stop_px (
-      cell w.currency (
-      cell w.time_in_force (
-      cell w.effective_time (
-      cell w.expire_date (
-      cell w.expire_time (
-      cell w.capacity (
-      cell w.open_close (
-      cell w.text (
-      refl)))))))))))))))))))))))))))))))))))
+      full_text _ _ (says new_table fields h 0 11 (Value Id) refl refl) w.cl_ord_id & w.client_id
+      & w.exec_broker & w.clearing_firm & w.account & w.settl_type & w.settl_date
+      & full _ _ (says new_table fields h 8 21 (Value (Code (codes "123"))) refl refl) w.hand_inst
+      & w.exec_inst & w.min_qty & w.max_floor & w.ex_destination
+      & full_text _ _ (says new_table fields h 14 55 (Value Id) refl refl) w.symbol & w.symbol_sfx
+      & w.security_id & w.id_source & w.security_type & w.maturity.month
+      & w.maturity.day (dated new_table fields h 19 refl refl) & w.security_exchange
+      & full _ _ (says new_table fields h 22 54 (Value (Code (codes "123456"))) refl refl) w.side
+      & w.locate & full _ _ (says new_table fields h 24 60 (Value Stamp) refl refl) w.transact_time
+      & full _ _ (says new_table fields h 25 38 (Value Qty) refl refl) w.order_qty
+      & full _ _ (says new_table fields h 26 40 (Value (Code (codes "12345B"))) refl refl) w.ord_type
+      & w.price & w.stop_px & w.currency & w.time_in_force & w.effective_time & w.expire_date
+      & w.expire_time & w.capacity & w.open_close & w.text & refl
 
   -- what is read is the message of the fields
   pub new_means : (m : New42) → IsNew fields m → new_says m ≡ message_in judge new_table fields
@@ -87,27 +67,15 @@ module _ (fields : List Field) (h : first_fault judge cancel_table fields ≡ No
   cancel_cells : (m : Cancel42) → IsCancel fields m
       → (cancel_says m).cells ≡ (message_in judge cancel_table fields).cells
   cancel_cells m w =
-      cell (full_text _ _ (says cancel_table fields h 0 11 (Value Id) refl refl) w.cl_ord_id) (
-      cell (full_text _ _ (says cancel_table fields h 1 41 (Value Id) refl refl) w.orig_id) (
-      cell w.order_id (
-      cell w.client_id (
-      cell w.exec_broker (
-      cell w.account (
-      cell (full_text _ _ (says cancel_table fields h 6 55 (Value Id) refl refl) w.symbol) (
-      cell w.symbol_sfx (
-      cell w.security_id (
-      cell w.id_source (
-      cell w.security_type (
-      cell w.maturity.month (
-      cell (w.maturity.day (dated cancel_table fields h 11 refl refl)) (
-      cell w.security_exchange (
-      cell (full _ _ (says cancel_table fields h 14 54 (Value (Code (codes "123456")))
-      refl refl) w.side) (
-      cell (full _ _ (says cancel_table fields h 15 60 (Value Stamp)
-      refl refl) w.transact_time) (
-      cell w.order_qty (
-      cell w.text (
-      refl))))))))))))))))))
+      full_text _ _ (says cancel_table fields h 0 11 (Value Id) refl refl) w.cl_ord_id
+      & full_text _ _ (says cancel_table fields h 1 41 (Value Id) refl refl) w.orig_id & w.order_id
+      & w.client_id & w.exec_broker & w.account
+      & full_text _ _ (says cancel_table fields h 6 55 (Value Id) refl refl) w.symbol & w.symbol_sfx
+      & w.security_id & w.id_source & w.security_type & w.maturity.month
+      & w.maturity.day (dated cancel_table fields h 11 refl refl) & w.security_exchange
+      & full _ _ (says cancel_table fields h 14 54 (Value (Code (codes "123456"))) refl refl) w.side
+      & full _ _ (says cancel_table fields h 15 60 (Value Stamp) refl refl) w.transact_time
+      & w.order_qty & w.text & refl
 
   -- what is read is the message of the fields
   pub cancel_means : (m : Cancel42) → IsCancel fields m
@@ -128,48 +96,21 @@ module _ (fields : List Field) (h : first_fault judge replace_table fields ≡ N
   replace_cells : (m : Replace42) → IsReplace fields m
       → (replace_says m).cells ≡ (message_in judge replace_table fields).cells
   replace_cells m w =
-      cell (full_text _ _ (says replace_table fields h 0 11 (Value Id) refl refl) w.cl_ord_id) (
-      cell (full_text _ _ (says replace_table fields h 1 41 (Value Id) refl refl) w.orig_id) (
-      cell w.order_id (
-      cell w.client_id (
-      cell w.exec_broker (
-      cell w.clearing_firm (
-      cell w.account (
-      cell w.settl_type (
-      cell w.settl_date (
-      cell (full _ _ (says replace_table fields h 10 21 (Value (Code (codes "123")))
-      refl refl) w.hand_inst) (
-      cell w.exec_inst (
-      cell w.min_qty (
-      cell w.max_floor (
-      cell w.ex_destination (
-      cell (full_text _ _ (says replace_table fields h 16 55 (Value Id) refl refl) w.symbol) (
-      cell w.symbol_sfx (
-      cell w.security_id (
-      cell w.id_source (
-      cell w.security_type (
-      cell w.maturity.month (
-      cell (w.maturity.day (dated replace_table fields h 21 refl refl)) (
-      cell w.security_exchange (
-      cell (full _ _ (says replace_table fields h 24 54 (Value (Code (codes "123456")))
-      refl refl) w.side) (
-      cell w.locate (
-      cell (full _ _ (says replace_table fields h 26 60 (Value Stamp)
-      refl refl) w.transact_time) (
-      cell (full _ _ (says replace_table fields h 27 38 (Value Qty) refl refl) w.order_qty) (
-      cell (full _ _ (says replace_table fields h 28 40 (Value (Code (codes "12345B")))
-      refl refl) w.ord_type) (
-      cell w.price (
-      cell w.stop_px (
-      cell w.currency (
-      cell w.time_in_force (
-      cell w.effective_time (
-      cell w.expire_date (
-      cell w.expire_time (
-      cell w.capacity (
-      cell w.open_close (
-      cell w.text (
-      refl)))))))))))))))))))))))))))))))))))))
+      full_text _ _ (says replace_table fields h 0 11 (Value Id) refl refl) w.cl_ord_id
+      & full_text _ _ (says replace_table fields h 1 41 (Value Id) refl refl) w.orig_id & w.order_id
+      & w.client_id & w.exec_broker & w.clearing_firm & w.account & w.settl_type & w.settl_date
+      & full _ _ (says replace_table fields h 10 21 (Value (Code (codes "123"))) refl refl) w.hand_inst
+      & w.exec_inst & w.min_qty & w.max_floor & w.ex_destination
+      & full_text _ _ (says replace_table fields h 16 55 (Value Id) refl refl) w.symbol
+      & w.symbol_sfx & w.security_id & w.id_source & w.security_type & w.maturity.month
+      & w.maturity.day (dated replace_table fields h 21 refl refl) & w.security_exchange
+      & full _ _ (says replace_table fields h 24 54 (Value (Code (codes "123456"))) refl refl) w.side
+      & w.locate
+      & full _ _ (says replace_table fields h 26 60 (Value Stamp) refl refl) w.transact_time
+      & full _ _ (says replace_table fields h 27 38 (Value Qty) refl refl) w.order_qty
+      & full _ _ (says replace_table fields h 28 40 (Value (Code (codes "12345B"))) refl refl) w.ord_type
+      & w.price & w.stop_px & w.currency & w.time_in_force & w.effective_time & w.expire_date
+      & w.expire_time & w.capacity & w.open_close & w.text & refl
 
   -- what is read is the message of the fields
   pub replace_means : (m : Replace42) → IsReplace fields m
@@ -193,22 +134,13 @@ module _ (fields : List Field) (h : first_fault judge status_table fields ≡ No
   status_cells : (m : Status42) → IsStatus fields m
       → (status_says m).cells ≡ (message_in judge status_table fields).cells
   status_cells m w =
-      cell (full_text _ _ (says status_table fields h 0 11 (Value Id) refl refl) w.cl_ord_id) (
-      cell w.order_id (
-      cell w.client_id (
-      cell w.exec_broker (
-      cell w.account (
-      cell (full_text _ _ (says status_table fields h 5 55 (Value Id) refl refl) w.symbol) (
-      cell w.symbol_sfx (
-      cell w.security_id (
-      cell w.id_source (
-      cell w.security_type (
-      cell w.maturity.month (
-      cell (w.maturity.day (dated status_table fields h 10 refl refl)) (
-      cell w.security_exchange (
-      cell (full _ _ (says status_table fields h 13 54 (Value (Code (codes "123456")))
-      refl refl) w.side) (
-      refl))))))))))))))
+      full_text _ _ (says status_table fields h 0 11 (Value Id) refl refl) w.cl_ord_id & w.order_id
+      & w.client_id & w.exec_broker & w.account
+      & full_text _ _ (says status_table fields h 5 55 (Value Id) refl refl) w.symbol & w.symbol_sfx
+      & w.security_id & w.id_source & w.security_type & w.maturity.month
+      & w.maturity.day (dated status_table fields h 10 refl refl) & w.security_exchange
+      & full _ _ (says status_table fields h 13 54 (Value (Code (codes "123456"))) refl refl) w.side
+      & refl
 
   -- what is read is the message of the fields
   pub status_means : (m : Status42) → IsStatus fields m

@@ -3,7 +3,7 @@ use Rattle.std.proofs.Common.{◌≡◌, ◌<◌, List, [], ◌∷◌, None}
 use Rattle.std.proofs.Common.{map, refl, codes}
 use Rattle.std.proofs.Common.{lit<}
 use Rattle.field_groups.specs.Field.{Field}
-use Rattle.message_tables.specs.Tables.{Table, first_of, group_says}
+use Rattle.message_tables.specs.Tables.{Table, first_of, group_says, Place, Said, Cell}
 use Rattle.message_tables.specs.FirstFault.{first_fault, message_in}
 use Rattle.value_kinds.specs.ValueKind.{Id, Qty, Stamp, Code}
 use Rattle.row_values.specs.Kinds.{Kind, Value, judge}
@@ -21,6 +21,12 @@ use Rattle.dict_fix50.specs.Requests.{new_order, cancel_request, replace_request
 use Rattle.dict_fix50.specs.Said.{new_says, cancel_says, replace_says, status_says}
 use Rattle.dict_fix50.specs.Reading.{IsNew, IsCancel, IsReplace, IsStatus}
 
+-- a cell that is said alike, and the cells behind it
+infixr 5 ◌&◌
+◌&◌ : {place : Place} {a b : Said} {xs ys : List Cell} → a ≡ b → xs ≡ ys
+    → (place, a) ∷ xs ≡ (place, b) ∷ ys
+e & es = cell e es
+
 -- ---- New50
 
 abbrev pub new_table : Table Kind
@@ -36,45 +42,20 @@ module _ (fields : List Field) (h : first_fault judge new_table fields ≡ None)
   unfolding first_of
   new_cells m w =
       let party = of_role fields m.parties w.parties (new_parties m w) in
-      cell (full_text _ _ (says new_table fields h 0 11 (Value Id) refl refl) w.cl_ord_id) (
-      cell (party 3 (lit< tt)) (
-      cell (party 1 (lit< tt)) (
-      cell (party 4 (lit< tt)) (
-      cell w.account (
-      cell w.settl_type (
-      cell w.settl_date (
-      cell (full _ _ (says new_table fields h 9 21 (Value (Code (codes "123")))
-      refl refl) w.hand_inst) (
-      cell w.exec_inst (
-      cell w.min_qty (
-      cell w.max_floor (
-      cell w.ex_destination (
-      cell (full_text _ _ (says new_table fields h 15 55 (Value Id) refl refl) w.symbol) (
-      cell w.symbol_sfx (
-      cell w.security_id (
-      cell w.id_source (
-      cell w.security_type (
-      cell w.maturity.month (
-      cell w.maturity.date (
-      cell w.security_exchange (
-      cell (full _ _ (says new_table fields h 23 54 (Value (Code (codes "123456")))
-      refl refl) w.side) (
-      cell w.locate (
-      cell (full _ _ (says new_table fields h 25 60 (Value Stamp) refl refl) w.transact_time) (
-      cell (full _ _ (says new_table fields h 26 38 (Value Qty) refl refl) w.order_qty) (
-      cell (full _ _ (says new_table fields h 27 40 (Value (Code (codes "1234")))
-      refl refl) w.ord_type) (
-      cell w.price (
-      cell w.stop_px (
-      cell w.currency (
-      cell w.time_in_force (
-      cell w.effective_time (
-      cell w.expire_date (
-      cell w.expire_time (
-      cell w.capacity (
-      cell w.open_close (
-      cell w.text (
-      refl)))))))))))))))))))))))))))))))))))
+      full_text _ _ (says new_table fields h 0 11 (Value Id) refl refl) w.cl_ord_id
+      & party 3 (lit< tt) & party 1 (lit< tt) & party 4 (lit< tt) & w.account & w.settl_type
+      & w.settl_date
+      & full _ _ (says new_table fields h 9 21 (Value (Code (codes "123"))) refl refl) w.hand_inst
+      & w.exec_inst & w.min_qty & w.max_floor & w.ex_destination
+      & full_text _ _ (says new_table fields h 15 55 (Value Id) refl refl) w.symbol & w.symbol_sfx
+      & w.security_id & w.id_source & w.security_type & w.maturity.month & w.maturity.date
+      & w.security_exchange
+      & full _ _ (says new_table fields h 23 54 (Value (Code (codes "123456"))) refl refl) w.side
+      & w.locate & full _ _ (says new_table fields h 25 60 (Value Stamp) refl refl) w.transact_time
+      & full _ _ (says new_table fields h 26 38 (Value Qty) refl refl) w.order_qty
+      & full _ _ (says new_table fields h 27 40 (Value (Code (codes "1234"))) refl refl) w.ord_type
+      & w.price & w.stop_px & w.currency & w.time_in_force & w.effective_time & w.expire_date
+      & w.expire_time & w.capacity & w.open_close & w.text & refl
 
   -- what is read is the message of the fields
   pub new_means : (m : New50) → IsNew fields m
@@ -105,26 +86,15 @@ module _ (fields : List Field) (h : first_fault judge cancel_table fields ≡ No
   unfolding first_of
   cancel_cells m w =
       let party = of_role fields m.parties w.parties (cancel_parties m w) in
-      cell (full_text _ _ (says cancel_table fields h 0 11 (Value Id) refl refl) w.cl_ord_id) (
-      cell (full_text _ _ (says cancel_table fields h 1 41 (Value Id) refl refl) w.orig_id) (
-      cell w.order_id (
-      cell (party 3 (lit< tt)) (
-      cell (party 1 (lit< tt)) (
-      cell w.account (
-      cell (full_text _ _ (says cancel_table fields h 7 55 (Value Id) refl refl) w.symbol) (
-      cell w.symbol_sfx (
-      cell w.security_id (
-      cell w.id_source (
-      cell w.security_type (
-      cell w.maturity.month (
-      cell w.maturity.date (
-      cell w.security_exchange (
-      cell (full _ _ (says cancel_table fields h 15 54 (Value (Code (codes "123456")))
-      refl refl) w.side) (
-      cell (full _ _ (says cancel_table fields h 16 60 (Value Stamp) refl refl) w.transact_time) (
-      cell w.order_qty (
-      cell w.text (
-      refl))))))))))))))))))
+      full_text _ _ (says cancel_table fields h 0 11 (Value Id) refl refl) w.cl_ord_id
+      & full_text _ _ (says cancel_table fields h 1 41 (Value Id) refl refl) w.orig_id & w.order_id
+      & party 3 (lit< tt) & party 1 (lit< tt) & w.account
+      & full_text _ _ (says cancel_table fields h 7 55 (Value Id) refl refl) w.symbol & w.symbol_sfx
+      & w.security_id & w.id_source & w.security_type & w.maturity.month & w.maturity.date
+      & w.security_exchange
+      & full _ _ (says cancel_table fields h 15 54 (Value (Code (codes "123456"))) refl refl) w.side
+      & full _ _ (says cancel_table fields h 16 60 (Value Stamp) refl refl) w.transact_time
+      & w.order_qty & w.text & refl
 
   -- what is read is the message of the fields
   pub cancel_means : (m : Cancel50) → IsCancel fields m
@@ -153,47 +123,22 @@ module _ (fields : List Field) (h : first_fault judge replace_table fields ≡ N
   unfolding first_of
   replace_cells m w =
       let party = of_role fields m.parties w.parties (replace_parties m w) in
-      cell (full_text _ _ (says replace_table fields h 0 11 (Value Id) refl refl) w.cl_ord_id) (
-      cell (full_text _ _ (says replace_table fields h 1 41 (Value Id) refl refl) w.orig_id) (
-      cell w.order_id (
-      cell (party 3 (lit< tt)) (
-      cell (party 1 (lit< tt)) (
-      cell (party 4 (lit< tt)) (
-      cell w.account (
-      cell w.settl_type (
-      cell w.settl_date (
-      cell (full _ _ (says replace_table fields h 11 21 (Value (Code (codes "123")))
-      refl refl) w.hand_inst) (
-      cell w.exec_inst (
-      cell w.min_qty (
-      cell w.max_floor (
-      cell w.ex_destination (
-      cell (full_text _ _ (says replace_table fields h 17 55 (Value Id) refl refl) w.symbol) (
-      cell w.symbol_sfx (
-      cell w.security_id (
-      cell w.id_source (
-      cell w.security_type (
-      cell w.maturity.month (
-      cell w.maturity.date (
-      cell w.security_exchange (
-      cell (full _ _ (says replace_table fields h 25 54 (Value (Code (codes "123456")))
-      refl refl) w.side) (
-      cell w.locate (
-      cell (full _ _ (says replace_table fields h 27 60 (Value Stamp) refl refl) w.transact_time) (
-      cell (full _ _ (says replace_table fields h 28 38 (Value Qty) refl refl) w.order_qty) (
-      cell (full _ _ (says replace_table fields h 29 40 (Value (Code (codes "1234")))
-      refl refl) w.ord_type) (
-      cell w.price (
-      cell w.stop_px (
-      cell w.currency (
-      cell w.time_in_force (
-      cell w.effective_time (
-      cell w.expire_date (
-      cell w.expire_time (
-      cell w.capacity (
-      cell w.open_close (
-      cell w.text (
-      refl)))))))))))))))))))))))))))))))))))))
+      full_text _ _ (says replace_table fields h 0 11 (Value Id) refl refl) w.cl_ord_id
+      & full_text _ _ (says replace_table fields h 1 41 (Value Id) refl refl) w.orig_id & w.order_id
+      & party 3 (lit< tt) & party 1 (lit< tt) & party 4 (lit< tt) & w.account & w.settl_type
+      & w.settl_date
+      & full _ _ (says replace_table fields h 11 21 (Value (Code (codes "123"))) refl refl) w.hand_inst
+      & w.exec_inst & w.min_qty & w.max_floor & w.ex_destination
+      & full_text _ _ (says replace_table fields h 17 55 (Value Id) refl refl) w.symbol
+      & w.symbol_sfx & w.security_id & w.id_source & w.security_type & w.maturity.month
+      & w.maturity.date & w.security_exchange
+      & full _ _ (says replace_table fields h 25 54 (Value (Code (codes "123456"))) refl refl) w.side
+      & w.locate
+      & full _ _ (says replace_table fields h 27 60 (Value Stamp) refl refl) w.transact_time
+      & full _ _ (says replace_table fields h 28 38 (Value Qty) refl refl) w.order_qty
+      & full _ _ (says replace_table fields h 29 40 (Value (Code (codes "1234"))) refl refl) w.ord_type
+      & w.price & w.stop_px & w.currency & w.time_in_force & w.effective_time & w.expire_date
+      & w.expire_time & w.capacity & w.open_close & w.text & refl
 
   -- what is read is the message of the fields
   pub replace_means : (m : Replace50) → IsReplace fields m
@@ -224,22 +169,13 @@ module _ (fields : List Field) (h : first_fault judge status_table fields ≡ No
   unfolding first_of
   status_cells m w =
       let party = of_role fields m.parties w.parties (status_parties m w) in
-      cell (full_text _ _ (says status_table fields h 0 11 (Value Id) refl refl) w.cl_ord_id) (
-      cell w.order_id (
-      cell (party 3 (lit< tt)) (
-      cell (party 1 (lit< tt)) (
-      cell w.account (
-      cell (full_text _ _ (says status_table fields h 6 55 (Value Id) refl refl) w.symbol) (
-      cell w.symbol_sfx (
-      cell w.security_id (
-      cell w.id_source (
-      cell w.security_type (
-      cell w.maturity.month (
-      cell w.maturity.date (
-      cell w.security_exchange (
-      cell (full _ _ (says status_table fields h 14 54 (Value (Code (codes "123456")))
-      refl refl) w.side) (
-      refl))))))))))))))
+      full_text _ _ (says status_table fields h 0 11 (Value Id) refl refl) w.cl_ord_id & w.order_id
+      & party 3 (lit< tt) & party 1 (lit< tt) & w.account
+      & full_text _ _ (says status_table fields h 6 55 (Value Id) refl refl) w.symbol & w.symbol_sfx
+      & w.security_id & w.id_source & w.security_type & w.maturity.month & w.maturity.date
+      & w.security_exchange
+      & full _ _ (says status_table fields h 14 54 (Value (Code (codes "123456"))) refl refl) w.side
+      & refl
 
   -- what is read is the message of the fields
   pub status_means : (m : Status50) → IsStatus fields m
