@@ -2,27 +2,30 @@
 -- the rules write of the message, and lacks what they lack.
 use Rattle.std.proofs.Common.{◌≡◌, ℕ, List, [], ◌∷◌, ◌++◌, map, Bool, true, false, Some, None}
 use Rattle.std.proofs.Common.{refl, sym, ap, subst, ◌∙◌}
-use Rattle.std.proofs.lemmas.Bool.{eqb-true}
-use Rattle.std.specs.Prelude.{◌||◌, ◌&&◌, ◌==◌, not, if◌then◌else◌}
+use Rattle.std.specs.Prelude.{◌&&◌, not, if◌then◌else◌}
 use Rattle.std.specs.declared.option.Option.{Option}
 use Rattle.std.specs.List.{AllByRecursion, flat_map, list_all}
+use Rattle.std.specs.Option.{option_map}
+use Rattle.std.specs.Result.{result_ok}
+use Rattle.typed_fields.specs.Dec.{dec_text, read_dec}
 use Rattle.field_groups.specs.Field.{Field}
 use Rattle.message_tables.specs.declared.table_fault.Mark.{Mark}
-use Rattle.message_tables.specs.Tables.{Cell, Item, One, Party, Lines as LinesOf, Message}
-use Rattle.message_tables.specs.Tables.{Need, Lenient, Fixed, Row, Said, Table, Tag, all_rows}
-use Rattle.message_tables.specs.Tables.{cells_of, code_of, first_of, is_one_of, or_else, row_at}
-use Rattle.message_tables.specs.Tables.{said_at, says, value_at, ◌>>=◌}
+use Rattle.message_tables.specs.Tables.{Message, Need, Lenient, Fixed, Row, Said, Table, Tag}
+use Rattle.message_tables.specs.Tables.{all_rows, code_of, first_of, is_one_of, or_else, row_at}
+use Rattle.message_tables.specs.Tables.{says, value_at, ◌>>=◌}
 use Rattle.message_tables.specs.Content.{cell_fields, group_fields}
 use Rattle.message_tables.specs.FirstFault.{beyond, by_row, first_fault, is_passed, message_in}
 use Rattle.message_tables.specs.FirstFault.{without_row, wrong}
-use Rattle.value_kinds.specs.ValueKind.{MonthYear, Price, Qty}
+use Rattle.value_kinds.specs.ValueKind.{MonthYear, Price, Qty, spelling}
 use Rattle.row_values.specs.Kinds.{DayOf, Kind, Value, judge, said}
-use Rattle.row_values.proofs.Texts.{price_said, qty_at_said}
-use Rattle.sound_laws.proofs.AsTheyStand.{as_said, is_own, qty_stands}
-use Rattle.sound_laws.proofs.Each.{both, not_true}
+use Rattle.row_values.proofs.Texts.{price_said}
+use Rattle.sound_laws.proofs.Each.{all_true, both, not_true, one_of}
 use Rattle.sound_laws.proofs.Good.{IsGood, all_good, held}
-use Rattle.sound_laws.proofs.RowsSaid.{row_of_tag}
-use Rattle.row_slots.proofs.Filled.{tag_is}
+use Rattle.sound_laws.proofs.PlainRows.{spelled}
+use Rattle.sound_laws.proofs.RowsSaid.{among, row_of_tag, tag_is}
+use Rattle.sound_laws.proofs.SpelledAgain.{is_own, own_bytes}
+use Rattle.row_slots.specs.Slots.{row_says}
+use Rattle.row_slots.proofs.SlotsSay.{quantities, said_as, said_is}
 use Rattle.rule_rows.specs.ByRules.{rule_fields}
 use Rattle.request_rules.specs.declared.rules.Rule.{Rule as CodeRule}
 use Rattle.request_rules.specs.declared.rules.Rule.TheVariants as rules
@@ -31,8 +34,7 @@ use Rattle.request_rules.specs.CodeRules.{lacked, rule_of, wrote}
 use Rattle.request_rules.specs.Rules.{Rule, Same, Moved, Listed, Time}
 use Rattle.request_rules.specs.Rules.{at, date_up, is_late, is_unlisted, kinds}
 use Rattle.request_rules.specs.Rules.{lack_if, party_lines, rule_lack, time_up, type_up}
-use Rattle.request_rules.specs.Rules.{up_content, up_lack}
-use Rattle.request_rules.specs.Rules.{up_rules}
+use Rattle.request_rules.specs.Rules.{up_content, up_lack, up_rules}
 use Rattle.request_rules.proofs.TablesUp.{day_row, month_row}
 
 -- the tags whose values are written as they stand, and those of decimal numbers
@@ -91,29 +93,13 @@ pub record HasRows (table : Table Kind) : Type 0 where
   pub month : row_of_tag 200 table.items ≡ Some month_row
   pub day : row_of_tag 205 table.items ≡ Some day_row
 
--- what holds of each of some tags holds of one among them
-one_of : (P : ℕ → Type 0) (tags : List ℕ) → AllByRecursion P tags → (tag : ℕ)
-    → is_one_of tags tag ≡ true → P tag
-one_of P [] each tag there = absurd cc
-one_of P (one ∷ tags) each tag there =
-    or (one == tag) refl there (λ later. one_of P tags each.1 tag later)
-  where
-    or : (b : Bool) → (one == tag) ≡ b → (b || is_one_of tags tag) ≡ true
-        → (is_one_of tags tag ≡ true → P tag) → P tag
-    or true e there later = subst P (eqb-true one tag e) each.0
-    or false e there later = later there
-
-among : (test : ℕ → Bool) (tags : List ℕ) → list_all test tags ≡ true → (tag : ℕ)
+passes : (test : ℕ → Bool) (tags : List ℕ) → list_all test tags ≡ true → (tag : ℕ)
     → is_one_of tags tag ≡ true → test tag ≡ true
-among test tags all tag there = one_of (λ t. test t ≡ true) tags (by tags all) tag there
-  where
-    by : (tags : List ℕ) → list_all test tags ≡ true → AllByRecursion (λ t. test t ≡ true) tags
-    by [] all = tt
-    by (tag ∷ tags) all = let p = both (test tag) (list_all test tags) all in (p.0, by tags p.1)
+passes test tags all = one_of (λ t. test t ≡ true) tags (all_true test tags all)
 
 alike : (f g : ℕ → Option (Row Kind)) (tags : List ℕ) → map f tags ≡ map g tags → (tag : ℕ)
     → is_one_of tags tag ≡ true → f tag ≡ g tag
-alike f g tags same tag there = one_of (λ t. f t ≡ g t) tags (by tags same) tag there
+alike f g tags same = one_of (λ t. f t ≡ g t) tags (by tags same)
   where
     by : (tags : List ℕ) → map f tags ≡ map g tags → AllByRecursion (λ t. f t ≡ g t) tags
     by [] same = tt
@@ -121,48 +107,17 @@ alike f g tags same tag there = one_of (λ t. f t ≡ g t) tags (by tags same) t
         let here : f tag ≡ g tag = cc in
         let rest : map f tags ≡ map g tags = cc in (here, by tags rest)
 
-in_front : (tag : ℕ) (xs ys : List ℕ) → is_one_of xs tag ≡ true → is_one_of (xs ++ ys) tag ≡ true
-in_front tag [] ys there = absurd cc
-in_front tag (x ∷ xs) ys there = by (x == tag) there (λ later. in_front tag xs ys later)
-  where
-    by : (b : Bool) → (b || is_one_of xs tag) ≡ true
-        → (is_one_of xs tag ≡ true → is_one_of (xs ++ ys) tag ≡ true)
-        → (b || is_one_of (xs ++ ys) tag) ≡ true
-    by true there later = refl
-    by false there later = later there
+-- a value that stands as it is, and one that spells a decimal number
+as_itself : (said : Said) → said ≡ (said >>= (λ text. Some text))
+as_itself None = refl
+as_itself (Some text) = refl
 
-behind : (tag : ℕ) (xs ys : List ℕ) → is_one_of ys tag ≡ true → is_one_of (xs ++ ys) tag ≡ true
-behind tag [] ys there = there
-behind tag (x ∷ xs) ys there = by (x == tag) (behind tag xs ys there)
-  where
-    by : (b : Bool) → is_one_of (xs ++ ys) tag ≡ true → (b || is_one_of (xs ++ ys) tag) ≡ true
-    by true later = refl
-    by false later = later
+as_decimal : (said : Said)
+    → decimal_text said ≡ (said >>= (λ text. option_map dec_text (result_ok (read_dec text))))
+as_decimal None = refl
+as_decimal (Some text) = refl
 
 -- ---- what fields say by the rows of a table
-
-abbrev row_says : List Field → Option (Row Kind) → Said
-row_says fields None = None
-row_says fields (Some row) = says row.need (judge fields row.kind) (value_at row.tag fields)
-
-said_is : (fields : List Field) (groups : List (ℕ × List (List Cell))) (tag : ℕ)
-    (items : List (Item Kind))
-    → said_at (flat_map (cells_of judge fields groups) items) (Tag tag)
-    ≡ row_says fields (row_of_tag tag items)
-said_is fields groups tag [] = refl
-said_is fields groups tag (Party role ∷ items) = said_is fields groups tag items
-said_is fields groups tag (LinesOf group ∷ items) = said_is fields groups tag items
-said_is fields groups tag (One row ∷ items) =
-    by (row.tag == tag) (said_is fields groups tag items)
-  where
-    by : (b : Bool)
-        → said_at (flat_map (cells_of judge fields groups) items) (Tag tag)
-        ≡ row_says fields (row_of_tag tag items)
-        → (if b then says row.need (judge fields row.kind) (value_at row.tag fields)
-        else said_at (flat_map (cells_of judge fields groups) items) (Tag tag))
-        ≡ row_says fields (if b then Some row else row_of_tag tag items)
-    by true rest = refl
-    by false rest = rest
 
 module _ (table : Table Kind) (has : HasRows table) (fields : List Field)
     (none : first_fault judge table fields ≡ None) where
@@ -200,7 +155,7 @@ module _ (table : Table Kind) (has : HasRows table) (fields : List Field)
 
     no_field : row_of_tag tag table.items ≡ None → value_at tag fields ≡ None
     no_field absent = none_there tag (own_row ∙ absent) (not_true (is_passed table tag)
-        (among (λ t. not (is_passed table t)) read_tags has.out tag there))
+        (passes (λ t. not (is_passed table t)) read_tags has.out tag there))
 
     by_row_of : (P : Option (Row Kind) → Bool) (Q : Said → Type 0)
         → P (row_of_tag tag table.items) ≡ true
@@ -226,10 +181,12 @@ module _ (table : Table Kind) (has : HasRows table) (fields : List Field)
             subst R (sym is) (found row.kind row.need (own_row ∙ e ∙ here) (ap P (sym here) ∙ t))
 
   text_is : (tag : ℕ) → is_one_of text_tags tag ≡ true → value_at tag fields ≡ at m tag
+  unfolding judge
   text_is tag there =
-      by_row_of tag (in_front tag text_tags decimal_tags there) is_text
+      by_row_of tag (among text_tags read_tags tag refl there) is_text
       (λ said. value_at tag fields ≡ said)
-      (among (λ t. is_text (row_of_tag t table.items)) text_tags has.texts tag there) (λ absent. absent) by
+      (passes (λ t. is_text (row_of_tag t table.items)) text_tags has.texts tag there)
+      (λ absent. absent) by
     where
       of_kind : (kind : Kind) (need : Need)
           → row_at tag (all_rows table) ≡ Some (record { tag = tag; kind = kind; need = need })
@@ -237,8 +194,10 @@ module _ (table : Table Kind) (has : HasRows table) (fields : List Field)
           → value_at tag fields ≡ says need (judge fields kind) (value_at tag fields)
       of_kind kind Lenient its strict own = absurd cc
       of_kind kind (Fixed text) its strict own = absurd cc
-      of_kind (Value kind) need its strict own =
-          as_said table fields none need tag kind refl own its
+      of_kind (Value kind) need its strict own = as_itself (value_at tag fields)
+          ∙ said_as table fields none tag (Value kind) need refl its (λ text. Some text)
+          (λ bytes text h. ap (λ (t : List ℕ). Some t)
+          (sym (own_bytes kind bytes own text (spelled (spelling kind bytes) text h))))
       of_kind kind need its strict own = absurd cc
 
       by : (kind : Kind) (need : Need)
@@ -250,10 +209,11 @@ module _ (table : Table Kind) (has : HasRows table) (fields : List Field)
 
   decimal_is : (tag : ℕ) → is_one_of decimal_tags tag ≡ true
       → decimal_text (value_at tag fields) ≡ at m tag
+  unfolding judge
   decimal_is tag there =
-      by_row_of tag (behind tag text_tags decimal_tags there) is_number
+      by_row_of tag (among decimal_tags read_tags tag refl there) is_number
       (λ said. decimal_text (value_at tag fields) ≡ said)
-      (among (λ t. is_number (row_of_tag t table.items)) decimal_tags has.decimals tag there)
+      (passes (λ t. is_number (row_of_tag t table.items)) decimal_tags has.decimals tag there)
       (λ absent. ap decimal_text absent) by
     where
       of_kind : (kind : Kind) (need : Need)
@@ -262,8 +222,9 @@ module _ (table : Table Kind) (has : HasRows table) (fields : List Field)
           → decimal_text (value_at tag fields) ≡ says need (judge fields kind) (value_at tag fields)
       of_kind kind Lenient its strict amount = absurd cc
       of_kind kind (Fixed text) its strict amount = absurd cc
-      of_kind (Value Qty) need its strict amount =
-          qty_stands table fields none need tag refl its ∙ qty_at_said fields tag
+      of_kind (Value Qty) need its strict amount = as_decimal (value_at tag fields)
+          ∙ said_as table fields none tag (Value Qty) need refl its
+          (λ text. option_map dec_text (result_ok (read_dec text))) quantities
       of_kind (Value Price) need its strict amount = price_said fields tag
       of_kind kind need its strict amount = absurd cc
 

@@ -6,7 +6,6 @@ use Rattle.std.specs.Prelude.{◌==◌, ◌&&◌, not, replicate, if◌then◌el
 use Rattle.std.proofs.Math.ListN.{set}
 use Rattle.std.proofs.Math.Nat.{mod-lt}
 use Rattle.std.proofs.lemmas.List.{get_or-set_same, get_or-set_other, length-set, map_more}
-use Rattle.std.proofs.lemmas.Bool.{eqb-true}
 use Rattle.std.proofs.lemmas.Bool.Decides.{nat_tests}
 use Rattle.field_groups.specs.Field.{Field}
 use Rattle.message_tables.specs.declared.table.Item.{Item as CodeItem}
@@ -41,23 +40,6 @@ module _ (fields : List Field) where
       (sym (map_more (item_of kind_of) items i item lt
       ∙ ap (λ (x : CodeItem CodeKind).
       map (item_of kind_of) (take i items) ++ item_of kind_of x ∷ []) (sym at)))
-
--- a row has its tag
-pub tag_is : (tag : ℕ) (items : List (Item Kind)) (row : Row Kind)
-    → row_of_tag tag items ≡ Some row → row.tag ≡ tag
-tag_is tag [] row e = absurd cc
-tag_is tag (Party role ∷ items) row e = tag_is tag items row e
-tag_is tag (Lines group ∷ items) row e = tag_is tag items row e
-tag_is tag (One first ∷ items) row e =
-    by (first.tag == tag) refl e (λ later. tag_is tag items row later)
-  where
-    by : (b : Bool) → (first.tag == tag) ≡ b
-        → (if b then Some first else row_of_tag tag items) ≡ Some row
-        → (row_of_tag tag items ≡ Some row → row.tag ≡ tag) → row.tag ≡ tag
-    by true same e later =
-        let is : first ≡ row = cc in
-        ap (λ (r : Row Kind). r.tag) (sym is) ∙ eqb-true first.tag tag same
-    by false same e later = later e
 
 -- ---- the slot of a tag
 

@@ -1,11 +1,11 @@
 -- What a slot says is what the row says of fields at no fault.
-use Rattle.std.proofs.Common.{◌≡◌, ◌<◌, ℕ, List, [], ◌∷◌, Bool, true, false, Option, Some, None}
+use Rattle.std.proofs.Common.{◌≡◌, ℕ, List, [], ◌∷◌, Bool, true, false, Option, Some, None}
 use Rattle.std.proofs.Common.{refl, sym, ap, ◌∙◌, subst, codes}
 use Rattle.std.specs.Prelude.{IsSome, nat_le, not, ◌||◌, ◌==◌, ◌&&◌, Result, Ok, Err, position}
 use Rattle.std.specs.Prelude.{if◌then◌else◌}
 use Rattle.std.proofs.lemmas.Bool.{eqb-true}
 use Rattle.std.specs.Int.{is_negative}
-use Rattle.std.specs.List.{find, slice_get}
+use Rattle.std.specs.List.{find, flat_map, slice_get}
 use Rattle.std.specs.Option.{option_map}
 use Rattle.std.specs.Result.{result_ok}
 use Rattle.typed_fields.specs.declared.fault.FieldFault.{FieldFault}
@@ -15,9 +15,10 @@ use Rattle.typed_fields.specs.Dec.{dec_text, read_dec}
 use Rattle.typed_fields.specs.MonthYear.{read_month_year}
 use Rattle.typed_fields.specs.Number.{number_text, read_number}
 use Rattle.field_groups.specs.Field.{Field}
-use Rattle.message_tables.specs.Tables.{Need, Lenient, Fixed, Row, Table, Item, Verdict, Spells}
-use Rattle.message_tables.specs.Tables.{Outside, Wrong, Said, ◌>>=◌, all_rows, is_listed, row_at}
-use Rattle.message_tables.specs.Tables.{says, text_of, value_at}
+use Rattle.message_tables.specs.Tables.{Need, Lenient, Fixed, Row, Table, Item, One, Party, Lines}
+use Rattle.message_tables.specs.Tables.{Verdict, Spells, Outside, Wrong, Said, Cell, Tag, ◌>>=◌}
+use Rattle.message_tables.specs.Tables.{all_rows, cells_of, is_listed, row_at, said_at, says}
+use Rattle.message_tables.specs.Tables.{text_of, value_at}
 use Rattle.message_tables.specs.FirstFault.{first_fault, mark_of}
 use Rattle.message_tables.specs.Plain.{is_good}
 use Rattle.message_tables.proofs.ByPlace.{found_at, found_by_place}
@@ -33,14 +34,14 @@ use Rattle.sound_laws.proofs.PlainRows.{spelled}
 use Rattle.sound_laws.proofs.SpelledAgain.{is_own as is_verbatim, own_bytes}
 use Rattle.sound_laws.proofs.Each.{both}
 use Rattle.sound_laws.proofs.Good.{IsGood, all_good, held}
-use Rattle.sound_laws.proofs.RowsSaid.{row_of_tag}
+use Rattle.sound_laws.proofs.RowsSaid.{row_of_tag, tag_is}
 use Rattle.row_slots.specs.declared.slots.Slot.{Slot}
 use Rattle.row_slots.specs.declared.slots.Slot.TheVariants as slots
 use Rattle.row_slots.specs.Slots.{SlotsSay, counts, is_slotted, is_unfixed, row_slot, slot_found}
 use Rattle.row_slots.specs.Slots.{slot_held, slot_in, slot_said, no_slots, row_says, slot_at}
 use Rattle.row_slots.specs.Slots.{slot_decimal, slot_number, slot_value, value_of, weighs}
 use Rattle.row_slots.specs.Slots.{with_items}
-use Rattle.row_slots.proofs.Filled.{is_own, slot_by, slot_filled, tag_is}
+use Rattle.row_slots.proofs.Filled.{is_own, slot_by, slot_filled}
 
 -- ---- a value that is spelled
 
@@ -50,11 +51,54 @@ found_tag : (tag : ℕ) (fields : List Field) (f : Field) → find (λ g. g.0 ==
 found_tag tag [] f h = absurd cc
 found_tag tag (g ∷ fields) f h = by (g.0 == tag) refl h (λ later. found_tag tag fields f later)
   where
-    by : (b : Bool) → (g.0 == tag) ≡ b → (if b then Some g else find (λ k. k.0 == tag) fields) ≡ Some f
+    by : (b : Bool) → (g.0 == tag) ≡ b
+        → (if b then Some g else find (λ k. k.0 == tag) fields) ≡ Some f
         → (find (λ k. k.0 == tag) fields ≡ Some f → f.0 ≡ tag) → f.0 ≡ tag
     by true e h later =
         let is : g ≡ f = cc in ap (λ (x : Field). x.0) (sym is) ∙ eqb-true g.0 tag e
     by false e h later = later h
+
+read_as : {A : Type 0} (write : A → List ℕ) (r : Result A FieldFault) (text : List ℕ)
+    → verdict_of (spelt write r) ≡ Spells text → option_map write (result_ok r) ≡ Some text
+read_as write (Ok x) text h = let same : write x ≡ text = cc in ap (λ t. Some t) same
+read_as write (Err fault) text h = absurd cc
+
+in_range : {A : Type 0} (write : A → List ℕ) (good : A → Bool) (r : Result A FieldFault)
+    (text : List ℕ) → verdict_of (spelt write (if_in_range good r)) ≡ Spells text
+    → option_map write (result_ok r) ≡ Some text
+in_range write good (Err fault) text h = absurd cc
+in_range write good (Ok x) text h = by (good x) h
+  where
+    by : (b : Bool) → verdict_of (spelt write (if b then Ok x else Err Range)) ≡ Spells text
+        → Some (write x) ≡ Some text
+    by true h = let same : write x ≡ text = cc in ap (λ t. Some t) same
+    by false h = absurd cc
+
+prices : (bytes text : List ℕ) → verdict_of (spelling Price bytes) ≡ Spells text
+    → option_map dec_text (result_ok (read_dec bytes)) ≡ Some text
+unfolding spelling
+prices [] text h = absurd cc
+prices (b ∷ bs) text h = read_as dec_text (read_dec (b ∷ bs)) text h
+
+pub quantities : (bytes text : List ℕ) → verdict_of (spelling Qty bytes) ≡ Spells text
+    → option_map dec_text (result_ok (read_dec bytes)) ≡ Some text
+unfolding spelling
+quantities [] text h = absurd cc
+quantities (b ∷ bs) text h =
+    in_range dec_text (λ d. not (is_negative d.units)) (read_dec (b ∷ bs)) text h
+
+numbers : (bytes text : List ℕ) → verdict_of (spelling Number bytes) ≡ Spells text
+    → option_map number_text (result_ok (read_number bytes)) ≡ Some text
+unfolding spelling
+numbers [] text h = absurd cc
+numbers (b ∷ bs) text h = read_as number_text (read_number (b ∷ bs)) text h
+
+reasons : (bytes text : List ℕ) → verdict_of (spelling Reason bytes) ≡ Spells text
+    → option_map number_text (result_ok (read_number bytes)) ≡ Some text
+unfolding spelling
+reasons [] text h = absurd cc
+reasons (b ∷ bs) text h =
+    in_range number_text (λ n. nat_le n.value most_reason) (read_number (b ∷ bs)) text h
 
 -- a value at a place
 module _ (fields : List Field) (place : ℕ) (tag : ℕ) (bytes : List ℕ)
@@ -67,22 +111,6 @@ module _ (fields : List Field) (place : ℕ) (tag : ℕ) (bytes : List ℕ)
   stands kind text is h =
       value_is ∙ ap (λ (t : List ℕ). Some t)
       (sym (own_bytes kind bytes is text (spelled (spelling kind bytes) text h)))
-
-  read_as : {A : Type 0} (write : A → List ℕ) (r : Result A FieldFault) (text : List ℕ)
-      → verdict_of (spelt write r) ≡ Spells text → option_map write (result_ok r) ≡ Some text
-  read_as write (Ok x) text h = let same : write x ≡ text = cc in ap (λ t. Some t) same
-  read_as write (Err fault) text h = absurd cc
-
-  in_range : {A : Type 0} (write : A → List ℕ) (good : A → Bool) (r : Result A FieldFault)
-      (text : List ℕ) → verdict_of (spelt write (if_in_range good r)) ≡ Spells text
-      → option_map write (result_ok r) ≡ Some text
-  in_range write good (Err fault) text h = absurd cc
-  in_range write good (Ok x) text h = by (good x) h
-    where
-      by : (b : Bool) → verdict_of (spelt write (if b then Ok x else Err Range)) ≡ Spells text
-          → Some (write x) ≡ Some text
-      by true h = let same : write x ≡ text = cc in ap (λ t. Some t) same
-      by false h = absurd cc
 
   -- what a slot says of a value that is spelled
   decimals : (text : List ℕ) → option_map dec_text (result_ok (read_dec bytes)) ≡ Some text
@@ -97,54 +125,13 @@ module _ (fields : List Field) (place : ℕ) (tag : ℕ) (bytes : List ℕ)
       ap (λ (v : Said). v >>= (λ value. option_map number_text (result_ok (read_number value))))
       value_is ∙ h
 
-  prices : (text : List ℕ) → verdict_of (spelling Price bytes) ≡ Spells text
-      → option_map dec_text (result_ok (read_dec bytes)) ≡ Some text
-  unfolding spelling
-  prices text h = by bytes h
-    where
-      by : (b : List ℕ) → verdict_of (spelling Price b) ≡ Spells text
-          → option_map dec_text (result_ok (read_dec b)) ≡ Some text
-      by [] h = absurd cc
-      by (b ∷ bs) h = read_as dec_text (read_dec (b ∷ bs)) text h
-
-  quantities : (text : List ℕ) → verdict_of (spelling Qty bytes) ≡ Spells text
-      → option_map dec_text (result_ok (read_dec bytes)) ≡ Some text
-  unfolding spelling
-  quantities text h = by bytes h
-    where
-      by : (b : List ℕ) → verdict_of (spelling Qty b) ≡ Spells text
-          → option_map dec_text (result_ok (read_dec b)) ≡ Some text
-      by [] h = absurd cc
-      by (b ∷ bs) h = in_range dec_text (λ d. not (is_negative d.units)) (read_dec (b ∷ bs)) text h
-
-  numbers : (text : List ℕ) → verdict_of (spelling Number bytes) ≡ Spells text
-      → option_map number_text (result_ok (read_number bytes)) ≡ Some text
-  unfolding spelling
-  numbers text h = by bytes h
-    where
-      by : (b : List ℕ) → verdict_of (spelling Number b) ≡ Spells text
-          → option_map number_text (result_ok (read_number b)) ≡ Some text
-      by [] h = absurd cc
-      by (b ∷ bs) h = read_as number_text (read_number (b ∷ bs)) text h
-
-  reasons : (text : List ℕ) → verdict_of (spelling Reason bytes) ≡ Spells text
-      → option_map number_text (result_ok (read_number bytes)) ≡ Some text
-  unfolding spelling
-  reasons text h = by bytes h
-    where
-      by : (b : List ℕ) → verdict_of (spelling Reason b) ≡ Spells text
-          → option_map number_text (result_ok (read_number b)) ≡ Some text
-      by [] h = absurd cc
-      by (b ∷ bs) h =
-          in_range number_text (λ n. nat_le n.value most_reason) (read_number (b ∷ bs)) text h
-
   by_value : (kind : ValueKind) (text : List ℕ) → is_slotted (Value kind) ≡ true
       → verdict_of (spelling kind bytes) ≡ Spells text
       → slot_said fields (slot_in (Value kind) place) ≡ Some text
-  by_value Number text is h = numerals text (numbers text h)
-  by_value Reason text is h = numerals text (reasons text h)
-  by_value Qty text is h = decimals text (quantities text h)
-  by_value Price text is h = decimals text (prices text h)
+  by_value Number text is h = numerals text (numbers bytes text h)
+  by_value Reason text is h = numerals text (reasons bytes text h)
+  by_value Qty text is h = decimals text (quantities bytes text h)
+  by_value Price text is h = decimals text (prices bytes text h)
   by_value MonthYear text is h = absurd cc
   by_value DayOfMonth text is h = absurd cc
   by_value kind text is h = stands kind text refl h
@@ -161,6 +148,26 @@ module _ (fields : List Field) (place : ℕ) (tag : ℕ) (bytes : List ℕ)
   in_kind kind text is h = absurd cc
 
 -- ---- a row
+
+-- WHAT A MESSAGE SAYS at a tag is what its fields say by the row of the tag
+pub said_is : (fields : List Field) (groups : List (ℕ × List (List Cell))) (tag : ℕ)
+    (items : List (Item Kind))
+    → said_at (flat_map (cells_of judge fields groups) items) (Tag tag)
+    ≡ row_says fields (row_of_tag tag items)
+said_is fields groups tag [] = refl
+said_is fields groups tag (Party role ∷ items) = said_is fields groups tag items
+said_is fields groups tag (Lines group ∷ items) = said_is fields groups tag items
+said_is fields groups tag (One row ∷ items) =
+    by (row.tag == tag) (said_is fields groups tag items)
+  where
+    by : (b : Bool)
+        → said_at (flat_map (cells_of judge fields groups) items) (Tag tag)
+        ≡ row_says fields (row_of_tag tag items)
+        → (if b then says row.need (judge fields row.kind) (value_at row.tag fields)
+        else said_at (flat_map (cells_of judge fields groups) items) (Tag tag))
+        ≡ row_says fields (if b then Some row else row_of_tag tag items)
+    by true rest = refl
+    by false rest = rest
 
 abbrev pub can_say : Option (Row Kind) → Bool
 can_say None = true
@@ -273,6 +280,26 @@ module _ (table : Table Kind) (fields : List Field) (none : first_fault judge ta
         (all_good judge table fields none) in
         spells judge table fields need tag (judge fields kind bytes) strict
         (rw its at good.0) (rw its at good.1)
+
+    -- what a strict row says is what its value reads as, where each value that is spelled does
+    pub said_as : (tag : ℕ) (kind : Kind) (need : Need) → IsStrict need
+        → row_at tag (all_rows table) ≡ Some (record { tag = tag; kind = kind; need = need })
+        → (reads : List ℕ → Said) → ((bytes text : List ℕ)
+        → judge fields kind bytes ≡ Spells text → reads bytes ≡ Some text)
+        → (value_at tag fields >>= reads)
+        ≡ (value_at tag fields >>= (λ bytes. text_of (judge fields kind bytes)))
+    said_as tag kind need strict its reads same = by (value_at tag fields) refl
+      where
+        spelled_as : (bytes : List ℕ) (v : Verdict) → judge fields kind bytes ≡ v
+            → IsSome (text_of v) → reads bytes ≡ text_of v
+        spelled_as bytes (Spells text) e some = same bytes text e
+        spelled_as bytes other e some = absurd cc
+
+        by : (o : Said) → value_at tag fields ≡ o
+            → (o >>= reads) ≡ (o >>= (λ bytes. text_of (judge fields kind bytes)))
+        by None at = refl
+        by (Some bytes) at = spelled_as bytes (judge fields kind bytes) refl
+            (strict_is tag kind need strict its bytes at)
 
     -- WHAT THE SLOT OF A ROW SAYS is what fields at no fault say by it
     pub said_by : (tag : ℕ) (kind : Kind) (need : Need) → is_slotted kind ≡ true

@@ -1,15 +1,16 @@
--- The rows and groups among the items of a table, and the shapes of what a rule makes of them: a row
--- that is carried, an item where the source has a place, the lines of a group.
+-- The rows and groups among the items of a table, and the shapes of what a rule makes of them: a
+-- row that is carried, an item where the source has a place, the lines of a group.
 use Rattle.std.proofs.Common.{◌≡◌, ℕ, List, [], ◌∷◌, Bool, true, false, Option, Some, None, refl}
-use Rattle.std.proofs.Common.{sym, ap, ◌∙◌}
+use Rattle.std.proofs.Common.{sym, ap, subst, ◌∙◌}
 use Rattle.std.proofs.lemmas.Bool.{eqb-true}
 use Rattle.std.specs.Option.{option_map}
 use Rattle.std.specs.Prelude.{◌||◌, ◌==◌, is_some, if◌then◌else◌}
-use Rattle.std.specs.List.{flat_map, list_any}
+use Rattle.std.specs.List.{AllByRecursion, flat_map, list_any}
 use Rattle.message_tables.specs.Tables.{Place, Tag, Need, Row, Item, One, Party, Lines}
 use Rattle.message_tables.specs.Tables.{RepeatingGroup, is_place}
 use Rattle.row_values.specs.Kinds.{Kind}
 use Rattle.sound_laws.specs.Sound.{places_of}
+use Rattle.sound_laws.proofs.Each.{each_at}
 use Rattle.sound_laws.proofs.RowsSaid.{row_of_tag}
 use Rattle.rule_rows.specs.ByRules.{At, Grouped, has_any, has_group, has_place, outline_of}
 use Rattle.rule_rows.specs.Rows.{group_at}
@@ -48,38 +49,30 @@ group_there (Lines group ∷ rest) count = by (group.count == count) (group_ther
     by true h = refl
     by false h = h
 
--- a row has its tag, and a group its count
-pub tag_is : (tag : ℕ) (items : List (Item Kind)) (row : Row Kind)
-    → row_of_tag tag items ≡ Some row → row.tag ≡ tag
-tag_is tag [] row e = absurd cc
-tag_is tag (Party role ∷ items) row e = tag_is tag items row e
-tag_is tag (Lines group ∷ items) row e = tag_is tag items row e
-tag_is tag (One first ∷ items) row e =
-    by (first.tag == tag) refl e (λ later. tag_is tag items row later)
+-- a group that is found has its count, and what holds of each item holds of it
+pub group_found : (P : Item Kind → Type 0) (count : ℕ) (items : List (Item Kind))
+    (group : RepeatingGroup Kind) → group_at count items ≡ Some group → AllByRecursion P items
+    → (group.count ≡ count) × P (Lines group)
+group_found P count [] group e each = absurd cc
+group_found P count (One row ∷ items) group e each = group_found P count items group e each.1
+group_found P count (Party role ∷ items) group e each = group_found P count items group e each.1
+group_found P count (Lines first ∷ items) group e each =
+    by (first.count == count) refl e (λ later. group_found P count items group later each.1)
   where
-    by : (b : Bool) → (first.tag == tag) ≡ b
-        → (if b then Some first else row_of_tag tag items) ≡ Some row
-        → (row_of_tag tag items ≡ Some row → row.tag ≡ tag) → row.tag ≡ tag
+    by : (b : Bool) → (first.count == count) ≡ b
+        → (if b then Some first else group_at count items) ≡ Some group
+        → (group_at count items ≡ Some group → (group.count ≡ count) × P (Lines group))
+        → (group.count ≡ count) × P (Lines group)
     by true same e later =
-        let is : first ≡ row = cc in
-        ap (λ (r : Row Kind). r.tag) (sym is) ∙ eqb-true first.tag tag same
+        let is : first ≡ group = cc in
+        let Q : RepeatingGroup Kind → Type 0 = λ g. (g.count ≡ count) × P (Lines g) in
+        subst Q is (eqb-true first.count count same, each.0)
     by false same e later = later e
 
 pub count_is : (count : ℕ) (items : List (Item Kind)) (group : RepeatingGroup Kind)
     → group_at count items ≡ Some group → group.count ≡ count
-count_is count [] group e = absurd cc
-count_is count (One row ∷ items) group e = count_is count items group e
-count_is count (Party role ∷ items) group e = count_is count items group e
-count_is count (Lines first ∷ items) group e =
-    by (first.count == count) refl e (λ later. count_is count items group later)
-  where
-    by : (b : Bool) → (first.count == count) ≡ b
-        → (if b then Some first else group_at count items) ≡ Some group
-        → (group_at count items ≡ Some group → group.count ≡ count) → group.count ≡ count
-    by true same e later =
-        let is : first ≡ group = cc in
-        ap (λ (g : RepeatingGroup Kind). g.count) (sym is) ∙ eqb-true first.count count same
-    by false same e later = later e
+count_is count items group e = (group_found (λ item. Unit {0}) count items group e
+    (each_at (λ item. Unit {0}) items (λ i item at. tt))).0
 
 -- ---- THE SHAPES of what a rule makes
 

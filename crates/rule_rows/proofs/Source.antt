@@ -1,23 +1,22 @@
 -- What a sound message says at the rows and groups of its table.
-use Rattle.std.proofs.Common.{◌≡◌, ℕ, List, [], ◌∷◌, Bool, true, false, Option, Some, None, refl}
+use Rattle.std.proofs.Common.{◌≡◌, ℕ, List, Bool, true, false, Option, Some, None, refl}
 use Rattle.std.proofs.Common.{sym, ap, subst, ◌∙◌}
-use Rattle.std.specs.Prelude.{IsSome, IfSome, ◌==◌, is_some, if◌then◌else◌}
-use Rattle.std.specs.List.{AllByRecursion}
+use Rattle.std.specs.Prelude.{IsSome, IfSome, is_some}
 use Rattle.field_groups.specs.Field.{Field}
-use Rattle.message_tables.specs.Tables.{Need, Required, Optional, Lenient, Row, Item, One, Party}
-use Rattle.message_tables.specs.Tables.{Lines, RepeatingGroup, Message, Said, Tag, Spells, Table}
+use Rattle.message_tables.specs.Tables.{Need, Required, Optional, Lenient, Row}
+use Rattle.message_tables.specs.Tables.{RepeatingGroup, Message, Said, Tag, Spells, Table}
 use Rattle.message_tables.specs.Tables.{said_at, lines_of, is_needed, value_at}
 use Rattle.message_tables.specs.Content.{content}
 use Rattle.value_kinds.specs.ValueKind.{ValueKind}
 use Rattle.row_values.specs.Kinds.{Kind, Value, judge}
 use Rattle.sound_laws.specs.Sound.{IsClear, IsSaid, IsGroup, IsItem, IsSound}
-use Rattle.sound_laws.proofs.RowsSaid.{row_of_tag, row_said, same_value, required_said}
+use Rattle.sound_laws.proofs.RowsSaid.{row_found, row_of_tag, same_value, required_said}
 use Rattle.sound_laws.proofs.RowsSaid.{optional_said, lenient_said}
 use Rattle.sound_laws.proofs.ContentValues.{groups_said, is_alone, value_said}
 use Rattle.rule_rows.specs.ByRules.{has_place, outline, outline_of}
 use Rattle.rule_rows.proofs.Looked.{none_at}
 use Rattle.rule_rows.specs.Rows.{group_at}
-use Rattle.rule_rows.proofs.Items.{count_is, has_row, row_there, tag_is}
+use Rattle.rule_rows.proofs.Items.{group_found, has_row, row_there}
 
 -- what is said by a canonical spelling without SOH
 pub record IsSpelled (fields : List Field) (kind : Kind) (said : Said) : Type 0 where
@@ -65,8 +64,8 @@ module _ (table : Table Kind) (m : Message) (sound : IsSound judge table m) wher
       → IsSaid judge fields row (at tag)
   row_at tag row e =
       let P : ℕ → Type 0 = λ t. IsSaid judge fields row (at t) in
-      subst P (tag_is tag table.items row e)
-      (row_said fields m table.items tag row e sound.items)
+      let found = row_found (IsItem judge fields m) tag table.items row e sound.items in
+      subst P found.0 found.1
 
   pub no_row : (tag : ℕ) → row_of_tag tag table.items ≡ None → at tag ≡ None
   no_row tag e = none_at m.cells (Tag tag)
@@ -88,7 +87,8 @@ module _ (table : Table Kind) (m : Message) (sound : IsSound judge table m) wher
           record { spelled = said.spelled; clear = said.clear }
 
   -- a row that the table has, and each message says
-  pub is_there : (row : Row Kind) → (need : row.need ≡ Required) → has_row table.items row.tag ≡ true
+  pub is_there : (row : Row Kind) → (need : row.need ≡ Required)
+      → has_row table.items row.tag ≡ true
       → IfSome (row_of_tag row.tag table.items) (λ other. other ≡ row) → IsSome (at row.tag)
   is_there row need there is = by (row_of_tag row.tag table.items) refl there is
     where
@@ -109,22 +109,5 @@ module _ (table : Table Kind) (m : Message) (sound : IsSound judge table m) wher
       → group_at count table.items ≡ Some group → IsGroup judge group (lines_of count m.groups)
   group_is count group e =
       let P : ℕ → Type 0 = λ c. IsGroup judge group (lines_of c m.groups) in
-      subst P (count_is count table.items group e) (by table.items e sound.items)
-    where
-      by : (items : List (Item Kind)) → group_at count items ≡ Some group
-          → AllByRecursion (IsItem judge fields m) items
-          → IsGroup judge group (lines_of group.count m.groups)
-      by [] e said = absurd cc
-      by (One row ∷ items) e said = by items e said.1
-      by (Party role ∷ items) e said = by items e said.1
-      by (Lines first ∷ items) e said = one (first.count == count) e (λ later. by items later said.1)
-        where
-          one : (b : Bool) → (if b then Some first else group_at count items) ≡ Some group
-              → (group_at count items ≡ Some group
-              → IsGroup judge group (lines_of group.count m.groups))
-              → IsGroup judge group (lines_of group.count m.groups)
-          one true e later =
-              let same : first ≡ group = cc in
-              let P : RepeatingGroup Kind → Type 0 =
-              λ g. IsGroup judge g (lines_of g.count m.groups) in subst P same said.0
-          one false e later = later e
+      let found = group_found (IsItem judge fields m) count table.items group e sound.items in
+      subst P found.0 found.1

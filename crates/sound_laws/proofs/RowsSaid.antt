@@ -11,7 +11,7 @@ use Rattle.message_tables.specs.Tables.{is_needed, is_one_of, said_at, text_of}
 use Rattle.value_kinds.specs.ValueKind.{ValueKind, Code, listed_word, spelling, code_text}
 use Rattle.row_values.specs.Kinds.{Kind, Value, judge, verdict_of}
 use Rattle.sound_laws.specs.Sound.{IsClear, IsSaid, IsItem}
-use Rattle.sound_laws.proofs.Each.{all_true, one_of}
+use Rattle.sound_laws.proofs.Each.{all_true, each_at, one_of}
 
 again_of : (j : List ℕ → Verdict) (said : Said)
     → IfSome said (λ text. j text ≡ Spells text) → said >>= (λ bytes. text_of (j bytes)) ≡ said
@@ -76,28 +76,37 @@ row_of_tag tag (One row ∷ items) = if row.tag == tag then Some row else row_of
 row_of_tag tag (Party role ∷ items) = row_of_tag tag items
 row_of_tag tag (Lines group ∷ items) = row_of_tag tag items
 
+-- a row that is found has its tag, and what holds of each item holds of it
+pub row_found : (P : Item Kind → Type 0) (tag : ℕ) (items : List (Item Kind)) (row : Row Kind)
+    → row_of_tag tag items ≡ Some row → AllByRecursion P items → (row.tag ≡ tag) × P (One row)
+row_found P tag [] row e each = absurd cc
+row_found P tag (Party role ∷ items) row e each = row_found P tag items row e each.1
+row_found P tag (Lines group ∷ items) row e each = row_found P tag items row e each.1
+row_found P tag (One first ∷ items) row e each =
+    by (first.tag == tag) refl e (λ later. row_found P tag items row later each.1)
+  where
+    by : (b : Bool) → (first.tag == tag) ≡ b
+        → (if b then Some first else row_of_tag tag items) ≡ Some row
+        → (row_of_tag tag items ≡ Some row → (row.tag ≡ tag) × P (One row))
+        → (row.tag ≡ tag) × P (One row)
+    by true same e later =
+        let is : first ≡ row = cc in
+        let Q : Row Kind → Type 0 = λ r. (r.tag ≡ tag) × P (One r) in
+        subst Q is (eqb-true first.tag tag same, each.0)
+    by false same e later = later e
+
 -- what a message says at the row of a tag
 pub row_said : (fields : List Field) (m : Message) (items : List (Item Kind)) (tag : ℕ)
     (row : Row Kind) → row_of_tag tag items ≡ Some row
     → AllByRecursion (IsItem judge fields m) items
     → IsSaid judge fields row (said_at m.cells (Tag row.tag))
-row_said fields m [] tag row e said = absurd cc
-row_said fields m (Party role ∷ items) tag row e said =
-    row_said fields m items tag row e said.1
-row_said fields m (Lines group ∷ items) tag row e said =
-    row_said fields m items tag row e said.1
-row_said fields m (One first ∷ items) tag row e said =
-    by (first.tag == tag) e (λ later. row_said fields m items tag row later said.1)
-  where
-    by : (b : Bool) → (if b then Some first else row_of_tag tag items) ≡ Some row
-        → (row_of_tag tag items ≡ Some row
-        → IsSaid judge fields row (said_at m.cells (Tag row.tag)))
-        → IsSaid judge fields row (said_at m.cells (Tag row.tag))
-    by true e later =
-        let same : first ≡ row = cc in
-        let P : Row Kind → Type 0 = λ r. IsSaid judge fields r (said_at m.cells (Tag r.tag)) in
-        subst P same said.0
-    by false e later = later e
+row_said fields m items tag row e said =
+    (row_found (IsItem judge fields m) tag items row e said).1
+
+pub tag_is : (tag : ℕ) (items : List (Item Kind)) (row : Row Kind)
+    → row_of_tag tag items ≡ Some row → row.tag ≡ tag
+tag_is tag items row e = (row_found (λ item. Unit {0}) tag items row e
+    (each_at (λ item. Unit {0}) items (λ i item at. tt))).0
 
 -- ---- codes
 
