@@ -42,7 +42,8 @@ asked50 kind = table50 (letter_of kind) (items50 kind)
 
 module _ (P : List ℕ → Option (Table Kind) → Option (Table Kind) → Type 0)
     (none : (msg_type : List ℕ) → P msg_type None None)
-    (each : (kind : RequestKind) → P (letter_of kind ∷ []) (Some (asked42 kind)) (Some (asked50 kind)))
+    (each : (kind : RequestKind)
+    → P (letter_of kind ∷ []) (Some (asked42 kind)) (Some (asked50 kind)))
     (msg_type : List ℕ) where
   asked : (kind : RequestKind) → bytes_eq msg_type (letter_of kind ∷ []) ≡ true
       → P msg_type (Some (asked42 kind)) (Some (asked50 kind))

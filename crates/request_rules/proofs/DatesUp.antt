@@ -165,11 +165,11 @@ module _ (fields42 fields50 : List Field) where
   month_spelled None day at h d = tt
   month_spelled (Some []) day at h d = absurd (no_month h)
   month_spelled (Some (b ∷ month)) None at h d =
-      ap (λ (date : Said). month_beside (date >>= (λ text. text_of (verdict_of (spelling Day text))))
-      (b ∷ month)) at
+      ap (λ (date : Said). month_beside
+      (date >>= (λ text. text_of (verdict_of (spelling Day text)))) (b ∷ month)) at
       ∙ spells_ok (spelling MonthYear (b ∷ month)) (b ∷ month) h
   month_spelled (Some (b ∷ month)) (Some day) at h d =
-      ap (λ (date : Said). month_beside (date >>= (λ text. text_of (verdict_of (spelling Day text))))
-      (b ∷ month)) at
+      ap (λ (date : Said). month_beside
+      (date >>= (λ text. text_of (verdict_of (spelling Day text)))) (b ∷ month)) at
       ∙ ap (λ (v : Verdict). month_beside (text_of v) (b ∷ month)) d
       ∙ ap Spells (month_first (b ∷ month) day (month_length fields42 (b ∷ month) h))

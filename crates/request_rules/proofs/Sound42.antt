@@ -167,7 +167,8 @@ module _ (fields after : List Field) where
 module _ (fields : List Field) (clear : AllByRecursion (IsClearField judge) fields) where
   -- what is read by a table
   table_read : (letter : ℕ) (items : List (Item Kind)) → IsTable judge (table letter items) fields
-      → list_all (row_passes is_ours_row) items ≡ true → AllByRecursion HasPlainRows (flat_map groups_of items)
+      → list_all (row_passes is_ours_row) items ≡ true
+      → AllByRecursion HasPlainRows (flat_map groups_of items)
       → is_alone 200 items ≡ true → is_alone 205 items ≡ true
       → said_at (message_in judge (table letter items) fields).cells (Tag 200) ≡ month_said fields
       → said_at (message_in judge (table letter items) fields).cells (Tag 205) ≡ day_said fields

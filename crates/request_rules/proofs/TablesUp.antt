@@ -1,5 +1,5 @@
--- The table that the rules make of a table of FIX 4.2. Each table of FIX 5.0 SP2 is what they make of
--- the table of FIX 4.2 with its letter.
+-- The table that the rules make of a table of FIX 4.2. Each table of FIX 5.0 SP2 is what they make
+-- of the table of FIX 4.2 with its letter.
 use Rattle.std.proofs.Common.{zero, suc, [], ◌∷◌, subst, ◌≡◌, ℕ, Bool, true, false, not, List}
 use Rattle.std.proofs.Common.{codes, Option, Some, None}
 use Rattle.std.specs.Prelude.{IfSome, ◌&&◌, ◌==◌}
@@ -63,7 +63,8 @@ module _ (items : List (Item Kind)) where
   abbrev pub make : Rule → Option (Item Kind)
   make (Same tag) = carried up_need tag (row_of_tag tag items)
   make (Moved from to) = carried up_need to (row_of_tag from items)
-  make (Listed from to listed) = item_if (has_rule (Listed from to listed)) (beside to (Byte listed))
+  make (Listed from to listed) =
+      item_if (has_rule (Listed from to listed)) (beside to (Byte listed))
   make Parties = item_if (has_rule Parties) (LinesOf parties)
   make (PartyOf who) = item_if (has_rule (PartyOf who)) (Party (role_of who))
   make Month = item_if (has_rule Month) (beside 200 (MonthBeside 541))

@@ -8,6 +8,7 @@ use Rattle.value_kinds.specs.ValueKind.{Code, spelling, listed_word, is_code}
 use Rattle.message_tables.specs.Tables.{Spells, Required, Lenient, Said, is_one_of, is_listed}
 use Rattle.message_tables.specs.Tables.{value_at}
 use Rattle.row_values.specs.Kinds.{Value, Byte, TimeBeside, judge, verdict_of, counted, is_at_close}
+use Rattle.row_values.specs.Kinds.{row}
 use Rattle.sound_laws.specs.Sound.{IsSaid}
 use Rattle.sound_laws.proofs.Each.{◌&◌, one_of}
 use Rattle.sound_laws.proofs.RowsSaid.{is_code_of, lenient_said, listed_clear, code_said}
@@ -18,12 +19,14 @@ use Rattle.request_rules.specs.Rules.{type_up, time_up}
 module _ (fields50 : List Field) where
   abbrev IsType : Said → Type 0
   IsType said =
-      IsSaid judge fields50 (record { tag = 40; kind = Value (Code (codes "1234")); need = Required }) said
+      IsSaid judge fields50 (row Required 40 (Code (codes "1234"))) said
 
-  type_of : (code : ℕ) → is_one_of (codes "12345B") code ≡ true → IsType (type_up (Some (code ∷ [])))
+  type_of : (code : ℕ) → is_one_of (codes "12345B") code ≡ true
+      → IsType (type_up (Some (code ∷ [])))
   type_of code h =
-      let says : (c : ℕ) → is_one_of (codes "1234") c ≡ true → list_any is_soh (codes "1234") ≡ false
-      → IsType (Some (c ∷ [])) = λ c there none. code_said fields50 40 (codes "1234") c none there in
+      let says : (c : ℕ) → is_one_of (codes "1234") c ≡ true
+      → list_any is_soh (codes "1234") ≡ false → IsType (Some (c ∷ [])) =
+      λ c there none. code_said fields50 40 (codes "1234") c none there in
       one_of (λ c. IsType (type_up (Some (c ∷ [])))) (codes "12345B")
       (says 49 refl refl & says 50 refl refl & says 51 refl refl & says 52 refl refl
       & says 49 refl refl & says 50 refl refl & tt) code h
@@ -40,7 +43,8 @@ module _ (fields50 : List Field) where
   -- ---- TimeInForce
 
   abbrev IsTime : Said → Type 0
-  IsTime said = IsSaid judge fields50 (record { tag = 59; kind = TimeBeside 40; need = Lenient }) said
+  IsTime said =
+      IsSaid judge fields50 (record { tag = 59; kind = TimeBeside 40; need = Lenient }) said
 
   close_counts : (ord_type : ℕ) → value_at 40 fields50 ≡ Some (ord_type ∷ [])
       → is_one_of (codes "12") ord_type ≡ true
@@ -54,7 +58,8 @@ module _ (fields50 : List Field) where
   at_close : (ord_type : ℕ) → value_at 40 fields50 ≡ Some (ord_type ∷ [])
       → is_one_of (codes "12") ord_type ≡ true → IsTime (Some (codes "7"))
   at_close ord_type at listed =
-      lenient_said fields50 59 (TimeBeside 40) (Some (codes "7")) (close_counts ord_type at listed) refl
+      lenient_said fields50 59 (TimeBeside 40) (Some (codes "7"))
+      (close_counts ord_type at listed) refl
 
   -- a time of FIX 4.2 is not at the close
   pub is_other : (code : ℕ) → is_one_of (codes "0123456") code ≡ true → (code == 55) ≡ false
@@ -80,26 +85,27 @@ module _ (fields50 : List Field) where
       (listed_clear (codes "0123456") t.code refl t.listed))
 
   module _ (fields42 : List Field) (time : Said)
-      (timely : IfSome time (λ t. judge fields42 (Value (Code (codes "0123456"))) t ≡ Spells t)) where
-    time_of : (code : ℕ) → is_one_of (codes "12345B") code ≡ true
-        → value_at 40 fields50 ≡ type_up (Some (code ∷ []))
-        → IsTime (time_up (Some (code ∷ [])) time)
-    time_of code h =
-        let P : ℕ → Type 0 = λ c. value_at 40 fields50 ≡ type_up (Some (c ∷ []))
-        → IsTime (time_up (Some (c ∷ [])) time) in
-        let other = other_time fields42 time timely in
-        one_of P (codes "12345B") ((λ at. other) & (λ at. other) & (λ at. other) & (λ at. other)
-        & (λ at. at_close 49 at refl) & (λ at. at_close 50 at refl) & tt) code h
+      (timely : IfSome time (λ t. judge fields42 (Value (Code (codes "0123456"))) t ≡ Spells t))
+    where
+      time_of : (code : ℕ) → is_one_of (codes "12345B") code ≡ true
+          → value_at 40 fields50 ≡ type_up (Some (code ∷ []))
+          → IsTime (time_up (Some (code ∷ [])) time)
+      time_of code h =
+          let P : ℕ → Type 0 = λ c. value_at 40 fields50 ≡ type_up (Some (c ∷ []))
+          → IsTime (time_up (Some (c ∷ [])) time) in
+          let other = other_time fields42 time timely in
+          one_of P (codes "12345B") ((λ at. other) & (λ at. other) & (λ at. other) & (λ at. other)
+          & (λ at. at_close 49 at refl) & (λ at. at_close 50 at refl) & tt) code h
 
-    pub time_said : (ord_type : Said) → IsSome ord_type
-        → IfSome ord_type (λ t. judge fields42 (Value (Code (codes "12345B"))) t ≡ Spells t)
-        → value_at 40 fields50 ≡ type_up ord_type → IsTime (time_up ord_type time)
-    time_said None there h at = absurd cc
-    time_said (Some text) there h at =
-        let t = is_code_of fields42 (codes "12345B") text h in
-        let P : List ℕ → Type 0 = λ x. value_at 40 fields50 ≡ type_up (Some x)
-        → IsTime (time_up (Some x) time) in
-        subst P (sym t.is) (time_of t.code t.listed) at
+      pub time_said : (ord_type : Said) → IsSome ord_type
+          → IfSome ord_type (λ t. judge fields42 (Value (Code (codes "12345B"))) t ≡ Spells t)
+          → value_at 40 fields50 ≡ type_up ord_type → IsTime (time_up ord_type time)
+      time_said None there h at = absurd cc
+      time_said (Some text) there h at =
+          let t = is_code_of fields42 (codes "12345B") text h in
+          let P : List ℕ → Type 0 = λ x. value_at 40 fields50 ≡ type_up (Some x)
+          → IsTime (time_up (Some x) time) in
+          subst P (sym t.is) (time_of t.code t.listed) at
 
 -- ---- OrderCapacity
 

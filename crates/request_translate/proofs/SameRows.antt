@@ -1,5 +1,5 @@
--- What a canonical request says at a row is what its meaning there gives back, so that two that mean
--- the same there say the same.
+-- What a canonical request says at a row is what its meaning there gives back, so that two that
+-- mean the same there say the same.
 use Rattle.std.proofs.Common.{◌≡◌, ℕ, List, [], ◌∷◌, ◌++◌, map, take, drop, length, codes, Option}
 use Rattle.std.proofs.Common.{Some, None, Bool, true, false, refl, sym, ap, subst, ◌∙◌, option_map}
 use Rattle.std.proofs.Common.{unwrap_or, arith, length-drop}

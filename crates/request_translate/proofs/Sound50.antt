@@ -94,7 +94,8 @@ module _ (fields : List Field) (clear : AllByRecursion (IsClearField judge) fiel
 
       -- no request says an ExecType
       kept : AllByRecursion (GroupSaid judge m) (groups_in t) → KeepsType fields (content t m)
-      kept groups listed h = absurd (let no : is_listed listed (value_at 150 (content t m)) ≡ false =
+      kept groups listed h = absurd (
+          let no : is_listed listed (value_at 150 (content t m)) ≡ false =
           ap (is_listed listed) (items_value judge m 150 items is.untyped groups) in cc)
 
       sound : first_fault judge t fields ≡ None → IsSound judge t m

@@ -86,8 +86,8 @@ module _ {Rule : Type 0} (kinds : Kinds Rule) (items : List (Item Kind))
     places_at false target said None h = refl
     places_at other target said more h = absurd cc
 
-    counts_at : (has : Bool) (target : Target) (lines : List (List Cell)) (item : Option (Item Kind))
-        → option_map target_of item ≡ target_if has target
+    counts_at : (has : Bool) (target : Target) (lines : List (List Cell))
+        (item : Option (Item Kind)) → option_map target_of item ≡ target_if has target
         → map (λ group. group.0) (groups_at has target lines)
         ≡ map (λ group. group.count) (flat_map groups_of (option_to_list item))
     counts_at true target lines (Some item) h =
@@ -205,7 +205,8 @@ module _ {Rule : Type 0} (kinds : Kinds Rule) (items : List (Item Kind))
 
   -- and so of the groups
   pub groups_made : (P : RepeatingGroup Kind → Type 0) (rules : List Rule)
-      → AllByRecursion (λ rule. AllByRecursion P (flat_map groups_of (option_to_list (make rule)))) rules
+      → AllByRecursion (λ rule. AllByRecursion P
+      (flat_map groups_of (option_to_list (make rule)))) rules
       → AllByRecursion P (flat_map groups_of (made rules))
   groups_made P [] h = tt
   groups_made P (rule ∷ rules) h =

@@ -61,12 +61,12 @@ module _ {Rule : Type 0} (kinds : Kinds Rule) (are : AreKinds kinds) (all : List
           → AllByRecursion (GroupSaid judge w) (flat_map groups_of (option_to_list item))
       one None h = tt
       one (Some item) h =
-          let P : List (RepeatingGroup Kind) → Type 0 = λ gs. AllByRecursion (GroupSaid judge w) gs in
-          subst P (no_more (groups_of item)) h
+          subst (λ (gs : List (RepeatingGroup Kind)). AllByRecursion (GroupSaid judge w) gs)
+          (no_more (groups_of item)) h
 
       by : (rules : List Rule) → AllByRecursion RuleGroups rules → AllByRecursion
-          (λ rule. AllByRecursion (GroupSaid judge w) (flat_map groups_of (option_to_list (make rule))))
-          rules
+          (λ rule. AllByRecursion (GroupSaid judge w)
+          (flat_map groups_of (option_to_list (make rule)))) rules
       by [] h = tt
       by (rule ∷ rules) h = (one (make rule) h.0, by rules h.1)
 

@@ -109,6 +109,7 @@ one_of P (m ∷ ns) each n there = or (m == n) refl there (λ later. one_of P ns
     or false e there later = later there
 
 -- and each differs from one that is not among them
-pub none_is : (n : ℕ) (ns : List ℕ) → is_one_of ns n ≡ false → AllByRecursion (λ m. (m == n) ≡ false) ns
+pub none_is : (n : ℕ) (ns : List ℕ) → is_one_of ns n ≡ false
+    → AllByRecursion (λ m. (m == n) ≡ false) ns
 none_is n [] h = tt
 none_is n (m ∷ ns) h = let p = either (m == n) (is_one_of ns n) h in (p.0, none_is n ns p.1)

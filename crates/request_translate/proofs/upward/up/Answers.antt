@@ -29,8 +29,8 @@ returns-in-Ok-clause-sense c =
 
 pub returns-in-Ok-clause-canonical : goal.returns-in-Ok-clause-canonical
 returns-in-Ok-clause-canonical c =
-    canonical c.args.msg.now c.requires.sound c.type42.result.now c.deref.result.now c.type42.ensures
-    c.in_ok-split.split.fields c.in_ok-split.split.fault c.in_ok-split.ensures
+    canonical c.args.msg.now c.requires.sound c.type42.result.now c.deref.result.now
+    c.type42.ensures c.in_ok-split.split.fields c.in_ok-split.split.fault c.in_ok-split.ensures
     (c.deref.ensures.value ∙ c.in_ok-content.ensures.ok.bytes) c.in_ok-content.ensures.ok.said
     c.in-Ok.request c.set_resend.new.msg c.resend.result c.in-Ok.ensures.says
     c.set_resend.ensures.says c.resend.ensures
