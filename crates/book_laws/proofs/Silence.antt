@@ -21,8 +21,7 @@ use Rattle.first_faults.specs.Faults.{message_by, of_split, of_table, told as to
 use Rattle.rows_fix50.specs.Header.{completed_by}
 use Rattle.refusal_parts.specs.Once.{once_by}
 use Rattle.reject_rules.specs.Refusals.{away_refusal, refusal_of}
-use Rattle.dict_fix42.specs.Sense.{request42}
-use Rattle.request_rules.specs.Lack.{lack_if}
+use Rattle.request_rules.specs.Lack.{lack42}
 use Rattle.event_decisions.specs.Body.{first_value, reading_of, type_of}
 use Rattle.event_decisions.specs.Decide.{Asked, Words}
 use Rattle.message_answers.specs.Answer.{Answer, Answers, Gives, Near, answered, forwarded}
@@ -132,11 +131,11 @@ module _ (before : List Entry) (active : Bool) (asked : Asked) where
       where
         by : (a b c : Bool) → m.resend ≡ b → Gives asked (if a then used asked b else
             (if not c then Near (away_refusal asked.number (type_of asked.body)) else
-            spelled asked None m (lack_if (request42 m)))) None → IsSilence before asked
+            spelled asked None m (lack42 m))) None → IsSilence before asked
         by true true c same is = Repeats m reads none side same
         by true false c same is = absurd (cc is)
         by false b false same is = absurd (cc is)
-        by false b true same is = absurd (spelled_given None (lack_if (request42 m)) is)
+        by false b true same is = absurd (spelled_given None (lack42 m) is)
 
     in_order_silent : is_refusal m ≡ false → (s : Side) → asked.side ≡ s
         → Gives asked (in_order s (known_of before) active asked m) None → IsSilence before asked
@@ -192,4 +191,4 @@ module _ (before : List Entry) (active : Bool) (asked : Asked) where
           ∙ ap (λ (s : Side). in_order s (known_of before) active asked m) side
           ∙ ap (λ (b : Bool). if b then used asked m.resend else
           (if not active then Near (away_refusal asked.number (type_of asked.body)) else
-          spelled asked None m (lack_if (request42 m)))) is_old
+          spelled asked None m (lack42 m))) is_old

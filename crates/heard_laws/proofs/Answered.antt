@@ -19,8 +19,7 @@ use Rattle.reject_rules.specs.Content.{business_reject, field_if, number_if, rej
 use Rattle.reject_rules.specs.Refusals.{away_refusal, business_refusal, no_counterpart}
 use Rattle.reject_rules.specs.Refusals.{refusal_of, session_refusal, used_refusal}
 use Rattle.reject_rules.specs.Renumbered.{renumbered}
-use Rattle.dict_fix42.specs.Sense.{request42}
-use Rattle.request_rules.specs.Lack.{lack_if}
+use Rattle.request_rules.specs.Lack.{lack42}
 use Rattle.event_decisions.specs.Body.{type_of}
 use Rattle.event_decisions.specs.Decide.{Asked, Words}
 use Rattle.message_answers.specs.Answer.{Answers, Forward, Gives, Near, answered, forwarded}
@@ -156,13 +155,13 @@ module _ (before : List Entry) (numbered : AreNumbered before) (active : Bool) (
         where
           by : (a b c : Bool) → Gives asked (if a then used asked b else
               (if not c then Near (away_refusal asked.number (type_of asked.body)) else
-              spelled asked None m (lack_if (request42 m)))) (Some words) → Is
+              spelled asked None m (lack42 m))) (Some words) → Is
           by true true c is = absurd cc
           by true false c is = Nears (used_refusal asked.number (type_of asked.body))
               (business_names asked.number _ refl) is
           by false b false is = Nears (away_refusal asked.number (type_of asked.body))
               (business_names asked.number _ refl) is
-          by false b true is = spelled_is None tt (lack_if (request42 m)) is
+          by false b true is = spelled_is None tt (lack42 m) is
 
       reported_is : Gives asked (reported (known_of before) asked m) (Some words) → Is
       reported_is is = spelled_is (original_of (known_of before) m)

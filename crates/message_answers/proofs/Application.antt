@@ -14,8 +14,7 @@ use Rattle.pair_entries.specs.declared.TheConstants.{MAX_CONTENT}
 use Rattle.reject_rules.specs.Content.{reject, business_reject}
 use Rattle.reject_rules.specs.Refusals.{refusal_of, used_refusal, away_refusal}
 use Rattle.reject_rules.specs.Renumbered.{renumbered}
-use Rattle.dict_fix42.specs.Sense.{request42}
-use Rattle.request_rules.specs.Lack.{lack_if}
+use Rattle.request_rules.specs.Lack.{lack42}
 use Rattle.event_decisions.specs.Body.{type_of}
 use Rattle.event_decisions.specs.Decide.{Asked, Words}
 use Rattle.message_answers.specs.Answer.{Answer, Nothing, Near, Forward, AnswersBy, Gives}
@@ -87,10 +86,10 @@ request known active asked m = by (is_used known m) active
   where
     by : (known_id on : Bool) → IsPlain asked (if known_id then used asked m.resend else
         (if not on then Near (away_refusal asked.number (type_of asked.body)) else
-        spelled asked None m (lack_if (request42 m))))
+        spelled asked None m (lack42 m)))
     by true on = repeated asked m.resend
     by false false = away asked
-    by false true = said_or_sent asked None m (lack_if (request42 m))
+    by false true = said_or_sent asked None m (lack42 m)
 
 told_plain : (side : Side) (business : Bool) (r : Refusal) (number : ℕ) (msg_type : List ℕ)
     → (renumbered side business r number msg_type).admin ≡ false

@@ -11,7 +11,7 @@ use Rattle.std.proofs.lemmas.List.Elements.{All-head, All-tail}
 use Rattle.field_groups.specs.Data.{is_data_tag}
 use Rattle.field_groups.specs.Field.{Field, IsPlainField, body_of, is_soh}
 use Rattle.field_groups.proofs.Plain.{plain_are}
-use Rattle.message_tables.specs.Tables.{Message, is_one_of, text_in}
+use Rattle.message_tables.specs.Tables.{Message, ◌>>=◌, is_one_of, text_in}
 use Rattle.order_meaning.specs.declared.Side.{Side}
 use Rattle.order_meaning.specs.declared.Side.TheVariants.{Client, Venue}
 use Rattle.order_meaning.specs.declared.fault.Fault.{Fault}
@@ -33,7 +33,7 @@ use Rattle.reject_rules.proofs.Plain.{fault_plain, used_plain, away_plain, told_
 use Rattle.reject_rules.proofs.Short.{fault_short, used_short, away_short, told_short}
 use Rattle.dict_fix42.specs.Sense.{request42}
 use Rattle.reports_fix50.specs.Sense.{report50}
-use Rattle.request_rules.specs.Lack.{lack_if, lacks_capacity, lacks_time}
+use Rattle.request_rules.specs.Lack.{lack42, lack_of, lacks_capacity, lacks_time}
 use Rattle.request_rules.specs.Rules.{up_message}
 use Rattle.event_decisions.specs.Body.{first_value, reading_of, type_of}
 use Rattle.event_decisions.specs.Decide.{Asked, Words}
@@ -295,7 +295,7 @@ module _ (before : List Entry) (numbered : AreNumbered before) (active : Bool) (
 
     -- ---- by side
 
-    lack_small : (request : Option Request) → IfSome (lack_if request) (λ tag. tag < 2 ^ 32)
+    lack_small : (request : Option Request) → IfSome (request >>= lack_of) (λ tag. tag < 2 ^ 32)
     lack_small None = tt
     lack_small (Some r) = by (lacks_time r.ord_type r.time_in_force) (lacks_capacity r.capacity)
       where
@@ -312,14 +312,14 @@ module _ (before : List Entry) (numbered : AreNumbered before) (active : Bool) (
       where
         by : (a b c : Bool) → Gives asked (if a then used asked b else
             (if not c then Near (away_refusal asked.number (type_of asked.body)) else
-            spelled asked None m (lack_if (request42 m)))) (Some words) → IsGivenOut words.said
+            spelled asked None m (lack42 m))) (Some words) → IsGivenOut words.said
         by true true c is = absurd cc
         by true false c is =
             near_given (used_refusal asked.number (type_of asked.body)) words used_given is
         by false b false is =
             near_given (away_refusal asked.number (type_of asked.body)) words away_given is
         by false b true is =
-            spelled_given none None tt (lack_if (request42 m)) (lack_small (request42 m)) words is
+            spelled_given none None tt (lack42 m) (lack_small (request42 m)) words is
 
     reported_given : is_refusal m ≡ false → (words : Words)
         → Gives asked (reported (known_of before) asked m) (Some words) → IsGivenOut words.said

@@ -23,11 +23,10 @@ use Rattle.row_values.specs.Kinds.{Kind, judge}
 use Rattle.rows_fix42.specs.Header.{table}
 use Rattle.dict_fix42.specs.Message.{message42}
 use Rattle.dict_fix42.specs.Requests.{new_order, cancel_request, replace_request, status_request}
-use Rattle.dict_fix42.specs.Sense.{request42}
 use Rattle.reports_fix42.specs.Message as reports42
 use Rattle.reject_rules.specs.Refusals.{used_refusal, away_refusal}
 use Rattle.request_rules.specs.Good.{IsRead}
-use Rattle.request_rules.specs.Lack.{lack_if}
+use Rattle.request_rules.specs.Lack.{lack42}
 use Rattle.request_rules.specs.Put.{IsPut, Lacks as IsLacked}
 use Rattle.request_rules.specs.Rules.{up_content}
 use Rattle.request_rules.specs.Up.{IsRequest42, News, Cancels, Replaces, Statuses}
@@ -150,7 +149,7 @@ module _ (k : GivenKnown) (a : GivenAsked) (split : IsSplit a) (of_client : a.si
         (subst (λ (b : Bool). Gives (asked_in a) (if b
         then used (asked_in a) m.resend else
         (if not k.active then Near (away_refusal a.number (type_of a.body.now)) else
-        spelled (asked_in a) None m (lack_if (request42 m))))
+        spelled (asked_in a) None m (lack42 m)))
         (words_in answer)) (sym is)
         (subst (λ (b : Bool). Gives (asked_in a) (used (asked_in a) b) (words_in answer))
         (sym resend) words))
@@ -163,7 +162,7 @@ module _ (k : GivenKnown) (a : GivenAsked) (split : IsSplit a) (of_client : a.si
         (subst (λ (b : Bool). Gives (asked_in a) (if b
         then used (asked_in a) m.resend else
         (if not k.active then Near (away_refusal a.number (type_of a.body.now)) else
-        spelled (asked_in a) None m (lack_if (request42 m))))
+        spelled (asked_in a) None m (lack42 m)))
         (words_in answer)) (sym is)
         (subst (λ (b : Bool). Gives (asked_in a) (used (asked_in a) b) (words_in answer))
         (sym resend) (words ∙ ap (λ (t : List ℕ). to_near (asked_in a) (used_refusal a.number t))
@@ -178,11 +177,11 @@ module _ (k : GivenKnown) (a : GivenAsked) (split : IsSplit a) (of_client : a.si
         (subst (λ (b : Bool). Gives (asked_in a) (if b
         then used (asked_in a) m.resend else
         (if not k.active then Near (away_refusal a.number (type_of a.body.now)) else
-        spelled (asked_in a) None m (lack_if (request42 m))))
+        spelled (asked_in a) None m (lack42 m)))
         (words_in answer)) (sym is)
         (subst (λ (b : Bool). Gives (asked_in a)
         (if not b then Near (away_refusal a.number (type_of a.body.now)) else
-        spelled (asked_in a) None m (lack_if (request42 m)))
+        spelled (asked_in a) None m (lack42 m))
         (words_in answer)) (sym away)
         (words ∙ ap (λ (t : List ℕ). to_near (asked_in a) (away_refusal a.number t))
         split.msg_type)))
@@ -190,37 +189,37 @@ module _ (k : GivenKnown) (a : GivenAsked) (split : IsSplit a) (of_client : a.si
     -- it goes on, or lacks a counterpart
     pub answers_tried : (answer : GivenAnswer) → is_used (known_in k) m ≡ false
         → k.active ≡ true
-        → IsSpelled a Client None m (lack_if (request42 m))
+        → IsSpelled a Client None m (lack42 m)
         (joined a.number m) answer → IsAnswer k a answer
     answers_tried answer is active tried = answers answer
         (subst (λ (b : Bool). Gives (asked_in a) (if b
         then used (asked_in a) m.resend else
         (if not k.active then Near (away_refusal a.number (type_of a.body.now)) else
-        spelled (asked_in a) None m (lack_if (request42 m))))
+        spelled (asked_in a) None m (lack42 m)))
         (words_in answer)) (sym is)
         (subst (λ (b : Bool). Gives (asked_in a)
         (if not b then Near (away_refusal a.number (type_of a.body.now)) else
-        spelled (asked_in a) None m (lack_if (request42 m)))
+        spelled (asked_in a) None m (lack42 m))
         (words_in answer)) (sym active)
         (gives_spelled a split.msg_type Client None m
-        (lack_if (request42 m)) (joined a.number m) answer of_client
+        (lack42 m) (joined a.number m) answer of_client
         tried)))
 
     pub joins_tried : (answer : GivenAnswer) → is_used (known_in k) m ≡ false
-        → IsSpelled a Client None m (lack_if (request42 m))
+        → IsSpelled a Client None m (lack42 m)
         (joined a.number m) answer → Joins k a answer
     joins_tried answer new tried =
         joins_request k a split of_client m
         (ap (λ (side : Side). message_of_side side a.body.now) (sym of_client)
         ∙ message_is a split ∙ asked_is ∙ read)
         (type_is a.msg_type.now a.split.now.fields a.split.now.fault m read) new
-        (lack_if (request42 m)) answer tried
+        (lack42 m) answer tried
 
     -- where there is memory
     pub tried_answers : {E : Type 0} (result : Result GivenAnswer E)
         → is_used (known_in k) m ≡ false → k.active ≡ true
         → IfOk result (IsSpelled a Client None m
-        (lack_if (request42 m)) (joined a.number m))
+        (lack42 m) (joined a.number m))
         → IfOk result (IsAnswer k a)
     tried_answers (Ok answer) new active tried = answers_tried answer new active tried
     tried_answers (Err error) new active tried = tt
@@ -228,7 +227,7 @@ module _ (k : GivenKnown) (a : GivenAsked) (split : IsSplit a) (of_client : a.si
     pub tried_joins : {E : Type 0} (result : Result GivenAnswer E)
         → is_used (known_in k) m ≡ false
         → IfOk result (IsSpelled a Client None m
-        (lack_if (request42 m)) (joined a.number m))
+        (lack42 m) (joined a.number m))
         → IfOk result (Joins k a)
     tried_joins (Ok answer) new tried = joins_tried answer new tried
     tried_joins (Err error) new tried = tt
@@ -239,7 +238,7 @@ pub request_sent : {E : Type 0} (a : GivenAsked) (m : Message) (content : List �
     (item : Option ChainItem) (result : Result GivenAnswer E) → IsSplit a
     → IsRead a.msg_type.now a.split.now.fields a.split.now.fault m → IsPut m [] content
     → IfOk result (IsForwarded a (m.letter ∷ []) m.resend content item)
-    → IfOk result (IsSpelled a Client None m (lack_if (request42 m)) item)
+    → IfOk result (IsSpelled a Client None m (lack42 m) item)
 request_sent a m content item (Ok answer) split is put forwarded =
     let stands = read_go_up a.msg_type.now a.split.now.fields m (good_fields a split) is.read put.said
     in
@@ -252,7 +251,7 @@ request_sent a m content item (Err error) split is put forwarded = tt
 pub request_refused : {E : Type 0} (a : GivenAsked) (m : Message) (lack : Lack)
     (item : Option ChainItem) (result : Result GivenAnswer E) → IsLacked m lack
     → IfOk result (IsLacking a lack)
-    → IfOk result (IsSpelled a Client None m (lack_if (request42 m)) item)
+    → IfOk result (IsSpelled a Client None m (lack42 m) item)
 request_refused a m lacking.NoMemory item (Ok answer) is refused = absurd refused
 request_refused a m (lacking.Tag tag) item (Ok answer) is refused = Lacks tag is refused
 request_refused a m lack item (Err error) is refused = tt

@@ -19,9 +19,8 @@ use Rattle.pair_entries.specs.declared.TheConstants.{MAX_CONTENT}
 use Rattle.pair_entries.specs.declared.entry.Entry.{Entry}
 use Rattle.reject_rules.specs.Refusals.{refusal_of, used_refusal, away_refusal}
 use Rattle.reject_rules.specs.Renumbered.{renumbered}
-use Rattle.dict_fix42.specs.Sense.{request42}
 use Rattle.reports_fix50.specs.Sense.{report50}
-use Rattle.request_rules.specs.Lack.{lack_if}
+use Rattle.request_rules.specs.Lack.{lack42}
 use Rattle.event_decisions.specs.Body.{type_of}
 use Rattle.event_decisions.specs.Decide.{Asked, Words}
 use Rattle.message_answers.specs.Chains.{joining}
@@ -68,7 +67,7 @@ abbrev pub requested : Known → (active : Bool) → Asked → Message → Answe
 requested known active asked m =
     if is_used known m then used asked m.resend else
     (if not active then Near (away_refusal asked.number (type_of asked.body)) else
-    spelled asked None m (lack_if (request42 m)))
+    spelled asked None m (lack42 m))
 
 -- ---- a report of the venue
 

@@ -5,9 +5,8 @@ ghost use Rattle.message_tables.specs.Tables.{is_one_of, text_in};
 ghost use Rattle.order_chains.specs.Chains.{has_id};
 ghost use Rattle.row_values.specs.Kinds as kinds;
 ghost use Rattle.value_kinds.specs.ValueKind as value_kinds;
-ghost use Rattle.dict_fix42.specs.Sense.{request42};
 ghost use Rattle.request_rules.specs.Good.{IsGood, IsRead, said};
-ghost use Rattle.request_rules.specs.Lack.{lack_if};
+ghost use Rattle.request_rules.specs.Lack.{lack42};
 ghost use Rattle.reject_rules.specs.Refusals.{away_refusal, used_refusal};
 ghost use Rattle.message_answers.specs.Answer.{to_near};
 ghost use Rattle.message_answers.specs.Chains.{joining};
@@ -101,7 +100,7 @@ fn tried(alloc: Global, asked: &Asked<'_>, good: &Good<'_, '_>) -> Result<Answer
     requires read { IsRead asked.now.msg_type.now asked.now.split.now.fields
         asked.now.split.now.fault (said good.now) }
     ensures spelled { IfOk result (IsSpelled asked.now Side.Client None (said good.now)
-        (lack_if (request42 (said good.now))) (joined asked.now.number (said good.now))) }
+        (lack42 (said good.now)) (joined asked.now.number (said good.now))) }
     ensures fit { IfOk result IsFitAnswer }
 {
     let mut content = Vec::new(alloc);

@@ -26,15 +26,15 @@ use Rattle.sound_laws.proofs.RowsSaid.{among, row_of_tag, tag_is}
 use Rattle.sound_laws.proofs.SpelledAgain.{is_own, own_bytes}
 use Rattle.row_slots.specs.Slots.{row_says}
 use Rattle.row_slots.proofs.SlotsSay.{quantities, said_as, said_is}
-use Rattle.rule_rows.specs.ByRules.{rule_fields}
+use Rattle.rule_rows.specs.ByRules.{lack_if, rule_fields}
 use Rattle.request_rules.specs.declared.rules.Rule.{Rule as CodeRule}
 use Rattle.request_rules.specs.declared.rules.Rule.TheVariants as rules
 use Rattle.request_rules.specs.CodeRules.{decimal_text, is_amount, is_decimal, is_read}
 use Rattle.request_rules.specs.CodeRules.{lacked, rule_of, wrote}
 use Rattle.request_rules.specs.Rules.{Rule, Same, Moved, Listed, Time}
 use Rattle.request_rules.specs.Rules.{at, date_up, is_late, is_unlisted, kinds}
-use Rattle.request_rules.specs.Rules.{lack_if, party_lines, rule_lack, time_up, type_up}
-use Rattle.request_rules.specs.Rules.{up_content, up_lack, up_rules}
+use Rattle.request_rules.specs.Rules.{party_lines, rule_lack, time_up, type_up, up_content}
+use Rattle.request_rules.specs.Rules.{up_lack, up_rules}
 use Rattle.request_rules.proofs.TablesUp.{day_row, month_row}
 
 -- the tags whose values are written as they stand, and those of decimal numbers

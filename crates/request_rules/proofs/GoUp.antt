@@ -34,7 +34,7 @@ use Rattle.rule_rows.proofs.Made.{content_made}
 use Rattle.rule_rows.proofs.Source as source
 use Rattle.request_rules.specs.Canonical.{IsCanonical, IsRequest}
 use Rattle.request_rules.specs.Canonical as canonical
-use Rattle.request_rules.specs.Lack.{lack_if}
+use Rattle.request_rules.specs.Lack.{lack42, lack_of}
 use Rattle.request_rules.specs.Rules.{at, date_up, kinds, party_lines, up_content, up_lack}
 use Rattle.request_rules.specs.Rules.{up_message, up_rules}
 use Rattle.request_rules.specs.Up.{GoUp, IsOrdinary, IsRequest42, News, Cancels, Replaces, ReadGoUp}
@@ -93,19 +93,21 @@ asked letter f =
 pub content_again : (letter : ℕ) (items : List (Item Kind))
     → table_fits (table50 letter items) [] ≡ true → is_one_of (flat_map item_tags items) 97 ≡ false
     → (m : Message) → IsSound judge (table50 letter items) m → HasMonthOfDate m
-    → completed_by (told (message_of judge (table50 letter items) (content (table50 letter items) m)))
+    → completed_by
+    (told (message_of judge (table50 letter items) (content (table50 letter items) m)))
     ≡ Ok (without_resend m)
 content_again letter items fit bare m sound month =
     let t = table50 letter items in
     ap completed_by (read_again t m fit bare sound) ∙ ap (λ (x : Message). Ok x)
-    (completed_again m month (ap places_apart sound.places ∙ fits.places_are_apart t m [] fit) false)
+    (completed_again m month
+    (ap places_apart sound.places ∙ fits.places_are_apart t m [] fit) false)
 
 module _ (letter : ℕ) (kind : RequestKind) (items : List (Item Kind)) (goes : GoesUp items)
     (is : (f : RequestKind → Request) → asked letter f ≡ Some (f kind))
     (fit : table_fits (table50 letter (items_up items)) [] ≡ true)
     (bare : is_one_of (flat_map item_tags (items_up items)) 97 ≡ false)
     (m : Message) (sound : IsSound judge (table42 letter items) m)
-    (lack : lack_if (request42 m) ≡ None) where
+    (lack : lack42 m ≡ None) where
   abbrev fields42 : List Field
   fields42 = content (table42 letter items) m
 
@@ -121,7 +123,7 @@ module _ (letter : ℕ) (kind : RequestKind) (items : List (Item Kind)) (goes : 
       let request : request42 m ≡ Some (sense42.request_of kind m) =
       ap (λ (n : ℕ). asked n (λ k. sense42.request_of k m)) sound.letter
       ∙ is (λ k. sense42.request_of k m) in
-      sym (lack_is kind m) ∙ (sym (ap lack_if request) ∙ lack)
+      sym (lack_is kind m) ∙ (sym (ap (λ r. r >>= lack_of) request) ∙ lack)
 
   as_canonical : IsCanonical letter (items_up items) (up_message m)
   as_canonical = record {
@@ -202,7 +204,7 @@ status_goes = record {
 }
 
 -- WHAT GOES UP STANDS FOR A MESSAGE.
-stands_for : (m : Message) → IsRequest42 m → lack_if (request42 m) ≡ None → StandsFor m
+stands_for : (m : Message) → IsRequest42 m → lack42 m ≡ None → StandsFor m
 unfolding message50
 stands_for m (News s) lack = stands 68 New requests42.new_order new_goes (λ f. refl) refl refl m s
     lack canonical.News refl

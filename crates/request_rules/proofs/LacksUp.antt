@@ -7,7 +7,8 @@ use Rattle.message_tables.specs.Tables.{◌>>=◌, code_of, first_of, or_else}
 use Rattle.order_meaning.specs.Request.{OrderType, Market, Limit, Stop, StopLimit, MarketOnClose}
 use Rattle.order_meaning.specs.Request.{LimitOnClose}
 use Rattle.rows_fix42.specs.Meaning.{is_on_close, order_type_of, time_of}
-use Rattle.request_rules.specs.Rules.{at, is_late, is_unlisted, lack_if}
+use Rattle.rule_rows.specs.ByRules.{lack_if}
+use Rattle.request_rules.specs.Rules.{at, is_late, is_unlisted}
 use Rattle.request_rules.specs.Lack.{lacks_time, lacks_capacity}
 use Rattle.request_rules.specs.Up.{LacksByRules}
 

@@ -3,19 +3,18 @@ use Rattle.std.proofs.Common.{◌≡◌, ◌++◌, ℕ, List, [], ◌∷◌, map
 use Rattle.std.proofs.Common.{ap, subst, ◌∙◌, ◌<◌, ◌≤◌, ◌+◌, drop, get_or, length}
 use Rattle.std.proofs.lemmas.List.{at_drop_all, at_drop_more}
 use Rattle.std.specs.Prelude.{◌==◌, if◌then◌else◌}
-use Rattle.std.specs.Str.{bytes_eq}
 use Rattle.std.specs.List.{flat_map, list_all}
 use Rattle.field_groups.specs.Field.{Field, body_of}
 use Rattle.message_tables.specs.FirstFault.{first_fault, message_in}
-use Rattle.message_tables.specs.Tables.{Table, first_of, or_else}
+use Rattle.message_tables.specs.Tables.{Table, ◌>>=◌, first_of, or_else}
 use Rattle.order_meaning.specs.Request.{Request, RequestKind, New, Cancel, Replace, Status}
 use Rattle.row_values.specs.Kinds.{Kind, judge}
 use Rattle.rule_rows.specs.Rows.{have_written_lines}
 use Rattle.dict_fix42.specs.Message.{table_of}
-use Rattle.dict_fix42.specs.Sense.{request42, request_of}
+use Rattle.dict_fix42.specs.Sense.{request_of}
 use Rattle.request_rules.specs.declared.rules.Rule.{Rule as CodeRule}
 use Rattle.request_rules.specs.CodeRules.{is_read, lacked, rule_of, wrote}
-use Rattle.request_rules.specs.Lack.{lack_if}
+use Rattle.request_rules.specs.Lack.{lack42, lack_of}
 use Rattle.request_rules.specs.Good.{IsTable42}
 use Rattle.request_rules.specs.Put.{IsPut}
 use Rattle.request_rules.specs.Rules.{up_rules}
@@ -71,12 +70,12 @@ module _ (table : Table Kind) (is : IsTable42 table) (fields : List Field)
     (none : first_fault judge table fields ≡ None) (rules : List CodeRule)
     (are : map rule_of rules ≡ up_rules) (read : list_all is_read rules ≡ true) where
   pub lack_told : first_of (lacked fields) rules
-      ≡ lack_if (request42 (message_in judge table fields))
+      ≡ lack42 (message_in judge table fields)
   lack_told =
       let k = known table is in
       let m = message_in judge table fields in
       lack_read table k.rows fields none rules are ∙ sym (lack_is k.kind m)
-      ∙ sym (ap lack_if (k.request (λ kind. request_of kind m)))
+      ∙ sym (ap (λ r. r >>= lack_of) (k.request (λ kind. request_of kind m)))
 
   pub put : (before after : List ℕ) → first_of (lacked fields) rules ≡ None
       → after ≡ before ++ body_of (flat_map (wrote table fields) rules)

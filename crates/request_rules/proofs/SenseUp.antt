@@ -16,7 +16,7 @@ use Rattle.rows_fix50.specs.Meaning as meaning50
 use Rattle.dict_fix42.specs.Sense as sense42
 use Rattle.dict_fix50.specs.Sense as sense50
 use Rattle.request_rules.specs.Rules.{at, date_up, kinds, time_up, type_up, up_message, up_rules}
-use Rattle.request_rules.specs.Lack.{lack_in, lack_of, lack_if, lacks_time, lacks_capacity}
+use Rattle.request_rules.specs.Lack.{lack_in, lack_of, lacks_time, lacks_capacity}
 use Rattle.request_rules.specs.Up.{IsOrdinary, KeepsSense}
 use Rattle.rule_rows.specs.ByRules.{At, Grouped}
 use Rattle.rule_rows.proofs.Looked as looked
@@ -72,7 +72,10 @@ module _ (time : Said) (other : IfSome (time >>= code_of) (λ code. (code == 55)
   -- not on close
   plain : (code : ℕ) → (code == 53) ≡ false → (code == 66) ≡ false
       → meaning50.terms_of (Some code) (time >>= code_of)
-      ≡ (meaning42.order_type_of code, meaning42.time_of (meaning42.is_on_close (Some code)) (time >>= code_of))
+      ≡ (
+        meaning42.order_type_of code,
+        meaning42.time_of (meaning42.is_on_close (Some code)) (time >>= code_of),
+      )
   plain code five b = by (time >>= code_of) other
     where
       by : (t : Option ℕ) → IfSome t (λ x. (x == 55) ≡ false)
@@ -124,7 +127,8 @@ says_time : (ord_type : Option OrderType) (time capacity : Option ℕ)
 says_time ord_type time capacity h = by (lacks_time ord_type time) (lacks_capacity capacity) h
   where
     by : (late lacks : Bool)
-        → ◌≡◌ {A = Option ℕ} (if late then Some 59 else (if lacks then Some 47 else None)) None → late ≡ false
+        → ◌≡◌ {A = Option ℕ} (if late then Some 59 else (if lacks then Some 47 else None)) None
+        → late ≡ false
     by true lacks h = absurd cc
     by false lacks h = refl
 
@@ -202,8 +206,8 @@ module _ (m : Message) where
 -- the request of a letter
 by_letter : (f g : RequestKind → Request)
     → ((kind : RequestKind) → lack_of (f kind) ≡ None → g kind ≡ f kind) → (d c r s : Bool)
-    → lack_if (if d then Some (f New) else (if c then Some (f Cancel) else
-    (if r then Some (f Replace) else (if s then Some (f Status) else None)))) ≡ None
+    → ((if d then Some (f New) else (if c then Some (f Cancel) else
+    (if r then Some (f Replace) else (if s then Some (f Status) else None)))) >>= lack_of) ≡ None
     → (if d then Some (g New) else (if c then Some (g Cancel) else
     (if r then Some (g Replace) else (if s then Some (g Status) else None))))
     ≡ (if d then Some (f New) else (if c then Some (f Cancel) else

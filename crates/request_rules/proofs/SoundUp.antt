@@ -1,4 +1,5 @@
--- What goes up of a sound message is sound in the table that goes up: one lemma for each kind of rule.
+-- What goes up of a sound message is sound in the table that goes up: one lemma for each kind of
+-- rule.
 use Rattle.std.proofs.Common.{◌≡◌, ℕ, List, [], ◌∷◌, Bool, true, false, Option, Some, None, refl}
 use Rattle.std.proofs.Common.{sym, ap, subst, ◌∙◌, codes, length, arith}
 use Rattle.std.proofs.lemmas.Bool.{eqb-true}
@@ -22,7 +23,7 @@ use Rattle.sound_laws.proofs.Each.{both, not_true}
 use Rattle.sound_laws.proofs.RowsSaid.{row_of_tag, same_value, optional_said, lenient_said}
 use Rattle.sound_laws.proofs.ContentValues.{GroupSaid, is_alone}
 use Rattle.sound_laws.proofs.SpelledAgain.{clear_joined}
-use Rattle.rule_rows.specs.ByRules.{At}
+use Rattle.rule_rows.specs.ByRules.{At, lack_if}
 use Rattle.rule_rows.specs.Rows.{group_at}
 use Rattle.rule_rows.proofs.Items.{carried, count_is, group_item, has_one, has_row, item_if, moved}
 use Rattle.rule_rows.proofs.Items.{row_there}
@@ -32,7 +33,7 @@ use Rattle.rule_rows.proofs.Source.{IsSpelled, carried_said, is_less}
 use Rattle.rule_rows.proofs.Sound as made
 use Rattle.request_rules.specs.Rules.{Rule, Same, Moved, Listed, Parties, PartyOf, Month, Date}
 use Rattle.request_rules.specs.Rules.{OrdType, Time, Lines, Who, Client, Broker, Firm, at, date_up}
-use Rattle.request_rules.specs.Rules.{is_unlisted, kinds, lack_if, role_of, tag_of, up_lack}
+use Rattle.request_rules.specs.Rules.{is_unlisted, kinds, role_of, tag_of, up_lack}
 use Rattle.request_rules.specs.Rules.{up_message, up_rules}
 use Rattle.request_rules.proofs.KindsUp.{are_kinds, own}
 use Rattle.request_rules.proofs.TablesUp.{GoesUp, at_index, own_rows, IsRow, beside, can_go_up}
@@ -156,7 +157,8 @@ module _ (letter : ℕ) (items : List (Item Kind)) (goes : GoesUp items) (m : Me
   time42 = spelled time_row 3 refl
 
   has_type : has_row items 40 ≡ true → IsSome (at m 40)
-  has_type there = source.is_there (table42 letter items) m sound type_row refl there (own_row type_row 2 refl)
+  has_type there =
+      source.is_there (table42 letter items) m sound type_row refl there (own_row type_row 2 refl)
 
   party_id : (tag : ℕ) → Spelled (Value Id) tag → IsPartyId (at m tag)
   party_id tag h = by (at m tag) h.spelled h.clear
@@ -327,7 +329,8 @@ module _ (letter : ℕ) (items : List (Item Kind)) (goes : GoesUp items) (m : Me
     rule_up Parties found ok lack =
         item_case (has_rule items Parties) (LinesOf parties) (λ there. three)
     rule_up (PartyOf who) found ok lack =
-        item_case (has_rule items (PartyOf who)) (Party (role_of who)) (λ there. role_there who found)
+        item_case (has_rule items (PartyOf who)) (Party (role_of who))
+        (λ there. role_there who found)
     rule_up Month found ok lack =
         item_case (has_rule items Month) (beside 200 (MonthBeside 541)) (λ there.
         one_said Month (record { tag = 200; kind = MonthBeside 541; need = Lenient }) refl found

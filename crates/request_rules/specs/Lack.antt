@@ -2,8 +2,9 @@
 -- Own: of OrderCapacity only A (agency), I (individual) and P (principal) are in the profile.
 use Rattle.std.specs.Prelude.{ℕ, Bool, true, false, not, codes, Option, Some, None}
 use Rattle.std.specs.Prelude.{if◌then◌else◌}
-use Rattle.message_tables.specs.Tables.{◌>>=◌, is_one_of}
+use Rattle.message_tables.specs.Tables.{Message, ◌>>=◌, is_one_of}
 use Rattle.order_meaning.specs.Request.{Request, OrderType, MarketOnClose, LimitOnClose}
+use Rattle.dict_fix42.specs.Sense.{request42}
 
 -- An order on close with a TimeInForce: FIX 5.0 SP2 says by TimeInForce itself that it is on close.
 abbrev pub lacks_time : Option OrderType → Option ℕ → Bool
@@ -26,5 +27,6 @@ lack_in ord_type time capacity =
 abbrev pub lack_of : Request → Option ℕ
 lack_of r = lack_in r.ord_type r.time_in_force r.capacity
 
-abbrev pub lack_if : Option Request → Option ℕ
-lack_if request = request >>= lack_of
+-- the lack of what a message of FIX 4.2 asks for
+abbrev pub lack42 : Message → Option ℕ
+lack42 m = request42 m >>= lack_of

@@ -1,8 +1,9 @@
 -- Standard: FIX 4.2 and FIX 5.0 SP2, volume 6: how each field of a request of FIX 4.2 is spelled in
--- FIX 5.0 SP2. Own: the order of writing; that a place that the source does not have is not written;
--- and that of OrderCapacity only A (agency), I (individual) and P (principal) are in the profile.
-use Rattle.std.specs.Prelude.{ℕ, Bool, true, false, not, ◌==◌, ◌&&◌, List, [], ◌∷◌, ◌++◌, map, codes}
-use Rattle.std.specs.Prelude.{Option, Some, None, is_some, if◌then◌else◌}
+-- FIX 5.0 SP2. Own: the order of writing; that a place that the source does not have is not
+-- written; and that of OrderCapacity only A (agency), I (individual) and P (principal) are in the
+-- profile.
+use Rattle.std.specs.Prelude.{ℕ, Bool, true, false, not, ◌==◌, ◌&&◌, List, [], ◌∷◌, ◌++◌, map}
+use Rattle.std.specs.Prelude.{codes, Option, Some, None, is_some, if◌then◌else◌}
 use Rattle.field_groups.specs.Field.{Field}
 use Rattle.message_tables.specs.Tables.{Tag, Role, Place, Said, Cell, Message, ◌>>=◌, code_of}
 use Rattle.message_tables.specs.Tables.{is_one_of, lines_of, said_at}
@@ -10,7 +11,7 @@ use Rattle.party_translate.specs.Parties.{parties_of}
 use Rattle.row_values.specs.Lines.{party_cells}
 use Rattle.rows_fix42.specs.Meaning.{is_on_close, time_of}
 use Rattle.rule_rows.specs.ByRules.{At, Grouped, Kinds, Outline, Target, by_rules, content_by}
-use Rattle.rule_rows.specs.ByRules.{has_any, has_group, lack_by}
+use Rattle.rule_rows.specs.ByRules.{has_any, has_group, lack_by, lack_if}
 
 -- the parties for which FIX 4.2 has a field each: ClientID, ExecBroker and ClearingFirm
 pub data Who : Type 0 where
@@ -174,10 +175,6 @@ rule_lines at lines (Lines count) = lines count
 rule_lines at lines rule = []
 
 -- ---- what FIX 5.0 SP2 cannot say
-
-abbrev pub lack_if : Bool → ℕ → Option ℕ
-lack_if true tag = Some tag
-lack_if false tag = None
 
 -- a code that is not listed
 abbrev pub is_unlisted : List ℕ → Option ℕ → Bool

@@ -14,7 +14,7 @@ use Rattle.dict_fix50.specs.Message.{message50}
 use Rattle.dict_fix50.specs.Sense.{request50}
 use Rattle.sound_laws.specs.Sound.{IsSound, without_resend}
 use Rattle.request_rules.specs.Canonical.{IsRequest}
-use Rattle.request_rules.specs.Lack.{lack_if, lack_of}
+use Rattle.request_rules.specs.Lack.{lack42, lack_of}
 use Rattle.request_rules.specs.Rules.{at, up_content, up_lack, up_message}
 
 -- What the tables of FIX 4.2 ask of the values that FIX 5.0 SP2 says otherwise: a month of six
@@ -26,7 +26,7 @@ pub record IsOrdinary (m : Message) : Type 0 where
 
 -- What goes up of a message that lacks nothing means what the message means, whatever its type is.
 abbrev pub KeepsSense : Type 0
-KeepsSense = (m : Message) → IsOrdinary m → lack_if (request42 m) ≡ None
+KeepsSense = (m : Message) → IsOrdinary m → lack42 m ≡ None
     → request50 (up_message m) ≡ request42 m
 
 -- The lack of a request is that of the first rule that has one.
@@ -49,9 +49,9 @@ pub record StandsFor (m : Message) : Type 0 where
   pub again : message50 (m.letter ∷ []) (up_content m) None ≡ Ok (without_resend (up_message m))
 
 abbrev pub GoUp : Type 0
-GoUp = (m : Message) → IsRequest42 m → lack_if (request42 m) ≡ None → StandsFor m
+GoUp = (m : Message) → IsRequest42 m → lack42 m ≡ None → StandsFor m
 
 -- and of what fields at no fault are read as
 abbrev pub ReadGoUp : Type 0
 ReadGoUp = (msg_type : List ℕ) (fields : List Field) (m : Message) → AreFields None fields
-    → message42 msg_type fields None ≡ Ok m → lack_if (request42 m) ≡ None → StandsFor m
+    → message42 msg_type fields None ≡ Ok m → lack42 m ≡ None → StandsFor m

@@ -1,9 +1,9 @@
-//! The content of FIX 5.0 SP2 of a request of FIX 4.2, written straight from the fields of its body.
+//! The content of FIX 5.0 SP2 of a request of FIX 4.2, written straight from the fields of its
+//! body.
 
 ghost use Rattle.std.specs.Prelude.{◌≡◌, IfErr, OnErr, OnOk};
-ghost use Rattle.dict_fix42.specs.Sense.{request42};
 ghost use Rattle.request_rules.specs.Good.{IsGood, said};
-ghost use Rattle.request_rules.specs.Lack.{lack_if};
+ghost use Rattle.request_rules.specs.Lack.{lack42};
 ghost use Rattle.request_rules.specs.Put.{IsPut, Lacks};
 
 use crate::reading::Good;
@@ -33,7 +33,7 @@ pub fn put_up(good: &Good<'_, '_>, out: &mut Vec<u8>) -> Result<(), Lack>
 /// The tag of what FIX 5.0 SP2 cannot say of a request: 59 before 47. It takes no memory.
 pub fn lack_up(good: &Good<'_, '_>) -> Option<u32>
     requires { IsGood good.now }
-    ensures { result ≡ lack_if (request42 (said good.now)) }
+    ensures { result ≡ lack42 (said good.now) }
 {
     let rules = up_rules();
     first_lack(good.fields, rules)

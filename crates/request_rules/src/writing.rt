@@ -9,12 +9,12 @@ ghost use Rattle.message_tables.specs.Content.{cell_fields, group_fields};
 ghost use Rattle.message_tables.specs.Tables.{Tag, first_of};
 ghost use Rattle.party_translate.specs.Parties.{line_of};
 ghost use Rattle.rows_fix42.specs.Meaning.{is_on_close};
+ghost use Rattle.rule_rows.specs.ByRules.{lack_if};
 ghost use Rattle.rule_rows.specs.Rows.{have_written_lines};
 ghost use Rattle.request_rules.specs.CodeRules.{byte_of, decimal_text, lacked, party_fields};
 ghost use Rattle.request_rules.specs.CodeRules.{writes, wrote};
 ghost use Rattle.request_rules.specs.Good.{table};
-ghost use Rattle.request_rules.specs.Rules.{is_late, is_unlisted, lack_if, party_lines};
-ghost use Rattle.request_rules.specs.Rules.{time_up, type_up};
+ghost use Rattle.request_rules.specs.Rules.{is_late, is_unlisted, party_lines, time_up, type_up};
 
 use crate::reading::Good;
 use crate::rules::Rule;

@@ -30,7 +30,7 @@ use Rattle.dict_fix50.specs.Sense.{request50}
 use Rattle.dict_fix50.specs.declared.requests.Msg50.{Msg50}
 use Rattle.request_rules.specs.Canonical.{IsRequest}
 use Rattle.request_rules.specs.Good.{IsRead}
-use Rattle.request_rules.specs.Lack.{lack_if}
+use Rattle.request_rules.specs.Lack.{lack42}
 use Rattle.request_rules.specs.Put.{IsPut, Lacks}
 use Rattle.request_rules.specs.Rules.{up_content, up_message}
 use Rattle.request_rules.specs.Up.{IsRequest42, News, Cancels, Replaces, Statuses}
@@ -44,7 +44,8 @@ few_again : (fields : List Field) → AreFew fields → SplitsInto (body_of fiel
 few_again fields few = plain_again fields (all_of fields few.plain) (omega (arith, few.few))
 
 few42 : (t : Table Kind) (m : Message) → list_all has_good_tags t.items ≡ true
-    → most_of t.items ≤ 240 → IsSound judge t m → SplitsInto (body_of (content t m)) (content t m) None
+    → most_of t.items ≤ 240 → IsSound judge t m
+    → SplitsInto (body_of (content t m)) (content t m) None
 few42 t m good most sound = few_again (content t m) (few_of judge t m good most sound)
 
 split42 : (msg : Msg42) → IsSound42 msg → SplitsInto (body_of (content42 msg)) (content42 msg) None
@@ -63,7 +64,7 @@ asked (messages.Status m) s = Statuses s
 
 -- PossResend is no lack
 lack_again : (msg : Msg42)
-    → lack_if (request42 (without_resend (says42 msg))) ≡ lack_if (request42 (says42 msg))
+    → lack42 (without_resend (says42 msg)) ≡ lack42 (says42 msg)
 lack_again (messages.New m) = refl
 lack_again (messages.Cancel m) = refl
 lack_again (messages.Replace m) = refl
@@ -109,11 +110,11 @@ module _ (msg : Msg42) (sound : IsSound42 msg) (type body : List ℕ)
       pub lacks : (lack : Lack) → Lacks n lack → Lacks m lack
       lacks reasons.NoMemory h = tt
       lacks (reasons.Tag tag) h = sym (lack_again msg)
-          ∙ ap (λ (x : Message). lack_if (request42 x)) (sym (message_is n read)) ∙ h
+          ∙ ap (λ (x : Message). lack42 x) (sym (message_is n read)) ∙ h
 
   -- ---- and that of what goes up
 
-  module _ (is : body ≡ body_of (up_content m)) (said : lack_if (request42 m) ≡ None) where
+  module _ (is : body ≡ body_of (up_content m)) (said : lack42 m ≡ None) where
     reads_up : message50 type fields fault ≡ Ok (without_resend (up_message m))
     reads_up =
         let stands = go_up m (asked msg sound) said in

@@ -5,7 +5,6 @@ use Rattle.field_groups.specs.declared.fault.SplitFault.{SplitFault}
 use Rattle.field_groups.specs.Field.{Field}
 use Rattle.message_tables.specs.Tables.{Message}
 use Rattle.dict_fix42.specs.Message.{message42}
-use Rattle.dict_fix42.specs.Sense.{request42}
 use Rattle.order_meaning.specs.declared.fault.Fault.{Fault}
 use Rattle.order_meaning.specs.declared.fault.Fault.TheVariants as faults
 use Rattle.order_meaning.specs.declared.fault.Lack.{Lack}
@@ -13,7 +12,7 @@ use Rattle.order_meaning.specs.declared.fault.Lack.TheVariants as lacks
 use Rattle.translation.specs.Errors.{error_of_fault, error_of_lack}
 use Rattle.translation.specs.Header.{type_of}
 use Rattle.translation.specs.declared.error.TranslateError.TheVariants as errors
-use Rattle.request_rules.specs.Lack.{lack_if}
+use Rattle.request_rules.specs.Lack.{lack42}
 use Rattle.request_rules.specs.Put.{IsPut, Lacks}
 use Rattle.request_translate.specs.Writing.{Appends, AreRead, LackNothing, Refuses}
 
@@ -26,10 +25,10 @@ module _ (fields : List Field) (stopped : Option SplitFault) where
   fault_is faults.NotSupported h = h
 
   module _ (m : Message) (read : AreRead fields stopped m) where
-    pub checked : lack_if (request42 m) ≡ None → LackNothing fields stopped
+    pub checked : lack42 m ≡ None → LackNothing fields stopped
     checked h = record { message = m; read = read; said = h }
 
-    pub lacking : (tag : ℕ) → lack_if (request42 m) ≡ Some tag
+    pub lacking : (tag : ℕ) → lack42 m ≡ Some tag
         → Refuses fields stopped (errors.Lacking tag)
     lacking tag h = (m, read, h)
 

@@ -13,7 +13,7 @@ no_spelling : (request : Option Request) (tag : ℕ)
     → request >>= lack_of ≡ Some tag → IsSayable request → ⊥
 no_spelling other tag e h = absurd cc
 
-pub lack_is : (m : Message) (lack : Lack) → Lacks m lack → IsLackOf (request42 m) lack
+pub lack_is : (m : Message) (lack : Lack) → Lacks m lack → IsLackOf m lack
 lack_is m lacks.NoMemory h = tt
 lack_is m (lacks.Tag tag) h = (
   h,

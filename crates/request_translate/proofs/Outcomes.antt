@@ -12,11 +12,10 @@ use Rattle.field_groups.proofs.Determined.{determined}
 use Rattle.message_tables.specs.Tables.{Message}
 use Rattle.order_meaning.specs.declared.fault.Fault.{Fault}
 use Rattle.dict_fix42.specs.Message.{message42}
-use Rattle.dict_fix42.specs.Sense.{request42}
 use Rattle.translation.specs.declared.error.TranslateError.{TranslateError}
 use Rattle.translation.specs.declared.error.TranslateError.TheVariants as errors
 use Rattle.translation.specs.Header.{type_of, with_content}
-use Rattle.request_rules.specs.Lack.{lack_if}
+use Rattle.request_rules.specs.Lack.{lack42}
 use Rattle.request_rules.specs.Rules.{up_content}
 use Rattle.request_translate.specs.Laws.{OneOutcome}
 use Rattle.request_translate.specs.Translation.{IsGood, IsOutcome}
@@ -37,7 +36,7 @@ of_lack fields written None = framed_if (fits fields written) (with_content fiel
 of_lack fields written (Some tag) = Err (errors.Lacking tag)
 
 abbrev pub outcome_of : List Field → Result Message Fault → Result (List ℕ) TranslateError
-outcome_of fields (Ok m) = of_lack fields (up_content m) (lack_if (request42 m))
+outcome_of fields (Ok m) = of_lack fields (up_content m) (lack42 m)
 outcome_of fields (Err fault) = Err (errors.Faulty fault)
 
 abbrev pub outcome : List Field → Option SplitFault → Result (List ℕ) TranslateError

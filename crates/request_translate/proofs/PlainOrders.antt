@@ -29,8 +29,7 @@ use Rattle.message_tables.specs.Tables.{Cell, Message, Tag, first_of}
 use Rattle.message_tables.specs.FirstFault.{first_fault, message_of}
 use Rattle.message_tables.specs.Content.{content}
 use Rattle.dict_fix42.specs.Message.{message42}
-use Rattle.dict_fix42.specs.Sense.{request42}
-use Rattle.request_translate.specs.Lack.{lack_if}
+use Rattle.request_translate.specs.Lack.{lack42}
 use Rattle.translation.specs.Header.{with_content}
 use Rattle.request_translate.specs.Translation.{IsGood}
 use Rattle.request_translate.specs.Plain.{PlainOrder, IsValue, HasPlainValues, client_field}
@@ -138,10 +137,10 @@ module _ (o : PlainOrder) where
 
 -- ---- it lacks nothing
 
-lacks_nothing : (o : PlainOrder) → lack_if (request42 (said42 o)) ≡ None
+lacks_nothing : (o : PlainOrder) → lack42 (said42 o) ≡ None
 lacks_nothing o = by o.limit refl
   where
-    by : (limit : Option (List ℕ)) → o.limit ≡ limit → lack_if (request42 (said42 o)) ≡ None
+    by : (limit : Option (List ℕ)) → o.limit ≡ limit → lack42 (said42 o) ≡ None
     by None l = rw l refl
     by (Some price) l = rw l refl
 
@@ -396,8 +395,8 @@ module _ (o : PlainOrder) (v : HasPlainValues o) where
       let content = content_is o o.client_id o.limit refl refl in
       let up = up_is o o.client_id o.limit refl refl in
       let whole = subst (λ (fs : List Field). length (body_of fs) ≤ 8192) (sym up) body_fits in
-      let fitting = ap (fits fields) (sym content) ∙ fit fields (content_fields o) content_fits whole
-      in
+      let fitting =
+      ap (fits fields) (sym content) ∙ fit fields (content_fields o) content_fits whole in
       ap (λ (fs : List Field). Ok (frame_of Fixt11 (body_of fs)))
       (sym up ∙ ap (with_content fields) content)
       ∙ good_is body fields good true fitting
@@ -408,5 +407,6 @@ module _ (o : PlainOrder) (v : HasPlainValues o) where
 -- THE ONE OUTCOME OF A PLAIN ORDER
 pub plain_orders : PlainOrdersAreTranslated
 plain_orders o outcome v is =
-    one_told (body_of (plain_fields o)) outcome (Ok (frame_of Fixt11 (body_of (translated_fields o))))
+    one_told (body_of (plain_fields o)) outcome
+    (Ok (frame_of Fixt11 (body_of (translated_fields o))))
     (is_told (body_of (plain_fields o)) outcome is) (told o v)

@@ -17,7 +17,7 @@ use Rattle.translation.specs.declared.error.TranslateError.{TranslateError}
 use Rattle.translation.specs.declared.error.TranslateError.TheVariants as errors
 use Rattle.translation.specs.Header.{type_of, with_content}
 pub use Rattle.request_rules.specs.Canonical.{IsRequest, News, Cancels, Replaces, Statuses}
-use Rattle.request_rules.specs.Lack.{lack_if}
+use Rattle.request_rules.specs.Lack.{lack42}
 use Rattle.request_rules.specs.Rules.{up_content, up_message}
 
 -- A good body: it is read as a message of FIX 4.2, which lacks nothing in FIX 5.0 SP2.
@@ -25,10 +25,10 @@ pub record IsGood (body : List ℕ) (fields : List Field) : Type 0 where
   pub message : Message
   pub split : SplitsInto body fields None
   pub read : message42 (type_of fields) fields None ≡ Ok message
-  pub said : lack_if (request42 message) ≡ None
+  pub said : lack42 message ≡ None
 
--- The content of FIX 5.0 SP2 that stands for a good body: what the rules write of its message. It is
--- that of a canonical request, which means what the body means.
+-- The content of FIX 5.0 SP2 that stands for a good body: what the rules write of its message. It
+-- is that of a canonical request, which means what the body means.
 pub record StandsFor (body : List ℕ) (fields written : List Field) : Type 0 where
   pub good : IsGood body fields
   pub by_rules : written ≡ up_content good.message
@@ -76,7 +76,7 @@ pub record IsLacking (body : List ℕ) (tag : ℕ) : Type 0 where
   pub message : Message
   pub split : SplitsInto body fields None
   pub read : message42 (type_of fields) fields None ≡ Ok message
-  pub lack : lack_if (request42 message) ≡ Some tag
+  pub lack : lack42 message ≡ Some tag
 
 -- a good body whose translation is longer than a content, or a body, may be
 pub record IsTooLong (body : List ℕ) : Type 0 where

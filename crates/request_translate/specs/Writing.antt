@@ -4,13 +4,12 @@ use Rattle.field_groups.specs.declared.fault.SplitFault.{SplitFault}
 use Rattle.field_groups.specs.Field.{Field, body_of}
 use Rattle.message_tables.specs.Tables.{Message}
 use Rattle.dict_fix42.specs.Message.{message42}
-use Rattle.dict_fix42.specs.Sense.{request42}
 use Rattle.translation.specs.declared.error.TranslateError.{TranslateError}
 use Rattle.translation.specs.declared.error.TranslateError.TheVariants as errors
 use Rattle.translation.specs.Header.{type_of}
 use Rattle.translation.specs.Writing.{IsWritten, IsUnwritten}
 use Rattle.request_rules.specs.Good.{IsRead}
-use Rattle.request_rules.specs.Lack.{lack_if}
+use Rattle.request_rules.specs.Lack.{lack42}
 use Rattle.request_rules.specs.Rules.{up_content}
 
 -- fields of a whole body are read as this message
@@ -21,7 +20,7 @@ AreRead fields stopped message = IsRead (type_of fields) fields stopped message
 pub record LackNothing (fields : List Field) (stopped : Option SplitFault) : Type 0 where
   pub message : Message
   pub read : AreRead fields stopped message
-  pub said : lack_if (request42 message) ≡ None
+  pub said : lack42 message ≡ None
 
 -- the content of what goes up is appended
 pub record Appends (fields : List Field) (stopped : Option SplitFault) (before after : List ℕ)
@@ -34,7 +33,7 @@ abbrev pub Refuses : List Field → Option SplitFault → TranslateError → Typ
 Refuses fields stopped errors.NoMemory = Unit {0}
 Refuses fields stopped (errors.Faulty fault) = message42 (type_of fields) fields stopped ≡ Err fault
 Refuses fields stopped (errors.Lacking tag) = (message : Message)
-    × AreRead fields stopped message × (lack_if (request42 message) ≡ Some tag)
+    × AreRead fields stopped message × (lack42 message ≡ Some tag)
 Refuses fields stopped errors.TooLong = ⊥
 
 -- a body that stands for the fields of a body

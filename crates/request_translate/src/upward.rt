@@ -10,7 +10,7 @@ ghost use Rattle.dict_fix50.specs.Sense.{request50};
 ghost use Rattle.request_rules.specs.Canonical.{IsRequest};
 ghost use Rattle.request_rules.specs.Put.{IsPut, Lacks};
 ghost use Rattle.request_rules.specs.Rules.{up_content, up_message};
-ghost use Rattle.request_translate.specs.Lack.{lack_if, IsLackOf};
+ghost use Rattle.request_translate.specs.Lack.{lack42, IsLackOf};
 ghost use Rattle.request_translate.specs.Up.{IsSound42};
 
 use dict_fix42::{Msg42, type42, write42};
@@ -82,8 +82,8 @@ pub fn up(alloc: Global, msg: &Msg42) -> Result<Msg50, Lack>
     ensures canonical { IfOk result (λ written.
         IsRequest (says50 written) (up_content (says42 msg.now))) }
     ensures readable { IfOk result IsReadable50 }
-    ensures said { OnOk result (lack_if (request42 (says42 msg.now)) ≡ None) }
-    ensures lack { IfErr result (IsLackOf (request42 (says42 msg.now))) }
+    ensures said { OnOk result (lack42 (says42 msg.now) ≡ None) }
+    ensures lack { IfErr result (IsLackOf (says42 msg.now)) }
 {
     let content = content_up(alloc, msg)?;
     let split = split(alloc, &content)?;

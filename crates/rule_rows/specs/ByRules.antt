@@ -1,6 +1,6 @@
 -- Own: what a list of rules makes of a message, whatever the kinds of its rules are. A translation
 -- from one version to another is such a list, in the order of writing.
-use Rattle.std.specs.Prelude.{ℕ, Bool, true, ◌==◌, List, [], ◌∷◌, map}
+use Rattle.std.specs.Prelude.{ℕ, Bool, true, false, ◌==◌, List, [], ◌∷◌, map}
 use Rattle.std.specs.Prelude.{Option, Some, None, Result, Ok, Err}
 use Rattle.std.specs.List.{flat_map, list_any}
 use Rattle.field_groups.specs.Field.{Field}
@@ -40,9 +40,9 @@ has_any there wanted = list_any (has_place there) wanted
 abbrev pub has_group : Outline → ℕ → Bool
 has_group there count = list_any (λ one. one == count) there.counts
 
--- THE KINDS OF RULES of a direction: of each rule where it writes; whether a message of this outline
--- has that; what a message says there, or the lines that it has there; and the tag of the source
--- that cannot be said, if there is one.
+-- THE KINDS OF RULES of a direction: of each rule where it writes; whether a message of this
+-- outline has that; what a message says there, or the lines that it has there; and the tag of the
+-- source that cannot be said, if there is one.
 pub record Kinds (Rule : Type 0) : Type 0 where
   pub target : Rule → Target
   pub has : Outline → Rule → Bool
@@ -90,6 +90,11 @@ module _ {Rule : Type 0} (kinds : Kinds Rule) where
 
   abbrev pub content_by : List Rule → Message → List Field
   content_by rules m = flat_map (rule_fields m) rules
+
+-- the tag of a rule that cannot be said, where this holds
+abbrev pub lack_if : Bool → ℕ → Option ℕ
+lack_if true tag = Some tag
+lack_if false tag = None
 
 -- a message, or the tag that it lacks
 abbrev pub or_lack : Option ℕ → Message → Result Message ℕ
