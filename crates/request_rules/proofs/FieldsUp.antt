@@ -31,10 +31,9 @@ use Rattle.request_rules.specs.declared.rules.Rule.{Rule as CodeRule}
 use Rattle.request_rules.specs.declared.rules.Rule.TheVariants as rules
 use Rattle.request_rules.specs.CodeRules.{decimal_text, is_amount, is_decimal, is_read}
 use Rattle.request_rules.specs.CodeRules.{lacked, rule_of, wrote}
-use Rattle.request_rules.specs.Rules.{Rule, Same, Moved, Listed, Time}
-use Rattle.request_rules.specs.Rules.{at, date_up, is_late, is_unlisted, kinds}
-use Rattle.request_rules.specs.Rules.{party_lines, rule_lack, time_up, type_up, up_content}
-use Rattle.request_rules.specs.Rules.{up_lack, up_rules}
+use Rattle.request_rules.specs.Rules.{Rule, Same, Moved, Listed, Time, at, date_up, is_late}
+use Rattle.request_rules.specs.Rules.{is_unlisted, kinds, party_lines, rule_lack, time_up, type_up}
+use Rattle.request_rules.specs.Rules.{up_content, up_lack, up_rules}
 use Rattle.request_rules.proofs.TablesUp.{day_row, month_row}
 
 -- the tags whose values are written as they stand, and those of decimal numbers

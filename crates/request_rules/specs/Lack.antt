@@ -1,7 +1,6 @@
 -- Standard: FIX 4.2 and FIX 5.0 SP2, OrdType(40), TimeInForce(59), Rule80A(47), OrderCapacity(528).
 -- Own: of OrderCapacity only A (agency), I (individual) and P (principal) are in the profile.
-use Rattle.std.specs.Prelude.{ℕ, Bool, true, false, not, codes, Option, Some, None}
-use Rattle.std.specs.Prelude.{if◌then◌else◌}
+use Rattle.std.specs.Prelude.{ℕ, Bool, true, false, not, codes, Option, Some, None, if◌then◌else◌}
 use Rattle.message_tables.specs.Tables.{Message, ◌>>=◌, is_one_of}
 use Rattle.order_meaning.specs.Request.{Request, OrderType, MarketOnClose, LimitOnClose}
 use Rattle.dict_fix42.specs.Sense.{request42}

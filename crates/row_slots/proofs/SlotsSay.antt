@@ -16,7 +16,7 @@ use Rattle.typed_fields.specs.MonthYear.{read_month_year}
 use Rattle.typed_fields.specs.Number.{number_text, read_number}
 use Rattle.field_groups.specs.Field.{Field}
 use Rattle.message_tables.specs.Tables.{Need, Lenient, Fixed, Row, Table, Item, One, Party, Lines}
-use Rattle.message_tables.specs.Tables.{Verdict, Spells, Outside, Wrong, Said, Cell, Tag, ◌>>=◌}
+use Rattle.message_tables.specs.Tables.{Verdict, Spells, Said, Cell, Tag, ◌>>=◌}
 use Rattle.message_tables.specs.Tables.{all_rows, cells_of, is_listed, row_at, said_at, says}
 use Rattle.message_tables.specs.Tables.{text_of, value_at}
 use Rattle.message_tables.specs.FirstFault.{first_fault, mark_of}
@@ -29,7 +29,7 @@ use Rattle.value_kinds.specs.ValueKind.{ValueKind, Code, Number, Reason, Qty, Pr
 use Rattle.value_kinds.specs.ValueKind.{DayOfMonth, spelling, spelt, if_in_range, most_reason}
 use Rattle.row_values.specs.Kinds.{Kind, Value, MonthBeside, TimeBeside, date_at, filled}
 use Rattle.row_values.specs.Kinds.{if_spelled, is_at_close, judge, month_beside, verdict_of}
-use Rattle.sound_laws.proofs.Judged50.{counts}
+use Rattle.sound_laws.proofs.Judged50.{counts as counted_is}
 use Rattle.sound_laws.proofs.PlainRows.{spelled}
 use Rattle.sound_laws.proofs.SpelledAgain.{is_own as is_verbatim, own_bytes}
 use Rattle.sound_laws.proofs.Each.{both}
@@ -142,7 +142,7 @@ module _ (fields : List Field) (place : ℕ) (tag : ℕ) (bytes : List ℕ)
   unfolding judge
   in_kind (Value kind) text is h = by_value kind text is h
   in_kind (TimeBeside ord_type) text is h =
-      stands (Code (codes "01234567")) text refl (counts
+      stands (Code (codes "01234567")) text refl (counted_is
       (not (is_at_close bytes) || is_listed (codes "12") (value_at ord_type fields))
       (verdict_of (spelling (Code (codes "01234567")) bytes)) text h).1
   in_kind kind text is h = absurd cc
@@ -249,10 +249,8 @@ module _ (fields : List Field) (tag : ℕ) (kind : Kind) (need : Need) where
           ap (λ (n : Need). slot_said fields
           (if weighs n (mark_of (Spells text)) then slot_in kind place else slots.Empty)) lenient
           ∙ in_kind fields place tag bytes at kind text is e
-      by Outside e = ap (λ (n : Need). slot_said fields
-          (if weighs n (mark_of Outside) then slot_in kind place else slots.Empty)) lenient
-      by (Wrong reason) e = ap (λ (n : Need). slot_said fields
-          (if weighs n (mark_of (Wrong reason)) then slot_in kind place else slots.Empty)) lenient
+      by other e = ap (λ (n : Need). slot_said fields
+          (if weighs n (mark_of other) then slot_in kind place else slots.Empty)) lenient
 
   -- a value of another row is spelled
   spelled_is : is_slotted kind ≡ true → ((mark : Mark) → weighs need mark ≡ true) → (place : ℕ)
@@ -375,8 +373,7 @@ month_says fields tag date no_date = slot_is fields tag (MonthBeside date) Lenie
         by (Spells text) e =
             ap (option_map (λ (f : Field). f.1)) at
             ∙ ap (λ (t : List ℕ). Some t) (month_own bytes text (sym (beside bytes) ∙ e))
-        by Outside e = refl
-        by (Wrong reason) e = refl
+        by other e = refl
 
 -- WHAT SLOTS SAY
 pub slots_say : SlotsSay

@@ -1,8 +1,7 @@
 //! The slots of the rows of a table, filled in one pass.
 
 ghost use Rattle.std.specs.Prelude.{◌≡◌, ◌<◌, map, position};
-ghost use Rattle.message_tables.specs.CodeTables.{item_of, row_of};
-ghost use Rattle.message_tables.specs.CodeTables.{table_of as code_table};
+ghost use Rattle.message_tables.specs.CodeTables.{item_of, row_of, table_of as code_table};
 ghost use Rattle.message_tables.specs.Plain.{is_good};
 ghost use Rattle.row_values.specs.CodeKinds.{kind_of};
 ghost use Rattle.row_slots.specs.Slots.{counts, no_slots, row_slot, slot_at, slot_in, slot_of};

@@ -10,8 +10,7 @@ ghost use Rattle.field_groups.specs.Field.{body_of};
 ghost use Rattle.message_tables.specs.Tables.{Tag};
 ghost use Rattle.message_tables.specs.Content.{cell_fields};
 ghost use Rattle.row_slots.specs.Slots.{slot_code, slot_decimal, slot_number, slot_said};
-ghost use Rattle.row_slots.specs.Slots.{slot_value};
-ghost use Rattle.row_slots.specs.Slots.{value_of};
+ghost use Rattle.row_slots.specs.Slots.{slot_value, value_of};
 
 use crate::slots::Slot;
 use field_groups::{AROUND, Fields, SOH, push_tag, put_field, put_number};

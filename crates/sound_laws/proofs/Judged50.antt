@@ -7,7 +7,7 @@ use Rattle.std.proofs.lemmas.Bool.{eqb-true}
 use Rattle.field_groups.specs.Field.{Field, is_soh}
 use Rattle.field_groups.specs.Data.{is_data_tag}
 use Rattle.std.specs.List.{AllByRecursion, list_any}
-use Rattle.message_tables.specs.Tables.{Verdict, Spells, Outside, Wrong, Said, ◌>>=◌, value_at}
+use Rattle.message_tables.specs.Tables.{Verdict, Spells, Said, ◌>>=◌, value_at}
 use Rattle.message_tables.specs.Tables.{text_of, is_listed, is_one_of}
 use Rattle.value_kinds.specs.ValueKind.{ValueKind, OneByte, Code, Day, MonthYear, Spelling}
 use Rattle.value_kinds.specs.ValueKind.{spelling, is_code, listed_word}
@@ -19,6 +19,7 @@ use Rattle.sound_laws.proofs.Each.{both, either, neither}
 use Rattle.sound_laws.proofs.SpelledAgain.{own_bytes, spelled_again}
 use Rattle.sound_laws.proofs.PlainRows.{spelled, value_again, value_clear}
 use Rattle.sound_laws.proofs.ReadSound.{IsClearField}
+use Rattle.sound_laws.proofs.RowsSaid.{among}
 
 -- The kinds of values; only a message that has OrdType has a time beside it.
 abbrev pub ours_kind : Bool → Kind → Bool
@@ -110,8 +111,7 @@ pub counts : (good : Bool) (v : Verdict) (text : List ℕ)
     → counted good v ≡ Spells text → (good ≡ true) × (v ≡ Spells text)
 counts true v text h = (refl, h)
 counts false (Spells other) text h = absurd cc
-counts false Outside text h = absurd cc
-counts false (Wrong reason) text h = absurd cc
+counts false v text h = absurd cc
 
 either_kept : (a b c : Bool) → (b ≡ true → c ≡ true) → (a || b) ≡ true → (a || c) ≡ true
 either_kept true b c h e = refl
@@ -193,8 +193,7 @@ clear_date fields clear = by (value_at 541 fields) refl
     of : (v : Verdict) → ((day : List ℕ) → v ≡ Spells day → IsClear day)
         → IfSome (text_of v) IsClear
     of (Spells day) h = h day refl
-    of Outside h = tt
-    of (Wrong reason) h = tt
+    of other h = tt
 
     by : (value : Said) → value_at 541 fields ≡ value
         → IfSome (value >>= (λ text. text_of (verdict_of (spelling Day text)))) IsClear
@@ -244,8 +243,7 @@ date_twice (Some bytes) = by (verdict_of (spelling Day bytes)) refl
     by : (v : Verdict) → verdict_of (spelling Day bytes) ≡ v
         → text_of v >>= (λ text. text_of (verdict_of (spelling Day text))) ≡ text_of v
     by (Spells text) e = ap text_of (value_again Day bytes text e)
-    by Outside e = refl
-    by (Wrong reason) e = refl
+    by other e = refl
 
 abbrev pub date_said : List Field → Said
 date_said fields = value_at 541 fields >>= (λ bytes. text_of (judge fields (Value Day) bytes))
@@ -261,19 +259,13 @@ date_kept fields after at =
     ap (λ (v : Said). v >>= (λ text. text_of (verdict_of (spelling Day text)))) at
     ∙ date_twice (value_at 541 fields)
 
-listed_more : (a b c d : Bool)
-    → (a || (b || false)) ≡ true → (a || (b || (c || (d || false)))) ≡ true
-listed_more true b c d h = refl
-listed_more false true c d h = refl
-listed_more false false c d h = absurd cc
-
 type_listed : (byte : ℕ) → is_one_of (codes "12") byte ≡ true
     → is_listed (codes "12") (text_of (verdict_of (spelling (Code (codes "1234")) (byte ∷ []))))
     ≡ true
 unfolding spelling
 type_listed byte h =
     let listed : is_code (codes "1234") (byte ∷ []) ≡ true =
-    listed_more (49 == byte) (50 == byte) (51 == byte) (52 == byte) h in
+    among (codes "12") (codes "1234") byte refl h in
     ap (λ (b : Bool). is_listed (codes "12")
     (text_of (verdict_of (Ok (listed_word b (byte ∷ [])))))) listed ∙ h
 
