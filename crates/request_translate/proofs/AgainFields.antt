@@ -54,16 +54,12 @@ of_kind r written (Statuses c w) = record { canonical = c; is = w }
 good_tags : (kind : RequestKind) → list_all has_good_tags (items50 kind) ≡ true
 unfolding is_data_tag
 good_tags New = refl
-good_tags Cancel = refl
-good_tags Replace = refl
-good_tags Status = refl
+good_tags kind = refl
 
 few_asked : (kind : RequestKind) → most_of (items50 kind) ≤ 240
 unfolding times
 few_asked New = omega arith
-few_asked Cancel = omega arith
-few_asked Replace = omega arith
-few_asked Status = omega arith
+few_asked kind = omega arith
 
 pub request_few : (m : Message) (written : List Field) → IsRequest m written → AreFew written
 request_few m written request =

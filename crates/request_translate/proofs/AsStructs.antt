@@ -63,12 +63,9 @@ asked (messages.Replace m) s = Replaces s
 asked (messages.Status m) s = Statuses s
 
 -- PossResend is no lack
-lack_again : (msg : Msg42)
-    → lack42 (without_resend (says42 msg)) ≡ lack42 (says42 msg)
+lack_again : (msg : Msg42) → lack42 (without_resend (says42 msg)) ≡ lack42 (says42 msg)
 lack_again (messages.New m) = refl
-lack_again (messages.Cancel m) = refl
-lack_again (messages.Replace m) = refl
-lack_again (messages.Status m) = refl
+lack_again other = refl
 
 -- a body that is these fields is split into them
 split_is : (body : List ℕ) (written fields : List Field) (fault : Option SplitFault)
@@ -110,7 +107,7 @@ module _ (msg : Msg42) (sound : IsSound42 msg) (type body : List ℕ)
       pub lacks : (lack : Lack) → Lacks n lack → Lacks m lack
       lacks reasons.NoMemory h = tt
       lacks (reasons.Tag tag) h = sym (lack_again msg)
-          ∙ ap (λ (x : Message). lack42 x) (sym (message_is n read)) ∙ h
+          ∙ ap lack42 (sym (message_is n read)) ∙ h
 
   -- ---- and that of what goes up
 

@@ -20,9 +20,7 @@ module _ (fields : List Field) (stopped : Option SplitFault) where
   pub fault_is : (fault : Fault) → message42 (type_of fields) fields stopped ≡ Err fault
       → Refuses fields stopped (error_of_fault fault)
   fault_is faults.NoMemory h = tt
-  fault_is (faults.Session tag reason) h = h
-  fault_is (faults.NoCounterpart tag) h = h
-  fault_is faults.NotSupported h = h
+  fault_is other h = h
 
   module _ (m : Message) (read : AreRead fields stopped m) where
     pub checked : lack42 m ≡ None → LackNothing fields stopped

@@ -1,5 +1,5 @@
 -- A request that lacks a spelling is what no message of FIX 5.0 SP2 means.
-use Rattle.std.proofs.Common.{◌≡◌, ℕ, Option, Some, subst}
+use Rattle.std.proofs.Common.{◌≡◌, ℕ, Option, None, Some, subst}
 use Rattle.message_tables.specs.Tables.{◌>>=◌, Message}
 use Rattle.order_meaning.specs.declared.fault.Lack.{Lack}
 use Rattle.order_meaning.specs.declared.fault.Lack.TheVariants as lacks
@@ -11,7 +11,8 @@ use Rattle.request_translate.proofs.Sayable.{IsSayable, sayable}
 
 no_spelling : (request : Option Request) (tag : ℕ)
     → request >>= lack_of ≡ Some tag → IsSayable request → ⊥
-no_spelling other tag e h = absurd cc
+no_spelling None tag e h = absurd cc
+no_spelling (Some request) tag e h = absurd cc
 
 pub lack_is : (m : Message) (lack : Lack) → Lacks m lack → IsLackOf m lack
 lack_is m lacks.NoMemory h = tt

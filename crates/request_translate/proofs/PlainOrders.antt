@@ -8,6 +8,7 @@ use Rattle.std.specs.Int.{is_negative}
 use Rattle.std.specs.Fmt.{digits, decimal}
 use Rattle.std.specs.List.{AllByRecursion}
 use Rattle.std.proofs.lemmas.Bool.Decides.{nat_tests}
+use Rattle.std.proofs.lemmas.Fmt.{length-decimal-le}
 use Rattle.frame_grammar.specs.declared.frame.Kind.TheVariants.{Fixt11}
 use Rattle.frame_grammar.specs.Frame.{frame_of}
 use Rattle.field_groups.specs.Data.{is_data_tag}
@@ -35,8 +36,9 @@ use Rattle.request_translate.specs.Translation.{IsGood}
 use Rattle.request_translate.specs.Plain.{PlainOrder, IsValue, HasPlainValues, client_field}
 use Rattle.request_translate.specs.Plain.{client_party, terms, plain_fields, translated_fields}
 use Rattle.request_translate.specs.Plain.{PlainOrdersAreTranslated}
-use Rattle.sound_laws.proofs.PlainFields.{plain_field, all_of}
-use Rattle.sound_laws.proofs.Each.{◌&◌, both, each_joined}
+use Rattle.sound_laws.specs.Sound.{IsClear}
+use Rattle.sound_laws.proofs.PlainFields.{all_of, is_good_tag, plain_field}
+use Rattle.sound_laws.proofs.Each.{◌&◌, both, each_by, each_joined}
 use Rattle.request_translate.proofs.Outcomes.{IsToldBy, fit, fits, good_is, is_told, one_told}
 use Rattle.request_translate.proofs.Outcomes.{outcome}
 use Rattle.request_rules.specs.Rules.{up_content}
@@ -168,51 +170,31 @@ up_is o None (Some price) c l = rw (c, l) refl
 up_is o (Some id) None c l = rw (c, l) refl
 up_is o (Some id) (Some price) c l = rw (c, l) refl
 
--- ---- it is short
+-- ---- its fields are plain and short
 
--- a field with a tag of at most three digits and a value of at most 128 bytes
-record IsShort (f : Field) : Type 0 where
-  tag : length (decimal f.0) ≤ 3
-  value : length f.1 ≤ 128
+-- a field that is no raw data, with a value of at most 128 bytes
+record IsFine (f : Field) : Type 0 where
+  plain : IsPlainField f
+  short : length f.1 ≤ 128
 
-short : (tag : ℕ) (value : List ℕ)
-    → length (decimal tag) ≤ 3 → length value ≤ 128 → IsShort (tag, value)
-short tag value t v = record { tag = t; value = v }
-
-field_length : (f : Field) → IsShort f → length (field_bytes f) ≤ 133
+field_length : (f : Field) → IsFine f → length (field_bytes f) ≤ 139
 unfolding field_bytes
-field_length f h = omega (
-  arith,
-  h.tag,
-  h.value,
-  length-append (decimal f.0 ++ 61 ∷ f.1) (1 ∷ []),
-  length-append (decimal f.0) (61 ∷ f.1),
-)
+field_length f h =
+    let most = h.plain.nine_digits in
+    omega (
+      arith,
+      h.short,
+      length-decimal-le 9 f.0 (omega arith) (omega (arith, most)) (omega (arith, most)),
+      length-append (decimal f.0 ++ 61 ∷ f.1) (1 ∷ []),
+      length-append (decimal f.0) (61 ∷ f.1),
+    )
 
-body_length : (fields : List Field) → AllByRecursion IsShort fields
-    → length (body_of fields) ≤ 133 * length fields
+body_length : (fields : List Field) → AllByRecursion IsFine fields
+    → length (body_of fields) ≤ 139 * length fields
 body_length [] h = omega arith
 body_length (f ∷ fs) h =
     let here = field_length f h.0 in let rest = body_length fs h.1 in
     omega (arith, here, rest, length-append (field_bytes f) (body_of fs))
-
-id_length : (text : List ℕ) → spelling Id text ≡ Ok (Some text) → length text ≤ 128
-unfolding spelling
-id_length [] h = omega arith
-id_length (b ∷ bs) h = by (nat_le (length (b ∷ bs)) 128) refl h
-  where
-    by : (fits : Bool) → nat_le (length (b ∷ bs)) 128 ≡ fits
-        → (if fits then Ok (Some (b ∷ bs)) else Err Range) ≡ Ok (Some (b ∷ bs))
-        → length (b ∷ bs) ≤ 128
-    by true e h = grind (arith, nat_tests)
-    by false e h = absurd cc
-
-code_length : (listed text : List ℕ)
-    → spelling (Code listed) text ≡ Ok (Some text) → length text ≤ 128
-unfolding spelling
-code_length listed [] h = omega arith
-code_length listed (b ∷ []) h = omega arith
-code_length listed (b ∷ c ∷ bs) h = absurd cc
 
 -- a value that was read has its form
 form_is : {A : Type 0} (say : Result A FieldFault → Spelling) (text : List ℕ)
@@ -229,76 +211,85 @@ form_is {A = A} say text none bytes form bound x h = by (judged bytes form bound
 dec_length : (text : List ℕ) → is_dec_form text ≡ true → length text ≤ 128
 dec_length text h = let most = (both (nat_le (length text) 32) _ h).0 in grind (arith, nat_tests)
 
-qty_length : (text : List ℕ) → spelling Qty text ≡ Ok (Some text) → length text ≤ 128
+stamp_length : (text : List ℕ) → is_stamp_form text ≡ true → length text ≤ 128
+stamp_length text h = by (has_pattern (codes "YYYYMMDD-HH:MM:SS") text) refl h
+  where
+    by : (whole : Bool) → has_pattern (codes "YYYYMMDD-HH:MM:SS") text ≡ whole
+        → (whole || has_pattern (codes "YYYYMMDD-HH:MM:SS.sss") text) ≡ true → length text ≤ 128
+    by true e h = omega (arith, length-has_pattern (codes "YYYYMMDD-HH:MM:SS") text e)
+    by false e h = omega (arith, length-has_pattern (codes "YYYYMMDD-HH:MM:SS.sss") text h)
+
+-- the kinds of its values, each of at most 128 bytes
+abbrev is_short : ValueKind → Bool
+is_short Id = true
+is_short (Code listed) = true
+is_short Qty = true
+is_short Price = true
+is_short Stamp = true
+is_short kind = false
+
+value_length : (kind : ValueKind) (text : List ℕ) → is_short kind ≡ true
+    → IsSpelled kind text → length text ≤ 128
 unfolding spelling
-qty_length [] h = omega arith
-qty_length (b ∷ bs) h = dec_length (b ∷ bs)
+value_length kind [] is h = omega arith
+value_length Id (b ∷ bs) is h = by (nat_le (length (b ∷ bs)) 128) refl h
+  where
+    by : (fits : Bool) → nat_le (length (b ∷ bs)) 128 ≡ fits
+        → (if fits then Ok (Some (b ∷ bs)) else Err Range) ≡ Ok (Some (b ∷ bs))
+        → length (b ∷ bs) ≤ 128
+    by true e h = grind (arith, nat_tests)
+    by false e h = absurd cc
+value_length (Code listed) (b ∷ []) is h = omega arith
+value_length (Code listed) (b ∷ c ∷ bs) is h = absurd cc
+value_length Qty (b ∷ bs) is h = dec_length (b ∷ bs)
     (form_is (λ r. spelt dec_text (if_in_range (λ d. not (is_negative d.units)) r)) (b ∷ bs)
     (λ fault e. absurd cc) (b ∷ bs) (is_dec_form (b ∷ bs)) (is_dec_bounded (b ∷ bs)) _ h)
-
-price_length : (text : List ℕ) → spelling Price text ≡ Ok (Some text) → length text ≤ 128
-unfolding spelling
-price_length [] h = omega arith
-price_length (b ∷ bs) h = dec_length (b ∷ bs) (form_is (spelt dec_text) (b ∷ bs)
+value_length Price (b ∷ bs) is h = dec_length (b ∷ bs) (form_is (spelt dec_text) (b ∷ bs)
     (λ fault e. absurd cc) (b ∷ bs) (is_dec_form (b ∷ bs)) (is_dec_bounded (b ∷ bs)) _ h)
+value_length Stamp (b ∷ bs) is h = stamp_length (b ∷ bs) (form_is (spelt (λ _. b ∷ bs)) (b ∷ bs)
+    (λ fault e. absurd cc) (b ∷ bs) (is_stamp_form (b ∷ bs)) (spells_moment (b ∷ bs))
+    (stamp_in (b ∷ bs)) h)
+value_length kind (b ∷ bs) is h = absurd cc
 
-stamp_length : (text : List ℕ) → spelling Stamp text ≡ Ok (Some text) → length text ≤ 128
-unfolding spelling
-stamp_length [] h = omega arith
-stamp_length (b ∷ bs) h =
-    let text = b ∷ bs in
-    by (has_pattern (codes "YYYYMMDD-HH:MM:SS") text) refl
-    (form_is (spelt (λ _. text)) text (λ fault e. absurd cc) text (is_stamp_form text)
-    (spells_moment text) (stamp_in text) h)
-  where
-    by : (whole : Bool) → has_pattern (codes "YYYYMMDD-HH:MM:SS") (b ∷ bs) ≡ whole
-        → (whole || has_pattern (codes "YYYYMMDD-HH:MM:SS.sss") (b ∷ bs)) ≡ true
-        → length (b ∷ bs) ≤ 128
-    by true e h =
-        omega (arith, length-has_pattern (codes "YYYYMMDD-HH:MM:SS") (b ∷ bs) e)
-    by false e h =
-        omega (arith, length-has_pattern (codes "YYYYMMDD-HH:MM:SS.sss") (b ∷ bs) h)
+-- a field of these bytes, and one of a value
+given : (tag : ℕ) (text : List ℕ) → is_good_tag tag ≡ true → IsClear text → length text ≤ 128
+    → IsFine (tag, text)
+given tag text good clear short =
+    record { plain = plain_field tag text good clear; short = short }
 
-party_fields_short : (client : Option (List ℕ))
-    → IfSome client (IsValue Id) → AllByRecursion IsShort (client_party client)
-unfolding digits
-party_fields_short None v = tt
-party_fields_short (Some id) v =
-    short 453 (codes "1") (lit≤ tt) (lit≤ tt) & short 448 id (lit≤ tt) (id_length id v.spelled)
-    & short 447 (codes "D") (lit≤ tt) (lit≤ tt) & short 452 (codes "3") (lit≤ tt) (lit≤ tt) & tt
+fine : (tag : ℕ) (kind : ValueKind) (text : List ℕ) → is_good_tag tag ≡ true
+    → is_short kind ≡ true → IsValue kind text → IsFine (tag, text)
+fine tag kind text good is v = given tag text good v.clear (value_length kind text is v.spelled)
 
-terms_short : (limit : Option (List ℕ))
-    → IfSome limit (IsValue Price) → AllByRecursion IsShort (terms limit)
-unfolding digits
-terms_short None v = short 40 (codes "1") (lit≤ tt) (lit≤ tt) & tt
-terms_short (Some price) v =
-    short 40 (codes "2") (lit≤ tt) (lit≤ tt)
-    & short 44 price (lit≤ tt) (price_length price v.spelled) & tt
+client_fine : (client : Option (List ℕ))
+    → IfSome client (IsValue Id) → AllByRecursion IsFine (client_field client)
+unfolding is_data_tag
+client_fine None v = tt
+client_fine (Some id) v = fine 109 Id id refl refl v & tt
 
-party_count : (client : Option (List ℕ)) → length (client_party client) ≤ 4
-party_count None = omega arith
-party_count (Some id) = omega arith
+party_fine : (client : Option (List ℕ))
+    → IfSome client (IsValue Id) → AllByRecursion IsFine (client_party client)
+unfolding is_data_tag
+party_fine None v = tt
+party_fine (Some id) v =
+    given 453 (codes "1") refl refl (lit≤ tt) & fine 448 Id id refl refl v
+    & given 447 (codes "D") refl refl (lit≤ tt) & given 452 (codes "3") refl refl (lit≤ tt) & tt
 
-client_count : (client : Option (List ℕ)) → length (client_field client) ≤ 1
-client_count None = omega arith
-client_count (Some id) = omega arith
+terms_fine : (limit : Option (List ℕ))
+    → IfSome limit (IsValue Price) → AllByRecursion IsFine (terms limit)
+unfolding is_data_tag
+terms_fine None v = given 40 (codes "1") refl refl (lit≤ tt) & tt
+terms_fine (Some price) v =
+    given 40 (codes "2") refl refl (lit≤ tt) & fine 44 Price price refl refl v & tt
+
+client_count : (client : Option (List ℕ))
+    → (length (client_party client) ≤ 4) × (length (client_field client) ≤ 1)
+client_count None = (omega arith, omega arith)
+client_count (Some id) = (omega arith, omega arith)
 
 terms_count : (limit : Option (List ℕ)) → length (terms limit) ≤ 2
 terms_count None = omega arith
 terms_count (Some price) = omega arith
-
-client_plain : (client : Option (List ℕ))
-    → IfSome client (IsValue Id) → AllByRecursion IsPlainField (client_field client)
-unfolding is_data_tag
-client_plain None v = tt
-client_plain (Some id) v = plain_field 109 id refl v.clear & tt
-
-terms_plain : (limit : Option (List ℕ))
-    → IfSome limit (IsValue Price) → AllByRecursion IsPlainField (terms limit)
-unfolding is_data_tag
-terms_plain None v = plain_field 40 (codes "1") refl refl & tt
-terms_plain (Some price) v =
-    plain_field 40 (codes "2") refl refl & plain_field 44 price refl v.clear & tt
 
 module _ (o : PlainOrder) (v : HasPlainValues o) where
   -- the fields behind those of the client
@@ -306,68 +297,47 @@ module _ (o : PlainOrder) (v : HasPlainValues o) where
   last_fields = (21, o.hand_inst) ∷ (55, o.symbol) ∷ (54, o.side) ∷
       (60, o.transact_time) ∷ (38, o.order_qty) ∷ terms o.limit
 
-  content_short : AllByRecursion IsShort (content_fields o)
-  unfolding digits
-  content_short =
-      short 11 o.cl_ord_id (lit≤ tt) (id_length o.cl_ord_id v.cl_ord_id.spelled)
-      & each_joined IsShort (client_party o.client_id) last_fields
-      (party_fields_short o.client_id v.client_id)
-      (short 21 o.hand_inst (lit≤ tt) (code_length (codes "123") o.hand_inst v.hand_inst.spelled)
-      & short 55 o.symbol (lit≤ tt) (id_length o.symbol v.symbol.spelled)
-      & short 54 o.side (lit≤ tt) (code_length (codes "123456") o.side v.side.spelled)
-      & short 60 o.transact_time (lit≤ tt) (stamp_length o.transact_time v.transact_time.spelled)
-      & short 38 o.order_qty (lit≤ tt) (qty_length o.order_qty v.order_qty.spelled)
-      & terms_short o.limit v.limit)
+  -- all fields, with these for the client
+  all_fine : (client : List Field) → AllByRecursion IsFine client → AllByRecursion IsFine (
+      (35, codes "D") ∷ (49, o.sender_comp_id) ∷ (56, o.target_comp_id) ∷ (34, o.msg_seq_num)
+      ∷ (52, o.sending_time) ∷ (11, o.cl_ord_id) ∷ client ++ last_fields)
+  unfolding is_data_tag
+  all_fine client are =
+      given 35 (codes "D") refl refl (lit≤ tt)
+      & fine 49 Id o.sender_comp_id refl refl v.sender_comp_id
+      & fine 56 Id o.target_comp_id refl refl v.target_comp_id
+      & fine 34 Id o.msg_seq_num refl refl v.msg_seq_num
+      & fine 52 Id o.sending_time refl refl v.sending_time
+      & fine 11 Id o.cl_ord_id refl refl v.cl_ord_id
+      & each_joined IsFine client last_fields are
+      (fine 21 (Code (codes "123")) o.hand_inst refl refl v.hand_inst
+      & fine 55 Id o.symbol refl refl v.symbol
+      & fine 54 (Code (codes "123456")) o.side refl refl v.side
+      & fine 60 Stamp o.transact_time refl refl v.transact_time
+      & fine 38 Qty o.order_qty refl refl v.order_qty & terms_fine o.limit v.limit)
 
-  all_short : AllByRecursion IsShort (translated_fields o)
-  unfolding digits
-  all_short =
-      short 35 (codes "D") (lit≤ tt) (lit≤ tt)
-      & short 49 o.sender_comp_id (lit≤ tt) (id_length o.sender_comp_id v.sender_comp_id.spelled)
-      & short 56 o.target_comp_id (lit≤ tt) (id_length o.target_comp_id v.target_comp_id.spelled)
-      & short 34 o.msg_seq_num (lit≤ tt) (id_length o.msg_seq_num v.msg_seq_num.spelled)
-      & short 52 o.sending_time (lit≤ tt) (id_length o.sending_time v.sending_time.spelled)
-      & content_short
+  up_fine : AllByRecursion IsFine (translated_fields o)
+  up_fine = all_fine (client_party o.client_id) (party_fine o.client_id v.client_id)
+
+  count : length (client_party o.client_id ++ last_fields) ≤ 11
+  count = omega (
+    arith,
+    length-append (client_party o.client_id) last_fields,
+    (client_count o.client_id).0,
+    terms_count o.limit,
+  )
 
   content_fits : length (body_of (content_fields o)) ≤ 7936
-  content_fits =
-      let most = body_length (content_fields o) content_short in
-      omega (
-        arith,
-        most,
-        length-append (client_party o.client_id) last_fields,
-        party_count o.client_id,
-        terms_count o.limit,
-      )
+  content_fits = omega (arith, body_length (content_fields o) up_fine.1.1.1.1.1, count)
 
   body_fits : length (body_of (translated_fields o)) ≤ 8192
-  body_fits =
-      let most = body_length (translated_fields o) all_short in
-      omega (
-        arith,
-        most,
-        length-append (client_party o.client_id) last_fields,
-        party_count o.client_id,
-        terms_count o.limit,
-      )
+  body_fits = omega (arith, body_length (translated_fields o) up_fine, count)
 
   -- ---- its body is split into its fields
 
   plain : AllByRecursion IsPlainField (plain_fields o)
-  unfolding is_data_tag
-  plain =
-      plain_field 35 (codes "D") refl refl
-      & plain_field 49 o.sender_comp_id refl v.sender_comp_id.clear
-      & plain_field 56 o.target_comp_id refl v.target_comp_id.clear
-      & plain_field 34 o.msg_seq_num refl v.msg_seq_num.clear
-      & plain_field 52 o.sending_time refl v.sending_time.clear
-      & plain_field 11 o.cl_ord_id refl v.cl_ord_id.clear
-      & each_joined IsPlainField (client_field o.client_id) last_fields
-      (client_plain o.client_id v.client_id)
-      (plain_field 21 o.hand_inst refl v.hand_inst.clear
-      & plain_field 55 o.symbol refl v.symbol.clear & plain_field 54 o.side refl v.side.clear
-      & plain_field 60 o.transact_time refl v.transact_time.clear
-      & plain_field 38 o.order_qty refl v.order_qty.clear & terms_plain o.limit v.limit)
+  plain = each_by IsFine IsPlainField (λ f h. h.plain) (plain_fields o)
+      (all_fine (client_field o.client_id) (client_fine o.client_id v.client_id))
 
   abbrev body : List ℕ
   body = body_of (plain_fields o)
@@ -377,7 +347,7 @@ module _ (o : PlainOrder) (v : HasPlainValues o) where
       (omega (
         arith,
         length-append (client_field o.client_id) last_fields,
-        client_count o.client_id,
+        (client_count o.client_id).1,
         terms_count o.limit,
       ))
 

@@ -6,13 +6,12 @@ use Rattle.std.specs.Result.{result_ok}
 use Rattle.value_kinds.specs.ValueKind.{spelling, OneByte}
 use Rattle.message_tables.specs.declared.table_fault.TableFault.{TableFault}
 use Rattle.field_groups.specs.Field.{Field}
-use Rattle.message_tables.specs.Tables.{Verdict, Spells, Outside, Wrong, Table, Message, Lenient}
+use Rattle.message_tables.specs.Tables.{Verdict, Spells, Table, Message, Lenient}
 use Rattle.message_tables.specs.Tables.{◌>>=◌, says, value_at, text_of, code_of, code_if, is_one_of}
 use Rattle.message_tables.specs.FirstFault.{unless, first_fault, message_in, message_of}
 use Rattle.order_meaning.specs.declared.fault.Fault.{Fault}
-use Rattle.order_meaning.specs.Request.{Request, RequestKind, New, Cancel, Replace, Status}
-use Rattle.order_meaning.specs.Request.{OrderType, Market, Limit, Stop, StopLimit, MarketOnClose}
-use Rattle.order_meaning.specs.Request.{LimitOnClose}
+use Rattle.order_meaning.specs.Request.{Request, RequestKind, New, Replace}
+use Rattle.order_meaning.specs.Request.{OrderType, Market, Limit, Stop, StopLimit}
 use Rattle.row_values.specs.Kinds.{Kind, judge, Byte, counted, verdict_of}
 use Rattle.dict_fix50.specs.Message.{message50, message50_by}
 use Rattle.rows_fix50.specs.Header.{completed, completed_by}
@@ -34,11 +33,7 @@ IsSayable request = IfSome request (λ r. lack_of r ≡ None)
 no_time : (ord_type : Option OrderType) → lacks_time ord_type None ≡ false
 no_time None = refl
 no_time (Some Market) = refl
-no_time (Some Limit) = refl
-no_time (Some Stop) = refl
-no_time (Some StopLimit) = refl
-no_time (Some MarketOnClose) = refl
-no_time (Some LimitOnClose) = refl
+no_time (Some other) = refl
 
 by_code : (a b c d : Bool) (time : ℕ) →
     lacks_time (if a then Some Market else (if b then Some Limit
@@ -76,8 +71,7 @@ by_listed false byte e = refl
 
 outside : (verdict : Verdict) → lacks_capacity (text_of (counted false verdict) >>= code_of) ≡ false
 outside (Spells text) = refl
-outside Outside = refl
-outside (Wrong reason) = refl
+outside other = refl
 
 -- of OrderCapacity the values of the profile alone count
 pub capacity_lacks_nothing : (fields : List Field) (value : Option (List ℕ)) →
@@ -114,10 +108,9 @@ each : (fields : List Field) (kind : RequestKind)
     → IsSayable (request50 (completed (message_in judge (asked50 kind) fields)))
 each fields New = of_message New (completed (message_in judge (asked50 New) fields))
     (capacity_lacks_nothing fields (value_at 528 fields))
-each fields Cancel = of_message Cancel (completed (message_in judge (asked50 Cancel) fields)) refl
 each fields Replace = of_message Replace (completed (message_in judge (asked50 Replace) fields))
     (capacity_lacks_nothing fields (value_at 528 fields))
-each fields Status = of_message Status (completed (message_in judge (asked50 Status) fields)) refl
+each fields kind = of_message kind (completed (message_in judge (asked50 kind) fields)) refl
 
 by_fault : (fault : Option TableFault) (m : Message) → IsSayable (request50 (completed m))
     → IsSayable (result_ok (told50 (unless fault m)) >>= request50)

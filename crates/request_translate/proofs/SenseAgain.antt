@@ -12,7 +12,7 @@ use Rattle.field_groups.specs.Field.{Field}
 use Rattle.message_tables.specs.Tables.{Item, Table, Message, Said, ◌>>=◌, flag_of, value_at}
 use Rattle.message_tables.specs.FirstFault.{first_fault, message_in, message_of, unless}
 use Rattle.message_tables.specs.Content.{content}
-use Rattle.order_meaning.specs.Request.{Request, RequestKind, New, Cancel, Replace, Status}
+use Rattle.order_meaning.specs.Request.{Request, RequestKind, New}
 use Rattle.order_meaning.specs.declared.fault.Fault.{Fault}
 use Rattle.rows_fix42.specs.Header as header42
 use Rattle.dict_fix42.specs.Message as read42
@@ -183,11 +183,7 @@ module _ (msg_type : List ℕ) (fields : List Field) (x r : Message) (is_type : 
     unfolding IsAskedBy
     each written request New e = one_kind New refl refl
         (λ y is. (rw is refl, rw is refl)) (λ y is. rw is refl) e written request
-    each written request Cancel e = one_kind Cancel refl refl
-        (λ y is. (rw is refl, rw is refl)) (λ y is. rw is refl) e written request
-    each written request Replace e = one_kind Replace refl refl
-        (λ y is. (rw is refl, rw is refl)) (λ y is. rw is refl) e written request
-    each written request Status e = one_kind Status refl refl
+    each written request kind e = one_kind kind refl refl
         (λ y is. (rw is refl, rw is refl)) (λ y is. rw is refl) e written request
 
     -- WHAT IS WRITTEN HAS THE SENSE OF WHAT WAS READ.

@@ -61,22 +61,19 @@ module _ (fields : List Field) (clear : AllByRecursion (IsClearField judge) fiel
     alone : is_alone 40 items ≡ true
     said : said_at (message_in judge (table letter items) fields).cells (Tag 40) ≡ type_said fields
 
-  record IsOf (timed : Bool) (letter : ℕ) (items : List (Item Kind)) : Type 0 where
-    once : IsTable judge (table letter items) fields
-    known : list_all (is_ours timed) items ≡ true
-    plain : AllByRecursion HasPlainRows (flat_map groups_of items)
-    month : list_any (is_place (Tag 200)) (flat_map places_of items) ≡ true
-    date : is_alone 541 items ≡ true
-    date_is : said_at (message_in judge (table letter items) fields).cells (Tag 541)
-        ≡ date_said fields
-    types : timed ≡ true → SaysTypes letter items
-    untyped : list_any (writes 150) items ≡ false
-
   date_same : date_said fields ≡ date_at 541 fields
   unfolding judge
   date_same = refl
 
-  module _ (timed : Bool) (letter : ℕ) (items : List (Item Kind)) (is : IsOf timed letter items)
+  module _ (timed : Bool) (letter : ℕ) (items : List (Item Kind))
+      (once : IsTable judge (table letter items) fields)
+      (known : list_all (is_ours timed) items ≡ true)
+      (plain : AllByRecursion HasPlainRows (flat_map groups_of items))
+      (month : list_any (is_place (Tag 200)) (flat_map places_of items) ≡ true)
+      (date : is_alone 541 items ≡ true)
+      (date_is : said_at (message_in judge (table letter items) fields).cells (Tag 541)
+      ≡ date_said fields) (types : timed ≡ true → SaysTypes letter items)
+      (untyped : list_any (writes 150) items ≡ false)
     where
       abbrev t : Table Kind
       t = table letter items
@@ -86,34 +83,34 @@ module _ (fields : List Field) (clear : AllByRecursion (IsClearField judge) fiel
 
       alike : AllByRecursion (GroupSaid judge m) (groups_in t) → AreAlike timed fields (content t m)
       alike groups = record {
-        date = date_kept fields (content t m) (value_said judge m 541 items is.date groups
-            ∙ is.date_is);
-        ord_type = λ there. let types = is.types there in type_kept fields (content t m)
-            (value_said judge m 40 items types.alone groups ∙ types.said);
+        date = date_kept fields (content t m) (value_said judge m 541 items date groups
+            ∙ date_is);
+        ord_type = λ there. let says = types there in type_kept fields (content t m)
+            (value_said judge m 40 items says.alone groups ∙ says.said);
       }
 
       -- no request says an ExecType
       kept : AllByRecursion (GroupSaid judge m) (groups_in t) → KeepsType fields (content t m)
       kept groups listed h = absurd (
           let no : is_listed listed (value_at 150 (content t m)) ≡ false =
-          ap (is_listed listed) (items_value judge m 150 items is.untyped groups) in cc)
+          ap (is_listed listed) (items_value judge m 150 items untyped groups) in cc)
 
       sound : first_fault judge t fields ≡ None → IsSound judge t m
-      sound none = read_sound judge t fields is.once (plain_items t fields items is.plain)
+      sound none = read_sound judge t fields once (plain_items t fields items plain)
           (λ groups. stable_items judge t fields (is_ours_row timed)
-          (stable_row timed t (alike groups) (kept groups)) items is.known) clear none
+          (stable_row timed t (alike groups) (kept groups)) items known) clear none
 
       complete : first_fault judge t fields ≡ None → IsComplete t (completed m)
       complete none =
           let s = sound none in
           let groups = groups_said judge (content t m) m items s.items in
-          let there : said_at m.cells (Tag 541) ≡ date_at 541 fields = is.date_is ∙ date_same in
+          let there : said_at m.cells (Tag 541) ≡ date_at 541 fields = date_is ∙ date_same in
           let at_date = (alike groups).date ∙ sym there in
           let no_soh = subst (λ (date : Said). IfSome date IsClear) (sym there)
           (clear_date fields clear) in
           record {
-            sound = completed_sound timed t m is.month at_date no_soh s is.known;
-            month = completed_month timed t m is.month at_date no_soh s;
+            sound = completed_sound timed t m month at_date no_soh s known;
+            month = completed_month timed t m month at_date no_soh s;
           }
 
       -- what is read by the table
@@ -134,55 +131,25 @@ module _ (fields : List Field) (clear : AllByRecursion (IsClearField judge) fiel
       → message50_by (Some (asked50 kind)) fields None ≡ Ok x → IsRequest50 x
   unfolding is_data_tag
   each x New e = News (table_read true 68 new_order (record {
-    once = record {
-      rows = refl;
-      places = refl;
-      counts = refl;
-      plain = (parties_apart, (allocs_apart, (sessions_apart, tt)));
-    };
-    known = refl;
-    plain = (parties_plain, (allocs_plain, (sessions_plain, tt)));
-    month = refl;
-    date = refl;
-    date_is = refl;
-    types = λ _. record { alone = refl; said = refl };
-    untyped = refl;
-  }) x e)
-  each x Cancel e = Cancels (table_read false 70 cancel_request (record {
-    once = record { rows = refl; places = refl; counts = refl; plain = (parties_apart, tt) };
-    known = refl;
-    plain = (parties_plain, tt);
-    month = refl;
-    date = refl;
-    date_is = refl;
-    types = λ untrue. absurd cc;
-    untyped = refl;
-  }) x e)
+    rows = refl;
+    places = refl;
+    counts = refl;
+    plain = (parties_apart, (allocs_apart, (sessions_apart, tt)));
+  }) refl (parties_plain, (allocs_plain, (sessions_plain, tt))) refl refl refl
+      (λ _. record { alone = refl; said = refl }) refl x e)
+  each x Cancel e = Cancels (table_read false 70 cancel_request
+      (record { rows = refl; places = refl; counts = refl; plain = (parties_apart, tt) })
+      refl (parties_plain, tt) refl refl refl (λ untrue. absurd cc) refl x e)
   each x Replace e = Replaces (table_read true 71 replace_request (record {
-    once = record {
-      rows = refl;
-      places = refl;
-      counts = refl;
-      plain = (parties_apart, (allocs_apart, (sessions_apart, tt)));
-    };
-    known = refl;
-    plain = (parties_plain, (allocs_plain, (sessions_plain, tt)));
-    month = refl;
-    date = refl;
-    date_is = refl;
-    types = λ _. record { alone = refl; said = refl };
-    untyped = refl;
-  }) x e)
-  each x Status e = Statuses (table_read false 72 status_request (record {
-    once = record { rows = refl; places = refl; counts = refl; plain = (parties_apart, tt) };
-    known = refl;
-    plain = (parties_plain, tt);
-    month = refl;
-    date = refl;
-    date_is = refl;
-    types = λ untrue. absurd cc;
-    untyped = refl;
-  }) x e)
+    rows = refl;
+    places = refl;
+    counts = refl;
+    plain = (parties_apart, (allocs_apart, (sessions_apart, tt)));
+  }) refl (parties_plain, (allocs_plain, (sessions_plain, tt))) refl refl refl
+      (λ _. record { alone = refl; said = refl }) refl x e)
+  each x Status e = Statuses (table_read false 72 status_request
+      (record { rows = refl; places = refl; counts = refl; plain = (parties_apart, tt) })
+      refl (parties_plain, tt) refl refl refl (λ untrue. absurd cc) refl x e)
 
   -- WHAT IS READ IS SOUND, AND COMPLETE.
   pub read_is_complete : (msg_type : List ℕ) (x : Message) → message50 msg_type fields None ≡ Ok x
