@@ -92,8 +92,8 @@ WritesDown = (known : Said) → IfSome known IsId → (msg_type : List ℕ) (fie
 
 -- ---- lacks
 
--- Why a report does not go down: its ExecType means no report; or it is a cancel reject, and neither
--- it nor anyone else tells which order was to be canceled or replaced.
+-- Why a report does not go down: its ExecType means no report; or it is a cancel reject, and
+-- neither it nor anyone else tells which order was to be canceled or replaced.
 pub data Lacks (known : Said) (m : Message) (tag : ℕ) : Type 0 where
   NoSense : tag ≡ 150 → report50 m ≡ None → Lacks known m tag
   NoOriginal : tag ≡ 41 → at m 41 ≡ None → known ≡ None → Lacks known m tag

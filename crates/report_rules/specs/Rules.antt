@@ -3,16 +3,15 @@
 -- written.
 use Rattle.std.specs.Prelude.{ℕ, ℤ, pos, Bool, true, false, not, ◌==◌, ◌&&◌, ◌||◌, List, [], ◌∷◌}
 use Rattle.std.specs.Prelude.{◌++◌, drop, codes, Option, Some, None, Result, is_some, nat_le}
-use Rattle.std.specs.Prelude.{unwrap_or}
-use Rattle.std.specs.Prelude.{if◌then◌else◌}
+use Rattle.std.specs.Prelude.{unwrap_or, if◌then◌else◌}
 use Rattle.std.specs.Option.{option_map}
 use Rattle.std.specs.Ordering.{int_eq}
 use Rattle.field_groups.specs.HeadValues.{number_in}
 use Rattle.value_kinds.specs.ValueKind.{code_text}
 use Rattle.field_groups.specs.Field.{Field}
 use Rattle.message_tables.specs.Content.{content}
-use Rattle.message_tables.specs.Tables.{Place, Tag, Role, Said, Cell, Message, Table, ◌>>=◌, code_of}
-use Rattle.message_tables.specs.Tables.{is_one_of, lines_of, said_at}
+use Rattle.message_tables.specs.Tables.{Place, Tag, Role, Said, Cell, Message, Table, ◌>>=◌}
+use Rattle.message_tables.specs.Tables.{code_of, is_one_of, lines_of, said_at}
 use Rattle.row_values.specs.Amounts.{amount_of}
 use Rattle.order_meaning.specs.declared.Amount.{Amount}
 use Rattle.order_meaning.specs.Report.{or_known}
