@@ -20,6 +20,8 @@ impl Answers for Calls {
             "report42" => reports42::content(alloc, given),
             "report50" => reports50::content(alloc, given),
             "up" => upward::frame(alloc, given),
+            "down_report" => downward::report(alloc, given),
+            "down_cancel_reject" => downward::cancel_reject(alloc, given),
             "down" => downward::frame(alloc, given),
             "length_down" => downward::length(alloc, given),
             "check_refusal" => refusals::check(alloc, given),

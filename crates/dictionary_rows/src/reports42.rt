@@ -15,7 +15,7 @@ use row_words::first_word;
 use std::alloc::{AllocError, Global};
 
 /// What is written of an Execution Report(8).
-fn written_report(alloc: Global, message: &Report42) -> Result<Vec<u8>, AllocError>
+pub(crate) fn written_report(alloc: Global, message: &Report42) -> Result<Vec<u8>, AllocError>
     requires { IsReadableReport message.now }
 {
     let mut out = Vec::new(alloc);
@@ -32,7 +32,10 @@ fn report(alloc: Global, split: &Split<'_>) -> Result<Vec<u8>, AllocError> {
 }
 
 /// What is written of an Order Cancel Reject(9).
-fn written_cancel_reject(alloc: Global, message: &CancelReject42) -> Result<Vec<u8>, AllocError>
+pub(crate) fn written_cancel_reject(
+    alloc: Global,
+    message: &CancelReject42,
+) -> Result<Vec<u8>, AllocError>
     requires { IsReadableCancelReject message.now }
 {
     let mut out = Vec::new(alloc);

@@ -1,6 +1,6 @@
 //! Faults and lacks in words, as the program `fixgate` writes them.
 
-use order_meaning::Fault;
+use order_meaning::{Fault, Lack};
 use report_translate::TranslateError;
 use row_words::number_behind;
 use std::alloc::{AllocError, Global};
@@ -29,6 +29,14 @@ pub(crate) fn fault_words(alloc: Global, fault: &Fault) -> Result<Vec<u8>, Alloc
 fn lacking_words(alloc: Global, tag: u32) -> Result<Vec<u8>, AllocError> {
     let words = format!(in alloc; "lacks tag {tag}")?;
     answered(alloc, words.as_str())
+}
+
+/// A lack in words.
+pub(crate) fn lack_words(alloc: Global, lack: &Lack) -> Result<Vec<u8>, AllocError> {
+    match *lack {
+        Lack::Tag(tag) => lacking_words(alloc, tag),
+        Lack::NoMemory => answered(alloc, "out of memory"),
+    }
 }
 
 /// What a check or a translation finds, in words.

@@ -108,7 +108,7 @@ pub fn down_cancel_reject(
 ) -> Result<CancelReject42, Lack>
     requires sound { IsComplete cancel_reject_table (cancel_reject_says msg.now) }
     requires readable { IsReadableCancelReject msg.now }
-    requires orig { IfSome (option_map (λ o. o.now) orig.entry) IsId }
+    requires orig { IfSome (option_map (λ o. o.now) orig) IsId }
     ensures rules { IfOk result (λ written. down_message (option_map (λ o. o.now) orig.entry)
         (cancel_reject_says msg.now) ≡ Ok (said42.cancel_reject_says written)) }
     ensures stands { IfOk result (λ written. StandsFor (option_map (λ o. o.now) orig.entry)
