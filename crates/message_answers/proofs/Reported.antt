@@ -29,11 +29,10 @@ use Rattle.rows_fix50.specs.Header.{completed, completed_by}
 use Rattle.reports_fix50.specs.Message.{message50, report_by, report_table, cancel_reject_table}
 use Rattle.reports_fix50.specs.Message.{business_reject_table, report_table_of, session_reject_table}
 use Rattle.reports_fix50.specs.Sense.{cancel_reject_of, exec_of, execution_of}
-use Rattle.rule_rows.specs.ByRules.{by_rules, lack_by}
+use Rattle.rule_rows.specs.ByRules.{by_rules, lack_by, lack_if}
 use Rattle.report_rules.specs.Down.{IsGoodBy, IsPut, IsReport50, LacksDown, PutsDown, Reports50}
 use Rattle.report_rules.specs.Down.{Rejects50, Type8, Type9}
-use Rattle.report_rules.specs.Rules.{written}
-use Rattle.report_rules.specs.Rules.{kinds, lack_if, lacks_type, rules_for}
+use Rattle.report_rules.specs.Rules.{kinds, lacks_type, rules_for, written}
 use Rattle.report_rules.proofs.GoDown.{goes_meaning, rules_of}
 use Rattle.report_rules.proofs.LacksDown.{lacking, means_nothing, no_type, reject_lack, report_lack}
 use Rattle.report_rules.proofs.PutDown.{good_eight, nine}

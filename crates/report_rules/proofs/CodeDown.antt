@@ -25,7 +25,7 @@ use Rattle.order_meaning.specs.Report.{or_known}
 use Rattle.rows_fix50.specs.Header.{month_by}
 use Rattle.rows_fix50.specs.Meaning.{id_of}
 use Rattle.reports_fix50.specs.Sense.{reason_told, telling}
-use Rattle.rule_rows.specs.ByRules.{content_by, rule_fields}
+use Rattle.rule_rows.specs.ByRules.{content_by, lack_if, rule_fields}
 use Rattle.report_rules.specs.declared.rules.Rule.{Rule as CodeRule}
 use Rattle.report_rules.specs.declared.rules.Rule.TheVariants as rules
 use Rattle.report_rules.specs.declared.source.Source.{Source}
@@ -36,7 +36,7 @@ use Rattle.report_rules.specs.Rules.{Rule, Same, Moved, PartyOf}
 use Rattle.report_rules.specs.Rules.{Another, Traded, Within}
 use Rattle.report_rules.specs.Rules.{at, at_close, coded, exec_type}
 use Rattle.report_rules.specs.Rules.{fills}
-use Rattle.report_rules.specs.Rules.{id_down, kinds, lack_if, lacks_type, on_close, party, reason_down}
+use Rattle.report_rules.specs.Rules.{id_down, kinds, lacks_type, on_close, party, reason_down}
 use Rattle.report_rules.specs.Rules.{rule_lack, status_if, tells, trans_type, within, works_on}
 
 -- ---- values

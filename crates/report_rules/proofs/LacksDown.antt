@@ -19,9 +19,9 @@ use Rattle.sound_laws.specs.Complete.{IsComplete}
 use Rattle.sound_laws.specs.Sound.{IsSaid}
 use Rattle.sound_laws.proofs.Each.{both}
 use Rattle.sound_laws.proofs.RowsSaid.{row_said}
-use Rattle.rule_rows.specs.ByRules.{by_rules, lack_by, or_lack}
+use Rattle.rule_rows.specs.ByRules.{by_rules, lack_by, lack_if, or_lack}
 use Rattle.rule_rows.proofs.Source as source
-use Rattle.report_rules.specs.Rules.{Same, Original, at, down_rules, kinds, lack_if, lacks_type}
+use Rattle.report_rules.specs.Rules.{Same, Original, at, down_rules, kinds, lacks_type}
 use Rattle.report_rules.specs.Rules.{down_message, rules_for, trans_type}
 use Rattle.report_rules.specs.Down.{Lacks, LacksMean, NoSense, NoOriginal, Reports50, Rejects50}
 use Rattle.report_rules.proofs.GoDown.{rules_of}

@@ -18,11 +18,11 @@ use Rattle.reports_fix50.specs.Step.{step50}
 use Rattle.reports_fix42.proofs.Steps as steps42
 use Rattle.reports_fix50.proofs.Steps as steps50
 use Rattle.sound_laws.proofs.Each.{none_each}
-use Rattle.rule_rows.specs.ByRules.{At, Grouped, by_rules, lack_by, or_lack}
+use Rattle.rule_rows.specs.ByRules.{At, Grouped, by_rules, lack_by, lack_if, or_lack}
 use Rattle.rule_rows.proofs.Looked as looked
 use Rattle.rule_rows.proofs.Looked.{rule_at, said_by, lines_by}
 use Rattle.report_rules.specs.Rules.{Rule, Same, Original, at, down_rules, is_fill, kinds}
-use Rattle.report_rules.specs.Rules.{lack_if, lacks_type, rules_for}
+use Rattle.report_rules.specs.Rules.{lacks_type, rules_for}
 use Rattle.report_rules.specs.Down.{IsOrdinary, KeepsBooks, KeepsSense}
 use Rattle.report_rules.proofs.KindsDown.{are_kinds, report_own, reject_own}
 use Rattle.report_rules.proofs.CodesDown.{exec_kept, id_kept, phase_kept}

@@ -28,7 +28,7 @@ use Rattle.sound_laws.proofs.Each.{both, either}
 use Rattle.sound_laws.proofs.ContentValues.{GroupSaid, is_alone}
 use Rattle.sound_laws.proofs.RowsSaid.{row_of_tag, same_value, required_said, optional_said}
 use Rattle.sound_laws.proofs.RowsSaid.{needed_said, code_said, codes_said, among, is_code_of}
-use Rattle.rule_rows.specs.ByRules.{At, by_rules, has_any, has_place, outline_of}
+use Rattle.rule_rows.specs.ByRules.{At, by_rules, has_any, has_place, lack_if, outline_of}
 use Rattle.rule_rows.specs.Rows.{group_at}
 use Rattle.rule_rows.proofs.Items.{count_is, has_one, has_row, item_if, row_there, turned}
 use Rattle.rule_rows.proofs.Items.{turned_group}
@@ -39,7 +39,7 @@ use Rattle.rule_rows.proofs.Source.{IsSpelled}
 use Rattle.report_rules.specs.Rules.{Rule, Same, Moved, Original, PartyOf, Group, ExecId, TransType}
 use Rattle.report_rules.specs.Rules.{ExecType, OrdStatus, Another, Traded, Within, Told, Month}
 use Rattle.report_rules.specs.Rules.{DayOfDate, OrdType, Time, at, at_close, coded, exec_type}
-use Rattle.report_rules.specs.Rules.{is_fill, kinds, lack_if, lacks_type, on_close, rule_said}
+use Rattle.report_rules.specs.Rules.{is_fill, kinds, lacks_type, on_close, rule_said}
 use Rattle.report_rules.specs.Rules.{status_if, time_down, told, trans_type, works_on}
 use Rattle.report_rules.specs.Down.{IsId, IsOrdinary}
 use Rattle.report_rules.proofs.CodesSaid.{AreCodes, are_codes, statuses, time_is_code, time_counts}

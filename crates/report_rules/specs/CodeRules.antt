@@ -22,6 +22,7 @@ use Rattle.row_slots.specs.declared.slots.Slot.{Slot}
 use Rattle.row_slots.specs.Slots.{no_slots, slot_at, slot_code, slot_decimal, slot_number}
 use Rattle.row_slots.specs.Slots.{slot_said, with_items}
 use Rattle.row_slots.specs.Slots.{slot_value}
+use Rattle.rule_rows.specs.ByRules.{lack_if}
 use Rattle.report_rules.specs.declared.rules.Rule.{Rule as CodeRule}
 use Rattle.report_rules.specs.declared.rules.Rule.TheVariants as rules
 use Rattle.report_rules.specs.declared.source.Codes.{Codes}
@@ -30,7 +31,7 @@ use Rattle.report_rules.specs.declared.source.Source.{Source}
 use Rattle.report_rules.specs.Rules.{Rule, Same, Moved, Original, PartyOf, Group, ExecId, TransType}
 use Rattle.report_rules.specs.Rules.{ExecType, OrdStatus, Another, Traded, Within, Told, Month}
 use Rattle.report_rules.specs.Rules.{DayOfDate, OrdType, Time, at_close, coded, exec_type, id_down}
-use Rattle.report_rules.specs.Rules.{is_fill, lack_if, lacks_type, status_if, trans_type, works_on}
+use Rattle.report_rules.specs.Rules.{is_fill, lacks_type, status_if, trans_type, works_on}
 
 -- the rule that a rule of the code is, where this original id is known
 abbrev pub rule_of : Said → CodeRule → Rule

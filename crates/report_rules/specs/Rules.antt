@@ -19,7 +19,7 @@ use Rattle.reports_fix42.specs.Message.{cancel_reject_table, execution_report_ta
 use Rattle.reports_fix50.specs.Sense.{reason_told, telling}
 use Rattle.row_values.specs.Kinds.{Kind}
 use Rattle.rule_rows.specs.ByRules.{At, Grouped, Kinds, Outline, Target, by_rules, has_any}
-use Rattle.rule_rows.specs.ByRules.{has_group, lack_by, or_lack}
+use Rattle.rule_rows.specs.ByRules.{has_group, lack_by, lack_if, or_lack}
 
 -- How FIX 4.2 says one line of its table.
 pub data Rule : Type 0 where
@@ -228,11 +228,7 @@ type_down type time =
 abbrev pub time_down : Said → Said → Said
 time_down type time = if at_close (type >>= code_of) (time >>= code_of) then None else time
 
--- what lacks a tag
-abbrev pub lack_if : Bool → ℕ → Option ℕ
-lack_if true tag = Some tag
-lack_if false tag = None
-
+-- an ExecType (150) that means no report
 abbrev pub lacks_type : Option ℕ → Bool
 lacks_type None = false
 lacks_type (Some code) = not (is_some (trans_type code))

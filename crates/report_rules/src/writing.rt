@@ -14,12 +14,11 @@ ghost use Rattle.row_values.specs.Contras.{AreReadableContras, contra_cells};
 ghost use Rattle.order_meaning.specs.Report.{or_known};
 ghost use Rattle.rows_fix50.specs.Header.{month_by};
 ghost use Rattle.reports_fix50.specs.Sense.{most_before_reasons, reason_told, telling};
+ghost use Rattle.rule_rows.specs.ByRules.{lack_if};
 ghost use Rattle.report_rules.specs.CodeRules.{IsLackOf, close_code, exec_type_in, known_of};
-ghost use Rattle.report_rules.specs.CodeRules.{lacked};
-ghost use Rattle.report_rules.specs.CodeRules.{number_of, numbered, says, stands, tells_of};
+ghost use Rattle.report_rules.specs.CodeRules.{lacked, number_of, numbered, says, stands, tells_of};
 ghost use Rattle.report_rules.specs.CodeRules.{told_text, trans_type_in, within_text, writes};
-ghost use Rattle.report_rules.specs.Rules.{at_close, id_down, lack_if, lacks_type, status_if};
-ghost use Rattle.report_rules.specs.Rules.{works_on};
+ghost use Rattle.report_rules.specs.Rules.{at_close, id_down, lacks_type, status_if, works_on};
 
 use crate::mapping::{at_close, exec_type, on_close, status_if, trans_type, works_on};
 use crate::rules::Rule;
