@@ -35,18 +35,18 @@ module _ (fields : List Field) (h : first_fault judge execution_report_table fie
       & w.secondary_id & w.cl_ord_id & w.orig_id & w.client_id & w.exec_broker & w.clearing_firm
       & full_text _ _ (says execution_report_table fields h 8 17 (Value Id) refl refl) w.exec_id
       & full _ _ (says execution_report_table fields h 9 20 (Value (Code (codes "0123"))) refl refl)
-          w.trans_type
+      w.trans_type
       & w.ref_id
       & full _ _ (says execution_report_table fields h 11 150
-          (Value (Code (codes "0123456789ABCDE"))) refl refl) w.exec_type
+      (Value (Code (codes "0123456789ABCDE"))) refl refl) w.exec_type
       & full _ _ (says execution_report_table fields h 12 39
-          (Value (Code (codes "0123456789ABCDE"))) refl refl) w.ord_status
+      (Value (Code (codes "0123456789ABCDE"))) refl refl) w.ord_status
       & w.rej_reason & w.restate_reason & w.account & w.settl_type & w.settl_date
       & full_text _ _ (says execution_report_table fields h 18 55 (Value Id) refl refl) w.symbol
       & w.symbol_sfx & w.security_id & w.id_source & w.security_type & w.maturity.month
       & w.maturity.day (dated execution_report_table fields h 23 refl refl) & w.security_exchange
       & full _ _ (says execution_report_table fields h 26 54
-          (Value (Code (codes "123456"))) refl refl) w.side
+      (Value (Code (codes "123456"))) refl refl) w.side
       & w.order_qty & w.ord_type & w.price & w.stop_px & w.currency & w.time_in_force
       & w.expire_date & w.expire_time & w.capacity & w.last_qty & w.last_px & w.last_mkt
       & full _ _ (says execution_report_table fields h 39 151 (Value Qty) refl refl) w.leaves
@@ -83,10 +83,10 @@ module _ (fields : List Field) (h : first_fault judge cancel_reject_table fields
       & full_text _ _ (says cancel_reject_table fields h 2 11 (Value Id) refl refl) w.cl_ord_id
       & full_text _ _ (says cancel_reject_table fields h 3 41 (Value Id) refl refl) w.orig_id
       & full _ _ (says cancel_reject_table fields h 4 39
-          (Value (Code (codes "0123456789ABCDE"))) refl refl) w.ord_status
+      (Value (Code (codes "0123456789ABCDE"))) refl refl) w.ord_status
       & w.account & w.transact_time
       & full _ _ (says cancel_reject_table fields h 7 434 (Value (Code (codes "12"))) refl refl)
-          w.response_to
+      w.response_to
       & w.cxl_reason & w.text & refl
 
   -- what is read is the message of the fields

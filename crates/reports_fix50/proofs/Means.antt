@@ -41,15 +41,15 @@ module _ (fields : List Field) (h : first_fault judge report_table fields ≡ No
       & party 4 (lit< tt)
       & full_text _ _ (says report_table fields h 9 17 (Value Id) refl refl) w.exec_id & w.ref_id
       & full _ _ (says report_table fields h 11 150
-          (Value (Known (codes "03456789ABCDEFGHIJKL"))) refl refl) w.exec_type
+      (Value (Known (codes "03456789ABCDEFGHIJKL"))) refl refl) w.exec_type
       & full _ _ (says report_table fields h 12 39
-          (Value (Known (codes "0123456789ABCDE"))) refl refl) w.ord_status
+      (Value (Known (codes "0123456789ABCDE"))) refl refl) w.ord_status
       & w.rej_reason & w.restate_reason & w.order.account & w.order.settl_type & w.order.settl_date
       & full_text _ _ (says report_table fields h 18 55 (Value Id) refl refl) w.order.symbol
       & w.order.symbol_sfx & w.order.security_id & w.order.id_source & w.order.security_type
       & w.order.maturity.month & w.order.maturity.date & w.order.security_exchange
       & full _ _ (says report_table fields h 26 54 (Value (Code (codes "123456"))) refl refl)
-          w.order.side
+      w.order.side
       & w.order.order_qty & w.order.ord_type & w.order.price & w.order.stop_px & w.order.currency
       & w.order.time_in_force & w.order.expire_date & w.order.expire_time & w.order.capacity
       & w.last_qty & w.last_px & w.last_mkt
@@ -84,10 +84,10 @@ module _ (fields : List Field) (h : first_fault judge cancel_reject_table fields
       & full_text _ _ (says cancel_reject_table fields h 2 11 (Value Id) refl refl) w.cl_ord_id
       & w.orig_id
       & full _ _ (says cancel_reject_table fields h 4 39
-          (Value (Known (codes "0123456789ABCDE"))) refl refl) w.ord_status
+      (Value (Known (codes "0123456789ABCDE"))) refl refl) w.ord_status
       & w.account & w.transact_time
       & full _ _ (says cancel_reject_table fields h 7 434 (Value (Known (codes "12"))) refl refl)
-          w.response_to
+      w.response_to
       & w.cxl_reason & w.text & refl
 
   -- what is read is the message of the fields
