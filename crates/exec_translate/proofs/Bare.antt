@@ -1,6 +1,6 @@
 -- A sound report is sound without its parties, too, and has few fields then.
-use Rattle.std.proofs.Common.{◌≡◌, ℕ, List, [], ◌∷◌, ◌++◌, true, false, None, Ok, refl, sym, ap, ◌∙◌}
-use Rattle.std.proofs.Common.{arith, codes, drop, lit≤, map, take}
+use Rattle.std.proofs.Common.{◌≡◌, ℕ, List, [], ◌∷◌, ◌++◌, true, false, None, Ok, refl, sym, ap}
+use Rattle.std.proofs.Common.{◌∙◌, arith, codes, drop, lit≤, map, take}
 use Rattle.std.specs.List.{AllByRecursion, list_all}
 use Rattle.field_groups.specs.Data.{is_data_tag}
 use Rattle.field_groups.specs.Field.{Field, body_of}
@@ -139,7 +139,8 @@ module _ (msg : Report50) (c : IsComplete report_table (report_says msg)) where
         bare_sound.items;
     splits = few_again after few;
     read = ap completed_by (read_again report_table b refl refl bare_sound)
-        ∙ ap (λ (x : Message). Ok x) (completed_again b c.month (ap places_apart bare_sound.places) false);
+        ∙ ap (λ (x : Message). Ok x)
+        (completed_again b c.month (ap places_apart bare_sound.places) false);
   }
 
 module _ (msg : CancelReject50) (c : IsComplete cancel_reject_table (cancel_reject_says msg)) where
@@ -163,5 +164,6 @@ module _ (msg : CancelReject50) (c : IsComplete cancel_reject_table (cancel_reje
     splits = few_again (content cancel_reject_table q)
         (few_of judge cancel_reject_table q refl (lit≤ tt) once_sound);
     read = ap completed_by (read_again cancel_reject_table q refl refl once_sound)
-        ∙ ap (λ (x : Message). Ok x) (completed_again q c.month (ap places_apart once_sound.places) false);
+        ∙ ap (λ (x : Message). Ok x)
+        (completed_again q c.month (ap places_apart once_sound.places) false);
   }

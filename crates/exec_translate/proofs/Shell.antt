@@ -1,6 +1,6 @@
 -- A report as a struct: its content is split and read, and so is that of what goes down.
-use Rattle.std.proofs.Common.{◌≡◌, ℕ, List, [], ◌∷◌, ◌++◌, Option, Some, None, Ok, Err, refl, sym, ap}
-use Rattle.std.proofs.Common.{◌∙◌, drop, lit≤, subst, take}
+use Rattle.std.proofs.Common.{◌≡◌, ℕ, List, [], ◌∷◌, ◌++◌, Option, Some, None, Ok, Err, refl, sym}
+use Rattle.std.proofs.Common.{◌∙◌, ap, drop, lit≤, subst, take}
 use Rattle.std.specs.Prelude.{IfSome}
 use Rattle.field_groups.specs.declared.fault.SplitFault.{SplitFault}
 use Rattle.field_groups.specs.Data.{is_data_tag}
@@ -29,8 +29,8 @@ use Rattle.sound_laws.specs.Sound.{IsSound, without_resend}
 use Rattle.sound_laws.proofs.ContentAgain.{read_again}
 use Rattle.sound_laws.proofs.PlainFields.{AreFew, few_of, times}
 use Rattle.rule_rows.specs.ByRules.{by_rules, lack_by, or_lack}
-use Rattle.report_rules.specs.Down.{IsGoodBy, IsId, IsPut, LacksDown, PutsDown, Rejects50, Reports50}
-use Rattle.report_rules.specs.Down.{StandsFor}
+use Rattle.report_rules.specs.Down.{IsGoodBy, IsId, IsPut, LacksDown, PutsDown, Rejects50}
+use Rattle.report_rules.specs.Down.{Reports50, StandsFor}
 use Rattle.report_rules.specs.Rules.{Original, Same, down_message, down_rules, kinds, table_at}
 use Rattle.report_rules.specs.Rules.{written}
 use Rattle.report_rules.proofs.GoDown.{Down, down_by, goes_down, reject_sound, report_sound}
@@ -74,9 +74,9 @@ module _ (type : List ℕ) (table : Table Kind) (m : Message) (ready : IsReady t
 
 -- ---- the content of what goes down
 
-record IsRead (table : Table Kind) (w : Message) : Type 0 where
-  splits : SplitsInto (body_of (written w)) (written w) None
-  read : message_by (Some table) (written w) None ≡ Ok (without_resend w)
+pub record IsRead (table : Table Kind) (w : Message) : Type 0 where
+  pub splits : SplitsInto (body_of (written w)) (written w) None
+  pub read : message_by (Some table) (written w) None ≡ Ok (without_resend w)
 
 read_by : (table : Table Kind) (w : Message) → AreFew (content table w)
     → message_by (Some table) (content table w) None ≡ Ok (without_resend w)
@@ -145,13 +145,14 @@ module _ (msg : Report50) where
       same_lack (lack_by kinds all (report_says msg)) (by_rules kinds all (report_says (bare msg)))
       (by_rules kinds all (report_says msg)) tag h
 
-  pub report_rules : (w : Message) (r : Report42) → down_message None (report_says (bare msg)) ≡ Ok w
-      → said42.report_says r ≡ without_resend w
+  pub report_rules : (w : Message) (r : Report42)
+      → down_message None (report_says (bare msg)) ≡ Ok w → said42.report_says r ≡ without_resend w
       → down_message None (report_says msg) ≡ Ok (said42.report_says (with_parties msg r))
   unfolding first_of
   report_rules w r down is =
       let all = down_rules (Same 41) in
-      let d : Down all (report_says (bare msg)) w = down_by None (report_says (bare msg)) w all refl down in
+      let b = report_says (bare msg) in
+      let d : Down all b w = down_by None b w all refl down in
       let put : said42.report_says (with_parties msg r) ≡ by_rules kinds all (report_says msg) =
       ap patch is ∙ ap patch (sym d.is) in
       ap (λ (l : Option ℕ). or_lack l (by_rules kinds all (report_says msg))) d.lack
@@ -199,7 +200,8 @@ module _ (msg : CancelReject50) (known : Said) where
   reject_rules w r down is =
       let all = down_rules (Original known) in
       let again : Message → Message = λ x. record x { resend = msg.resend } in
-      let d : Down all (cancel_reject_says (once msg)) w = down_by known (cancel_reject_says (once msg)) w all refl down in
+      let q = cancel_reject_says (once msg) in
+      let d : Down all q w = down_by known q w all refl down in
       let put : said42.cancel_reject_says (record r { resend = msg.resend })
       ≡ by_rules kinds all (cancel_reject_says msg) = ap again is ∙ ap again (sym d.is) in
       ap (λ (l : Option ℕ). or_lack l (by_rules kinds all (cancel_reject_says msg))) d.lack

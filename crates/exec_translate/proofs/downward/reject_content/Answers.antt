@@ -25,11 +25,11 @@ returns-clause-ok c =
     let m : Message = cancel_reject_says (once c.args.msg.now) in
     let is = c.deref.ensures.value ∙ c.in_ok-write_cancel_reject.ensures.ok
     ∙ ap (λ (b : List ℕ). b ++ body_of (content cancel_reject_table m)) c.new-content.ensures.items in
-    let P : List ℕ → Type 0 = λ b. IsPut (option_map (λ o. o.now) c.args.orig.entry) m b c.put_down.new.out.items in
+    let P : List ℕ → Type 0 = λ b. IsPut (option_map (λ o. o.now) c.args.orig) m b c.put_down.new.out.items in
     subst P c.new-down.ensures.items
     (is_put (codes "9") cancel_reject_table m (reject_ready c.args.msg.now c.requires.sound) refl
     c.deref.result.now c.in_ok-split.split.fields c.in_ok-split.split.fault is
-    c.in_ok-split.ensures (option_map (λ o. o.now) c.args.orig.entry) c.new-down.result.items c.put_down.new.out.items
+    c.in_ok-split.ensures (option_map (λ o. o.now) c.args.orig) c.new-down.result.items c.put_down.new.out.items
     c.in_ok-put_down.ensures.ok)
 
 pub returns-in_err-put_down-clause-lack : goal.returns-in_err-put_down-clause-lack
@@ -41,4 +41,4 @@ returns-in_err-put_down-clause-lack c =
     c.from_residual-in_err-put_down.ensures.1 in
     rw (p.1, p.2) (is_lack (codes "9") cancel_reject_table m (reject_ready c.args.msg.now c.requires.sound) refl
     c.deref.result.now c.in_ok-split.split.fields c.in_ok-split.split.fault is
-    c.in_ok-split.ensures (option_map (λ o. o.now) c.args.orig.entry) c.in_err-put_down.field-0.0 c.in_err-put_down.ensures.lack)
+    c.in_ok-split.ensures (option_map (λ o. o.now) c.args.orig) c.in_err-put_down.field-0.0 c.in_err-put_down.ensures.lack)
