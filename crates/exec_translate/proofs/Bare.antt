@@ -15,7 +15,6 @@ use Rattle.row_values.specs.Contras.{contra_cells}
 use Rattle.row_values.specs.Kinds.{Kind, judge, verdict_of}
 use Rattle.rows_fix50.specs.Header.{completed_by, table}
 use Rattle.reports_fix50.specs.Message.{cancel_reject_table, message50, report_table}
-use Rattle.reports_fix50.specs.Message.{report_table_of}
 use Rattle.reports_fix50.specs.Reports.{execution_report}
 use Rattle.reports_fix50.specs.Said.{cancel_reject_says, report_says}
 use Rattle.reports_fix50.specs.declared.reports.CancelReject50.{CancelReject50}
