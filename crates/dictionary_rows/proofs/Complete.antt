@@ -1,6 +1,5 @@
 -- What is read of the fields of a body is a report that goes down.
-use Rattle.std.proofs.Common.{◌≡◌, List, Option, None, Some, Ok, absurd}
-use Rattle.std.specs.List.{AllByRecursion}
+use Rattle.std.proofs.Common.{◌≡◌, List, Option, None, Some, Ok}
 use Rattle.field_groups.specs.declared.fault.SplitFault.{SplitFault}
 use Rattle.field_groups.specs.Field.{AreFields, Field}
 use Rattle.message_tables.specs.Tables.{Message}
