@@ -48,12 +48,15 @@ split_is body own fields fault is again split =
 
 -- ---- the content of a report of FIX 5.0 SP2
 
-module _ (type : List ℕ) (table : Table Kind) (m : Message) (ready : IsReady type table m)
-    (typed : report_table_of type ≡ Some table) (body : List ℕ) (fields : List Field)
-    (fault : Option SplitFault) (is : body ≡ body_of (content table m))
+module _ {type : List ℕ} {table : Table Kind} {m : Message} {none written body : List ℕ}
+    {fields : List Field} {fault : Option SplitFault} (ready : IsReady type table m)
+    (typed : report_table_of type ≡ Some table) (empty : none ≡ [])
+    (is : written ≡ none ++ body_of (content table m)) (copied : body ≡ written)
     (split : SplitsInto body fields fault) where
   same : fields ≡ content table m
-  same = (split_is body (content table m) fields fault is ready.splits split).0
+  same =
+      let all = copied ∙ is ∙ ap (λ (b : List ℕ). b ++ body_of (content table m)) empty in
+      (split_is body (content table m) fields fault all ready.splits split).0
 
   pub is_good : IsGoodBy (report_table_of type) fields
   is_good =
@@ -63,9 +66,10 @@ module _ (type : List ℕ) (table : Table Kind) (m : Message) (ready : IsReady t
   read : message50 type fields None ≡ Ok m
   read = ap (λ (fs : List Field). message50 type fs None) same ∙ ready.read
 
-  pub is_put : (known : Said) (before after : List ℕ) → PutsDown type known fields before after
-      → IsPut known m before after
-  is_put known before after h = h m read
+  pub is_put : (known : Said) (before after : List ℕ) → before ≡ []
+      → PutsDown type known fields before after → IsPut known m [] after
+  is_put known before after first h =
+      let P : List ℕ → Type 0 = λ b. IsPut known m b after in subst P first (h m read)
 
   pub is_lack : (known : Said) (lack : Lack) → LacksDown type known fields lack
       → Lacks known m lack
@@ -158,10 +162,10 @@ module _ (msg : Report50) where
       ap (λ (l : Option ℕ). or_lack l (by_rules kinds all (report_says msg))) d.lack
       ∙ ap Ok (sym put)
 
-  module _ (c : IsComplete report_table (report_says msg)) (content body : List ℕ)
+  module _ {content body : List ℕ} {fields : List Field} {fault : Option SplitFault}
+      (c : IsComplete report_table (report_says msg))
       (put : IsPut None (report_says (bare msg)) [] content) (same : body ≡ content)
-      (fields : List Field) (fault : Option SplitFault) (split : SplitsInto body fields fault)
-      (r : Report42)
+      (split : SplitsInto body fields fault) (r : Report42)
       (read : message_by (Some tables42.execution_report_table) fields fault
       ≡ Ok (said42.report_says r))
       (x : Report42) (is : x ≡ with_parties msg r) where
@@ -207,9 +211,9 @@ module _ (msg : CancelReject50) (known : Said) where
       ap (λ (l : Option ℕ). or_lack l (by_rules kinds all (cancel_reject_says msg))) d.lack
       ∙ ap Ok (sym put)
 
-  module _ (c : IsComplete cancel_reject_table (cancel_reject_says msg)) (id : IfSome known IsId)
-      (content body : List ℕ) (put : IsPut known (cancel_reject_says (once msg)) [] content)
-      (same : body ≡ content) (fields : List Field) (fault : Option SplitFault)
+  module _ {content body : List ℕ} {fields : List Field} {fault : Option SplitFault}
+      (c : IsComplete cancel_reject_table (cancel_reject_says msg)) (id : IfSome known IsId)
+      (put : IsPut known (cancel_reject_says (once msg)) [] content) (same : body ≡ content)
       (split : SplitsInto body fields fault) (r : CancelReject42)
       (read : message_by (Some tables42.cancel_reject_table) fields fault
       ≡ Ok (said42.cancel_reject_says r)) where

@@ -12,13 +12,11 @@ returns-in_err-content-clause-lack c =
 pub returns-in-Ok-clause-rules : goal.returns-in-Ok-clause-rules
 returns-in-Ok-clause-rules c =
     reject_down c.args.msg.now (option_map (λ o. o.now) c.args.orig) c.requires.sound
-    c.requires.orig c.in_ok-content.content.items c.deref.result.now c.in_ok-content.ensures.ok
-    c.deref.ensures.value c.in_ok-split.split.fields c.in_ok-split.split.fault
-    c.in_ok-split.ensures c.in-Ok.reject c.in-Ok.ensures.says
+    c.requires.orig c.in_ok-content.ensures.ok c.deref.ensures.value c.in_ok-split.ensures
+    c.in-Ok.reject c.in-Ok.ensures.says
 
 pub returns-in-Ok-clause-stands : goal.returns-in-Ok-clause-stands
 returns-in-Ok-clause-stands c =
     reject_stands c.args.msg.now (option_map (λ o. o.now) c.args.orig) c.requires.sound
-    c.requires.orig c.in_ok-content.content.items c.deref.result.now c.in_ok-content.ensures.ok
-    c.deref.ensures.value c.in_ok-split.split.fields c.in_ok-split.split.fault
-    c.in_ok-split.ensures c.in-Ok.reject c.in-Ok.ensures.says
+    c.requires.orig c.in_ok-content.ensures.ok c.deref.ensures.value c.in_ok-split.ensures
+    c.in-Ok.reject c.in-Ok.ensures.says

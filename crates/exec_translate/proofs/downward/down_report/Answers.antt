@@ -10,14 +10,12 @@ returns-in_err-content-clause-lack c =
 
 pub returns-in-Ok-clause-rules : goal.returns-in-Ok-clause-rules
 returns-in-Ok-clause-rules c =
-    report_down c.args.msg.now c.requires.sound c.in_ok-content.content.items c.deref.result.now
-    c.in_ok-content.ensures.ok c.deref.ensures.value c.in_ok-split.split.fields
-    c.in_ok-split.split.fault c.in_ok-split.ensures c.in-Ok.report c.in-Ok.ensures.says
-    c.in_ok-with_parties-in-Ok.field-0 c.in_ok-with_parties-in-Ok.ensures.is
+    report_down c.args.msg.now c.requires.sound c.in_ok-content.ensures.ok c.deref.ensures.value
+    c.in_ok-split.ensures c.in-Ok.report c.in-Ok.ensures.says c.in_ok-with_parties-in-Ok.field-0
+    c.in_ok-with_parties-in-Ok.ensures.is
 
 pub returns-in-Ok-clause-stands : goal.returns-in-Ok-clause-stands
 returns-in-Ok-clause-stands c =
-    report_stands c.args.msg.now c.requires.sound c.in_ok-content.content.items c.deref.result.now
-    c.in_ok-content.ensures.ok c.deref.ensures.value c.in_ok-split.split.fields
-    c.in_ok-split.split.fault c.in_ok-split.ensures c.in-Ok.report c.in-Ok.ensures.says
-    c.in_ok-with_parties-in-Ok.field-0 c.in_ok-with_parties-in-Ok.ensures.is
+    report_stands c.args.msg.now c.requires.sound c.in_ok-content.ensures.ok c.deref.ensures.value
+    c.in_ok-split.ensures c.in-Ok.report c.in-Ok.ensures.says c.in_ok-with_parties-in-Ok.field-0
+    c.in_ok-with_parties-in-Ok.ensures.is
