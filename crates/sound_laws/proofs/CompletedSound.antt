@@ -19,7 +19,8 @@ use Rattle.sound_laws.specs.Sound.{IsClear, IsSaid, IsItem, IsSound, places_of}
 use Rattle.sound_laws.specs.Complete.{HasMonthOfDate}
 use Rattle.sound_laws.proofs.Each.{both}
 use Rattle.sound_laws.proofs.ContentValues.{value_at-append, row_value}
-use Rattle.sound_laws.proofs.ReadSound.{row_passes, text_again}
+use Rattle.sound_laws.proofs.ReadSound.{row_passes}
+use Rattle.sound_laws.proofs.RowsSaid.{text_again}
 use Rattle.sound_laws.proofs.Completed.{other_said, month_said, same_places}
 use Rattle.sound_laws.proofs.Judged50.{ours_kind, AreAlike, judged_again, month_of_date}
 use Rattle.sound_laws.proofs.Judged50.{clear_front}
@@ -90,11 +91,8 @@ kept_need other h before after kept n = absurd cc
 
 says_again : (need : Need) → ours_need need ≡ true → (j : List ℕ → Verdict) (said : Said)
     → IfSome said (λ text. j text ≡ Spells text) → says need j said ≡ said
-says_again Required h j said e = text_again judge j said e
-says_again Optional h j said e = text_again judge j said e
-says_again Lenient h j said e = text_again judge j said e
 says_again (Fixed text) h j said e = absurd cc
-says_again (When condition) h j said e = text_again judge j said e
+says_again need h j said e = text_again j said e
 
 month_judged : (kind : Kind) → month_kind kind ≡ true → (fields : List Field) (day : List ℕ)
     → date_at 541 fields ≡ Some day → judge fields kind (take 6 day) ≡ Spells (take 6 day)

@@ -1,6 +1,6 @@
 -- What holds of each element of a list.
-use Rattle.std.proofs.Common.{◌≡◌, ℕ, suc, List, [], ◌∷◌, ◌++◌, map, Option, Some, None, Bool, true}
-use Rattle.std.proofs.Common.{false, refl, subst, arith}
+use Rattle.std.proofs.Common.{◌≡◌, ℕ, zero, suc, List, [], ◌∷◌, ◌++◌, map, Option, Some, None, Bool}
+use Rattle.std.proofs.Common.{true, false, refl, subst, arith}
 use Rattle.std.specs.Prelude.{not, ◌&&◌, ◌||◌, ◌==◌}
 use Rattle.std.specs.List.{AllByRecursion, slice_get, flat_map, list_all}
 use Rattle.std.proofs.lemmas.Bool.{eqb-true}
@@ -17,6 +17,13 @@ module _ {A : Type 0} (P : A → Type 0) where
       → ((i : ℕ) (x : A) → slice_get xs i ≡ Some x → P x) → AllByRecursion P xs
   each_at [] h = tt
   each_at (x ∷ xs) h = (h 0 x refl, each_at xs (λ i y at. h (suc i) y at))
+
+  -- the one at a place
+  pub at_index : (i : ℕ) (xs : List A) (x : A)
+      → slice_get xs i ≡ Some x → AllByRecursion P xs → P x
+  at_index i [] x e h = absurd cc
+  at_index zero (y ∷ ys) x e h = let same : y ≡ x = cc in subst P same h.0
+  at_index (suc i) (y ∷ ys) x e h = at_index i ys x e h.1
 
   pub each_by : (Q : A → Type 0)
       → ((x : A) → P x → Q x) → (xs : List A) → AllByRecursion P xs → AllByRecursion Q xs
@@ -89,6 +96,9 @@ neither other b h k = absurd cc
 
 pub same_number : (n : ℕ) → (n == n) ≡ true
 same_number n = grind (arith, nat_tests)
+
+pub apart_same : (t u : ℕ) → (t == u) ≡ false → (u == t) ≡ false
+apart_same t u h = grind (arith, nat_tests)
 
 -- a test that all pass
 pub all_true : {A : Type 0} (test : A → Bool) (xs : List A)

@@ -14,10 +14,10 @@ use Rattle.message_tables.specs.Tables.{with_member, in_lines, lines_in}
 use Rattle.message_tables.specs.Content.{cell_fields, line_fields, group_fields, item_fields}
 use Rattle.sound_laws.specs.Sound.{IsLine, IsItem}
 use Rattle.sound_laws.proofs.Each.{are_apart, both, each_back, each_by, each_front, each_joined}
-use Rattle.sound_laws.proofs.Each.{either, not_true, one_of, same_number}
+use Rattle.sound_laws.proofs.Each.{not_true, one_of, same_number}
 use Rattle.sound_laws.proofs.ContentValues.{or_none, value_at-append}
 use Rattle.sound_laws.proofs.Stages.{item_tags, AreOf, apart_lists, apart_back, lines_of_tags}
-use Rattle.sound_laws.proofs.Stages.{item_of, is_other, line_of}
+use Rattle.sound_laws.proofs.Stages.{each_of, item_of, is_other, line_of, none_behind}
 
 -- ---- fields of other tags
 
@@ -272,31 +272,14 @@ module _ {Kind : Type 0} (judge : Judge Kind) where
         of_both (item_fields m item) (flat_map (item_fields m) items) (item_tags item)
         (flat_map item_tags items) (item_of judge fields m item said.0) (items_of items said.1)
       where
-        left : (xs ys : List ℕ) (t : ℕ) → is_one_of xs t ≡ true → is_one_of (xs ++ ys) t ≡ true
-        left [] ys t h = absurd cc
-        left (x ∷ xs) ys t h = by (x == t) h (λ there. left xs ys t there)
-          where
-            by : (b : Bool) → (b || is_one_of xs t) ≡ true
-                → (is_one_of xs t ≡ true → is_one_of (xs ++ ys) t ≡ true)
-                → (b || is_one_of (xs ++ ys) t) ≡ true
-            by true h later = refl
-            by false h later = later h
-
-        right : (xs ys : List ℕ) (t : ℕ) → is_one_of ys t ≡ true → is_one_of (xs ++ ys) t ≡ true
-        right [] ys t h = h
-        right (x ∷ xs) ys t h = by (x == t) (right xs ys t h)
-          where
-            by : (b : Bool) → is_one_of (xs ++ ys) t ≡ true → (b || is_one_of (xs ++ ys) t) ≡ true
-            by true h = refl
-            by false h = h
-
         of_both : (fs gs : List Field) (xs ys : List ℕ)
             → AreOf xs fs → AreOf ys gs → AreOf (xs ++ ys) (fs ++ gs)
         of_both fs gs xs ys h k =
-            let P : List ℕ → Field → Type 0 = λ tags f. is_one_of tags f.0 ≡ true in
-            each_joined (P (xs ++ ys)) fs gs
-            (each_by (P xs) (P (xs ++ ys)) (λ f there. left xs ys f.0 there) fs h)
-            (each_by (P ys) (P (xs ++ ys)) (λ f there. right xs ys f.0 there) gs k)
+            let P : ℕ → Type 0 = λ t. is_one_of (xs ++ ys) t ≡ true in
+            let each = each_of (xs ++ ys) in
+            each_joined (λ f. P f.0) fs gs
+            (each_by _ _ (λ f there. one_of P xs (each_front P xs ys each) f.0 there) fs h)
+            (each_by _ _ (λ f there. one_of P ys (each_back P xs ys each) f.0 there) gs k)
 
     pub outside_of : (g : GroupTags) (tags : List ℕ) (fs : List Field)
         → AreOf tags fs → AllByRecursion (λ t. is_inside g t ≡ false) tags → Outside g fs
@@ -331,16 +314,10 @@ module _ {Kind : Type 0} (judge : Judge Kind) where
         (are_apart (tags_of group.rows ++ tags)) apart in
         let of = items_of items said.1 in
         let none : is_one_of tags group.count ≡ false =
-        right_false (tags_of group.rows) tags group.count (not_true _ p.0) in (
+        none_behind (tags_of group.rows) tags group.count (not_true _ p.0) in (
           group_found group lines later groups.0 groups.1 said.0.said (outside_of
               (tags_in group) tags later of groups.2) (after_none tags group.count later of none),
           items_behind mine (group_fields group.count lines) later
               items (item_of judge fields m (Lines group) said.0) (apart_lists mine tags apart)
               (items_found items said.1 (apart_back mine tags apart) groups.3),
         )
-      where
-        right_false : (xs ys : List ℕ) (t : ℕ)
-            → is_one_of (xs ++ ys) t ≡ false → is_one_of ys t ≡ false
-        right_false [] ys t h = h
-        right_false (x ∷ xs) ys t h =
-            right_false xs ys t (either (x == t) (is_one_of (xs ++ ys) t) h).1

@@ -135,23 +135,18 @@ module _ {Kind : Type 0} (judge : Judge Kind) (table : Table Kind) (fields : Lis
   is_there true true fault n h = refl
   is_there other found fault n h = absurd cc
 
+  is_spelled : (tag : ℕ) (v : Verdict) → wrong (tag, allowed Required (mark_of v)) ≡ None
+      → beyond (tag, allowed Required (mark_of v)) ≡ None → IsSome (text_of v)
+  is_spelled tag (Spells text) w o = refl
+  is_spelled tag other w o = absurd cc
+
   -- a needed row that has a good value says it
   by_need : (need : Need) (tag : ℕ) (j : List ℕ → Verdict) (value : List ℕ) (of : List Field)
       → is_needed need of ≡ true →
       wrong (tag, allowed need (mark_of (j value))) ≡ None → beyond
       (tag, allowed need (mark_of (j value))) ≡ None → IsSome (says need j (Some value))
-  by_need Required tag j value of n w o = by (j value) w o
-    where
-      by : (v : Verdict) → wrong (tag, allowed Required (mark_of v)) ≡ None
-          → beyond (tag, allowed Required (mark_of v)) ≡ None → IsSome (text_of v)
-      by (Spells text) w o = refl
-      by other w o = absurd cc
-  by_need (When condition) tag j value of n w o = by (j value) w o
-    where
-      by : (v : Verdict) → wrong (tag, allowed Required (mark_of v)) ≡ None
-          → beyond (tag, allowed Required (mark_of v)) ≡ None → IsSome (text_of v)
-      by (Spells text) w o = refl
-      by other w o = absurd cc
+  by_need Required tag j value of n w o = is_spelled tag (j value) w o
+  by_need (When condition) tag j value of n w o = is_spelled tag (j value) w o
   by_need other tag j value of n w o = absurd cc
 
   -- good fields say each row that they have to say

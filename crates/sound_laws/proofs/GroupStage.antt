@@ -26,10 +26,9 @@ use Rattle.message_tables.specs.Content.{cell_fields, line_fields, group_fields,
 use Rattle.message_tables.proofs.Few.{IsPlain}
 use Rattle.field_groups.proofs.Digits.{numerals}
 use Rattle.sound_laws.specs.Sound.{AreSaid, IsLine, IsItem}
-use Rattle.sound_laws.proofs.Each.{are_apart, both, each_by, either, none_is, not_true, one_of}
-use Rattle.sound_laws.proofs.Each.{same_number}
+use Rattle.sound_laws.proofs.Each.{are_apart, both, either, none_is, not_true, one_of, same_number}
 use Rattle.sound_laws.proofs.Stages.{item_tags, AreOf, Free, back, lines_of_tags, item_of}
-use Rattle.sound_laws.proofs.Stages.{free_after, others_apart, none_free, here_is, one_more}
+use Rattle.sound_laws.proofs.Stages.{each_of, free_after, others_apart, none_free}
 use Rattle.sound_laws.proofs.Found.{or_true, Begins, HasFirst, Outside, GroupsApart, group_begins}
 use Rattle.sound_laws.proofs.Found.{inside_of, outside_of, items_of, run_is}
 
@@ -326,11 +325,6 @@ decimal_said n few =
     let range : is_in_range 1 10 (length (decimal n)) ≡ true = grind (arith, nat_tests) in
     let small : nat_le n 1_000_000_000 ≡ true = grind (arith, nat_tests) in
     rw (range, digits, value, small) refl
-
-each_of : (tags : List ℕ) → AllByRecursion (λ t. is_one_of tags t ≡ true) tags
-each_of [] = tt
-each_of (t ∷ tags) =
-    (here_is tags t, each_by _ _ (λ u h. one_more tags t u h) tags (each_of tags))
 
 module _ {Kind : Type 0} (judge : Judge Kind)
     (count : ℕ) (row : Row Kind) (rows : List (Row Kind)) (skipped : List ℕ) where

@@ -1,15 +1,13 @@
 -- What is found at places, tags and counts that stand once each.
-use Rattle.std.proofs.Common.{◌≡◌, ℕ, List, [], ◌∷◌, map, Some, Bool, true, false, refl, sym, ap}
-use Rattle.std.proofs.Common.{subst}
+use Rattle.std.proofs.Common.{◌≡◌, ℕ, List, [], ◌∷◌, map, Some, Bool, true, false, refl, ap}
 use Rattle.std.specs.Prelude.{not, ◌&&◌, ◌==◌}
 use Rattle.std.specs.List.{AllByRecursion, flat_map, list_any}
-use Rattle.std.proofs.lemmas.Bool.{eqb-true}
 use Rattle.field_groups.specs.Field.{Field}
 use Rattle.message_tables.specs.Tables.{Place, Tag, Role, Cell, Row, Judge, Item, One, Party, Lines}
 use Rattle.message_tables.specs.Tables.{is_place, said_at, lines_of, is_one_of, tags_of, row_at}
 use Rattle.message_tables.specs.Tables.{cells_of, groups_of, group_says}
 use Rattle.sound_laws.specs.Sound.{places_of}
-use Rattle.sound_laws.proofs.Each.{are_apart, both, either, not_true, same_number}
+use Rattle.sound_laws.proofs.Each.{apart_same, are_apart, both, either, not_true, same_number}
 
 -- places that stand once each
 abbrev pub places_apart : List Place → Bool
@@ -45,14 +43,7 @@ module _ {L : Type 0} (g : ℕ × List L) (gs : List (ℕ × List L)) where
   other_groups [] apart h = tt
   other_groups (k ∷ ks) apart h =
       let parts = either (k.0 == g.0) (is_one_of (map (λ h. h.0) ks) g.0) apart in
-      (other (g.0 == k.0) refl parts.0 h.0, other_groups ks parts.1 h.1)
-    where
-      other : (b : Bool) → (g.0 == k.0) ≡ b
-          → (k.0 == g.0) ≡ false → lines_of k.0 gs ≡ k.1 → lines_of k.0 (g ∷ gs) ≡ k.1
-      other true e apart h = absurd (let same : g.0 ≡ k.0 = eqb-true g.0 k.0 e
-          in let P : ℕ → Type 0 = λ n. (n == g.0) ≡ false in let no : (g.0 == g.0) ≡ false =
-          subst P (sym same) apart in let yes = same_number g.0 in cc)
-      other false e apart h = rw e h
+      (rw (apart_same k.0 g.0 parts.0) h.0, other_groups ks parts.1 h.1)
 
 -- the lines of each group are found by its count
 pub lines_said : {L : Type 0} (gs : List (ℕ × List L))
@@ -70,14 +61,7 @@ module _ {Kind : Type 0} (r : Row Kind) (rs : List (Row Kind)) where
   other_rows [] apart h = tt
   other_rows (q ∷ qs) apart h =
       let parts = either (q.tag == r.tag) (is_one_of (tags_of qs) r.tag) apart in
-      (other (r.tag == q.tag) refl parts.0 h.0, other_rows qs parts.1 h.1)
-    where
-      other : (b : Bool) → (r.tag == q.tag) ≡ b
-          → (q.tag == r.tag) ≡ false → row_at q.tag rs ≡ Some q → row_at q.tag (r ∷ rs) ≡ Some q
-      other true e apart h = absurd (let same : r.tag ≡ q.tag = eqb-true r.tag q.tag e
-          in let P : ℕ → Type 0 = λ n. (n == r.tag) ≡ false in let no : (r.tag == r.tag) ≡ false =
-          subst P (sym same) apart in let yes = same_number r.tag in cc)
-      other false e apart h = rw e h
+      (rw (apart_same q.tag r.tag parts.0) h.0, other_rows qs parts.1 h.1)
 
 -- each row is found at its tag
 pub rows_found : {Kind : Type 0} (rs : List (Row Kind))

@@ -2,15 +2,16 @@
 -- written, and so are the lines of groups.
 use Rattle.std.proofs.Common.{◌≡◌, ℕ, List, [], ◌∷◌, Option, Some, None, Bool, true, false, refl}
 use Rattle.std.proofs.Common.{ap, subst, ◌∙◌, codes}
-use Rattle.std.specs.Prelude.{Ok, not, ◌&&◌}
+use Rattle.std.specs.Prelude.{Ok, not, ◌&&◌, ◌==◌}
 use Rattle.std.specs.List.{AllByRecursion, flat_map, list_all}
 use Rattle.value_kinds.specs.ValueKind.{ValueKind, Id, Number, OneByte, Spelling, spelling}
 use Rattle.message_tables.specs.declared.table_fault.TableFault.{TableFault}
 use Rattle.field_groups.specs.Field.{Field}
 use Rattle.field_groups.specs.Data.{is_data_tag}
-use Rattle.message_tables.specs.Tables.{Spells, Need, Required, Optional, Lenient, Fixed, When, Row}
+use Rattle.message_tables.specs.Tables.{Spells, Need, Required, Optional, Fixed, When, Row}
 use Rattle.message_tables.specs.Tables.{RepeatingGroup, Item, One, Party, Lines, Table, Message}
-use Rattle.message_tables.specs.Tables.{is_needed, groups_of, tags_in}
+use Rattle.message_tables.specs.Tables.{GroupTags, is_inside, is_needed, is_one_of, groups_of}
+use Rattle.message_tables.specs.Tables.{tags_in}
 use Rattle.message_tables.specs.FirstFault.{first_fault, message_in, message_of, unless}
 use Rattle.message_tables.proofs.Few.{IsPlain}
 use Rattle.row_values.specs.Kinds.{Kind, Value, judge, verdict_of, row}
@@ -63,11 +64,8 @@ is_plain_row row = not (is_data_tag row.tag) && (plain_need row.need && plain_ki
 
 steady_need : (need : Need)
     → plain_need need ≡ true → (l k : List Field) → is_needed need l ≡ is_needed need k
-steady_need Required h l k = refl
-steady_need Optional h l k = refl
-steady_need Lenient h l k = refl
-steady_need (Fixed text) h l k = refl
 steady_need (When condition) h l k = absurd cc
+steady_need need h l k = refl
 
 plain_same : (kind : Kind) → plain_kind kind ≡ true
     → (l k : List Field) (bytes : List ℕ) → judge l kind bytes ≡ judge k kind bytes
@@ -153,37 +151,26 @@ pub contras_plain : HasPlainRows contras
 unfolding is_data_tag
 contras_plain = plain_rows contras.rows refl
 
-pub parties_apart : IsPlain (tags_in parties)
-parties_apart = record {
-  first_inside = refl;
-  first_counts_not = refl;
-  first_is_said = refl;
-  count_outside = refl;
+apart_by : (g : GroupTags) → is_inside g g.first ≡ true → (g.first == g.count) ≡ false
+    → is_one_of g.skipped g.first ≡ false → is_inside g g.count ≡ false → IsPlain g
+apart_by g inside counts said count = record {
+  first_inside = inside;
+  first_counts_not = counts;
+  first_is_said = said;
+  count_outside = count;
 }
+
+pub parties_apart : IsPlain (tags_in parties)
+parties_apart = apart_by (tags_in parties) refl refl refl refl
 
 pub allocs_apart : IsPlain (tags_in allocs)
-allocs_apart = record {
-  first_inside = refl;
-  first_counts_not = refl;
-  first_is_said = refl;
-  count_outside = refl;
-}
+allocs_apart = apart_by (tags_in allocs) refl refl refl refl
 
 pub sessions_apart : IsPlain (tags_in sessions)
-sessions_apart = record {
-  first_inside = refl;
-  first_counts_not = refl;
-  first_is_said = refl;
-  count_outside = refl;
-}
+sessions_apart = apart_by (tags_in sessions) refl refl refl refl
 
 pub contras_apart : IsPlain (tags_in contras)
-contras_apart = record {
-  first_inside = refl;
-  first_counts_not = refl;
-  first_is_said = refl;
-  count_outside = refl;
-}
+contras_apart = apart_by (tags_in contras) refl refl refl refl
 
 module _ (table : Table Kind) (fields : List Field) where
   pub plain_items : (items : List (Item Kind))

@@ -1,18 +1,17 @@
 -- What is read at no fault is a sound message, over any judge and table.
-use Rattle.std.proofs.Common.{◌≡◌, ◌≤◌, ℕ, zero, suc, List, [], ◌∷◌, map, length, Option, Some}
+use Rattle.std.proofs.Common.{◌≡◌, ◌≤◌, ℕ, List, [], ◌∷◌, map, length, Option, Some}
 use Rattle.std.proofs.Common.{None, Bool, true, false, refl, sym, ap, subst, ◌∙◌, arith}
 use Rattle.std.specs.Prelude.{IsSome, IfSome}
-use Rattle.std.specs.List.{AllByRecursion, flat_map, list_all, slice_get}
+use Rattle.std.specs.List.{AllByRecursion, flat_map, list_all}
 use Rattle.std.proofs.lemmas.List.{length-map}
 use Rattle.field_groups.specs.Field.{Field}
 use Rattle.field_groups.specs.Data.{is_data_tag}
-use Rattle.message_tables.specs.Tables.{Row, Need, Required, Optional, Lenient, Fixed, When}
-use Rattle.message_tables.specs.Tables.{RepeatingGroup, Item, One, Party, Lines, Table, Judge}
-use Rattle.message_tables.specs.Tables.{Verdict, Spells, Outside, Wrong, Message, Cell, Said, ◌>>=◌}
+use Rattle.message_tables.specs.Tables.{Row, Need, Fixed, RepeatingGroup, Item, One, Party, Lines}
+use Rattle.message_tables.specs.Tables.{Table, Judge, Verdict, Spells, Message, Cell, Said, ◌>>=◌}
 use Rattle.message_tables.specs.Tables.{value_at, is_needed, row_at, rows_of, rows_in, all_rows}
-use Rattle.message_tables.specs.Tables.{groups_of, groups_in, GroupTags, tags_in, tags_of, lines_in}
-use Rattle.message_tables.specs.Tables.{text_of, says, first_of, said_at, lines_of, cell_of}
-use Rattle.message_tables.specs.Tables.{cells_of, group_says}
+use Rattle.message_tables.specs.Tables.{groups_of, groups_in, tags_in, tags_of, lines_in, text_of}
+use Rattle.message_tables.specs.Tables.{says, first_of, said_at, lines_of, cell_of, cells_of}
+use Rattle.message_tables.specs.Tables.{group_says}
 use Rattle.message_tables.specs.FirstFault.{missing, missing_of, first_fault, message_in}
 use Rattle.message_tables.specs.FirstFault.{group_tags_of, group_tags_in}
 use Rattle.message_tables.specs.Content.{content, line_fields}
@@ -21,11 +20,12 @@ use Rattle.message_tables.proofs.Few.{IsPlain, few}
 use Rattle.sound_laws.specs.Sound.{IsClear, IsSaid, AreSaid, IsLine, IsGroup, IsItem, IsSound}
 use Rattle.sound_laws.specs.Sound.{places_of}
 use Rattle.sound_laws.proofs.Each.{are_apart, both, each_at, each_back, each_part, each_map}
-use Rattle.sound_laws.proofs.Each.{none_each}
+use Rattle.sound_laws.proofs.Each.{at_index, none_each}
 use Rattle.sound_laws.proofs.Lookups.{places_apart, cells_said, lines_said, rows_found, places_said}
 use Rattle.sound_laws.proofs.Lookups.{counts_said}
 use Rattle.sound_laws.proofs.ContentValues.{GroupSaid}
 use Rattle.sound_laws.proofs.Good.{in_lines_each, held, IsGood, all_good, row_is_said}
+use Rattle.sound_laws.proofs.RowsSaid.{text_again}
 
 -- an item of which a row passes a test
 abbrev pub row_passes : {Kind : Type 0} → (Row Kind → Bool) → Item Kind → Bool
@@ -54,31 +54,19 @@ module _ {Kind : Type 0} (judge : Judge Kind) where
       where
         by : (v : Verdict) → j bytes ≡ v → IfSome (text_of v) P
         by (Spells text) e = h bytes text refl e
-        by Outside e = tt
-        by (Wrong reason) e = tt
+        by other e = tt
 
     by_need : (need : Need) (j : List ℕ → Verdict) (value : Option (List ℕ))
         → ((bytes text : List ℕ) → value ≡ Some bytes → j bytes ≡ Spells text → P text) →
         ((text : List ℕ) → need ≡ Fixed text → P text) → IfSome (says need j value) P
-    by_need Required j value h k = by_value j value h
-    by_need Optional j value h k = by_value j value h
-    by_need Lenient j value h k = by_value j value h
     by_need (Fixed text) j value h k = k text refl
-    by_need (When condition) j value h k = by_value j value h
-
-  pub text_again : (j : List ℕ → Verdict) (said : Said)
-      → IfSome said (λ text. j text ≡ Spells text) → said >>= (λ bytes. text_of (j bytes)) ≡ said
-  text_again j None h = refl
-  text_again j (Some text) h = ap text_of h
+    by_need need j value h k = by_value j value h
 
   says_again : (need : Need) (i j : List ℕ → Verdict) (value : Option (List ℕ))
       → IfSome (says need i value) (λ text. j text ≡ Spells text) →
       says need j (says need i value) ≡ says need i value
-  says_again Required i j value h = text_again j (says Required i value) h
-  says_again Optional i j value h = text_again j (says Optional i value) h
-  says_again Lenient i j value h = text_again j (says Lenient i value) h
   says_again (Fixed text) i j value h = refl
-  says_again (When condition) i j value h = text_again j (says (When condition) i value) h
+  says_again need i j value h = text_again j (says need i value) h
 
   pub row_sound : (before after : List Field) (row : Row Kind) (value : Option (List ℕ))
       → Keeps before after row value →
@@ -284,15 +272,8 @@ module _ {Kind : Type 0} (judge : Judge Kind) where
 
     few_lines : AllByRecursion IsPlain (group_tags_in table) → first_fault judge table fields ≡ None
         → AllByRecursion (λ group. length (lines_in group fields) ≤ 32) (group_tags_in table)
-    few_lines plain h = each_at _ (group_tags_in table) (λ i group at.
-        few judge table fields i group (at_place (group_tags_in table) i group at plain) at h)
-      where
-        at_place : (gs : List GroupTags) (i : ℕ) (g : GroupTags)
-            → slice_get gs i ≡ Some g → AllByRecursion IsPlain gs → IsPlain g
-        at_place [] i g at each = absurd cc
-        at_place (x ∷ xs) zero g at each = let same : x ≡ g =
-            cc in let P : GroupTags → Type 0 = λ y. IsPlain y in subst P same each.0
-        at_place (x ∷ xs) (suc i) g at each = at_place xs i g at each.1
+    few_lines plain h = each_at _ (group_tags_in table) (λ i group at. few judge table fields i
+        group (at_index IsPlain i (group_tags_in table) group at plain) at h)
 
     -- WHAT IS READ IS SOUND. That rows are stable may rest on the groups.
     pub read_sound : IsTable → AllByRecursion IsPlainItem table.items → (AllByRecursion

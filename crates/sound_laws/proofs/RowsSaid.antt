@@ -11,12 +11,12 @@ use Rattle.message_tables.specs.Tables.{is_needed, is_one_of, said_at, text_of}
 use Rattle.value_kinds.specs.ValueKind.{ValueKind, Code, listed_word, spelling, code_text}
 use Rattle.row_values.specs.Kinds.{Kind, Value, judge, verdict_of}
 use Rattle.sound_laws.specs.Sound.{IsClear, IsSaid, IsItem}
-use Rattle.sound_laws.proofs.Each.{all_true, each_at, one_of}
+use Rattle.sound_laws.proofs.Each.{all_true, each_at, none_is, one_of}
 
-again_of : (j : List ℕ → Verdict) (said : Said)
+pub text_again : (j : List ℕ → Verdict) (said : Said)
     → IfSome said (λ text. j text ≡ Spells text) → said >>= (λ bytes. text_of (j bytes)) ≡ said
-again_of j None h = refl
-again_of j (Some text) h = ap text_of h
+text_again j None h = refl
+text_again j (Some text) h = ap text_of h
 
 module _ (fields : List Field) where
   pub optional_said : (tag : ℕ) (kind : Kind) (said : Said)
@@ -25,7 +25,7 @@ module _ (fields : List Field) where
   optional_said tag kind said h c = record {
     needed = λ e. absurd cc;
     spelled = h;
-    again = again_of (judge fields kind) said h;
+    again = text_again (judge fields kind) said h;
     clear = c;
   }
 
@@ -35,7 +35,7 @@ module _ (fields : List Field) where
   lenient_said tag kind said h c = record {
     needed = λ e. absurd cc;
     spelled = h;
-    again = again_of (judge fields kind) said h;
+    again = text_again (judge fields kind) said h;
     clear = c;
   }
 
@@ -45,7 +45,7 @@ module _ (fields : List Field) where
   required_said tag kind said there h c = record {
     needed = λ e. there;
     spelled = h;
-    again = again_of (judge fields kind) said h;
+    again = text_again (judge fields kind) said h;
     clear = c;
   }
 
@@ -56,7 +56,7 @@ module _ (fields : List Field) where
   needed_said condition tag kind said there h c = record {
     needed = there;
     spelled = h;
-    again = again_of (judge fields kind) said h;
+    again = text_again (judge fields kind) said h;
     clear = c;
   }
 
@@ -119,14 +119,8 @@ among fewer more x all there =
 -- a listed code is not SOH
 pub listed_clear : (listed : List ℕ) (code : ℕ)
     → list_any is_soh listed ≡ false → is_one_of listed code ≡ true → IsClear (code ∷ [])
-listed_clear listed code none h = by (code == 1) refl
-  where
-    by : (b : Bool) → (code == 1) ≡ b → (b || false) ≡ false
-    by false e = refl
-    by true e = absurd (
-        let is : code ≡ 1 = eqb-true code 1 e in
-        let P : ℕ → Type 0 = λ c. is_one_of listed c ≡ true in
-        let there : is_one_of listed 1 ≡ true = subst P is h in cc)
+listed_clear listed code none h = ap (λ (b : Bool). b || false)
+    (one_of (λ c. (c == 1) ≡ false) listed (none_is 1 listed none) code h)
 
 -- a listed code
 pub record IsCodeOf (listed_codes : List ℕ) (text : List ℕ) : Type 0 where

@@ -1,10 +1,9 @@
 -- The content of a sound message is at no fault: no tag twice, each value good, no row missing.
 use Rattle.std.proofs.Common.{◌≡◌, ℕ, List, [], ◌∷◌, ◌++◌, length, Some, None, Bool, true, false}
-use Rattle.std.proofs.Common.{refl, sym, ap, subst, arith}
+use Rattle.std.proofs.Common.{refl, sym, ap, subst}
 use Rattle.std.specs.Prelude.{not, ◌&&◌, ◌||◌, ◌==◌}
 use Rattle.std.specs.Fmt.{decimal}
 use Rattle.std.specs.List.{AllByRecursion, flat_map}
-use Rattle.std.proofs.lemmas.Bool.Decides.{nat_tests}
 use Rattle.field_groups.specs.Field.{Field}
 use Rattle.message_tables.specs.Tables.{Row, Item, One, Party, Lines, Judge, Message, Cell, Said}
 use Rattle.message_tables.specs.Tables.{Place, Tag, first_of, has_tag, is_one_of, tags_of, said_at}
@@ -12,14 +11,31 @@ use Rattle.message_tables.specs.Tables.{lines_of}
 use Rattle.message_tables.specs.FirstFault.{placed_from, twice}
 use Rattle.message_tables.specs.Content.{cell_fields, line_fields, group_fields, item_fields}
 use Rattle.sound_laws.specs.Sound.{AreSaid, IsLine, IsItem}
-use Rattle.sound_laws.proofs.Each.{are_apart, both, each_back, each_by, each_front, each_joined}
-use Rattle.sound_laws.proofs.Each.{either, neither, none_is, not_true, one_of, same_number}
+use Rattle.sound_laws.proofs.Each.{apart_same, are_apart, both, each_at, each_back, each_by}
+use Rattle.sound_laws.proofs.Each.{each_front, each_joined, either, neither, none_is, not_true}
+use Rattle.sound_laws.proofs.Each.{one_of, same_number}
 
 -- the tags that an item writes
 abbrev pub item_tags : {Kind : Type 0} → Item Kind → List ℕ
 item_tags (One row) = row.tag ∷ []
 item_tags (Party role) = []
 item_tags (Lines group) = group.count ∷ tags_of group.rows
+
+pub one_more : (tags : List ℕ) (t u : ℕ) → is_one_of tags u ≡ true → is_one_of (t ∷ tags) u ≡ true
+one_more tags t u h = by (t == u)
+  where
+    by : (b : Bool) → (b || is_one_of tags u) ≡ true
+    by true = refl
+    by false = h
+
+pub here_is : (tags : List ℕ) (t : ℕ) → is_one_of (t ∷ tags) t ≡ true
+here_is tags t = ap (λ (b : Bool). b || is_one_of tags t) (same_number t)
+
+-- each of some is among them
+pub each_of : (tags : List ℕ) → AllByRecursion (λ t. is_one_of tags t ≡ true) tags
+each_of [] = tt
+each_of (t ∷ tags) =
+    (here_is tags t, each_by _ _ (λ u h. one_more tags t u h) tags (each_of tags))
 
 -- fields of these tags
 abbrev pub AreOf : List ℕ → List Field → Type 0
@@ -30,22 +46,12 @@ abbrev pub back : List Field → List Field → List Field
 back [] before = before
 back (f ∷ fs) before = back fs (f ∷ before)
 
-pub one_more : (tags : List ℕ) (t u : ℕ) → is_one_of tags u ≡ true → is_one_of (t ∷ tags) u ≡ true
-one_more tags t u h = by (t == u)
-  where
-    by : (b : Bool) → (b || is_one_of tags u) ≡ true
-    by true = refl
-    by false = h
-
 more : (tags : List ℕ) (t : ℕ) (fields : List Field) → AreOf tags fields → AreOf (t ∷ tags) fields
 more tags t fields = each_by _ _ (λ f h. one_more tags t f.0 h) fields
 
-pub here_is : (tags : List ℕ) (t : ℕ) → is_one_of (t ∷ tags) t ≡ true
-here_is tags t = ap (λ (b : Bool). b || is_one_of tags t) (same_number t)
-
-cell_of : (tags : List ℕ) (t : ℕ) (said : Said) → AreOf (t ∷ tags) (cell_fields (Tag t, said))
-cell_of tags t None = tt
-cell_of tags t (Some text) = (here_is tags t, tt)
+pub cell_is : (tags : List ℕ) (t : ℕ) (said : Said) → AreOf (t ∷ tags) (cell_fields (Tag t, said))
+cell_is tags t None = tt
+cell_is tags t (Some text) = (here_is tags t, tt)
 
 module _ {Kind : Type 0} (judge : Judge Kind) where
   pub line_of : (fields : List Field) (rows : List (Row Kind)) (line : List Cell)
@@ -56,7 +62,7 @@ module _ {Kind : Type 0} (judge : Judge Kind) where
   line_of fields (row ∷ rows) (cell ∷ cells) said =
       let P : Place → Type 0 = λ p. AreOf (row.tag ∷ tags_of rows) (cell_fields (p, cell.1)) in
       each_joined _ (cell_fields cell)
-      (line_fields cells) (subst P (sym said.0) (cell_of (tags_of rows) row.tag cell.1))
+      (line_fields cells) (subst P (sym said.0) (cell_is (tags_of rows) row.tag cell.1))
       (more (tags_of rows) row.tag (line_fields cells) (line_of fields rows cells said.2))
 
   pub lines_of_tags : (rows : List (Row Kind)) (lines : List (List Cell))
@@ -77,7 +83,7 @@ module _ {Kind : Type 0} (judge : Judge Kind) where
 
   pub item_of : (fields : List Field) (m : Message) (item : Item Kind)
       → IsItem judge fields m item → AreOf (item_tags item) (item_fields m item)
-  item_of fields m (One row) said = cell_of [] row.tag (said_at m.cells (Tag row.tag))
+  item_of fields m (One row) said = cell_is [] row.tag (said_at m.cells (Tag row.tag))
   item_of fields m (Party role) said = tt
   item_of fields m (Lines group) said =
       group_of group.count group.rows (lines_of group.count m.groups) said.said
@@ -87,9 +93,6 @@ module _ {Kind : Type 0} (judge : Judge Kind) where
 -- no field of these tags stands before
 abbrev pub Free : List Field → List ℕ → Type 0
 Free before tags = AllByRecursion (λ t. has_tag t before ≡ false) tags
-
-apart_same : (t u : ℕ) → (t == u) ≡ false → (u == t) ≡ false
-apart_same t u h = grind (arith, nat_tests)
 
 pub is_other : (tags : List ℕ) (t u : ℕ)
     → is_one_of tags t ≡ true → is_one_of tags u ≡ false → (t == u) ≡ false
@@ -103,23 +106,22 @@ still_free tags t (f ∷ fs) before of other free =
     still_free tags t fs (f ∷ before)
     of.1 other (neither (f.0 == t) (has_tag t before) (is_other tags f.0 t of.0 other) free)
 
+-- what is not among some is not among those at their end
+pub none_behind : (xs ys : List ℕ) (t : ℕ) → is_one_of (xs ++ ys) t ≡ false
+    → is_one_of ys t ≡ false
+none_behind [] ys t h = h
+none_behind (x ∷ xs) ys t h =
+    none_behind xs ys t (either (x == t) (is_one_of (xs ++ ys) t) h).1
+
 -- the tags of one list stand apart from another's
 pub apart_lists : (xs ys : List ℕ)
     → are_apart (xs ++ ys) ≡ true → AllByRecursion (λ y. is_one_of xs y ≡ false) ys
-apart_lists [] ys h = each ys
-  where
-    each : (ys : List ℕ) → AllByRecursion (λ y. false ≡ false) ys
-    each [] = tt
-    each (y ∷ ys) = (refl, each ys)
+apart_lists [] ys h = each_at (λ y. is_one_of [] y ≡ false) ys (λ i y at. refl)
 apart_lists (x ∷ xs) ys h =
     let p = both (not (is_one_of (xs ++ ys) x)) (are_apart (xs ++ ys)) h in
-    join ys (back_part xs ys x (not_true _ p.0)) (apart_lists xs ys p.1)
+    let others = none_is x ys (none_behind xs ys x (not_true _ p.0)) in
+    join ys (each_by _ _ (λ y other. apart_same y x other) ys others) (apart_lists xs ys p.1)
   where
-    back_part : (xs ys : List ℕ) (x : ℕ)
-        → is_one_of (xs ++ ys) x ≡ false → AllByRecursion (λ y. (x == y) ≡ false) ys
-    back_part [] ys x h = each_by _ _ (λ y other. apart_same y x other) ys (none_is x ys h)
-    back_part (z ∷ zs) ys x h = back_part zs ys x (either (z == x) (is_one_of (zs ++ ys) x) h).1
-
     join : (ys : List ℕ) → AllByRecursion (λ y. (x == y) ≡ false) ys → AllByRecursion
         (λ y. is_one_of xs y ≡ false) ys → AllByRecursion (λ y. is_one_of (x ∷ xs) y ≡ false) ys
     join [] a b = tt
@@ -218,8 +220,7 @@ module _ {Kind : Type 0} (judge : Judge Kind) (once : List ℕ) (fields : List F
         (apart_lists tags later apart) (each_back _ tags later free)))
 
 pub none_free : (tags : List ℕ) → Free [] tags
-none_free [] = tt
-none_free (t ∷ tags) = (refl, none_free tags)
+none_free tags = each_at (λ t. has_tag t [] ≡ false) tags (λ i t at. refl)
 
 -- WHAT IS WRITTEN HAS NO TAG TWICE.
 pub no_twice : {Kind : Type 0} (judge : Judge Kind)
@@ -234,7 +235,5 @@ no_twice judge once fields m items said members apart =
 -- a tag that is none of these
 pub others_apart : (tags : List ℕ) (tag : ℕ)
     → is_one_of tags tag ≡ false → AllByRecursion (λ t. is_one_of (tag ∷ []) t ≡ false) tags
-others_apart [] tag h = tt
-others_apart (t ∷ tags) tag h =
-    let p = either (t == tag) (is_one_of tags tag) h in
-    (neither (tag == t) false (apart_same t tag p.0) refl, others_apart tags tag p.1)
+others_apart tags tag h = each_by _ _
+    (λ t other. neither (tag == t) false (apart_same t tag other) refl) tags (none_is tag tags h)

@@ -1,7 +1,7 @@
 -- The values of a written message are good, no row is missing, and what is read says the same.
 use Rattle.std.proofs.Common.{◌≡◌, ◌≤◌, ◌<◌, ℕ, List, [], ◌∷◌, ◌++◌, map, length, Option, Some}
 use Rattle.std.proofs.Common.{None, Bool, true, false, refl, sym, ap, subst, ◌∙◌, arith}
-use Rattle.std.specs.Prelude.{IsSome, IfSome, not, ◌&&◌, ◌||◌}
+use Rattle.std.specs.Prelude.{IsSome, IfSome, not, ◌&&◌}
 use Rattle.std.specs.Fmt.{decimal}
 use Rattle.std.specs.List.{AllByRecursion, flat_map}
 use Rattle.std.proofs.lemmas.Fmt.{decimal_nonempty}
@@ -10,28 +10,24 @@ use Rattle.message_tables.specs.declared.table_fault.TableFault.TheVariants as f
 use Rattle.message_tables.specs.declared.table_fault.Mark.{Mark}
 use Rattle.message_tables.specs.declared.table_fault.Mark.TheVariants as marks
 use Rattle.field_groups.specs.Field.{Field}
-use Rattle.message_tables.specs.Tables.{Verdict, Spells, Need, Required, Optional, Lenient, Fixed}
-use Rattle.message_tables.specs.Tables.{When, Row, RepeatingGroup, Item, One, Party, Lines, Table}
-use Rattle.message_tables.specs.Tables.{Judge, Message, Cell, Said, Place, Tag, Role, first_of}
-use Rattle.message_tables.specs.Tables.{value_at, has_tag, is_one_of, is_needed, row_at, all_rows}
-use Rattle.message_tables.specs.Tables.{tags_of, said_at, lines_of, says, cell_of, group_says}
-use Rattle.message_tables.specs.Tables.{party_in, cells_of}
+use Rattle.message_tables.specs.Tables.{Verdict, Spells, Need, Required, Row, RepeatingGroup, Item}
+use Rattle.message_tables.specs.Tables.{One, Party, Lines, Table, Judge, Message, Cell, Said, Place}
+use Rattle.message_tables.specs.Tables.{Tag, Role, first_of, value_at, has_tag, is_one_of}
+use Rattle.message_tables.specs.Tables.{is_needed, row_at, all_rows, tags_of, said_at, lines_of}
+use Rattle.message_tables.specs.Tables.{says, cell_of, group_says, party_in, cells_of}
 use Rattle.message_tables.specs.FirstFault.{Marked, fault_if, marked, allowed, mark_of, by_row}
 use Rattle.message_tables.specs.FirstFault.{without_row, is_passed, missing, missing_of}
 use Rattle.message_tables.specs.Content.{cell_fields, line_fields, group_fields, item_fields}
 use Rattle.message_tables.proofs.Clean.{value_at-none}
 use Rattle.sound_laws.specs.Sound.{AreSaid, IsLine, IsGroup, IsItem}
-use Rattle.sound_laws.proofs.Each.{are_apart, both, not_true, each_joined, each_none, same_number}
+use Rattle.sound_laws.proofs.Each.{are_apart, both, not_true, each_joined, each_none}
 use Rattle.sound_laws.proofs.ContentValues.{or_none, value_at-append}
-use Rattle.sound_laws.proofs.Stages.{AreOf, apart_lists, line_of}
+use Rattle.sound_laws.proofs.Stages.{AreOf, apart_lists, cell_is, line_of}
 use Rattle.sound_laws.proofs.Found.{FoundAt, cell_value, value_behind, value_none}
 
 allowed_good : (need : Need) → allowed need marks.Good ≡ marks.Good
 allowed_good Required = refl
-allowed_good Optional = refl
-allowed_good Lenient = refl
-allowed_good (Fixed text) = refl
-allowed_good (When condition) = refl
+allowed_good need = refl
 
 some_good : (value : List ℕ) → 0 < length value → without_row true value ≡ marks.Good
 some_good [] some = absurd (omega (arith, some))
@@ -74,10 +70,6 @@ module _ {Kind : Type 0} (judge : Judge Kind) where
     at_behind tag front fields rows cells of other.1 at.1,
   )
 
-  one_of : (tag : ℕ) (said : Said) → AreOf (tag ∷ []) (cell_fields (Tag tag, said))
-  one_of tag None = tt
-  one_of tag (Some text) = (ap (λ (b : Bool). b || false) (same_number tag), tt)
-
   line_at : (fields : List Field) (rows : List (Row Kind)) (line : List Cell) → are_apart
       (tags_of rows) ≡ true → AreSaid judge fields rows line → AreAt (line_fields line) rows line
   line_at fields [] [] apart said = tt
@@ -89,7 +81,7 @@ module _ {Kind : Type 0} (judge : Judge Kind) where
       row.tag (line_fields cells) (line_of judge fields rows cells said.2) (not_true _ p.0) in
       let P : Place → Type 0 = λ place. AreOf (row.tag ∷ []) (cell_fields (place, cell.1)) in
       let mine : AreOf (row.tag ∷ []) (cell_fields cell) =
-      subst P (sym said.0) (one_of row.tag cell.1) in
+      subst P (sym said.0) (cell_is [] row.tag cell.1) in
       let here : value_at row.tag (cell_fields cell) ≡ cell.1 =
       ap (λ (place : Place). value_at row.tag (cell_fields (place, cell.1))) said.0
       ∙ cell_value row.tag cell.1 in (

@@ -4,8 +4,7 @@ use Rattle.std.specs.List.{AllByRecursion, flat_map, list_any}
 use Rattle.field_groups.specs.Field.{Field, is_soh}
 use Rattle.message_tables.specs.Tables.{Spells, Judge, Row, RepeatingGroup, Item, One, Party, Lines}
 use Rattle.message_tables.specs.Tables.{Table, Place, Tag, Role, Said, Cell, Message, says}
-use Rattle.message_tables.specs.Tables.{is_needed}
-use Rattle.message_tables.specs.Tables.{said_at, lines_of, party_in, groups_in}
+use Rattle.message_tables.specs.Tables.{is_needed, said_at, lines_of, party_in, groups_in}
 use Rattle.message_tables.specs.FirstFault.{most_lines}
 use Rattle.message_tables.specs.Content.{line_fields, content}
 
