@@ -1,19 +1,19 @@
 -- The lines that fields say by a group, as they are written.
 use Rattle.std.proofs.Common.{◌≡◌, ◌≤◌, ◌+◌, ◌++◌, ℕ, suc, List, [], ◌∷◌, map, length, Bool, true}
 use Rattle.std.proofs.Common.{false, Option, Some, None, refl, sym, ap, ◌∙◌, append_assoc, arith}
-use Rattle.std.proofs.Common.{drop, subst, take}
+use Rattle.std.proofs.Common.{drop, take}
 use Rattle.std.proofs.lemmas.List.{append-nil, length-append, length-map, take-append-drop}
 use Rattle.std.specs.Borrow.{Bor}
 use Rattle.std.specs.Prelude.{Err, Ok, OnOk, Result, position, ◌==◌, if◌then◌else◌}
 use Rattle.message_tables.specs.CodeTables.{own_tags, seen, group_of, row_of}
-use Rattle.message_tables.specs.Tables.{first_tag, in_lines, Cell, Item, Need, Required, Optional}
-use Rattle.message_tables.specs.Tables.{Lenient, Fixed, When, One, Party, Lines, RepeatingGroup}
+use Rattle.message_tables.specs.Tables.{first_tag, in_lines, Cell, Item, Need}
+use Rattle.message_tables.specs.Tables.{Fixed, One, Party, Lines, RepeatingGroup}
 use Rattle.message_tables.specs.Tables.{Row, Tag, Verdict, ◌>>=◌, after_tag, cell_of, from_tag}
 use Rattle.message_tables.specs.Tables.{group_says, groups_of, line_fields_in, lines_in, lines_of}
 use Rattle.message_tables.specs.Tables.{run, says, tags_in, text_of, value_at, GroupTags, is_inside}
 use Rattle.message_tables.proofs.ByPlace.{no_lines}
 use Rattle.message_tables.proofs.Mapped.{group_tags_mapped}
-use Rattle.rule_rows.proofs.Items.{count_is}
+use Rattle.rule_rows.proofs.Items.{count_is, group_found}
 use Rattle.std.specs.List.{flat_map, list_all, prefix_len}
 use Rattle.field_groups.specs.Field.{Field, body_of}
 use Rattle.message_tables.specs.declared.table.Row.{Row as CodeRow}
@@ -24,7 +24,7 @@ use Rattle.row_values.specs.Kinds.{Kind, judge, said}
 use Rattle.row_values.specs.Writing.{count_fields}
 use Rattle.row_values.specs.declared.kinds.Kind.{Kind as CodeKind}
 use Rattle.row_values.proofs.Contents.{group_written}
-use Rattle.sound_laws.proofs.Each.{both}
+use Rattle.sound_laws.proofs.Each.{all_true, both}
 use Rattle.rule_rows.specs.Rows.{AreWritten, fixed_text, group_at, has_written_lines}
 use Rattle.rule_rows.specs.Rows.{have_written_lines, is_kind_written, line_by, lines_said}
 use Rattle.rule_rows.specs.Rows.{row_fields}
@@ -33,11 +33,8 @@ use Rattle.rule_rows.specs.Rows.{row_fields}
 
 free_says : (need : Need) (j : List ℕ → Verdict) (value : Option (List ℕ))
     → None ≡ fixed_text need → (value >>= (λ bytes. text_of (j bytes))) ≡ says need j value
-free_says Required j value h = refl
-free_says Optional j value h = refl
-free_says Lenient j value h = refl
 free_says (Fixed text) j value h = absurd cc
-free_says (When condition) j value h = refl
+free_says need j value h = refl
 
 fixed_says : (need : Need) (j : List ℕ → Verdict) (value : Option (List ℕ)) (text : List ℕ)
     → Some text ≡ fixed_text need → Some text ≡ says need j value
@@ -160,22 +157,9 @@ rows_written (row ∷ rows) h =
 pub group_written_by : (count : ℕ) (items : List (Item Kind)) (group : CodeGroup CodeKind)
     → have_written_lines items ≡ true → group_at count items ≡ Some (group_of kind_of group)
     → AreWritten group.rows.now
-group_written_by count [] group h e = absurd cc
-group_written_by count (One row ∷ items) group h e = group_written_by count items group h e
-group_written_by count (Party role ∷ items) group h e = group_written_by count items group h e
-group_written_by count (Lines first ∷ items) group h e =
-    let p = both (has_written_lines (Lines first)) (have_written_lines items) h in
-    by (first.count == count) e p.0 (λ later. group_written_by count items group p.1 later)
-  where
-    by : (b : Bool) → (if b then Some first else group_at count items)
-        ≡ Some (group_of kind_of group) → has_written_lines (Lines first) ≡ true
-        → (group_at count items ≡ Some (group_of kind_of group) → AreWritten group.rows.now)
-        → AreWritten group.rows.now
-    by true e h later =
-        let same : first ≡ group_of kind_of group = cc in
-        let P : RepeatingGroup Kind → Type 0 = λ g. has_written_lines (Lines g) ≡ true in
-        rows_written group.rows.now (subst P same h)
-    by false e h later = later e
+group_written_by count items group h e = rows_written group.rows.now
+    (group_found (λ item. has_written_lines item ≡ true) count items (group_of kind_of group) e
+    (all_true has_written_lines items h)).1
 
 pub lines_are : (fields : List Field) (count : ℕ) (items : List (Item Kind))
     → lines_of count (map (group_says judge fields) (flat_map groups_of items))

@@ -1,7 +1,9 @@
 -- The table that rules make of a table: what they make of a message has its places and groups, and
 -- is written as its content, whatever the kinds of the rules are.
 use Rattle.std.proofs.Common.{◌≡◌, List, [], ◌∷◌, ◌++◌, map, Bool, true, false, Option, Some, None}
-use Rattle.std.proofs.Common.{refl, sym, ap, subst, ◌∙◌}
+use Rattle.std.proofs.Common.{refl, sym, ap, subst, ◌∙◌, append-nil}
+use Rattle.std.proofs.lemmas.Grind.{flat_map-append}
+use Rattle.std.proofs.lemmas.List.{map-append}
 use Rattle.std.specs.Option.{option_map}
 use Rattle.std.specs.Prelude.{option_to_list, unwrap_or}
 use Rattle.std.specs.List.{AllByRecursion, flat_map}
@@ -16,27 +18,6 @@ use Rattle.rule_rows.specs.ByRules.{content_by, fields_at, groups_at, outline, o
 use Rattle.rule_rows.specs.ByRules.{rule_cells, rule_fields, rule_groups}
 use Rattle.rule_rows.proofs.Looked.{AreKinds, AreOwn, IsFound, all_found, has_lines_of, lines_by}
 use Rattle.rule_rows.proofs.Looked.{rule_at, said_by, says}
-
--- ---- maps and joined lists
-
-pub map_joined : {A B : Type 0} (f : A → B) (xs ys : List A)
-    → map f (xs ++ ys) ≡ map f xs ++ map f ys
-map_joined f [] ys = refl
-map_joined f (x ∷ xs) ys = ap (◌∷◌ (f x)) (map_joined f xs ys)
-
-pub flat_joined : {A B : Type 0} (f : A → List B) (xs ys : List A)
-    → flat_map f (xs ++ ys) ≡ flat_map f xs ++ flat_map f ys
-flat_joined f [] ys = refl
-flat_joined f (x ∷ xs) ys =
-    ap (λ l. f x ++ l) (flat_joined f xs ys) ∙ sym (joined (f x) (flat_map f xs) (flat_map f ys))
-  where
-    joined : {B : Type 0} (ds bs cs : List B) → (ds ++ bs) ++ cs ≡ ds ++ (bs ++ cs)
-    joined [] bs cs = refl
-    joined (d ∷ ds) bs cs = ap (◌∷◌ d) (joined ds bs cs)
-
-pub no_more : {A : Type 0} (xs : List A) → xs ≡ xs ++ []
-no_more [] = refl
-no_more (x ∷ xs) = ap (◌∷◌ x) (no_more xs)
 
 -- ---- what a rule makes of a table
 
@@ -81,8 +62,7 @@ module _ {Rule : Type 0} (kinds : Kinds Rule) (items : List (Item Kind))
         of_item : (item : Item Kind) → map (λ cell. cell.0) (cells_at true (target_of item) said)
             ≡ flat_map places_of (item ∷ [])
         of_item (One row) = refl
-        of_item (Party role) = refl
-        of_item (Lines group) = refl
+        of_item other = refl
     places_at false target said None h = refl
     places_at other target said more h = absurd cc
 
@@ -99,8 +79,7 @@ module _ {Rule : Type 0} (kinds : Kinds Rule) (items : List (Item Kind))
             → map (λ group. group.0) (groups_at true (target_of item) lines)
             ≡ map (λ group. group.count) (flat_map groups_of (item ∷ []))
         of_item (One row) = refl
-        of_item (Party role) = refl
-        of_item (Lines group) = refl
+        of_item other = refl
     counts_at false target lines None h = refl
     counts_at other target lines more h = absurd cc
 
@@ -109,9 +88,9 @@ module _ {Rule : Type 0} (kinds : Kinds Rule) (items : List (Item Kind))
         ≡ flat_map places_of (made rules)
     places_made each [] = refl
     places_made each (rule ∷ rules) =
-        map_joined (λ cell. cell.0) (rule_cells kinds m rule) (flat_map (rule_cells kinds m) rules)
+        map-append (λ cell. cell.0) (rule_cells kinds m rule) (flat_map (rule_cells kinds m) rules)
         ∙ (λ i. here i ++ places_made each rules i)
-        ∙ sym (flat_joined places_of (option_to_list (make rule)) (made rules))
+        ∙ sym (flat_map-append places_of (option_to_list (make rule)) (made rules))
       where
         here : map (λ cell. cell.0) (rule_cells kinds m rule)
             ≡ flat_map places_of (option_to_list (make rule))
@@ -123,12 +102,12 @@ module _ {Rule : Type 0} (kinds : Kinds Rule) (items : List (Item Kind))
         ≡ map (λ group. group.count) (flat_map groups_of (made rules))
     counts_made each [] = refl
     counts_made each (rule ∷ rules) =
-        map_joined (λ group. group.0) (rule_groups kinds m rule)
+        map-append (λ group. group.0) (rule_groups kinds m rule)
         (flat_map (rule_groups kinds m) rules)
         ∙ (λ i. here i ++ counts_made each rules i)
         ∙ sym (ap (λ l. map (λ group. group.count) l)
-        (flat_joined groups_of (option_to_list (make rule)) (made rules))
-        ∙ map_joined (λ group. group.count) (flat_map groups_of (option_to_list (make rule)))
+        (flat_map-append groups_of (option_to_list (make rule)) (made rules))
+        ∙ map-append (λ group. group.count) (flat_map groups_of (option_to_list (make rule)))
         (flat_map groups_of (made rules)))
       where
         here : map (λ group. group.0) (rule_groups kinds m rule)
@@ -161,8 +140,7 @@ module _ {Rule : Type 0} (kinds : Kinds Rule) (items : List (Item Kind))
 
       nothing_at : (target : Target) → fields_at target None [] ≡ []
       nothing_at (At (Tag tag)) = refl
-      nothing_at (At (Role role)) = refl
-      nothing_at (Grouped count) = refl
+      nothing_at other = refl
 
       fields_made : (rule : Rule) → IsFound kinds all rule → (has : Bool)
           → kinds.has (outline m) rule ≡ has → (item : Option (Item Kind))
@@ -172,7 +150,7 @@ module _ {Rule : Type 0} (kinds : Kinds Rule) (items : List (Item Kind))
           let is = same_target item (kinds.target rule) h in
           ap (λ t. fields_at t (kinds.said m rule) (kinds.lines m rule)) (sym is)
           ∙ item_at rule item (ap (λ t. rule_at kinds t all) is ∙ found)
-          ∙ no_more (item_fields w item)
+          ∙ sym (append-nil (item_fields w item))
       fields_made rule found false e None h =
           (λ i. fields_at (kinds.target rule) (are.none m rule e i) (are.no_lines m rule e i))
           ∙ nothing_at (kinds.target rule)
@@ -184,7 +162,7 @@ module _ {Rule : Type 0} (kinds : Kinds Rule) (items : List (Item Kind))
       contents_made each [] found = refl
       contents_made each (rule ∷ rules) found =
           (λ i. here i ++ contents_made each rules found.1 i)
-          ∙ sym (flat_joined (item_fields w) (option_to_list (make rule)) (made rules))
+          ∙ sym (flat_map-append (item_fields w) (option_to_list (make rule)) (made rules))
         where
           here : rule_fields kinds m rule ≡ flat_map (item_fields w) (option_to_list (make rule))
           here = fields_made rule found.0 (kinds.has (outline_of items) rule) (has_is rule)
@@ -211,6 +189,6 @@ module _ {Rule : Type 0} (kinds : Kinds Rule) (items : List (Item Kind))
   groups_made P [] h = tt
   groups_made P (rule ∷ rules) h =
       let Q : List (RepeatingGroup Kind) → Type 0 = λ gs. AllByRecursion P gs in
-      subst Q (sym (flat_joined groups_of (option_to_list (make rule)) (made rules)))
+      subst Q (sym (flat_map-append groups_of (option_to_list (make rule)) (made rules)))
       (each_joined P (flat_map groups_of (option_to_list (make rule)))
       (flat_map groups_of (made rules)) h.0 (groups_made P rules h.1))

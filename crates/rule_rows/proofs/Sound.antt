@@ -1,7 +1,7 @@
 -- What rules make of a sound message is sound in the table that they make, where each rule makes an
 -- item that it says.
 use Rattle.std.proofs.Common.{◌≡◌, ℕ, List, [], ◌∷◌, Bool, true, Option, Some, None, sym, ap, subst}
-use Rattle.std.proofs.Common.{◌∙◌}
+use Rattle.std.proofs.Common.{◌∙◌, append-nil}
 use Rattle.std.specs.Prelude.{IfSome, option_to_list}
 use Rattle.std.specs.List.{AllByRecursion, flat_map}
 use Rattle.field_groups.specs.Field.{Field}
@@ -13,7 +13,7 @@ use Rattle.sound_laws.specs.Sound.{IsItem, IsSound}
 use Rattle.sound_laws.proofs.ContentValues.{GroupSaid, is_alone, value_said}
 use Rattle.rule_rows.specs.ByRules.{At, Kinds, by_rules, outline, outline_of}
 use Rattle.rule_rows.proofs.Looked.{AreKinds, AreOwn, IsFound, rule_at, said_by, says}
-use Rattle.rule_rows.proofs.Made.{IsMade, groups_made, items_made, made, no_more, outline_made}
+use Rattle.rule_rows.proofs.Made.{IsMade, groups_made, items_made, made, outline_made}
 
 module _ {Rule : Type 0} (kinds : Kinds Rule) (are : AreKinds kinds) (all : List Rule)
     (own : AreOwn kinds all) (items : List (Item Kind)) (make : Rule → Option (Item Kind))
@@ -62,7 +62,7 @@ module _ {Rule : Type 0} (kinds : Kinds Rule) (are : AreKinds kinds) (all : List
       one None h = tt
       one (Some item) h =
           subst (λ (gs : List (RepeatingGroup Kind)). AllByRecursion (GroupSaid judge w) gs)
-          (no_more (groups_of item)) h
+          (sym (append-nil (groups_of item))) h
 
       by : (rules : List Rule) → AllByRecursion RuleGroups rules → AllByRecursion
           (λ rule. AllByRecursion (GroupSaid judge w)
