@@ -2,11 +2,11 @@
 -- of any type.
 use Rattle.std.proofs.Common.{◌≡◌, ℕ, List, [], ◌∷◌, codes, Option, Some, None, Bool, true, false}
 use Rattle.std.proofs.Common.{refl, sym, subst}
-use Rattle.std.specs.Prelude.{if◌then◌else◌}
+use Rattle.std.specs.Prelude.{◌==◌, if◌then◌else◌}
 use Rattle.std.specs.Str.{bytes_eq}
 use Rattle.std.proofs.lemmas.Slice.Eq.{bytes_eq-Decides}
 use Rattle.message_tables.specs.Tables.{Item, Table}
-use Rattle.order_meaning.specs.Request.{RequestKind, New, Cancel, Replace, Status}
+use Rattle.order_meaning.specs.Request.{Request, RequestKind, New, Cancel, Replace, Status}
 use Rattle.row_values.specs.Kinds.{Kind}
 use Rattle.rows_fix42.specs.Header.{table as table42}
 use Rattle.rows_fix50.specs.Header.{table as table50}
@@ -21,6 +21,14 @@ letter_of New = 68
 letter_of Cancel = 70
 letter_of Replace = 71
 letter_of Status = 72
+
+-- the request of a letter
+abbrev pub asked : ℕ → (RequestKind → Request) → Option Request
+asked letter f =
+    if letter == 68 then Some (f New) else
+    (if letter == 70 then Some (f Cancel) else
+    (if letter == 71 then Some (f Replace) else
+    (if letter == 72 then Some (f Status) else None)))
 
 abbrev pub items42 : RequestKind → List (Item Kind)
 items42 New = requests42.new_order
@@ -45,9 +53,9 @@ module _ (P : List ℕ → Option (Table Kind) → Option (Table Kind) → Type 
     (each : (kind : RequestKind)
     → P (letter_of kind ∷ []) (Some (asked42 kind)) (Some (asked50 kind)))
     (msg_type : List ℕ) where
-  asked : (kind : RequestKind) → bytes_eq msg_type (letter_of kind ∷ []) ≡ true
+  of_kind : (kind : RequestKind) → bytes_eq msg_type (letter_of kind ∷ []) ≡ true
       → P msg_type (Some (asked42 kind)) (Some (asked50 kind))
-  asked kind e =
+  of_kind kind e =
       let Q : List ℕ → Type 0 = λ t. P t (Some (asked42 kind)) (Some (asked50 kind)) in
       subst Q (sym ((bytes_eq-Decides msg_type (letter_of kind ∷ [])).0 e)) (each kind)
 
@@ -62,8 +70,8 @@ module _ (P : List ℕ → Option (Table Kind) → Option (Table Kind) → Type 
           (if g then Some (asked42 Replace) else (if h then Some (asked42 Status) else None))))
           (if d then Some (asked50 New) else (if f then Some (asked50 Cancel) else
           (if g then Some (asked50 Replace) else (if h then Some (asked50 Status) else None))))
-      by true f g h d' f' g' h' = asked New d'
-      by false true g h d' f' g' h' = asked Cancel f'
-      by false false true h d' f' g' h' = asked Replace g'
-      by false false false true d' f' g' h' = asked Status h'
+      by true f g h d' f' g' h' = of_kind New d'
+      by false true g h d' f' g' h' = of_kind Cancel f'
+      by false false true h d' f' g' h' = of_kind Replace g'
+      by false false false true d' f' g' h' = of_kind Status h'
       by false false false false d' f' g' h' = none msg_type

@@ -264,15 +264,12 @@ module _ (table : Table Kind) (has : HasRows table) (fields : List Field)
       ap (λ s. cell_fields (Tag to, s)) (text_is from ok)
   rule_read rules.Parties form ok = λ i. group_fields 453
       (party_lines (text_is 109 refl i) (text_is 76 refl i) (text_is 439 refl i))
-  rule_read rules.Client form ok = refl
-  rule_read rules.Broker form ok = refl
-  rule_read rules.Firm form ok = refl
   rule_read rules.Month form ok = ap (λ s. cell_fields (Tag 200, s)) month_is
   rule_read rules.Date form ok = λ i. cell_fields (Tag 541, date_up (month_is i) (day_is i))
   rule_read rules.OrdType form ok = ap (λ s. cell_fields (Tag 40, type_up s)) (text_is 40 refl)
   rule_read rules.Time form ok =
       λ i. cell_fields (Tag 59, time_up (text_is 40 refl i) (text_is 59 refl i))
-  rule_read (rules.Lines count) form ok = refl
+  rule_read rule form ok = refl
 
   rule_lacks : (rule : Rule) → reads_tags rule ≡ true
       → rule_lack (λ tag. value_at tag fields) rule ≡ kinds.lack m rule

@@ -1,7 +1,7 @@
 -- What goes up of a request stands for it: the four tables.
-use Rattle.std.proofs.Common.{◌≡◌, ℕ, List, [], ◌∷◌, length, true, false, Option, Some, None, refl}
+use Rattle.std.proofs.Common.{◌≡◌, ℕ, List, [], ◌∷◌, length, true, false, Some, None, refl}
 use Rattle.std.proofs.Common.{sym, ap, subst, ◌∙◌, codes}
-use Rattle.std.specs.Prelude.{IfSome, Ok, ◌==◌, if◌then◌else◌}
+use Rattle.std.specs.Prelude.{IfSome, Ok, ◌==◌}
 use Rattle.std.specs.List.{flat_map}
 use Rattle.std.specs.Str.Parse.{digits_value}
 use Rattle.field_groups.specs.Field.{Field}
@@ -40,6 +40,7 @@ use Rattle.request_rules.specs.Rules.{up_message, up_rules}
 use Rattle.request_rules.specs.Up.{GoUp, IsOrdinary, IsRequest42, News, Cancels, Replaces, ReadGoUp}
 use Rattle.request_rules.specs.Up.{StandsFor, Statuses}
 use Rattle.request_rules.proofs.DatesUp.{month_length, month_first, day_value}
+use Rattle.request_rules.proofs.ByType.{asked}
 use Rattle.request_rules.proofs.KindsUp.{are_kinds, own}
 use Rattle.request_rules.proofs.LacksUp.{lack_is}
 use Rattle.request_rules.proofs.SenseUp.{keeps_sense}
@@ -78,14 +79,6 @@ month_of_date None day six = refl
 month_of_date (Some month) None six = refl
 month_of_date (Some month) (Some day) six =
     ap (λ (t : List ℕ). Some t) (sym (month_first month day six))
-
--- the request of a letter
-abbrev asked : ℕ → (RequestKind → Request) → Option Request
-asked letter f =
-    if letter == 68 then Some (f New) else
-    (if letter == 70 then Some (f Cancel) else
-    (if letter == 71 then Some (f Replace) else
-    (if letter == 72 then Some (f Status) else None)))
 
 -- ---- a message of a table that goes up
 

@@ -20,13 +20,10 @@ group_is : (client broker firm : Said)
     ++ (party_fields 3 client ++ (party_fields 1 broker ++ party_fields 4 firm))
     ≡ group_fields 453 (party_lines client broker firm)
 group_is None None None = refl
-group_is None None (Some firm) = refl
 group_is None (Some broker) None = refl
-group_is None (Some broker) (Some firm) = refl
 group_is (Some client) None None = refl
-group_is (Some client) None (Some firm) = refl
 group_is (Some client) (Some broker) None = refl
-group_is (Some client) (Some broker) (Some firm) = refl
+group_is client broker firm = refl
 
 four : (a b c d : List Field) (old : List ℕ)
     → (((old ++ body_of a) ++ body_of b) ++ body_of c) ++ body_of d

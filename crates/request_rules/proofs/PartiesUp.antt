@@ -26,8 +26,7 @@ IsRole role =
 is_role : (who : Who) → IsRole (role_of who)
 unfolding judge spelling digits are_digits number_of
 is_role Client = (refl, refl)
-is_role Broker = (refl, refl)
-is_role Firm = (refl, refl)
+is_role who = (refl, refl)
 
 party_line : (id : List ℕ) (who : Who) → (judge [] (Value Id) id ≡ Spells id) × IsClear id
     → IsLine judge parties.rows (party_cells (record { id = id; role = role_of who }))
@@ -88,26 +87,11 @@ AreRoles client broker firm = (who : Who)
 pub roles_said : (client broker firm : Said) → AreRoles client broker firm
 unfolding digits first_of
 roles_said None None None Client = refl
-roles_said None None None Broker = refl
-roles_said None None None Firm = refl
-roles_said (Some client) None None Client = refl
-roles_said (Some client) None None Broker = refl
-roles_said (Some client) None None Firm = refl
-roles_said None (Some broker) None Client = refl
-roles_said None (Some broker) None Broker = refl
-roles_said None (Some broker) None Firm = refl
 roles_said None None (Some firm) Client = refl
-roles_said None None (Some firm) Broker = refl
-roles_said None None (Some firm) Firm = refl
-roles_said (Some client) (Some broker) None Client = refl
-roles_said (Some client) (Some broker) None Broker = refl
-roles_said (Some client) (Some broker) None Firm = refl
-roles_said (Some client) None (Some firm) Client = refl
-roles_said (Some client) None (Some firm) Broker = refl
-roles_said (Some client) None (Some firm) Firm = refl
+roles_said None (Some broker) None Client = refl
 roles_said None (Some broker) (Some firm) Client = refl
-roles_said None (Some broker) (Some firm) Broker = refl
-roles_said None (Some broker) (Some firm) Firm = refl
+roles_said (Some client) None None Client = refl
+roles_said (Some client) None (Some firm) Client = refl
+roles_said (Some client) (Some broker) None Client = refl
 roles_said (Some client) (Some broker) (Some firm) Client = refl
-roles_said (Some client) (Some broker) (Some firm) Broker = refl
-roles_said (Some client) (Some broker) (Some firm) Firm = refl
+roles_said client broker firm who = refl

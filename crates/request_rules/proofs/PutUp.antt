@@ -2,12 +2,11 @@
 use Rattle.std.proofs.Common.{◌≡◌, ◌++◌, ℕ, List, [], ◌∷◌, map, true, Option, Some, None, refl, sym}
 use Rattle.std.proofs.Common.{ap, subst, ◌∙◌, ◌<◌, ◌≤◌, ◌+◌, drop, get_or, length}
 use Rattle.std.proofs.lemmas.List.{at_drop_all, at_drop_more}
-use Rattle.std.specs.Prelude.{◌==◌, if◌then◌else◌}
 use Rattle.std.specs.List.{flat_map, list_all}
 use Rattle.field_groups.specs.Field.{Field, body_of}
 use Rattle.message_tables.specs.FirstFault.{first_fault, message_in}
 use Rattle.message_tables.specs.Tables.{Table, ◌>>=◌, first_of, or_else}
-use Rattle.order_meaning.specs.Request.{Request, RequestKind, New, Cancel, Replace, Status}
+use Rattle.order_meaning.specs.Request.{Request, RequestKind, New}
 use Rattle.row_values.specs.Kinds.{Kind, judge}
 use Rattle.rule_rows.specs.Rows.{have_written_lines}
 use Rattle.dict_fix42.specs.Message.{table_of}
@@ -18,7 +17,7 @@ use Rattle.request_rules.specs.Lack.{lack42, lack_of}
 use Rattle.request_rules.specs.Good.{IsTable42}
 use Rattle.request_rules.specs.Put.{IsPut}
 use Rattle.request_rules.specs.Rules.{up_rules}
-use Rattle.request_rules.proofs.ByType.{asked42, by_type}
+use Rattle.request_rules.proofs.ByType.{asked, asked42, by_type}
 use Rattle.request_rules.proofs.LacksUp.{lack_is}
 use Rattle.request_rules.proofs.FieldsUp.{HasRows, content_read, lack_read}
 
@@ -30,30 +29,18 @@ pub record IsKnown (table : Table Kind) : Type 0 where
   pub rows : HasRows table
   pub written : have_written_lines table.items ≡ true
   pub kind : RequestKind
-  pub request : (f : RequestKind → Request)
-      → (if table.letter == 68 then Some (f New) else
-      (if table.letter == 70 then Some (f Cancel) else
-      (if table.letter == 71 then Some (f Replace) else
-      (if table.letter == 72 then Some (f Status) else None)))) ≡ Some (f kind)
+  pub request : (f : RequestKind → Request) → asked table.letter f ≡ Some (f kind)
 
 rows : (kind : RequestKind) → HasRows (asked42 kind)
 rows New =
     record { own = refl; out = refl; texts = refl; decimals = refl; month = refl; day = refl }
-rows Cancel =
-    record { own = refl; out = refl; texts = refl; decimals = refl; month = refl; day = refl }
-rows Replace =
-    record { own = refl; out = refl; texts = refl; decimals = refl; month = refl; day = refl }
-rows Status =
+rows kind =
     record { own = refl; out = refl; texts = refl; decimals = refl; month = refl; day = refl }
 
 each : (kind : RequestKind) → IsKnown (asked42 kind)
 each New = record { own = refl; rows = rows New; written = refl; kind = New; request = λ f. refl }
-each Cancel =
-    record { own = refl; rows = rows Cancel; written = refl; kind = Cancel; request = λ f. refl }
-each Replace =
-    record { own = refl; rows = rows Replace; written = refl; kind = Replace; request = λ f. refl }
-each Status =
-    record { own = refl; rows = rows Status; written = refl; kind = Status; request = λ f. refl }
+each kind =
+    record { own = refl; rows = rows kind; written = refl; kind = kind; request = λ f. refl }
 
 pub known : (table : Table Kind) → IsTable42 table → IsKnown table
 known table (msg_type, is) =

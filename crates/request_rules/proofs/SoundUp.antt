@@ -19,7 +19,7 @@ use Rattle.row_values.specs.Groups.{parties}
 use Rattle.rows_fix42.specs.Header.{table as table42}
 use Rattle.rows_fix50.specs.Header.{header as header50, table as table50}
 use Rattle.sound_laws.specs.Sound.{IsClear, IsSaid, IsGroup, IsItem, IsSound}
-use Rattle.sound_laws.proofs.Each.{both, not_true}
+use Rattle.sound_laws.proofs.Each.{at_index, both, not_true}
 use Rattle.sound_laws.proofs.RowsSaid.{row_of_tag, same_value, optional_said, lenient_said}
 use Rattle.sound_laws.proofs.ContentValues.{GroupSaid, is_alone}
 use Rattle.sound_laws.proofs.SpelledAgain.{clear_joined}
@@ -32,11 +32,10 @@ use Rattle.rule_rows.proofs.Source as source
 use Rattle.rule_rows.proofs.Source.{IsSpelled, carried_said, is_less}
 use Rattle.rule_rows.proofs.Sound as made
 use Rattle.request_rules.specs.Rules.{Rule, Same, Moved, Listed, Parties, PartyOf, Month, Date}
-use Rattle.request_rules.specs.Rules.{OrdType, Time, Lines, Who, Client, Broker, Firm, at, date_up}
-use Rattle.request_rules.specs.Rules.{is_unlisted, kinds, role_of, tag_of, up_lack}
-use Rattle.request_rules.specs.Rules.{up_message, up_rules}
+use Rattle.request_rules.specs.Rules.{OrdType, Time, Lines, Who, Client, at, date_up, is_unlisted}
+use Rattle.request_rules.specs.Rules.{kinds, role_of, tag_of, up_lack, up_message, up_rules}
 use Rattle.request_rules.proofs.KindsUp.{are_kinds, own}
-use Rattle.request_rules.proofs.TablesUp.{GoesUp, at_index, own_rows, IsRow, beside, can_go_up}
+use Rattle.request_rules.proofs.TablesUp.{GoesUp, own_rows, IsRow, beside, can_go_up}
 use Rattle.request_rules.proofs.TablesUp.{capacity_row, coded_need, day_row, each_made, has_rule}
 use Rattle.request_rules.proofs.TablesUp.{is_carried, is_coded, is_plain, is_value, items_up, make}
 use Rattle.request_rules.proofs.TablesUp.{month_row, time_row, type_row, up_need}
@@ -299,8 +298,7 @@ module _ (letter : ℕ) (items : List (Item Kind)) (goes : GoesUp items) (m : Me
       where
         id_is : (who : Who) → at m (tag_of who) ≡ id_for who (at m 109) (at m 76) (at m 439)
         id_is Client = refl
-        id_is Broker = refl
-        id_is Firm = refl
+        id_is who = refl
 
     -- the code of a rule that is listed
     listed_case : (from to : ℕ) (listed : List ℕ) → (from == 47) ≡ true

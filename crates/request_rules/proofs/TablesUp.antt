@@ -1,9 +1,9 @@
 -- The table that the rules make of a table of FIX 4.2. Each table of FIX 5.0 SP2 is what they make
 -- of the table of FIX 4.2 with its letter.
-use Rattle.std.proofs.Common.{zero, suc, [], ◌∷◌, subst, ◌≡◌, ℕ, Bool, true, false, not, List}
+use Rattle.std.proofs.Common.{[], ◌∷◌, ◌≡◌, ℕ, Bool, true, false, not, List}
 use Rattle.std.proofs.Common.{codes, Option, Some, None}
 use Rattle.std.specs.Prelude.{IfSome, ◌&&◌, ◌==◌}
-use Rattle.std.specs.List.{AllByRecursion, list_any, list_all, slice_get}
+use Rattle.std.specs.List.{AllByRecursion, list_any, list_all}
 use Rattle.field_groups.specs.Field.{is_soh}
 use Rattle.message_tables.specs.Tables.{Need, Required, Optional, Lenient, When, Row, Item, One}
 use Rattle.message_tables.specs.Tables.{Party, Lines as LinesOf}
@@ -108,13 +108,6 @@ capacity_row = row Optional 47 OneByte
 -- the row of a tag is this one, where there is one
 abbrev pub IsRow : List (Item Kind) → Row Kind → Type 0
 IsRow items own = IfSome (row_of_tag own.tag items) (λ other. other ≡ own)
-
--- what holds of each holds of the one at a place
-pub at_index : {A : Type 0} (P : A → Type 0) (i : ℕ) (xs : List A) (x : A)
-    → slice_get xs i ≡ Some x → AllByRecursion P xs → P x
-at_index P i [] x e h = absurd cc
-at_index P zero (y ∷ ys) x e h = let same : y ≡ x = cc in subst P same h.0
-at_index P (suc i) (y ∷ ys) x e h = at_index P i ys x e h.1
 
 abbrev pub own_rows : List (Row Kind)
 own_rows = month_row ∷ day_row ∷ type_row ∷ time_row ∷ capacity_row ∷

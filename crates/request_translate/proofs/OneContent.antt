@@ -21,7 +21,7 @@ use Rattle.row_values.specs.Amounts.{alloc_of, amount_of, session_of}
 use Rattle.sound_laws.specs.Sound.{IsItem, IsSaid}
 use Rattle.request_rules.specs.Canonical.{IsCanonical}
 use Rattle.request_rules.specs.Rules.{party_lines}
-use Rattle.request_rules.proofs.TablesUp.{at_index}
+use Rattle.sound_laws.proofs.Each.{at_index}
 use Rattle.request_translate.specs.Laws.{HaveOneContent}
 use Rattle.sound_laws.proofs.ContentValues.{is_alone, groups_said, value_said}
 use Rattle.request_translate.proofs.SameRows as same
