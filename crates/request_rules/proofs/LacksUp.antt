@@ -12,6 +12,16 @@ use Rattle.request_rules.specs.Rules.{at, is_late, is_unlisted}
 use Rattle.request_rules.specs.Lack.{lacks_time, lacks_capacity}
 use Rattle.request_rules.specs.Up.{LacksByRules}
 
+-- an order that is not on close lacks no time
+pub plain : (a b c d : Bool) (time : Option ℕ)
+    → lacks_time (if a then Some Market else (if b then Some Limit else
+    (if c then Some Stop else (if d then Some StopLimit else None)))) time ≡ false
+plain true b c d time = refl
+plain false true c d time = refl
+plain false false true d time = refl
+plain false false false true time = refl
+plain false false false false time = refl
+
 -- an order on close with another time lacks that time
 late : (code time : Option ℕ)
     → lacks_time (code >>= order_type_of) (time_of (is_on_close code) time) ≡ is_late code time
@@ -32,15 +42,6 @@ late (Some code) time = by (code == 53) (code == 66) refl refl
         each : (t : Option ℕ) → lacks_time (Some type) t ≡ is_some t
         each None = none
         each (Some t) = some t
-
-    plain : (a b c d : Bool) (t : Option ℕ)
-        → lacks_time (if a then Some Market else (if b then Some Limit else
-        (if c then Some Stop else (if d then Some StopLimit else None)))) t ≡ false
-    plain true b c d t = refl
-    plain false true c d t = refl
-    plain false false true d t = refl
-    plain false false false true t = refl
-    plain false false false false t = refl
 
     by : (five b : Bool) → (code == 53) ≡ five → (code == 66) ≡ b → P code
     by true b e f = subst P (sym (eqb-true code 53 e)) (on_close MarketOnClose (λ t. refl) refl)

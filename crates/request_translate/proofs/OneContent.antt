@@ -9,8 +9,7 @@ use Rattle.row_values.specs.Kinds as of50
 use Rattle.row_values.specs.Groups as row_groups
 use Rattle.field_groups.specs.Field.{Field}
 use Rattle.message_tables.specs.Tables.{Item, One, Party, Lines, Need, Required, Optional, Lenient}
-use Rattle.message_tables.specs.Tables.{Tag, Said, Message, ◌>>=◌, said_at, lines_of, code_of, Cell}
-use Rattle.message_tables.specs.Tables.{flag_of}
+use Rattle.message_tables.specs.Tables.{Tag, Said, Message, ◌>>=◌, lines_of, code_of, Cell, flag_of}
 use Rattle.order_meaning.specs.declared.Amount.{Amount}
 use Rattle.message_tables.specs.Content.{content, item_fields, cell_fields, group_fields}
 use Rattle.order_meaning.specs.Request.{Request, RequestKind, New, Cancel, Replace, Status}
@@ -20,14 +19,11 @@ use Rattle.dict_fix50.specs.Sense.{request50, request_of}
 use Rattle.row_values.specs.Amounts.{alloc_of, amount_of, session_of}
 use Rattle.sound_laws.specs.Sound.{IsItem, IsSaid}
 use Rattle.request_rules.specs.Canonical.{IsCanonical}
-use Rattle.request_rules.specs.Rules.{party_lines}
+use Rattle.request_rules.specs.Rules.{at, party_lines}
 use Rattle.sound_laws.proofs.Each.{at_index}
 use Rattle.request_translate.specs.Laws.{HaveOneContent}
 use Rattle.sound_laws.proofs.ContentValues.{is_alone, groups_said, value_said}
 use Rattle.request_translate.proofs.SameRows as same
-
-abbrev at : Message → ℕ → Said
-at m tag = said_at m.cells (Tag tag)
 
 -- ---- what an item means of what is said there, and what that gives back
 

@@ -159,16 +159,14 @@ content_is : (o : PlainOrder) (client limit : Option (List ℕ)) → o.client_id
     → o.limit ≡ limit → content_fields o ≡ up_content (said42 o)
 unfolding digits
 content_is o None None c l = rw (c, l) refl
-content_is o None (Some price) c l = rw (c, l) refl
 content_is o (Some id) None c l = rw (c, l) refl
-content_is o (Some id) (Some price) c l = rw (c, l) refl
+content_is o client limit c l = rw (c, l) refl
 
 up_is : (o : PlainOrder) (client limit : Option (List ℕ)) → o.client_id ≡ client
     → o.limit ≡ limit → with_content (plain_fields o) (content_fields o) ≡ translated_fields o
 up_is o None None c l = rw (c, l) refl
-up_is o None (Some price) c l = rw (c, l) refl
 up_is o (Some id) None c l = rw (c, l) refl
-up_is o (Some id) (Some price) c l = rw (c, l) refl
+up_is o client limit c l = rw (c, l) refl
 
 -- ---- its fields are plain and short
 

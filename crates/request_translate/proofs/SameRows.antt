@@ -3,14 +3,13 @@
 use Rattle.std.proofs.Common.{◌≡◌, ℕ, List, [], ◌∷◌, ◌++◌, map, take, drop, length, codes, Option}
 use Rattle.std.proofs.Common.{Some, None, Bool, true, false, refl, sym, ap, subst, ◌∙◌, option_map}
 use Rattle.std.proofs.Common.{unwrap_or, arith, length-drop}
-use Rattle.std.specs.Prelude.{IsSome, IfSome, not, ◌&&◌, ◌||◌, ◌==◌, Result, Ok, Err, if◌then◌else◌}
+use Rattle.std.specs.Prelude.{IsSome, IfSome, not, ◌&&◌, ◌||◌, ◌==◌, Result, Ok, Err}
 use Rattle.std.specs.List.{AllByRecursion}
 use Rattle.std.specs.Result.{result_ok}
 use Rattle.std.proofs.lemmas.Bool.{eqb-true}
 use Rattle.std.proofs.lemmas.Bool.Decides.{nat_tests}
 use Rattle.std.proofs.lemmas.List.{take-append-drop, take_all}
 use Rattle.typed_fields.specs.declared.fault.FieldFault.{FieldFault}
-use Rattle.typed_fields.specs.declared.fault.FieldFault.TheVariants.{Range}
 use Rattle.typed_fields.specs.declared.dec.Dec.{Dec as DecValue}
 use Rattle.typed_fields.specs.declared.flag.Flag.{Flag as FlagValue}
 use Rattle.typed_fields.specs.Day.{read_day}
@@ -21,8 +20,7 @@ use Rattle.typed_fields.proofs.DigitsLemmas.{digits_of_pattern, length-has_patte
 use Rattle.typed_fields.proofs.SpellingLemmas.{judged_ok, zero_padded-number_of}
 use Rattle.field_groups.specs.Field.{Field}
 use Rattle.value_kinds.specs.ValueKind as kinds
-use Rattle.value_kinds.specs.ValueKind.{code_text, if_in_range, is_code, spelling, spelt}
-use Rattle.value_kinds.specs.ValueKind.{units_of_text}
+use Rattle.value_kinds.specs.ValueKind.{code_text, is_code, spelling, spelt, units_of_text}
 use Rattle.message_tables.specs.Tables.{Spells, Tag, Said, Cell, ◌>>=◌, code_of, flag_of, is_listed}
 use Rattle.message_tables.specs.Tables.{is_one_of, value_at}
 use Rattle.message_tables.specs.Content.{line_fields}
@@ -38,6 +36,7 @@ use Rattle.sound_laws.specs.Sound.{IsLine}
 use Rattle.sound_laws.proofs.Each.{◌&◌, both, one_of}
 use Rattle.sound_laws.proofs.Judged50.{counts}
 use Rattle.sound_laws.proofs.RowsSaid.{is_code_of}
+use Rattle.row_slots.proofs.SlotsSay.{prices, quantities}
 
 -- what the meanings of two give back is the same where they mean the same
 pub same_by : {S A : Type 0} (means : S → A) (back : A → S) (a b : S)
@@ -96,39 +95,25 @@ abbrev read_amount : Result DecValue FieldFault → Option Amount
 read_amount r =
     option_map (λ units. record { units = units }) (option_map (λ d. d.units) (result_ok r))
 
-read_back : (r : Result DecValue FieldFault) (text : List ℕ)
-    → verdict_of (spelt dec_text r) ≡ Spells text → amounts_back (read_amount r) ≡ Some text
+amount_back : (r : Result DecValue FieldFault)
+    → amounts_back (read_amount r) ≡ option_map dec_text (result_ok r)
 unfolding amount_text
-read_back (Ok d) text h = cc
-read_back (Err fault) text h = absurd cc
-
-in_range : (good : DecValue → Bool) (r : Result DecValue FieldFault) (text : List ℕ)
-    → verdict_of (spelt dec_text (if_in_range good r)) ≡ Spells text →
-    verdict_of (spelt dec_text r) ≡ Spells text
-in_range good (Ok d) text h = by (good d) h
-  where
-    by : (g : Bool) → verdict_of (spelt dec_text (if g then Ok d else Err Range)) ≡ Spells text
-        → Spells (dec_text d) ≡ Spells text
-    by true h = h
-    by false h = absurd cc
-in_range good (Err fault) text h = h
+amount_back (Ok d) = refl
+amount_back (Err fault) = refl
 
 pub prices_back : (fields : List Field) (said : Said)
     → IfSome said (λ t. judge fields (Value kinds.Price) t ≡ Spells t)
     → amounts_back (said >>= amount_of) ≡ said
-unfolding judge spelling units_of_text
+unfolding judge units_of_text
 prices_back fields None h = refl
-prices_back fields (Some []) h = absurd cc
-prices_back fields (Some (b ∷ text)) h = read_back (read_dec (b ∷ text)) (b ∷ text) h
+prices_back fields (Some text) h = amount_back (read_dec text) ∙ prices text text h
 
 pub qtys_back : (fields : List Field) (said : Said)
     → IfSome said (λ t. judge fields (Value kinds.Qty) t ≡ Spells t)
     → amounts_back (said >>= amount_of) ≡ said
-unfolding judge spelling units_of_text
+unfolding judge units_of_text
 qtys_back fields None h = refl
-qtys_back fields (Some []) h = absurd cc
-qtys_back fields (Some (b ∷ text)) h = read_back (read_dec (b ∷ text)) (b ∷ text)
-    (in_range _ (read_dec (b ∷ text)) (b ∷ text) h)
+qtys_back fields (Some text) h = amount_back (read_dec text) ∙ quantities text text h
 
 -- ---- flags
 

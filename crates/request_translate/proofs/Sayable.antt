@@ -10,8 +10,7 @@ use Rattle.message_tables.specs.Tables.{Verdict, Spells, Table, Message, Lenient
 use Rattle.message_tables.specs.Tables.{◌>>=◌, says, value_at, text_of, code_of, code_if, is_one_of}
 use Rattle.message_tables.specs.FirstFault.{unless, first_fault, message_in, message_of}
 use Rattle.order_meaning.specs.declared.fault.Fault.{Fault}
-use Rattle.order_meaning.specs.Request.{Request, RequestKind, New, Replace}
-use Rattle.order_meaning.specs.Request.{OrderType, Market, Limit, Stop, StopLimit}
+use Rattle.order_meaning.specs.Request.{Request, RequestKind, New, Replace, OrderType, Market}
 use Rattle.row_values.specs.Kinds.{Kind, judge, Byte, counted, verdict_of}
 use Rattle.dict_fix50.specs.Message.{message50, message50_by}
 use Rattle.rows_fix50.specs.Header.{completed, completed_by}
@@ -19,6 +18,7 @@ use Rattle.first_faults.specs.Faults.{told}
 use Rattle.dict_fix50.specs.Sense.{sense50, request50, request_of}
 use Rattle.rows_fix50.specs.Meaning.{terms_of}
 use Rattle.request_rules.proofs.ByType.{asked50, by_type}
+use Rattle.request_rules.proofs.LacksUp.{plain}
 use Rattle.request_translate.specs.Lack.{lacks_time, lacks_capacity, lack_in, lack_of}
 use Rattle.request_translate.specs.Laws.{LacksNothing}
 
@@ -35,25 +35,16 @@ no_time None = refl
 no_time (Some Market) = refl
 no_time (Some other) = refl
 
-by_code : (a b c d : Bool) (time : ℕ) →
-    lacks_time (if a then Some Market else (if b then Some Limit
-    else (if c then Some Stop else (if d then Some StopLimit else None)))) (Some time) ≡ false
-by_code true b c d time = refl
-by_code false true c d time = refl
-by_code false false true d time = refl
-by_code false false false true time = refl
-by_code false false false false time = refl
-
 abbrev pick : Bool
     → Option OrderType × Option ℕ → Option OrderType × Option ℕ → Option OrderType × Option ℕ
 pick close a b = if close then a else b
 
-by_close : (close : Bool) (closing plain : Option OrderType) (time : ℕ)
-    → lacks_time plain (Some time) ≡ false →
-    lacks_time (pick close (closing, None) (plain, Some time)).0
-    (pick close (closing, None) (plain, Some time)).1 ≡ false
-by_close true closing plain time h = no_time closing
-by_close false closing plain time h = h
+by_close : (close : Bool) (closing other : Option OrderType) (time : ℕ)
+    → lacks_time other (Some time) ≡ false →
+    lacks_time (pick close (closing, None) (other, Some time)).0
+    (pick close (closing, None) (other, Some time)).1 ≡ false
+by_close true closing other time h = no_time closing
+by_close false closing other time h = h
 
 -- TimeInForce says that an order is on close, or something else
 pub terms_lack_nothing : (code time : Option ℕ)
@@ -62,7 +53,7 @@ terms_lack_nothing None time = refl
 terms_lack_nothing (Some code) None = no_time (terms_of (Some code) None).0
 terms_lack_nothing (Some code) (Some time) =
     by_close (time == 55) (terms_of (Some code) (Some 55)).0 (terms_of (Some code) None).0 time
-    (by_code (code == 49) (code == 50) (code == 51) (code == 52) time)
+    (plain (code == 49) (code == 50) (code == 51) (code == 52) (Some time))
 
 by_listed : (listed : Bool) (byte : ℕ) → is_one_of (codes "AIP") byte ≡ listed →
     lacks_capacity (text_of (counted listed (Spells (byte ∷ []))) >>= code_of) ≡ false

@@ -7,10 +7,9 @@ use Rattle.std.specs.Result.{result_ok}
 use Rattle.std.specs.List.{AllByRecursion}
 use Rattle.request_rules.proofs.ByType.{asked42, asked50, by_type, items42, items50, letter_of}
 use Rattle.value_kinds.specs.ValueKind.{Filled, Flag}
-use Rattle.message_tables.specs.declared.table_fault.TableFault.{TableFault}
 use Rattle.field_groups.specs.Field.{Field}
 use Rattle.message_tables.specs.Tables.{Item, Table, Message, Said, ◌>>=◌, flag_of, value_at}
-use Rattle.message_tables.specs.FirstFault.{first_fault, message_in, message_of, unless}
+use Rattle.message_tables.specs.FirstFault.{first_fault, message_in, message_of}
 use Rattle.message_tables.specs.Content.{content}
 use Rattle.order_meaning.specs.Request.{Request, RequestKind, New}
 use Rattle.order_meaning.specs.declared.fault.Fault.{Fault}
@@ -25,6 +24,7 @@ use Rattle.dict_fix50.specs.Sense.{sense50, request50}
 use Rattle.sound_laws.proofs.Completed.{completed_again}
 use Rattle.sound_laws.proofs.Each.{◌&◌}
 use Rattle.sound_laws.proofs.Lookups.{places_apart}
+use Rattle.sound_laws.proofs.PlainRows.{of_message}
 use Rattle.sound_laws.proofs.ReadSound.{IsClearField}
 use Rattle.sound_laws.proofs.RowsSaid.{optional_said}
 use Rattle.sound_laws.proofs.TableFits as fits
@@ -110,13 +110,8 @@ record Read42 (table : Table Kind) (fields : List Field) (x : Message) : Type 0 
 
 read_of : (table : Table Kind) (fields : List Field) (x : Message)
     → row_faults.told (message_of judge table fields) ≡ Ok x → Read42 table fields x
-unfolding message_of
-read_of table fields x e = by (first_fault judge table fields) refl e
-  where
-    by : (f : Option TableFault) → first_fault judge table fields ≡ f
-        → row_faults.told (unless f (message_in judge table fields)) ≡ Ok x → Read42 table fields x
-    by None g h = record { good = g; is = cc }
-    by (Some fault) g h = absurd cc
+read_of table fields = of_message table fields (Read42 table fields)
+    (λ none. record { good = none; is = refl })
 
 -- ---- the sense
 

@@ -1,11 +1,10 @@
 -- The slots that a pass fills: each row has its own.
-use Rattle.std.proofs.Common.{◌≡◌, ℕ, zero, suc, ◌+◌, ◌<◌, Bool, true, false, List, [], ◌∷◌, ◌++◌}
-use Rattle.std.proofs.Common.{length, get_or, take, map, Option, Some, None, refl, sym, ap, ◌∙◌}
-use Rattle.std.proofs.Common.{arith}
-use Rattle.std.specs.Prelude.{◌==◌, ◌&&◌, not, replicate, if◌then◌else◌}
+use Rattle.std.proofs.Common.{◌≡◌, ℕ, ◌+◌, ◌<◌, Bool, true, false, List, [], ◌∷◌, ◌++◌, length}
+use Rattle.std.proofs.Common.{get_or, take, map, Option, Some, None, refl, sym, ap, ◌∙◌, arith}
+use Rattle.std.specs.Prelude.{◌==◌, ◌&&◌, not, if◌then◌else◌}
 use Rattle.std.proofs.Math.ListN.{set}
 use Rattle.std.proofs.Math.Nat.{mod-lt}
-use Rattle.std.proofs.lemmas.List.{get_or-set_same, get_or-set_other, length-set, map_more}
+use Rattle.std.proofs.lemmas.List.{get_or-replicate, get_or-set_same, get_or-set_other, length-set, map_more}
 use Rattle.std.proofs.lemmas.Bool.Decides.{nat_tests}
 use Rattle.field_groups.specs.Field.{Field}
 use Rattle.message_tables.specs.declared.table.Item.{Item as CodeItem}
@@ -120,14 +119,11 @@ module _ (fields : List Field) where
           later p.1 ∙ ap (λ (s : Slot). slot_by (row_of_tag tag items) s)
           (other_slot filled row.tag tag (row_slot fields row) p.0)
 
-  empty_at : (n i : ℕ) → get_or (replicate n slots.Empty) i slots.Empty ≡ slots.Empty
-  empty_at zero i = refl
-  empty_at (suc n) zero = refl
-  empty_at (suc n) (suc i) = empty_at n i
-
   pub slot_filled : (tag : ℕ) (items : List (Item Kind)) → is_own tag items ≡ true
       → slot_at (with_items fields items no_slots) tag
       ≡ slot_by (row_of_tag tag items) slots.Empty
   slot_filled tag items h =
-      own_slot tag items no_slots (mod-lt tag (omega arith)) h
-      ∙ ap (λ (s : Slot). slot_by (row_of_tag tag items) s) (empty_at 256 (slot_of tag))
+      let within : slot_of tag < 256 = mod-lt tag (omega arith) in
+      own_slot tag items no_slots within h
+      ∙ ap (λ (s : Slot). slot_by (row_of_tag tag items) s)
+      (get_or-replicate 256 (slot_of tag) slots.Empty slots.Empty within)

@@ -16,9 +16,8 @@ use Rattle.typed_fields.specs.MonthYear.{read_month_year}
 use Rattle.typed_fields.specs.Number.{number_text, read_number}
 use Rattle.field_groups.specs.Field.{Field}
 use Rattle.message_tables.specs.Tables.{Need, Lenient, Fixed, Row, Table, Item, One, Party, Lines}
-use Rattle.message_tables.specs.Tables.{Verdict, Spells, Said, Cell, Tag, ◌>>=◌}
-use Rattle.message_tables.specs.Tables.{all_rows, cells_of, is_listed, row_at, said_at, says}
-use Rattle.message_tables.specs.Tables.{text_of, value_at}
+use Rattle.message_tables.specs.Tables.{Verdict, Spells, Said, Cell, Tag, ◌>>=◌, all_rows, cells_of}
+use Rattle.message_tables.specs.Tables.{is_listed, row_at, said_at, says, text_of, value_at}
 use Rattle.message_tables.specs.FirstFault.{first_fault, mark_of}
 use Rattle.message_tables.specs.Plain.{is_good}
 use Rattle.message_tables.proofs.ByPlace.{found_at, found_by_place}
@@ -74,7 +73,7 @@ in_range write good (Ok x) text h = by (good x) h
     by true h = let same : write x ≡ text = cc in ap (λ t. Some t) same
     by false h = absurd cc
 
-prices : (bytes text : List ℕ) → verdict_of (spelling Price bytes) ≡ Spells text
+pub prices : (bytes text : List ℕ) → verdict_of (spelling Price bytes) ≡ Spells text
     → option_map dec_text (result_ok (read_dec bytes)) ≡ Some text
 unfolding spelling
 prices [] text h = absurd cc
