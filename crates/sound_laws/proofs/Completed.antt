@@ -1,13 +1,13 @@
 -- A message of FIX 5.0 SP2 is completed by the month of its date, and what it says elsewhere stays.
 use Rattle.std.proofs.Common.{◌≡◌, ℕ, List, [], ◌∷◌, map, Bool, true, false, refl, sym, ap, subst}
-use Rattle.std.proofs.Common.{◌∙◌, arith}
+use Rattle.std.proofs.Common.{◌∙◌}
 use Rattle.std.specs.Prelude.{◌||◌, ◌==◌, if◌then◌else◌}
 use Rattle.std.specs.List.{AllByRecursion, list_any}
 use Rattle.std.proofs.lemmas.Bool.{eqb-true}
-use Rattle.std.proofs.lemmas.Bool.Decides.{nat_tests}
 use Rattle.message_tables.specs.Tables.{Message, Cell, Said, Place, Tag, Role, is_place, said_at}
 use Rattle.rows_fix50.specs.Header.{completed, month_by}
 use Rattle.sound_laws.specs.Complete.{HasMonthOfDate}
+use Rattle.sound_laws.proofs.Each.{apart_same}
 use Rattle.sound_laws.proofs.Lookups.{places_apart, cells_said}
 
 abbrev pub with_month : Said → Cell → Cell
@@ -48,11 +48,8 @@ completed_again m month places resend =
 -- ---- the cells
 
 no_month : (p : Place) → is_place p (Tag 200) ≡ false → is_place (Tag 200) p ≡ false
-no_month (Tag tag) h = grind (arith, nat_tests)
+no_month (Tag tag) h = apart_same tag 200 h
 no_month (Role role) h = refl
-
-no_month_tag : (tag : ℕ) → (tag == 200) ≡ false → (200 == tag) ≡ false
-no_month_tag tag h = grind (arith, nat_tests)
 
 module _ (date : Said) where
   -- what stands at other places stays
@@ -100,19 +97,18 @@ module _ (date : Said) where
       by true e rest = refl
       by false e rest = ap (λ (b : Bool). if b then s
           else said_at (map (with_month date) cells) (Tag 200)) e
-          ∙ rest (behind (no_month_tag tag e))
+          ∙ rest (behind (apart_same tag 200 e))
+
+  place_kept : (cell : Cell) → (with_month date cell).0 ≡ cell.0
+  place_kept (Role role, s) = refl
+  place_kept (Tag tag, s) = by (tag == 200) refl
+    where
+      by : (b : Bool) → (tag == 200) ≡ b
+          → ((λ (c : Cell). c.0) (if b then (Tag 200, month_by date s) else (Tag tag, s)) ≡ Tag tag)
+      by false e = refl
+      by true e = ap (λ (t : ℕ). Tag t) (sym (eqb-true tag 200 e))
 
   pub same_places : (cells : List Cell)
       → map (λ c. c.0) (map (with_month date) cells) ≡ map (λ c. c.0) cells
   same_places [] = refl
-  same_places ((Role role, s) ∷ cells) = ap (◌∷◌ (Role role)) (same_places cells)
-  same_places ((Tag tag, s) ∷ cells) = by (tag == 200) refl (same_places cells)
-    where
-      by : (b : Bool) → (tag == 200) ≡ b
-          → map (λ c. c.0) (map (with_month date) cells) ≡ map (λ c. c.0) cells →
-          map (λ c. c.0) ((if b then (Tag 200, month_by date s) else (Tag tag, s))
-          ∷ map (with_month date) cells) ≡ Tag tag ∷ map (λ c. c.0) cells
-      by false e rest = ap (◌∷◌ (Tag tag)) rest
-      by true e rest =
-          let is : tag ≡ 200 = eqb-true tag 200 e in let there = sym is in
-          λ i. Tag (there i) ∷ rest i
+  same_places (cell ∷ cells) = λ i. place_kept cell i ∷ same_places cells i

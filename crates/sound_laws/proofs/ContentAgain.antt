@@ -16,8 +16,8 @@ use Rattle.first_faults.specs.Faults.{told}
 use Rattle.sound_laws.specs.Sound.{IsSound, places_of, without_resend}
 use Rattle.sound_laws.proofs.Each.{are_apart}
 use Rattle.sound_laws.proofs.Lookups.{places_apart}
-use Rattle.sound_laws.proofs.Stages.{item_tags}
-use Rattle.sound_laws.proofs.Found.{items_of, value_none}
+use Rattle.sound_laws.proofs.Stages.{item_tags, value_none}
+use Rattle.sound_laws.proofs.Found.{items_of}
 use Rattle.sound_laws.proofs.Values.{cells_in}
 use Rattle.sound_laws.proofs.ReadAgain as again
 use Rattle.sound_laws.proofs.ReadAgain.{cells_by_places}

@@ -17,19 +17,13 @@ use Rattle.sound_laws.proofs.Each.{are_apart, both, each_back, each_by, each_fro
 use Rattle.sound_laws.proofs.Each.{not_true, one_of, same_number}
 use Rattle.sound_laws.proofs.ContentValues.{or_none, value_at-append}
 use Rattle.sound_laws.proofs.Stages.{item_tags, AreOf, apart_lists, apart_back, lines_of_tags}
-use Rattle.sound_laws.proofs.Stages.{each_of, item_of, is_other, line_of, none_behind}
+use Rattle.sound_laws.proofs.Stages.{each_of, item_of, is_other, line_of, none_behind, value_none}
 
 -- ---- fields of other tags
 
 or_later : (a b : Option (List ℕ)) → a ≡ None → or_else a b ≡ b
 or_later None b e = refl
 or_later (Some x) b e = absurd cc
-
-pub value_none : (tags : List ℕ) (t : ℕ) (fields : List Field)
-    → AreOf tags fields → is_one_of tags t ≡ false → value_at t fields ≡ None
-value_none tags t [] of other = refl
-value_none tags t (f ∷ fs) of other =
-    rw (is_other tags f.0 t of.0 other) (value_none tags t fs of.1 other)
 
 -- a value behind fields of other tags
 pub value_behind : (tags : List ℕ) (t : ℕ) (xs ys : List Field)

@@ -222,57 +222,51 @@ module _ (g : GroupTags) (plain : IsPlain g) where
               rest.2,
             )
 
-    -- a line
-    line_in : (row : Row Kind) (rows : List (Row Kind)) (line : List Cell)
-        → row.need ≡ Required → IsLine judge (row ∷ rows) line → (row.tag == g.first) ≡ true →
-        AllByRecursion IsMember (tags_of (row ∷ rows)) → AllByRecursion
-        (λ t. (t == g.first) ≡ false) (tags_of rows) → are_apart (tags_of rows) ≡ true →
-        (before after : List Field) (done : ℕ) (last : List Field) → done < 32
-        → Before before done last → Through before (line_fields line) after (1 + done)
-    line_in row rows [] needed said first members later apart before after done last few b =
-        absurd said
-    line_in
-        row rows (cell ∷ cells) needed said first members later apart before after done last few b =
-        let P : Place → Type 0 = λ place.
-        Through before (cell_fields (place, cell.1) ++ line_fields cells) after (1 + done) in
-        subst P (sym said.0) (by cell.1 (said.1.needed (let Q : Need → Type 0 =
-        λ n. is_needed n (line_fields (cell ∷ cells)) ≡ true in subst Q (sym needed) refl))
-        (λ c h. others (line_fields (cell ∷ cells))
-        rows cells said.2 members.1 later apart c after done [] (none_free (tags_of rows)) h))
-      where
-        by : (s : Said) → IsSome s → ((c : List Field)
-            → Before c (1 + done) [] → Through c (line_fields cells) after (1 + done)) →
-            Through before (cell_fields (Tag row.tag, s) ++ line_fields cells) after (1 + done)
-        by None there more = absurd cc
-        by (Some text) there more =
-            let f : Field = (row.tag, text) in
-            let mine = members.0 in
-            let rest = more (f ∷ before) (first_on f before done last first mine.inside b) in (
-              rest.0,
-              (
-                first_in f before (line_fields cells ++ after)
-                    done last mine.count mine.skipped first mine.inside few b,
-                rest.1,
-              ),
-              rest.2,
-            )
+    module _ (row : Row Kind) (rows : List (Row Kind)) (needed : row.need ≡ Required)
+        (first : (row.tag == g.first) ≡ true)
+        (members : AllByRecursion IsMember (tags_of (row ∷ rows)))
+        (later : AllByRecursion (λ t. (t == g.first) ≡ false) (tags_of rows))
+        (apart : are_apart (tags_of rows) ≡ true) where
+      -- a line
+      line_in : (line : List Cell) → IsLine judge (row ∷ rows) line
+          → (before after : List Field) (done : ℕ) (last : List Field) → done < 32
+          → Before before done last → Through before (line_fields line) after (1 + done)
+      line_in [] said before after done last few b = absurd said
+      line_in (cell ∷ cells) said before after done last few b =
+          let P : Place → Type 0 = λ place.
+          Through before (cell_fields (place, cell.1) ++ line_fields cells) after (1 + done) in
+          let Q : Need → Type 0 = λ n. is_needed n (line_fields (cell ∷ cells)) ≡ true in
+          subst P (sym said.0) (by cell.1 (said.1.needed (subst Q (sym needed) refl))
+          (λ c h. others (line_fields (cell ∷ cells)) rows cells said.2 members.1 later apart c
+          after done [] (none_free (tags_of rows)) h))
+        where
+          by : (s : Said) → IsSome s → ((c : List Field)
+              → Before c (1 + done) [] → Through c (line_fields cells) after (1 + done)) →
+              Through before (cell_fields (Tag row.tag, s) ++ line_fields cells) after (1 + done)
+          by None there more = absurd cc
+          by (Some text) there more =
+              let f : Field = (row.tag, text) in
+              let mine = members.0 in
+              let rest = more (f ∷ before) (first_on f before done last first mine.inside b) in (
+                rest.0,
+                (
+                  first_in f before (line_fields cells ++ after)
+                      done last mine.count mine.skipped first mine.inside few b,
+                  rest.1,
+                ),
+                rest.2,
+              )
 
-    lines_in_place : (row : Row Kind) (rows : List (Row Kind)) (lines : List (List Cell))
-        → row.need ≡ Required
-        → AllByRecursion (IsLine judge (row ∷ rows)) lines → (row.tag == g.first) ≡ true →
-        AllByRecursion IsMember (tags_of (row ∷ rows)) → AllByRecursion
-        (λ t. (t == g.first) ≡ false) (tags_of rows) → are_apart (tags_of rows) ≡ true →
-        (before after : List Field) (done : ℕ) (last : List Field) → length lines + done ≤ 32
-        → Before before done last → InPlace In before (flat_map line_fields lines) after
-    lines_in_place row rows [] needed said first members later apart before after done last few b =
-        tt
-    lines_in_place
-        row rows (line ∷ lines) needed said first members later apart before after done last few b =
-        let one = line_in row rows line needed said.0 first members later
-        apart before (flat_map line_fields lines ++ after) done last (omega (arith, few)) b in
-        place_joined In (line_fields line) (flat_map line_fields lines) before after one.1
-        (lines_in_place row rows lines needed said.1 first members later apart
-        (back (line_fields line) before) after (1 + done) one.0 (omega (arith, few)) one.2)
+      lines_in_place : (lines : List (List Cell)) → AllByRecursion (IsLine judge (row ∷ rows)) lines
+          → (before after : List Field) (done : ℕ) (last : List Field) → length lines + done ≤ 32
+          → Before before done last → InPlace In before (flat_map line_fields lines) after
+      lines_in_place [] said before after done last few b = tt
+      lines_in_place (line ∷ lines) said before after done last few b =
+          let one = line_in line said.0 before (flat_map line_fields lines ++ after) done last
+          (omega (arith, few)) b in
+          place_joined In (line_fields line) (flat_map line_fields lines) before after one.1
+          (lines_in_place lines said.1 (back (line_fields line) before) after (1 + done) one.0
+          (omega (arith, few)) one.2)
 
     -- ---- the count
 
@@ -369,8 +363,8 @@ module _ {Kind : Type 0} (judge : Judge Kind)
       let first = start g plain (decimal (length all)) before in (
         count_in
             g plain (length all) before fields after (decimal_said (length all) few) cut counted,
-        lines_in_place g plain judge row rows all needed
-            said (same_number row.tag) own (none_is row.tag (tags_of rows) (not_true _ q.0)) q.1
+        lines_in_place g plain judge row rows needed (same_number row.tag) own
+            (none_is row.tag (tags_of rows) (not_true _ q.0)) q.1 all said
             ((count, decimal (length all)) ∷ before) after 0 first.0 (omega (arith, few)) first.1,
       )
 
@@ -384,26 +378,18 @@ module _ {Kind : Type 0} (judge : Judge Kind) (fields : List Field) (m : Message
       × IsPlain (tags_in group) × (are_apart (group.count ∷ tags_of group.rows) ≡ true)
       × AllByRecursion (λ t. is_one_of group.skipped t ≡ false) (tags_of group.rows)
 
-  own_in_place : (group : RepeatingGroup Kind) (lines : List (List Cell))
-      → IsWhole group → length lines ≤ 32 → AllByRecursion (IsLine judge group.rows) lines →
-      (before after : List Field) → Outside (tags_in group) after → InPlace
-      (λ p. misplaced p (tags_in group) ≡ None) before (group_fields group.count lines) after
-  own_in_place group lines whole few said before after out = by group.rows refl
-    where
-      by : (rows : List (Row Kind)) → group.rows ≡ rows → InPlace
-          (λ p. misplaced p (tags_in group) ≡ None) before (group_fields group.count lines) after
-      by [] e =
-          absurd (let P : List (Row Kind) → Type 0 = λ rs. HasFirst judge rs in subst P e whole.0)
-      by (row ∷ rows) e =
-          let same : ◌≡◌ {A = RepeatingGroup Kind}
-          (record { count = group.count; rows = row ∷ rows; skipped = group.skipped }) group =
-          λ i. record { count = group.count; rows = sym e i; skipped = group.skipped } in
-          let P : RepeatingGroup Kind → Type 0 = λ gr. IsWhole gr → length lines ≤ 32
-          → AllByRecursion (IsLine judge gr.rows) lines → Outside (tags_in gr) after →
-          InPlace (λ p. misplaced p (tags_in gr) ≡ None) before (group_fields gr.count lines) after
-          in
-          subst P same (λ w f s o. group_in_place judge group.count
-          row rows group.skipped w.1 lines w.0 w.2 w.3 f s before after o) whole few said out
+  abbrev with_rows : RepeatingGroup Kind → List (Row Kind) → RepeatingGroup Kind
+  with_rows group rows = record { count = group.count; rows = rows; skipped = group.skipped }
+
+  own_in_place : (group : RepeatingGroup Kind) (rows : List (Row Kind)) (lines : List (List Cell))
+      → IsWhole (with_rows group rows) → length lines ≤ 32 → AllByRecursion (IsLine judge rows) lines
+      → (before after : List Field) → Outside (tags_in (with_rows group rows)) after → InPlace
+      (λ p. misplaced p (tags_in (with_rows group rows)) ≡ None) before
+      (group_fields group.count lines) after
+  own_in_place _ [] lines whole few said before after out = absurd whole.0
+  own_in_place group (row ∷ rows) lines whole few said before after out =
+      group_in_place judge group.count row rows group.skipped whole.1 lines whole.0 whole.2 whole.3
+      few said before after out
 
   module _ (g : GroupTags) where
     abbrev pub IsOutside : List ℕ → Type 0
@@ -458,7 +444,7 @@ module _ {Kind : Type 0} (judge : Judge Kind) (fields : List Field) (m : Message
             let Q : List Field → Type 0 = λ fs. Outside (tags_in group) fs in
             let P : GroupTags → Type 0 = λ h. InPlace
             (λ p. misplaced p h ≡ None) before (item_fields m (Lines group)) (later ++ []) in
-            subst P (sym is) (own_in_place group (lines_of group.count m.groups) whole.0
+            subst P (sym is) (own_in_place group group.rows (lines_of group.count m.groups) whole.0
             said.0.few said.0.said before (later ++ []) (subst Q (sym (append-nil later)) out))
         by (inr out) =
             outside_place (item_tags (Lines group)) (item_fields m (Lines group)) before (flat_map

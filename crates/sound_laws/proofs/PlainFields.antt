@@ -146,51 +146,37 @@ module _ {Kind : Type 0} (judge : Judge Kind) where
       omega (arith, whole, grown)
 
   module _ (fields : List Field) (m : Message) where
+    item_plain : (item : Item Kind) → has_good_tags item ≡ true
+        → IsItem judge fields m item → Plains (item_fields m item)
+    item_plain (One row) good said =
+        cell_plain row.tag (said_at m.cells (Tag row.tag)) good said.clear
+    item_plain (Party role) good said = tt
+    item_plain (Lines group) good said =
+        let t =
+        both (is_good_tag group.count) (list_all (λ row. is_good_tag row.tag) group.rows) good in
+        group_plain group.count group.rows (lines_of group.count m.groups) t.0 t.1 said.few said.said
+
     items_plain : (items : List (Item Kind)) → list_all has_good_tags items ≡ true
         → AllByRecursion (IsItem judge fields m) items → Plains (flat_map (item_fields m) items)
     items_plain [] good said = tt
-    items_plain (One row ∷ items) good said =
-        let g = both (is_good_tag row.tag) (list_all has_good_tags items) good in
-        each_joined IsPlainField (cell_fields (Tag row.tag, said_at m.cells (Tag row.tag)))
-        (flat_map (item_fields m) items)
-        (cell_plain row.tag (said_at m.cells (Tag row.tag)) g.0 said.0.clear)
-        (items_plain items g.1 said.1)
-    items_plain (Party role ∷ items) good said = items_plain items good said.1
-    items_plain (Lines group ∷ items) good said =
-        let g = both (is_good_tag group.count && list_all (λ row. is_good_tag row.tag) group.rows)
-        (list_all has_good_tags items) good in
-        let t =
-        both (is_good_tag group.count) (list_all (λ row. is_good_tag row.tag) group.rows) g.0 in
-        let lines = lines_of group.count m.groups in
-        each_joined IsPlainField (group_fields group.count lines) (flat_map (item_fields m) items)
-        (group_plain group.count group.rows lines t.0 t.1 said.0.few said.0.said)
-        (items_plain items g.1 said.1)
+    items_plain (item ∷ items) good said =
+        let g = both (has_good_tags item) (list_all has_good_tags items) good in
+        each_joined IsPlainField (item_fields m item) (flat_map (item_fields m) items)
+        (item_plain item g.0 said.0) (items_plain items g.1 said.1)
+
+    item_length : (item : Item Kind) → IsItem judge fields m item
+        → length (item_fields m item) ≤ most item
+    item_length (One row) said = cell_length (Tag row.tag) (said_at m.cells (Tag row.tag))
+    item_length (Party role) said = omega arith
+    item_length (Lines group) said =
+        group_length group.count group.rows (lines_of group.count m.groups) said.few said.said
 
     items_length : (items : List (Item Kind)) → AllByRecursion (IsItem judge fields m) items
         → length (flat_map (item_fields m) items) ≤ most_of items
     items_length [] said = omega arith
-    items_length (One row ∷ items) said =
-        let one = cell_length (Tag row.tag) (said_at m.cells (Tag row.tag)) in let rest =
-        items_length items said.1 in
-        omega (
-          arith,
-          one,
-          rest,
-          length-append (cell_fields
-              (Tag row.tag, said_at m.cells (Tag row.tag))) (flat_map (item_fields m) items),
-        )
-    items_length (Party role ∷ items) said =
-        let rest = items_length items said.1 in omega (arith, rest)
-    items_length (Lines group ∷ items) said =
-        let lines = lines_of group.count m.groups in
-        let one = group_length group.count group.rows lines said.0.few said.0.said in let rest =
-        items_length items said.1 in
-        omega (
-          arith,
-          one,
-          rest,
-          length-append (group_fields group.count lines) (flat_map (item_fields m) items),
-        )
+    items_length (item ∷ items) said =
+        let one = item_length item said.0 in let rest = items_length items said.1 in
+        omega (arith, one, rest, length-append (item_fields m item) (flat_map (item_fields m) items))
 
 pub all_of : (fields : List Field) → Plains fields → All IsPlainField fields
 all_of [] h = search rules

@@ -7,7 +7,7 @@ use Rattle.std.specs.List.{AllByRecursion, flat_map}
 use Rattle.field_groups.specs.Field.{Field}
 use Rattle.message_tables.specs.Tables.{Row, Item, One, Party, Lines, Judge, Message, Cell, Said}
 use Rattle.message_tables.specs.Tables.{Place, Tag, first_of, has_tag, is_one_of, tags_of, said_at}
-use Rattle.message_tables.specs.Tables.{lines_of}
+use Rattle.message_tables.specs.Tables.{lines_of, value_at}
 use Rattle.message_tables.specs.FirstFault.{placed_from, twice}
 use Rattle.message_tables.specs.Content.{cell_fields, line_fields, group_fields, item_fields}
 use Rattle.sound_laws.specs.Sound.{AreSaid, IsLine, IsItem}
@@ -72,7 +72,7 @@ module _ {Kind : Type 0} (judge : Judge Kind) where
       each_joined _ (line_fields line) (flat_map line_fields lines)
       (line_of (line_fields line) rows line said.0) (lines_of_tags rows lines said.1)
 
-  group_of : (count : ℕ) (rows : List (Row Kind)) (lines : List (List Cell)) → AllByRecursion
+  pub group_of : (count : ℕ) (rows : List (Row Kind)) (lines : List (List Cell)) → AllByRecursion
       (IsLine judge rows) lines → AreOf (count ∷ tags_of rows) (group_fields count lines)
   group_of count rows [] said = tt
   group_of count rows (line ∷ lines) said = (
@@ -97,6 +97,13 @@ Free before tags = AllByRecursion (λ t. has_tag t before ≡ false) tags
 pub is_other : (tags : List ℕ) (t u : ℕ)
     → is_one_of tags t ≡ true → is_one_of tags u ≡ false → (t == u) ≡ false
 is_other tags t u h k = one_of (λ x. (x == u) ≡ false) tags (none_is u tags k) t h
+
+-- and have no value of a tag
+pub value_none : (tags : List ℕ) (t : ℕ) (fields : List Field)
+    → AreOf tags fields → is_one_of tags t ≡ false → value_at t fields ≡ None
+value_none tags t [] of other = refl
+value_none tags t (f ∷ fs) of other =
+    rw (is_other tags f.0 t of.0 other) (value_none tags t fs of.1 other)
 
 -- fields of other tags keep a tag free
 still_free : (tags : List ℕ) (t : ℕ) (fields before : List Field) → AreOf tags fields

@@ -22,8 +22,8 @@ use Rattle.message_tables.proofs.Clean.{value_at-none}
 use Rattle.sound_laws.specs.Sound.{AreSaid, IsLine, IsGroup, IsItem}
 use Rattle.sound_laws.proofs.Each.{are_apart, both, not_true, each_joined, each_none}
 use Rattle.sound_laws.proofs.ContentValues.{or_none, value_at-append}
-use Rattle.sound_laws.proofs.Stages.{AreOf, apart_lists, cell_is, line_of}
-use Rattle.sound_laws.proofs.Found.{FoundAt, cell_value, value_behind, value_none}
+use Rattle.sound_laws.proofs.Stages.{AreOf, apart_lists, cell_is, line_of, value_none}
+use Rattle.sound_laws.proofs.Found.{FoundAt, cell_value, value_behind}
 
 allowed_good : (need : Need) → allowed need marks.Good ≡ marks.Good
 allowed_good Required = refl
