@@ -1,5 +1,5 @@
 -- What a request asks for; and that what is written of it is split again into its fields.
-use Rattle.std.proofs.Common.{◌≡◌, ◌≤◌, List, true, Option, Some, None, refl, sym, subst, arith}
+use Rattle.std.proofs.Common.{◌≡◌, ◌≤◌, List, true, Some, None, refl, sym, subst, arith}
 use Rattle.std.specs.Option.{option_map}
 use Rattle.std.specs.List.{list_all}
 use Rattle.field_groups.specs.Data.{is_data_tag}
@@ -20,34 +20,22 @@ use Rattle.translation.proofs.Writable.{IsType}
 
 -- ---- what a request asks for
 
--- what a canonical request asks for
-abbrev pub kind_in : {m : Message} {written : List Field} → IsRequest m written → RequestKind
-kind_in (News c w) = New
-kind_in (Cancels c w) = Cancel
-kind_in (Replaces c w) = Replace
-kind_in (Statuses c w) = Status
-
-abbrev pub kind_of : Message → Option RequestKind
-kind_of m = option_map (λ (r : Request). r.kind) (request50 m)
-
-pub kind_is : (m : Message) (written : List Field) (r : IsRequest m written)
-    → kind_of m ≡ Some (kind_in r)
-kind_is m written (News c w) = rw c.sound.letter refl
-kind_is m written (Cancels c w) = rw c.sound.letter refl
-kind_is m written (Replaces c w) = rw c.sound.letter refl
-kind_is m written (Statuses c w) = rw c.sound.letter refl
-
 -- a canonical request of what it asks for, and its content
 pub record IsOfKind (r : Message) (written : List Field) (kind : RequestKind) : Type 0 where
+  pub asks : option_map (λ (q : Request). q.kind) (request50 r) ≡ Some kind
   pub canonical : IsCanonical (letter_of kind) (items50 kind) r
   pub is : written ≡ content (asked50 kind) r
 
-pub of_kind : (r : Message) (written : List Field)
-    → (request : IsRequest r written) → IsOfKind r written (kind_in request)
-of_kind r written (News c w) = record { canonical = c; is = w }
-of_kind r written (Cancels c w) = record { canonical = c; is = w }
-of_kind r written (Replaces c w) = record { canonical = c; is = w }
-of_kind r written (Statuses c w) = record { canonical = c; is = w }
+pub of_kind : (r : Message) (written : List Field) → IsRequest r written
+    → (kind : RequestKind) × IsOfKind r written kind
+of_kind r written (News c w) =
+    (New, record { asks = rw c.sound.letter refl; canonical = c; is = w })
+of_kind r written (Cancels c w) =
+    (Cancel, record { asks = rw c.sound.letter refl; canonical = c; is = w })
+of_kind r written (Replaces c w) =
+    (Replace, record { asks = rw c.sound.letter refl; canonical = c; is = w })
+of_kind r written (Statuses c w) =
+    (Status, record { asks = rw c.sound.letter refl; canonical = c; is = w })
 
 -- ---- its fields
 
@@ -63,11 +51,9 @@ few_asked kind = omega arith
 
 pub request_few : (m : Message) (written : List Field) → IsRequest m written → AreFew written
 request_few m written request =
-    let P : List Field → Type 0 = λ fs. AreFew fs in
-    let kind = kind_in request in
-    let of = of_kind m written request in
-    subst P (sym of.is) (few_of judge (asked50 kind) m
-    (good_tags kind) (few_asked kind) of.canonical.sound)
+    let own = of_kind m written request in
+    subst (λ (fs : List Field). AreFew fs) (sym own.1.is) (few_of judge (asked50 own.0) m
+    (good_tags own.0) (few_asked own.0) own.1.canonical.sound)
 
 -- WHAT IS WRITTEN IS SPLIT AGAIN.
 pub split_again : (fields written : List Field) (m : Message)

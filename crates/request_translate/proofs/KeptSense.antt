@@ -17,7 +17,7 @@ use Rattle.translation.specs.Header.{type_of, with_content}
 use Rattle.request_rules.specs.Rules.{up_message}
 use Rattle.request_translate.specs.Translation.{IsUp, KeepSense}
 use Rattle.request_translate.specs.Laws.{FramesKeepSense}
-use Rattle.request_translate.proofs.AgainFields.{kind_is}
+use Rattle.request_translate.proofs.AgainFields.{of_kind}
 
 some_of : (o : Option Request) (kind : RequestKind)
     → option_map (λ (r : Request). r.kind) o ≡ Some kind → is_some o ≡ true
@@ -31,7 +31,7 @@ unfolding sense42
 means_some body up is =
     let s = is.stands in
     ap (λ (r : _). is_some (result_ok r >>= request42)) s.good.read ∙ ap is_some (sym s.means)
-    ∙ some_of _ _ (kind_is (up_message s.good.message) is.written s.canonical)
+    ∙ some_of _ _ (of_kind (up_message s.good.message) is.written s.canonical).1.asks
 
 bodies_keep : (body up : List ℕ) → IsUp body up → KeepSense body up
 bodies_keep body up is fields others read again =

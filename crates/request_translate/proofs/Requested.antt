@@ -24,12 +24,9 @@ module _ (fields : List Field) (stopped : Option SplitFault) where
   unwritten_up asked (Ok u) h = tt
   unwritten_up asked (Err errors.NoMemory) h = tt
   unwritten_up asked (Err errors.TooLong) h = record { asked = asked; long = h }
-  unwritten_up asked (Err (errors.Lacking tag)) h = absurd h
-  unwritten_up asked (Err (errors.Faulty fault)) h = absurd h
+  unwritten_up asked (Err other) h = absurd h
 
   pub refused_up : (error : TranslateError) → Refuses fields stopped error
       → RefusesUp fields stopped error
-  refused_up errors.NoMemory h = h
   refused_up errors.TooLong h = absurd h
-  refused_up (errors.Lacking tag) h = h
-  refused_up (errors.Faulty fault) h = h
+  refused_up other h = h

@@ -36,7 +36,7 @@ use Rattle.translation.proofs.CarriedHeader.{own_said}
 use Rattle.translation.proofs.Writable.{IsType}
 use Rattle.request_rules.specs.Canonical.{IsCanonical}
 use Rattle.request_translate.specs.Translation.{IsRequest}
-use Rattle.request_translate.proofs.AgainFields.{kind_in, kind_is, IsOfKind, of_kind}
+use Rattle.request_translate.proofs.AgainFields.{IsOfKind, of_kind}
 use Rattle.request_translate.proofs.Sayable.{told50}
 
 abbrev up_fields_of : List ℕ → List Field → List Field → List Field
@@ -158,11 +158,12 @@ module _ (msg_type : List ℕ) (fields : List Field) (x r : Message) (is_type : 
     one_kind kind behind fit asked mine e written request =
         let read = read_of (asked42 kind) fields x e in
         let theirs = asked x (ap (λ (y : Message). y.letter) (sym read.is)) in
-        let kinds_are : Some (kind_in request) ≡ Some kind = sym (kind_is r written request)
+        let own = of_kind r written request in
+        let kinds_are : Some own.0 ≡ Some kind = sym own.1.asks
         ∙ ap (option_map (λ (q : Request). q.kind)) means ∙ theirs.0 in
-        let same : kind_in request ≡ kind = cc in
+        let same : own.0 ≡ kind = cc in
         let Q : RequestKind → Type 0 = λ k. IsOfKind r written k in
-        let of : IsOfKind r written kind = subst Q same (of_kind r written request) in
+        let of : IsOfKind r written kind = subst Q same own.1 in
         let P : List Field → Type 0 = λ fs. result_ok (told50
         (message_of judge (asked50 kind) (up_fields_of msg_type fields fs)))
         >>= request50 ≡ request42 x in

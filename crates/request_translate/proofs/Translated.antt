@@ -106,8 +106,7 @@ module _ (body : List ℕ) (fields : List Field)
   pub refused : (error : TranslateError) → RefusesUp fields stopped error → IsRefused body error
   refused errors.NoMemory h = tt
   refused errors.TooLong h = record {
-    fields =
-        fields;
+    fields = fields;
     written = up_content h.asked.message;
     stands = stands h.asked;
     long = h.long;
@@ -115,8 +114,7 @@ module _ (body : List ℕ) (fields : List Field)
   refused (errors.Faulty fault) h =
       record { fields = fields; stopped = stopped; split = split; read = h }
   refused (errors.Lacking tag) h = record {
-    fields =
-        fields;
+    fields = fields;
     message = h.0;
     split = whole h.1.whole;
     read = h.1.read;
