@@ -17,7 +17,6 @@ use Rattle.rows_fix42.specs.Header.{table as table42}
 use Rattle.rows_fix50.specs.Header.{completed_by, month_by, table as table50}
 use Rattle.dict_fix42.specs.Sense as sense42
 use Rattle.dict_fix42.specs.Sense.{request42}
-use Rattle.dict_fix42.specs.Requests as requests42
 use Rattle.dict_fix50.specs.Message.{message50}
 use Rattle.sound_laws.specs.Complete.{HasMonthOfDate}
 use Rattle.sound_laws.specs.Sound.{IsSound, without_resend}
@@ -40,7 +39,7 @@ use Rattle.request_rules.specs.Rules.{up_message, up_rules}
 use Rattle.request_rules.specs.Up.{GoUp, IsOrdinary, IsRequest42, News, Cancels, Replaces, ReadGoUp}
 use Rattle.request_rules.specs.Up.{StandsFor, Statuses}
 use Rattle.request_rules.proofs.DatesUp.{month_length, month_first, day_value}
-use Rattle.request_rules.proofs.ByType.{asked}
+use Rattle.request_rules.proofs.ByType.{asked, asked42, items42, letter_of}
 use Rattle.request_rules.proofs.KindsUp.{are_kinds, own}
 use Rattle.request_rules.proofs.LacksUp.{lack_is}
 use Rattle.request_rules.proofs.SenseUp.{keeps_sense}
@@ -80,6 +79,41 @@ month_of_date (Some month) None six = refl
 month_of_date (Some month) (Some day) six =
     ap (λ (t : List ℕ). Some t) (sym (month_first month day six))
 
+-- the tables of the four requests go up
+table_goes : (kind : RequestKind) → GoesUp (items42 kind)
+table_goes New = record {
+  carried = refl;
+  rows = refl & refl & refl & refl & refl & refl & refl & refl & tt;
+  month_alone = refl;
+  date_alone = refl;
+  timed = refl;
+  type_alone = λ e. refl;
+}
+table_goes Cancel = record {
+  carried = refl;
+  rows = refl & refl & tt & tt & tt & refl & refl & tt & tt;
+  month_alone = refl;
+  date_alone = refl;
+  timed = refl;
+  type_alone = λ e. absurd cc;
+}
+table_goes Replace = record {
+  carried = refl;
+  rows = refl & refl & refl & refl & refl & refl & refl & refl & tt;
+  month_alone = refl;
+  date_alone = refl;
+  timed = refl;
+  type_alone = λ e. refl;
+}
+table_goes Status = record {
+  carried = refl;
+  rows = refl & refl & tt & tt & tt & refl & refl & tt & tt;
+  month_alone = refl;
+  date_alone = refl;
+  timed = refl;
+  type_alone = λ e. absurd cc;
+}
+
 -- ---- a message of a table that goes up
 
 -- what is written of a sound message that says the month of its date is read again
@@ -95,12 +129,21 @@ content_again letter items fit bare m sound month =
     (completed_again m month
     (ap places_apart sound.places ∙ fits.places_are_apart t m [] fit) false)
 
-module _ (letter : ℕ) (kind : RequestKind) (items : List (Item Kind)) (goes : GoesUp items)
-    (is : (f : RequestKind → Request) → asked letter f ≡ Some (f kind))
-    (fit : table_fits (table50 letter (items_up items)) [] ≡ true)
-    (bare : is_one_of (flat_map item_tags (items_up items)) 97 ≡ false)
-    (m : Message) (sound : IsSound judge (table42 letter items) m)
+module _ (kind : RequestKind)
+    (is : (f : RequestKind → Request) → asked (letter_of kind) f ≡ Some (f kind))
+    (fit : table_fits (table50 (letter_of kind) (items_up (items42 kind))) [] ≡ true)
+    (bare : is_one_of (flat_map item_tags (items_up (items42 kind))) 97 ≡ false)
+    (m : Message) (sound : IsSound judge (asked42 kind) m)
     (lack : lack42 m ≡ None) where
+  abbrev letter : ℕ
+  letter = letter_of kind
+
+  abbrev items : List (Item Kind)
+  items = items42 kind
+
+  abbrev goes : GoesUp items
+  goes = table_goes kind
+
   abbrev fields42 : List Field
   fields42 = content (table42 letter items) m
 
@@ -154,59 +197,15 @@ module _ (letter : ℕ) (kind : RequestKind) (items : List (Item Kind)) (goes : 
             as_canonical.month);
       }
 
--- ---- THE FOUR REQUESTS
-
-new_goes : GoesUp requests42.new_order
-new_goes = record {
-  carried = refl;
-  rows = refl & refl & refl & refl & refl & refl & refl & refl & tt;
-  month_alone = refl;
-  date_alone = refl;
-  timed = refl;
-  type_alone = λ e. refl;
-}
-
-cancel_goes : GoesUp requests42.cancel_request
-cancel_goes = record {
-  carried = refl;
-  rows = refl & refl & tt & tt & tt & refl & refl & tt & tt;
-  month_alone = refl;
-  date_alone = refl;
-  timed = refl;
-  type_alone = λ e. absurd cc;
-}
-
-replace_goes : GoesUp requests42.replace_request
-replace_goes = record {
-  carried = refl;
-  rows = refl & refl & refl & refl & refl & refl & refl & refl & tt;
-  month_alone = refl;
-  date_alone = refl;
-  timed = refl;
-  type_alone = λ e. refl;
-}
-
-status_goes : GoesUp requests42.status_request
-status_goes = record {
-  carried = refl;
-  rows = refl & refl & tt & tt & tt & refl & refl & tt & tt;
-  month_alone = refl;
-  date_alone = refl;
-  timed = refl;
-  type_alone = λ e. absurd cc;
-}
-
 -- WHAT GOES UP STANDS FOR A MESSAGE.
 stands_for : (m : Message) → IsRequest42 m → lack42 m ≡ None → StandsFor m
 unfolding message50
-stands_for m (News s) lack = stands 68 New requests42.new_order new_goes (λ f. refl) refl refl m s
-    lack canonical.News refl
-stands_for m (Cancels s) lack = stands 70 Cancel requests42.cancel_request cancel_goes (λ f. refl)
-    refl refl m s lack canonical.Cancels refl
-stands_for m (Replaces s) lack = stands 71 Replace requests42.replace_request replace_goes
-    (λ f. refl) refl refl m s lack canonical.Replaces refl
-stands_for m (Statuses s) lack = stands 72 Status requests42.status_request status_goes (λ f. refl)
-    refl refl m s lack canonical.Statuses refl
+stands_for m (News s) lack = stands New (λ f. refl) refl refl m s lack canonical.News refl
+stands_for m (Cancels s) lack = stands Cancel (λ f. refl) refl refl m s lack canonical.Cancels refl
+stands_for m (Replaces s) lack =
+    stands Replace (λ f. refl) refl refl m s lack canonical.Replaces refl
+stands_for m (Statuses s) lack =
+    stands Status (λ f. refl) refl refl m s lack canonical.Statuses refl
 
 pub go_up : GoUp
 go_up = stands_for

@@ -1,7 +1,7 @@
 -- What is read of the fields of a request of FIX 4.2 is a sound message.
 use Rattle.std.proofs.Common.{◌≡◌, ℕ, List, [], ◌∷◌, Some, None, Bool, true, false, refl, sym, ap}
 use Rattle.std.proofs.Common.{subst, ◌∙◌}
-use Rattle.std.specs.Prelude.{Result, Ok, Err, not, ◌&&◌, ◌||◌, ◌==◌}
+use Rattle.std.specs.Prelude.{Result, Ok, Err, not, ◌&&◌, ◌==◌}
 use Rattle.std.specs.Result.{result_ok}
 use Rattle.std.specs.List.{AllByRecursion, flat_map, list_all}
 use Rattle.std.proofs.lemmas.Bool.{eqb-true}
@@ -23,6 +23,7 @@ use Rattle.rows_fix42.specs.Header.{table}
 use Rattle.first_faults.specs.Faults.{message_by}
 use Rattle.dict_fix42.specs.Requests.{new_order, cancel_request, replace_request, status_request}
 use Rattle.sound_laws.specs.Sound.{IsClear, IsSound}
+use Rattle.sound_laws.proofs.CompletedSound.{kept_test}
 use Rattle.sound_laws.proofs.Each.{both, not_true}
 use Rattle.sound_laws.proofs.ContentValues.{is_alone, value_said}
 use Rattle.sound_laws.proofs.PlainRows.{value_again, value_clear, HasPlainRows, allocs_plain}
@@ -71,16 +72,7 @@ module _ (table : Table Kind) (fields : List Field) where
         let is : tag ≡ 205 = eqb-true tag 205 h in
         let P : ℕ → Type 0 = λ t. is_needed (When ((Stands t ∷ []) ∷ [])) after ≡ true
         → is_needed (When ((Stands t ∷ []) ∷ [])) fields ≡ true in
-        subst P (sym is) by n
-      where
-        all_of : (a b : Bool)
-            → (a ≡ true → b ≡ true) → ((a && true) || false) ≡ true → ((b && true) || false) ≡ true
-        all_of true b k e = let is : b ≡ true = k refl in rw is refl
-        all_of false b k e = absurd cc
-
-        by : is_needed (When ((Stands 205 ∷ []) ∷ [])) after ≡ true
-            → is_needed (When ((Stands 205 ∷ []) ∷ [])) fields ≡ true
-        by e = all_of (has_tag 205 after) (has_tag 205 fields) same_day e
+        subst P (sym is) (kept_test (has_tag 205 after) (has_tag 205 fields) same_day) n
     kept_need other h n = absurd cc
 
     ours_again : (kind : Kind) → ours_kind kind ≡ true → (bytes text : List ℕ)

@@ -71,7 +71,8 @@ abbrev pub KeepsType : List Field → List Field → Type 0
 KeepsType before after = (listed : List ℕ) → is_listed listed (value_at 150 after) ≡ true
     → is_listed listed (value_at 150 before) ≡ true
 
-kept_test : (a b : Bool) → (a ≡ true → b ≡ true) → ((a && true) || false) ≡ true
+-- a condition of one test
+pub kept_test : (a b : Bool) → (a ≡ true → b ≡ true) → ((a && true) || false) ≡ true
     → ((b && true) || false) ≡ true
 kept_test true b kept h = let is : b ≡ true = kept refl in rw is refl
 kept_test false b kept h = absurd cc
