@@ -21,15 +21,11 @@ use Rattle.sound_laws.proofs.Stages.{each_of, item_of, is_other, line_of, none_b
 
 -- ---- fields of other tags
 
-or_later : (a b : Option (List ℕ)) → a ≡ None → or_else a b ≡ b
-or_later None b e = refl
-or_later (Some x) b e = absurd cc
-
 -- a value behind fields of other tags
 pub value_behind : (tags : List ℕ) (t : ℕ) (xs ys : List Field)
     → AreOf tags xs → is_one_of tags t ≡ false → value_at t (xs ++ ys) ≡ value_at t ys
 value_behind tags t xs ys of other = value_at-append t xs ys
-    ∙ or_later (value_at t xs) (value_at t ys) (value_none tags t xs of other)
+    ∙ ap (λ (v : Option (List ℕ)). or_else v (value_at t ys)) (value_none tags t xs of other)
 
 after_behind : (tags : List ℕ) (t : ℕ) (xs ys : List Field)
     → AreOf tags xs → is_one_of tags t ≡ false → after_tag t (xs ++ ys) ≡ after_tag t ys
@@ -141,14 +137,9 @@ run_is g (f ∷ fs) rest ins out =
     take_while-cons (λ x. is_inside g x.0) f (fs ++ rest)
     ∙ rw ins.0 (ap (λ (xs : List Field). f ∷ xs) (run_is g fs rest ins.1 out))
 
-pub or_true : (a b : Bool) → a ≡ true → (a || b) ≡ true
-or_true true b h = refl
-or_true false b h = absurd cc
-
 pub inside_of : {Kind : Type 0} (group : RepeatingGroup Kind) (fields : List Field)
     → AreOf (tags_of group.rows) fields → Inside (tags_in group) fields
-inside_of group = each_by _ _ (λ f of. or_true (is_one_of (tags_of group.rows) f.0)
-    (is_one_of group.skipped f.0) of)
+inside_of group = each_by _ _ (λ f of. ap (λ (b : Bool). b || is_one_of group.skipped f.0) of)
 
 module _ {Kind : Type 0} (judge : Judge Kind) where
   none_first : (tags : List ℕ) (first : ℕ) (fields : List Field)

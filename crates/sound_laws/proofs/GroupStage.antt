@@ -29,7 +29,7 @@ use Rattle.sound_laws.specs.Sound.{AreSaid, IsLine, IsItem}
 use Rattle.sound_laws.proofs.Each.{are_apart, both, either, none_is, not_true, one_of, same_number}
 use Rattle.sound_laws.proofs.Stages.{item_tags, AreOf, Free, back, lines_of_tags, item_of}
 use Rattle.sound_laws.proofs.Stages.{each_of, free_after, others_apart, none_free}
-use Rattle.sound_laws.proofs.Found.{or_true, Begins, HasFirst, Outside, GroupsApart, group_begins}
+use Rattle.sound_laws.proofs.Found.{Begins, HasFirst, Outside, GroupsApart, group_begins}
 use Rattle.sound_laws.proofs.Found.{inside_of, outside_of, items_of, run_is}
 
 -- each field in its place, with the fields before it, backwards, and those after it
@@ -336,7 +336,7 @@ module _ {Kind : Type 0} (judge : Judge Kind)
   members plain (u ∷ us) mine counted kept = (
     record {
       count = counted.0;
-      inside = or_true (is_one_of (tags_of (row ∷ rows)) u) (is_one_of skipped u) mine.0;
+      inside = ap (λ (b : Bool). b || is_one_of skipped u) mine.0;
       skipped = kept.0;
     },
     members plain us mine.1 counted.1 kept.1,
@@ -382,7 +382,8 @@ module _ {Kind : Type 0} (judge : Judge Kind) (fields : List Field) (m : Message
   with_rows group rows = record { count = group.count; rows = rows; skipped = group.skipped }
 
   own_in_place : (group : RepeatingGroup Kind) (rows : List (Row Kind)) (lines : List (List Cell))
-      → IsWhole (with_rows group rows) → length lines ≤ 32 → AllByRecursion (IsLine judge rows) lines
+      → IsWhole (with_rows group rows) → length lines ≤ 32
+      → AllByRecursion (IsLine judge rows) lines
       → (before after : List Field) → Outside (tags_in (with_rows group rows)) after → InPlace
       (λ p. misplaced p (tags_in (with_rows group rows)) ≡ None) before
       (group_fields group.count lines) after

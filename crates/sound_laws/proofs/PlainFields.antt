@@ -154,7 +154,8 @@ module _ {Kind : Type 0} (judge : Judge Kind) where
     item_plain (Lines group) good said =
         let t =
         both (is_good_tag group.count) (list_all (λ row. is_good_tag row.tag) group.rows) good in
-        group_plain group.count group.rows (lines_of group.count m.groups) t.0 t.1 said.few said.said
+        group_plain group.count group.rows (lines_of group.count m.groups) t.0 t.1 said.few
+        said.said
 
     items_plain : (items : List (Item Kind)) → list_all has_good_tags items ≡ true
         → AllByRecursion (IsItem judge fields m) items → Plains (flat_map (item_fields m) items)
@@ -176,7 +177,8 @@ module _ {Kind : Type 0} (judge : Judge Kind) where
     items_length [] said = omega arith
     items_length (item ∷ items) said =
         let one = item_length item said.0 in let rest = items_length items said.1 in
-        omega (arith, one, rest, length-append (item_fields m item) (flat_map (item_fields m) items))
+        let joined = length-append (item_fields m item) (flat_map (item_fields m) items) in
+        omega (arith, one, rest, joined)
 
 pub all_of : (fields : List Field) → Plains fields → All IsPlainField fields
 all_of [] h = search rules

@@ -169,16 +169,12 @@ and_false : (a b : Bool) → b ≡ false → (a && b) ≡ false
 and_false true b h = h
 and_false false b h = refl
 
-first_false : (a b : Bool) → a ≡ false → (a && b) ≡ false
-first_false false b h = refl
-first_false true b h = absurd cc
-
 -- fields that are not counted
 uncounted : (once tags : List ℕ) (fields before : List Field) → AreOf tags fields
     → AllByRecursion (λ t. is_one_of once t ≡ false) tags → NoneTwice once before fields
 uncounted once tags [] before of other = tt
 uncounted once tags (f ∷ fs) before of other = (
-  first_false (is_one_of once f.0) (has_tag f.0 before)
+  ap (λ (b : Bool). b && has_tag f.0 before)
       (one_of (λ t. is_one_of once t ≡ false) tags other f.0 of.0),
   uncounted once tags fs (f ∷ before) of.1 other,
 )
