@@ -1,5 +1,5 @@
 -- What is read of fields at no fault is their message, row by row.
-use Rattle.std.proofs.Common.{◌≡◌, ◌<◌, List, [], ◌∷◌, None}
+use Rattle.std.proofs.Common.{◌≡◌, List, [], ◌∷◌, None}
 use Rattle.std.proofs.Common.{map, refl, codes}
 use Rattle.std.proofs.Common.{lit<}
 use Rattle.field_groups.specs.Field.{Field}

@@ -1,8 +1,8 @@
 -- Inside: reports that say at each row what the fields say.
-use Rattle.std.specs.Prelude.{◌≡◌, ℕ, List, [], ◌∷◌, codes, None, unwrap_or, IfSome}
+use Rattle.std.specs.Prelude.{◌≡◌, ℕ, List, [], ◌∷◌, codes, unwrap_or, IfSome}
 use Rattle.std.specs.Option.{option_map}
 use Rattle.std.specs.List.{AllZip}
-use Rattle.value_kinds.specs.ValueKind.{Id, Text, Code, Word, Currency, Number, Reason, Qty, Price}
+use Rattle.value_kinds.specs.ValueKind.{Id, Text, Code, Word, Currency, Reason, Qty, Price}
 use Rattle.value_kinds.specs.ValueKind.{Stamp, Day, code_text}
 use Rattle.typed_fields.specs.Dec.{dec_text}
 use Rattle.typed_fields.specs.Day.{day_text}

@@ -1,7 +1,7 @@
 -- Inside: reports that say at each row what the fields say.
 use Rattle.std.specs.Prelude.{◌≡◌, ℕ, List, [], ◌∷◌, codes, unwrap_or, IfSome}
 use Rattle.std.specs.Option.{option_map}
-use Rattle.value_kinds.specs.ValueKind.{Id, Text, Word, Currency, Number, Reason, Day, Qty, Price}
+use Rattle.value_kinds.specs.ValueKind.{Id, Text, Word, Currency, Reason, Day, Qty, Price}
 use Rattle.value_kinds.specs.ValueKind.{Stamp, Code, Known, code_text}
 use Rattle.typed_fields.specs.Dec.{dec_text, IsDec}
 use Rattle.typed_fields.specs.Day.{day_text, IsDay}
