@@ -1,6 +1,6 @@
 -- Worked examples: spellings with what they are read as and how their value is written, computed
 -- from the definitions alone.
-use Rattle.std.proofs.Common.{◌≡◌, true, [], codes, Some, None, Ok, Err, refl, pos, negsuc}
+use Rattle.std.proofs.Common.{◌≡◌, true, [], codes, Ok, Err, refl, pos, negsuc}
 use Rattle.std.specs.Fmt.{digits}
 use Rattle.jiff_core.specs.Calendar.{days_of_years, days_of_months, day_count, days_from_civil}
 use Rattle.typed_fields.specs.declared.fault.FieldFault.TheVariants.{Empty, Form, Range}
@@ -11,7 +11,9 @@ use Rattle.typed_fields.specs.Number.{read_number, number_text}
 use Rattle.typed_fields.specs.Flag.{read_flag}
 use Rattle.typed_fields.specs.MonthYear.{read_month_year, month_year_text}
 use Rattle.typed_fields.specs.Day.{read_day, day_text, counted_off, date_of}
-use Rattle.typed_fields.specs.Stamp.{read_stamp, stamp_millis, stamp_at}
+use Rattle.typed_fields.specs.declared.stamp.Fraction.TheVariants.{Whole, Three, Six, Nine}
+use Rattle.typed_fields.specs.Stamp.{read_stamp, read_fine, cut_fraction, cut_text, stamp_millis}
+use Rattle.typed_fields.specs.Stamp.{stamp_at}
 
 -- FIX 4.2, float: 00023.23 is 23.23, and 23.0 is 23.0000 is 23 is 23.
 floats : (read_dec (codes "00023.23") ≡ Ok (record { units = pos 2_323_000_000 }))
@@ -88,11 +90,20 @@ unfolding zero_padded counted_off date_of
 day_texts = (refl, refl)
 
 moments : (read_stamp (codes "20240102-23:59:60")
-    ≡ Ok (record { day = pos 19_724; hour = 23; minute = 59; second = 60; milli = None }))
+    ≡ Ok (record { day = pos 19_724; hour = 23; minute = 59; second = 60; frac = Whole }))
     × (read_stamp (codes "20240230-00:00:00") ≡ Err Range)
     × (read_stamp (codes "20240102-23:59:59.12") ≡ Err Form) × (stamp_at 4_102_444_799_999
-    ≡ record { day = pos 47_481; hour = 23; minute = 59; second = 59; milli = Some 999 })
-    × (stamp_millis (record { day = negsuc 0; hour = 23; minute = 59; second = 60; milli = None })
+    ≡ record { day = pos 47_481; hour = 23; minute = 59; second = 59; frac = Three 999 })
+    × (stamp_millis (record { day = negsuc 0; hour = 23; minute = 59; second = 60; frac = Whole })
     ≡ pos 0)
+    × (read_stamp (codes "20240102-10:00:00.123999999") ≡ Err Form)
+    × (read_fine (codes "20240102-10:00:00.1") ≡ Err Form)
+    × (read_fine (codes "20240102-24:00:00.123999") ≡ Err Range)
+    × (read_fine (codes "20240102-10:00:00.123999999")
+    ≡ Ok (record { day = pos 19_724; hour = 10; minute = 0; second = 0; frac = Nine 123_999_999 }))
+    × (read_stamp (cut_text (codes "20240102-10:00:00.123999999"))
+    ≡ Ok (record { day = pos 19_724; hour = 10; minute = 0; second = 0; frac = Three 123 }))
+    × (cut_fraction (Nine 123_999_999) ≡ Three 123) × (cut_fraction (Six 1_999) ≡ Three 1)
 unfolding number_of has_pattern days_of_years days_of_months day_count days_from_civil
-moments = (refl, refl, refl, refl, refl)
+moments =
+    (refl, refl, refl, refl, refl, refl, refl, refl, refl, refl, refl, refl)

@@ -1,6 +1,6 @@
 //! Days.
 
-ghost use Rattle.std.specs.Prelude.{◌≡◌, ◌≤◌, ◌<◌, ◌++◌, take, length, IsTrue, OnOk, OnErr};
+ghost use Rattle.std.specs.Prelude.{◌≡◌, ◌≤◌, ◌<◌, ◌++◌, take, length, IsTrue};
 ghost use Rattle.std.specs.Prelude.{◌+◌, vec_capacity, vec_len};
 ghost use Rattle.std.specs.Prelude.{IfOk, if◌then◌else◌};
 ghost use Rattle.typed_fields.specs.Digits.{are_digits};
@@ -11,7 +11,6 @@ use crate::digits::{four_digits, has_pattern, number_at, two_digits};
 use crate::fault::FieldFault;
 use crate::value::MAX_SPELLING;
 use jiff::civil::Date;
-use std::alloc::AllocError;
 
 /// A day from 1 January 0000 to 31 December 9999 of the Gregorian calendar, as the data types
 /// LocalMktDate and UTCDate of FIX 4.2.
@@ -74,22 +73,7 @@ impl Day {
         }
     }
 
-    /// Appends the eight digits.
-    ///
-    /// # Errors
-    ///
-    /// `AllocError` where memory is wanting; then `out` is unchanged.
-    pub fn write(&self, out: &mut Vec<u8>) -> Result<(), AllocError>
-        requires { IsDay self.now }
-        ensures ok { OnOk result (out.new.items ≡ out.old.items ++ day_text self.now) }
-        ensures err { OnErr result (out.new.items ≡ out.old.items) }
-    {
-        out.reserve(MAX_SPELLING)?;
-        self.push(out);
-        Ok(())
-    }
-
-    /// Appends it where there is room for any spelling.
+    /// Appends the eight digits where there is room for any spelling.
     #[inline(always)]
     pub(crate) fn push(&self, out: &mut Vec<u8>)
         requires value { IsDay self.now }

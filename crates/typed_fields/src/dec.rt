@@ -1,7 +1,7 @@
 //! Decimal numbers.
 
 ghost use Rattle.std.specs.Prelude.{◌≡◌, ◌+◌, ◌/◌, ◌^◌, ◌<◌, ◌≤◌, ◌++◌, unsigned_abs, length};
-ghost use Rattle.std.specs.Prelude.{◌*◌, ◌-◌, IsTrue, OnOk, OnErr, IfErr, IfOk, IfSome, Ok, drop};
+ghost use Rattle.std.specs.Prelude.{◌*◌, ◌-◌, IsTrue, OnOk, IfErr, IfOk, IfSome, Ok, drop};
 ghost use Rattle.std.specs.List.{before_first, after_first, position};
 ghost use Rattle.typed_fields.specs.Digits.{are_digits, number_of, without_trailing_zeros};
 ghost use Rattle.typed_fields.specs.Digits.{or_zero, without_leading_zeros, zero_padded};
@@ -18,7 +18,6 @@ use crate::digits::{
 use crate::fault::FieldFault;
 use crate::value::MAX_SPELLING;
 use itoa::Buffer;
-use std::alloc::AllocError;
 
 /// The units of one.
 const ONE: u128 = 100_000_000;
@@ -246,22 +245,6 @@ impl Dec {
         })
     }
 
-    /// Appends the canonical spelling: no needless zeros, no minus sign of zero, a digit before the
-    /// point, and no point without a digit behind it.
-    ///
-    /// # Errors
-    ///
-    /// `AllocError` where memory is wanting; then `out` is unchanged.
-    pub fn write(&self, out: &mut Vec<u8>) -> Result<(), AllocError>
-        requires { IsDec self.now }
-        ensures ok { OnOk result (out.new.items ≡ out.old.items ++ dec_text self.now) }
-        ensures err { OnErr result (out.new.items ≡ out.old.items) }
-    {
-        out.reserve(MAX_SPELLING)?;
-        self.push(out);
-        Ok(())
-    }
-
     /// Appends the canonical spelling of the number that bytes spell, where there is room for any.
     /// Most numbers are spelled so already, and stand as they are.
     ///
@@ -283,7 +266,8 @@ impl Dec {
         Ok(())
     }
 
-    /// Appends it where there is room for any spelling.
+    /// Appends the canonical spelling where there is room for any: no needless zeros, no minus sign
+    /// of zero, a digit before the point, and no point without a digit behind it.
     #[inline(always)]
     pub(crate) fn push(&self, out: &mut Vec<u8>)
         requires value { IsDec self.now }

@@ -1,12 +1,11 @@
 //! Yes and no.
 
-ghost use Rattle.std.specs.Prelude.{◌≡◌, ◌++◌, OnOk, OnErr};
+ghost use Rattle.std.specs.Prelude.{◌≡◌, ◌++◌};
 ghost use Rattle.std.specs.Prelude.{◌+◌, ◌≤◌, vec_capacity, vec_len};
 ghost use Rattle.typed_fields.specs.Flag.{read_flag, flag_text};
 
 use crate::fault::FieldFault;
 use crate::value::MAX_SPELLING;
-use std::alloc::AllocError;
 
 /// Yes or no, as the data type Boolean of FIX 4.2.
 ///
@@ -34,21 +33,7 @@ impl Flag {
         }
     }
 
-    /// Appends `Y` or `N`.
-    ///
-    /// # Errors
-    ///
-    /// `AllocError` where memory is wanting; then `out` is unchanged.
-    pub fn write(&self, out: &mut Vec<u8>) -> Result<(), AllocError>
-        ensures ok { OnOk result (out.new.items ≡ out.old.items ++ flag_text self.now) }
-        ensures err { OnErr result (out.new.items ≡ out.old.items) }
-    {
-        out.reserve(MAX_SPELLING)?;
-        self.push(out);
-        Ok(())
-    }
-
-    /// Appends it where there is room for any spelling.
+    /// Appends `Y` or `N` where there is room for any spelling.
     #[inline(always)]
     pub(crate) fn push(&self, out: &mut Vec<u8>)
         requires room { vec_len out.old + MAX_SPELLING ≤ vec_capacity out.old }

@@ -26,5 +26,5 @@ pub use fault::FieldFault;
 pub use flag::Flag;
 pub use month_year::MonthYear;
 pub use number::Number;
-pub use stamp::{MAX_MILLIS, Stamp};
+pub use stamp::{Fraction, MAX_MILLIS, Stamp, cut_text};
 pub use value::{FieldValue, MAX_SPELLING};

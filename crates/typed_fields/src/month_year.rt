@@ -1,13 +1,12 @@
 //! Months of years.
 
-ghost use Rattle.std.specs.Prelude.{◌≡◌, ◌++◌, OnOk, OnErr, IfOk};
+ghost use Rattle.std.specs.Prelude.{◌≡◌, ◌++◌, IfOk};
 ghost use Rattle.std.specs.Prelude.{◌+◌, ◌≤◌, vec_capacity, vec_len};
 ghost use Rattle.typed_fields.specs.MonthYear.{read_month_year, month_year_text, IsMonthYear};
 
 use crate::digits::{four_digits, has_pattern, number_at, two_digits};
 use crate::fault::FieldFault;
 use crate::value::MAX_SPELLING;
-use std::alloc::AllocError;
 
 /// A month of a year from 0000 to 9999, as the data type month-year of FIX 4.2.
 ///
@@ -45,22 +44,7 @@ impl MonthYear {
         Ok(MonthYear { year, month })
     }
 
-    /// Appends the six digits.
-    ///
-    /// # Errors
-    ///
-    /// `AllocError` where memory is wanting; then `out` is unchanged.
-    pub fn write(&self, out: &mut Vec<u8>) -> Result<(), AllocError>
-        requires { IsMonthYear self.now }
-        ensures ok { OnOk result (out.new.items ≡ out.old.items ++ month_year_text self.now) }
-        ensures err { OnErr result (out.new.items ≡ out.old.items) }
-    {
-        out.reserve(MAX_SPELLING)?;
-        self.push(out);
-        Ok(())
-    }
-
-    /// Appends it where there is room for any spelling.
+    /// Appends the six digits where there is room for any spelling.
     #[inline(always)]
     pub(crate) fn push(&self, out: &mut Vec<u8>)
         requires value { IsMonthYear self.now }

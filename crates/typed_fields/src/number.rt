@@ -1,6 +1,6 @@
 //! Whole numbers.
 
-ghost use Rattle.std.specs.Prelude.{◌≡◌, ◌++◌, OnOk, OnErr, IfOk};
+ghost use Rattle.std.specs.Prelude.{◌≡◌, ◌++◌, IfOk};
 ghost use Rattle.std.specs.Prelude.{◌+◌, ◌≤◌, vec_capacity, vec_len};
 ghost use Rattle.typed_fields.specs.Number.{read_number, number_text, IsNumber};
 
@@ -8,7 +8,6 @@ use crate::digits::{are_digits, number};
 use crate::fault::FieldFault;
 use crate::value::MAX_SPELLING;
 use itoa::Buffer;
-use std::alloc::AllocError;
 
 /// The greatest number that a field may have.
 const MAX_NUMBER: u64 = 1_000_000_000;
@@ -51,22 +50,7 @@ impl Number {
         })
     }
 
-    /// Appends the canonical spelling.
-    ///
-    /// # Errors
-    ///
-    /// `AllocError` where memory is wanting; then `out` is unchanged.
-    pub fn write(&self, out: &mut Vec<u8>) -> Result<(), AllocError>
-        requires { IsNumber self.now }
-        ensures ok { OnOk result (out.new.items ≡ out.old.items ++ number_text self.now) }
-        ensures err { OnErr result (out.new.items ≡ out.old.items) }
-    {
-        out.reserve(MAX_SPELLING)?;
-        self.push(out);
-        Ok(())
-    }
-
-    /// Appends it where there is room for any spelling.
+    /// Appends the canonical spelling where there is room for any.
     #[inline(always)]
     pub(crate) fn push(&self, out: &mut Vec<u8>)
         requires value { IsNumber self.now }

@@ -48,7 +48,12 @@ pub trait FieldValue: Sized {
     fn write(&self, out: &mut Vec<u8>) -> Result<(), AllocError>
         requires { can_be self.now }
         ensures ok { OnOk result (out.new.items ≡ out.old.items ++ spelling self.now) }
-        ensures err { OnErr result (out.new.items ≡ out.old.items) };
+        ensures err { OnErr result (out.new.items ≡ out.old.items) }
+    {
+        out.reserve(MAX_SPELLING)?;
+        self.push(out);
+        Ok(())
+    }
 
     /// Appends the canonical spelling where there is room for any.
     fn push(&self, out: &mut Vec<u8>)
@@ -81,10 +86,6 @@ impl FieldValue for Dec {
         Dec::read(value)
     }
 
-    fn write(&self, out: &mut Vec<u8>) -> Result<(), AllocError> {
-        Dec::write(self, out)
-    }
-
     fn push(&self, out: &mut Vec<u8>) {
         Dec::push(self, out)
     }
@@ -103,10 +104,6 @@ impl FieldValue for Number {
 
     fn read(value: &[u8]) -> Result<Number, FieldFault> {
         Number::read(value)
-    }
-
-    fn write(&self, out: &mut Vec<u8>) -> Result<(), AllocError> {
-        Number::write(self, out)
     }
 
     fn push(&self, out: &mut Vec<u8>) {
@@ -129,10 +126,6 @@ impl FieldValue for Flag {
         Flag::read(value)
     }
 
-    fn write(&self, out: &mut Vec<u8>) -> Result<(), AllocError> {
-        Flag::write(self, out)
-    }
-
     fn push(&self, out: &mut Vec<u8>) {
         Flag::push(self, out)
     }
@@ -151,10 +144,6 @@ impl FieldValue for Day {
 
     fn read(value: &[u8]) -> Result<Day, FieldFault> {
         Day::read(value)
-    }
-
-    fn write(&self, out: &mut Vec<u8>) -> Result<(), AllocError> {
-        Day::write(self, out)
     }
 
     fn push(&self, out: &mut Vec<u8>) {
@@ -177,10 +166,6 @@ impl FieldValue for MonthYear {
         MonthYear::read(value)
     }
 
-    fn write(&self, out: &mut Vec<u8>) -> Result<(), AllocError> {
-        MonthYear::write(self, out)
-    }
-
     fn push(&self, out: &mut Vec<u8>) {
         MonthYear::push(self, out)
     }
@@ -199,10 +184,6 @@ impl FieldValue for Stamp {
 
     fn read(value: &[u8]) -> Result<Stamp, FieldFault> {
         Stamp::read(value)
-    }
-
-    fn write(&self, out: &mut Vec<u8>) -> Result<(), AllocError> {
-        Stamp::write(self, out)
     }
 
     fn push(&self, out: &mut Vec<u8>) {

@@ -1,6 +1,6 @@
 use Rattle.typed_fields.proofs.NumberLaws.{number_is_plain, flag_is_plain, month_year_is_plain}
 use Rattle.typed_fields.proofs.DayLaws.{day_is_plain}
-use Rattle.typed_fields.proofs.StampLaws.{stamp_is_plain}
+use Rattle.typed_fields.proofs.StampLaws.{fine_is_plain, stamp_is_plain}
 use Rattle.typed_fields.proofs.DecLaws.{dec_is_plain}
 use Rattle.typed_fields.proofs.laws.spellings_are_plain.Goals as goal
 
@@ -12,4 +12,5 @@ returns c = record {
   day = day_is_plain;
   month_year = month_year_is_plain;
   stamp = stamp_is_plain;
+  fine = fine_is_plain;
 }

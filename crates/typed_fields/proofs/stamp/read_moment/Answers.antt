@@ -1,10 +1,8 @@
-use Rattle.std.proofs.Common.{◌≡◌, ℕ, List, true, codes, take, length, ◌≤◌, sym, ◌∙◌, refl, arith}
+use Rattle.std.proofs.Common.{◌≡◌, ℕ, List, true, codes, take, length, ◌≤◌, refl, arith}
 use Rattle.std.proofs.lemmas.List.{length-take}
 use Rattle.typed_fields.specs.Digits.{has_pattern}
-use Rattle.typed_fields.specs.Day.{IsDayNumber}
 use Rattle.typed_fields.proofs.DigitsLemmas.{digits_of_pattern, length-has_pattern}
 use Rattle.typed_fields.proofs.DigitsLemmas.{slice_range-take}
-use Rattle.typed_fields.proofs.DateLemmas.{IsDayNumber-spelled, day_fits}
 use Rattle.typed_fields.proofs.stamp.read_moment.Goals as goal
 
 -- the bytes are as many as the form of whole seconds has
@@ -43,17 +41,3 @@ pub day_number-requires-clause-digits : goal.day_number-requires-clause-digits
 day_number-requires-clause-digits c =
     rw (slice_range-take c.args.bytes.now 17 0 8 (omega arith)) at (digits_of_pattern
     (codes "YYYYMMDD-HH:MM:SS") (take 17 c.args.bytes.now) 0 8 c.requires.form refl)
-
-pub returns-in-Some-clause-bound : goal.returns-in-Some-clause-bound
-returns-in-Some-clause-bound c =
-    let digits = rw (slice_range-take c.args.bytes.now 17 0 8 (omega arith)) at (digits_of_pattern
-    (codes "YYYYMMDD-HH:MM:SS") (take 17 c.args.bytes.now) 0 8 c.requires.form refl) in
-    let day : IsDayNumber c.in-Some.day = IsDayNumber-spelled
-    c.args.bytes.now c.in-Some.day digits (sym c.day_number.ensures ∙ c.in-Some.is) in
-    record {
-      day = rw (day_fits c.in-Some.day day) day;
-      hour = c.if-hour-le23.true;
-      minute = c.if-minute-le59.true;
-      second = c.if-second-le60.true;
-      milli = c.requires.small;
-    }
