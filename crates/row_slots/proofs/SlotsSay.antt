@@ -14,6 +14,8 @@ use Rattle.typed_fields.specs.declared.month_year.MonthYear.{MonthYear as MonthV
 use Rattle.typed_fields.specs.Dec.{dec_text, read_dec}
 use Rattle.typed_fields.specs.MonthYear.{read_month_year}
 use Rattle.typed_fields.specs.Number.{number_text, read_number}
+use Rattle.typed_fields.specs.declared.stamp.Stamp.{Stamp as StampValue}
+use Rattle.typed_fields.specs.Stamp.{cut_text, read_fine}
 use Rattle.field_groups.specs.Field.{Field}
 use Rattle.message_tables.specs.Tables.{Need, Lenient, Fixed, Row, Table, Item, One, Party, Lines}
 use Rattle.message_tables.specs.Tables.{Verdict, Spells, Said, Cell, Tag, ◌>>=◌, all_rows, cells_of}
@@ -24,8 +26,9 @@ use Rattle.message_tables.proofs.ByPlace.{found_at, found_by_place}
 use Rattle.message_tables.specs.TableLaws.{IsStrict}
 use Rattle.message_tables.specs.declared.table_fault.Mark.{Mark}
 use Rattle.message_tables.proofs.Clean.{spells}
-use Rattle.value_kinds.specs.ValueKind.{ValueKind, Code, Number, Reason, Qty, Price, MonthYear}
-use Rattle.value_kinds.specs.ValueKind.{DayOfMonth, spelling, spelt, if_in_range, most_reason}
+use Rattle.value_kinds.specs.ValueKind.{ValueKind, Code, Number, Reason, Qty, Price, FineStamp}
+use Rattle.value_kinds.specs.ValueKind.{MonthYear, DayOfMonth, spelling, spelt, if_in_range}
+use Rattle.value_kinds.specs.ValueKind.{most_reason}
 use Rattle.row_values.specs.Kinds.{Kind, Value, MonthBeside, TimeBeside, date_at, filled}
 use Rattle.row_values.specs.Kinds.{if_spelled, is_at_close, judge, month_beside, verdict_of}
 use Rattle.sound_laws.proofs.Judged50.{counts as counted_is}
@@ -99,6 +102,17 @@ reasons [] text h = absurd cc
 reasons (b ∷ bs) text h =
     in_range number_text (λ n. nat_le n.value most_reason) (read_number (b ∷ bs)) text h
 
+moments : (bytes text : List ℕ) → verdict_of (spelling FineStamp bytes) ≡ Spells text
+    → cut_text bytes ≡ text
+unfolding spelling
+moments [] text h = absurd cc
+moments (b ∷ bs) text h = by (read_fine (b ∷ bs)) h
+  where
+    by : (r : Result StampValue FieldFault)
+        → verdict_of (spelt (λ _. cut_text (b ∷ bs)) r) ≡ Spells text → cut_text (b ∷ bs) ≡ text
+    by (Ok s) h = cc
+    by (Err fault) h = absurd cc
+
 -- a value at a place
 module _ (fields : List Field) (place : ℕ) (tag : ℕ) (bytes : List ℕ)
     (at : slice_get fields place ≡ Some (tag, bytes)) where
@@ -131,6 +145,8 @@ module _ (fields : List Field) (place : ℕ) (tag : ℕ) (bytes : List ℕ)
   by_value Reason text is h = numerals text (reasons bytes text h)
   by_value Qty text is h = decimals text (quantities bytes text h)
   by_value Price text is h = decimals text (prices bytes text h)
+  by_value FineStamp text is h =
+      ap (option_map cut_text) value_is ∙ ap (λ t. Some t) (moments bytes text h)
   by_value MonthYear text is h = absurd cc
   by_value DayOfMonth text is h = absurd cc
   by_value kind text is h = stands kind text refl h
@@ -388,6 +404,7 @@ is_standing (Value Number) = false
 is_standing (Value Reason) = false
 is_standing (Value Qty) = false
 is_standing (Value Price) = false
+is_standing (Value FineStamp) = false
 is_standing kind = true
 
 abbrev pub is_numeral : Kind → Bool
@@ -415,6 +432,7 @@ module _ (fields : List Field) where
   stand (Value Reason) place h = absurd cc
   stand (Value Qty) place h = absurd cc
   stand (Value Price) place h = absurd cc
+  stand (Value FineStamp) place h = absurd cc
   stand kind place h = refl
 
   mapped : {A : Type 0} (write : A → List ℕ) (read : List ℕ → Option A) (value : Option (List ℕ))

@@ -8,13 +8,14 @@ use Rattle.typed_fields.specs.declared.dec.Dec.{Dec}
 use Rattle.typed_fields.specs.declared.number.Number.{Number as NumberValue}
 use Rattle.typed_fields.specs.Dec.{dec_text, read_dec}
 use Rattle.typed_fields.specs.Number.{number_text, read_number}
+use Rattle.typed_fields.specs.Stamp.{cut_text}
 use Rattle.field_groups.specs.Field.{Field}
 use Rattle.message_tables.specs.declared.table_fault.Mark.{Mark}
 use Rattle.message_tables.specs.Tables.{Need, Lenient, Fixed, Row, Item, One, Table, Said, ◌>>=◌}
 use Rattle.message_tables.specs.Tables.{all_rows, code_of, row_at, says, value_at}
 use Rattle.message_tables.specs.FirstFault.{first_fault, mark_of}
 use Rattle.message_tables.specs.Plain.{is_good}
-use Rattle.value_kinds.specs.ValueKind.{DayOfMonth, MonthYear, Number, Price, Qty, Reason}
+use Rattle.value_kinds.specs.ValueKind.{DayOfMonth, FineStamp, MonthYear, Number, Price, Qty, Reason}
 use Rattle.row_values.specs.Kinds.{Kind, TimeBeside, Value, judge}
 use Rattle.row_slots.specs.declared.slots.Slot.{Slot}
 use Rattle.row_slots.specs.declared.slots.Slot.TheVariants as slots
@@ -31,6 +32,7 @@ module _ (fields : List Field) where
   slot_value (slots.Stands place) = value_of place
   slot_value (slots.Decimal place) = value_of place
   slot_value (slots.Number place) = value_of place
+  slot_value (slots.Moment place) = value_of place
 
   abbrev pub slot_code : Slot → Option ℕ
   slot_code slot = slot_value slot >>= code_of
@@ -49,6 +51,7 @@ module _ (fields : List Field) where
       value_of place >>= (λ value. option_map dec_text (result_ok (read_dec value)))
   slot_said (slots.Number place) =
       value_of place >>= (λ value. option_map number_text (result_ok (read_number value)))
+  slot_said (slots.Moment place) = option_map cut_text (value_of place)
 
 -- ---- the slot of a row
 
@@ -58,6 +61,7 @@ slot_in (Value Qty) place = slots.Decimal place
 slot_in (Value Price) place = slots.Decimal place
 slot_in (Value Number) place = slots.Number place
 slot_in (Value Reason) place = slots.Number place
+slot_in (Value FineStamp) place = slots.Moment place
 slot_in kind place = slots.Stands place
 
 -- a value at no fault counts, but for one of a lenient row that is outside the profile

@@ -26,6 +26,8 @@ pub enum Slot {
     Decimal(u8),
     /// The number that the value at this place spells.
     Number(u8),
+    /// The moment at this place, to its milliseconds.
+    Moment(u8),
 }
 
 /// The slots of the rows of a table, by their tags: no two rows share one.
@@ -71,6 +73,7 @@ fn slot_in(kind: &Kind, place: u8) -> Slot
     match kind {
         Kind::Value(ValueKind::Qty) | Kind::Value(ValueKind::Price) => Slot::Decimal(place),
         Kind::Value(ValueKind::Number) | Kind::Value(ValueKind::Reason) => Slot::Number(place),
+        Kind::Value(ValueKind::FineStamp) => Slot::Moment(place),
         _ => Slot::Stands(place),
     }
 }

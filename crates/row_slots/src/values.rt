@@ -15,7 +15,7 @@ ghost use Rattle.row_slots.specs.Slots.{slot_value, value_of};
 use crate::slots::Slot;
 use field_groups::{AROUND, Fields, SOH, push_tag, put_field, put_number};
 use std::alloc::AllocError;
-use typed_fields::{Dec, FieldValue, MAX_SPELLING, Number};
+use typed_fields::{Dec, FieldValue, MAX_SPELLING, Number, cut_text};
 
 /// The value at a place.
 #[inline(always)]
@@ -38,6 +38,7 @@ pub fn value<'a>(fields: &Fields<'a>, slot: Slot) -> Option<&'a [u8]>
         Slot::Stands(place) => value_at(fields, place),
         Slot::Decimal(place) => value_at(fields, place),
         Slot::Number(place) => value_at(fields, place),
+        Slot::Moment(place) => value_at(fields, place),
     }
 }
 
@@ -127,6 +128,7 @@ pub fn put_slot(
             Slot::Stands(_) => put_field(out, tag, value),
             Slot::Decimal(_) => put_decimal(out, tag, value),
             Slot::Number(_) => put_spelled(out, tag, value),
+            Slot::Moment(_) => put_field(out, tag, cut_text(value)),
         },
     }
 }

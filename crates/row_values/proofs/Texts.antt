@@ -12,24 +12,25 @@ use Rattle.typed_fields.specs.declared.dec.Dec.{Dec}
 use Rattle.typed_fields.specs.declared.number.Number.{Number as NumberValue}
 use Rattle.typed_fields.specs.Dec.{read_dec, dec_text, IsDec}
 use Rattle.typed_fields.specs.Day.{read_day, day_text}
-use Rattle.typed_fields.specs.Stamp.{read_stamp, stamp_text}
+use Rattle.typed_fields.specs.declared.stamp.Stamp.{Stamp as StampValue}
+use Rattle.typed_fields.specs.Stamp.{cut_text, read_fine, read_stamp, stamp_text}
 use Rattle.typed_fields.specs.Flag.{read_flag, flag_text}
 use Rattle.typed_fields.specs.Number.{read_number, number_text}
 use Rattle.typed_fields.specs.MonthYear.{read_month_year, month_year_text}
 use Rattle.value_kinds.proofs.Spelled.{as_price, as_number, as_qty, as_reason, in_range}
 use Rattle.typed_fields.proofs.DayLaws.{day_is_plain}
 use Rattle.typed_fields.proofs.DecLaws.{dec_in_bound}
-use Rattle.typed_fields.proofs.StampLaws.{stamp_is_plain}
+use Rattle.typed_fields.proofs.StampLaws.{read_finer, read_whole, stamp_is_plain}
 use Rattle.typed_fields.proofs.NumberLaws.{flag_is_plain, month_year_is_plain}
-use Rattle.value_kinds.specs.ValueKind.{Stamp, Flag, MonthYear, Price, Qty, Number, Reason, spelt}
-use Rattle.value_kinds.specs.ValueKind.{most_reason}
+use Rattle.value_kinds.specs.ValueKind.{Stamp, FineStamp, Flag, MonthYear, Price, Qty, Number}
+use Rattle.value_kinds.specs.ValueKind.{Reason, most_reason, spelt}
 use Rattle.value_kinds.specs.ValueKind.{ValueKind, Code, Day, Spelling, listed_word}
 use Rattle.value_kinds.specs.ValueKind.{spelling, spelled, text_of as spelled_text}
 use Rattle.field_groups.specs.Field.{Field}
-use Rattle.message_tables.specs.Tables.{Said, ◌>>=◌, text_of}
+use Rattle.message_tables.specs.Tables.{Said, Wrong, ◌>>=◌, text_of}
 use Rattle.message_tables.specs.Tables.{is_listed, value_at}
 use Rattle.row_values.specs.Kinds.{Value, date_at, judge}
-use Rattle.row_values.specs.Kinds.{verdict_of}
+use Rattle.row_values.specs.Kinds.{reason_of, verdict_of}
 use Rattle.row_values.specs.Kinds.{said}
 use Rattle.row_values.specs.Writing.{dec_at, not_negative, qty_at}
 
@@ -92,6 +93,23 @@ unfolding spelled spelling
 stamp_spelled [] = refl
 stamp_spelled (b ∷ bs) =
     own stamp_text (b ∷ bs) (read_stamp (b ∷ bs)) (λ x h. stamp_is_plain (b ∷ bs) x h)
+
+-- a moment of FIX 4.2 is the same as a fine one
+pub fine_alike : (bytes : List ℕ)
+    → ((reason : ℕ) → verdict_of (spelling Stamp bytes) ≡ Wrong reason → ⊥)
+    → spelled FineStamp bytes ≡ spelled Stamp bytes
+unfolding spelled spelling
+fine_alike [] good = refl
+fine_alike (b ∷ bs) good = by (read_stamp (b ∷ bs)) refl
+  where
+    by : (r : Result StampValue FieldFault) → read_stamp (b ∷ bs) ≡ r
+        → spelled_text (spelt (λ _. cut_text (b ∷ bs)) (read_fine (b ∷ bs)))
+        ≡ spelled_text (spelt (λ _. b ∷ bs) r)
+    by (Ok s) e =
+        ap (λ r. spelled_text (spelt (λ _. cut_text (b ∷ bs)) r)) (read_finer (b ∷ bs) s e)
+        ∙ ap Some (read_whole (b ∷ bs) s e)
+    by (Err fault) e =
+        absurd (good (reason_of fault) (ap (λ r. verdict_of (spelt (λ _. b ∷ bs) r)) e))
 
 flag_spelled : (bytes : List ℕ)
     → spelled Flag bytes ≡ option_map flag_text (result_ok (read_flag bytes))

@@ -6,22 +6,26 @@ use Rattle.std.specs.List.{AllByRecursion, AllZip}
 use Rattle.typed_fields.specs.Dec.{dec_text, IsDec}
 use Rattle.typed_fields.specs.Stamp.{stamp_text, IsStamp}
 use Rattle.field_groups.specs.Field.{Field}
-use Rattle.message_tables.specs.Tables.{Required, Optional, RepeatingGroup, Tag, Cell, lines_in}
+use Rattle.message_tables.specs.Tables.{Required, Optional, RepeatingGroup, Row, Tag, Cell, lines_in}
 use Rattle.message_tables.specs.Tables.{tags_in}
 use Rattle.row_values.specs.declared.contras.ContraLine.{ContraLine}
-use Rattle.value_kinds.specs.ValueKind.{Id, Qty, Stamp}
+use Rattle.value_kinds.specs.ValueKind.{ValueKind, Id, Qty, FineStamp}
 use Rattle.row_values.specs.Kinds.{Kind, Value, row, said}
 
--- the brokers on the other side of a trade; ContraLegRefID is passed over
+-- a line of the brokers on the other side of a trade, with a time of this kind
+abbrev pub contra_rows : ValueKind → List (Row Kind)
+contra_rows time =
+    row Required 375 Id ∷  -- ContraBroker
+    row Optional 337 Id ∷  -- ContraTrader
+    row Optional 437 Qty ∷  -- ContraTradeQty
+    row Optional 438 time ∷  -- ContraTradeTime
+    []
+
+-- these brokers in FIX 5.0 SP2; ContraLegRefID is passed over
 abbrev pub contras : RepeatingGroup Kind
 contras = record {
   count = 382;  -- NoContraBrokers
-  rows =
-      row Required 375 Id ∷  -- ContraBroker
-      row Optional 337 Id ∷  -- ContraTrader
-      row Optional 437 Qty ∷  -- ContraTradeQty
-      row Optional 438 Stamp ∷  -- ContraTradeTime
-      [];
+  rows = contra_rows FineStamp;
   skipped = 655 ∷ [];  -- ContraLegRefID
 }
 
@@ -39,12 +43,12 @@ pub record IsReadableContra (line : ContraLine) : Type 0 where
 abbrev pub AreReadableContras : List ContraLine → Type 0
 AreReadableContras lines = AllByRecursion IsReadableContra lines
 
--- a line that says what its fields say
+-- a line that says what its fields say, in either version: a moment of FIX 4.2 is a fine one, too
 pub record IsContra (fields : List Field) (line : ContraLine) : Type 0 where
   pub broker : line.broker ≡ unwrap_or (said fields 375 (Value Id)) []
   pub trader : line.trader ≡ said fields 337 (Value Id)
   pub qty : option_map dec_text line.qty ≡ said fields 437 (Value Qty)
-  pub time : option_map stamp_text line.time ≡ said fields 438 (Value Stamp)
+  pub time : option_map stamp_text line.time ≡ said fields 438 (Value FineStamp)
   pub readable : IsReadableContra line
 
 -- lines that say what the fields of their group say

@@ -6,7 +6,7 @@ ghost use Rattle.message_tables.specs.Tables.{tags_in};
 use crate::copies::owned;
 use crate::kinds::Kind;
 use crate::lines::GroupLine;
-use crate::values::{or_empty, qty, stamp, text};
+use crate::values::{fine_stamp, or_empty, qty, text};
 use crate::writing::{put_if, put_text_if};
 use field_groups::{Field, put_field};
 use message_tables::Need::{Optional, Required};
@@ -45,19 +45,28 @@ macro_rules! row {
     };
 }
 
-/// The rows of a line of contra brokers.
+/// The rows of a line of contra brokers, with a time of this kind.
 #[rattlefmt::skip]
-pub const CONTRA_ROWS: [Row<Kind>; 4] = [
-    row!(375, Id, Required), // ContraBroker
-    row!(337, Id, Optional), // ContraTrader
-    row!(437, ValueKind::Qty, Optional), // ContraTradeQty
-    row!(438, ValueKind::Stamp, Optional), // ContraTradeTime
-];
+macro_rules! contra_rows {
+    ($time:expr) => {
+        [
+            row!(375, Id, Required), // ContraBroker
+            row!(337, Id, Optional), // ContraTrader
+            row!(437, ValueKind::Qty, Optional), // ContraTradeQty
+            row!(438, $time, Optional), // ContraTradeTime
+        ]
+    };
+}
 
-/// NoContraBrokers(382); ContraLegRefID(655) is passed over.
+/// The rows of such a line of FIX 4.2.
+pub const CONTRA_ROWS: [Row<Kind>; 4] = contra_rows!(ValueKind::Stamp);
+
+const FINE_CONTRA_ROWS: [Row<Kind>; 4] = contra_rows!(ValueKind::FineStamp);
+
+/// ContraGrp(382) of FIX 5.0 SP2; ContraLegRefID(655) is passed over.
 pub const CONTRAS: RepeatingGroup<Kind> = RepeatingGroup {
     count: 382,
-    rows: &CONTRA_ROWS,
+    rows: &FINE_CONTRA_ROWS,
     skipped: &[655],
 };
 
@@ -84,7 +93,7 @@ impl GroupLine for ContraLine {
             broker: or_empty(alloc, broker),
             trader,
             qty: qty(&line, 437),
-            time: stamp(&line, 438),
+            time: fine_stamp(&line, 438),
         })
     }
 

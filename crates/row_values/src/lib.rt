@@ -19,7 +19,8 @@ pub use lines::{
 };
 pub use maturity::month_and_day;
 pub use values::{
-    AT_CLOSE, code, day, flag, may_close, month, number, number_or_zero, or_empty, price,
-    price_or_zero, qty, qty_or_zero, reason, resend, stamp, stamp_or_epoch, text,
+    AT_CLOSE, code, day, fine_stamp, fine_stamp_or_epoch, flag, may_close, month, number,
+    number_or_zero, or_empty, price, price_or_zero, qty, qty_or_zero, reason, resend, stamp,
+    stamp_or_epoch, text,
 };
 pub use writing::{Part, Value, put_content};

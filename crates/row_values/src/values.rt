@@ -126,6 +126,19 @@ pub fn stamp<F: Lookup>(fields: &F, tag: u32) -> Option<Stamp>
     read(fields, tag)
 }
 
+/// The moment in the fine form that the field of a tag says, to its milliseconds.
+#[tactic(auto, using(crate::proofs::Texts::at_tag))]
+pub fn fine_stamp<F: Lookup>(fields: &F, tag: u32) -> Option<Stamp>
+    ensures text { option_map stamp_text result
+        ≡ said (F.fields fields.now) tag (Value kinds.FineStamp) }
+    ensures bound { IfSome result IsStamp }
+{
+    match fields.value(tag) {
+        Some(bytes) => value_kinds::fine_stamp(bytes),
+        None => None,
+    }
+}
+
 /// The yes or no that the field of a tag says.
 pub fn flag<F: Lookup>(fields: &F, tag: u32) -> Option<Flag>
     ensures { option_map flag_text result ≡ said (F.fields fields.now) tag (Value kinds.Flag) }
@@ -200,6 +213,19 @@ pub fn stamp_or_epoch<F: Lookup>(fields: &F, tag: u32) -> Stamp
     ensures bound { IsStamp result }
 {
     match stamp(fields, tag) {
+        Some(stamp) => stamp,
+        None => Stamp::of_millis(0),
+    }
+}
+
+/// The moment in the fine form that the field of a tag says, to its milliseconds, and the first of
+/// 1970 where it says none.
+pub fn fine_stamp_or_epoch<F: Lookup>(fields: &F, tag: u32) -> Stamp
+    ensures text { IfSome (said (F.fields fields.now) tag (Value kinds.FineStamp))
+        (λ text. text ≡ stamp_text result) }
+    ensures bound { IsStamp result }
+{
+    match fine_stamp(fields, tag) {
         Some(stamp) => stamp,
         None => Stamp::of_millis(0),
     }

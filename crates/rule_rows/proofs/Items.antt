@@ -6,7 +6,7 @@ use Rattle.std.proofs.lemmas.Bool.{eqb-true}
 use Rattle.std.specs.Option.{option_map}
 use Rattle.std.specs.Prelude.{◌||◌, ◌==◌, is_some, if◌then◌else◌}
 use Rattle.std.specs.List.{AllByRecursion, flat_map, list_any}
-use Rattle.message_tables.specs.Tables.{Place, Tag, Need, Row, Item, One, Party, Lines}
+use Rattle.message_tables.specs.Tables.{Place, Tag, Row, Item, One, Party, Lines}
 use Rattle.message_tables.specs.Tables.{RepeatingGroup, is_place}
 use Rattle.row_values.specs.Kinds.{Kind}
 use Rattle.sound_laws.specs.Sound.{places_of}
@@ -84,14 +84,6 @@ abbrev pub turned_group : (RepeatingGroup Kind → RepeatingGroup Kind)
     → Option (RepeatingGroup Kind) → Option (Item Kind)
 turned_group turn group = option_map (λ group. Lines (turn group)) group
 
--- a row of another tag and another need
-abbrev pub moved : (Row Kind → Need) → ℕ → Row Kind → Row Kind
-moved need to row = record { tag = to; kind = row.kind; need = need row }
-
--- the row of a tag, carried to a tag
-abbrev pub carried : (Row Kind → Need) → ℕ → Option (Row Kind) → Option (Item Kind)
-carried need to row = turned (moved need to) row
-
 abbrev pub item_if : Bool → Item Kind → Option (Item Kind)
 item_if true item = Some item
 item_if false item = None
@@ -121,11 +113,6 @@ module _ (items : List (Item Kind)) where
           → option_map target_of (turned turn row) ≡ target_if (is_some row) (At (Tag to))
       by None = refl
       by (Some row) = ap (λ t. Some (At (Tag t))) (tag row)
-
-  pub row_made : (need : Row Kind → Need) (from to : ℕ)
-      → option_map target_of (carried need to (row_of_tag from items))
-      ≡ target_if (has_any (outline_of items) (Tag from ∷ [])) (At (Tag to))
-  row_made need from to = turned_made (moved need to) from to (λ row. refl)
 
   pub turned_group_made : (turn : RepeatingGroup Kind → RepeatingGroup Kind) (count : ℕ)
       → ((group : RepeatingGroup Kind) → (turn group).count ≡ group.count)

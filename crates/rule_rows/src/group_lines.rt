@@ -20,7 +20,8 @@ ghost use Rattle.value_kinds.specs.CodeKinds.{value_kind_of};
 use field_groups::{Field, Fields, put_field, put_number};
 use message_tables::{Item, Line, Lookup, Need, RepeatingGroup, Row, Table, line, line_end};
 use row_values::{
-    Kind, Part, Value, code, day, flag, number, price, put_content, qty, reason, stamp, text,
+    Kind, Part, Value, code, day, fine_stamp, flag, number, price, put_content, qty, reason, stamp,
+    text,
 };
 use std::alloc::AllocError;
 use value_kinds::ValueKind;
@@ -86,6 +87,10 @@ fn put_value<F: Lookup>(
         }
         ValueKind::Stamp => {
             let stamp = stamp(fields, tag);
+            put_one(out, Part::Row(tag, Value::StampIf(&stamp)))
+        }
+        ValueKind::FineStamp => {
+            let stamp = fine_stamp(fields, tag);
             put_one(out, Part::Row(tag, Value::StampIf(&stamp)))
         }
         ValueKind::Day => {

@@ -23,7 +23,7 @@ use Rattle.sound_laws.proofs.ReadSound.{row_passes}
 use Rattle.sound_laws.proofs.RowsSaid.{text_again}
 use Rattle.sound_laws.proofs.Completed.{other_said, month_said, same_places}
 use Rattle.sound_laws.proofs.Judged50.{ours_kind, AreAlike, judged_again, month_of_date}
-use Rattle.sound_laws.proofs.Judged50.{clear_front}
+use Rattle.sound_laws.proofs.SpelledAgain.{clear_front}
 
 -- ---- the rows
 

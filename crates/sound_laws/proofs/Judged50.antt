@@ -1,6 +1,6 @@
 -- A value of a request of FIX 5.0 SP2 that is judged beside other fields is judged alike beside
 -- fields that say the same date, and the same OrdType where TimeInForce asks for it.
-use Rattle.std.proofs.Common.{◌≡◌, ℕ, zero, suc, List, [], ◌∷◌, Some, None, Bool, true, false, refl}
+use Rattle.std.proofs.Common.{◌≡◌, ℕ, List, [], ◌∷◌, Some, None, Bool, true, false, refl}
 use Rattle.std.proofs.Common.{sym, ap, subst, ◌∙◌, codes, take}
 use Rattle.std.specs.Prelude.{Ok, IfSome, not, ◌&&◌, ◌||◌, ◌==◌}
 use Rattle.std.proofs.lemmas.Bool.{eqb-true}
@@ -15,8 +15,8 @@ use Rattle.row_values.specs.Kinds.{Kind, Value, Byte, MonthBeside, TimeBeside, j
 use Rattle.row_values.specs.Kinds.{filled, if_spelled, counted, date_at, month_beside, is_at_close}
 use Rattle.sound_laws.specs.Sound.{IsClear}
 use Rattle.sound_laws.proofs.Good.{held}
-use Rattle.sound_laws.proofs.Each.{both, either, neither}
-use Rattle.sound_laws.proofs.SpelledAgain.{own_bytes, spelled_again}
+use Rattle.sound_laws.proofs.Each.{both}
+use Rattle.sound_laws.proofs.SpelledAgain.{clear_front, own_bytes, spelled_again}
 use Rattle.sound_laws.proofs.PlainRows.{spelled, value_again, value_clear}
 use Rattle.sound_laws.proofs.ReadSound.{IsClearField}
 use Rattle.sound_laws.proofs.RowsSaid.{among}
@@ -173,13 +173,6 @@ module _ (timed : Bool) (before after : List Field) (alike : AreAlike timed befo
   judged_again other h bytes text e = absurd cc
 
 -- ---- no SOH
-
-pub clear_front : (n : ℕ) (bytes : List ℕ) → IsClear bytes → IsClear (take n bytes)
-clear_front zero bytes h = refl
-clear_front (suc n) [] h = refl
-clear_front (suc n) (b ∷ bs) h =
-    let p = either (b == 1) (list_any is_soh bs) h in
-    neither (b == 1) (list_any is_soh (take n bs)) p.0 (clear_front n bs p.1)
 
 bare_date : is_data_tag 541 ≡ false
 unfolding is_data_tag

@@ -1,7 +1,7 @@
 -- A canonical spelling spells itself, and has no SOH where the bytes that it was read from had
 -- none.
-use Rattle.std.proofs.Common.{◌≡◌, ◌+◌, ℕ, List, [], ◌∷◌, ◌++◌, length, Some, Bool, true, false}
-use Rattle.std.proofs.Common.{refl, sym, ap, subst, ◌∙◌, arith}
+use Rattle.std.proofs.Common.{◌≡◌, ◌+◌, ℕ, zero, suc, List, [], ◌∷◌, ◌++◌, length, take, Some, Bool}
+use Rattle.std.proofs.Common.{true, false, refl, sym, ap, subst, ◌∙◌, arith}
 use Rattle.std.specs.Prelude.{Result, Ok, Err, not, nat_le, ◌==◌, ◌&&◌, if◌then◌else◌}
 use Rattle.std.specs.Int.{is_negative}
 use Rattle.std.specs.Char.{is_ascii_digit, is_ascii_uppercase}
@@ -14,6 +14,7 @@ use Rattle.typed_fields.specs.declared.number.Number.{Number as NumberValue}
 use Rattle.typed_fields.specs.declared.dec.Dec.{Dec}
 use Rattle.value_kinds.specs.ValueKind.{ValueKind, Filled, Id, Text, OneByte, Code, Known, Codes}
 use Rattle.value_kinds.specs.ValueKind.{Word, Currency, Flag, Number, Reason, Qty, Price, Stamp}
+use Rattle.value_kinds.specs.ValueKind.{FineStamp}
 use Rattle.value_kinds.specs.ValueKind.{Day, MonthYear, DayOfMonth, Spelling, spelling, spelt}
 use Rattle.value_kinds.specs.ValueKind.{if_in_range, formed, listed_word, is_code, are_spaced}
 use Rattle.value_kinds.specs.ValueKind.{are_codes}
@@ -23,7 +24,9 @@ use Rattle.typed_fields.specs.Dec.{whole_part, fraction_part, with_point, sign_t
 use Rattle.typed_fields.specs.Dec.{is_dec_bounded}
 use Rattle.typed_fields.specs.Digits.{without_leading_zeros, or_zero, are_digits, number_of}
 use Rattle.typed_fields.specs.Flag.{read_flag}
-use Rattle.typed_fields.specs.Stamp.{read_stamp}
+use Rattle.typed_fields.specs.declared.stamp.Stamp.{Stamp as StampValue}
+use Rattle.typed_fields.specs.Stamp.{cut, cut_text, read_fine, read_stamp}
+use Rattle.typed_fields.proofs.StampLaws.{read_cut, read_finer, read_whole}
 use Rattle.typed_fields.specs.Day.{read_day}
 use Rattle.typed_fields.specs.MonthYear.{read_month_year}
 use Rattle.typed_fields.proofs.NumberLaws.{number_reads_back, number_in_bound, number_is_plain}
@@ -42,6 +45,7 @@ is_own Reason = false
 is_own Qty = false
 is_own Price = false
 is_own DayOfMonth = false
+is_own FineStamp = false
 is_own kind = true
 
 -- these bytes are the spelling, if any
@@ -177,6 +181,41 @@ price_again (b ∷ bs) text h =
     ap read_dec r.written ∙ dec_is_stable (b ∷ bs) r.value r.is in
     some_read read_dec dec_text Price (λ c cs. refl) text r.value (λ e. absurd cc) back r.written
 
+-- ---- moments: a fine one that is cut is one of FIX 4.2, and one of FIX 4.2 is a fine one
+
+stamp_spells : (text : List ℕ) (s : StampValue) → read_stamp text ≡ Ok s
+    → spelling Stamp text ≡ Ok (Some text)
+unfolding spelling
+stamp_spells [] s e = absurd cc
+stamp_spells (b ∷ bs) s e = ap (spelt (λ _. b ∷ bs)) e
+
+pub fine_down : (bytes text : List ℕ)
+    → spelling FineStamp bytes ≡ Ok (Some text) → spelling Stamp text ≡ Ok (Some text)
+unfolding spelling
+fine_down [] text h = absurd cc
+fine_down (b ∷ bs) text h = by (read_fine (b ∷ bs)) refl h
+  where
+    by : (r : Result StampValue FieldFault) → read_fine (b ∷ bs) ≡ r
+        → spelt (λ _. cut_text (b ∷ bs)) r ≡ Ok (Some text) → spelling Stamp text ≡ Ok (Some text)
+    by (Ok s) e h =
+        let same : cut_text (b ∷ bs) ≡ text = cc in
+        let P : List ℕ → Type 0 = λ t. spelling Stamp t ≡ Ok (Some t) in
+        subst P same (stamp_spells (cut_text (b ∷ bs)) (cut s) (read_cut (b ∷ bs) s e))
+    by (Err fault) e h = absurd cc
+
+pub fine_up : (text : List ℕ)
+    → spelling Stamp text ≡ Ok (Some text) → spelling FineStamp text ≡ Ok (Some text)
+unfolding spelling
+fine_up [] h = absurd cc
+fine_up (b ∷ bs) h = by (read_stamp (b ∷ bs)) refl h
+  where
+    by : (r : Result StampValue FieldFault) → read_stamp (b ∷ bs) ≡ r
+        → spelt (λ _. b ∷ bs) r ≡ Ok (Some (b ∷ bs))
+        → spelt (λ _. cut_text (b ∷ bs)) (read_fine (b ∷ bs)) ≡ Ok (Some (b ∷ bs))
+    by (Ok s) e h = ap (spelt (λ _. cut_text (b ∷ bs))) (read_finer (b ∷ bs) s e)
+        ∙ ap (λ t. Ok (Some t)) (read_whole (b ∷ bs) s e)
+    by (Err fault) e h = absurd cc
+
 -- two digits
 pub record IsTwo (bytes text : List ℕ) : Type 0 where
   pub ten : ℕ
@@ -226,6 +265,7 @@ spelled_again Reason bytes text h = reason_again bytes text h
 spelled_again Qty bytes text h = qty_again bytes text h
 spelled_again Price bytes text h = price_again bytes text h
 spelled_again DayOfMonth bytes text h = day_again bytes text h
+spelled_again FineStamp bytes text h = fine_up text (fine_down bytes text h)
 spelled_again kind bytes text h = own_again kind bytes text (own_bytes kind bytes refl text h) h
 
 -- ---- no SOH
@@ -234,6 +274,13 @@ pub clear_joined : (xs ys : List ℕ) → IsClear xs → IsClear ys → IsClear 
 clear_joined [] ys h k = k
 clear_joined (x ∷ xs) ys h k =
     let p = either (x == 1) _ h in neither (x == 1) _ p.0 (clear_joined xs ys p.1 k)
+
+pub clear_front : (n : ℕ) (bytes : List ℕ) → IsClear bytes → IsClear (take n bytes)
+clear_front zero bytes h = refl
+clear_front (suc n) [] h = refl
+clear_front (suc n) (b ∷ bs) h =
+    let p = either (b == 1) (list_any is_soh bs) h in
+    neither (b == 1) (list_any is_soh (take n bs)) p.0 (clear_front n bs p.1)
 
 digit_clear : (d : ℕ) → is_ascii_digit d ≡ true → (d == 1) ≡ false
 digit_clear d h = grind (arith, nat_tests)
@@ -296,6 +343,13 @@ spelled_clear Qty (b ∷ bs) text c h =
     (in_range (λ d. not (is_negative d.units)) (read_dec (b ∷ bs)) r.value r.is).is r.written
 spelled_clear Price (b ∷ bs) text c h = let r =
     read_as dec_text (read_dec (b ∷ bs)) text h in dec_clear (b ∷ bs) text r.value r.is r.written
+spelled_clear FineStamp (b ∷ bs) text c h =
+    subst IsClear (written (read_fine (b ∷ bs)) h) (clear_front 21 (b ∷ bs) c)
+  where
+    written : (r : Result StampValue FieldFault)
+        → spelt (λ _. cut_text (b ∷ bs)) r ≡ Ok (Some text) → cut_text (b ∷ bs) ≡ text
+    written (Ok s) h = cc
+    written (Err fault) h = absurd cc
 spelled_clear DayOfMonth (b ∷ bs) text c h =
     let t = two_of (b ∷ bs) text h in
     subst IsClear (sym t.is) (neither (t.ten == 1) (list_any is_soh (t.one ∷ [])) (digit_clear

@@ -1,6 +1,6 @@
 -- The canonical spellings of values by their readings.
 use Rattle.std.proofs.Common.{◌≡◌, ◌≢◌, ℕ, List, [], ◌∷◌, length, get_or, map, Bool, true, false}
-use Rattle.std.proofs.Common.{refl, ap, ◌∙◌, arith}
+use Rattle.std.proofs.Common.{refl, sym, ap, ◌∙◌, arith}
 use Rattle.std.specs.Borrow.{Bor}
 use Rattle.std.proofs.lemmas.Bool.Decides.{nat_tests}
 use Rattle.std.specs.Prelude.{IsTrue, Some, None, Result, Ok, Err, not, nat_le, ◌==◌, ◌&&◌, ◌||◌}
@@ -20,12 +20,15 @@ use Rattle.typed_fields.specs.declared.number.Number.{Number as NumberValue}
 use Rattle.typed_fields.specs.declared.dec.Dec.{Dec}
 use Rattle.value_kinds.specs.ValueKind.{ValueKind, Filled, Id, Text, OneByte, Code, Known, Codes}
 use Rattle.value_kinds.specs.ValueKind.{Word, Currency, Flag, Number, Reason, Qty, Price, Stamp}
-use Rattle.value_kinds.specs.ValueKind.{Day, MonthYear, DayOfMonth, spelling, spelled, spelt}
+use Rattle.value_kinds.specs.ValueKind.{FineStamp, Day, MonthYear, DayOfMonth, spelling, spelled}
+use Rattle.value_kinds.specs.ValueKind.{spelt}
 use Rattle.value_kinds.specs.ValueKind.{are_spaced, are_codes}
 use Rattle.typed_fields.specs.Number.{read_number, number_text}
 use Rattle.typed_fields.specs.Flag.{read_flag, flag_text}
 use Rattle.typed_fields.specs.Dec.{read_dec, dec_text}
-use Rattle.typed_fields.specs.Stamp.{read_stamp, stamp_text}
+use Rattle.typed_fields.specs.declared.stamp.Stamp.{Stamp as StampValue}
+use Rattle.typed_fields.specs.Stamp.{cut, cut_text, read_fine, stamp_text}
+use Rattle.typed_fields.proofs.StampLaws.{read_cut, stamp_is_plain}
 use Rattle.typed_fields.specs.Day.{read_day, day_text}
 use Rattle.typed_fields.specs.MonthYear.{read_month_year, month_year_text}
 
@@ -81,11 +84,21 @@ its_own : {A : Type 0} (text : A → List ℕ) (bytes : List ℕ) (r : Result A 
 its_own text bytes (Ok x) h = ap Some (h x refl)
 its_own text bytes (Err e) h = refl
 
-pub as_stamp : (bytes : List ℕ) → ((x : _) → read_stamp bytes ≡ Ok x → stamp_text x ≡ bytes)
-    → option_map stamp_text (result_ok (read_stamp bytes)) ≡ spelled Stamp bytes
+-- a moment in the fine form is cut
+pub as_fine : (bytes : List ℕ) (s cut_s : StampValue) → read_fine bytes ≡ Ok s → cut_s ≡ cut s
+    → Some (stamp_text cut_s) ≡ spelled FineStamp bytes
 unfolding spelled spelling
-as_stamp [] h = refl
-as_stamp (b ∷ bs) h = its_own stamp_text (b ∷ bs) (read_stamp (b ∷ bs)) h
+as_fine [] s cut_s e f = absurd cc
+as_fine (b ∷ bs) s cut_s e f =
+    ap (λ x. Some (stamp_text x)) f
+    ∙ ap Some (stamp_is_plain (cut_text (b ∷ bs)) (cut s) (read_cut (b ∷ bs) s e))
+    ∙ sym (ap (λ r. text_of (spelt (λ _. cut_text (b ∷ bs)) r)) e)
+
+pub not_fine : (bytes : List ℕ) (fault : FieldFault) → read_fine bytes ≡ Err fault
+    → None ≡ spelled FineStamp bytes
+unfolding spelled spelling
+not_fine [] fault e = refl
+not_fine (b ∷ bs) fault e = sym (ap (λ r. text_of (spelt (λ _. cut_text (b ∷ bs)) r)) e)
 
 pub as_day : (bytes : List ℕ) → ((x : _) → read_day bytes ≡ Ok x → day_text x ≡ bytes)
     → option_map day_text (result_ok (read_day bytes)) ≡ spelled Day bytes
@@ -164,6 +177,7 @@ verbatim Reason bytes h = absurd cc
 verbatim Qty bytes h = absurd cc
 verbatim Price bytes h = absurd cc
 verbatim Stamp bytes h = absurd cc
+verbatim FineStamp bytes h = absurd cc
 verbatim Day bytes h = absurd cc
 verbatim MonthYear bytes h = absurd cc
 verbatim DayOfMonth bytes h = absurd cc
@@ -207,6 +221,7 @@ as_code Reason bytes h = absurd cc
 as_code Qty bytes h = absurd cc
 as_code Price bytes h = absurd cc
 as_code Stamp bytes h = absurd cc
+as_code FineStamp bytes h = absurd cc
 as_code Day bytes h = absurd cc
 as_code MonthYear bytes h = absurd cc
 as_code DayOfMonth bytes h = absurd cc

@@ -5,7 +5,7 @@ use Rattle.value_kinds.specs.declared.value_kind.ValueKind.{ValueKind as CodeKin
 use Rattle.value_kinds.specs.declared.value_kind.ValueKind.TheVariants as kinds
 use Rattle.value_kinds.specs.ValueKind.{ValueKind, Filled, Id, Text, OneByte, Code, Known, Codes}
 use Rattle.value_kinds.specs.ValueKind.{Word, Currency, Flag, Number, Reason, Qty, Price, Stamp}
-use Rattle.value_kinds.specs.ValueKind.{Day, MonthYear, DayOfMonth, Spelling}
+use Rattle.value_kinds.specs.ValueKind.{FineStamp, Day, MonthYear, DayOfMonth, Spelling}
 
 abbrev pub value_kind_of : CodeKind → ValueKind
 value_kind_of kinds.Filled = Filled
@@ -23,6 +23,7 @@ value_kind_of kinds.Reason = Reason
 value_kind_of kinds.Qty = Qty
 value_kind_of kinds.Price = Price
 value_kind_of kinds.Stamp = Stamp
+value_kind_of kinds.FineStamp = FineStamp
 value_kind_of kinds.Day = Day
 value_kind_of kinds.MonthYear = MonthYear
 value_kind_of kinds.DayOfMonth = DayOfMonth

@@ -14,7 +14,7 @@ use Rattle.typed_fields.specs.declared.fault.FieldFault.TheVariants.{Empty, Form
 use Rattle.typed_fields.specs.Number.{read_number, number_text}
 use Rattle.typed_fields.specs.Flag.{read_flag}
 use Rattle.typed_fields.specs.Dec.{read_dec, dec_text}
-use Rattle.typed_fields.specs.Stamp.{read_stamp}
+use Rattle.typed_fields.specs.Stamp.{cut_text, read_fine, read_stamp}
 use Rattle.typed_fields.specs.Day.{read_day}
 use Rattle.typed_fields.specs.MonthYear.{read_month_year}
 
@@ -47,6 +47,8 @@ pub data ValueKind : Type 0 where
   -- a decimal number
   Price : ValueKind
   Stamp : ValueKind
+  -- a moment in the fine form, which counts to its milliseconds
+  FineStamp : ValueKind
   Day : ValueKind
   MonthYear : ValueKind
   -- one or two digits
@@ -125,7 +127,8 @@ code_text code = code ∷ []
 abbrev pub two_digit_text : ℕ → List ℕ
 two_digit_text n = (48 + n / 10) ∷ (48 + n % 10) ∷ []
 
--- What bytes are as a value of a kind. Days, months and moments have one spelling each.
+-- What bytes are as a value of a kind. Days, months and moments have one spelling each; that of a
+-- moment in the fine form is cut.
 unfoldable pub spelling : ValueKind → List ℕ → Spelling
 spelling kind [] = Err Empty
 spelling Filled bytes = Ok (Some bytes)
@@ -144,6 +147,7 @@ spelling Reason bytes =
 spelling Qty bytes = spelt dec_text (if_in_range (λ d. not (is_negative d.units)) (read_dec bytes))
 spelling Price bytes = spelt dec_text (read_dec bytes)
 spelling Stamp bytes = spelt (λ _. bytes) (read_stamp bytes)
+spelling FineStamp bytes = spelt (λ _. cut_text bytes) (read_fine bytes)
 spelling Day bytes = spelt (λ _. bytes) (read_day bytes)
 spelling MonthYear bytes = spelt (λ _. bytes) (read_month_year bytes)
 spelling DayOfMonth bytes = two_digits bytes

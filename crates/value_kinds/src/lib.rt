@@ -4,4 +4,6 @@
 
 mod value_kind;
 
-pub use value_kind::{MAX_REASON, ValueKind, code, day, day_of_month, has_day, month_year, text};
+pub use value_kind::{
+    MAX_REASON, ValueKind, code, day, day_of_month, fine_stamp, has_day, month_year, text,
+};

@@ -11,7 +11,7 @@ ghost use Rattle.std.specs.Str.{bytes_eq};
 ghost use Rattle.std.specs.Char.{is_ascii_digit, is_ascii_uppercase};
 ghost use Rattle.typed_fields.specs.Number.{read_number, number_text};
 ghost use Rattle.typed_fields.specs.Dec.{read_dec, dec_text};
-ghost use Rattle.typed_fields.specs.Stamp.{stamp_text};
+ghost use Rattle.typed_fields.specs.Stamp.{stamp_text, IsStamp};
 ghost use Rattle.typed_fields.specs.Day.{day_text, is_date};
 ghost use Rattle.typed_fields.specs.MonthYear.{read_month_year, month_year_text, IsMonthYear};
 ghost use Rattle.typed_fields.specs.Flag.{flag_text};
@@ -69,6 +69,8 @@ pub enum ValueKind {
     Price,
     /// A moment of universal time.
     Stamp,
+    /// A moment of universal time in the fine form, which counts to its milliseconds.
+    FineStamp,
     /// A day.
     Day,
     /// A month of a year.
@@ -262,6 +264,7 @@ impl ValueKind {
             ValueKind::Qty => judge_qty(value),
             ValueKind::Price => is_read(Dec::read(value)),
             ValueKind::Stamp => is_read(Stamp::read(value)),
+            ValueKind::FineStamp => is_read(Stamp::read_fine(value)),
             ValueKind::Day => is_read(Day::read(value)),
             ValueKind::MonthYear => is_read(MonthYear::read(value)),
             ValueKind::DayOfMonth => judge_day(value),
@@ -302,6 +305,17 @@ pub fn code(kind: &ValueKind, value: &[u8]) -> Option<u8>
         value.first().copied()
     } else {
         None
+    }
+}
+
+/// A moment in the fine form, to its milliseconds.
+pub fn fine_stamp(value: &[u8]) -> Option<Stamp>
+    ensures text { option_map stamp_text result ≡ spelled kinds.FineStamp value.now }
+    ensures bound { IfSome result IsStamp }
+{
+    match Stamp::read_fine(value) {
+        Ok(stamp) => Some(stamp.cut()),
+        Err(_) => None,
     }
 }
 
