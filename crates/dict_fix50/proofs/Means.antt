@@ -5,7 +5,7 @@ use Rattle.std.proofs.Common.{lit<}
 use Rattle.field_groups.specs.Field.{Field}
 use Rattle.message_tables.specs.Tables.{Table, first_of, group_says, Place, Said, Cell}
 use Rattle.message_tables.specs.FirstFault.{first_fault, message_in}
-use Rattle.value_kinds.specs.ValueKind.{Id, Qty, Stamp, Code}
+use Rattle.value_kinds.specs.ValueKind.{Id, Qty, FineStamp, Code}
 use Rattle.row_values.specs.Kinds.{Kind, Value, judge}
 use Rattle.row_values.specs.Lines.{party_cells}
 use Rattle.row_values.specs.Groups.{parties}
@@ -51,7 +51,7 @@ module _ (fields : List Field) (h : first_fault judge new_table fields ≡ None)
       & w.security_id & w.id_source & w.security_type & w.maturity.month & w.maturity.date
       & w.security_exchange
       & full _ _ (says new_table fields h 23 54 (Value (Code (codes "123456"))) refl refl) w.side
-      & w.locate & full _ _ (says new_table fields h 25 60 (Value Stamp) refl refl) w.transact_time
+      & w.locate & full _ _ (says new_table fields h 25 60 (Value FineStamp) refl refl) w.transact_time
       & full _ _ (says new_table fields h 26 38 (Value Qty) refl refl) w.order_qty
       & full _ _ (says new_table fields h 27 40 (Value (Code (codes "1234"))) refl refl) w.ord_type
       & w.price & w.stop_px & w.currency & w.time_in_force & w.effective_time & w.expire_date
@@ -93,7 +93,7 @@ module _ (fields : List Field) (h : first_fault judge cancel_table fields ≡ No
       & w.security_id & w.id_source & w.security_type & w.maturity.month & w.maturity.date
       & w.security_exchange
       & full _ _ (says cancel_table fields h 15 54 (Value (Code (codes "123456"))) refl refl) w.side
-      & full _ _ (says cancel_table fields h 16 60 (Value Stamp) refl refl) w.transact_time
+      & full _ _ (says cancel_table fields h 16 60 (Value FineStamp) refl refl) w.transact_time
       & w.order_qty & w.text & refl
 
   -- what is read is the message of the fields
@@ -134,7 +134,7 @@ module _ (fields : List Field) (h : first_fault judge replace_table fields ≡ N
       & w.maturity.date & w.security_exchange
       & full _ _ (says replace_table fields h 25 54 (Value (Code (codes "123456"))) refl refl) w.side
       & w.locate
-      & full _ _ (says replace_table fields h 27 60 (Value Stamp) refl refl) w.transact_time
+      & full _ _ (says replace_table fields h 27 60 (Value FineStamp) refl refl) w.transact_time
       & full _ _ (says replace_table fields h 28 38 (Value Qty) refl refl) w.order_qty
       & full _ _ (says replace_table fields h 29 40 (Value (Code (codes "1234"))) refl refl) w.ord_type
       & w.price & w.stop_px & w.currency & w.time_in_force & w.effective_time & w.expire_date

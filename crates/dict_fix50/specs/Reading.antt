@@ -3,7 +3,7 @@ use Rattle.std.specs.Prelude.{◌≡◌, ℕ, List, [], ◌∷◌}
 use Rattle.std.specs.Prelude.{codes, unwrap_or, IfSome}
 use Rattle.std.specs.Option.{option_map}
 use Rattle.value_kinds.specs.ValueKind.{Id, Text, Word, Currency, Codes, Flag, Day, Qty, Price}
-use Rattle.value_kinds.specs.ValueKind.{Stamp, Code, code_text}
+use Rattle.value_kinds.specs.ValueKind.{FineStamp, Code, code_text}
 use Rattle.typed_fields.specs.Dec.{dec_text}
 use Rattle.typed_fields.specs.Day.{day_text}
 use Rattle.typed_fields.specs.Stamp.{stamp_text}
@@ -60,7 +60,7 @@ pub record IsNew (fields : List Field) (m : New50) : Type 0 where
   pub security_exchange : m.security_exchange ≡ said fields 207 (Value Id)
   pub side : Says (coded fields 54 (codes "123456")) (code_text m.side)
   pub locate : option_map flag_text m.locate ≡ said fields 114 (Value Flag)
-  pub transact_time : IfSome (said fields 60 (Value Stamp))
+  pub transact_time : IfSome (said fields 60 (Value FineStamp))
       (λ text. text ≡ stamp_text m.transact_time)
   pub order_qty : Says (said fields 38 (Value Qty)) (dec_text m.order_qty)
   pub ord_type : Says (coded fields 40 (codes "1234")) (code_text m.ord_type)
@@ -68,9 +68,9 @@ pub record IsNew (fields : List Field) (m : New50) : Type 0 where
   pub stop_px : option_map dec_text m.stop_px ≡ said fields 99 (Value Price)
   pub currency : m.currency ≡ said fields 15 (Value Currency)
   pub time_in_force : option_map code_text m.time_in_force ≡ said fields 59 (TimeBeside 40)
-  pub effective_time : option_map stamp_text m.effective_time ≡ said fields 168 (Value Stamp)
+  pub effective_time : option_map stamp_text m.effective_time ≡ said fields 168 (Value FineStamp)
   pub expire_date : option_map day_text m.expire_date ≡ said fields 432 (Value Day)
-  pub expire_time : option_map stamp_text m.expire_time ≡ said fields 126 (Value Stamp)
+  pub expire_time : option_map stamp_text m.expire_time ≡ said fields 126 (Value FineStamp)
   pub capacity : option_map code_text m.capacity ≡ said fields 528 (Byte (codes "AIP"))
   pub open_close : option_map code_text m.open_close ≡ coded fields 77 (codes "OC")
   pub text : m.text ≡ said fields 58 (Value Text)
@@ -91,7 +91,7 @@ pub record IsCancel (fields : List Field) (m : Cancel50) : Type 0 where
   pub maturity : IsMaturity fields m.maturity
   pub security_exchange : m.security_exchange ≡ said fields 207 (Value Id)
   pub side : Says (coded fields 54 (codes "123456")) (code_text m.side)
-  pub transact_time : IfSome (said fields 60 (Value Stamp))
+  pub transact_time : IfSome (said fields 60 (Value FineStamp))
       (λ text. text ≡ stamp_text m.transact_time)
   pub order_qty : option_map dec_text m.order_qty ≡ said fields 38 (Value Qty)
   pub text : m.text ≡ said fields 58 (Value Text)
@@ -122,7 +122,7 @@ pub record IsReplace (fields : List Field) (m : Replace50) : Type 0 where
   pub security_exchange : m.security_exchange ≡ said fields 207 (Value Id)
   pub side : Says (coded fields 54 (codes "123456")) (code_text m.side)
   pub locate : option_map flag_text m.locate ≡ said fields 114 (Value Flag)
-  pub transact_time : IfSome (said fields 60 (Value Stamp))
+  pub transact_time : IfSome (said fields 60 (Value FineStamp))
       (λ text. text ≡ stamp_text m.transact_time)
   pub order_qty : Says (said fields 38 (Value Qty)) (dec_text m.order_qty)
   pub ord_type : Says (coded fields 40 (codes "1234")) (code_text m.ord_type)
@@ -130,9 +130,9 @@ pub record IsReplace (fields : List Field) (m : Replace50) : Type 0 where
   pub stop_px : option_map dec_text m.stop_px ≡ said fields 99 (Value Price)
   pub currency : m.currency ≡ said fields 15 (Value Currency)
   pub time_in_force : option_map code_text m.time_in_force ≡ said fields 59 (TimeBeside 40)
-  pub effective_time : option_map stamp_text m.effective_time ≡ said fields 168 (Value Stamp)
+  pub effective_time : option_map stamp_text m.effective_time ≡ said fields 168 (Value FineStamp)
   pub expire_date : option_map day_text m.expire_date ≡ said fields 432 (Value Day)
-  pub expire_time : option_map stamp_text m.expire_time ≡ said fields 126 (Value Stamp)
+  pub expire_time : option_map stamp_text m.expire_time ≡ said fields 126 (Value FineStamp)
   pub capacity : option_map code_text m.capacity ≡ said fields 528 (Byte (codes "AIP"))
   pub open_close : option_map code_text m.open_close ≡ coded fields 77 (codes "OC")
   pub text : m.text ≡ said fields 58 (Value Text)

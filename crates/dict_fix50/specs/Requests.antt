@@ -4,7 +4,7 @@
 use Rattle.std.specs.Prelude.{ℕ, List, [], ◌∷◌, codes}
 use Rattle.message_tables.specs.Tables.{Lenient, Item}
 use Rattle.value_kinds.specs.ValueKind.{Flag, Id, Code, Codes, Word, Text, Currency, Qty, Price}
-use Rattle.value_kinds.specs.ValueKind.{Stamp, Day}
+use Rattle.value_kinds.specs.ValueKind.{FineStamp, Day}
 use Rattle.row_values.specs.Kinds.{Kind, Value, Byte, MonthBeside, TimeBeside}
 use Rattle.row_values.specs.Groups.{parties, allocs, sessions}
 use Rattle.row_values.specs.Columns.{Column, R, O, N, Line, line, field, value, party, lines}
@@ -48,16 +48,16 @@ requests =
     value 207 Id O O O O ∷  -- SecurityExchange
     code 54 (codes "123456") R R R R ∷  -- Side
     value 114 Flag O N O N ∷  -- LocateReqd
-    value 60 Stamp R R R N ∷  -- TransactTime
+    value 60 FineStamp R R R N ∷  -- TransactTime
     value 38 Qty R O R N ∷  -- OrderQty
     code 40 (codes "1234") R N R N ∷  -- OrdType
     value 44 Price O N O N ∷  -- Price
     value 99 Price O N O N ∷  -- StopPx
     value 15 Currency O N O N ∷  -- Currency
     special 59 (TimeBeside 40) O N O N ∷  -- TimeInForce
-    value 168 Stamp O N O N ∷  -- EffectiveTime
+    value 168 FineStamp O N O N ∷  -- EffectiveTime
     value 432 Day O N O N ∷  -- ExpireDate
-    value 126 Stamp O N O N ∷  -- ExpireTime
+    value 126 FineStamp O N O N ∷  -- ExpireTime
     special 528 (Byte (codes "AIP")) O N O N ∷  -- OrderCapacity
     code 77 (codes "OC") O N O N ∷  -- PositionEffect
     value 58 Text O O O N ∷  -- Text

@@ -17,7 +17,8 @@ use crate::values::capacity;
 use field_groups::Fields;
 use order_meaning::{Bytes, Lines};
 use row_values::{
-    code, day, flag, or_empty, owned, price, qty, qty_or_zero, resend, stamp, stamp_or_epoch, text,
+    code, day, fine_stamp, fine_stamp_or_epoch, flag, or_empty, owned, price, qty, qty_or_zero,
+    resend, text,
 };
 use rows_fix50::{maturity, time_in_force};
 use std::alloc::{AllocError, Global};
@@ -120,16 +121,16 @@ macro_rules! order {
             security_exchange,
             side: code($fields, 54, &SIDE).unwrap_or(0),
             locate: flag($fields, 114),
-            transact_time: stamp_or_epoch($fields, 60),
+            transact_time: fine_stamp_or_epoch($fields, 60),
             order_qty: qty_or_zero($fields, 38),
             ord_type: code($fields, 40, &ORD_TYPE).unwrap_or(0),
             price: price($fields, 44),
             stop_px: price($fields, 99),
             currency,
             time_in_force: time_in_force($fields),
-            effective_time: stamp($fields, 168),
+            effective_time: fine_stamp($fields, 168),
             expire_date: day($fields, 432),
-            expire_time: stamp($fields, 126),
+            expire_time: fine_stamp($fields, 126),
             capacity: capacity($fields),
             open_close: code($fields, 77, &POSITION_EFFECT),
             text,
@@ -202,7 +203,7 @@ fn cancel_of(
         maturity: maturity(fields),
         security_exchange,
         side: code(fields, 54, &SIDE).unwrap_or(0),
-        transact_time: stamp_or_epoch(fields, 60),
+        transact_time: fine_stamp_or_epoch(fields, 60),
         order_qty: qty(fields, 38),
         text,
     }

@@ -12,7 +12,9 @@ use message_tables::{Item, Row, Table};
 use row_values::Kind::{Byte, MonthBeside, TimeBeside, Value};
 use row_values::{ALLOCS, Kind, PARTIES, SESSIONS};
 use rows_fix50::HEADER;
-use value_kinds::ValueKind::{Code, Codes, Currency, Day, Flag, Id, Price, Qty, Stamp, Text, Word};
+use value_kinds::ValueKind::{
+    Code, Codes, Currency, Day, FineStamp, Flag, Id, Price, Qty, Text, Word,
+};
 
 /// A row: the tag of its field, the kind of its values, and whether each message says it.
 macro_rules! one {
@@ -57,16 +59,16 @@ macro_rules! order_items {
             one!(207, Value(Id), Optional), // SecurityExchange
             one!(54, Value(Code(b"123456")), Required), // Side
             one!(114, Value(Flag), Optional), // LocateReqd
-            one!(60, Value(Stamp), Required), // TransactTime
+            one!(60, Value(FineStamp), Required), // TransactTime
             one!(38, Value(Qty), Required), // OrderQty
             one!(40, Value(Code(b"1234")), Required), // OrdType
             one!(44, Value(Price), Optional), // Price
             one!(99, Value(Price), Optional), // StopPx
             one!(15, Value(Currency), Optional), // Currency
             one!(59, TimeBeside(40), Lenient), // TimeInForce
-            one!(168, Value(Stamp), Optional), // EffectiveTime
+            one!(168, Value(FineStamp), Optional), // EffectiveTime
             one!(432, Value(Day), Optional), // ExpireDate
-            one!(126, Value(Stamp), Optional), // ExpireTime
+            one!(126, Value(FineStamp), Optional), // ExpireTime
             one!(528, Byte(b"AIP"), Lenient), // OrderCapacity
             one!(77, Value(Code(b"OC")), Lenient), // PositionEffect
             one!(58, Value(Text), Optional), // Text
@@ -96,7 +98,7 @@ const CANCEL_REQUEST: [Item<Kind>; 19] = [
     one!(541, Value(Day), Optional), // MaturityDate
     one!(207, Value(Id), Optional), // SecurityExchange
     one!(54, Value(Code(b"123456")), Required), // Side
-    one!(60, Value(Stamp), Required), // TransactTime
+    one!(60, Value(FineStamp), Required), // TransactTime
     one!(38, Value(Qty), Optional), // OrderQty
     one!(58, Value(Text), Optional), // Text
 ];

@@ -43,7 +43,7 @@ pub report_goes : GoesDown (down_rules (Same 41)) reports50.execution_report
 report_goes = record {
   fits =
       refl & refl & refl & refl
-      & (λ h. refl) & (λ h. refl) & (λ h. refl) & tt
+      & (λ h. refl) & (λ h. refl) & (λ h. refl) & refl
       & refl & tt & (refl, refl, refl) & tt & tt & (refl, refl) & (refl, refl)
       & refl & refl & refl & refl & refl & refl & refl & refl
       & (refl, refl) & refl & refl & refl & refl & refl & refl & refl & refl & (refl, refl)

@@ -23,17 +23,17 @@ use Rattle.message_tables.specs.Tables.{Spells, Required, Optional, Said, Cell, 
 use Rattle.message_tables.specs.Tables.{first_of, is_place, is_one_of, or_else, party_in, said_at}
 use Rattle.message_tables.specs.Tables.{text_in}
 use Rattle.message_tables.specs.Content.{line_fields}
-use Rattle.value_kinds.specs.ValueKind.{Id, Text, Reason, Code, Known, known, spelling, spelt}
-use Rattle.value_kinds.specs.ValueKind.{if_in_range}
+use Rattle.value_kinds.specs.ValueKind.{Id, Text, Reason, Code, Known, FineStamp, Stamp, known}
+use Rattle.value_kinds.specs.ValueKind.{if_in_range, spelling, spelt}
 use Rattle.row_values.specs.Kinds.{Value, judge, row, verdict_of}
 use Rattle.row_values.specs.Groups.{parties}
 use Rattle.reports_fix50.specs.Sense.{reason_told, telling}
 use Rattle.sound_laws.specs.Sound.{IsClear, IsSaid, IsLine}
 use Rattle.sound_laws.proofs.Each.{either}
-use Rattle.sound_laws.proofs.Judged50.{clear_front}
 use Rattle.sound_laws.proofs.RowsSaid.{optional_said, required_said, same_value, code_spelled}
 use Rattle.sound_laws.proofs.RowsSaid.{IsCodeOf}
-use Rattle.sound_laws.proofs.SpelledAgain.{clear_joined, digits_clear}
+use Rattle.sound_laws.proofs.PlainRows.{spelled}
+use Rattle.sound_laws.proofs.SpelledAgain.{clear_front, clear_joined, digits_clear, fine_down}
 use Rattle.rule_rows.proofs.Source.{IsSpelled}
 use Rattle.report_rules.specs.Down.{IsId}
 use Rattle.report_rules.specs.Rules.{id_down, reason_down, within}
@@ -62,6 +62,16 @@ known_down before after listed (Some text) h =
     let t = is_known_of before listed text h in
     let P : List ℕ → Type 0 = λ x. judge after (Value (Code listed)) x ≡ Spells x in
     subst P (sym t.is) (code_spelled after listed t.code t.listed)
+
+-- ---- moments
+
+pub stamp_down : (before after : List Field) (said : Said)
+    → IfSome said (λ text. judge before (Value FineStamp) text ≡ Spells text)
+    → IfSome said (λ text. judge after (Value Stamp) text ≡ Spells text)
+unfolding judge
+stamp_down before after None h = tt
+stamp_down before after (Some text) h =
+    ap verdict_of (fine_down text text (spelled (spelling FineStamp text) text h))
 
 -- ---- ids
 

@@ -1,7 +1,7 @@
 -- What goes down by each kind of rule is sound in the table that goes down.
 use Rattle.std.proofs.Common.{◌≡◌, ℕ, zero, suc, take, List, [], ◌∷◌, Bool, true, false, Option}
 use Rattle.std.proofs.Common.{Some, None, refl, sym, ap, subst, ◌∙◌, codes, lit≤, option_map}
-use Rattle.std.proofs.Common.{unwrap_or, arith}
+use Rattle.std.proofs.Common.{unwrap_or, arith, map}
 use Rattle.std.specs.Prelude.{IfSome, IsSome, not, drop, ◌||◌, ◌&&◌, ◌==◌, is_some, if◌then◌else◌}
 use Rattle.std.specs.List.{AllByRecursion, list_any}
 use Rattle.std.proofs.lemmas.Bool.{eqb-true}
@@ -11,8 +11,8 @@ use Rattle.message_tables.specs.Tables.{Row, Item, One, Party, Lines, RepeatingG
 use Rattle.message_tables.specs.Tables.{Tag, Role, Spells, ◌>>=◌, code_of, code_if, code_in}
 use Rattle.message_tables.specs.Tables.{groups_of, has_tag, is_listed, is_needed, is_one_of}
 use Rattle.message_tables.specs.Tables.{lines_of, party_in, said_at, value_at}
-use Rattle.message_tables.specs.Content.{content}
-use Rattle.value_kinds.specs.ValueKind.{ValueKind, Code, Known, Id, Text, Reason, code_text}
+use Rattle.message_tables.specs.Content.{content, line_fields}
+use Rattle.value_kinds.specs.ValueKind.{ValueKind, Code, Known, Id, Text, Reason, FineStamp, code_text}
 use Rattle.value_kinds.specs.ValueKind.{MonthYear, Day, number_of_two}
 use Rattle.row_values.specs.Kinds.{Kind, Value, DayOf, TimeBeside, judge, is_at_close, row}
 use Rattle.row_values.specs.Amounts.{amount_in}
@@ -23,7 +23,7 @@ use Rattle.rows_fix42.specs.Meaning.{is_on_close}
 use Rattle.rows_fix42.specs.Header.{has_day, header as header42, table as table42}
 use Rattle.rows_fix50.specs.Header.{month_by, table as table50}
 use Rattle.reports_fix42.specs.Reports.{is_about_another, is_execution}
-use Rattle.sound_laws.specs.Sound.{IsClear, IsSaid, IsGroup, IsItem, IsSound}
+use Rattle.sound_laws.specs.Sound.{AreSaid, IsClear, IsSaid, IsLine, IsGroup, IsItem, IsSound}
 use Rattle.sound_laws.proofs.Each.{both, either}
 use Rattle.sound_laws.proofs.ContentValues.{GroupSaid, is_alone}
 use Rattle.sound_laws.proofs.RowsSaid.{row_of_tag, same_value, required_said, optional_said}
@@ -48,11 +48,13 @@ use Rattle.report_rules.proofs.DatesDown.{day_spelled, day_value, month_spelled,
 use Rattle.report_rules.proofs.DatesDown.{only_test}
 use Rattle.report_rules.proofs.KindsDown.{are_kinds}
 use Rattle.report_rules.proofs.RowsDown.{IsTold, ids_said, id_said, is_known_of, known_down}
-use Rattle.report_rules.proofs.RowsDown.{party_id, reason_said, text_said, told_both, told_said}
-use Rattle.report_rules.proofs.TablesDown.{Fits, GoesDown, IsRow, by_type, can_go_down, carried}
+use Rattle.report_rules.proofs.RowsDown.{party_id, reason_said, stamp_down, text_said, told_both}
+use Rattle.report_rules.proofs.RowsDown.{told_said}
+use Rattle.report_rules.proofs.TablesDown.{Fits, GoesDown, IsRow, all_can_go_down, by_type}
+use Rattle.report_rules.proofs.TablesDown.{can_go_down, carried, carried_group}
 use Rattle.report_rules.proofs.TablesDown.{down_kind, down_need, each_made, has_rule, is_plain}
 use Rattle.report_rules.proofs.TablesDown.{is_value, items_down, make, month_row, needed, own_row}
-use Rattle.report_rules.proofs.TablesDown.{time_row, type_row, unskipped}
+use Rattle.report_rules.proofs.TablesDown.{time_row, type_row}
 
 -- ---- a row that is carried
 
@@ -61,6 +63,7 @@ module _ (before after : List Field) where
       → IfSome said (λ text. judge before (Value kind) text ≡ Spells text)
       → IfSome said (λ text. judge after (down_kind (Value kind)) text ≡ Spells text)
   kind_down (Known listed) said h = known_down before after listed said h
+  kind_down FineStamp said h = stamp_down before after said h
   kind_down kind said h = same_value before after kind said h
 
   -- any kind of value
@@ -88,6 +91,29 @@ module _ (before after : List Field) where
       → IfSome said (λ text. judge after kind text ≡ Spells text)
   same_kind (Value kind) v said h = same_value before after kind said h
   same_kind kind v said h = absurd cc
+
+-- ---- the lines of a group
+
+cells_down : (fields : List Field) (rows : List (Row Kind)) (cells : List Cell)
+    → all_can_go_down rows ≡ true → AreSaid judge fields rows cells
+    → AreSaid judge fields (map (λ row. carried row.tag row) rows) cells
+cells_down fields [] [] ok said = tt
+cells_down fields [] (cell ∷ cells) ok said = absurd said
+cells_down fields (row ∷ rows) [] ok said = absurd said
+cells_down fields (row ∷ rows) (cell ∷ cells) ok said =
+    let p = both (can_go_down (Some row)) (all_can_go_down rows) ok in
+    let q = both (is_value row.kind) (is_plain row.need) p.0 in (
+      said.0,
+      row_down fields fields row.tag row.tag row.kind row.need cell.1 q.0 q.1 said.1,
+      cells_down fields rows cells p.1 said.2,
+    )
+
+lines_down : (rows : List (Row Kind)) (lines : List (List Cell)) → all_can_go_down rows ≡ true
+    → AllByRecursion (IsLine judge rows) lines
+    → AllByRecursion (IsLine judge (map (λ row. carried row.tag row) rows)) lines
+lines_down rows [] ok said = tt
+lines_down rows (line ∷ lines) ok said =
+    (cells_down (line_fields line) rows line ok said.0, lines_down rows lines ok said.1)
 
 -- ---- needs
 
@@ -197,41 +223,43 @@ module _ (all : List Rule) (own : AreOwn kinds all) (letter : ℕ) (items : List
 
     group_down : (count : ℕ) → IsFound kinds all (Group count)
         → (group : Option (RepeatingGroup Kind)) → group_at count items ≡ group
-        → IfSome group (λ g. IsGroup judge (unskipped g) (lines_of g.count w.groups))
-    group_down count found None e = tt
-    group_down count found (Some group) e =
+        → IfSome group (λ g. all_can_go_down g.rows ≡ true)
+        → IfSome group (λ g. IsGroup judge (carried_group g) (lines_of g.count w.groups))
+    group_down count found None e ok = tt
+    group_down count found (Some group) e ok =
         let there : lines_of count w.groups ≡ lines_of count m.groups =
         has_lines_of kinds are_kinds all own m count ∙ ap (lines_by kinds m) found in
         let said = source.group_is (table50 letter items) m sound count group e in
-        let P : List (List Cell) → Type 0 = λ lines. IsGroup judge (unskipped group) lines in
-        let Q : ℕ → Type 0 = λ c. IsGroup judge (unskipped group) (lines_of c w.groups) in
+        let lines = lines_down group.rows (lines_of count m.groups) ok said.said in
+        let P : List (List Cell) → Type 0 = λ lines. IsGroup judge (carried_group group) lines in
+        let Q : ℕ → Type 0 = λ c. IsGroup judge (carried_group group) (lines_of c w.groups) in
         subst Q (sym (count_is count items group e))
-        (subst P (sym there) (record { few = said.few; said = said.said }))
+        (subst P (sym there) (record { few = said.few; said = lines }))
 
-    rule_groups : (rule : Rule) → IsFound kinds all rule → RuleGroups rule
-    rule_groups (Same tag) found = no_group (carried tag) (row_of_tag tag items)
-    rule_groups (Moved from to) found = no_group (carried to) (row_of_tag from items)
-    rule_groups (Another tag) found =
+    rule_groups : (rule : Rule) → IsFound kinds all rule → Fits items rule → RuleGroups rule
+    rule_groups (Same tag) found fit = no_group (carried tag) (row_of_tag tag items)
+    rule_groups (Moved from to) found fit = no_group (carried to) (row_of_tag from items)
+    rule_groups (Another tag) found fit =
         no_group (needed tag is_about_another) (row_of_tag tag items)
-    rule_groups (Traded tag) found = no_group (needed tag is_execution) (row_of_tag tag items)
-    rule_groups (Group count) found =
-        by (group_at count items) (group_down count found (group_at count items) refl)
+    rule_groups (Traded tag) found fit = no_group (needed tag is_execution) (row_of_tag tag items)
+    rule_groups (Group count) found fit =
+        by (group_at count items) (group_down count found (group_at count items) refl fit)
       where
         by : (group : Option (RepeatingGroup Kind))
-            → IfSome group (λ g. IsGroup judge (unskipped g) (lines_of g.count w.groups))
-            → HasGroups (turned_group unskipped group)
+            → IfSome group (λ g. IsGroup judge (carried_group g) (lines_of g.count w.groups))
+            → HasGroups (turned_group carried_group group)
         by None h = tt
         by (Some group) h = (h, tt)
-    rule_groups rule found = no_groups (has_rule items rule) (own_row rule)
+    rule_groups rule found fit = no_groups (has_rule items rule) (own_row rule)
 
     groups_down : AreGroups
     groups_down = made.groups_are kinds are_kinds all own items (make items) (each_made items)
-        letter header42 true m (by all (all_found kinds all own))
+        letter header42 true m (by all (all_found kinds all own) goes.fits)
       where
         by : (rules : List Rule) → AllByRecursion (IsFound kinds all) rules
-            → AllByRecursion RuleGroups rules
-        by [] h = tt
-        by (rule ∷ rules) h = (rule_groups rule h.0, by rules h.1)
+            → AllByRecursion (Fits items) rules → AllByRecursion RuleGroups rules
+        by [] h fit = tt
+        by (rule ∷ rules) h fit = (rule_groups rule h.0 fit.0, by rules h.1 fit.1)
 
     value_after : (rule : Rule) (tag : ℕ) → kinds.target rule ≡ At (Tag tag)
         → IsFound kinds all rule → is_alone tag (items_down items all) ≡ true
@@ -604,11 +632,11 @@ module _ (all : List Rule) (own : AreOwn kinds all) (letter : ℕ) (items : List
           (party_id role (lines_of 453 m.groups)
           (source.group_is (table50 letter items) m sound 453 parties (fit here)).said)))
       rule_down (Group count) found fit lack =
-          by (group_at count items) (group_down count found (group_at count items) refl)
+          by (group_at count items) (group_down count found (group_at count items) refl fit)
         where
           by : (group : Option (RepeatingGroup Kind))
-              → IfSome group (λ g. IsGroup judge (unskipped g) (lines_of g.count w.groups))
-              → Says (turned_group unskipped group)
+              → IfSome group (λ g. IsGroup judge (carried_group g) (lines_of g.count w.groups))
+              → Says (turned_group carried_group group)
           by None h = tt
           by (Some group) h = h
       rule_down ExecId found fit lack = own_case ExecId refl found (λ has.

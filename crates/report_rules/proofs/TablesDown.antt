@@ -1,12 +1,13 @@
 -- The table that the rules make of a table of FIX 5.0 SP2. The tables of reports of FIX 4.2 are what
 -- they make of those of FIX 5.0 SP2.
 use Rattle.std.specs.Prelude.{◌≡◌, ℕ, Bool, true, false, ◌&&◌, List, [], ◌∷◌, Option, Some, None}
-use Rattle.std.specs.Prelude.{IfSome, codes}
-use Rattle.std.specs.List.{AllByRecursion}
+use Rattle.std.specs.Prelude.{IfSome, codes, map}
+use Rattle.std.specs.List.{AllByRecursion, list_all}
 use Rattle.std.proofs.Common.{refl}
 use Rattle.message_tables.specs.Tables.{Condition, Is, Need, Required, Optional, Lenient, When, Row}
 use Rattle.message_tables.specs.Tables.{RepeatingGroup, Item, One, Role}
-use Rattle.value_kinds.specs.ValueKind.{Code, Known, Id, Text, Reason, MonthYear, Day}
+use Rattle.value_kinds.specs.ValueKind.{Code, Known, Id, Text, Reason, FineStamp, Stamp, MonthYear}
+use Rattle.value_kinds.specs.ValueKind.{Day}
 use Rattle.row_values.specs.Kinds.{Kind, Value, DayOf, MonthBeside, TimeBeside, row}
 use Rattle.row_values.specs.Groups.{parties}
 use Rattle.rows_fix42.specs.Header.{has_day}
@@ -33,9 +34,10 @@ abbrev pub down_need : Need → Need
 down_need Lenient = Optional
 down_need need = need
 
--- a code that has to be known is one of these
+-- a code that has to be known is one of these, and a moment that is cut is one of FIX 4.2
 abbrev pub down_kind : Kind → Kind
 down_kind (Value (Known listed)) = Value (Code listed)
+down_kind (Value FineStamp) = Value Stamp
 down_kind kind = kind
 
 abbrev pub carried : ℕ → Row Kind → Row Kind
@@ -45,8 +47,13 @@ carried to row = record { tag = to; kind = down_kind row.kind; need = down_need 
 abbrev pub needed : ℕ → Condition → Row Kind → Row Kind
 needed tag condition row = record { tag = tag; kind = row.kind; need = When condition }
 
-abbrev pub unskipped : RepeatingGroup Kind → RepeatingGroup Kind
-unskipped group = record group { skipped = [] }
+-- a group that is carried, in whose lines nothing is passed over
+abbrev pub carried_group : RepeatingGroup Kind → RepeatingGroup Kind
+carried_group group = record {
+  count = group.count;
+  rows = map (λ row. carried row.tag row) group.rows;
+  skipped = [];
+}
 
 -- a kind whose values are judged by themselves
 abbrev pub is_value : Kind → Bool
@@ -63,6 +70,9 @@ is_plain need = false
 abbrev pub can_go_down : Option (Row Kind) → Bool
 can_go_down None = true
 can_go_down (Some row) = is_value row.kind && is_plain row.need
+
+abbrev pub all_can_go_down : List (Row Kind) → Bool
+all_can_go_down rows = list_all (λ row. can_go_down (Some row)) rows
 
 abbrev pub by_type : List ℕ → Need
 by_type listed = When ((Is 150 listed ∷ []) ∷ [])
@@ -92,7 +102,7 @@ module _ (items : List (Item Kind)) where
   make (Moved from to) = turned (carried to) (row_of_tag from items)
   make (Another tag) = turned (needed tag is_about_another) (row_of_tag tag items)
   make (Traded tag) = turned (needed tag is_execution) (row_of_tag tag items)
-  make (Group count) = turned_group unskipped (group_at count items)
+  make (Group count) = turned_group carried_group (group_at count items)
   make rule = item_if (has_rule rule) (One (own_row rule))
 
   pub each_made : (rule : Rule) → IsMade kinds items make rule
@@ -101,7 +111,7 @@ module _ (items : List (Item Kind)) where
   each_made (Another tag) =
       turned_made items (needed tag is_about_another) tag tag (λ row. refl)
   each_made (Traded tag) = turned_made items (needed tag is_execution) tag tag (λ row. refl)
-  each_made (Group count) = turned_group_made items unskipped count (λ group. refl)
+  each_made (Group count) = turned_group_made items carried_group count (λ group. refl)
   each_made rule = item_made (has_rule rule) (One (own_row rule))
 
   abbrev pub items_down : List Rule → List (Item Kind)
@@ -138,6 +148,8 @@ module _ (items : List (Item Kind)) where
   Fits (Original known) = IsRow (row Optional 41 Id) × IfSome known IsId
   Fits (PartyOf role to) =
       has_place (outline_of items) (Role role) ≡ true → group_at 453 items ≡ Some parties
+  Fits (Group count) =
+      IfSome (group_at count items) (λ group. all_can_go_down group.rows ≡ true)
   Fits ExecId = IsRow (row Required 17 Id)
   Fits (Another tag) = NeedsType tag (codes "GH")
   Fits (Traded tag) = NeedsType tag (codes "FG")

@@ -1,5 +1,5 @@
 -- What is read of fields at no fault is their message, row by row.
-use Rattle.std.proofs.Common.{◌≡◌, List, [], ◌∷◌, codes, None, refl, map}
+use Rattle.std.proofs.Common.{◌≡◌, List, [], ◌∷◌, ◌∙◌, codes, None, refl, map}
 use Rattle.field_groups.specs.Field.{Field}
 use Rattle.message_tables.specs.Tables.{Required, group_says, lines_in, tags_in, Place, Said, Cell}
 use Rattle.message_tables.specs.FirstFault.{first_fault, message_in}
@@ -14,6 +14,7 @@ use Rattle.row_values.proofs.ByTable.{says}
 use Rattle.row_values.proofs.ContraRows.{contras_say}
 use Rattle.reports_fix42.specs.declared.reports.Report42.{Report42}
 use Rattle.reports_fix42.specs.declared.reports.CancelReject42.{CancelReject42}
+use Rattle.reports_fix42.proofs.ContraRows.{contras_timed}
 use Rattle.reports_fix42.specs.Reports.{contras}
 use Rattle.reports_fix42.specs.Message.{execution_report_table, cancel_reject_table}
 use Rattle.reports_fix42.specs.Said.{report_says, cancel_reject_says}
@@ -60,7 +61,7 @@ module _ (fields : List Field) (h : first_fault judge execution_report_table fie
   contras_said ls w =
       contras_say (lines_in (tags_in contras) fields) ls w
       (lines_say judge execution_report_table fields 7 0 contras (row Required 375 Id) h refl refl
-      refl refl)
+      refl refl) ∙ contras_timed fields h
 
   -- what is read is the message of the fields
   pub report_means : (m : Report42) → IsReport fields m

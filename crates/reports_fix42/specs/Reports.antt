@@ -7,7 +7,7 @@ use Rattle.message_tables.specs.Tables.{RepeatingGroup, Item, One, Lines}
 use Rattle.value_kinds.specs.ValueKind.{ValueKind, Id, Code, Word, Text, Currency, Number, Reason}
 use Rattle.value_kinds.specs.ValueKind.{Qty, Price, Stamp, Day, MonthYear}
 use Rattle.row_values.specs.Kinds.{Kind, DayOf, row}
-use Rattle.row_values.specs.Contras as both
+use Rattle.row_values.specs.Contras.{contra_rows}
 use Rattle.rows_fix42.specs.Header.{has_day}
 
 abbrev required : ℕ → ValueKind → Item Kind
@@ -31,7 +31,7 @@ is_execution = (Is 20 (codes "0") ∷ Is 150 (codes "12") ∷ []) ∷ (Is 20 (co
 abbrev pub contras : RepeatingGroup Kind
 contras = record {
   count = 382;  -- NoContraBrokers
-  rows = both.contras.rows;
+  rows = contra_rows Stamp;
   skipped = [];
 }
 

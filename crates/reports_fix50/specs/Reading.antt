@@ -2,7 +2,7 @@
 use Rattle.std.specs.Prelude.{◌≡◌, ℕ, List, [], ◌∷◌, codes, unwrap_or, IfSome}
 use Rattle.std.specs.Option.{option_map}
 use Rattle.value_kinds.specs.ValueKind.{Id, Text, Word, Currency, Reason, Day, Qty, Price}
-use Rattle.value_kinds.specs.ValueKind.{Stamp, Code, Known, code_text}
+use Rattle.value_kinds.specs.ValueKind.{FineStamp, Code, Known, code_text}
 use Rattle.typed_fields.specs.Dec.{dec_text, IsDec}
 use Rattle.typed_fields.specs.Day.{day_text, IsDay}
 use Rattle.typed_fields.specs.Number.{number_text}
@@ -58,7 +58,7 @@ pub record IsOrderPart (fields : List Field) (m : OrderPart) : Type 0 where
   pub currency : m.currency ≡ said fields 15 (Value Currency)
   pub time_in_force : option_map code_text m.time_in_force ≡ said fields 59 (TimeBeside 40)
   pub expire_date : option_map day_text m.expire_date ≡ said fields 432 (Value Day)
-  pub expire_time : option_map stamp_text m.expire_time ≡ said fields 126 (Value Stamp)
+  pub expire_time : option_map stamp_text m.expire_time ≡ said fields 126 (Value FineStamp)
   pub capacity : option_map code_text m.capacity ≡ coded fields 528 (codes "AIP")
 
 -- the values of an order's part can be read
@@ -123,7 +123,7 @@ pub record IsReport (fields : List Field) (m : Report50) : Type 0 where
   pub cum : Says (said fields 14 (Value Qty)) (dec_text m.cum)
   pub avg : Says (said fields 6 (Value Price)) (dec_text m.avg)
   pub trade_date : option_map day_text m.trade_date ≡ said fields 75 (Value Day)
-  pub transact_time : option_map stamp_text m.transact_time ≡ said fields 60 (Value Stamp)
+  pub transact_time : option_map stamp_text m.transact_time ≡ said fields 60 (Value FineStamp)
   pub min_qty : option_map dec_text m.min_qty ≡ said fields 110 (Value Qty)
   pub max_floor : option_map dec_text m.max_floor ≡ said fields 1138 (Value Qty)
   pub text : m.text ≡ said fields 58 (Value Text)
@@ -137,7 +137,7 @@ pub record IsCancelReject (fields : List Field) (m : CancelReject50) : Type 0 wh
   pub orig_id : m.orig_id ≡ said fields 41 (Value Id)
   pub ord_status : Says (known fields 39 (codes "0123456789ABCDE")) (code_text m.ord_status)
   pub account : m.account ≡ said fields 1 (Value Id)
-  pub transact_time : option_map stamp_text m.transact_time ≡ said fields 60 (Value Stamp)
+  pub transact_time : option_map stamp_text m.transact_time ≡ said fields 60 (Value FineStamp)
   pub response_to : Says (known fields 434 (codes "12")) (code_text m.response_to)
   pub cxl_reason : option_map number_text m.cxl_reason ≡ said fields 102 (Value Reason)
   pub text : m.text ≡ said fields 58 (Value Text)

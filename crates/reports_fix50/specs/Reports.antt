@@ -5,7 +5,7 @@ use Rattle.std.specs.Prelude.{ℕ, List, [], ◌∷◌, codes}
 use Rattle.message_tables.specs.Tables.{Test, Is, Required, Optional, Lenient}
 use Rattle.message_tables.specs.Tables.{When, Item, One, Party, Lines}
 use Rattle.value_kinds.specs.ValueKind.{ValueKind, Id, Code, Known, Word, Text, Currency, Number}
-use Rattle.value_kinds.specs.ValueKind.{Reason, Qty, Price, Stamp, Day}
+use Rattle.value_kinds.specs.ValueKind.{Reason, Qty, Price, FineStamp, Day}
 use Rattle.row_values.specs.Kinds.{Kind, MonthBeside, TimeBeside, row}
 use Rattle.row_values.specs.Groups.{parties}
 use Rattle.row_values.specs.Contras.{contras}
@@ -91,7 +91,7 @@ execution_report =
     optional 15 Currency ∷  -- Currency
     beside 59 (TimeBeside 40) ∷  -- TimeInForce
     optional 432 Day ∷  -- ExpireDate
-    optional 126 Stamp ∷  -- ExpireTime
+    optional 126 FineStamp ∷  -- ExpireTime
     lenient 528 (Code (codes "AIP")) ∷  -- OrderCapacity
     where_is is_trade 32 Qty ∷  -- LastQty
     where_is is_trade 31 Price ∷  -- LastPx
@@ -100,7 +100,7 @@ execution_report =
     required 14 Qty ∷  -- CumQty
     required 6 Price ∷  -- AvgPx
     optional 75 Day ∷  -- TradeDate
-    optional 60 Stamp ∷  -- TransactTime
+    optional 60 FineStamp ∷  -- TransactTime
     optional 110 Qty ∷  -- MinQty
     optional 1138 Qty ∷  -- DisplayQty
     optional 58 Text ∷  -- Text
@@ -115,7 +115,7 @@ cancel_reject =
     optional 41 Id ∷  -- OrigClOrdID
     required 39 (Known ord_statuses) ∷  -- OrdStatus
     optional 1 Id ∷  -- Account
-    optional 60 Stamp ∷  -- TransactTime
+    optional 60 FineStamp ∷  -- TransactTime
     required 434 (Known (codes "12")) ∷  -- CxlRejResponseTo
     optional 102 Reason ∷  -- CxlRejReason
     optional 58 Text ∷  -- Text

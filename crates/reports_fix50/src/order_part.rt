@@ -5,7 +5,7 @@ ghost use Rattle.reports_fix50.specs.Reading.{IsOrderPart, IsReadableOrderPart, 
 
 use field_groups::Fields;
 use order_meaning::Bytes;
-use row_values::{Maturity, code, day, or_empty, owned, price, qty, stamp, text};
+use row_values::{Maturity, code, day, fine_stamp, or_empty, owned, price, qty, text};
 use rows_fix50::{maturity, time_in_force};
 use std::alloc::{AllocError, Global};
 use typed_fields::{Day, Dec, Stamp};
@@ -89,7 +89,7 @@ fn order_part_of(alloc: Global, fields: &Fields<'_>, texts: [Option<Bytes>; 7]) 
         currency,
         time_in_force: time_in_force(fields),
         expire_date: day(fields, 432),
-        expire_time: stamp(fields, 126),
+        expire_time: fine_stamp(fields, 126),
         capacity: code(fields, 528, &CAPACITY),
     }
 }

@@ -17,7 +17,8 @@ use crate::tables::{EXEC_TYPES, ORD_STATUSES};
 use field_groups::Fields;
 use order_meaning::Bytes;
 use row_values::{
-    code, day, or_empty, owned, price, price_or_zero, qty, qty_or_zero, reason, resend, stamp, text,
+    code, day, fine_stamp, or_empty, owned, price, price_or_zero, qty, qty_or_zero, reason, resend,
+    text,
 };
 use std::alloc::{AllocError, Global};
 use value_kinds::ValueKind;
@@ -124,7 +125,7 @@ fn report_of(
         cum: qty_or_zero(fields, 14),
         avg: price_or_zero(fields, 6),
         trade_date: day(fields, 75),
-        transact_time: stamp(fields, 60),
+        transact_time: fine_stamp(fields, 60),
         min_qty: qty(fields, 110),
         max_floor: qty(fields, 1138),
         text,
@@ -161,7 +162,7 @@ fn cancel_reject_of(alloc: Global, fields: &Fields<'_>, texts: [Option<Bytes>; 6
         orig_id,
         ord_status: code(fields, 39, &ORD_STATUS).unwrap_or(0),
         account,
-        transact_time: stamp(fields, 60),
+        transact_time: fine_stamp(fields, 60),
         response_to: code(fields, 434, &RESPONSE_TO).unwrap_or(0),
         cxl_reason: reason(fields, 102),
         text,

@@ -12,7 +12,7 @@ use row_values::Kind::{MonthBeside, TimeBeside, Value};
 use row_values::{CONTRAS, Kind, PARTIES};
 use rows_fix50::HEADER;
 use value_kinds::ValueKind::{
-    Code, Currency, Day, Id, Known, Number, Price, Qty, Reason, Stamp, Text, Word,
+    Code, Currency, Day, FineStamp, Id, Known, Number, Price, Qty, Reason, Text, Word,
 };
 
 /// What ExecType(150) may be.
@@ -75,7 +75,7 @@ const EXECUTION_REPORT: [Item<Kind>; 47] = [
     one!(15, Value(Currency), Optional), // Currency
     one!(59, TimeBeside(40), Lenient), // TimeInForce
     one!(432, Value(Day), Optional), // ExpireDate
-    one!(126, Value(Stamp), Optional), // ExpireTime
+    one!(126, Value(FineStamp), Optional), // ExpireTime
     one!(528, Value(Code(b"AIP")), Lenient), // OrderCapacity
     one!(32, Value(Qty), WHERE_TRADE), // LastQty
     one!(31, Value(Price), WHERE_TRADE), // LastPx
@@ -84,7 +84,7 @@ const EXECUTION_REPORT: [Item<Kind>; 47] = [
     one!(14, Value(Qty), Required), // CumQty
     one!(6, Value(Price), Required), // AvgPx
     one!(75, Value(Day), Optional), // TradeDate
-    one!(60, Value(Stamp), Optional), // TransactTime
+    one!(60, Value(FineStamp), Optional), // TransactTime
     one!(110, Value(Qty), Optional), // MinQty
     one!(1138, Value(Qty), Optional), // DisplayQty
     one!(58, Value(Text), Optional), // Text
@@ -99,7 +99,7 @@ const CANCEL_REJECT: [Item<Kind>; 10] = [
     one!(41, Value(Id), Optional), // OrigClOrdID
     one!(39, Value(Known(ORD_STATUSES)), Required), // OrdStatus
     one!(1, Value(Id), Optional), // Account
-    one!(60, Value(Stamp), Optional), // TransactTime
+    one!(60, Value(FineStamp), Optional), // TransactTime
     one!(434, Value(Known(b"12")), Required), // CxlRejResponseTo
     one!(102, Value(Reason), Optional), // CxlRejReason
     one!(58, Value(Text), Optional), // Text

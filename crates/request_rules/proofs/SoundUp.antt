@@ -12,7 +12,8 @@ use Rattle.message_tables.specs.Tables.{Lines as LinesOf, RepeatingGroup, Messag
 use Rattle.message_tables.specs.Tables.{Spells, Cell, said_at, lines_of, party_in, groups_of}
 use Rattle.message_tables.specs.Tables.{value_at, ◌>>=◌, code_of, is_one_of}
 use Rattle.message_tables.specs.Content.{content}
-use Rattle.value_kinds.specs.ValueKind.{Code, Id, MonthYear, Day, OneByte, formed, spelling}
+use Rattle.value_kinds.specs.ValueKind.{Code, Id, FineStamp, Stamp, MonthYear, Day, OneByte, formed}
+use Rattle.value_kinds.specs.ValueKind.{spelling}
 use Rattle.row_values.specs.Kinds.{Kind, Value, Byte, DayOf, MonthBeside, TimeBeside, judge, row}
 use Rattle.row_values.specs.Kinds.{verdict_of}
 use Rattle.row_values.specs.Groups.{parties}
@@ -20,13 +21,15 @@ use Rattle.rows_fix42.specs.Header.{table as table42}
 use Rattle.rows_fix50.specs.Header.{header as header50, table as table50}
 use Rattle.sound_laws.specs.Sound.{IsClear, IsSaid, IsGroup, IsItem, IsSound}
 use Rattle.sound_laws.proofs.Each.{at_index, both, not_true}
+use Rattle.sound_laws.proofs.PlainRows.{spelled as spelled_text}
 use Rattle.sound_laws.proofs.RowsSaid.{row_of_tag, same_value, optional_said, lenient_said}
+use Rattle.sound_laws.proofs.RowsSaid.{required_said}
 use Rattle.sound_laws.proofs.ContentValues.{GroupSaid, is_alone}
-use Rattle.sound_laws.proofs.SpelledAgain.{clear_joined}
+use Rattle.sound_laws.proofs.SpelledAgain.{clear_joined, fine_up}
 use Rattle.rule_rows.specs.ByRules.{At, lack_if}
 use Rattle.rule_rows.specs.Rows.{group_at}
-use Rattle.rule_rows.proofs.Items.{carried, count_is, group_item, has_one, has_row, item_if, moved}
-use Rattle.rule_rows.proofs.Items.{row_there}
+use Rattle.rule_rows.proofs.Items.{count_is, group_item, has_one, has_row, item_if, row_there}
+use Rattle.rule_rows.proofs.Items.{turned}
 use Rattle.rule_rows.proofs.Looked.{IsFound, all_found, each_rule, has_lines_of, lines_by}
 use Rattle.rule_rows.proofs.Source as source
 use Rattle.rule_rows.proofs.Source.{IsSpelled, carried_said, is_less}
@@ -38,7 +41,7 @@ use Rattle.request_rules.proofs.KindsUp.{are_kinds, own}
 use Rattle.request_rules.proofs.TablesUp.{GoesUp, own_rows, IsRow, beside, can_go_up}
 use Rattle.request_rules.proofs.TablesUp.{capacity_row, coded_need, day_row, each_made, has_rule}
 use Rattle.request_rules.proofs.TablesUp.{is_carried, is_coded, is_plain, is_value, items_up, make}
-use Rattle.request_rules.proofs.TablesUp.{month_row, time_row, type_row, up_need}
+use Rattle.request_rules.proofs.TablesUp.{month_row, time_row, type_row, up_kind, up_row}
 use Rattle.request_rules.proofs.PartiesUp.{IsPartyId, parties_said, roles_said, id_for}
 use Rattle.request_rules.proofs.DatesUp.{date_spelled, month_spelled}
 use Rattle.request_rules.proofs.TermsUp.{are_listed, listed_said, type_said, time_said}
@@ -52,16 +55,39 @@ less_is Optional true h = refl
 less_is Optional false h = refl
 less_is other coded h = absurd cc
 
+-- a moment of FIX 4.2 is a fine one
+fine_said : (fields42 fields50 : List Field) (said : Said)
+    → IfSome said (λ text. judge fields42 (Value Stamp) text ≡ Spells text)
+    → IfSome said (λ text. judge fields50 (Value FineStamp) text ≡ Spells text)
+unfolding judge
+fine_said fields42 fields50 None h = tt
+fine_said fields42 fields50 (Some text) h =
+    ap verdict_of (fine_up text (spelled_text (spelling Stamp text) text h))
+
+stamp_up : (fields42 fields50 : List Field) (tag to : ℕ) (need : Need) (said : Said)
+    → is_plain need ≡ true
+    → IsSaid judge fields42 (record { tag = tag; kind = Value Stamp; need = need }) said
+    → IsSaid judge fields50 (record { tag = to; kind = Value FineStamp; need = coded_need need false })
+    said
+stamp_up fields42 fields50 tag to Required said plain h =
+    required_said fields50 to (Value FineStamp) said (h.needed refl)
+    (fine_said fields42 fields50 said h.spelled) h.clear
+stamp_up fields42 fields50 tag to Optional said plain h =
+    optional_said fields50 to (Value FineStamp) said
+    (fine_said fields42 fields50 said h.spelled) h.clear
+stamp_up fields42 fields50 tag to need said plain h = absurd cc
+
 row_up : (fields42 fields50 : List Field) (to : ℕ) (row : Row Kind) (said : Said)
     → can_go_up (Some row) ≡ true → IsSaid judge fields42 row said
-    → IsSaid judge fields50 (moved up_need to row) said
+    → IsSaid judge fields50 (up_row to row) said
 row_up fields42 fields50 to row said ok h =
     let p = both (is_value row.kind) (is_plain row.need) ok in by row.kind p.0 p.1 h
   where
     by : (kind : Kind) → is_value kind ≡ true → is_plain row.need ≡ true
         → IsSaid judge fields42 (record { tag = row.tag; kind = kind; need = row.need }) said
         → IsSaid judge fields50
-        (record { tag = to; kind = kind; need = coded_need row.need (is_coded kind) }) said
+        (record { tag = to; kind = up_kind kind; need = coded_need row.need (is_coded kind) }) said
+    by (Value Stamp) value plain h = stamp_up fields42 fields50 row.tag to row.need said plain h
     by (Value kind) value plain h = carried_said fields42 fields50 row.tag to kind row.need
         (coded_need row.need (is_coded (Value kind))) said
         (less_is row.need (is_coded (Value kind)) plain) h
@@ -190,7 +216,7 @@ module _ (letter : ℕ) (items : List (Item Kind)) (goes : GoesUp items) (m : Me
   no_groups true item none = rw none tt
   no_groups false item none = tt
 
-  no_group : (to : ℕ) (row : Option (Row Kind)) → HasGroups (carried up_need to row)
+  no_group : (to : ℕ) (row : Option (Row Kind)) → HasGroups (turned (up_row to) row)
   no_group to None = tt
   no_group to (Some row) = tt
 
@@ -268,11 +294,11 @@ module _ (letter : ℕ) (items : List (Item Kind)) (goes : GoesUp items) (m : Me
 
     row_case : (rule : Rule) (from to : ℕ) → kinds.target rule ≡ At (Tag to)
         → kinds.said m rule ≡ at m from → IsFound kinds up_rules rule → (row : Option (Row Kind))
-        → row_of_tag from items ≡ row → can_go_up row ≡ true → Says (carried up_need to row)
+        → row_of_tag from items ≡ row → can_go_up row ≡ true → Says (turned (up_row to) row)
     row_case rule from to is says found None e ok = tt
     row_case rule from to is says found (Some row) e ok =
-        let P : Said → Type 0 = λ said. IsSaid judge fields50 (moved up_need to row) said in
-        one_said rule (moved up_need to row) is found
+        let P : Said → Type 0 = λ said. IsSaid judge fields50 (up_row to row) said in
+        one_said rule (up_row to row) is found
         (subst P (sym says) (row_up fields42 fields50 to row (at m from) ok
         (source.row_at (table42 letter items) m sound from row e)))
 

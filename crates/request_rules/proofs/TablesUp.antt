@@ -1,13 +1,14 @@
 -- The table that the rules make of a table of FIX 4.2. Each table of FIX 5.0 SP2 is what they make
 -- of the table of FIX 4.2 with its letter.
 use Rattle.std.proofs.Common.{[], ◌∷◌, ◌≡◌, ℕ, Bool, true, false, not, List}
-use Rattle.std.proofs.Common.{codes, Option, Some, None}
+use Rattle.std.proofs.Common.{codes, refl, Option, Some, None}
 use Rattle.std.specs.Prelude.{IfSome, ◌&&◌, ◌==◌}
 use Rattle.std.specs.List.{AllByRecursion, list_any, list_all}
 use Rattle.field_groups.specs.Field.{is_soh}
 use Rattle.message_tables.specs.Tables.{Need, Required, Optional, Lenient, When, Row, Item, One}
 use Rattle.message_tables.specs.Tables.{Party, Lines as LinesOf}
-use Rattle.value_kinds.specs.ValueKind.{Code, Codes, Word, Id, OneByte, MonthYear, Day}
+use Rattle.value_kinds.specs.ValueKind.{Code, Codes, Word, Id, OneByte, FineStamp, Stamp, MonthYear}
+use Rattle.value_kinds.specs.ValueKind.{Day}
 use Rattle.row_values.specs.Kinds.{Kind, Value, Byte, DayOf, MonthBeside, TimeBeside, row}
 use Rattle.row_values.specs.Groups.{parties}
 use Rattle.rows_fix42.specs.Header.{has_day}
@@ -15,8 +16,8 @@ use Rattle.sound_laws.proofs.ContentValues.{is_alone}
 use Rattle.sound_laws.proofs.RowsSaid.{row_of_tag}
 use Rattle.rule_rows.specs.ByRules.{outline_of}
 use Rattle.rule_rows.specs.Rows.{group_at}
-use Rattle.rule_rows.proofs.Items.{carried, group_item, group_made, has_row, item_if, item_made}
-use Rattle.rule_rows.proofs.Items.{row_made}
+use Rattle.rule_rows.proofs.Items.{group_item, group_made, has_row, item_if, item_made, turned}
+use Rattle.rule_rows.proofs.Items.{turned_made}
 use Rattle.rule_rows.proofs.Made.{IsMade, made}
 use Rattle.request_rules.specs.Rules.{Rule, Same, Moved, Listed, Parties, PartyOf, Month, Date}
 use Rattle.request_rules.specs.Rules.{OrdType, Time, Lines, has, kinds, role_of, up_rules}
@@ -36,6 +37,14 @@ is_coded kind = false
 
 abbrev pub up_need : Row Kind → Need
 up_need row = coded_need row.need (is_coded row.kind)
+
+-- a moment of FIX 4.2 is a fine one
+abbrev pub up_kind : Kind → Kind
+up_kind (Value Stamp) = Value FineStamp
+up_kind kind = kind
+
+abbrev pub up_row : ℕ → Row Kind → Row Kind
+up_row to row = record { tag = to; kind = up_kind row.kind; need = up_need row }
 
 -- rows that can be carried: their values are judged by themselves
 abbrev pub is_value : Kind → Bool
@@ -61,8 +70,8 @@ module _ (items : List (Item Kind)) where
   has_rule rule = has (outline_of items) rule
 
   abbrev pub make : Rule → Option (Item Kind)
-  make (Same tag) = carried up_need tag (row_of_tag tag items)
-  make (Moved from to) = carried up_need to (row_of_tag from items)
+  make (Same tag) = turned (up_row tag) (row_of_tag tag items)
+  make (Moved from to) = turned (up_row to) (row_of_tag from items)
   make (Listed from to listed) =
       item_if (has_rule (Listed from to listed)) (beside to (Byte listed))
   make Parties = item_if (has_rule Parties) (LinesOf parties)
@@ -74,8 +83,8 @@ module _ (items : List (Item Kind)) where
   make (Lines count) = group_item (group_at count items)
 
   pub each_made : (rule : Rule) → IsMade kinds items make rule
-  each_made (Same tag) = row_made items up_need tag tag
-  each_made (Moved from to) = row_made items up_need from to
+  each_made (Same tag) = turned_made items (up_row tag) tag tag (λ row. refl)
+  each_made (Moved from to) = turned_made items (up_row to) from to (λ row. refl)
   each_made (Lines count) = group_made items count
   each_made rule = item_made (has_rule rule) _
 
