@@ -41,11 +41,13 @@ use Rattle.report_rules.proofs.GoDown.{down_by, goes_down, reject_sound, report_
 use Rattle.report_rules.proofs.ReadDown.{IsReadOf, reject_complete, reject_read, report_complete}
 use Rattle.report_rules.proofs.ReadDown.{report_read}
 use Rattle.report_rules.proofs.SenseDown.{not_lacking}
-use Rattle.translation.specs.Header.{type_of, carried, with_content}
+use Rattle.translation.specs.Header.{carried, head_down, type_of, with_content}
 use Rattle.translation.proofs.BehindHeader.{IsHead, front, items_behind, read_behind}
 use Rattle.translation.proofs.CarriedHeader.{IsOwnHead, HasHeader, head_is_own, head_value}
 use Rattle.translation.proofs.CarriedHeader.{own_said}
-use Rattle.translation.proofs.SplitAgain.{fields_again}
+use Rattle.translation.proofs.CarriedDown.{head_clear, own_down, resend_down, type_down}
+use Rattle.translation.proofs.SplitAgain.{clear_again}
+use Rattle.translation.proofs.Writable.{IsType}
 use Rattle.report_translate.specs.Reading.{report_message}
 use Rattle.report_translate.proofs.OfType.{eight, nine, no_report, type_is}
 
@@ -139,13 +141,20 @@ module _ (fields : List Field) (good : AreFields None fields) (m : Message)
   reject_header : HasHeader cancel_reject_table
   reject_header = search
 
+  -- the type that is carried
+  pub down_type : IsType (type_of (head_down fields))
+  down_type =
+      let is = type_is (type_of fields) fields None m e in
+      let P : List ℕ → Type 0 = λ t. IsType t in subst P (sym (type_down fields is)) is
+
   module _ (w : Message) (down : down_message None m ≡ Ok w) where
     -- THE MESSAGE OF FIX 4.2 means the same, and is sound
     pub record Keeps : Type 0 where
       pub means : report42 w ≡ report50 m
       pub books : (book : Book) → step42 book w ≡ step50 book m
       pub few : AreFew (written w)
-      pub again : message42 (type_of fields) (with_content fields (written w)) None ≡ Ok w
+      pub again : message42 (type_of fields)
+          ((35, type_of fields) ∷ carried (head_down fields) ++ written w) None ≡ Ok w
 
     -- the message of a report keeps its PossResend
     resend_is : w.resend ≡ m.resend
@@ -157,25 +166,28 @@ module _ (fields : List Field) (good : AreFields None fields) (m : Message)
         → IsOf fields known table50 m → IsReport50 m → HasHeader table50
         → IsSound judge (table letter items) w → table_at w.letter ≡ table letter items
         → AreFew (content (table letter items) w)
-        → items_behind (table letter items) (head_value (type_of fields) fields) w ≡ true
+        → items_behind (table letter items) (head_value (type_of fields) (head_down fields)) w ≡ true
         → table_fits (table letter items) (front (table letter items)
-        (head_value (type_of fields) fields) w) ≡ true
+        (head_value (type_of fields) (head_down fields)) w) ≡ true
         → ((x : List Field) → message42 known x None
         ≡ told (message_of judge (table letter items) x)) → Keeps
     kept table50 known letter items of report header sound is few behind fits reads =
         let stands = goes_down None tt m w report down in
-        let own = head_is_own table50 fields of.read.good (clear) (type_of fields)
-        (type_is (type_of fields) fields None m e) header in
+        let own = own_down (type_of fields) fields (head_is_own table50 fields of.read.good (clear)
+        (type_of fields) (type_is (type_of fields) fields None m e) header) in
+        let head : List Field = (35, type_of fields) ∷ carried (head_down fields) in
+        let flag = ap (λ (v : Option (List ℕ)). unwrap_or (option_map flag_of v) false)
+        (resend_down fields) in
         let P : Table Kind → Type 0 = λ t. AreFew (content t w) in
         record {
           means = stands.means ∙ unfilled (report50 m);
           books = stands.books;
           few = subst P (sym is) few;
-          again = ap (λ (t : List ℕ). message42 t (with_content fields (written w)) None) of.type_is
-              ∙ ap (λ (t : Table Kind). message42 known (with_content fields (content t w)) None) is
-              ∙ reads (with_content fields (content (table letter items) w))
-              ∙ message_again letter items (type_of fields) fields w own behind fits sound
-              (sym of.read.resend ∙ sym resend_is);
+          again = ap (λ (t : List ℕ). message42 t (head ++ written w) None) of.type_is
+              ∙ ap (λ (t : Table Kind). message42 known (head ++ content t w) None) is
+              ∙ reads (head ++ content (table letter items) w)
+              ∙ message_again letter items (type_of fields) (head_down fields) w own behind fits
+              sound (flag ∙ sym of.read.resend ∙ sym resend_is);
         }
 
     -- WHAT GOES DOWN means the same, and is read again behind its header
@@ -199,10 +211,13 @@ module _ (fields : List Field) (good : AreFields None fields) (m : Message)
             reject_header sound (ap table_at sound.letter)
             (few_of judge reject_table42 w refl (lit≤ tt) sound) refl refl (λ x. refl)
 
-    pub reads_again : message42 (type_of fields) (with_content fields (written w)) None ≡ Ok w
-    reads_again = keeps.again
+    pub reads_again : message42 (type_of (head_down fields))
+        (with_content (head_down fields) (written w)) None ≡ Ok w
+    reads_again =
+        ap (λ (t : List ℕ). message42 t ((35, t) ∷ carried (head_down fields) ++ written w) None)
+        (type_down fields (type_is (type_of fields) fields None m e)) ∙ keeps.again
 
-    pub splits_again : SplitsInto (body_of (with_content fields (written w)))
-        (with_content fields (written w)) None
-    splits_again = fields_again fields (written w) good (type_is (type_of fields) fields None m e)
-        keeps.few
+    pub splits_again : SplitsInto (body_of (with_content (head_down fields) (written w)))
+        (with_content (head_down fields) (written w)) None
+    splits_again =
+        clear_again (head_down fields) (written w) (head_clear fields clear) down_type keeps.few

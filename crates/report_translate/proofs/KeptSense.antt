@@ -6,7 +6,7 @@ use Rattle.frame_grammar.specs.Frame.{IsFrame}
 use Rattle.frame_grammar.proofs.Begins.{no_other}
 use Rattle.field_groups.specs.Field.{Field}
 use Rattle.field_groups.proofs.Determined.{determined}
-use Rattle.translation.specs.Header.{with_content}
+use Rattle.translation.specs.Header.{head_down, with_content}
 use Rattle.report_translate.specs.Laws.{FramesKeepSense, KeepSense, MeanTheSame}
 use Rattle.report_translate.specs.Translation.{IsDown}
 
@@ -14,7 +14,7 @@ bodies_keep : (body down : List ℕ) → IsDown body down → KeepSense body dow
 bodies_keep body down is fields others split again =
     let here = (determined body fields is.fields None None split is.stands.goes.report.split).0 in
     let there =
-    (determined down others (with_content is.fields is.written) None None again is.again).0 in
+    (determined down others (with_content (head_down is.fields) is.written) None None again is.again).0 in
     let P : List Field → Type 0 = λ fs. MeanTheSame fs others in
     let Q : List Field → Type 0 = λ fs. MeanTheSame is.fields fs in
     subst P (sym here) (subst Q (sym there) (record {

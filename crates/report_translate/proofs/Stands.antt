@@ -7,19 +7,20 @@ use Rattle.message_tables.specs.Tables.{Message}
 use Rattle.report_rules.specs.Rules.{written}
 use Rattle.translation.specs.declared.error.TranslateError.{TranslateError}
 use Rattle.translation.specs.declared.error.TranslateError.TheVariants as errors
+use Rattle.translation.specs.Header.{head_down}
 use Rattle.translation.specs.Writing.{IsWritten, IsUnwritten}
 use Rattle.report_translate.specs.Writing.{GoDown, IsDownOf, Refuses, RefusesDown}
 
 module _ (fields : List Field) (stopped : Option SplitFault) where
   -- what was written for a report
   pub written_down : (client : Message) (down : List ℕ) (r : Result (Unit {0}) TranslateError)
-      → GoDown fields stopped client → OnOk r (IsWritten fields (written client) down)
+      → GoDown fields stopped client → OnOk r (IsWritten (head_down fields) (written client) down)
       → OnOk r (IsDownOf fields stopped down)
   written_down client down (Ok done) of h = record { client = client; told = of; bytes = h }
   written_down client down (Err error) of h = tt
 
   pub unwritten_down : (client : Message) (r : Result (Unit {0}) TranslateError)
-      → GoDown fields stopped client → IfErr r (IsUnwritten fields (written client))
+      → GoDown fields stopped client → IfErr r (IsUnwritten (head_down fields) (written client))
       → IfErr r (RefusesDown fields stopped)
   unwritten_down client (Ok done) of h = tt
   unwritten_down client (Err errors.NoMemory) of h = tt

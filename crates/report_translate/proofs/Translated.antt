@@ -10,14 +10,13 @@ use Rattle.message_tables.specs.Tables.{Message}
 use Rattle.report_rules.specs.Rules.{written}
 use Rattle.translation.specs.declared.error.TranslateError.{TranslateError}
 use Rattle.translation.specs.declared.error.TranslateError.TheVariants as errors
-use Rattle.translation.specs.Header.{type_of, carried, with_content}
+use Rattle.translation.specs.Header.{carried, head_down, type_of, with_content}
 use Rattle.translation.proofs.Writable.{writable}
 use Rattle.report_translate.specs.Translation.{GoesDown, IsKnown, IsRefused, IsRefusedByCheck}
 use Rattle.report_translate.specs.Translation.{IsReport, IsTranslation, StandsFor}
 use Rattle.report_translate.specs.Writing.{AreRead, GoDown, IsCheckedOf, IsDownOf, RefusesCheck}
 use Rattle.report_translate.specs.Writing.{RefusesDown}
-use Rattle.report_translate.proofs.DownAgain.{keeps, reads_again, splits_again}
-use Rattle.report_translate.proofs.OfType.{type_is}
+use Rattle.report_translate.proofs.DownAgain.{down_type, keeps, reads_again, splits_again}
 
 module _ (body : List ℕ) (fields : List Field)
     (stopped : Option SplitFault) (split : SplitsInto body fields stopped) where
@@ -46,14 +45,14 @@ module _ (body : List ℕ) (fields : List Field)
   can_be_written down is =
       let P : List ℕ → Type 0 = λ bytes. IsWritable bytes in
       subst P (sym is.bytes.bytes)
-      (writable (type_of fields) (carried fields ++ written is.client)
-      (type_is (type_of fields) fields None is.told.venue is.told.read.read))
+      (writable (type_of (head_down fields)) (carried (head_down fields) ++ written is.client)
+      (down_type fields split.good is.told.venue is.told.read.read))
 
   split_down : (down : List ℕ) (is : IsDownOf fields stopped down)
-      → SplitsInto down (with_content fields (written is.client)) None
+      → SplitsInto down (with_content (head_down fields) (written is.client)) None
   split_down down is =
       let P : List ℕ → Type 0 =
-      λ bytes. SplitsInto bytes (with_content fields (written is.client)) None in
+      λ bytes. SplitsInto bytes (with_content (head_down fields) (written is.client)) None in
       subst P (sym is.bytes.bytes) (splits_again fields split.good is.told.venue
       is.told.read.read is.client is.told.down)
 

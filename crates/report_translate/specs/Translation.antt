@@ -19,7 +19,7 @@ use Rattle.report_rules.specs.Rules.{down_message, written}
 use Rattle.translation.specs.declared.lengths.TheConstants.{MAX_CONTENT}
 use Rattle.translation.specs.declared.error.TranslateError.{TranslateError}
 use Rattle.translation.specs.declared.error.TranslateError.TheVariants as errors
-use Rattle.translation.specs.Header.{type_of, with_content}
+use Rattle.translation.specs.Header.{head_down, type_of, with_content}
 use Rattle.report_translate.specs.Reading.{report_message}
 
 -- a body that is read as a report of FIX 5.0 SP2, at no fault
@@ -55,11 +55,11 @@ pub record IsDown (body down : List ℕ) : Type 0 where
   pub fields : List Field
   pub written : List Field
   pub stands : StandsFor body fields written
-  pub bytes : down ≡ body_of (with_content fields written)
+  pub bytes : down ≡ body_of (with_content (head_down fields) written)
   pub content_fits : length (body_of written) ≤ MAX_CONTENT
   pub body_fits : length down ≤ MAX_BODY
-  pub again : SplitsInto down (with_content fields written) None
-  pub read : message42 (type_of fields) (with_content fields written) None
+  pub again : SplitsInto down (with_content (head_down fields) written) None
+  pub read : message42 (type_of (head_down fields)) (with_content (head_down fields) written) None
       ≡ Ok stands.goes.client
 
 -- a frame of FIX 4.2 whose body stands for a body of FIX 5.0 SP2
@@ -88,7 +88,7 @@ pub record IsTooLong (body : List ℕ) : Type 0 where
   pub written : List Field
   pub stands : StandsFor body fields written
   pub long : length (body_of written) ≤ MAX_CONTENT
-      → MAX_BODY < length (body_of (with_content fields written))
+      → MAX_BODY < length (body_of (with_content (head_down fields) written))
 
 -- THE OUTCOME of a body: the text of a frame, or why there is none. Want of memory is no outcome.
 abbrev pub IsOutcome : List ℕ → Result (List ℕ) TranslateError → Type 0

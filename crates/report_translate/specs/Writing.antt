@@ -11,7 +11,7 @@ use Rattle.reports_fix50.specs.Reading.{exec_type_said}
 use Rattle.report_rules.specs.Rules.{down_message, lacks_type, written}
 use Rattle.translation.specs.declared.error.TranslateError.{TranslateError}
 use Rattle.translation.specs.declared.error.TranslateError.TheVariants as errors
-use Rattle.translation.specs.Header.{type_of}
+use Rattle.translation.specs.Header.{head_down, type_of}
 use Rattle.translation.specs.Writing.{IsWritten, IsUnwritten}
 use Rattle.report_translate.specs.Reading.{report_message}
 
@@ -73,13 +73,13 @@ pub record IsDownOf
     (fields : List Field) (stopped : Option SplitFault) (down : List ℕ) : Type 0 where
   pub client : Message
   pub told : GoDown fields stopped client
-  pub bytes : IsWritten fields (written client) down
+  pub bytes : IsWritten (head_down fields) (written client) down
 
 -- a report whose translation is too long
 pub record IsLongOf (fields : List Field) (stopped : Option SplitFault) : Type 0 where
   pub client : Message
   pub told : GoDown fields stopped client
-  pub long : IsUnwritten fields (written client) errors.TooLong
+  pub long : IsUnwritten (head_down fields) (written client) errors.TooLong
 
 -- why there is none
 abbrev pub RefusesDown : List Field → Option SplitFault → TranslateError → Type 0

@@ -9,7 +9,7 @@ ghost use Rattle.translation.specs.Judged.{AreGoodBy};
 use crate::checking::good;
 use field_groups::{Fields, Split};
 use std::alloc::Global;
-use translation::{TranslateError, check_lengths, lacking, msg_type, write_head};
+use translation::{HeadDown, TranslateError, check_lengths, lacking, msg_type, write_head};
 
 /// Appends the content of the report that fields at no fault say.
 #[tactic(auto, using(crate::proofs::Appended::of_put))]
@@ -45,7 +45,10 @@ pub(crate) fn write_down(
     ensures refused { IfErr result (RefusesDown split.now.fields split.now.fault) }
 {
     body.clear();
-    write_head(&split.fields, body)?;
+    let header = HeadDown {
+        fields: &split.fields,
+    };
+    write_head(header.msg_type(), &header, body)?;
     let head = body.len();
     put_down(alloc, split, body)?;
     let whole = body.len();

@@ -11,7 +11,7 @@ use field_groups::{Split, split};
 use frame_grammar::{FrameError, Kind, write_frame};
 use request_rules::put_up as put_content;
 use std::alloc::Global;
-use translation::{TranslateError, check_lengths, lacking, write_head};
+use translation::{TranslateError, check_lengths, lacking, msg_type, write_head};
 
 /// Appends the content of the request that stands for the fields of a body.
 #[tactic(auto, using(crate::proofs::GoodFields::put))]
@@ -34,7 +34,7 @@ fn write_up(split: &Split<'_>, up: &mut Vec<u8>) -> Result<(), TranslateError>
     ensures refused { IfErr result (RefusesUp split.now.fields split.now.fault) }
 {
     up.clear();
-    write_head(&split.fields, up)?;
+    write_head(msg_type(&split.fields), &split.fields, up)?;
     let head = up.len();
     put_up(split, up)?;
     let body = up.len();

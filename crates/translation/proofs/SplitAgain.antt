@@ -63,16 +63,22 @@ type_plain msg_type (OneByte byte other is) =
     subst P (sym is) (plain_field 35 (byte ∷ []) refl (grind (arith, nat_tests)))
 
 -- WHAT IS WRITTEN IS SPLIT AGAIN.
-pub fields_again : (fields written : List Field) → AreFields None fields
+pub clear_again : (fields written : List Field)
+    → AllByRecursion (IsClearField row_kinds.judge) fields
     → IsType (type_of fields) → AreFew written →
     SplitsInto (body_of (with_content fields written)) (with_content fields written) None
 unfolding is_data_tag
-fields_again fields written good is fits =
+clear_again fields written clear is fits =
     let head = carried fields in
-    let clear = clear_fields row_kinds.judge None fields good in
     let tags : Plains head = carried_all carried_tags fields refl clear in
     let short : length head ≤ 7 = carried_length carried_tags fields in
     let all = each_joined IsPlainField head written tags fits.plain in
     plain_again (with_content fields written)
     (all_of (with_content fields written) (type_plain (type_of fields) is, all))
     (omega (arith, short, fits.few, length-append head written))
+
+pub fields_again : (fields written : List Field) → AreFields None fields
+    → IsType (type_of fields) → AreFew written →
+    SplitsInto (body_of (with_content fields written)) (with_content fields written) None
+fields_again fields written good is fits =
+    clear_again fields written (clear_fields row_kinds.judge None fields good) is fits

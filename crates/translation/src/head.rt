@@ -2,12 +2,14 @@
 
 ghost use Rattle.std.specs.Prelude.{◌≡◌, ◌++◌, OnOk};
 ghost use Rattle.field_groups.specs.Field.{body_of, field_bytes};
-ghost use Rattle.translation.specs.Header.{carried_field, carried_tags, type_of};
+ghost use Rattle.translation.specs.Header.{carried_down, carried_field, carried_tags, head_down};
+ghost use Rattle.translation.specs.Header.{type_of};
 ghost use Rattle.translation.specs.Writing.{put};
 
 use field_groups::{Fields, put_field};
 use message_tables::Lookup;
 use std::alloc::AllocError;
+use typed_fields::{Stamp, cut_text};
 
 /// MsgType(35), the value of the first field; nothing where there is none.
 pub fn msg_type<'a>(fields: &Fields<'a>) -> &'a [u8]
@@ -19,10 +21,52 @@ pub fn msg_type<'a>(fields: &Fields<'a>) -> &'a [u8]
     }
 }
 
+/// What is carried of a value on the way down.
+fn carried_down(tag: u32, value: &[u8]) -> &[u8]
+    ensures { result.now ≡ carried_down tag value.now }
+{
+    if (tag == 52 || tag == 122) && Stamp::read_fine(value).is_ok() {
+        cut_text(value)
+    } else {
+        value
+    }
+}
+
+/// The fields whose header is carried down: SendingTime(52) and OrigSendingTime(122), where they
+/// are moments in the fine form, have no more digits of the second than three.
+#[derive(Clone, Copy)]
+pub struct HeadDown<'f, 'a> {
+    /// The fields, as they stand.
+    pub fields: &'f Fields<'a>,
+}
+
+impl<'f, 'a> HeadDown<'f, 'a> {
+    /// MsgType(35), the value of the first field; nothing where there is none.
+    pub fn msg_type(&self) -> &[u8]
+        ensures { result.now ≡ type_of (head_down self.now.fields.now) }
+    {
+        match self.fields.at(0) {
+            Some((tag, value)) => carried_down(tag, value),
+            None => b"",
+        }
+    }
+}
+
+impl<'f, 'a> Lookup for HeadDown<'f, 'a> {
+    ghost fields = { λ head. head_down head.fields.now };
+
+    fn value(&self, tag: u32) -> Option<&[u8]> {
+        match self.fields.value(tag) {
+            None => None,
+            Some(value) => Some(carried_down(tag, value)),
+        }
+    }
+}
+
 /// Appends the first of these fields with a tag, if there is one.
-fn write_carried(tag: u32, fields: &Fields<'_>, out: &mut Vec<u8>) -> Result<(), AllocError>
+fn write_carried<F: Lookup>(tag: u32, fields: &F, out: &mut Vec<u8>) -> Result<(), AllocError>
     ensures { OnOk result (out.new.items
-        ≡ out.old.items ++ body_of (carried_field fields.now tag)) }
+        ≡ out.old.items ++ body_of (carried_field (F.fields fields.now) tag)) }
 {
     match fields.value(tag) {
         None => Ok(()),
@@ -37,12 +81,15 @@ fn write_carried(tag: u32, fields: &Fields<'_>, out: &mut Vec<u8>) -> Result<(),
 /// # Errors
 ///
 /// `AllocError` for want of memory; then a part of the header may stand at the end of `out`.
-pub fn write_head(fields: &Fields<'_>, out: &mut Vec<u8>) -> Result<(), AllocError>
-    ensures { OnOk result (out.new.items
-        ≡ put (carried_field fields.now)
-        (out.old.items ++ field_bytes (35, type_of fields.now)) carried_tags) }
+pub fn write_head<F: Lookup>(
+    msg_type: &[u8],
+    fields: &F,
+    out: &mut Vec<u8>,
+) -> Result<(), AllocError>
+    ensures { OnOk result (out.new.items ≡ put (carried_field (F.fields fields.now))
+        (out.old.items ++ field_bytes (35, msg_type.now)) carried_tags) }
 {
-    put_field(out, 35, msg_type(fields))?;
+    put_field(out, 35, msg_type)?;
     write_carried(49, fields, out)?;
     write_carried(56, fields, out)?;
     write_carried(34, fields, out)?;

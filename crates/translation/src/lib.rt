@@ -7,5 +7,5 @@ mod head;
 mod lengths;
 
 pub use error::{TranslateError, faulty, lacking};
-pub use head::{msg_type, write_head};
+pub use head::{HeadDown, msg_type, write_head};
 pub use lengths::{MAX_CONTENT, check_lengths};

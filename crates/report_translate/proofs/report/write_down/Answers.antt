@@ -1,7 +1,8 @@
 use Rattle.std.proofs.Common.{rules, ◌≡◌, length}
 use Rattle.std.proofs.lemmas.Result.{err_from_is_err_and}
 use Rattle.report_rules.specs.Rules.{written as content_of}
-use Rattle.translation.proofs.Bodies.{written, unwritten}
+use Rattle.translation.specs.Header.{head_down}
+use Rattle.translation.proofs.Bodies.{head_is, written, unwritten}
 use Rattle.report_translate.proofs.Stands.{written_down, unwritten_down, refused_down}
 use Rattle.report_translate.proofs.report.write_down.Goals as goal
 
@@ -9,12 +10,14 @@ pub returns-clause-ok : goal.returns-clause-ok
 returns-clause-ok c =
     let fields = c.args.split.now.fields in
     let put = c.in_ok-put_down.ensures.ok in
+    let begun = head_is (head_down fields) c.clear.new.self.items c.write_head.new.out.items
+    c.msg_type.result.now c.in_ok-write_head.ensures c.msg_type.ensures in
     let head : c.len-head.result ≡ length c.write_head.new.out.items = search rules in
     let whole : c.len-whole.result ≡ length c.put_down.new.out.items = search rules in
     written_down fields c.args.split.now.fault put.client c.put_down.new.out.items
     c.check_lengths.result put.told
-    (written fields (content_of put.client) c.clear.new.self.items c.write_head.new.out.items
-    c.put_down.new.out.items c.clear.ensures.items c.in_ok-write_head.ensures put.bytes
+    (written (head_down fields) (content_of put.client) c.clear.new.self.items
+    c.write_head.new.out.items c.put_down.new.out.items c.clear.ensures.items begun put.bytes
     c.len-head.result c.len-whole.result head whole c.check_lengths.result
     c.check_lengths.ensures.ok)
 
@@ -22,11 +25,13 @@ pub returns-clause-refused : goal.returns-clause-refused
 returns-clause-refused c =
     let fields = c.args.split.now.fields in
     let put = c.in_ok-put_down.ensures.ok in
+    let begun = head_is (head_down fields) c.clear.new.self.items c.write_head.new.out.items
+    c.msg_type.result.now c.in_ok-write_head.ensures c.msg_type.ensures in
     let head : c.len-head.result ≡ length c.write_head.new.out.items = search rules in
     let whole : c.len-whole.result ≡ length c.put_down.new.out.items = search rules in
     unwritten_down fields c.args.split.now.fault put.client c.check_lengths.result put.told
-    (unwritten fields (content_of put.client) c.clear.new.self.items c.write_head.new.out.items
-    c.put_down.new.out.items c.clear.ensures.items c.in_ok-write_head.ensures put.bytes
+    (unwritten (head_down fields) (content_of put.client) c.clear.new.self.items
+    c.write_head.new.out.items c.put_down.new.out.items c.clear.ensures.items begun put.bytes
     c.len-head.result c.len-whole.result head whole c.check_lengths.result
     c.check_lengths.ensures.long)
 

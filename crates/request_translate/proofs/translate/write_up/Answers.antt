@@ -1,7 +1,7 @@
 use Rattle.std.proofs.Common.{rules, ◌≡◌, length}
 use Rattle.std.proofs.lemmas.Result.{err_from_is_err_and}
 use Rattle.request_rules.specs.Rules.{up_content}
-use Rattle.translation.proofs.Bodies.{written, unwritten}
+use Rattle.translation.proofs.Bodies.{head_is, written, unwritten}
 use Rattle.request_translate.proofs.Requested.{written_up, unwritten_up, refused_up}
 use Rattle.request_translate.proofs.translate.write_up.Goals as goal
 
@@ -9,12 +9,14 @@ pub returns-clause-ok : goal.returns-clause-ok
 returns-clause-ok c =
     let fields = c.args.split.now.fields in
     let put = c.in_ok-put_up.ensures.ok in
+    let begun = head_is fields c.clear.new.self.items c.write_head.new.out.items
+    c.msg_type.result.now c.in_ok-write_head.ensures c.msg_type.ensures in
     let head : c.len-head.result ≡ length c.write_head.new.out.items = search rules in
     let body : c.len-body.result ≡ length c.put_up.new.out.items = search rules in
     written_up fields c.args.split.now.fault put.asked c.put_up.new.out.items
     c.check_lengths.result
     (written fields (up_content put.asked.message) c.clear.new.self.items c.write_head.new.out.items
-    c.put_up.new.out.items c.clear.ensures.items c.in_ok-write_head.ensures put.bytes
+    c.put_up.new.out.items c.clear.ensures.items begun put.bytes
     c.len-head.result c.len-body.result head body c.check_lengths.result
     c.check_lengths.ensures.ok)
 
@@ -22,12 +24,14 @@ pub returns-clause-refused : goal.returns-clause-refused
 returns-clause-refused c =
     let fields = c.args.split.now.fields in
     let put = c.in_ok-put_up.ensures.ok in
+    let begun = head_is fields c.clear.new.self.items c.write_head.new.out.items
+    c.msg_type.result.now c.in_ok-write_head.ensures c.msg_type.ensures in
     let head : c.len-head.result ≡ length c.write_head.new.out.items = search rules in
     let body : c.len-body.result ≡ length c.put_up.new.out.items = search rules in
     unwritten_up fields c.args.split.now.fault put.asked c.check_lengths.result
     (unwritten fields (up_content put.asked.message) c.clear.new.self.items
     c.write_head.new.out.items c.put_up.new.out.items c.clear.ensures.items
-    c.in_ok-write_head.ensures put.bytes c.len-head.result c.len-body.result head body
+    begun put.bytes c.len-head.result c.len-body.result head body
     c.check_lengths.result c.check_lengths.ensures.long)
 
 pub returns-in_err-put_up-clause-refused : goal.returns-in_err-put_up-clause-refused
