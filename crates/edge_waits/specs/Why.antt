@@ -9,7 +9,7 @@ use Rattle.typed_fields.specs.declared.fault.FieldFault.{FieldFault}
 use Rattle.typed_fields.specs.declared.number.Number.{Number}
 use Rattle.typed_fields.specs.declared.stamp.Stamp.{Stamp}
 use Rattle.typed_fields.specs.Number.{read_number}
-use Rattle.typed_fields.specs.Stamp.{read_stamp, stamp_millis}
+use Rattle.typed_fields.specs.Stamp.{read_fine, read_stamp, stamp_millis}
 use Rattle.edge_waits.specs.declared.why.Wrong.{Wrong}
 use Rattle.edge_waits.specs.declared.why.Wrong.TheVariants as wrong
 use Rattle.edge_waits.specs.declared.lobby.Stranger.{Stranger}
@@ -53,13 +53,22 @@ abbrev pub wrong_stamp : Result Stamp FieldFault → ℕ → Wrong
 wrong_stamp (Ok stamp) now = wrong_by (off_by now stamp)
 wrong_stamp (Err fault) now = wrong.Stamp
 
-abbrev pub wrong_time : Option (List ℕ) → ℕ → Wrong
-wrong_time (Some value) now = wrong_stamp (read_stamp value) now
-wrong_time None now = wrong.Stamp
+-- whether a message of this version may have moments in the fine form
+abbrev pub is_fixt : Option (List ℕ) → Bool
+is_fixt (Some version) = bytes_eq version (codes "FIXT.1.1")
+is_fixt None = false
+
+abbrev pub read_moment : Bool → List ℕ → Result Stamp FieldFault
+read_moment fixt value = if fixt then read_fine value else read_stamp value
+
+abbrev pub wrong_time : Bool → Option (List ℕ) → ℕ → Wrong
+wrong_time fixt (Some value) now = wrong_stamp (read_moment fixt value) now
+wrong_time fixt None now = wrong.Stamp
 
 -- what is wrong in a Logon with this number and time that was answered by a hang up alone
-abbrev pub wrong_of : Option (List ℕ) → Option (List ℕ) → ℕ → Wrong
-wrong_of number time now = if has_number number then wrong_time time now else wrong.Number
+abbrev pub wrong_of : Bool → Option (List ℕ) → Option (List ℕ) → ℕ → Wrong
+wrong_of fixt number time now =
+    if has_number number then wrong_time fixt time now else wrong.Number
 
 -- what is said of it, before the seconds
 abbrev pub words_of : Wrong → List ℕ
@@ -102,7 +111,8 @@ fault_text heard now =
     if is_new_logon heard
     then field_in (codes "49=") heard ++ field_in (codes "56=") heard
     ++ field_in (codes "52=") heard
-    ++ wrong_text (wrong_of (value_in (codes "34=") heard) (value_in (codes "52=") heard) now)
+    ++ wrong_text (wrong_of (is_fixt (value_in (codes "8=") heard))
+    (value_in (codes "34=") heard) (value_in (codes "52=") heard) now)
     else []
 
 -- what the gateway said by a Logout, or what is wrong where it said none

@@ -4,7 +4,8 @@ ghost use Rattle.std.specs.Prelude.{◌≡◌, ◌++◌, map, take, decimal, OnO
 ghost use Rattle.std.specs.Option.{option_map};
 ghost use Rattle.edge_waits.specs.Fields.{value_in};
 ghost use Rattle.edge_waits.specs.Why.{shown, named_text, shown_field, off_by, has_number};
-ghost use Rattle.edge_waits.specs.Why.{wrong_of, wrong_by, words_of, seconds_of, seconds_text};
+ghost use Rattle.edge_waits.specs.Why.{is_fixt, read_moment, wrong_of, wrong_by, words_of};
+ghost use Rattle.edge_waits.specs.Why.{seconds_of, seconds_text};
 ghost use Rattle.edge_waits.specs.Why.{wrong_text, is_logon, is_new_logon, fault_text, told_text};
 ghost use Rattle.edge_waits.specs.Why.{message_text, why_text, came_text, closing_text};
 
@@ -12,7 +13,7 @@ use crate::fields::value_of;
 use crate::lobby::{Stranger, stranger_text};
 use itoa::Buffer;
 use std::alloc::AllocError;
-use typed_fields::{Number, Stamp};
+use typed_fields::{FieldFault, Number, Stamp};
 
 /// A value is shown up to so many bytes.
 const SHOWN: usize = 256;
@@ -128,16 +129,37 @@ fn wrong_by(seconds: u128) -> Wrong
     }
 }
 
+// Whether a message of this version may have moments in the fine form.
+fn is_fixt(version: Option<&[u8]>) -> bool
+    ensures { result ≡ is_fixt (option_map (λ value. value.now) version.entry) }
+{
+    match version {
+        Some(version) => version == b"FIXT.1.1".as_slice(),
+        None => false,
+    }
+}
+
+// A moment, in the fine form or not.
+fn read_moment(fixt: bool, value: &[u8]) -> Result<Stamp, FieldFault>
+    ensures { result ≡ read_moment fixt value.now }
+{
+    if fixt {
+        Stamp::read_fine(value)
+    } else {
+        Stamp::read(value)
+    }
+}
+
 // What is wrong in a Logon with these values.
-fn wrong_of(number: Option<&[u8]>, time: Option<&[u8]>, now: u64) -> Wrong
-    ensures { result ≡ wrong_of (option_map (λ value. value.now) number.entry)
+fn wrong_of(fixt: bool, number: Option<&[u8]>, time: Option<&[u8]>, now: u64) -> Wrong
+    ensures { result ≡ wrong_of fixt (option_map (λ value. value.now) number.entry)
         (option_map (λ value. value.now) time.entry) now }
 {
     if !has_number(number) {
         return Wrong::Number;
     }
     match time {
-        Some(time) => match Stamp::read(time) {
+        Some(time) => match read_moment(fixt, time) {
             Ok(stamp) => wrong_by(off_by(now, &stamp)),
             Err(_) => Wrong::Stamp,
         },
@@ -215,9 +237,10 @@ fn put_fault(out: &mut Vec<u8>, heard: &[u8], now: u64) -> Result<(), AllocError
     put_field(out, b"49=", heard)?;
     put_field(out, b"56=", heard)?;
     put_field(out, b"52=", heard)?;
+    let fixt = is_fixt(value_of(b"8=", heard));
     let number = value_of(b"34=", heard);
     let time = value_of(b"52=", heard);
-    put_wrong(out, wrong_of(number, time, now))
+    put_wrong(out, wrong_of(fixt, number, time, now))
 }
 
 // Appends what the gateway said by a Logout, or what is wrong where it said none.

@@ -29,7 +29,9 @@ use Rattle.order_meaning.specs.declared.names.Names.{Names}
 use Rattle.typed_fields.specs.declared.stamp.Stamp.{Stamp}
 use Rattle.typed_fields.specs.Digits.{zero_padded, are_digits}
 use Rattle.typed_fields.specs.Day.{day_digits, date_of}
-use Rattle.typed_fields.specs.Stamp.{stamp_text, milli_text, stamp_at}
+use Rattle.typed_fields.specs.declared.stamp.Fraction.{Fraction}
+use Rattle.typed_fields.specs.declared.stamp.Fraction.TheVariants.{Whole, Three, Six, Nine}
+use Rattle.typed_fields.specs.Stamp.{stamp_text, fraction_text, stamp_at}
 use Rattle.typed_fields.proofs.SpellingLemmas.{are_digits-zero_padded, length-zero_padded}
 use Rattle.session_logon.specs.Head.{our, peer}
 use Rattle.session_logon.specs.Laws.{Heading, header_fields, flag_field, stamp_field}
@@ -93,11 +95,16 @@ day_clear s =
     let all = joined (joined (padded 4 (date_of s.day).0) (padded 2 (date_of s.day).1))
     (padded 2 (date_of s.day).2) in record { none = all.none }
 
-milli_clear : (milli : Option ℕ) → IsClear (milli_text milli)
-milli_clear None = record { none = refl }
-milli_clear (Some milli) = record {
-  none = clear_or (is_soh 46) (list_any is_soh (zero_padded 3 milli)) refl (padded 3 milli).none;
+point_clear : (w n : ℕ) → IsClear (46 ∷ zero_padded w n)
+point_clear w n = record {
+  none = clear_or (is_soh 46) (list_any is_soh (zero_padded w n)) refl (padded w n).none;
 }
+
+fraction_clear : (fraction : Fraction) → IsClear (fraction_text fraction)
+fraction_clear Whole = record { none = refl }
+fraction_clear (Three n) = point_clear 3 n
+fraction_clear (Six n) = point_clear 6 n
+fraction_clear (Nine n) = point_clear 9 n
 
 dash : IsClear (45 ∷ [])
 dash = record { none = refl }
@@ -109,7 +116,7 @@ stamp_clear : (s : Stamp) → IsClear (stamp_text s)
 stamp_clear s =
     let all = joined (joined (joined (joined (joined (joined (joined (day_clear s) dash)
     (padded 2 s.hour)) colon) (padded 2 s.minute)) colon) (padded 2 s.second))
-    (milli_clear s.milli) in record { none = all.none }
+    (fraction_clear s.frac) in record { none = all.none }
 
 -- ---- how long they are
 
@@ -125,7 +132,7 @@ padded_short w n = record { le = omega (arith, length-zero_padded w n) }
 one_short : (byte : ℕ) → Short 1 (byte ∷ [])
 one_short byte = record { le = omega arith }
 
-point_short : (ms : ℕ) → Short 4 (milli_text (Some ms))
+point_short : (ms : ℕ) → Short 4 (fraction_text (Three ms))
 point_short ms =
     let all = joined_short (one_short 46) (padded_short 3 ms) in record { le = all.le }
 

@@ -16,9 +16,9 @@ use Rattle.order_meaning.specs.declared.Side.TheVariants.{Client, Venue}
 use Rattle.order_meaning.specs.declared.names.Names.{Names}
 use Rattle.typed_fields.specs.declared.stamp.Stamp.{Stamp}
 use Rattle.typed_fields.specs.Number.{read_number}
-use Rattle.typed_fields.specs.Stamp.{read_stamp, stamp_text, IsStamp}
+use Rattle.typed_fields.specs.Stamp.{stamp_text, IsStamp}
 use Rattle.typed_fields.proofs.NumberLaws.{number_reads_back}
-use Rattle.typed_fields.proofs.StampLaws.{stamp_reads_back}
+use Rattle.typed_fields.proofs.StampLaws.{fine_reads_back, stamp_reads_back}
 use Rattle.field_groups.specs.Field.{Field}
 use Rattle.session_core.specs.Numbers.{IsMsgSeqNum, IsNextNumber}
 use Rattle.session_core.specs.declared.numbers.TheConstants.{MAX_MSG_SEQ_NUM, ALL_USED}
@@ -43,7 +43,7 @@ use Rattle.message_tables.specs.Tables.{value_at}
 use Rattle.session_logon.specs.Reasons.{required, read_between, text_fault}
 use Rattle.session_logon.specs.Logon.{is_yes}
 use Rattle.session_logon.specs.Head.{number_in, wrong_name, wrong_time, time_fault, distance}
-use Rattle.session_logon.specs.Head.{kind_of, test_request_kind}
+use Rattle.session_logon.specs.Head.{kind_of, read_moment, test_request_kind}
 use Rattle.session_logon.specs.Content.{type_of, fields_of, logon_fields, logout_fields}
 use Rattle.session_logon.specs.Content.{logout_text, heartbeat_fields, test_request_fields}
 use Rattle.session_logon.specs.Content.{resend_request_fields, rejected_fields, reason_fields}
@@ -171,11 +171,16 @@ names_good Client names msg_type h content =
 names_good Venue names msg_type h content =
     rw (same_text names.venue_our, same_text names.venue_peer) refl
 
-time_good : (window now : ℕ) (sent : Stamp) (value : Option (List ℕ))
+moment_back : (side : Side) (sent : Stamp) → IsStamp sent
+    → read_moment side (stamp_text sent) ≡ Ok sent
+moment_back Client sent is = stamp_reads_back sent is
+moment_back Venue sent is = fine_reads_back sent is.fine
+
+time_good : (side : Side) (window now : ℕ) (sent : Stamp) (value : Option (List ℕ))
     → IsStamp sent → distance now sent ≤ SECOND * window → value ≡ Some (stamp_text sent)
-    → time_fault window now (required read_stamp value) ≡ None
-time_good window now sent value is near e =
-    rw (e, stamp_reads_back sent is, le-leb (distance now sent) (SECOND * window) near) refl
+    → time_fault window now (required (read_moment side) value) ≡ None
+time_good side window now sent value is near e =
+    rw (e, moment_back side sent is, le-leb (distance now sent) (SECOND * window) near) refl
 
 head_back : (side : Side) (msg_type : List ℕ) (content : List Field) (w : What)
     → value_at POSS_DUP_FLAG content ≡ None
@@ -186,11 +191,11 @@ head_back side msg_type content w none kind names window h now timely =
     let fields : List Field = header_fields side names msg_type h ++ content in
     same_head (number_in fields) (Some h.number) (is_yes (value_at POSS_DUP_FLAG fields)) h.dup
     (wrong_name side (turned names) fields)
-    (wrong_time window now fields) (kind_of side msg_type fields) w
+    (wrong_time side window now fields) (kind_of side msg_type fields) w
     (number_good h.number timely.number)
     (dup_back side names msg_type h.number h.dup h.resend h.sent h.first content none)
     (names_good side names msg_type h content)
-    (time_good window now h.sent (value_at SENDING_TIME fields) timely.stamp timely.near
+    (time_good side window now h.sent (value_at SENDING_TIME fields) timely.stamp timely.near
     (time_back side names msg_type h.number h.dup h.resend h.sent h.first content))
     (kind names h)
 

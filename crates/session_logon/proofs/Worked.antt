@@ -2,7 +2,7 @@
 use Rattle.std.proofs.Common.{◌≡◌, ℕ, true, false, [], ◌∷◌, codes, Some, None, Ok, Err}
 use Rattle.std.proofs.Common.{pos, refl}
 use Rattle.std.specs.Fmt.{digits}
-use Rattle.typed_fields.specs.Digits.{are_digits, number_of}
+use Rattle.typed_fields.specs.Digits.{are_digits, has_pattern, number_of}
 use Rattle.order_meaning.specs.declared.Side.TheVariants.{Client, Venue}
 use Rattle.order_meaning.specs.declared.names.Names.{Names}
 use Rattle.session_core.specs.declared.act.Admin.TheVariants as admin
@@ -10,8 +10,9 @@ use Rattle.session_core.specs.declared.act.Why.TheVariants as why
 use Rattle.session_core.specs.declared.head.What.TheVariants as what
 use Rattle.session_logon.specs.declared.logon.LogonFault.TheVariants.{Tag}
 use Rattle.session_logon.specs.Logon.{logon_of}
+use Rattle.typed_fields.specs.declared.stamp.Fraction.TheVariants.{Whole}
 use Rattle.typed_fields.specs.declared.stamp.Stamp.{Stamp}
-use Rattle.session_logon.specs.Head.{head_of, kind_of, time_fault}
+use Rattle.session_logon.specs.Head.{head_of, kind_of, time_fault, wrong_time}
 use Rattle.session_logon.specs.Content.{fields_of, logout_text}
 
 abbrev names : Names
@@ -38,7 +39,14 @@ heartbeat = refl
 -- both sides of now
 
 abbrev ten : Stamp
-ten = record { day = pos 19724; hour = 10; minute = 0; second = 0; milli = None }
+ten = record { day = pos 19724; hour = 10; minute = 0; second = 0; frac = Whole }
+
+-- the client's has no or three digits of the second, the venue's no, three, six or nine
+pub forms : (wrong_time Client 120 now ((52, codes "20240102-10:00:00.123999999") ∷ []) ≡ Some 6)
+    × (wrong_time Venue 120 now ((52, codes "20240102-10:00:00.1") ∷ []) ≡ Some 6)
+    × (wrong_time Venue 120 now ((52, codes "20240102-24:00:00.123999999") ∷ []) ≡ Some 5)
+unfolding number_of has_pattern
+forms = (refl, refl, refl)
 
 pub on_time : (time_fault 120 now (Ok ten) ≡ None) × (time_fault 120 1704189720000 (Ok ten) ≡ None)
     × (time_fault 120 1704189720001 (Ok ten) ≡ Some 10)

@@ -12,7 +12,8 @@ use Rattle.order_meaning.specs.declared.Side.{Side}
 use Rattle.order_meaning.specs.declared.Side.TheVariants.{Client, Venue}
 use Rattle.order_meaning.specs.declared.names.Names.{Names}
 use Rattle.typed_fields.specs.declared.stamp.Stamp.{Stamp}
-use Rattle.typed_fields.specs.Stamp.{read_stamp, stamp_millis}
+use Rattle.typed_fields.specs.declared.fault.FieldFault.{FieldFault}
+use Rattle.typed_fields.specs.Stamp.{read_fine, read_stamp, stamp_millis}
 use Rattle.field_groups.specs.Field.{Field}
 use Rattle.session_core.specs.declared.numbers.TheConstants.{MAX_MSG_SEQ_NUM, ALL_USED}
 use Rattle.session_core.specs.declared.reason.TheConstants.{SENDING_TIME_ACCURACY_PROBLEM}
@@ -57,6 +58,11 @@ abbrev pub wrong_name : Side → Names → List Field → Option ℕ
 wrong_name side names fields =
     wrong_of side names (value_at SENDER_COMP_ID fields) (value_at TARGET_COMP_ID fields)
 
+-- the reading of a moment: the venue's may be in the fine form
+abbrev pub read_moment : Side → List ℕ → Result Stamp FieldFault
+read_moment Client bytes = read_stamp bytes
+read_moment Venue bytes = read_fine bytes
+
 -- how far a stamp is from a moment, in milliseconds
 abbrev pub distance : ℕ → Stamp → ℕ
 distance now stamp = unsigned_abs (pos now -ℤ stamp_millis stamp)
@@ -68,9 +74,9 @@ time_fault window now (Ok stamp) =
     SENDING_TIME_ACCURACY_PROBLEM
 time_fault window now (Err reason) = Some reason
 
-abbrev pub wrong_time : ℕ → ℕ → List Field → Option ℕ
-wrong_time window now fields =
-    time_fault window now (required read_stamp (value_at SENDING_TIME fields))
+abbrev pub wrong_time : Side → ℕ → ℕ → List Field → Option ℕ
+wrong_time side window now fields =
+    time_fault window now (required (read_moment side) (value_at SENDING_TIME fields))
 
 -- ---- the kinds of messages, with their own fields
 
@@ -123,6 +129,6 @@ head_of side names window msg_type fields now = record {
   number = number_in fields;
   dup = is_yes (value_at POSS_DUP_FLAG fields);
   comp = wrong_name side names fields;
-  time = wrong_time window now fields;
+  time = wrong_time side window now fields;
   what = kind_of side msg_type fields;
 }

@@ -5,10 +5,10 @@ ghost use Rattle.std.specs.Option.{option_map};
 ghost use Rattle.session_core.specs.Head.{HasNumbers};
 ghost use Rattle.message_tables.specs.Tables.{value_at};
 ghost use Rattle.session_logon.specs.Head.{wrong_of, wrong_time, time_fault, distance};
+ghost use Rattle.session_logon.specs.Head.{read_moment};
 ghost use Rattle.session_logon.specs.Head.{peer, our, logon_kind, test_request_kind};
 ghost use Rattle.session_logon.specs.Head.{resend_request_kind, sequence_reset_kind, kind_of};
 ghost use Rattle.session_logon.specs.Head.{head_of};
-ghost use Rattle.typed_fields.specs.Stamp.{read_stamp};
 ghost use Rattle.session_logon.specs.Logon.{logon_of, is_yes};
 ghost use Rattle.session_logon.specs.Reasons.{required, read_between};
 ghost use Rattle.session_logon.specs.Reasons.{text_fault};
@@ -24,7 +24,7 @@ use session_core::tag::{
     SENDER_COMP_ID, SENDING_TIME, TARGET_COMP_ID, TEST_REQ_ID,
 };
 use session_core::{ALL_USED, Head, MAX_MSG_SEQ_NUM, What};
-use typed_fields::Stamp;
+use typed_fields::{FieldFault, Stamp};
 
 /// The milliseconds of a second.
 const SECOND: u64 = 1_000;
@@ -52,13 +52,23 @@ fn wrong_name(
     }
 }
 
+// A moment; the venue's may be in the fine form.
+fn read_moment(side: Side, value: &[u8]) -> Result<Stamp, FieldFault>
+    ensures { result ≡ read_moment side value.now }
+{
+    match side {
+        Side::Client => Stamp::read(value),
+        Side::Venue => Stamp::read_fine(value),
+    }
+}
+
 // A required stamp, or the reason for which it is none.
-fn stamp(value: Option<&[u8]>) -> Result<Stamp, u8>
-    ensures { result ≡ required read_stamp (option_map (λ value. value.now) value.entry) }
+fn stamp(side: Side, value: Option<&[u8]>) -> Result<Stamp, u8>
+    ensures { result ≡ required (read_moment side) (option_map (λ value. value.now) value.entry) }
 {
     match value {
         None => Err(REQUIRED_TAG_MISSING),
-        Some(value) => match Stamp::read(value) {
+        Some(value) => match read_moment(side, value) {
             Ok(stamp) => Ok(stamp),
             Err(fault) => Err(reason_of(fault)),
         },
@@ -73,11 +83,11 @@ fn distance(now: u64, stamp: &Stamp) -> u128
 }
 
 // Why a SendingTime(52) is wrong, if it is.
-fn wrong_time(window: u32, now: u64, value: Option<&[u8]>) -> Option<u8>
+fn wrong_time(side: Side, window: u32, now: u64, value: Option<&[u8]>) -> Option<u8>
     ensures { result ≡ time_fault window now
-        (required read_stamp (option_map (λ value. value.now) value.entry)) }
+        (required (read_moment side) (option_map (λ value. value.now) value.entry)) }
 {
-    match stamp(value) {
+    match stamp(side, value) {
         Ok(stamp) if distance(now, &stamp) <= u128::from(SECOND * u64::from(window)) => None,
         Ok(_) => Some(SENDING_TIME_ACCURACY_PROBLEM),
         Err(reason) => Some(reason),
@@ -165,8 +175,9 @@ fn kind(side: Side, msg_type: &[u8], fields: &Fields<'_>) -> What
 /// The head of a message that came from this side at `now`, in milliseconds since 1970-01-01 00:00
 /// UTC. (FIX 4.2 and FIXT 1.1, "Standard message header" and "Administrative Messages".)
 ///
-/// `window` is how many seconds SendingTime(52) may be off to both sides of now. `msg_type` is the
-/// value of MsgType(35). The fields before a fault of the split are read. Where a tag stands twice,
+/// `window` is how many seconds SendingTime(52) may be off to both sides of now; the venue's may
+/// have six or nine digits of the second, of which three count. `msg_type` is the value of
+/// MsgType(35). The fields before a fault of the split are read. Where a tag stands twice,
 /// the first counts. The call takes no memory.
 #[inline(never)]
 pub fn read_head(
@@ -186,7 +197,7 @@ pub fn read_head(
         number: number_between(fields.value(MSG_SEQ_NUM), 1, MAX_MSG_SEQ_NUM).ok(),
         dup: is_yes(fields.value(POSS_DUP_FLAG)),
         comp: wrong_name(side, names, sender, target),
-        time: wrong_time(window, now, fields.value(SENDING_TIME)),
+        time: wrong_time(side, window, now, fields.value(SENDING_TIME)),
         what: kind(side, msg_type, fields),
     }
 }
