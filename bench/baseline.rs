@@ -290,8 +290,9 @@ fn is_day_of_month(bytes: &[u8]) -> bool {
     (1..=2).contains(&bytes.len()) && are_digits(bytes)
 }
 
-fn judge_stamp(bytes: &[u8]) -> Mark {
-    let formed = matches!(bytes.len(), 17 | 21)
+/// A moment, which on the venue's side may be fine: it has six or nine digits of the second.
+fn judge_stamp(bytes: &[u8], fine: bool) -> Mark {
+    let formed = (matches!(bytes.len(), 17 | 21) || fine && matches!(bytes.len(), 24 | 27))
         && bytes.iter().enumerate().all(|(i, byte)| match i {
             8 => *byte == b'-',
             11 | 14 => *byte == b':',
@@ -354,7 +355,7 @@ fn judge(kind: &Kind, value: &[u8]) -> Mark {
         SecurityType => good_or(Outside, matches!(value, b"CS" | b"PS" | b"FUT")),
         Qty => judge_decimal(value, false),
         Price => judge_decimal(value, true),
-        Stamp => judge_stamp(value),
+        Stamp => judge_stamp(value, false),
         Day if value.len() == 8 && are_digits(value) => good_or(Wrong(RANGE), is_day(value)),
         Month if value.len() == 6 && are_digits(value) => good_or(Wrong(RANGE), is_month(value)),
         Day | Month => Wrong(FORM),

@@ -119,7 +119,7 @@ fn judge(kind: &Kind, value: &[u8]) -> Mark {
         SecurityType => good_or(Drops, matches!(value, b"CS" | b"PS" | b"FUT")),
         Qty => judge_decimal(value, false),
         Price => judge_decimal(value, true),
-        Stamp => judge_stamp(value),
+        Stamp => judge_stamp(value, true),
         Day if value.len() == 8 && are_digits(value) => good_or(Wrong(RANGE), is_day(value)),
         Day => Wrong(FORM),
         Currency if value.len() != 3 => Wrong(FORM),
@@ -133,6 +133,11 @@ fn judge(kind: &Kind, value: &[u8]) -> Mark {
 }
 
 const VERSION: u32 = 18;
+
+/// The text of a moment to its milliseconds.
+fn cut(value: &[u8]) -> &[u8] {
+    &value[..value.len().min(21)]
+}
 
 /// The column of a message of a side.
 pub fn column_of(kind: &[u8], of_venue: bool) -> Option<usize> {
@@ -294,7 +299,12 @@ impl Report {
         down.extend_from_slice(self.fields[const { slot(35) }].field(body));
         for i in CARRIED {
             if self.said & 1 << i != 0 {
-                down.extend_from_slice(self.fields[i].field(body));
+                let value = self.fields[i].value(body);
+                if matches!(ROWS[i].0, 52 | 122) && matches!(judge(&Stamp, value), Good) {
+                    push_field(down, self.fields[i].name(body), cut(value));
+                } else {
+                    down.extend_from_slice(self.fields[i].field(body));
+                }
             }
         }
         let content = down.len();
@@ -352,6 +362,9 @@ impl Report {
                 _ if matches!(kind, Qty | Price) => {
                     push_decimal(down, self.fields[i].name(body), value)
                 }
+                _ if matches!(kind, Stamp) => {
+                    push_field(down, self.fields[i].name(body), cut(value))
+                }
                 _ => down.extend_from_slice(self.fields[i].field(body)),
             }
         }
@@ -392,7 +405,7 @@ impl Report {
                 push_decimal(down, b"437=", shares.value(body));
             }
             if let Some(time) = time {
-                down.extend_from_slice(time.field(body));
+                push_field(down, b"438=", cut(time.value(body)));
             }
         }
     }

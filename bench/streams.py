@@ -31,9 +31,9 @@ REPORTS = """
 103 reason o--- 378 reason o--- 1 id oo--      63 0123456789 o--- 64 day o---      55 id R---
 65 id o---      48 id o---     22 123456789 o---  167 word o---   200 month o---    541 day o---
 207 id o---     54 123456 R--- 38 qty o---     40 1234 o---      44 price o---     99 price o---
-15 money o---   59 01234567 o---  432 day o--- 126 stamp o---    528 AIP o---      32 qty o---
+15 money o---   59 01234567 o---  432 day o--- 126 fine o---     528 AIP o---      32 qty o---
 31 price o---   30 id o---     151 qty R---    14 qty R---       6 price R---      75 day o---
-60 stamp oo--   110 qty o---   1138 qty o---   434 12 -R--       102 reason -o--   45 number --Ro
+60 fine oo--    110 qty o---   1138 qty o---   434 12 -R--       102 reason -o--   45 number --Ro
 371 number --o- 372 id --oR    373 number --o- 379 id ---o       380 number ---R   58 text oooo
 """
 
@@ -66,7 +66,7 @@ VENUE = side_of(b"8=FIXT.1.1", rows_of(REPORTS, "893j"), HEADER_TAGS + [b"1128"]
                 {b"453": (b"448", {b"447": 0.9, b"452": 1, b"802": 0.05}),
                  b"382": (b"375", {b"337": 0.5, b"437": 0.5, b"438": 0.5, b"655": 0.05})},
                 {b"448": "id", b"447": "D", b"452": "role", b"802": "id", b"375": "id",
-                 b"337": "id", b"437": "qty", b"438": "stamp", b"655": "id"},
+                 b"337": "id", b"437": "qty", b"438": "fine", b"655": "id"},
                 CODES + [b"1", b"6", b"E", b"F", b"G", b"H", b"I", b"J", b"K", b"L", b"M"])
 
 # Values as clients write them, and good ones that few write.
@@ -132,6 +132,14 @@ BAD = {
     "reason": [b"", b"x", b"-1", b"10000", b"9999999999", b"00000000001", b"1.", b" 1"],
     "role": [b"", b"x", b"-1", b"1000000001", b"00000000001", b"1.", b" 1"],
 }
+# A moment of the venue may be fine: it may have six or nine digits of the second.
+FINE = [b"20240102-10:00:00.125999", b"20240102-10:00:00.125999999"]
+USUAL["fine"] = USUAL["stamp"] + FINE
+RARE["fine"] = RARE["stamp"] + [b"99991231-23:59:60.999999999", b"00000229-00:00:00.000001"]
+BAD["fine"] = BAD["stamp"] + [b"20240230-00:00:00.125999", b"20240102-10:00:00.12599x",
+                              b"20240102-10:00:00.1259991", b"20240102-24:00:00.125999999",
+                              b"20240102-10:00:00.1259999999", b"20240102-10:00:00,125999"]
+BAD["stamp"] = BAD["stamp"] + FINE
 BAD["price"] = [value for value in BAD["qty"] if not value.startswith(b"-")] + [b"-", b"-x"]
 COUNTS = [b"", b"0", b"00", b"1", b"01", b"2", b"3", b"32", b"33", b"x", b"-1", b"1.",
           b"1000000000", b"1000000001", b"0000000001", b"00000000001", b"99999999999999999999"]

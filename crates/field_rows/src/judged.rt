@@ -38,6 +38,7 @@ fn of_number(name: &[u8]) -> Option<ValueKind> {
         b"Qty" => ValueKind::Qty,
         b"Price" => ValueKind::Price,
         b"Stamp" => ValueKind::Stamp,
+        b"FineStamp" => ValueKind::FineStamp,
         b"Day" => ValueKind::Day,
         b"MonthYear" => ValueKind::MonthYear,
         b"DayOfMonth" => ValueKind::DayOfMonth,

@@ -1,5 +1,7 @@
 //! Values of fields.
 
+ghost use Rattle.typed_fields.specs.Stamp.{IsFine};
+
 use row_words::show;
 use std::alloc::{AllocError, Global};
 use typed_fields::{
@@ -86,17 +88,33 @@ fn day(out: &mut String, alloc: Global, given: &[u8]) -> Result<(), AllocError> 
     }
 }
 
+/// The time of day of a stamp, and its spelling.
+fn stamp_is(out: &mut String, alloc: Global, stamp: &Stamp) -> Result<(), AllocError>
+    requires { IsFine stamp.now }
+{
+    let (hour, minute, second, frac) = (stamp.hour, stamp.minute, stamp.second, stamp.frac);
+    write!(out, "{hour} {minute} {second} {frac:?} ")?;
+    let mut text = Vec::new(alloc);
+    stamp.write(&mut text)?;
+    show(out, &text)
+}
+
 fn stamp(out: &mut String, alloc: Global, given: &[u8]) -> Result<(), AllocError> {
     match Stamp::read(given) {
+        Ok(stamp) => stamp_is(out, alloc, &stamp),
+        Err(fault) => tell(out, fault),
+    }
+}
+
+/// A stamp in the fine form, what is left of it where it is cut, and its moment.
+fn fine_stamp(out: &mut String, alloc: Global, given: &[u8]) -> Result<(), AllocError> {
+    match Stamp::read_fine(given) {
         Ok(stamp) => {
-            let (hour, minute, second, milli) = (
-                stamp.hour,
-                stamp.minute,
-                stamp.second,
-                stamp.milli,
-            );
-            write!(out, "{hour} {minute} {second} {milli:?} ")?;
-            spell(out, alloc, &stamp)
+            stamp_is(out, alloc, &stamp)?;
+            write!(out, " ")?;
+            spell(out, alloc, &stamp.cut())?;
+            let millis = stamp.millis();
+            write!(out, " {millis}")
         }
         Err(fault) => tell(out, fault),
     }
@@ -157,6 +175,7 @@ pub(crate) fn answer(
         "MonthYear" => month_year(out, alloc, given),
         "Day" => day(out, alloc, given),
         "Stamp" => stamp(out, alloc, given),
+        "Stamp::read_fine" => fine_stamp(out, alloc, given),
         "Stamp::of_millis" => of_millis(out, alloc, given),
         "Stamp::millis" => millis(out, given),
         "are_digits" => digits(out, given),

@@ -17,7 +17,7 @@ use row_values::{
 };
 use std::alloc::{AllocError, Global};
 use std::test::Fail;
-use typed_fields::{Day, Dec, MonthYear, Stamp};
+use typed_fields::{Day, Dec, Fraction, MonthYear, Stamp};
 use value_kinds::ValueKind::{self, Code, Filled, Id, OneByte, Text};
 
 /// The fields of an order.
@@ -45,7 +45,7 @@ const MOMENT: Stamp = Stamp {
     hour: 10,
     minute: 20,
     second: 30,
-    milli: Some(123),
+    frac: Fraction::Three(123),
 };
 
 /// Texts and codes.
