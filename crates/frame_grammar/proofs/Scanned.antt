@@ -5,7 +5,7 @@ use Rattle.std.proofs.Common.{inl, inr, ◌⊎◌, length-append, append_assoc, 
 use Rattle.std.proofs.Common.{get_or, Some, None}
 use Rattle.std.specs.Str.{bytes_eq}
 use Rattle.std.specs.Prelude.{◌==◌, ◌&&◌, nat_lt, if◌then◌else◌, codes, slice_get}
-use Rattle.std.specs.List.{list_all, list_any, zip}
+use Rattle.std.specs.List.{list_any}
 use Rattle.std.proofs.lemmas.List.{take_all, take_at}
 use Rattle.std.proofs.lemmas.Bool.{cases_eq}
 use Rattle.std.proofs.lemmas.Bool.Decides.{nat_tests}
@@ -206,15 +206,7 @@ front_of l count within split =
     ap (take (count + 1)) (split ∙ grouped)
     ∙ take_at (take count l ++ 1 ∷ []) (drop (count + 1) l) (count + 1) size
 
--- a text that is compared byte by byte
-pub compared : (text bytes : List ℕ) → length text ≤ length bytes
-    → list_all (λ pair. pair.0 == pair.1) (zip text bytes)
-    ≡ bytes_eq text (take (length text) bytes)
-compared [] bytes le = refl
-compared (t ∷ ts) [] le = absurd (omega (arith, le))
-compared (t ∷ ts) (b ∷ bs) le =
-    ap (λ (same : Bool). (t == b) && same) (compared ts bs (omega (arith, le)))
-
+-- bytes that are shorter than a text do not begin with it
 pub too_short : (text bytes : List ℕ) → length bytes < length text
     → bytes_eq text (take (length text) bytes) ≡ false
 too_short [] bytes lt = absurd (omega (arith, lt))

@@ -1,5 +1,5 @@
 //! The scan of what stands at the front of the unread bytes: rule by rule, as `Found` defines it.
-ghost use Rattle.std.specs.List.{list_all, list_any, zip};
+ghost use Rattle.std.specs.List.{list_any};
 ghost use Rattle.std.specs.Str.{bytes_eq};
 ghost use Rattle.std.specs.Prelude.{◌==◌, ◌≡◌, ◌+◌, ◌≤◌, ◌++◌, List, ℕ, length, take, drop};
 ghost use Rattle.std.specs.Prelude.{if◌then◌else◌, OnOk, Ok};
@@ -148,20 +148,12 @@ fn scan_trailer(buffer: &Buffer, end: usize) -> Result<(), Stop>
     expect_text(&trailer[6..], &bytes[end + 6..], Garble::Trailer)
 }
 
-// Whether each byte of a text stands in its place.
-#[inline(always)]
-fn stand(text: &[u8], bytes: &[u8]) -> bool
-    ensures { result ≡ list_all (λ pair. pair.0 == pair.1) (zip text.now bytes.now) }
-{
-    text.iter().zip(bytes).all(|(want, byte)| *want == *byte)
-}
-
-// Whether bytes begin with a text, which is short and is compared byte by byte.
+// Whether bytes begin with a text.
 #[inline(always)]
 fn begins(text: &[u8], bytes: &[u8]) -> bool
     ensures { result ≡ bytes_eq text.now (take (length text.now) bytes.now) }
 {
-    bytes.len() >= text.len() && stand(text, bytes)
+    bytes.len() >= text.len() && text == &bytes[..text.len()]
 }
 
 // This text has to come, or this rule is broken.

@@ -1,11 +1,7 @@
 use Rattle.std.proofs.Common.{◌≡◌, ◌∙◌, nat_le, false, length, sym, arith}
 use Rattle.std.proofs.lemmas.Bool.Decides.{nat_tests}
-use Rattle.frame_grammar.proofs.Scanned.{compared, too_short}
+use Rattle.frame_grammar.proofs.Scanned.{too_short}
 use Rattle.frame_grammar.proofs.scan.begins.Goals as goal
-
-pub returns-then-bytes-text : goal.returns-then-bytes-text
-returns-then-bytes-text c =
-    c.stand.ensures ∙ compared c.args.text.now c.args.bytes.now c.if-bytes-text.true
 
 pub returns-else-bytes-text : goal.returns-else-bytes-text
 returns-else-bytes-text c =
