@@ -133,6 +133,13 @@ tag_tests bytes n digits le few some first next =
     let count = next_is bytes n digits le next in
     rw count (good_tests n (get_or bytes 0 0) (get_or bytes n 0) some few first next)
 
+-- two digits, and `=` behind them
+pub two_tests : (bytes : List ℕ) → list_all is_ascii_digit (take 2 bytes) ≡ true
+    → 2 ≤ length bytes → get_or bytes 0 0 ≢ 48 → get_or bytes 2 0 ≡ 61
+    → (has_tag bytes ≡ true) × (is_tag_good bytes ≡ true)
+two_tests bytes digits le first next =
+    tag_tests bytes 2 digits le (omega arith) (omega arith) first next
+
 and_false : (b : Bool) → (b && false) ≡ false
 and_false true = refl
 and_false false = refl

@@ -51,14 +51,22 @@ impl<'a> Fields<'a> {
     ghost use Rattle.std.specs.Option.{option_map};
     ghost use Rattle.std.specs.Slice.Iter.{iter_rest};
 
-    /// No fields yet, with room for so many.
-    pub(crate) fn with_capacity(alloc: Global, capacity: usize) -> Result<Fields<'a>, AllocError>
-        ensures { IfOk result (λ fields. fields ≡ []) }
+    /// No fields, and no memory for any.
+    #[inline(always)]
+    pub(crate) fn new(alloc: Global) -> Fields<'a>
+        ensures { result ≡ [] }
     {
-        Ok(Fields {
-            parts: Vec::with_capacity(alloc, capacity)?,
+        Fields {
+            parts: Vec::new(alloc),
             first: [0; SLOTS],
-        })
+        }
+    }
+
+    /// Makes room for so many fields.
+    pub(crate) fn reserve(&mut self, count: usize) -> Result<(), AllocError>
+        ensures { self.new ≡ self.old }
+    {
+        self.parts.reserve(count)
     }
 
     /// One more field at the end.
@@ -205,4 +213,19 @@ pub struct Split<'a> {
     pub fields: Fields<'a>,
     /// Why there are no more; `None` where the fields are the whole body.
     pub fault: Option<SplitFault>,
+}
+
+impl<'a> Split<'a> {
+    ghost use Rattle.std.specs.Prelude.{◌≡◌, []};
+
+    /// No fields and no fault, as of no body. It takes no memory.
+    #[inline(always)]
+    pub fn new(alloc: Global) -> Split<'a>
+        ensures { result.fields ≡ [] }
+    {
+        Split {
+            fields: Fields::new(alloc),
+            fault: None,
+        }
+    }
 }

@@ -18,5 +18,5 @@ pub use fault::SplitFault;
 pub use fields::{Field, Fields, SOH, Split};
 pub use group::{Group, GroupFault, MAX_LINES, Shape, read_group};
 pub use head_values::{is_type, number_in};
-pub use splitting::split;
-pub use writing::{AROUND, push_tag, put_byte, put_field, put_number, put_tag};
+pub use splitting::{split, split_into};
+pub use writing::{AROUND, push_tag, put_byte, put_field, put_known, put_number, put_tag};

@@ -1,7 +1,7 @@
 //! The fields of a body, from the front.
 
-ghost use Rattle.std.specs.Prelude.{◌≡◌, ◌-◌, ◌<◌, ◌≤◌, ◌++◌, ◌∷◌, ◌==◌, ◌&&◌, false, true, Option};
-ghost use Rattle.std.specs.Prelude.{None, Some, length, take, slice_index, IsTrue};
+ghost use Rattle.std.specs.Prelude.{◌≡◌, ◌-◌, ◌<◌, ◌≤◌, ◌++◌, ◌∷◌, [], ◌==◌, ◌&&◌, false, true};
+ghost use Rattle.std.specs.Prelude.{Option, None, Some, length, take, slice_index, IsTrue};
 ghost use Rattle.std.specs.Prelude.{IfOk, IfErr, IfNone, IfSome, OnOk};
 ghost use Rattle.std.specs.List.{list_all, list_any};
 ghost use Rattle.std.specs.Option.{option_map};
@@ -16,7 +16,7 @@ ghost use Rattle.field_groups.specs.Fields.{is_tag_good, digit_count, has_soh, h
 
 use crate::data::is_data_pair;
 use crate::fault::SplitFault;
-use crate::fields::{Fields, SOH, Split};
+use crate::fields::{SOH, Split};
 use crate::head_values::number_in;
 use memchr::memchr;
 use std::alloc::{AllocError, Global};
@@ -50,6 +50,7 @@ fn digit_of(byte: u8) -> Option<u32>
     ensures none { IfNone result (is_ascii_digit byte ≡ false) }
     ensures some { IfSome result (λ digit. is_ascii_digit byte ≡ true) }
     ensures digit { IfSome result (λ digit. digit ≡ byte - 48) }
+    ensures small { IfSome result (λ digit. digit ≤ 9) }
 {
     let number = byte.wrapping_sub(b'0');
     if number <= 9 {
@@ -65,6 +66,7 @@ fn digit_at(bytes: &[u8], place: usize) -> Option<u32>
     ensures none { IfNone result (is_ascii_digit (slice_index bytes.now place) ≡ false) }
     ensures some { IfSome result (λ digit. is_ascii_digit (slice_index bytes.now place) ≡ true) }
     ensures digit { IfSome result (λ digit. digit ≡ slice_index bytes.now place - 48) }
+    ensures small { IfSome result (λ digit. digit ≤ 9) }
 {
     match bytes.get(place) {
         Some(byte) => digit_of(*byte),
@@ -121,6 +123,47 @@ fn good_tag(bytes: &[u8]) -> Option<(u32, &[u8])>
     Some((tag, &bytes[len + 1..]))
 }
 
+/// The number of the two digits at the front, where `=` stands behind them.
+#[inline(always)]
+fn two_digits(bytes: &[u8]) -> Option<u32>
+    ensures digits { IfSome result (λ number. IsTrue (list_all is_ascii_digit (take 2 bytes.now))) }
+    ensures within { IfSome result (λ number. 2 ≤ length bytes.now) }
+    ensures all { IfSome result (λ number. 2 ≡ digit_count bytes.now) }
+    ensures value { IfSome result (λ number. number ≡ digits_value 10 (take 2 bytes.now)) }
+    ensures equals { IfSome result (λ number. slice_index bytes.now 2 ≡ 61) }
+{
+    if !is_equals_at(bytes, 2) {
+        return None;
+    }
+    match digit_at(bytes, 0) {
+        None => None,
+        Some(ten) => match digit_at(bytes, 1) {
+            None => None,
+            Some(one) => Some(10 * ten + one),
+        },
+    }
+}
+
+/// A good tag of two digits at the front, as most have, and what is left after its `=`.
+#[inline(always)]
+fn short_tag(bytes: &[u8]) -> Option<(u32, &[u8])>
+    ensures good { IfSome result
+        (λ tag. (has_tag bytes.now ≡ true) × (is_tag_good bytes.now ≡ true)) }
+    ensures tag { IfSome result (λ tag. tag.0 ≡ front_tag bytes.now) }
+    ensures rest { IfSome result (λ tag. tag.1.now ≡ after_tag bytes.now) }
+{
+    match two_digits(bytes) {
+        None => None,
+        Some(tag) => {
+            if bytes[0] == b'0' {
+                None
+            } else {
+                Some((tag, &bytes[3..]))
+            }
+        }
+    }
+}
+
 /// Why there is no good tag at the front. The field begins at this place of the body.
 #[tactic(auto, unfolding(crate::specs::Fields::has_tag, crate::specs::Fields::is_tag_good))]
 fn tag_fault(place: usize, bytes: &[u8]) -> SplitFault
@@ -147,6 +190,9 @@ fn tag_at(place: usize, bytes: &[u8]) -> Result<(u32, &[u8]), SplitFault>
     ensures rest { IfOk result (λ tag. tag.1.now ≡ after_tag bytes.now) }
     ensures fault { IfErr result (λ e. (before : Option Field) → NoField place before bytes.now e) }
 {
+    if let Some(tag) = short_tag(bytes) {
+        return Ok(tag);
+    }
     match good_tag(bytes) {
         Some(tag) => Ok(tag),
         None => Err(tag_fault(place, bytes)),
@@ -259,32 +305,40 @@ fn field_at<'a>(
 pub fn split(alloc: Global, body: &[u8]) -> Result<Split<'_>, AllocError>
     ensures { IfOk result (λ split. SplitsInto body.now split.fields split.fault) }
 {
-    let mut fields = Fields::with_capacity(alloc, FIRST_ROOM)?;
+    let mut split = Split::new(alloc);
+    split_into(body, &mut split)?;
+    Ok(split)
+}
+
+/// The same, in a place of the caller that has no fields yet: the list is not moved.
+///
+/// # Errors
+///
+/// As [`split`]; what was taken before is then there.
+pub fn split_into<'a>(body: &'a [u8], split: &mut Split<'a>) -> Result<(), AllocError>
+    requires { split.old.fields ≡ [] }
+    ensures { OnOk result (SplitsInto body.now split.new.fields split.new.fault) }
+{
+    split.fields.reserve(FIRST_ROOM)?;
     let mut before = None;
     let mut rest = body;
     while !rest.is_empty() {
-        if fields.len() == MAX_FIELDS {
-            return Ok(Split {
-                fields,
-                fault: Some(SplitFault::TooMany),
-            });
+        if split.fields.len() == MAX_FIELDS {
+            split.fault = Some(SplitFault::TooMany);
+            return Ok(());
         }
         match field_at(body.len() - rest.len(), before, rest) {
             Ok((tag, value, after)) => {
-                fields.push(tag, value)?;
+                split.fields.push(tag, value)?;
                 before = Some((tag, value));
                 rest = after;
             }
             Err(fault) => {
-                return Ok(Split {
-                    fields,
-                    fault: Some(fault),
-                });
+                split.fault = Some(fault);
+                return Ok(());
             }
         }
     }
-    Ok(Split {
-        fields,
-        fault: None,
-    })
+    split.fault = None;
+    Ok(())
 }

@@ -126,8 +126,21 @@ pub fn put_tag(out: &mut Vec<u8>, tag: u32) -> Result<(), AllocError>
 ///
 /// As [`put_tag`].
 #[inline(never)]
-#[tactic(auto, unfolding(crate::specs::Field::field_bytes))]
 pub fn put_field(out: &mut Vec<u8>, tag: u32, value: &[u8]) -> Result<(), AllocError>
+    ensures done { OnOk result (out.new.items ≡ out.old.items ++ field_bytes (tag, value.now)) }
+    ensures kept { StartsWith out.new.items out.old.items }
+{
+    put_known(out, tag, value)
+}
+
+/// Appends a field whose tag the caller knows: its digits are then known as well.
+///
+/// # Errors
+///
+/// As [`put_tag`].
+#[inline(always)]
+#[tactic(auto, unfolding(crate::specs::Field::field_bytes))]
+pub fn put_known(out: &mut Vec<u8>, tag: u32, value: &[u8]) -> Result<(), AllocError>
     ensures done { OnOk result (out.new.items ≡ out.old.items ++ field_bytes (tag, value.now)) }
     ensures kept { StartsWith out.new.items out.old.items }
 {

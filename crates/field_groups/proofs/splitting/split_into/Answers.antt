@@ -3,7 +3,7 @@ use Rattle.std.specs.List.{last_or}
 use Rattle.std.proofs.lemmas.Grind.{common_steps}
 use Rattle.field_groups.specs.Field.{Field, IsField}
 use Rattle.field_groups.proofs.Taking.{one_more, last_pushed}
-use Rattle.field_groups.proofs.splitting.split.Goals as goal
+use Rattle.field_groups.proofs.splitting.split_into.Goals as goal
 
 pub loop-before-preserved : goal.loop-before-preserved
 loop-before-preserved c =
@@ -12,7 +12,7 @@ loop-before-preserved c =
       taken = record {
         good =
             rw c.in_ok-push-in-Ok.ensures.ok
-            (one_more None c.loop-before.fields (c.in-Ok.tag, c.in-Ok.value.now) so_far.good
+            (one_more None c.loop-before.split.fields (c.in-Ok.tag, c.in-Ok.value.now) so_far.good
             (subst (λ (before : Option Field). IsField before (c.in-Ok.tag, c.in-Ok.value.now))
             c.loop-before.invariant.before c.in-Ok.ensures.good));
         at_most = grind (arith, common_steps);
@@ -20,5 +20,5 @@ loop-before-preserved c =
       };
       before =
           sym (ap (λ (fields : List Field). last_or None fields) c.in_ok-push-in-Ok.ensures.ok
-          ∙ last_pushed None c.loop-before.fields (c.in-Ok.tag, c.in-Ok.value.now));
+          ∙ last_pushed None c.loop-before.split.fields (c.in-Ok.tag, c.in-Ok.value.now));
     }
