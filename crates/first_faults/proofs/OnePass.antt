@@ -17,9 +17,10 @@ use Rattle.message_tables.specs.declared.table.Table.{Table as CodeTable}
 use Rattle.message_tables.specs.declared.table_fault.Mark.{Mark}
 use Rattle.message_tables.specs.declared.table_fault.Mark.TheVariants as marks
 use Rattle.message_tables.specs.Tables.{Row, Item, Table, all_rows, has_tag, is_one_of, rows_in}
+use Rattle.message_tables.specs.Tables.{Need, Required, Optional, Lenient, Fixed, When}
 use Rattle.message_tables.specs.Tables.{row_at, rows_of}
-use Rattle.message_tables.specs.FirstFault.{Marked, first_fault, is_passed, marked, once_in}
-use Rattle.message_tables.specs.FirstFault.{without_row}
+use Rattle.message_tables.specs.FirstFault.{Marked, allowed, first_fault, is_passed, marked}
+use Rattle.message_tables.specs.FirstFault.{once_in, without_row}
 use Rattle.message_tables.specs.CodeTables.{row_of, item_of, table_of}
 use Rattle.message_tables.specs.Plain.{IsLoose, ItemFits, fits, fits_at, is_good, member_fits}
 use Rattle.message_tables.specs.Plain.{with_places}
@@ -219,3 +220,11 @@ module _ (table : CodeTable CodeKind) (fields : List Field) (place tag : ℕ) (v
       loose (table_of kind_of table) fields place (tag, value) mark at
       (first_is_once (once_in (table_of kind_of table)) fields tag place first) is
       (good_mark mark fit)
+
+-- a good value is good beside any need
+pub good_is_allowed : (need : Need) → is_good (allowed need marks.Good) ≡ true
+good_is_allowed Required = refl
+good_is_allowed Optional = refl
+good_is_allowed Lenient = refl
+good_is_allowed (Fixed text) = refl
+good_is_allowed (When condition) = refl

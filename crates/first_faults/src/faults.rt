@@ -102,7 +102,10 @@ fn is_good(mark: Mark) -> bool
 fn value_fits(row: &Row<Kind>, fields: &Fields<'_>, value: &[u8]) -> bool
     ensures { result ≡ fits_at judge fields.now (row_of kind_of row.now) (Some value.now) }
 {
-    is_good(row.need.allows(row.kind.judge(fields, value)))
+    match row.kind.judge(fields, value) {
+        Mark::Good => true,
+        mark => is_good(row.need.allows(mark)),
+    }
 }
 
 /// Whether the first field of a row's tag has a good value; `None` where no field has the tag. The
@@ -200,9 +203,10 @@ fn lines_fit(group: &RepeatingGroup<Kind>, fields: &Fields<'_>, rowed: &mut Rowe
     group_fits(group, fields, rowed)
 }
 
-/// Whether an item fits: its row, or a group of which no field stands, or which is whole.
-#[inline(always)]
-fn item_fits(item: &Item<Kind>, fields: &Fields<'_>, rowed: &mut Rowed) -> bool
+/// Whether an item fits, whatever it is: its row, or a group of which no field stands, or which is
+/// whole.
+#[inline(never)]
+fn any_fits(item: &Item<Kind>, fields: &Fields<'_>, rowed: &mut Rowed) -> bool
     ensures { IsTrue result
         → ItemFit fields.now (item_of kind_of item.now) rowed.old rowed.new }
 {
@@ -210,6 +214,18 @@ fn item_fits(item: &Item<Kind>, fields: &Fields<'_>, rowed: &mut Rowed) -> bool
         Item::One(row) => row_fits(row, fields, rowed),
         Item::Party(_) => true,
         Item::Lines(group) => lines_fit(group, fields, rowed),
+    }
+}
+
+/// Whether an item fits. Most are rows.
+#[inline(always)]
+fn item_fits(item: &Item<Kind>, fields: &Fields<'_>, rowed: &mut Rowed) -> bool
+    ensures { IsTrue result
+        → ItemFit fields.now (item_of kind_of item.now) rowed.old rowed.new }
+{
+    match item {
+        Item::One(row) => row_fits(row, fields, rowed),
+        _ => any_fits(item, fields, rowed),
     }
 }
 

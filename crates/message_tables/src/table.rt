@@ -31,14 +31,14 @@ pub enum Test {
 /// Whether each message says a row.
 #[derive(Clone, Copy, Debug)]
 pub enum Need {
-    /// Each message says it.
-    Required,
     /// A message may say it.
     Optional,
     /// A message may say it; a value outside the profile says nothing.
     Lenient,
     /// It always says this, whatever stands there.
     Fixed(&'static [u8]),
+    /// Each message says it.
+    Required,
     /// A message in which all tests of one of these lists hold says it; another may.
     When(&'static [&'static [Test]]),
 }

@@ -1,4 +1,4 @@
-use Rattle.std.proofs.Common.{refl, sym, ◌∙◌}
+use Rattle.std.proofs.Common.{sym, ◌∙◌}
 use Rattle.first_faults.proofs.faults.item_fits.Goals as goal
 
 pub returns-in-One : goal.returns-in-One
@@ -7,9 +7,3 @@ returns-in-One c = λ yes.
       fits = sym c.row_fits.ensures.fits ∙ yes;
       places = c.row_fits.ensures.places;
     })
-
-pub returns-in-Party : goal.returns-in-Party
-returns-in-Party c = λ yes. rw c.in-Party.is (record { fits = tt; places = refl })
-
-pub returns-in-Lines : goal.returns-in-Lines
-returns-in-Lines c = λ yes. rw c.in-Lines.is (c.lines_fit.ensures yes)
