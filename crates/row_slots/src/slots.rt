@@ -2,8 +2,10 @@
 
 ghost use Rattle.std.specs.Prelude.{◌≡◌, ◌<◌, map, position};
 ghost use Rattle.message_tables.specs.CodeTables.{item_of, row_of, table_of as code_table};
+ghost use Rattle.message_tables.specs.FirstFault.{mark_of};
 ghost use Rattle.message_tables.specs.Plain.{is_good};
 ghost use Rattle.row_values.specs.CodeKinds.{kind_of};
+ghost use Rattle.row_values.specs.Kinds.{judge};
 ghost use Rattle.row_slots.specs.Slots.{counts, no_slots, row_slot, slot_at, slot_in, slot_of};
 ghost use Rattle.row_slots.specs.Slots.{with_item, with_items};
 
@@ -53,6 +55,14 @@ fn is_good(mark: Mark) -> bool
     }
 }
 
+/// Whether a value is of the profile.
+#[inline(never)]
+fn is_of_profile(row: &Row<Kind>, fields: &Fields<'_>, value: &[u8]) -> bool
+    ensures { result ≡ is_good (mark_of (judge fields.now (kind_of row.now.kind) value.now)) }
+{
+    is_good(row.kind.judge(fields, value))
+}
+
 /// Whether a value at no fault counts: one of a lenient row does not where it is outside the
 /// profile.
 #[inline(always)]
@@ -60,7 +70,7 @@ fn counts(row: &Row<Kind>, fields: &Fields<'_>, value: &[u8]) -> bool
     ensures { result ≡ counts fields.now (row_of kind_of row.now) value.now }
 {
     match row.need {
-        Need::Lenient => is_good(row.kind.judge(fields, value)),
+        Need::Lenient => is_of_profile(row, fields, value),
         _ => true,
     }
 }

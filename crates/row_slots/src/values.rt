@@ -106,12 +106,9 @@ fn put_spelled(out: &mut Vec<u8>, tag: u32, value: &[u8]) -> Result<(), AllocErr
     }
 }
 
-/// Appends what a slot says, as the field of a tag.
-///
-/// # Errors
-///
-/// `AllocError` for want of memory; what stood in `out` stays, and a part may stand behind it.
-pub fn put_slot(
+/// Appends what a slot says that is not empty, as the field of a tag.
+#[inline(never)]
+fn put_filled(
     out: &mut Vec<u8>,
     fields: &Fields<'_>,
     slot: Slot,
@@ -130,5 +127,27 @@ pub fn put_slot(
             Slot::Number(_) => put_spelled(out, tag, value),
             Slot::Moment(_) => put_field(out, tag, cut_text(value)),
         },
+    }
+}
+
+/// Appends what a slot says, as the field of a tag; most slots are empty.
+///
+/// # Errors
+///
+/// `AllocError` for want of memory; what stood in `out` stays, and a part may stand behind it.
+#[inline(always)]
+pub fn put_slot(
+    out: &mut Vec<u8>,
+    fields: &Fields<'_>,
+    slot: Slot,
+    tag: u32,
+) -> Result<(), AllocError>
+    ensures done { OnOk result (out.new.items
+        ≡ out.old.items ++ body_of (cell_fields (Tag tag, slot_said fields.now slot))) }
+    ensures kept { StartsWith out.new.items out.old.items }
+{
+    match slot {
+        Slot::Empty => Ok(()),
+        _ => put_filled(out, fields, slot, tag),
     }
 }
