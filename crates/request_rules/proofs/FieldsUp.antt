@@ -30,7 +30,7 @@ use Rattle.rule_rows.specs.ByRules.{lack_if, rule_fields}
 use Rattle.request_rules.specs.declared.rules.Rule.{Rule as CodeRule}
 use Rattle.request_rules.specs.declared.rules.Rule.TheVariants as rules
 use Rattle.request_rules.specs.CodeRules.{decimal_text, is_amount, is_decimal, is_read}
-use Rattle.request_rules.specs.CodeRules.{lacked, rule_of, wrote}
+use Rattle.request_rules.specs.CodeRules.{rule_of, wrote}
 use Rattle.request_rules.specs.Rules.{Rule, Same, Moved, Listed, Time, at, date_up, is_late}
 use Rattle.request_rules.specs.Rules.{is_unlisted, kinds, party_lines, rule_lack, time_up, type_up}
 use Rattle.request_rules.specs.Rules.{up_content, up_lack, up_rules}
@@ -289,23 +289,23 @@ module _ (table : Table Kind) (has : HasRows table) (fields : List Field)
       let p = both (reads_tags (rule_of rule)) (list_all reads_tags (map rule_of rules)) ok in
       λ i. rule_read rule f.0 p.0 i ++ rules_read rules f.1 p.1 i
 
-  rules_lack : (rules : List CodeRule) → list_all reads_tags (map rule_of rules) ≡ true
-      → first_of (lacked fields) rules ≡ first_of (kinds.lack m) (map rule_of rules)
+  rules_lack : (rules : List Rule) → list_all reads_tags rules ≡ true
+      → first_of (rule_lack (λ tag. value_at tag fields)) rules ≡ first_of (kinds.lack m) rules
   unfolding first_of
   rules_lack [] ok = refl
   rules_lack (rule ∷ rules) ok =
-      let p = both (reads_tags (rule_of rule)) (list_all reads_tags (map rule_of rules)) ok in
-      λ i. or_else (rule_lacks (rule_of rule) p.0 i) (rules_lack rules p.1 i)
+      let p = both (reads_tags rule) (list_all reads_tags rules) ok in
+      λ i. or_else (rule_lacks rule p.0 i) (rules_lack rules p.1 i)
+
+  -- WHAT THE CODE LACKS is what goes up lacks, and what it writes is the content of that
+  pub lack_read : first_of (rule_lack (λ tag. value_at tag fields)) up_rules ≡ up_lack m
+  lack_read = rules_lack up_rules refl
 
   module _ (rules : List CodeRule) (are : map rule_of rules ≡ up_rules) where
     reads_all : list_all reads_tags (map rule_of rules) ≡ true
     reads_all = ap (list_all reads_tags) are ∙ refl
 
-    -- WHAT THE CODE WRITES is the content of what goes up, and it lacks what that lacks
     pub content_read : list_all is_read rules ≡ true
         → flat_map (wrote table fields) rules ≡ up_content m
     content_read read =
         rules_read rules read reads_all ∙ ap (flat_map (rule_fields kinds m)) are
-
-    pub lack_read : first_of (lacked fields) rules ≡ up_lack m
-    lack_read = rules_lack rules reads_all ∙ ap (first_of (kinds.lack m)) are

@@ -1,22 +1,21 @@
 -- What `put_up` appends is the content of what goes up, or its lack is told.
 use Rattle.std.proofs.Common.{◌≡◌, ◌++◌, ℕ, List, [], ◌∷◌, map, true, Option, Some, None, refl, sym}
-use Rattle.std.proofs.Common.{ap, subst, ◌∙◌, ◌<◌, ◌≤◌, ◌+◌, drop, get_or, length}
-use Rattle.std.proofs.lemmas.List.{at_drop_all, at_drop_more}
+use Rattle.std.proofs.Common.{ap, subst, ◌∙◌}
 use Rattle.std.specs.List.{flat_map, list_all}
 use Rattle.field_groups.specs.Field.{Field, body_of}
 use Rattle.message_tables.specs.FirstFault.{first_fault, message_in}
-use Rattle.message_tables.specs.Tables.{Table, ◌>>=◌, first_of, or_else}
+use Rattle.message_tables.specs.Tables.{Table, ◌>>=◌, first_of, value_at}
 use Rattle.order_meaning.specs.Request.{Request, RequestKind, New}
 use Rattle.row_values.specs.Kinds.{Kind, judge}
 use Rattle.rule_rows.specs.Rows.{have_written_lines}
 use Rattle.dict_fix42.specs.Message.{table_of}
 use Rattle.dict_fix42.specs.Sense.{request_of}
 use Rattle.request_rules.specs.declared.rules.Rule.{Rule as CodeRule}
-use Rattle.request_rules.specs.CodeRules.{is_read, lacked, rule_of, wrote}
+use Rattle.request_rules.specs.CodeRules.{is_read, rule_of, wrote}
 use Rattle.request_rules.specs.Lack.{lack42, lack_of}
 use Rattle.request_rules.specs.Good.{IsTable42}
 use Rattle.request_rules.specs.Put.{IsPut}
-use Rattle.request_rules.specs.Rules.{up_rules}
+use Rattle.request_rules.specs.Rules.{rule_lack, up_rules}
 use Rattle.request_rules.proofs.ByType.{asked, asked42, by_type}
 use Rattle.request_rules.proofs.LacksUp.{lack_is}
 use Rattle.request_rules.proofs.FieldsUp.{HasRows, content_read, lack_read}
@@ -54,46 +53,22 @@ lines_written table is = (known table is).written
 -- ---- what is put
 
 module _ (table : Table Kind) (is : IsTable42 table) (fields : List Field)
-    (none : first_fault judge table fields ≡ None) (rules : List CodeRule)
-    (are : map rule_of rules ≡ up_rules) (read : list_all is_read rules ≡ true) where
-  pub lack_told : first_of (lacked fields) rules
+    (none : first_fault judge table fields ≡ None) where
+  pub lack_told : first_of (rule_lack (λ tag. value_at tag fields)) up_rules
       ≡ lack42 (message_in judge table fields)
   lack_told =
       let k = known table is in
       let m = message_in judge table fields in
-      lack_read table k.rows fields none rules are ∙ sym (lack_is k.kind m)
+      lack_read table k.rows fields none ∙ sym (lack_is k.kind m)
       ∙ sym (ap (λ r. r >>= lack_of) (k.request (λ kind. request_of kind m)))
 
-  pub put : (before after : List ℕ) → first_of (lacked fields) rules ≡ None
+  pub put : (rules : List CodeRule) → map rule_of rules ≡ up_rules → list_all is_read rules ≡ true
+      → (before after : List ℕ)
+      → first_of (rule_lack (λ tag. value_at tag fields)) up_rules ≡ None
       → after ≡ before ++ body_of (flat_map (wrote table fields) rules)
       → IsPut (message_in judge table fields) before after
-  put before after lack bytes = record {
+  put rules are read before after lack bytes = record {
     said = sym lack_told ∙ lack;
     bytes = bytes ∙ ap (λ fs. before ++ body_of fs)
         (content_read table (known table is).rows fields none rules are read);
   }
-
--- ---- the first lack of rules, rule by rule
-
-module _ (lack : CodeRule → Option ℕ) (rules : List CodeRule) (i : ℕ) (d : CodeRule)
-    (left : first_of lack (drop i rules) ≡ first_of lack rules) where
-  next : i < length rules → first_of lack (drop i rules)
-      ≡ or_else (lack (get_or rules i d)) (first_of lack (drop (i + 1) rules))
-  unfolding first_of
-  next within = at_drop_more (first_of lack) rules i d within
-
-  pub lack_found : (result : Option ℕ) (tag : ℕ) → i < length rules
-      → result ≡ lack (get_or rules i d) → result ≡ Some tag → Some tag ≡ first_of lack rules
-  lack_found result tag within is some =
-      ap (λ (o : Option ℕ). or_else o (first_of lack (drop (i + 1) rules))) (sym some ∙ is)
-      ∙ sym (next within) ∙ left
-
-  pub lack_passed : (result : Option ℕ) → i < length rules → result ≡ lack (get_or rules i d)
-      → result ≡ None → first_of lack (drop (i + 1) rules) ≡ first_of lack rules
-  lack_passed result within is none =
-      ap (λ (o : Option ℕ). or_else o (first_of lack (drop (i + 1) rules))) (sym none ∙ is)
-      ∙ sym (next within) ∙ left
-
-  pub lack_ended : length rules ≤ i → None ≡ first_of lack rules
-  unfolding first_of
-  lack_ended all = sym (at_drop_all (first_of lack) rules i all) ∙ left

@@ -20,7 +20,7 @@ use Rattle.request_rules.specs.declared.reading.Good.{Good}
 use Rattle.request_rules.specs.Good.{table}
 use Rattle.request_rules.specs.Rules.{Rule, Same, Moved, Listed, Parties, PartyOf, Month, Date}
 use Rattle.request_rules.specs.Rules.{OrdType, Time, Lines, Client, Broker, Firm, date_up}
-use Rattle.request_rules.specs.Rules.{party_lines, rule_lack, time_up, type_up}
+use Rattle.request_rules.specs.Rules.{party_lines, time_up, type_up}
 
 abbrev pub rule_of : CodeRule → Rule
 rule_of (rules.Same tag) = Same tag
@@ -95,10 +95,6 @@ module _ (table : Table Kind) (fields : List Field) where
   wrote rules.Time = cell_fields (Tag 59, time_up (text_by 40) (text_by 59))
   wrote (rules.Lines count) =
       group_fields count (lines_of count (message_in judge table fields).groups)
-
--- and what it lacks
-abbrev pub lacked : List Field → CodeRule → Option ℕ
-lacked fields rule = rule_lack (λ tag. value_at tag fields) (rule_of rule)
 
 -- the same of what the code holds
 abbrev pub writes : Good → CodeRule → List Field

@@ -24,7 +24,7 @@ pub fn put_up(good: &Good<'_, '_>, out: &mut Vec<u8>) -> Result<(), Lack>
     ensures err { OnErr result (out.new.items ≡ out.old.items) }
 {
     let rules = up_rules();
-    match first_lack(good.fields, rules) {
+    match first_lack(good.fields) {
         Some(tag) => Err(Lack::Tag(tag)),
         None => Ok(put_rules(good, rules, out)?),
     }
@@ -35,6 +35,5 @@ pub fn lack_up(good: &Good<'_, '_>) -> Option<u32>
     requires { IsGood good.now }
     ensures { result ≡ lack42 (said good.now) }
 {
-    let rules = up_rules();
-    first_lack(good.fields, rules)
+    first_lack(good.fields)
 }

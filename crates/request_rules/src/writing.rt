@@ -6,15 +6,15 @@ ghost use Rattle.std.specs.List.{flat_map};
 ghost use Rattle.std.specs.Option.{option_map};
 ghost use Rattle.field_groups.specs.Field.{body_of};
 ghost use Rattle.message_tables.specs.Content.{cell_fields, group_fields};
-ghost use Rattle.message_tables.specs.Tables.{Tag, first_of};
+ghost use Rattle.message_tables.specs.Tables.{Tag, first_of, value_at};
 ghost use Rattle.party_translate.specs.Parties.{line_of};
 ghost use Rattle.rows_fix42.specs.Meaning.{is_on_close};
-ghost use Rattle.rule_rows.specs.ByRules.{lack_if};
 ghost use Rattle.rule_rows.specs.Rows.{have_written_lines};
-ghost use Rattle.request_rules.specs.CodeRules.{byte_of, decimal_text, lacked, party_fields};
+ghost use Rattle.request_rules.specs.CodeRules.{byte_of, decimal_text, party_fields};
 ghost use Rattle.request_rules.specs.CodeRules.{writes, wrote};
 ghost use Rattle.request_rules.specs.Good.{table};
-ghost use Rattle.request_rules.specs.Rules.{is_late, is_unlisted, party_lines, time_up, type_up};
+ghost use Rattle.request_rules.specs.Rules.{is_late, is_unlisted, party_lines, rule_lack};
+ghost use Rattle.request_rules.specs.Rules.{time_up, type_up, up_rules};
 
 use crate::reading::Good;
 use crate::rules::Rule;
@@ -103,8 +103,13 @@ fn put_month(out: &mut Vec<u8>, good: &Good<'_, '_>) -> Appended
         (wrote (table good.now) good.now.fields.now Rule.Month)) }
     ensures kept { StartsWith out.new.items out.old.items }
 {
-    let maturity = month_and_day(good.fields);
-    put_one(out, Part::Row(200, Value::Month(&maturity)))
+    match good.fields.value(200) {
+        None => Ok(()),
+        Some(_) => {
+            let maturity = month_and_day(good.fields);
+            put_one(out, Part::Row(200, Value::Month(&maturity)))
+        }
+    }
 }
 
 /// Appends the date of a maturity that has a day.
@@ -114,8 +119,13 @@ fn put_date(out: &mut Vec<u8>, good: &Good<'_, '_>) -> Appended
         (wrote (table good.now) good.now.fields.now Rule.Date)) }
     ensures kept { StartsWith out.new.items out.old.items }
 {
-    let maturity = month_and_day(good.fields);
-    put_one(out, Part::Row(541, Value::Date(&maturity)))
+    match good.fields.value(200) {
+        None => Ok(()),
+        Some(_) => {
+            let maturity = month_and_day(good.fields);
+            put_one(out, Part::Row(541, Value::Date(&maturity)))
+        }
+    }
 }
 
 /// How many parties an id is.
@@ -207,28 +217,18 @@ fn is_unlisted(listed: &[u8], code: Option<u8>) -> bool
     }
 }
 
-/// A lack, where there is one.
-fn lack_if(lacks: bool, tag: u32) -> Option<u32>
-    ensures { result ≡ lack_if lacks tag }
+/// The tag of what FIX 5.0 SP2 cannot say of fields: 59 before 47. All else can be said.
+#[tactic(auto, unfolding(message_tables::specs::Tables::first_of))]
+pub(crate) fn first_lack(fields: &Fields<'_>) -> Option<u32>
+    ensures { result ≡ first_of (rule_lack (λ tag. value_at tag fields.now)) up_rules }
 {
-    if lacks { Some(tag) } else { None }
-}
-
-/// The tag that a rule cannot say of fields.
-#[inline(always)]
-fn lacked(fields: &Fields<'_>, rule: &Rule) -> Option<u32>
-    ensures { result ≡ lacked fields.now rule.now }
-{
-    match rule {
-        Rule::Time => lack_if(
-            is_late(code_of(fields.value(40)), code_of(fields.value(59))),
-            59,
-        ),
-        Rule::Listed(from, _, listed) => lack_if(
-            is_unlisted(listed, code_of(fields.value(*from))),
-            *from,
-        ),
-        _ => None,
+    let ord_type = code_of(fields.value(40));
+    if is_late(ord_type, code_of(fields.value(59))) {
+        Some(59)
+    } else if is_unlisted(b"AIP", code_of(fields.value(47))) {
+        Some(47)
+    } else {
+        None
     }
 }
 
@@ -261,16 +261,4 @@ pub(crate) fn put_rules(good: &Good<'_, '_>, rules: &[Rule], out: &mut Vec<u8>) 
             Err(error)
         }
     }
-}
-
-/// The tag that the first rule that lacks a spelling cannot say.
-pub(crate) fn first_lack(fields: &Fields<'_>, rules: &[Rule]) -> Option<u32>
-    ensures { result ≡ first_of (lacked fields.now) rules.now }
-{
-    for rule in rules {
-        if let Some(tag) = lacked(fields, rule) {
-            return Some(tag);
-        }
-    }
-    None
 }

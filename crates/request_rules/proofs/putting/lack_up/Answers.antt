@@ -6,6 +6,4 @@ use Rattle.request_rules.proofs.putting.lack_up.Goals as goal
 pub returns : goal.returns
 returns c =
     c.first_lack.ensures
-    ∙ lack_told (table c.args.good.now) c.requires.typed c.args.good.now.fields.now
-    c.requires.none c.up_rules-rules.result.now c.up_rules-rules.ensures.rules
-    c.up_rules-rules.ensures.read
+    ∙ lack_told (table c.args.good.now) c.requires.typed c.args.good.now.fields.now c.requires.none

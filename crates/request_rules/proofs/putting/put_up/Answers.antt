@@ -9,8 +9,7 @@ put_rules-requires c = lines_written (table c.args.good.now) c.requires.typed
 pub returns-in-Some-clause-lack : goal.returns-in-Some-clause-lack
 returns-in-Some-clause-lack c =
     sym (lack_told (table c.args.good.now) c.requires.typed c.args.good.now.fields.now
-    c.requires.none c.up_rules-rules.result.now c.up_rules-rules.ensures.rules
-    c.up_rules-rules.ensures.read) ∙ sym c.first_lack.ensures ∙ c.in-Some.is
+    c.requires.none) ∙ sym c.first_lack.ensures ∙ c.in-Some.is
 
 pub returns-in_ok-put_rules-in-None-clause-ok : goal.returns-in_ok-put_rules-in-None-clause-ok
 returns-in_ok-put_rules-in-None-clause-ok c =
