@@ -6,7 +6,7 @@ ghost use Rattle.translation.specs.Header.{carried_down, carried_field, carried_
 ghost use Rattle.translation.specs.Header.{type_of};
 ghost use Rattle.translation.specs.Writing.{put};
 
-use field_groups::{Fields, put_field};
+use field_groups::{Fields, put_known};
 use message_tables::Lookup;
 use std::alloc::AllocError;
 use typed_fields::{Stamp, cut_text};
@@ -64,13 +64,14 @@ impl<'f, 'a> Lookup for HeadDown<'f, 'a> {
 }
 
 /// Appends the first of these fields with a tag, if there is one.
+#[inline(always)]
 fn write_carried<F: Lookup>(tag: u32, fields: &F, out: &mut Vec<u8>) -> Result<(), AllocError>
     ensures { OnOk result (out.new.items
         ≡ out.old.items ++ body_of (carried_field (F.fields fields.now) tag)) }
 {
     match fields.value(tag) {
         None => Ok(()),
-        Some(value) => put_field(out, tag, value),
+        Some(value) => put_known(out, tag, value),
     }
 }
 
@@ -89,7 +90,7 @@ pub fn write_head<F: Lookup>(
     ensures { OnOk result (out.new.items ≡ put (carried_field (F.fields fields.now))
         (out.old.items ++ field_bytes (35, msg_type.now)) carried_tags) }
 {
-    put_field(out, 35, msg_type)?;
+    put_known(out, 35, msg_type)?;
     write_carried(49, fields, out)?;
     write_carried(56, fields, out)?;
     write_carried(34, fields, out)?;
