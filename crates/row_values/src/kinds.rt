@@ -189,9 +189,22 @@ fn judge_version(version: &[u8]) -> Mark
 }
 
 impl Kind {
-    /// What a value is beside the other fields of its message.
+    /// What a value is beside the other fields of its message. Most kinds ask of no other field.
+    #[inline(always)]
     #[tactic(auto, using(crate::proofs::Marks::of_kind), unfolding(crate::specs::Kinds::judge))]
     pub fn judge(&self, fields: &Fields<'_>, bytes: &[u8]) -> Mark
+        ensures { result ≡ mark_of (judge fields.now (kind_of self.now) bytes.now) }
+    {
+        match self {
+            Kind::Value(kind) => judge_value(kind, bytes),
+            _ => self.judge_beside(fields, bytes),
+        }
+    }
+
+    /// The same of a value of any kind.
+    #[inline(never)]
+    #[tactic(auto, using(crate::proofs::Marks::of_kind), unfolding(crate::specs::Kinds::judge))]
+    fn judge_beside(&self, fields: &Fields<'_>, bytes: &[u8]) -> Mark
         ensures { result ≡ mark_of (judge fields.now (kind_of self.now) bytes.now) }
     {
         match self {

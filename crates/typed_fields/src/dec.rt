@@ -206,6 +206,7 @@ impl Dec {
     ///
     /// `Empty` for no bytes, `Form` for anything but the form, and `Range` for a number with more
     /// digits than the bound has.
+    #[inline(always)]
     pub fn read(value: &[u8]) -> Result<Dec, FieldFault>
         ensures value { result ≡ read_dec value.now }
         ensures bound { IfOk result IsDec }
@@ -219,6 +220,7 @@ impl Dec {
     }
 
     /// Reads a decimal number that may have a sign, and zeros that do not count.
+    #[inline(never)]
     fn read_any(value: &[u8]) -> Result<Dec, FieldFault>
         ensures value { result ≡ read_dec value.now }
         ensures bound { IfOk result IsDec }

@@ -220,7 +220,7 @@ fn judge_reason(value: &[u8]) -> Result<bool, FieldFault>
 }
 
 /// Whether bytes are a decimal number that is not negative.
-#[inline(always)]
+#[inline(never)]
 fn judge_qty(value: &[u8]) -> Result<bool, FieldFault>
     ensures { result ≡ judged
         (spelt dec_text (if_in_range (λ d. not (is_negative d.units)) (read_dec value.now))) }
@@ -231,8 +231,16 @@ fn judge_qty(value: &[u8]) -> Result<bool, FieldFault>
     }
 }
 
+/// Whether bytes are a decimal number.
+#[inline(never)]
+fn judge_price(value: &[u8]) -> Result<bool, FieldFault>
+    ensures { result ≡ judged (spelt dec_text (read_dec value.now)) }
+{
+    is_read(Dec::read(value))
+}
+
 impl ValueKind {
-    /// Whether a value of this kind is of the profile.
+    /// Whether a value of this kind is of the profile. The kinds of most values come first.
     ///
     /// # Errors
     ///
@@ -240,6 +248,25 @@ impl ValueKind {
     #[inline(always)]
     #[tactic(auto, unfolding(crate::specs::ValueKind::spelling))]
     pub fn judge(&self, value: &[u8]) -> Result<bool, FieldFault>
+        ensures { result ≡ judged (spelling (value_kind_of self.now) value.now) }
+    {
+        if value.is_empty() {
+            return Err(FieldFault::Empty);
+        }
+        match self {
+            ValueKind::Filled => Ok(true),
+            ValueKind::Id => good_or(value.len() <= MAX_ID, FieldFault::Range),
+            ValueKind::Code(listed) => Ok(is_code(listed, value)),
+            ValueKind::Qty => judge_qty(value),
+            ValueKind::Price => judge_price(value),
+            _ => self.judge_any(value),
+        }
+    }
+
+    /// The same of a value of any kind.
+    #[inline(never)]
+    #[tactic(auto, unfolding(crate::specs::ValueKind::spelling))]
+    fn judge_any(&self, value: &[u8]) -> Result<bool, FieldFault>
         ensures { result ≡ judged (spelling (value_kind_of self.now) value.now) }
     {
         if value.is_empty() {
@@ -262,7 +289,7 @@ impl ValueKind {
             ValueKind::Number => is_read(Number::read(value)),
             ValueKind::Reason => judge_reason(value),
             ValueKind::Qty => judge_qty(value),
-            ValueKind::Price => is_read(Dec::read(value)),
+            ValueKind::Price => judge_price(value),
             ValueKind::Stamp => is_read(Stamp::read(value)),
             ValueKind::FineStamp => is_read(Stamp::read_fine(value)),
             ValueKind::Day => is_read(Day::read(value)),
