@@ -1,22 +1,24 @@
--- What an append makes of a log.
-use Rattle.std.proofs.Common.{◌≡◌, inl, ℕ, ◌+◌, ◌-◌, ◌^◌, ◌<◌, ◌≤◌, List, [], ◌∷◌, ◌++◌}
-use Rattle.std.proofs.Common.{length, take, drop, refl, sym, ◌∙◌, ap, subst, arith, append_assoc}
-use Rattle.std.proofs.Common.{length-append, Some, None, is_some, IfSome}
+-- What an append needs of a log, and what stands at a place of one.
+use Rattle.std.proofs.Common.{◌≡◌, ℕ, ◌+◌, ◌^◌, ◌<◌, ◌≤◌, List, [], ◌∷◌, ◌++◌, length, take, drop}
+use Rattle.std.proofs.Common.{sym, ◌∙◌, ap, subst, arith, append_assoc, length-append, min}
+use Rattle.std.proofs.Common.{Some, IfSome}
+use Rattle.std.proofs.Common.{◌-◌, inl, inr, length-drop}
+use Rattle.std.proofs.lemmas.List.{take_all}
 use Rattle.std.specs.declared.option.Option.{Option}
 use Rattle.std.specs.Option.{ForSome}
 use Rattle.std.specs.Int.{w32, to_be_bytes}
-use Rattle.std.proofs.lemmas.List.{take_at, drop_at, map-append}
-use Rattle.outside.specs.declared.disk.TheConstants.{MAX_DISK}
-use Rattle.outside.specs.Disk.{Only}
-use Rattle.gate_log.specs.Records.{blocks, record_of, Fits, IsSized, IsLog, Stands}
-use Rattle.gate_log.specs.Commit.{CommitsOrNot, Commits, WithOrWithout}
+use Rattle.std.proofs.lemmas.List.{take_at, drop_at}
+use Rattle.gate_log.specs.declared.TheConstants.{MAX_PAYLOAD}
+use Rattle.gate_log.specs.declared.head.Head.{Head}
+use Rattle.gate_log.specs.declared.head.Head.TheVariants as heads
+use Rattle.gate_log.specs.Records.{blocks, Fits, IsSized, AllSized, AllFit, IsLog, Stands}
 use Rattle.gate_log.specs.Steps.{Ends}
-use Rattle.gate_log.specs.Log.{HasRoom, KeepsList, IsAt}
-use Rattle.gate_log.specs.Kept.{cut, IsKept, StandsBehind}
-use Rattle.gate_log.proofs.Blocks.{blocks-push, length-blocks-push, AllFit-push, AllTold, fit_told}
-use Rattle.gate_log.proofs.Blocks.{same_front, blocks-append}
+use Rattle.gate_log.specs.State.{LogState}
+use Rattle.gate_log.specs.Log.{StandsOver, IsAt, ReadsPayload, HasNoPayload}
+use Rattle.gate_log.specs.Kept.{StandsBehind}
+use Rattle.gate_log.specs.Scan.{IsHead}
+use Rattle.gate_log.proofs.Blocks.{AllTold, fit_told, same_front, blocks-append}
 use Rattle.gate_log.proofs.CommitSteps.{ends}
-use Rattle.gate_log.proofs.Keeping.{kept_as_seen, kept_payloads}
 use Rattle.gate_log.proofs.Told.{if_some, at_some}
 
 fits_born : (ps : List (List ℕ)) (p : List ℕ) → 1 ≤ length ps → IsSized p → Fits ps p
@@ -27,81 +29,18 @@ log_born : (image : List ℕ) (ps : List (List ℕ)) → 1 ≤ length ps → Sta
 log_born image [] born stands = absurd (omega (arith, born))
 log_born image (q ∷ ps) born stands = stands
 
-pub kept_size : (bytes lens : List ℕ) (ps : List (List ℕ))
-    → IsKept bytes lens ps → length bytes ≡ length (blocks ps) + 1
-kept_size bytes lens ps kept =
-    omega (arith, ap length kept.layout, length-append (blocks ps) (0 ∷ []))
-
-kept_more : (bytes lens next sizes payload : List ℕ) (ps : List (List ℕ)) → IsKept bytes lens ps
-    → IsSized payload → HasRoom ps payload
-    → ((front : List ℕ) → bytes ≡ front ++ 0 ∷ [] → next ≡ front ++ 1 ∷ record_of payload)
-    → sizes ≡ lens ++ length payload ∷ [] → IsKept next sizes (ps ++ payload ∷ [])
-kept_more bytes lens next sizes payload ps kept sized room now more =
-    let grouped : blocks ps ++ 1 ∷ record_of payload ≡ blocks ps
-    ++ 1 ∷ to_be_bytes w32 (length payload) ++ payload ++ (0 ∷ []) = simp append_assoc in
+pub ends_at : (told : Option (List ℕ)) (log : LogState) (payload : List ℕ) → 1 ≤ log.count
+    → IsSized payload → ForSome told (StandsOver log) → Ends told log.end payload
+ends_at told log payload born sized stands = ends told _ payload (λ b e.
+    let over = stands b e in
+    let some : 1 ≤ length over.0 = omega (arith, born, over.1.number) in
     record {
-      layout = now (blocks ps) kept.layout ∙ grouped ∙ sym (blocks-push ps payload (0 ∷ []));
-      sizes = more ∙ ap (λ l. l ++ length payload ∷ []) kept.sizes
-          ∙ sym (map-append length ps (payload ∷ []));
-      fit = AllFit-push ps payload kept.fit (fits_born ps payload kept.born sized);
-      born = omega (arith, length-append ps (payload ∷ []));
-      within = omega (arith, length-blocks-push ps payload, room);
-    }
-
--- what is kept then, in the words of contracts
-pub record Grown (next sizes payload : List ℕ) (ps : List (List ℕ)) : Type 0 where
-  pub kept : IsKept next sizes (cut sizes next)
-  pub seen : cut sizes next ≡ ps ++ payload ∷ []
-
-pub grown : (bytes lens next sizes payload : List ℕ) (ps : List (List ℕ))
-    → IsKept bytes lens (cut lens bytes) → cut lens bytes ≡ ps → IsSized payload
-    → HasRoom ps payload
-    → ((front : List ℕ) → bytes ≡ front ++ 0 ∷ [] → next ≡ front ++ 1 ∷ record_of payload)
-    → sizes ≡ lens ++ length payload ∷ [] → Grown next sizes payload ps
-grown bytes lens next sizes payload ps kept seen sized room now pushed =
-    let more = kept_more bytes lens next sizes payload ps
-    (subst (IsKept bytes lens) seen kept) sized room now pushed in
-    record {
-      kept = kept_as_seen next sizes (ps ++ payload ∷ []) more;
-      seen = kept_payloads next sizes (ps ++ payload ∷ []) more;
-    }
-
-pub ends_at : (told : Option (List ℕ)) (bytes lens payload : List ℕ) (ps : List (List ℕ))
-    → IsKept bytes lens ps → IsSized payload
-    → ForSome told (λ b. Stands b ps) → Ends told (length bytes - 1) payload
-ends_at told bytes lens payload ps kept sized stands = ends told _ payload (λ b e. record {
-  payloads = ps;
-  log = log_born b ps kept.born (stands b e);
-  stands = stands b e;
-  fits = fits_born ps payload kept.born sized;
-  place = omega (arith, kept_size bytes lens ps kept);
-})
-
-pub keeps_list : (told : Option (List ℕ)) (before after : List ℕ → Type 0)
-    (ps : List (List ℕ)) (payload : List ℕ) → ForSome told (λ b. Stands b ps)
-    → CommitsOrNot told before after payload → KeepsList told before after ps payload
-keeps_list told before after ps payload stands commits = if_some told _ (λ b e only image left.
-    at_some told (λ y. Only y before → (qs : List (List ℕ)) → Stands y qs → (i : List ℕ)
-    → after i → WithOrWithout qs payload i) b e commits.each only ps (stands b e) image left)
-
--- where nothing was written
-pub keeps_same : (told : Option (List ℕ)) (images : List ℕ → Type 0) (ps : List (List ℕ))
-    (payload : List ℕ) → ForSome told (λ b. Stands b ps) → KeepsList told images images ps payload
-keeps_same told images ps payload stands = if_some told _ (λ b e only image left.
-    inl (subst (λ i. Stands i ps) (sym (only image left)) (stands b e)))
-
-pub stands_more : (told told1 : Option (List ℕ)) (ps : List (List ℕ)) (payload : List ℕ)
-    → ForSome told (λ b. Stands b ps) → is_some told1 ≡ is_some told
-    → Commits told told1 payload → ForSome told1 (λ b. Stands b (ps ++ payload ∷ []))
-stands_more told told1 ps payload stands same commits x e = go told refl
-  where
-    go : (o : Option (List ℕ)) → told ≡ o → Stands x (ps ++ payload ∷ [])
-    go None none = absurd (cc (ap is_some none, ap is_some e, same))
-    go (Some y) some =
-        let answer = at_some told (λ z. (qs : List (List ℕ)) → Stands z qs → IfSome
-        told1 (λ after. Stands after (qs ++ payload ∷ []))) y some commits.added ps (stands y some)
-        in
-        at_some told1 (λ z. Stands z (ps ++ payload ∷ [])) x e answer
+      payloads = over.0;
+      log = log_born b over.0 some over.1.stands;
+      stands = over.1.stands;
+      fits = fits_born over.0 payload some sized;
+      place = over.1.end;
+    })
 
 -- ---- reading
 
@@ -110,60 +49,129 @@ told_at : (before after : List (List ℕ)) (payload : List ℕ)
 told_at [] after payload told = told.0
 told_at (p ∷ before) after payload told = told_at before after payload told.1
 
-pub stands_behind : (bytes lens : List ℕ) (ps seen : List (List ℕ)) (at : ℕ) (payload : List ℕ)
-    → IsKept bytes lens ps → ps ≡ seen → IsAt seen at payload → StandsBehind bytes at payload
-stands_behind bytes lens ps seen at payload kept same there =
-    let grouped : (blocks there.before ++ blocks (payload ∷ there.after))
-    ++ 0 ∷ [] ≡ blocks there.before
-    ++ 1 ∷ (to_be_bytes w32 (length payload) ++ (payload ++ (blocks there.after ++ 0 ∷ []))) =
-    simp append_assoc in
-    let split = same ∙ there.split in
-    record {
-      front = blocks there.before;
-      after = blocks there.after ++ 0 ∷ [];
-      small = told_at
-          there.before there.after payload (subst AllTold split (fit_told ps kept.fit));
-      place = there.place;
-      split = kept.layout ∙ ap (λ l. blocks l ++ 0 ∷ []) split
-          ∙ ap (λ l. l ++ 0 ∷ []) (blocks-append there.before (payload ∷ there.after)) ∙ grouped;
-    }
+sized_at : (before after : List (List ℕ)) (payload : List ℕ)
+    → AllSized (before ++ payload ∷ after) → length payload ≤ MAX_PAYLOAD
+sized_at [] after payload sized = sized.0.1
+sized_at (p ∷ before) after payload sized = sized_at before after payload sized.1
 
-pub at_within : (bytes lens : List ℕ) (ps seen : List (List ℕ)) (at : ℕ) (payload : List ℕ)
-    → IsKept bytes lens ps → ps ≡ seen → IsAt seen at payload → at < MAX_DISK
-at_within bytes lens ps seen at payload kept same there =
-    omega (
-      arith,
-      kept.within,
-      there.place,
-      ap (λ l. length (blocks l)) (same ∙ there.split),
-      ap length (blocks-append there.before (payload ∷ there.after)),
-      length-append (blocks there.before) (blocks (payload ∷ there.after)),
-    )
+fit_at : (before after : List (List ℕ)) (payload : List ℕ)
+    → AllFit (before ++ payload ∷ after) → length payload ≤ MAX_PAYLOAD
+fit_at [] after payload fit = omega (arith, fit.0)
+fit_at (p ∷ before) after payload fit = sized_at before after payload fit.1
 
-behind_of : (bytes : List ℕ) (at : ℕ) (payload : List ℕ) → (s : StandsBehind bytes at payload)
-    → drop (at + 1) bytes ≡ to_be_bytes w32 (length payload) ++ (payload ++ s.after)
-behind_of bytes at payload s =
-    let rest = to_be_bytes w32 (length payload) ++ (payload ++ s.after) in
-    ap (drop (at + 1)) (s.split ∙ sym (append_assoc s.front (1 ∷ []) rest)) ∙ drop_at
-    (s.front ++ 1 ∷ []) rest (at + 1) (omega (arith, length-append s.front (1 ∷ []), s.place))
+log_at : (image : List ℕ) (before after : List (List ℕ)) (payload : List ℕ)
+    → Stands image (before ++ payload ∷ after) → IsLog image (before ++ payload ∷ after)
+log_at image [] after payload stands = stands
+log_at image (p ∷ before) after payload stands = stands
 
--- what is read behind the gate is the payload
-pub reads_payload : (bytes rest : List ℕ) (at len : ℕ) (payload : List ℕ)
-    → StandsBehind bytes at payload
-    → drop (at + 1) bytes ≡ to_be_bytes w32 len ++ rest → len < 2 ^ 32 → take len rest ≡ payload
-reads_payload bytes rest at len payload s split small =
-    let one = same_front len (length payload)
-    rest (payload ++ s.after) small s.small (sym split ∙ behind_of bytes at payload s) in
-    ap (take len) one.1 ∙ take_at payload s.after len (sym one.0)
+module _ (bytes : List ℕ) (at : ℕ) (payloads : List (List ℕ)) (payload : List ℕ)
+    (stands : Stands bytes payloads) (there : IsAt payloads at payload) where
+  log : IsLog bytes (there.before ++ payload ∷ there.after)
+  log = log_at bytes there.before there.after payload (subst (Stands bytes) there.split stands)
 
-pub reads_some : (bytes : List ℕ) (at : ℕ) (payload : List ℕ)
-    → StandsBehind bytes at payload → length (drop (at + 1) bytes) < 4 → ⊥
-reads_some bytes at payload s short = omega (
-  arith,
-  short,
-  ap length (behind_of bytes at payload s),
-  length-append (to_be_bytes w32 (length payload)) (payload ++ s.after),
-)
+  pub payload_sized : length payload ≤ MAX_PAYLOAD
+  payload_sized = fit_at there.before there.after payload log.fit
 
--- what an append leaves of the images
-pub ruleset keeps = (keeps_same, keeps_list)
+  pub stands_behind : StandsBehind bytes at payload
+  stands_behind =
+      let grouped : (blocks there.before ++ blocks (payload ∷ there.after))
+      ++ log.gate ∷ log.after ≡ blocks there.before ++ 1 ∷ (to_be_bytes w32 (length payload)
+      ++ (payload ++ (blocks there.after ++ log.gate ∷ log.after))) = simp append_assoc in
+      record {
+        front = blocks there.before;
+        after = blocks there.after ++ log.gate ∷ log.after;
+        small =
+            told_at there.before there.after payload (fit_told _ log.fit);
+        place = there.place;
+        split = log.split ∙ ap (λ l. l ++ log.gate ∷ log.after)
+            (blocks-append there.before (payload ∷ there.after)) ∙ grouped;
+      }
+
+module _ (bytes : List ℕ) (at : ℕ) (payload : List ℕ) (s : StandsBehind bytes at payload) where
+  from_gate : drop at bytes ≡ 1 ∷ (to_be_bytes w32 (length payload) ++ (payload ++ s.after))
+  from_gate = ap (drop at) s.split ∙ drop_at s.front
+      (1 ∷ (to_be_bytes w32 (length payload) ++ (payload ++ s.after))) at (sym s.place)
+
+  from_payload : drop (at + 5) bytes ≡ payload ++ s.after
+  from_payload = ap (drop (at + 5)) (s.split ∙ sym (append_assoc s.front
+      (1 ∷ to_be_bytes w32 (length payload)) (payload ++ s.after)))
+      ∙ drop_at (s.front ++ 1 ∷ to_be_bytes w32 (length payload)) (payload ++ s.after) (at + 5)
+      (omega (arith, length-append s.front (1 ∷ to_be_bytes w32 (length payload)), s.place))
+
+  -- the gate there is open, and behind it stands the length of the payload
+  pub head_there : (head : Head) → IsHead (drop at bytes) head → head ≡ heads.Open (length payload)
+  head_there heads.Shut (gate, after, is, shut) =
+      absurd (shut (let same : gate ≡ 1 = cc (sym is ∙ from_gate) in same))
+  head_there (heads.Open len) (small, rest, is) =
+      let whole : to_be_bytes w32 len ++ rest
+      ≡ to_be_bytes w32 (length payload) ++ (payload ++ s.after) =
+      ap (drop 1) (sym is ∙ from_gate) in
+      ap (λ k. heads.Open k)
+      (same_front len (length payload) rest (payload ++ s.after) small s.small whole).0
+  head_there heads.Cut (behind, short, inl none) = absurd (cc (sym none ∙ from_gate))
+  head_there heads.Cut (behind, short, inr is) = absurd (omega (
+    arith,
+    short,
+    ap length (sym is ∙ from_gate),
+    length-append (to_be_bytes w32 (length payload)) (payload ++ s.after),
+  ))
+
+  -- what a read of so many bytes behind the length gives
+  pub reads_payload : (n : ℕ) (buf : List ℕ) → length buf ≡ length payload
+      → n ≡ min (length buf) (length bytes - (at + 5))
+      → take n buf ≡ take n (drop (at + 5) bytes) → (n ≡ length payload) × (buf ≡ payload)
+  reads_payload n buf size count read =
+      let behind : length bytes - (at + 5) ≡ length payload + length s.after = omega (
+        arith,
+        ap length from_payload,
+        length-drop (at + 5) bytes,
+        length-append payload s.after,
+      ) in
+      let whole : n ≡ length payload = omega (arith, size, count, behind) in (
+        whole,
+        sym (take_all n buf (omega (arith, whole, size))) ∙ read
+            ∙ ap (take n) from_payload ∙ take_at payload s.after n (sym whole),
+      )
+
+-- ---- on a disk that may tell its bytes
+
+module _ (told : Option (List ℕ)) (place : ℕ) (head : Head)
+    (there : IfSome told (λ b. IsHead (drop place b) head)) where
+  opened : (b : List ℕ) → told ≡ Some b → (payloads : List (List ℕ)) (payload : List ℕ)
+      → Stands b payloads → IsAt payloads place payload → head ≡ heads.Open (length payload)
+  opened b e payloads payload stands at = head_there
+      b place payload (stands_behind b place payloads payload stands at) head
+      (at_some told (λ x. IsHead (drop place x) head) b e there)
+
+  -- what stands there is the head of no payload
+  pub none_there : ((len : ℕ) → head ≡ heads.Open len → len ≤ MAX_PAYLOAD → ⊥)
+      → HasNoPayload told place
+  none_there none = if_some told _ (λ b e payloads payload stands at.
+      none (length payload) (opened b e payloads payload stands at)
+      (payload_sized b place payloads payload stands at))
+
+  module _ (len n : ℕ) (buf : List ℕ) (is : head ≡ heads.Open len) (full : length buf ≡ len)
+      (now : Option (List ℕ)) (same : now ≡ told) (read : IfSome now (λ b.
+      (n ≡ min (length buf) (length b - (place + 5)))
+      × (take n buf ≡ take n (drop (place + 5) b)))) where
+    read_at : (b : List ℕ) → told ≡ Some b → (payloads : List (List ℕ)) (payload : List ℕ)
+        → Stands b payloads → IsAt payloads place payload
+        → (n ≡ length payload) × (buf ≡ payload) × (len ≡ length payload)
+    read_at b e payloads payload stands at =
+        let one : heads.Open len ≡ heads.Open (length payload) =
+        sym is ∙ opened b e payloads payload stands at in
+        let size : len ≡ length payload = cc one in
+        let r = at_some now (λ x. (n ≡ min (length buf) (length x - (place + 5)))
+        × (take n buf ≡ take n (drop (place + 5) x))) b (same ∙ e) read in
+        let got = reads_payload b place payload (stands_behind b place payloads payload stands at)
+        n buf (full ∙ size) r.0 r.1 in
+        (got.0, got.1, size)
+
+    pub all_there : ReadsPayload told place buf
+    all_there = if_some told _ (λ b e payloads payload stands at.
+        (read_at b e payloads payload stands at).1)
+
+    pub short_there : n < len → HasNoPayload told place
+    short_there short = if_some told _ (λ b e payloads payload stands at.
+        let got = read_at b e payloads payload stands at in
+        absurd (omega (arith, short, got.0, got.2)))

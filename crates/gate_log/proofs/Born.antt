@@ -1,7 +1,9 @@
 -- How an unborn disk gets its birth record.
 use Rattle.std.proofs.Common.{◌≡◌, inl, inr, ℕ, ◌<◌, ◌≤◌, List, [], ◌∷◌, ◌++◌}
 use Rattle.std.proofs.Common.{length, drop, refl, sym, ◌∙◌, ap, subst, arith}
-use Rattle.std.proofs.Common.{length-drop, Some, None, is_some, IfSome}
+use Rattle.std.proofs.Common.{length-drop, length-append, Some, None, is_some, IfSome}
+use Rattle.std.proofs.Common.{◌+◌, false, Ok, Err, IfOk, OnOk}
+use Rattle.std.specs.Prelude.{Result}
 use Rattle.std.specs.declared.option.Option.{Option}
 use Rattle.std.specs.Option.{ForSome, option_map}
 use Rattle.outside.specs.Disk.{write, Torn, AreAmong, Only, HasOneImage}
@@ -9,7 +11,10 @@ use Rattle.gate_log.specs.declared.TheConstants.{BIRTH_LEN}
 use Rattle.gate_log.specs.Records.{IsShut, IsUnborn, Stands}
 use Rattle.gate_log.specs.Commit.{CommitsOrNot, Commits, WithOrWithout}
 use Rattle.gate_log.specs.Steps.{EndsAt, Ends, IsTorn}
-use Rattle.gate_log.specs.Log.{StaysUnborn, BornOrNot, OnlyRead}
+use Rattle.gate_log.specs.declared.error.LogError.{LogError}
+use Rattle.gate_log.specs.declared.error.LogError.TheVariants as errors
+use Rattle.gate_log.specs.State.{LogState}
+use Rattle.gate_log.specs.Log.{StaysUnborn, BornOrNot, OnlyRead, Loads, StandsOver, IsOver}
 use Rattle.gate_log.proofs.Blocks.{Stands-unique}
 use Rattle.gate_log.proofs.CommitSteps.{ends}
 use Rattle.gate_log.proofs.Told.{if_some, at_some, to_some}
@@ -124,3 +129,35 @@ module _ (told : Option (List ℕ))
             let answer = at_some told1 (λ z. (qs : List (List ℕ)) → Stands z qs → IfSome told2
             (λ after. Stands after (qs ++ birth ∷ []))) y some commits.added [] (shut y some).0 in
             at_some told2 (λ z. Stands z (birth ∷ [])) x e answer
+
+-- ---- what a load answers
+
+pub looked : (told now : Option (List ℕ)) (birth : List ℕ) (log : LogState) → now ≡ told
+    → IfSome told (StandsOver log) → IfSome told (λ b. Loads birth b (Ok log) now)
+looked told now birth log same stands = if_some told _ (λ b e.
+    let over = at_some told (StandsOver log) b e stands in
+    (over.0, inl over.1.stands, to_some now (λ x. IsOver log x over.0) b (same ∙ e) over.1))
+
+pub begun : (told now : Option (List ℕ)) (birth : List ℕ) (answer : Result LogState LogError)
+    → length birth ≡ BIRTH_LEN → IfSome told (λ b. Stands b [])
+    → IfOk answer (λ log. log ≡
+    record { end = 5 + BIRTH_LEN; count = 1; broken = false; spare = 0 })
+    → OnOk answer (ForSome now (λ b. Stands b (birth ∷ []))) → (answer ≡ Err errors.Full → ⊥)
+    → ((at : ℕ) → answer ≡ Err (errors.Foreign at) → ⊥)
+    → IfSome told (λ b. Loads birth b answer now)
+begun told now birth (Ok log) sized unborn is stands full foreign = if_some told _ (λ b e. (
+  birth ∷ [],
+  inr (at_some told (λ x. Stands x []) b e unborn, refl),
+  if_some now _ (λ x here. record {
+    stands = stands x here;
+    number = ap (λ l. l.count) is;
+    end = omega (arith, ap (λ l. l.end) is, sized, length-append birth []);
+  }),
+))
+begun told now birth (Err errors.DiskFault) sized unborn is stands full foreign =
+    if_some told _ (λ b e. tt)
+begun told now birth (Err errors.NoMemory) sized unborn is stands full foreign =
+    if_some told _ (λ b e. tt)
+begun told now birth (Err errors.Full) sized unborn is stands full foreign = absurd (full refl)
+begun told now birth (Err (errors.Foreign at)) sized unborn is stands full foreign =
+    absurd (foreign at refl)

@@ -4,6 +4,5 @@ pub mod Crash
 pub mod Told
 pub mod CommitSteps
 pub mod Scanning
-pub mod Keeping
 pub mod Born
 pub mod Appending

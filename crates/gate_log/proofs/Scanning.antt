@@ -1,21 +1,67 @@
--- What one pass over an image learns.
-use Rattle.std.proofs.Common.{◌≡◌, ◌≢◌, inl, ℕ, ◌+◌, ◌-◌, ◌^◌, ◌<◌, ◌≤◌}
-use Rattle.std.proofs.Common.{true, ◌==◌, List, [], ◌∷◌, ◌++◌, map, length, get_or, take}
+-- What one walk over a disk learns.
+use Rattle.std.proofs.Common.{◌≡◌, inl, inr, ℕ, ◌+◌, ◌-◌, ◌<◌, ◌≤◌}
+use Rattle.std.proofs.Common.{Bool, true, false, min, Some, IfSome, ◌==◌, List, [], ◌∷◌, ◌++◌}
+use Rattle.std.proofs.Common.{length, take}
 use Rattle.std.proofs.Common.{drop, refl, sym, ◌∙◌, ap, subst, arith, append_assoc, length-append}
 use Rattle.std.proofs.Common.{length-take, length-drop, take-append-drop}
-use Rattle.std.specs.Prelude.{nat_le, ◌&&◌}
+use Rattle.std.specs.Prelude.{nat_le, ◌&&◌, if◌then◌else◌}
+use Rattle.std.specs.declared.option.Option.{Option}
 use Rattle.std.specs.Int.{w32, to_be_bytes}
-use Rattle.std.proofs.lemmas.List.{drop_at, drop_more, map-append, take_all}
+use Rattle.std.proofs.lemmas.List.{drop_at, take_all, take_min}
 use Rattle.std.proofs.lemmas.Bool.Decides.{nat_tests}
 use Rattle.outside.specs.declared.disk.TheConstants.{MAX_DISK}
 use Rattle.gate_log.specs.declared.TheConstants.{BIRTH_LEN, MAX_PAYLOAD}
-use Rattle.gate_log.specs.Records.{blocks, Fits, AllFit, IsLog, HoldsRecord, BreaksAt, IsRefused}
-use Rattle.gate_log.specs.Scan.{HasRecords, fits_at}
+use Rattle.gate_log.specs.declared.head.Head.{Head}
+use Rattle.gate_log.specs.declared.head.Head.TheVariants as heads
+use Rattle.gate_log.specs.Records.{blocks, Fits, AllFit, IsLog, IsShut, HoldsRecord}
+use Rattle.gate_log.specs.Records.{IsUnborn, IsRefused, Stands}
+use Rattle.gate_log.specs.declared.scan.Step.TheVariants as steps
+use Rattle.gate_log.specs.declared.scan.Found.TheVariants as found
+use Rattle.gate_log.specs.Scan.{HasRecords, IsHead, IsStep, GoesOn, IsFound, IsWithin, fits_at}
+use Rattle.gate_log.specs.Scan.{found_at}
+use Rattle.gate_log.specs.Log.{OnlyRead}
 use Rattle.gate_log.proofs.Blocks.{blocks-push, length-blocks-push, AllFit-push, fits_told}
 use Rattle.gate_log.proofs.Blocks.{same_front}
-use Rattle.gate_log.proofs.Crash.{more_stands}
+use Rattle.gate_log.proofs.Told.{if_some, at_some}
 
--- ---- one record
+-- ---- a head
+
+all_taken : (bytes front : List ℕ) → front ≡ take 5 bytes → length front < 5 → bytes ≡ front
+all_taken bytes front is small =
+    sym (is ∙ take_all 5 bytes (omega (arith, ap length is, length-take 5 bytes, small)))
+
+-- what a front of five bytes begins with, all begin with
+pub head_whole : (bytes : List ℕ) (head : Head) → IsHead (take 5 bytes) head → IsHead bytes head
+head_whole bytes heads.Shut (gate, after, is, shut) = (
+  gate,
+  after ++ drop 5 bytes,
+  sym (take-append-drop 5 bytes) ∙ ap (λ l. l ++ drop 5 bytes) is,
+  shut,
+)
+head_whole bytes (heads.Open len) (small, rest, is) = (
+  small,
+  rest ++ drop 5 bytes,
+  sym (take-append-drop 5 bytes) ∙ ap (λ l. l ++ drop 5 bytes) is
+      ∙ ap (λ (l : List ℕ). 1 ∷ l) (append_assoc (to_be_bytes w32 len) rest (drop 5 bytes)),
+)
+head_whole bytes heads.Cut (behind, short, inl none) =
+    (behind, short, inl (all_taken bytes [] (sym none) (omega arith)))
+head_whole bytes heads.Cut (behind, short, inr is) =
+    (behind, short, inr (all_taken bytes (1 ∷ behind) (sym is) (omega (arith, short))))
+
+-- what was read at a place
+pub head_read : (told : Option (List ℕ)) (at n : ℕ) (buf : List ℕ) (head : Head) → length buf ≡ 5
+    → IfSome told (λ b. (n ≡ min (length buf) (length b - at)) × (take n buf ≡ take n (drop at b)))
+    → IsHead (take n buf) head → IfSome told (λ b. IsHead (drop at b) head)
+head_read told at n buf head five read is = if_some told _ (λ b e.
+    let r = at_some told (λ x. (n ≡ min (length buf) (length x - at))
+    × (take n buf ≡ take n (drop at x))) b e read in
+    let most : n ≡ min 5 (length (drop at b)) = omega (arith, r.0, five, length-drop at b) in
+    let same : take n buf ≡ take 5 (drop at b) =
+    r.1 ∙ ap (λ k. take k (drop at b)) most ∙ take_min 5 (drop at b) in
+    head_whole (drop at b) head (subst (λ l. IsHead l head) same is))
+
+-- ---- the length of a payload
 
 birth_test : (at n : ℕ) → at ≡ 0 → fits_at at n ≡ (n == BIRTH_LEN)
 birth_test at n place = ap (λ k. fits_at k n) place
@@ -56,209 +102,255 @@ fits_to [] payload at place fits =
 fits_to (p ∷ ps) payload at place fits = sized_test at (length payload) (not_first p ps at place)
     ∙ sized_is (length payload) fits.0 fits.1
 
-pub holds : (before : List (List ℕ)) (behind rest : List ℕ) (at n : ℕ) → at ≡ length (blocks before)
-    → behind ≡ to_be_bytes w32 n ++ rest → fits_at at n ≡ true → n < length rest → at + 5 + n
-    < MAX_DISK → (payload : List ℕ) × HoldsRecord before behind payload × (n ≡ length payload)
-holds before behind rest at n place split test room within =
-    let size : n ≡ length (take n rest) = omega (arith, length-take n rest) in
-    let after : drop n rest ≡ get_or rest n 0 ∷ drop (n + 1) rest = drop_more rest n 0 room in
-    let parts : rest ≡ take n rest ++ get_or rest n 0 ∷ drop (n + 1) rest =
-    sym (take-append-drop n rest) ∙ ap (λ l. take n rest ++ l) after in (
-      take n rest,
+-- ---- the walk
+
+-- so many records stand up to this place
+pub record Walked (image : List ℕ) (count at : ℕ) : Type 0 where
+  pub payloads : List (List ℕ)
+  pub split : image ≡ blocks payloads ++ drop at image
+  pub place : at ≡ length (blocks payloads)
+  pub fit : AllFit payloads
+  pub number : count ≡ length payloads
+
+pub none_walked : (image : List ℕ) → Walked image 0 0
+none_walked image = record { payloads = []; split = refl; place = refl; fit = tt; number = refl }
+
+stands_born : (image : List ℕ) (ps : List (List ℕ))
+    → 1 ≤ length ps → IsLog image ps → Stands image ps
+stands_born image [] born log = absurd (omega (arith, born))
+stands_born image (p ∷ ps) born log = log
+
+none_at : (ps : List (List ℕ)) → 0 ≡ length ps → length (blocks ps) ≡ 0
+none_at [] none = refl
+none_at (p ∷ ps) none = absurd (omega (arith, none))
+
+module _ (image : List ℕ) (count at : ℕ) (walked : Walked image count at) (within : at < MAX_DISK)
+  where
+    -- the gate there is closed, behind records
+    pub records_end : 1 ≤ count → IsShut (drop at image) → HasRecords image count at
+    records_end some (gate, after, is, shut) = record {
+      payloads = walked.payloads;
+      stands = stands_born image walked.payloads (omega (arith, some, walked.number)) (record {
+        gate = gate;
+        after = after;
+        split = walked.split ∙ ap (λ l. blocks walked.payloads ++ l) is;
+        shut = shut;
+        fit = walked.fit;
+        within = omega (arith, within, walked.place);
+      });
+      number = walked.number;
+      end = walked.place;
+    }
+
+    -- the first gate is closed
+    first_shut : count ≡ 0 → IsShut (drop at image) → IsShut image
+    first_shut none shut = subst (λ n. IsShut (drop n image))
+        (walked.place ∙ none_at walked.payloads (sym none ∙ walked.number)) shut
+
+    pub unborn_end : count ≡ 0 → IsShut (drop at image) → length image ≤ 161 → IsUnborn image
+    unborn_end none shut short = inr (short, first_shut none shut)
+
+    pub refused_end : count ≡ 0 → IsShut (drop at image) → 161 < length image → IsRefused image 0
+    refused_end none shut long = inr (long, refl, first_shut none shut)
+
+    -- the gate there is open, and no record stands behind it
+    breaks : (behind : List ℕ) → 1 < length image → drop at image ≡ 1 ∷ behind
+        → ((payload : List ℕ) → HoldsRecord walked.payloads behind payload → ⊥)
+        → IsRefused image at
+    breaks behind long is none = inl (
+      long,
       record {
-        next = get_or rest n 0;
-        after = drop (n + 1) rest;
-        split = split ∙ ap (λ (l : List ℕ). to_be_bytes w32 n ++ l) parts
-            ∙ ap (λ k. to_be_bytes w32 k ++ (take n rest ++ get_or rest n 0 ∷ drop (n + 1) rest))
-            size ∙ sym (append_assoc (to_be_bytes w32 (length (take n rest)))
-            (take n rest) (get_or rest n 0 ∷ drop (n + 1) rest));
-        fits = fits_of before (take n rest) at place (subst (λ k. fits_at at k ≡ true) size test);
-        within = omega (arith, size, place, within);
+        before = walked.payloads;
+        behind = behind;
+        split = walked.split ∙ ap (λ l. blocks walked.payloads ++ l) is;
+        place = walked.place;
+        within = within;
+        fit = walked.fit;
+        none = none;
       },
-      size,
     )
 
--- what a record that stands there says of the length in front
-pub record Fitting (at n : ℕ) (rest : List ℕ) : Type 0 where
-  pub test : fits_at at n ≡ true
-  pub room : n < length rest
-  pub within : at + 5 + n < MAX_DISK
+    pub cut_breaks : 1 < length image → at < length image
+        → IsHead (drop at image) heads.Cut → IsRefused image at
+    cut_breaks long more (behind, short, inl none) =
+        absurd (omega (arith, ap length none, length-drop at image, more))
+    cut_breaks long more (behind, short, inr is) = breaks behind long is (λ payload h. omega (
+      arith,
+      short,
+      ap length h.split,
+      length-append (to_be_bytes w32 (length payload) ++ payload) (h.next ∷ h.after),
+      length-append (to_be_bytes w32 (length payload)) payload,
+    ))
 
-pub told : (before : List (List ℕ)) (behind rest payload : List ℕ) (at n : ℕ)
-    → at ≡ length (blocks before) → behind ≡ to_be_bytes w32 n ++ rest
-    → n < 2 ^ 32 → HoldsRecord before behind payload → Fitting at n rest
-told before behind rest payload at n place split small record_there =
-    let h = record_there in
-    let whole : to_be_bytes w32 n
-    ++ rest ≡ to_be_bytes w32 (length payload) ++ (payload ++ h.next ∷ h.after) = sym split
-    ∙ h.split ∙ append_assoc (to_be_bytes w32 (length payload)) payload (h.next ∷ h.after) in
-    let one = same_front n (length payload)
-    rest (payload ++ h.next ∷ h.after) small (fits_told before payload h.fits) whole in
-    record {
-      test = subst (λ k. fits_at at k ≡ true) (sym one.0) (fits_to before payload at place h.fits);
-      room = omega (arith, one.0, ap length one.1, length-append payload (h.next ∷ h.after));
-      within = omega (arith, one.0, place, h.within);
-    }
+    module _ (len : ℕ) (head : IsHead (drop at image) (heads.Open len)) where
+      abbrev rest : List ℕ
+      rest = head.1
 
--- ---- the pass
+      behind_size : length image ≡ at + 5 + length rest
+      behind_size = omega (
+        arith,
+        ap length walked.split,
+        length-append (blocks walked.payloads) (drop at image),
+        ap length head.2,
+        length-append (to_be_bytes w32 len) rest,
+        walked.place,
+      )
 
--- the records up to an open gate at this place, and their lengths
-pub record Passed (image sizes : List ℕ) (at : ℕ) : Type 0 where
-  pub payloads : List (List ℕ)
-  pub split : image ≡ blocks payloads ++ 1 ∷ drop (at + 1) image
-  pub place : at ≡ length (blocks payloads)
+      -- what a record that stands there says of the length in front
+      goes_on : (payload : List ℕ)
+          → HoldsRecord walked.payloads (to_be_bytes w32 len ++ rest) payload
+          → GoesOn at len (length image)
+      goes_on payload h =
+          let whole : to_be_bytes w32 len
+          ++ rest ≡ to_be_bytes w32 (length payload) ++ (payload ++ h.next ∷ h.after) = h.split
+          ∙ append_assoc (to_be_bytes w32 (length payload)) payload (h.next ∷ h.after) in
+          let one = same_front len (length payload) rest (payload ++ h.next ∷ h.after)
+          head.0 (fits_told walked.payloads payload h.fits) whole in (
+            subst (λ k. fits_at at k ≡ true) (sym one.0)
+                (fits_to walked.payloads payload at walked.place h.fits),
+            omega (
+              arith,
+              behind_size,
+              one.0,
+              ap length one.1,
+              length-append payload (h.next ∷ h.after),
+            ),
+            omega (arith, one.0, walked.place, h.within),
+          )
+
+      pub open_breaks : 1 < length image → (GoesOn at len (length image) → ⊥) → IsRefused image at
+      open_breaks long none =
+          breaks (to_be_bytes w32 len ++ rest) long head.2 (λ payload h. none (goes_on payload h))
+
+      pub walks_on : GoesOn at len (length image) → Walked image (count + 1) (at + (5 + len))
+      walks_on (fits, more, room) =
+          let payload = take len rest in
+          let size : len ≡ length payload =
+          omega (arith, length-take len rest, behind_size, more) in
+          let next = walked.payloads ++ payload ∷ [] in
+          let whole : image ≡ blocks next ++ drop len rest =
+          walked.split ∙ ap (λ l. blocks walked.payloads ++ l) head.2
+          ∙ ap (λ (l : List ℕ). blocks walked.payloads ++ 1 ∷ (to_be_bytes w32 len ++ l))
+          (sym (take-append-drop len rest))
+          ∙ ap (λ k.
+          blocks walked.payloads ++ 1 ∷ (to_be_bytes w32 k ++ (payload ++ drop len rest))) size ∙ grouped payload ∙ sym (blocks-push walked.payloads payload (drop len rest)) in
+          let place : at + (5 + len) ≡ length (blocks next) =
+          omega (arith, length-blocks-push walked.payloads payload, walked.place, size) in
+          let after : drop (at + (5 + len)) image ≡ drop len rest =
+          ap (drop (at + (5 + len))) whole
+          ∙ drop_at (blocks next) (drop len rest) (at + (5 + len)) (sym place) in
+          record {
+            payloads = next;
+            split = whole ∙ ap (λ l. blocks next ++ l) (sym after);
+            place = place;
+            fit = AllFit-push walked.payloads payload walked.fit (fits_of walked.payloads payload at
+                walked.place (subst (λ k. fits_at at k ≡ true) size fits));
+            number = omega (arith, walked.number, length-append walked.payloads (payload ∷ []));
+          }
+        where
+          grouped : (payload : List ℕ) → blocks walked.payloads
+              ++ 1 ∷ (to_be_bytes w32 (length payload) ++ (payload ++ drop len rest))
+              ≡ blocks walked.payloads
+              ++ 1 ∷ to_be_bytes w32 (length payload) ++ payload ++ drop len rest
+          grouped payload = simp append_assoc
+
+-- ---- the walk over a disk that may tell its bytes
+
+pub only_read_on : (a b c : Option (List ℕ)) (i j k : List ℕ → Type 0)
+    → OnlyRead a b i j → OnlyRead b c j k → OnlyRead a c i k
+only_read_on a b c i j k one two = record {
+  same = two.same ∙ one.same;
+  images = λ x here. one.images x (two.images x here);
+  kept = λ x here. two.kept x (one.kept x here);
+}
+
+le_is : (m n : ℕ) → nat_le m n ≡ true → m ≤ n
+le_is m n test = grind (arith, nat_tests)
+
+le_not : (m n : ℕ) → nat_le m n ≡ false → n < m
+le_not m n test = grind (arith, nat_tests)
+
+none_counted : (count : ℕ) → nat_le 1 count ≡ false → count ≡ 0
+none_counted count test = omega (arith, le_not 1 count test)
+
+pub record SoFar (told : Option (List ℕ)) (size count at : ℕ) : Type 0 where
+  pub counted : count ≤ at
   pub within : at < MAX_DISK
-  pub fit : AllFit payloads
-  pub lens : sizes ≡ map length payloads
+  pub more : at < size
+  pub walked : IfSome told (λ b. (size ≡ length b) × Walked b count at)
 
-pub none_passed : (image after : List ℕ) → image ≡ 1 ∷ after → Passed image [] 0
-none_passed image after is = record {
-  payloads = [];
-  split =
-      is ∙ ap (λ (l : List ℕ). 1 ∷ l) (sym (ap (drop 1) is));
-  place = refl;
+pub at_first : (told : Option (List ℕ)) (size : ℕ)
+    → 1 < size → IfSome told (λ b. size ≡ length b) → SoFar told size 0 0
+at_first told size long is = record {
+  counted = omega arith;
   within = omega arith;
-  fit = tt;
-  lens = refl;
+  more = omega (arith, long);
+  walked = if_some told _ (λ b e. (at_some told (λ x. size ≡ length x) b e is, none_walked b));
 }
 
-pub breaks : (image sizes : List ℕ) (at : ℕ) (passed : Passed image sizes at)
-    → ((payload : List ℕ) → HoldsRecord passed.payloads (drop (at + 1) image) payload → ⊥)
-    → BreaksAt image at
-breaks image sizes at passed none = record {
-  before = passed.payloads;
-  behind =
-      drop (at + 1) image;
-  split = passed.split;
-  place = passed.place;
-  within = passed.within;
-  fit = passed.fit;
-  none = none;
-}
+module _ (told : Option (List ℕ)) (size count at : ℕ) (long : 1 < size)
+    (so_far : SoFar told size count at) (head : Head)
+    (there : IfSome told (λ b. IsHead (drop at b) head)) where
+  was : (b : List ℕ) → told ≡ Some b → (size ≡ length b) × Walked b count at
+  was b e = at_some told (λ x. (size ≡ length x) × Walked x count at) b e so_far.walked
 
--- behind one record more stands its next gate
-next_split : (image sizes payload : List ℕ) (at : ℕ) (passed : Passed image sizes at)
-    → (h : HoldsRecord passed.payloads (drop (at + 1) image) payload)
-    → image ≡ blocks (passed.payloads ++ payload ∷ []) ++ h.next ∷ h.after
-next_split image sizes payload at passed h =
-    let grouped : blocks passed.payloads ++ 1
-    ∷ (to_be_bytes w32 (length payload) ++ payload ++ h.next ∷ h.after) ≡ blocks passed.payloads
-    ++ 1 ∷ to_be_bytes w32 (length payload) ++ payload ++ h.next ∷ h.after =
-    simp append_assoc in
-    passed.split ∙ ap (λ l. blocks passed.payloads ++ 1 ∷ l) h.split
-    ∙ grouped ∙ sym (blocks-push passed.payloads payload (h.next ∷ h.after))
+  heads_at : (one : Head) → head ≡ one → (b : List ℕ) → told ≡ Some b → IsHead (drop at b) one
+  heads_at one is b e =
+      subst (IsHead (drop at b)) is (at_some told (λ x. IsHead (drop at x) head) b e there)
 
-next_place : (image sizes payload : List ℕ) (at : ℕ) (passed : Passed image sizes at)
-    → at + (5 + length payload) ≡ length (blocks (passed.payloads ++ payload ∷ []))
-next_place image sizes payload at passed =
-    omega (arith, length-blocks-push passed.payloads payload, passed.place)
+  ended_by : head ≡ heads.Shut → (some short : Bool) → nat_le 1 count ≡ some
+      → nat_le size 161 ≡ short → IfSome told (λ b. IsFound b (if some
+      then found.Records count at else (if short then found.Unborn else found.Refused 0)))
+  ended_by is true short some_is short_is = if_some told _ (λ b e.
+      records_end b count at (was b e).1 so_far.within (le_is 1 count some_is)
+      (heads_at heads.Shut is b e))
+  ended_by is false true some_is short_is = if_some told _ (λ b e.
+      let w = was b e in
+      let small : size ≤ 161 = le_is size 161 short_is in
+      unborn_end b count at w.1 so_far.within (none_counted count some_is)
+      (heads_at heads.Shut is b e) (omega (arith, w.0, small)))
+  ended_by is false false some_is short_is = if_some told _ (λ b e.
+      let w = was b e in
+      let large : 161 < size = le_not size 161 short_is in
+      refused_end b count at w.1 so_far.within (none_counted count some_is)
+      (heads_at heads.Shut is b e) (omega (arith, w.0, large)))
 
-next_gate : (image sizes payload : List ℕ) (at : ℕ) (passed : Passed image sizes at)
-    → (h : HoldsRecord passed.payloads (drop (at + 1) image) payload)
-    → drop (at + (5 + length payload)) image ≡ h.next ∷ h.after
-next_gate image sizes payload at passed h =
-    ap (drop (at + (5 + length payload))) (next_split image sizes payload at passed h)
-    ∙ drop_at (blocks (passed.payloads ++ payload ∷ [])) (h.next ∷ h.after)
-    (at + (5 + length payload)) (sym (next_place image sizes payload at passed))
+  pub found_ended : head ≡ heads.Shut → IfSome told (λ b. IsFound b (found_at count at size))
+  found_ended is = ended_by is (nat_le 1 count) (nat_le size 161) refl refl
 
-pub next_within : (image sizes payload : List ℕ) (at : ℕ) (passed : Passed image sizes at)
-    → HoldsRecord passed.payloads (drop (at + 1) image) payload
-    → at + (5 + length payload) < length image
-next_within image sizes payload at passed h = omega (
-  arith,
-  ap length
-      (next_gate image sizes payload at passed h),
-  length-drop (at + (5 + length payload)) image,
-)
+  pub found_broken : IsStep head at size steps.Break → IfSome told (λ b. IsRefused b at)
+  found_broken (inl is) = if_some told _ (λ b e.
+      let w = was b e in
+      let more : at < length b = omega (arith, so_far.more, w.0) in
+      cut_breaks b count at w.1 so_far.within (omega (arith, long, w.0)) more
+      (heads_at heads.Cut is b e))
+  found_broken (inr (len, is, none)) = if_some told _ (λ b e.
+      let w = was b e in
+      open_breaks b count at w.1 so_far.within len (heads_at (heads.Open len) is b e)
+      (omega (arith, long, w.0)) (λ on. none (subst (GoesOn at len) (sym w.0) on)))
 
-pub gate_is : (image sizes payload : List ℕ) (at : ℕ) (passed : Passed image sizes at)
-    → (h : HoldsRecord passed.payloads (drop (at + 1) image) payload)
-    → get_or image (at + (5 + length payload)) 0 ≡ h.next
-gate_is image sizes payload at passed h =
-    let here = drop_more
-    image (at + (5 + length payload)) 0 (next_within image sizes payload at passed h) in
-    cc (sym here ∙ next_gate image sizes payload at passed h)
+  pub on : (len : ℕ) → IsStep head at size (steps.On len)
+      → SoFar told size (count + 1) (at + (5 + len))
+  on len (is, goes) = record {
+    counted = omega (arith, so_far.counted);
+    within = omega (arith, goes.2);
+    more = omega (arith, goes.1);
+    walked = if_some told _ (λ b e.
+        let w = was b e in (
+          w.0,
+          walks_on b count at w.1 so_far.within len (heads_at (heads.Open len) is b e)
+              (subst (GoesOn at len) w.0 goes),
+        ));
+  }
 
-pub pass : (image sizes payload : List ℕ) (at : ℕ) (passed : Passed image sizes at) → HoldsRecord
-    passed.payloads (drop (at + 1) image) payload → get_or image (at + (5 + length payload)) 0 ≡ 1
-    → Passed image (sizes ++ length payload ∷ []) (at + (5 + length payload))
-pass image sizes payload at passed h is_open =
-    let next : h.next ≡ 1 = sym (gate_is image sizes payload at passed h) ∙ is_open in
-    let here = drop_more
-    image (at + (5 + length payload)) 0 (next_within image sizes payload at passed h) in
-    let after : drop (at + (5 + length payload) + 1) image ≡ h.after =
-    cc (sym here ∙ next_gate image sizes payload at passed h) in
-    record {
-      payloads = passed.payloads ++ payload ∷ [];
-      split = next_split image sizes payload at passed h
-          ∙ ap (λ g. blocks (passed.payloads ++ payload ∷ []) ++ g ∷ h.after) next
-          ∙ ap (λ l. blocks (passed.payloads ++ payload ∷ []) ++ 1 ∷ l) (sym after);
-      place = next_place image sizes payload at passed;
-      within = omega (arith, h.within, passed.place);
-      fit = AllFit-push passed.payloads payload passed.fit h.fits;
-      lens = ap (λ l. l ++ length payload ∷ []) passed.lens
-          ∙ sym (map-append length passed.payloads (payload ∷ []));
-    }
+within_by : (count at size : ℕ) (some short : Bool) → nat_le 1 count ≡ some → count ≤ at
+    → at < MAX_DISK → IsWithin (if some then found.Records count at
+    else (if short then found.Unborn else found.Refused 0))
+within_by count at size true short some_is counted within =
+    (le_is 1 count some_is, counted, within)
+within_by count at size false true some_is counted within = tt
+within_by count at size false false some_is counted within = tt
 
-pub found : (image sizes payload : List ℕ) (at : ℕ) (passed : Passed image sizes at) → HoldsRecord
-    passed.payloads (drop (at + 1) image) payload → get_or image (at + (5 + length payload)) 0 ≢ 1
-    → HasRecords image (sizes ++ length payload ∷ []) (at + (5 + length payload))
-found image sizes payload at passed h is_shut =
-    let log : IsLog image (passed.payloads ++ payload ∷ []) = record {
-      gate = h.next;
-      after = h.after;
-      split = next_split image sizes payload at passed h;
-      shut = λ e. is_shut (gate_is image sizes payload at passed h ∙ e);
-      fit = AllFit-push passed.payloads payload passed.fit h.fits;
-      within = omega (arith, h.within, next_place image sizes payload at passed, passed.place);
-    } in
-    record {
-      payloads = passed.payloads ++ payload ∷ [];
-      log = log;
-      stands = more_stands passed.payloads payload image log;
-      born = omega (arith, length-append passed.payloads (payload ∷ []));
-      lens = ap (λ l. l ++ length payload ∷ []) passed.lens
-          ∙ sym (map-append length passed.payloads (payload ∷ []));
-      end = next_place image sizes payload at passed;
-    }
-
--- what `&xs[k..]` is
-pub rest_of : (xs : List ℕ) (k : ℕ) → take (length xs - k) (drop k xs) ≡ drop k xs
-rest_of xs k = take_all _ _ (omega (arith, length-drop k xs))
-
--- one step of the pass, in the words of the code
-module _ (image sizes slice : List ℕ)
-    (at len : ℕ) (passed : Passed image sizes at) (is : slice ≡ drop (at + 1) image) where
-  pub breaks_at : 1 < length image
-      → ((payload : List ℕ) → HoldsRecord passed.payloads slice payload → ⊥) → IsRefused image at
-  breaks_at long none = inl (
-    long,
-    breaks image sizes at passed
-        (λ payload h. none payload (subst (λ l. HoldsRecord passed.payloads l payload) (sym is) h)),
-  )
-
-  module _ (next : List ℕ) (pushed : next ≡ sizes ++ len ∷ []) (step : (payload : List ℕ)
-      × HoldsRecord passed.payloads slice payload × (len ≡ length payload)) where
-    there : HoldsRecord passed.payloads (drop (at + 1) image) step.0
-    there = subst (λ l. HoldsRecord passed.payloads l step.0) is step.1
-
-    sized : next ≡ sizes ++ length step.0 ∷ []
-    sized = pushed ∙ ap (λ n. sizes ++ n ∷ []) step.2
-
-    pub within : at + (5 + len) < length image
-    within = subst (λ n. at + (5 + n) < length image)
-        (sym step.2) (next_within image sizes step.0 at passed there)
-
-    pub passed_next : get_or image (at + (5 + len)) 0 ≡ 1 → Passed image next (at + (5 + len))
-    passed_next is_open =
-        subst (λ l. Passed image l (at + (5 + len))) (sym sized)
-        (subst (λ n. Passed image (sizes ++ length step.0 ∷ []) (at + (5 + n))) (sym step.2)
-        (pass image sizes
-        step.0 at passed there (subst (λ n. get_or image (at + (5 + n)) 0 ≡ 1) step.2 is_open)))
-
-    pub found_next : get_or image (at + (5 + len)) 0 ≢ 1 → HasRecords image next (at + (5 + len))
-    found_next is_shut =
-        subst (λ l. HasRecords image l (at + (5 + len))) (sym sized)
-        (subst (λ n. HasRecords image (sizes ++ length step.0 ∷ []) (at + (5 + n))) (sym step.2)
-        (found image sizes
-        step.0 at passed there (subst (λ n. get_or image (at + (5 + n)) 0 ≢ 1) step.2 is_shut)))
+pub ended_within : (count at size : ℕ)
+    → count ≤ at → at < MAX_DISK → IsWithin (found_at count at size)
+ended_within count at size = within_by count at size (nat_le 1 count) (nat_le size 161) refl

@@ -8,6 +8,7 @@
 mod bytes;
 mod commit;
 mod error;
+mod head;
 pub mod laws;
 mod log;
 mod scan;

@@ -1,40 +1,40 @@
-//! A log: its payloads, in order, and the calls that read and lengthen it.
+//! A log: where its records end, and the calls that read and lengthen it.
 
-ghost use Rattle.std.specs.Prelude.{◌≡◌, ◌≢◌, ◌⊎◌, ◌↔◌, ◌+◌, ◌-◌, ◌≤◌, ◌<◌, ◌∷◌, ◌++◌, ℕ, [], List};
-ghost use Rattle.std.specs.Prelude.{IsTrue, length, take, drop, is_some, false, IfOk, IfSome, OnOk};
-ghost use Rattle.std.specs.Prelude.{OnErr, IsOkUnless, vec_len, vec_capacity};
+ghost use Rattle.std.specs.Prelude.{◌≡◌, ◌⊎◌, ◌+◌, ◌-◌, ◌≤◌, ◌<◌, ◌∷◌, ◌++◌, ℕ, [], List};
+ghost use Rattle.std.specs.Prelude.{length, is_some, false, IfOk, IfSome, OnOk, OnErr, IsOkUnless};
+ghost use Rattle.std.specs.Prelude.{vec_len, vec_capacity};
 ghost use Rattle.std.specs.Option.{ForSome};
-ghost use Rattle.std.specs.Int.{to_be_bytes};
 ghost use Rattle.outside.specs.Causes.{HasCause};
-ghost use Rattle.outside.specs.Disk.{HasOneImage};
-ghost use Rattle.gate_log.specs.Records.{blocks, Stands, IsSized, IsUnborn, IsShut, record_of};
+ghost use Rattle.outside.specs.Disk.{HasOneImage, ReadsAt};
+ghost use Rattle.gate_log.specs.Records.{Stands, IsSized, IsUnborn, IsShut, record_of};
 ghost use Rattle.gate_log.specs.Commit.{CommitsOrNot, Commits};
 ghost use Rattle.gate_log.specs.Steps.{Ends};
-ghost use Rattle.gate_log.specs.Kept.{StandsBehind};
 ghost use Rattle.gate_log.specs.Log.{OnlyReads, HasFaultCause, Looks, Loads, BornOrNot, Appends};
-ghost use Rattle.gate_log.specs.Log.{HasRoom, KeepsList, IsAt, StaysUnborn, KeepsOneImage};
-ghost use Rattle.gate_log.specs.Scan.{HasRecords};
+ghost use Rattle.gate_log.specs.Log.{StandsOver, StaysUnborn, KeepsOneImage, ReadsPayload};
+ghost use Rattle.gate_log.specs.Log.{HasNoPayload};
 
 use crate::bytes::extend_reserved;
 use crate::commit::{commit, write_stable};
-use crate::scan::{Found, scan, split_len};
-use crate::{BIRTH_LEN, LogError, MAX_PAYLOAD, OPEN};
+use crate::head::{Head, head_at};
+use crate::scan::{Found, scan};
+use crate::{BIRTH_LEN, LogError, MAX_PAYLOAD};
 use outside::{Disk, Failed, MAX_DISK};
-use std::alloc::{AllocError, Global};
+use std::alloc::Global;
 use std::marker::Model;
 
 /// A gate byte that is written closed.
 const CLOSED: u8 = 0;
 
-/// How many bytes a read asks for.
-const READ_LEN: usize = 4096;
+/// The place behind the birth record.
+const BORN_END: u64 = 5 + BIRTH_LEN as u64;
 
-/// A list of payloads that stands on a disk, and is kept in memory too.
+/// A list of payloads that stands on a disk. It keeps where they end, and none of them.
 #[derive(Debug, Drop)]
 pub struct Log {
-    // As on the disk, up to the closing gate.
-    bytes: Vec<u8>,
-    lens: Vec<u32>,
+    end: u64,
+    count: u64,
+    // A record as it is written; between the calls it is empty.
+    staged: Vec<u8>,
     broken: bool,
     spare: bool,
 }
@@ -51,55 +51,45 @@ impl Model for Log {
     ghost invariant = { IsWhole };
 }
 
-/// All bytes of a disk.
-fn read_image<D: Disk>(alloc: Global, disk: &mut D) -> Result<Vec<u8>, LogError>
-    ensures bytes { IfOk result (λ v. IfSome (D.bytes disk.old) (λ b. v.items ≡ b)) }
-    ensures only_read { OnlyReads D.bytes D.image disk.old disk.new }
-    ensures cause { HasFaultCause (D.faults disk.old) (D.faults disk.new) result }
-    ensures only { (result ≡ Err LogError.Full) → ⊥ }
-    ensures not_foreign { (at : ℕ) → (result ≡ Err (LogError.Foreign at)) → ⊥ }
-{
-    let len = disk.len()?;
-    let mut image = Vec::new(alloc);
-    let mut buf = [0; READ_LEN];
-    while (image.len() as u64) < len {
-        let count = disk.read_at(image.len() as u64, &mut buf)?;
-        if count == 0 {
-            break;
-        }
-        image.extend_from_slice(&buf[..count])?;
-    }
-    Ok(image)
-}
-
-/// Appends a record behind the closing gate, with the next gate closed, to a vector that has room.
-fn stage(bytes: &mut Vec<u8>, payload: &[u8])
-    requires room { vec_len bytes.old + (5 + length payload.now) ≤ vec_capacity bytes.old }
+/// Replaces an empty buffer, which has room for it, by a record with the next gate closed.
+fn stage(staged: &mut Vec<u8>, payload: &[u8])
+    requires empty { staged.old.items ≡ [] }
+    requires room { vec_len staged.old + (5 + length payload.now) ≤ vec_capacity staged.old }
     requires sized { length payload.now ≤ MAX_PAYLOAD }
-    ensures items { bytes.new.items ≡ bytes.old.items ++ record_of payload.now }
-    ensures capacity { vec_capacity bytes.old ≤ vec_capacity bytes.new }
+    ensures items { staged.new.items ≡ record_of payload.now }
+    ensures capacity { vec_capacity staged.old ≤ vec_capacity staged.new }
 {
-    extend_reserved(bytes, &(payload.len() as u32).to_be_bytes());
-    extend_reserved(bytes, payload);
-    bytes.push_reserved(CLOSED);
+    extend_reserved(staged, &(payload.len() as u32).to_be_bytes());
+    extend_reserved(staged, payload);
+    staged.push_reserved(CLOSED);
 }
 
-/// The bytes and the lengths of a log that has this birth record alone, its gates closed.
-fn newborn(alloc: Global, birth: &[u8]) -> Result<(Vec<u8>, Vec<u32>), AllocError>
-    requires { length birth.now ≡ BIRTH_LEN }
-    ensures { IfOk result (λ x.
-        (x.0.items ≡ 0 ∷ record_of birth.now) × (x.1.items ≡ length birth.now ∷ [])) }
+/// Appends a record to a disk by way of an empty buffer, which has room for it.
+fn add<D: Disk>(disk: &mut D, end: u64, staged: &mut Vec<u8>, payload: &[u8]) -> Result<(), Failed>
+    requires empty { staged.old.items ≡ [] }
+    requires room { vec_len staged.old + (5 + MAX_PAYLOAD) ≤ vec_capacity staged.old }
+    requires sized { length payload.now ≤ MAX_PAYLOAD }
+    requires limit { end + 5 + length payload.now < MAX_DISK }
+    requires ends { Ends (D.bytes disk.old) end payload.now }
+    ensures empty { staged.new.items ≡ [] }
+    ensures len { vec_len staged.new ≡ 0 }
+    ensures capacity { vec_capacity staged.old ≤ vec_capacity staged.new }
+    ensures appended { OnOk result (Commits (D.bytes disk.old) (D.bytes disk.new) payload.now) }
+    ensures durable { OnOk result (HasOneImage (D.bytes disk.new) (D.image disk.new)) }
+    ensures images { CommitsOrNot (D.bytes disk.old)
+        (D.image disk.old) (D.image disk.new) payload.now }
+    ensures told { is_some (D.bytes disk.new) ≡ is_some (D.bytes disk.old) }
+    ensures reads { D.reads disk.new ≡ D.reads disk.old }
+    ensures cause { HasCause (D.faults disk.old) (D.faults disk.new) result }
 {
-    let mut bytes = Vec::with_capacity(alloc, 6 + BIRTH_LEN)?;
-    bytes.push_reserved(CLOSED);
-    stage(&mut bytes, birth);
-    let mut lens = Vec::new(alloc);
-    lens.push(birth.len() as u32)?;
-    Ok((bytes, lens))
+    stage(staged, payload);
+    let answer = commit(disk, end, payload, staged);
+    staged.clear();
+    answer
 }
 
 /// Shuts the first gate of a disk whose image, of this length, is unborn.
-fn shut_first_gate<D: Disk>(disk: &mut D, len: usize) -> Result<(), Failed>
+fn shut_first_gate<D: Disk>(disk: &mut D, len: u64) -> Result<(), Failed>
     requires { ForSome (D.bytes disk.old) (λ b. IsUnborn b × (len ≡ length b)) }
     ensures shut { OnOk result (ForSome (D.bytes disk.new) (λ b. IsUnborn b × IsShut b)) }
     ensures images { StaysUnborn (D.bytes disk.old) (D.image disk.old) (D.image disk.new) }
@@ -114,34 +104,8 @@ fn shut_first_gate<D: Disk>(disk: &mut D, len: usize) -> Result<(), Failed>
     write_stable(disk, 0, &[CLOSED])
 }
 
-/// Makes a log on a disk whose image, of this length, is unborn.
-fn be_born<D: Disk>(alloc: Global, disk: &mut D, len: usize, birth: &[u8]) -> Result<Log, LogError>
-    requires birth { length birth.now ≡ BIRTH_LEN }
-    requires unborn { ForSome (D.bytes disk.old) (λ b. IsUnborn b × (len ≡ length b)) }
-    ensures log { IfOk result (λ log. log ≡
-        record { payloads = birth.now ∷ []; broken = false; spare = 0 }) }
-    ensures stands { OnOk result (ForSome (D.bytes disk.new) (λ b. Stands b (birth.now ∷ []))) }
-    ensures durable { OnOk result (HasOneImage (D.bytes disk.new) (D.image disk.new)) }
-    ensures images { BornOrNot (D.bytes disk.old) (D.image disk.old) (D.image disk.new) birth.now }
-    ensures told { is_some (D.bytes disk.new) ≡ is_some (D.bytes disk.old) }
-    ensures cause { HasFaultCause (D.faults disk.old) (D.faults disk.new) result }
-    ensures only { (result ≡ Err LogError.Full) → ⊥ }
-    ensures not_foreign { (at : ℕ) → (result ≡ Err (LogError.Foreign at)) → ⊥ }
-{
-    let (bytes, lens) = newborn(alloc, birth)?;
-    write_birth(disk, len, birth, &bytes[1..])?;
-    let mut bytes = bytes;
-    bytes[0] = OPEN;
-    Ok(Log {
-        bytes,
-        lens,
-        broken: false,
-        spare: false,
-    })
-}
-
 /// Makes the birth record the first of a disk whose image, of this length, is unborn.
-fn write_birth<D: Disk>(disk: &mut D, len: usize, birth: &[u8], staged: &[u8]) -> Result<(), Failed>
+fn write_birth<D: Disk>(disk: &mut D, len: u64, birth: &[u8], staged: &[u8]) -> Result<(), Failed>
     requires birth { length birth.now ≡ BIRTH_LEN }
     requires staged { staged.now ≡ record_of birth.now }
     requires unborn { ForSome (D.bytes disk.old) (λ b. IsUnborn b × (len ≡ length b)) }
@@ -155,118 +119,116 @@ fn write_birth<D: Disk>(disk: &mut D, len: usize, birth: &[u8], staged: &[u8]) -
     commit(disk, 0, birth, staged)
 }
 
-/// The bytes from a place on.
-fn tail(bytes: &[u8], at: usize) -> &[u8]
-    ensures { result.now ≡ drop at bytes.now }
-{
-    bytes.get(at..).unwrap_or(&[])
-}
-
-/// The first bytes, at most so many.
-fn front(bytes: &[u8], len: usize) -> &[u8]
-    ensures { result.now ≡ take len bytes.now }
-{
-    &bytes[..len.min(bytes.len())]
-}
-
-/// The payload behind the gate at this place.
-fn payload_at(bytes: &[u8], place: usize) -> &[u8]
-    requires { place < MAX_DISK }
-    ensures { (payload : List ℕ) → StandsBehind bytes.now place payload → result.now ≡ payload }
-{
-    match split_len(tail(bytes, place + 1)) {
-        Some((len, rest)) => front(rest, len),
-        None => &[],
-    }
-}
-
-/// Appends a record to a disk and to these bytes, which end in a closed gate and have room for it.
-fn add<D: Disk>(disk: &mut D, bytes: &mut Vec<u8>, payload: &[u8]) -> Result<(), Failed>
-    requires shut { (front : List ℕ) × (bytes.old.items ≡ front ++ 0 ∷ []) }
-    requires room { vec_len bytes.old + (5 + MAX_PAYLOAD) ≤ vec_capacity bytes.old }
-    requires sized { length payload.now ≤ MAX_PAYLOAD }
-    requires limit { length bytes.old.items + 4 + length payload.now < MAX_DISK }
-    requires ends { Ends (D.bytes disk.old) (length bytes.old.items - 1) payload.now }
-    ensures ok { OnOk result ((front : List ℕ) → bytes.old.items ≡ front ++ 0 ∷ [] →
-        bytes.new.items ≡ front ++ 1 ∷ record_of payload.now) }
-    ensures err { OnErr result (bytes.new.items ≡ bytes.old.items) }
-    ensures capacity { vec_capacity bytes.old ≤ vec_capacity bytes.new }
-    ensures appended { OnOk result (Commits (D.bytes disk.old) (D.bytes disk.new) payload.now) }
-    ensures durable { OnOk result (HasOneImage (D.bytes disk.new) (D.image disk.new)) }
-    ensures images { CommitsOrNot (D.bytes disk.old)
-        (D.image disk.old) (D.image disk.new) payload.now }
-    ensures told { is_some (D.bytes disk.new) ≡ is_some (D.bytes disk.old) }
-    ensures reads { D.reads disk.new ≡ D.reads disk.old }
+/// Fills a buffer with the bytes from this place on, and answers how many stand there.
+fn fill<D: Disk>(disk: &mut D, at: u64, out: &mut Vec<u8>) -> Result<usize, Failed>
+    ensures len { length out.new.items ≡ length out.old.items }
+    ensures value { ReadsAt (D.bytes disk.old) at result out.new.items }
+    ensures only_read { OnlyReads D.bytes D.image disk.old disk.new }
     ensures cause { HasCause (D.faults disk.old) (D.faults disk.new) result }
 {
-    let end = bytes.len() - 1;
-    stage(bytes, payload);
-    if let Err(failed) = commit(disk, end as u64, payload, &bytes[end + 1..]) {
-        bytes.truncate(end + 1);
-        return Err(failed);
+    disk.read_at(at, out.as_mut_slice())
+}
+
+/// Replaces `out` by a payload that stands at this place; after an error it holds anything.
+fn read_payload<D: Disk>(disk: &mut D, place: u64, out: &mut Vec<u8>) -> Result<(), LogError>
+    requires { place ≤ MAX_DISK }
+    ensures payload { OnOk result (ReadsPayload (D.bytes disk.old) place out.new.items) }
+    ensures sized { OnOk result (length out.new.items ≤ MAX_PAYLOAD) }
+    ensures only_read { OnlyReads D.bytes D.image disk.old disk.new }
+    ensures cause { HasFaultCause (D.faults disk.old) (D.faults disk.new) result }
+    ensures only { (result ≡ Err LogError.Full) → ⊥ }
+    ensures foreign { (at : ℕ) → result ≡ Err (LogError.Foreign at) →
+        HasNoPayload (D.bytes disk.old) place }
+{
+    let foreign = Err(LogError::Foreign { at: place });
+    let Head::Open(len) = head_at(disk, place)? else {
+        return foreign;
+    };
+    let len = len as usize;
+    if len > MAX_PAYLOAD {
+        return foreign;
     }
-    bytes[end] = OPEN;
+    out.clear();
+    out.resize(len, 0)?;
+    let count = fill(disk, place + 5, out)?;
+    if count < len {
+        return foreign;
+    }
     Ok(())
 }
 
 impl Log {
-    /// The log whose records a pass over this image found.
-    fn of_image(image: Vec<u8>, lens: Vec<u32>, end: usize) -> Log
-        requires { HasRecords image.items lens.items end }
-        ensures stands { Stands image.items result.payloads }
-        ensures whole { result.broken ≡ false }
+    /// The log that a walk over a disk found.
+    fn of(alloc: Global, count: u64, end: u64) -> Log
+        requires { (1 ≤ count) × (count ≤ end) × (end < MAX_DISK) }
+        ensures { result ≡ record { end = end; count = count; broken = false; spare = 0 } }
     {
-        let mut bytes = image;
-        bytes.truncate(end);
-        bytes.push_reserved(CLOSED);
         Log {
-            bytes,
-            lens,
+            end,
+            count,
+            staged: Vec::new(alloc),
             broken: false,
             spare: false,
         }
     }
 
-    /// The log on a disk; none where the disk is unborn. It only reads.
+    /// The log on a disk; none where the disk is unborn. It only reads, and takes no memory.
     ///
     /// # Errors
     /// `Foreign` exactly where the bytes are refused at that place; `DiskFault` only where the
-    /// disk's count of faults rose; `NoMemory`.
+    /// disk's count of faults rose.
     pub fn look<D: Disk>(alloc: Global, disk: &mut D) -> Result<Option<Log>, LogError>
         ensures looks { IfSome (D.bytes disk.old) (λ b. Looks b result) }
+        ensures whole { IfOk result (λ found. IfSome found (λ log. log.broken ≡ false)) }
         ensures only_read { OnlyReads D.bytes D.image disk.old disk.new }
         ensures cause { HasFaultCause (D.faults disk.old) (D.faults disk.new) result }
     {
-        let image = read_image(alloc, disk)?;
-        match scan(alloc, &image)? {
+        match scan(disk)? {
             Found::Unborn => Ok(None),
-            Found::Records(lens, end) => Ok(Some(Log::of_image(image, lens, end))),
-            Found::Refused(at) => Err(LogError::Foreign { at: at as u64 }),
+            Found::Records(count, end) => Ok(Some(Log::of(alloc, count, end))),
+            Found::Refused(at) => Err(LogError::Foreign { at }),
         }
     }
 
-    /// How many payloads it has.
+    /// A log of this birth record alone, on a disk that is unborn.
+    ///
+    /// # Errors
+    /// `DiskFault` only where the disk's count of faults rose; `NoMemory`.
+    pub fn begin<D: Disk>(alloc: Global, disk: &mut D, birth: &[u8]) -> Result<Log, LogError>
+        requires birth { length birth.now ≡ BIRTH_LEN }
+        requires unborn { ForSome (D.bytes disk.old) IsUnborn }
+        ensures log { IfOk result (λ log. log ≡
+            record { end = 5 + BIRTH_LEN; count = 1; broken = false; spare = 0 }) }
+        ensures stands { OnOk result (ForSome (D.bytes disk.new) (λ b. Stands b (birth.now ∷ []))) }
+        ensures durable { OnOk result (HasOneImage (D.bytes disk.new) (D.image disk.new)) }
+        ensures images { BornOrNot (D.bytes disk.old)
+            (D.image disk.old) (D.image disk.new) birth.now }
+        ensures told { is_some (D.bytes disk.new) ≡ is_some (D.bytes disk.old) }
+        ensures cause { HasFaultCause (D.faults disk.old) (D.faults disk.new) result }
+        ensures only { (result ≡ Err LogError.Full) → ⊥ }
+        ensures not_foreign { (at : ℕ) → (result ≡ Err (LogError.Foreign at)) → ⊥ }
+    {
+        let len = disk.len()?;
+        let mut staged = Vec::with_capacity(alloc, 5 + BIRTH_LEN)?;
+        stage(&mut staged, birth);
+        write_birth(disk, len, birth, &staged)?;
+        Ok(Log::of(alloc, 1, BORN_END))
+    }
+
+    /// How many records it has.
     pub fn count(&self) -> u64
-        ensures count { result ≡ length self.now.payloads }
+        ensures count { result ≡ self.now.count }
         ensures born { 1 ≤ result }
     {
-        self.lens.len() as u64
+        self.count
     }
 
     /// The place of its closing gate.
-    fn end(&self) -> usize
-        ensures place { result ≡ length (blocks self.now.payloads) }
+    pub fn end(&self) -> u64
+        ensures place { result ≡ self.now.end }
         ensures bound { result < MAX_DISK }
     {
-        self.bytes.len() - 1
-    }
-
-    /// Whether the record of this payload ends within a disk, with the gate behind it.
-    fn has_room(&self, payload: &[u8]) -> bool
-        requires { length payload.now ≤ MAX_PAYLOAD }
-        ensures { IsTrue result ↔ HasRoom self.now.payloads payload.now }
-    {
-        self.end() + 5 + payload.len() < MAX_DISK as usize
+        self.end
     }
 
     /// Makes room for one record.
@@ -281,8 +243,7 @@ impl Log {
         if self.spare {
             return Ok(());
         }
-        self.bytes.reserve(5 + MAX_PAYLOAD)?;
-        self.lens.reserve(1)?;
+        self.staged.reserve(5 + MAX_PAYLOAD)?;
         self.spare = true;
         Ok(())
     }
@@ -292,14 +253,11 @@ impl Log {
     /// # Errors
     /// `Foreign` exactly where the bytes are refused at that place; `DiskFault` only where the
     /// disk's count of faults rose; `NoMemory`. A disk that is not unborn was only read, whatever
-    /// the answer. So was any disk where the answer is `Foreign`, or a log of other payloads than
-    /// this birth record alone.
+    /// the answer. So was any disk where the answer is `Foreign`.
     pub fn load<D: Disk>(alloc: Global, disk: &mut D, birth: &[u8]) -> Result<Log, LogError>
         requires { length birth.now ≡ BIRTH_LEN }
         ensures loads { IfSome (D.bytes disk.old) (λ b. Loads birth.now b result
             (D.bytes disk.new)) }
-        ensures stands { IfOk result (λ log. ForSome (D.bytes disk.new) (λ b.
-            Stands b log.payloads)) }
         ensures images { BornOrNot (D.bytes disk.old)
             (D.image disk.old) (D.image disk.new) birth.now }
         ensures durable { OnOk result (HasOneImage (D.bytes disk.old) (D.image disk.old) →
@@ -309,16 +267,12 @@ impl Log {
             IsUnborn b ⊎ OnlyReads D.bytes D.image disk.old disk.new) }
         ensures foreign_only_reads { (at : ℕ) → result ≡ Err (LogError.Foreign at) →
             OnlyReads D.bytes D.image disk.old disk.new }
-        ensures older_only_reads { IfOk result (λ log. log.payloads ≢ birth.now ∷ [] →
-            OnlyReads D.bytes D.image disk.old disk.new) }
         ensures told { is_some (D.bytes disk.new) ≡ is_some (D.bytes disk.old) }
         ensures cause { HasFaultCause (D.faults disk.old) (D.faults disk.new) result }
     {
-        let image = read_image(alloc, disk)?;
-        match scan(alloc, &image)? {
-            Found::Unborn => be_born(alloc, disk, image.len(), birth),
-            Found::Records(lens, end) => Ok(Log::of_image(image, lens, end)),
-            Found::Refused(at) => Err(LogError::Foreign { at: at as u64 }),
+        match Log::look(alloc, disk)? {
+            Some(log) => Ok(log),
+            None => Log::begin(alloc, disk, birth),
         }
     }
 
@@ -330,33 +284,26 @@ impl Log {
     /// # Errors
     /// `Full` exactly where the record would end past the last byte of a disk, and then nothing was
     /// written; `DiskFault` only where the disk's count of faults rose, and then the log is broken.
-    #[tactic(auto, using(crate::proofs::Appending::keeps))]
     pub fn append<D: Disk>(&mut self, disk: &mut D, payload: &[u8]) -> Result<u64, LogError>
         requires spare { 1 ≤ self.old.spare }
         requires sized { IsSized payload.now }
         requires whole { self.old.broken ≡ false }
-        requires stands { ForSome (D.bytes disk.old) (λ b. Stands b self.old.payloads) }
+        requires stands { ForSome (D.bytes disk.old) (StandsOver self.old) }
         ensures appends { Appends payload.now self.old self.new result }
-        ensures stands { OnOk result (ForSome (D.bytes disk.new)
-            (λ b. Stands b self.new.payloads)) }
+        ensures appended { OnOk result (Commits (D.bytes disk.old) (D.bytes disk.new) payload.now) }
         ensures durable { OnOk result (HasOneImage (D.bytes disk.new) (D.image disk.new)) }
-        ensures images { KeepsList (D.bytes disk.old) (D.image disk.old) (D.image disk.new)
-            self.old.payloads payload.now }
+        ensures images { CommitsOrNot (D.bytes disk.old)
+            (D.image disk.old) (D.image disk.new) payload.now }
         ensures full { result ≡ Err LogError.Full → disk.new ≡ disk.old }
         ensures told { is_some (D.bytes disk.new) ≡ is_some (D.bytes disk.old) }
         ensures reads { D.reads disk.new ≡ D.reads disk.old }
         ensures cause { HasFaultCause (D.faults disk.old) (D.faults disk.new) result }
     {
-        if !self.has_room(payload) {
+        if self.end + 5 + payload.len() as u64 >= MAX_DISK {
             return Err(LogError::Full);
         }
-        let end = self.end();
-        match add(disk, &mut self.bytes, payload) {
-            Ok(()) => {
-                self.lens.push_reserved(payload.len() as u32);
-                self.spare = false;
-                Ok(end as u64)
-            }
+        match add(disk, self.end, &mut self.staged, payload) {
+            Ok(()) => Ok(self.lengthen(payload)),
             Err(_) => {
                 self.broken = true;
                 Err(LogError::DiskFault)
@@ -364,35 +311,43 @@ impl Log {
         }
     }
 
-    /// Replaces `out` by the payload that stands at this place.
+    /// Counts a record that was appended, and answers its place.
+    fn lengthen(&mut self, payload: &[u8]) -> u64
+        requires { self.old.end + 5 + length payload.now < MAX_DISK }
+        ensures place { result ≡ self.old.end }
+        ensures log { self.new ≡ record self.old {
+          end = self.old.end + 5 + length payload.now;
+          count = self.old.count + 1;
+          spare = 0;
+        } }
+    {
+        let place = self.end;
+        self.end += 5 + payload.len() as u64;
+        self.count += 1;
+        self.spare = false;
+        place
+    }
+
+    /// Replaces `out` by the payload that stands at this place. It makes two reads.
     ///
     /// # Errors
-    /// `DiskFault` only where the disk's count of faults rose; `NoMemory`. Then `out` is empty.
+    /// `Foreign` only where no record of the disk stands there; `DiskFault` only where the disk's
+    /// count of faults rose; `NoMemory`. Then `out` is empty.
     pub fn read<D: Disk>(&self, disk: &mut D, place: u64, out: &mut Vec<u8>) -> Result<(), LogError>
-        requires place { (payload : List ℕ) × IsAt self.now.payloads place payload }
-        requires stands { ForSome (D.bytes disk.old) (λ b. Stands b self.now.payloads) }
-        ensures payload { OnOk result ((payload : List ℕ) → IsAt self.now.payloads place payload →
-            out.new.items ≡ payload) }
+        requires { place ≤ MAX_DISK }
+        ensures payload { OnOk result (ReadsPayload (D.bytes disk.old) place out.new.items) }
+        ensures sized { length out.new.items ≤ MAX_PAYLOAD }
         ensures refused { OnErr result (out.new.items ≡ []) }
-        ensures bound { place < MAX_DISK }
         ensures only_read { OnlyReads D.bytes D.image disk.old disk.new }
         ensures cause { HasFaultCause (D.faults disk.old) (D.faults disk.new) result }
         ensures only { (result ≡ Err LogError.Full) → ⊥ }
-        ensures not_foreign { (at : ℕ) → (result ≡ Err (LogError.Foreign at)) → ⊥ }
+        ensures foreign { (at : ℕ) → result ≡ Err (LogError.Foreign at) →
+            HasNoPayload (D.bytes disk.old) place }
     {
-        let _ = disk; // It is not read: the payloads are in memory.
-        out.clear();
-        out.extend_from_slice(self.payload_kept(place))?;
-        Ok(())
-    }
-
-    /// The payload that stands at this place.
-    fn payload_kept(&self, place: u64) -> &[u8]
-        requires { (payload : List ℕ) × IsAt self.now.payloads place payload }
-        ensures payload { (payload : List ℕ) → IsAt self.now.payloads place payload →
-            result.now ≡ payload }
-        ensures bound { place < MAX_DISK }
-    {
-        payload_at(&self.bytes, place as usize)
+        let answer = read_payload(disk, place, out);
+        if answer.is_err() {
+            out.clear();
+        }
+        answer
     }
 }

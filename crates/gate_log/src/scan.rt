@@ -1,102 +1,108 @@
-//! One pass over an image: the records that it holds, or where it is refused.
+//! One walk over a disk, from gate to gate: the records that it holds, or where it is refused.
 
-ghost use Rattle.std.specs.Prelude.{◌≡◌, ◌==◌, ◌<◌, ◌^◌, ◌∷◌, ◌++◌, List, ℕ, length, IfOk};
-ghost use Rattle.std.specs.Prelude.{MatchOption};
-ghost use Rattle.std.specs.Int.{w32, to_be_bytes};
-ghost use Rattle.gate_log.specs.Records.{blocks, HoldsRecord};
-ghost use Rattle.gate_log.specs.Scan.{IsFound, fits_at};
+ghost use Rattle.std.specs.Prelude.{◌≡◌, ◌<◌, ◌≤◌, ◌↔◌, IsTrue, length, IfOk, IfSome};
+ghost use Rattle.outside.specs.Causes.{HasCause};
+ghost use Rattle.gate_log.specs.Log.{OnlyReads};
+ghost use Rattle.gate_log.specs.Scan.{IsFound, IsWithin, IsStep, GoesOn, fits_at};
+ghost use Rattle.gate_log.specs.Scan.{found_at};
 
-use crate::bytes::u32_front;
-use crate::{BIRTH_LEN, MAX_PAYLOAD, OPEN, UNBORN_LEN};
-use outside::MAX_DISK;
-use std::alloc::{AllocError, Global};
+use crate::head::{Head, head_at};
+use crate::{BIRTH_LEN, MAX_PAYLOAD, UNBORN_LEN};
+use outside::{Disk, Failed, MAX_DISK};
 
-/// What an image holds.
-#[derive(Debug, Drop)]
+/// What a disk holds.
+#[derive(Clone, Copy, Debug)]
 pub(crate) enum Found {
     /// No log yet.
     Unborn,
-    /// Payloads of these lengths, and the closing gate at this place.
-    Records(Vec<u32>, usize),
+    /// So many records, and the closing gate at this place.
+    Records(u64, u64),
     /// No log, for the gate at this place.
-    Refused(usize),
-}
-
-/// Whether a gate is open. Any other byte than 1 closes it.
-fn is_open(gate: u8) -> bool
-    ensures { result ≡ (gate == 1) }
-{
-    gate == OPEN
-}
-
-/// The length that stands in front, and what is behind it; none where four bytes do not stand
-/// there.
-pub(crate) fn split_len(bytes: &[u8]) -> Option<(usize, &[u8])>
-    ensures { MatchOption result (length bytes.now < 4) (λ x.
-        (bytes.now ≡ to_be_bytes w32 x.0 ++ x.1.now) × (x.0 < 2 ^ 32)) }
-{
-    let (len, rest) = u32_front(bytes)?;
-    Some((len as usize, rest))
+    Refused(u64),
 }
 
 /// Whether a payload behind a gate at this place may have this length.
-fn may_have(at: usize, len: usize) -> bool
+fn may_have(at: u64, len: u32) -> bool
     ensures { result ≡ fits_at at len }
 {
     if at == 0 {
-        return len == BIRTH_LEN;
+        return len == BIRTH_LEN as u32;
     }
-    1 <= len && len <= MAX_PAYLOAD
+    1 <= len && len <= MAX_PAYLOAD as u32
 }
 
-/// The length of the payload behind an open gate at this place; none where no record stands there.
-fn payload_len(behind: &[u8], at: usize) -> Option<usize>
-    requires { at < 2 ^ 63 }
-    ensures { (before : List (List ℕ)) → at ≡ length (blocks before) → MatchOption result
-        ((payload : List ℕ) → HoldsRecord before behind.now payload → ⊥)
-        (λ len. (payload : List ℕ) × HoldsRecord before behind.now payload
-        × (len ≡ length payload)) }
+/// Whether a payload of this length and the next gate fit behind a gate at this place, on a disk of
+/// so many bytes.
+fn goes_on(at: u64, len: u32, size: u64) -> bool
+    requires { at < MAX_DISK }
+    ensures { IsTrue result ↔ GoesOn at len size }
 {
-    let (len, rest) = split_len(behind)?;
-    if may_have(at, len) && len < rest.len() && at + 5 + len < MAX_DISK as usize {
-        return Some(len);
-    }
-    None
+    let next = at + 5 + len as u64;
+    may_have(at, len) && next < size && next < MAX_DISK
 }
 
-/// What the image holds.
+/// What a walk does at a gate.
+#[derive(Clone, Copy, Debug)]
+enum Step {
+    /// It ends: the gate is closed.
+    End,
+    /// It goes on behind a payload of this length.
+    On(u32),
+    /// It breaks: the gate is open, and no record stands behind it.
+    Break,
+}
+
+/// What a walk does at this place of a disk of so many bytes.
+fn step_at(head: Head, at: u64, size: u64) -> Step
+    requires { at < MAX_DISK }
+    ensures { IsStep head at size result }
+{
+    match head {
+        Head::Shut => Step::End,
+        Head::Open(len) if goes_on(at, len, size) => Step::On(len),
+        _ => Step::Break,
+    }
+}
+
+/// What a disk of so many bytes holds, where a walk over so many records came to a closed gate.
+fn ended(count: u64, end: u64, size: u64) -> Found
+    ensures { result ≡ found_at count end size }
+{
+    if count > 0 {
+        return Found::Records(count, end);
+    }
+    if size <= UNBORN_LEN as u64 {
+        Found::Unborn
+    } else {
+        Found::Refused(0)
+    }
+}
+
+/// What a disk holds.
 ///
 /// # Errors
-/// `AllocError` for want of memory.
-pub(crate) fn scan(alloc: Global, image: &[u8]) -> Result<Found, AllocError>
-    ensures { IfOk result (λ found. IsFound image.now found) }
+/// `Failed` only where the disk's count of faults rose.
+pub(crate) fn scan<D: Disk>(disk: &mut D) -> Result<Found, Failed>
+    ensures found { IfOk result (λ found. IfSome (D.bytes disk.old) (λ b. IsFound b found)) }
+    ensures within { IfOk result IsWithin }
+    ensures only_read { OnlyReads D.bytes D.image disk.old disk.new }
+    ensures cause { HasCause (D.faults disk.old) (D.faults disk.new) result }
 {
-    let is_shut = image.first().is_some_and(|gate| !is_open(*gate));
-    if image.len() <= 1 || (image.len() <= UNBORN_LEN && is_shut) {
+    let size = disk.len()?;
+    if size <= 1 {
         return Ok(Found::Unborn);
     }
-    if is_shut {
-        return Ok(Found::Refused(0));
-    }
-    records(alloc, image)
-}
-
-/// What an image holds that begins with an open gate.
-fn records(alloc: Global, image: &[u8]) -> Result<Found, AllocError>
-    requires long { 1 < length image.now }
-    requires first { (after : List ℕ) × (image.now ≡ 1 ∷ after) }
-    ensures { IfOk result (λ found. IsFound image.now found) }
-{
-    let mut lens = Vec::new(alloc);
+    let mut count = 0;
     let mut end = 0;
-    loop {
-        let Some(len) = payload_len(&image[end + 1..], end) else {
-            return Ok(Found::Refused(end));
-        };
-        lens.push(len as u32)?;
-        end += 5 + len;
-        if !is_open(image[end]) {
-            return Ok(Found::Records(lens, end));
+    'gates: loop {
+        let head = head_at(disk, end)?;
+        match step_at(head, end, size) {
+            Step::End => return Ok(ended(count, end, size)),
+            Step::Break => return Ok(Found::Refused(end)),
+            Step::On(len) => {
+                count += 1;
+                end += 5 + len as u64;
+            }
         }
     }
 }

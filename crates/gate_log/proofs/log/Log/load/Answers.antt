@@ -1,10 +1,11 @@
-use Rattle.gate_log.proofs.Born.{born_behind, born_same}
+use Rattle.std.proofs.Common.{IfSome, Ok, subst}
+use Rattle.gate_log.specs.Log.{Looks}
+use Rattle.gate_log.proofs.Born.{begun}
 use Rattle.gate_log.proofs.log.Log.load.Goals as goal
 
-pub returns-in-Records-clause-images : goal.returns-in-Records-clause-images
-returns-in-Records-clause-images g c =
-    born_same _ _ _ c.args.birth.now c.read_image.ensures.only_read.images
-
-pub returns-in-Unborn-clause-images : goal.returns-in-Unborn-clause-images
-returns-in-Unborn-clause-images g c =
-    born_behind _ _ _ _ _ c.args.birth.now c.read_image.ensures.only_read c.be_born.ensures.images
+pub returns-in-None-clause-loads : goal.returns-in-None-clause-loads
+returns-in-None-clause-loads g c =
+    begun (g.D.Disk.bytes c.args.disk.now) _ c.args.birth.now c.begin.result c.requires
+    (subst (λ o. IfSome (g.D.Disk.bytes c.args.disk.now) (λ b. Looks b (Ok o)))
+    c.in-None.is c.in_ok-log.ensures.looks) c.begin.ensures.log c.begin.ensures.stands
+    c.begin.ensures.only c.begin.ensures.not_foreign
