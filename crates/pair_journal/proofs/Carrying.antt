@@ -1,15 +1,19 @@
 -- A journal with one entry more, on the disk and in memory.
-use Rattle.std.proofs.Common.{◌≡◌, inl, inr, ℕ, zero, suc, ◌+◌, ◌-◌, ◌<◌, List, [], ◌∷◌}
-use Rattle.std.proofs.Common.{◌++◌, length, slice_index_or, refl, sym, ◌∙◌, ap, subst, arith}
-use Rattle.std.proofs.Common.{Some}
+use Rattle.std.proofs.Common.{◌≡◌, inl, inr, ℕ, zero, suc, ◌+◌, ◌-◌, ◌<◌, ◌≤◌, List, [], ◌∷◌}
+use Rattle.std.proofs.Common.{◌++◌, length, map, slice_index_or, refl, sym, ◌∙◌, ap, subst, arith}
+use Rattle.std.proofs.Common.{length-append, Some, None, is_some, IfSome}
 use Rattle.std.specs.List.{slice_get}
+use Rattle.std.specs.Option.{ForSome}
 use Rattle.std.specs.declared.option.Option.{Option}
 use Rattle.std.proofs.lemmas.List.{map-append}
-use Rattle.outside.specs.Disk.{Only, AreAmong}
+use Rattle.outside.specs.declared.disk.TheConstants.{MAX_DISK}
+use Rattle.outside.specs.Disk.{Only}
 use Rattle.order_meaning.specs.declared.names.Names.{Names}
-use Rattle.gate_log.specs.Records.{Stands}
-use Rattle.gate_log.specs.Commit.{WithOrWithout}
-use Rattle.gate_log.specs.Log.{KeepsList}
+use Rattle.gate_log.specs.Records.{blocks, Stands}
+use Rattle.gate_log.specs.Commit.{CommitsOrNot, Commits, WithOrWithout}
+use Rattle.gate_log.specs.Log.{HasRoom, StandsOver}
+use Rattle.gate_log.specs.State.{LogState}
+use Rattle.gate_log.proofs.Blocks.{length-blocks-push}
 use Rattle.gate_log.proofs.Told.{if_some, at_some}
 use Rattle.pair_entries.specs.declared.entry.Entry.{Entry}
 use Rattle.pair_entries.specs.Payload.{Next, IsEntry, entry_bytes}
@@ -18,6 +22,7 @@ use Rattle.pair_journal.specs.Numbers.{GoesOn, first_numbers, numbers_after}
 use Rattle.pair_journal.specs.Journal.{AreEntries, Spells, JournalOf, Born}
 use Rattle.pair_journal.specs.State.{JournalState}
 use Rattle.pair_journal.specs.Calls.{payloads_of, KeepsJournal}
+use Rattle.pair_journal.specs.Loading.{HasExtent}
 
 pub AreEntries-push : (before : Next) (entries : List Entry) (entry : Entry)
     → AreEntries before entries → IsEntry entry
@@ -36,38 +41,41 @@ pub payloads-push : (names : Names) (entries : List Entry) (entry : Entry) → p
 payloads-push names entries entry = ap (λ (l : List (List ℕ)). birth_bytes names ∷ l)
     (sym (map-append entry_bytes entries (entry ∷ [])))
 
+-- payloads of a journal with one entry more
 pub spells_more : (payloads : List (List ℕ)) (names : Names) (entries : List Entry) (entry : Entry)
-    → Spells payloads names entries → IsEntry entry → GoesOn (numbers_after first_numbers entries)
-    entry → Spells (payloads ++ entry_bytes entry ∷ []) names (entries ++ entry ∷ [])
-spells_more payloads names entries entry spelt is on = record {
-  written = ap (λ (l : List (List ℕ)). l ++ entry_bytes entry ∷ []) spelt.written
+    (payload : List ℕ) → Spells payloads names entries → payload ≡ entry_bytes entry
+    → IsEntry entry → GoesOn (numbers_after first_numbers entries) entry
+    → Spells (payloads ++ payload ∷ []) names (entries ++ entry ∷ [])
+spells_more payloads names entries entry payload spelt written is on = record {
+  written = ap (λ (l : List (List ℕ)). l ++ payload ∷ []) spelt.written
+      ∙ ap (λ (p : List ℕ). payloads_of names entries ++ p ∷ []) written
       ∙ payloads-push names entries entry;
   named = spelt.named;
   sound = AreEntries-push first_numbers entries entry spelt.sound is on;
 }
 
--- bytes of a journal are those of the log under it
-pub stands_log : (bytes : List ℕ) (payloads : List (List ℕ)) (names : Names) (entries : List Entry)
-    → Spells payloads names entries → JournalOf bytes (Born names entries) → Stands bytes payloads
-stands_log bytes payloads names entries spelt journal =
-    subst (Stands bytes) (journal.2.written ∙ sym spelt.written) journal.1
+pub map_length : (entries : List Entry) → length (map entry_bytes entries) ≡ length entries
+map_length [] = refl
+map_length (e ∷ es) = omega (arith, map_length es)
 
-pub keeps_journal : (told : Option (List ℕ)) (before after : List ℕ → Type 0)
-    (payloads : List (List ℕ)) (journal : JournalState) (entry : Entry)
-    → Spells payloads journal.names journal.entries
-    → IsEntry entry → GoesOn (numbers_after first_numbers journal.entries) entry → KeepsList
-    told before after payloads (entry_bytes entry) → KeepsJournal told before after journal entry
-keeps_journal told before after payloads journal entry spelt is on keeps =
-    if_some told _ (λ b e only image left.
-    elim (at_some told (λ bytes. Only bytes before
-    → AreAmong after (WithOrWithout payloads (entry_bytes entry))) b e keeps only image left) [
-      | inl old ↦ inl (payloads, old, spelt)
-      | inr new ↦ inr (
-        payloads ++ entry_bytes entry ∷ [],
-        new,
-        spells_more payloads journal.names journal.entries entry spelt is on,
-      )
-    ])
+-- bytes of a journal are those of the log under it
+pub stands_log : (bytes : List ℕ) (log : LogState) (inside journal : JournalState)
+    → inside ≡ journal → HasExtent log inside.names inside.entries
+    → JournalOf bytes (Born journal.names journal.entries) → StandsOver log bytes
+stands_log bytes log inside journal seen has (payloads, stands, spelt) =
+    let extent = subst (λ (s : JournalState). HasExtent log s.names s.entries) seen has in (
+      payloads,
+      record {
+        stands = stands;
+        number = omega (
+          arith,
+          extent.number,
+          ap length spelt.written,
+          map_length journal.entries,
+        );
+        end = extent.end ∙ ap (λ (l : List (List ℕ)). length (blocks l)) (sym spelt.written);
+      },
+    )
 
 -- ---- the last entry, and each
 
@@ -101,37 +109,83 @@ last_of before (a ∷ es) entry e =
 
 -- ---- what a commit leaves
 
--- in memory, once the log has the payload and the list of entries has the copy
-pub spells_now : (payloads next : List (List ℕ)) (names : Names) (entries after : List Entry)
-    (entry copy : Entry) (payload : List ℕ) → Spells payloads names entries
-    → IsEntry entry → GoesOn (numbers_after first_numbers entries) entry
-    → next ≡ payloads ++ payload ∷ [] → payload ≡ entry_bytes entry
-    → after ≡ entries ++ copy ∷ [] → copy ≡ entry → Spells next names after
-spells_now
-    payloads next names entries after entry copy payload spelt is on longer written pushed same =
-    let ps : next ≡ payloads ++ entry_bytes entry ∷ [] =
-    longer ∙ ap (λ (p : List ℕ). payloads ++ p ∷ []) written in
-    let es : after ≡ entries ++ entry ∷ [] = pushed ∙ ap (λ (x : Entry). entries ++ x ∷ []) same in
-    subst (Spells next names) (sym es) (subst (λ l. Spells l names (entries ++ entry ∷ []))
-    (sym ps) (spells_more payloads names entries entry spelt is on))
+module _ (entry : Entry) (payload : List ℕ) (written : payload ≡ entry_bytes entry)
+    (is : IsEntry entry) where
+  -- in memory, once the log has the payload and the list of entries has the copy
+  pub extent_more : (old new : LogState) (names : Names) (entries after : List Entry)
+      (copy : Entry) → HasExtent old names entries
+      → new.count ≡ old.count + 1 → new.end ≡ old.end + 5 + length payload
+      → after ≡ entries ++ copy ∷ [] → copy ≡ entry → HasExtent new names after
+  extent_more old new names entries after copy has count end pushed same =
+      let es : after ≡ entries ++ entry ∷ [] =
+      pushed ∙ ap (λ (x : Entry). entries ++ x ∷ []) same in
+      subst (HasExtent new names) (sym es) (record {
+        number = omega (arith, count, has.number, length-append entries (entry ∷ []));
+        end = omega (
+          arith,
+          end,
+          has.end,
+          ap length written,
+          length-blocks-push (payloads_of names entries) (entry_bytes entry),
+          ap (λ (l : List (List ℕ)). length (blocks l)) (payloads-push names entries entry),
+        );
+      })
 
--- on the disk, whatever the log answered
-pub keeps_now : (told : Option (List ℕ)) (before after : List ℕ → Type 0) (payloads : List (List ℕ))
-    (payload : List ℕ) (inside journal : JournalState) (entry : Entry) → inside ≡ journal
-    → payload ≡ entry_bytes entry → Spells payloads inside.names inside.entries → IsEntry entry
-    → GoesOn (numbers_after first_numbers journal.entries) entry → KeepsList
-    told before after payloads payload → KeepsJournal told before after journal entry
-keeps_now told before after payloads payload inside journal entry seen written spelt is on keeps =
-    keeps_journal told before after payloads
-    journal entry (subst (λ (s : JournalState). Spells payloads s.names s.entries) seen spelt)
-    is on (subst (KeepsList told before after payloads) written keeps)
+  pub sound_more : (entries after : List Entry) (copy : Entry) → AreEntries first_numbers entries
+      → GoesOn (numbers_after first_numbers entries) entry
+      → after ≡ entries ++ copy ∷ [] → copy ≡ entry → AreEntries first_numbers after
+  sound_more entries after copy sound on pushed same =
+      let es : after ≡ entries ++ entry ∷ [] =
+      pushed ∙ ap (λ (x : Entry). entries ++ x ∷ []) same in
+      subst (AreEntries first_numbers) (sym es)
+      (AreEntries-push first_numbers entries entry sound is on)
 
-pub stands_now : (bytes : List ℕ) (payloads : List (List ℕ)) (inside journal : JournalState)
-    → inside ≡ journal → Spells payloads inside.names inside.entries
-    → JournalOf bytes (Born journal.names journal.entries) → Stands bytes payloads
-stands_now bytes payloads inside journal seen spelt stands =
-    stands_log bytes payloads journal.names journal.entries
-    (subst (λ (s : JournalState). Spells payloads s.names s.entries) seen spelt) stands
+  -- on the disk, whatever the log answered
+  module _ (told : Option (List ℕ)) (journal : JournalState)
+      (on : GoesOn (numbers_after first_numbers journal.entries) entry)
+      (stands : ForSome told (λ b. JournalOf b (Born journal.names journal.entries))) where
+    pub keeps_journal : (before after : List ℕ → Type 0)
+        → CommitsOrNot told before after payload → KeepsJournal told before after journal entry
+    keeps_journal before after commits = if_some told _ (λ b e only image left.
+        let j = stands b e in
+        elim (at_some told (λ x. Only x before → (ps : List (List ℕ)) → Stands x ps
+        → (i : List ℕ) → after i → WithOrWithout ps payload i)
+        b e commits.each only j.0 j.1 image left) [
+          | inl old ↦ inl (j.0, old, j.2)
+          | inr new ↦ inr (
+            j.0 ++ payload ∷ [],
+            new,
+            spells_more j.0 journal.names journal.entries entry payload j.2 written is on,
+          )
+        ])
+
+    pub stands_more : (told1 : Option (List ℕ)) → is_some told1 ≡ is_some told
+        → Commits told told1 payload
+        → ForSome told1 (λ b. JournalOf b (Born journal.names (journal.entries ++ entry ∷ [])))
+    stands_more told1 same commits x e = go told refl
+      where
+        go : (o : Option (List ℕ)) → told ≡ o
+            → JournalOf x (Born journal.names (journal.entries ++ entry ∷ []))
+        go None none = absurd (cc (ap is_some none, ap is_some e, same))
+        go (Some y) some =
+            let j = stands y some in
+            let answer = at_some told (λ z. (qs : List (List ℕ)) → Stands z qs → IfSome told1
+            (λ after. Stands after (qs ++ payload ∷ []))) y some commits.added j.0 j.1 in (
+              j.0 ++ payload ∷ [],
+              at_some told1 (λ z. Stands z (j.0 ++ payload ∷ [])) x e answer,
+              spells_more j.0 journal.names journal.entries entry payload j.2 written is on,
+            )
+
+-- the room that a log has is that of its journal
+module _ (log : LogState) (names : Names) (entries : List Entry) (entry : Entry) (payload : List ℕ)
+    (has : HasExtent log names entries) (written : payload ≡ entry_bytes entry) where
+  pub has_room : log.end + 5 + length payload < MAX_DISK
+      → HasRoom (payloads_of names entries) (entry_bytes entry)
+  has_room room = omega (arith, room, has.end, ap length written)
+
+  pub has_none : MAX_DISK ≤ log.end + 5 + length payload
+      → MAX_DISK ≤ length (blocks (payloads_of names entries)) + 5 + length (entry_bytes entry)
+  has_none full = omega (arith, full, has.end, ap length written)
 
 pub goes_on_inside : (inside journal : JournalState) (entry : Entry)
     → inside ≡ journal → GoesOn (numbers_after first_numbers journal.entries) entry

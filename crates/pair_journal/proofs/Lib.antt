@@ -4,4 +4,5 @@ pub mod Giving
 pub mod Carrying
 pub mod Walking
 pub mod OneReading
+pub mod Reading
 pub mod Loaded

@@ -19,6 +19,7 @@ use Rattle.pair_journal.proofs.Names.{birth_size}
 use Rattle.pair_entries.proofs.Same.{same_entry}
 use Rattle.pair_entries.proofs.Fronts.{entry_short}
 use Rattle.pair_journal.proofs.Carrying.{AreEntries-push, numbers_after-push, payloads-push}
+use Rattle.pair_journal.proofs.Carrying.{map_length}
 
 -- ---- the first payload
 
@@ -61,62 +62,47 @@ no_payloads (p ∷ after) none = absurd (omega (arith, none))
 -- ---- the payloads behind it
 
 -- these entries were read, and the next stands at this place
-pub record Read (payloads : List (List ℕ))
-    (names : Names) (entries : List Entry) (index place : ℕ) (numbers : Next) : Type 0 where
+pub record Walks (names : Names) (entries : List Entry) (index place : ℕ) (numbers : Next) : Type 0
+  where
+    pub stands : place ≡ length (blocks (payloads_of names entries))
+    pub sound : AreEntries first_numbers entries
+    pub reached : numbers ≡ numbers_after first_numbers entries
+    pub count : index ≡ length entries + 1
+
+-- payloads begin with those of a journal
+pub record Begins (payloads : List (List ℕ)) (names : Names) (entries : List Entry) : Type 0 where
   pub after : List (List ℕ)
   pub split : payloads ≡ payloads_of names entries ++ after
-  pub stands : place ≡ length (blocks (payloads_of names entries))
-  pub sound : AreEntries first_numbers entries
-  pub reached : numbers ≡ numbers_after first_numbers entries
-  pub count : index ≡ length entries + 1
 
-pub none_read : (payloads : List (List ℕ)) (names : Names)
-    → IsBorn payloads names → Read payloads names [] 1 160 first_numbers
-none_read payloads names is = record {
-  after = is.after;
-  split = is.split;
-  stands = omega (arith, birth_size names is.named, length-append (birth_bytes names) []);
+pub none_walks : (names : Names) → AreNames names → Walks names [] 1 160 first_numbers
+none_walks names named = record {
+  stands = omega (arith, birth_size names named, length-append (birth_bytes names) []);
   sound = tt;
   reached = refl;
   count = refl;
 }
 
-map_length : (entries : List Entry) → length (map entry_bytes entries) ≡ length entries
-map_length [] = refl
-map_length (e ∷ es) = omega (arith, map_length es)
-
-next_of : (payloads : List (List ℕ)) (names : Names) (entries : List Entry)
-    (index place : ℕ) (numbers : Next) (r : Read payloads names entries index place numbers)
-    → index < length payloads → (p : List ℕ) × (left : List (List ℕ)) × (r.after ≡ p ∷ left)
-next_of payloads names entries index place numbers r within = cases r.after refl
-  where
-    cases : (l : List (List ℕ))
-        → r.after ≡ l → (p : List ℕ) × (left : List (List ℕ)) × (r.after ≡ p ∷ left)
-    cases [] none = absurd (omega (
-      arith,
-      ap length r.split,
-      ap (λ (l : List (List ℕ)). length (payloads_of names entries ++ l)) none,
-      length-append (payloads_of names entries) [],
-      map_length entries,
-      r.count,
-      within,
-    ))
-    cases (p ∷ left) e = (p, left, e)
-
-pub next_at : (payloads : List (List ℕ)) (names : Names) (entries : List Entry)
-    (index place : ℕ) (numbers : Next) → Read payloads names entries index place numbers
-    → index < length payloads → (p : List ℕ) × IsAt payloads place p
-next_at payloads names entries index place numbers r within =
-    let n = next_of payloads names entries index place numbers r within in (
-      n.0,
-      record {
-        before = payloads_of names entries;
-        after = n.1;
-        split = r.split
-            ∙ ap (λ (l : List (List ℕ)). payloads_of names entries ++ l) n.2;
-        place = r.stands;
-      },
-    )
+-- one entry more was read
+pub more_walks : (names : Names) (entries more : List Entry) (index place : ℕ) (numbers : Next)
+    (bytes : List ℕ) (entry : Entry) → Walks names entries index place numbers
+    → Follows numbers bytes entry → more ≡ entries ++ entry ∷ []
+    → Walks names more (index + 1) (place + (5 + length bytes)) entry.next
+more_walks names entries more index place numbers bytes entry walks follows pushed =
+    let on = subst (λ (n : Next). GoesOn n entry) walks.reached follows.goes_on in
+    let longer = length-blocks-push (payloads_of names entries) (entry_bytes entry) in
+    subst (λ (es : List Entry). Walks names es (index + 1) (place + (5 + length bytes)) entry.next)
+    (sym pushed) (record {
+      stands = omega (
+        arith,
+        walks.stands,
+        longer,
+        ap length follows.written,
+        ap (λ (l : List (List ℕ)). length (blocks l)) (payloads-push names entries entry),
+      );
+      sound = AreEntries-push first_numbers entries entry walks.sound follows.sound on;
+      reached = sym (numbers_after-push first_numbers entries entry);
+      count = omega (arith, walks.count, length-append entries (entry ∷ []));
+    })
 
 pub head_of : (x y : List ℕ) (xs ys : List (List ℕ)) → x ∷ xs ≡ y ∷ ys → (x ≡ y) × (xs ≡ ys)
 head_of x y xs ys e = (let h : x ≡ y = cc e in h, ap (drop 1) e)
@@ -135,23 +121,63 @@ same_entries before other (e ∷ es) (f ∷ fs) he hf is =
     list_join e f es
     fs (same_entry e f he.0 hf.0 parts.0) (same_entries e.next f.next es fs he.2 hf.2 parts.1)
 
-module _ (payloads : List (List ℕ)) (names : Names) (entries : List Entry) (index place : ℕ)
-    (numbers : Next) (bytes : List ℕ) (r : Read payloads names entries index place numbers)
-    (within : index < length payloads) (read : (p : List ℕ) → IsAt payloads place p → bytes ≡ p)
-  where
+module _ (names : Names) (entries : List Entry) (index place : ℕ) (numbers : Next)
+    (walks : Walks names entries index place numbers) (payloads : List (List ℕ))
+    (begins : Begins payloads names entries) where
+  next_of : index < length payloads
+      → (p : List ℕ) × (left : List (List ℕ)) × (begins.after ≡ p ∷ left)
+  next_of within = by begins.after refl
+    where
+      by : (l : List (List ℕ))
+          → begins.after ≡ l → (p : List ℕ) × (left : List (List ℕ)) × (begins.after ≡ p ∷ left)
+      by [] none = absurd (omega (
+        arith,
+        ap length begins.split,
+        ap (λ (l : List (List ℕ)). length (payloads_of names entries ++ l)) none,
+        length-append (payloads_of names entries) [],
+        map_length entries,
+        walks.count,
+        within,
+      ))
+      by (p ∷ left) e = (p, left, e)
+
+  pub next_at : index < length payloads → (p : List ℕ) × IsAt payloads place p
+  next_at within =
+      let n = next_of within in (
+        n.0,
+        record {
+          before = payloads_of names entries;
+          after = n.1;
+          split = begins.split
+              ∙ ap (λ (l : List (List ℕ)). payloads_of names entries ++ l) n.2;
+          place = walks.stands;
+        },
+      )
+
+  -- all were read
+  pub all_read : length payloads ≤ index → payloads ≡ payloads_of names entries
+  all_read done = begins.split ∙ ap (λ (l : List (List ℕ)). payloads_of names entries ++ l)
+      (no_payloads begins.after (omega (
+        arith,
+        ap length begins.split,
+        length-append (payloads_of names entries) begins.after,
+        map_length entries,
+        walks.count,
+        done,
+      ))) ∙ append_none (payloads_of names entries)
+    where
+      append_none : (l : List (List ℕ)) → l ++ [] ≡ l
+      append_none [] = refl
+      append_none (x ∷ l) = ap (λ (k : List (List ℕ)). x ∷ k) (append_none l)
+
+  module _ (bytes : List ℕ) (within : index < length payloads)
+      (read : (p : List ℕ) → IsAt payloads place p → bytes ≡ p) where
     split_here : (left : List (List ℕ)) × (payloads ≡ payloads_of names entries ++ bytes ∷ left)
     split_here =
-        let n = next_of payloads names entries index place numbers r within in
-        let split : payloads ≡ payloads_of names entries ++ n.0 ∷ n.1 =
-        r.split ∙ ap (λ (l : List (List ℕ)). payloads_of names entries ++ l) n.2 in
-        let same : bytes ≡ n.0 = read n.0 (record {
-          before =
-              payloads_of names entries;
-          after = n.1;
-          split = split;
-          place = r.stands;
-        }) in
-        (n.1, split ∙ ap (λ (p : List ℕ). payloads_of names entries ++ p ∷ n.1) (sym same))
+        let n = next_of within in
+        let at = next_at within in
+        let same : bytes ≡ n.0 = read n.0 at.1 in
+        (n.1, at.1.split ∙ ap (λ (p : List ℕ). payloads_of names entries ++ p ∷ n.1) (sym same))
 
     -- the payload there is of no entry that goes on
     pub misread : AreNames names
@@ -161,15 +187,15 @@ module _ (payloads : List (List ℕ)) (names : Names) (entries : List Entry) (in
       payload = bytes;
       after = split_here.0;
       split = split_here.1;
-      place = r.stands;
-      sound = inr (names, entries, record { written = refl; named = named; sound = r.sound });
+      place = walks.stands;
+      sound = inr (names, entries, record { written = refl; named = named; sound = walks.sound });
       none = λ other others entry whole sound is on written.
           let parts = head_of (birth_bytes names)
           (birth_bytes other) (map entry_bytes entries) (map entry_bytes others) whole in
           let same =
-          same_entries first_numbers first_numbers entries others r.sound sound parts.1 in
+          same_entries first_numbers first_numbers entries others walks.sound sound parts.1 in
           let at : numbers_after first_numbers others ≡ numbers =
-          ap (numbers_after first_numbers) (sym same) ∙ sym r.reached in
+          ap (numbers_after first_numbers) (sym same) ∙ sym walks.reached in
           none entry (record {
             written =
                 written;
@@ -178,63 +204,25 @@ module _ (payloads : List (List ℕ)) (names : Names) (entries : List Entry) (in
           });
     }
 
-    -- one entry more was read
-    pub more_read : (entry : Entry) (more : List Entry)
-        → Follows numbers bytes entry → more ≡ entries
-        ++ entry ∷ [] → Read payloads names more (index + 1) (place + (5 + length bytes)) entry.next
-    more_read entry more follows pushed =
+    pub more_begins : (entry : Entry) (more : List Entry) → Follows numbers bytes entry
+        → more ≡ entries ++ entry ∷ [] → Begins payloads names more
+    more_begins entry more follows pushed =
         let written : payloads_of names entries
         ++ bytes ∷ [] ≡ payloads_of names (entries ++ entry ∷ []) =
         ap (λ (p : List ℕ). payloads_of names entries ++ p ∷ []) follows.written
-        ∙ payloads-push names entries entry in
-        let on = subst (λ (n : Next). GoesOn n entry) r.reached follows.goes_on in
-        let longer = length-blocks-push (payloads_of names entries) bytes in
-        subst (λ (es : List Entry). Read payloads
-        names es (index + 1) (place + (5 + length bytes)) entry.next) (sym pushed) (record {
+        ∙ payloads-push names entries entry in record {
           after = split_here.0;
-          split = split_here.1 ∙ one_more (payloads_of names entries) bytes split_here.0
-              ∙ ap (λ (l : List (List ℕ)). l ++ split_here.0) written;
-          stands =
-              omega
-              (arith, r.stands, longer, ap (λ (l : List (List ℕ)). length (blocks l)) written);
-          sound = AreEntries-push first_numbers entries entry r.sound follows.sound on;
-          reached = sym (numbers_after-push first_numbers entries entry);
-          count = omega (arith, r.count, length-append entries (entry ∷ []));
-        })
-      where
-        one_more : (l : List (List ℕ)) (p : List ℕ) (left : List (List ℕ))
-            → l ++ p ∷ left ≡ (l ++ p ∷ []) ++ left
-        one_more l p left = sym (append_assoc l (p ∷ []) left)
+          split = split_here.1
+              ∙ sym (append_assoc (payloads_of names entries) (bytes ∷ []) split_here.0)
+              ∙ ap (λ (l : List (List ℕ)). l ++ split_here.0) written
+              ∙ ap (λ (es : List Entry). payloads_of names es ++ split_here.0) (sym pushed);
+        }
 
 -- the payload of an entry is short
 pub fits : (numbers : Next) (bytes : List ℕ) (entry : Entry)
     → Follows numbers bytes entry → length bytes ≤ 65536
 fits numbers bytes entry follows =
     omega (arith, ap length follows.written, entry_short entry follows.sound)
-
--- all were read
-pub all_read : (payloads : List (List ℕ)) (names : Names) (entries : List Entry) (index place : ℕ)
-    (numbers : Next) → Read payloads names entries index place numbers → length payloads ≤ index
-    → (drop 1 payloads ≡ map entry_bytes entries) × AreEntries first_numbers entries
-all_read payloads names entries index place numbers r done = (
-  ap (drop 1) r.split ∙ ap (λ (l : List (List ℕ)). map entry_bytes entries ++ l) none
-      ∙ append_none (map entry_bytes entries),
-  r.sound,
-)
-  where
-    none : r.after ≡ []
-    none = no_payloads r.after (omega (
-      arith,
-      ap length r.split,
-      length-append (payloads_of names entries) r.after,
-      map_length entries,
-      r.count,
-      done,
-    ))
-
-    append_none : (l : List (List ℕ)) → l ++ [] ≡ l
-    append_none [] = refl
-    append_none (x ∷ l) = ap (λ (k : List (List ℕ)). x ∷ k) (append_none l)
 
 -- ---- the disk, while it is read
 
@@ -250,7 +238,3 @@ only_read_on a b c i j k one two = record {
       λ x here. one.images x (two.images x here);
   kept = λ x here. two.kept x (one.kept x here);
 }
-
-pub stands_still : (a b : Option (List ℕ)) (i j : List ℕ → Type 0) (payloads : List (List ℕ))
-    → OnlyRead a b i j → ForSome a (λ x. Stands x payloads) → ForSome b (λ x. Stands x payloads)
-stands_still a b i j payloads one stands x e = stands x (sym one.same ∙ e)

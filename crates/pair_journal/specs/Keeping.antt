@@ -2,7 +2,10 @@
 use Rattle.std.specs.Prelude.{◌-◌, min}
 use Rattle.std.specs.Vec.{vec_len, vec_capacity}
 use Rattle.pair_journal.specs.declared.journal.Journal.TheInside.{Inside}
-use Rattle.pair_journal.specs.Journal.{Spells}
+use Rattle.pair_journal.specs.Birth.{AreNames}
+use Rattle.pair_journal.specs.Numbers.{first_numbers}
+use Rattle.pair_journal.specs.Journal.{AreEntries}
+use Rattle.pair_journal.specs.Loading.{HasExtent}
 use Rattle.pair_journal.specs.State.{JournalState}
 
 abbrev pub state_of : Inside → JournalState
@@ -13,5 +16,7 @@ state_of journal = record {
   spare = min journal.log.spare (vec_capacity journal.entries - vec_len journal.entries);
 }
 
-abbrev pub IsKept : Inside → Type 0
-IsKept journal = Spells journal.log.payloads journal.names journal.entries.items
+pub record IsKept (journal : Inside) : Type 0 where
+  pub named : AreNames journal.names
+  pub sound : AreEntries first_numbers journal.entries.items
+  pub extent : HasExtent journal.log journal.names journal.entries.items

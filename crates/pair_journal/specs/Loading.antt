@@ -1,15 +1,18 @@
 -- Inside: what reading a log's payloads answers.
-use Rattle.std.specs.Prelude.{◌≡◌, ◌≢◌, ◌⊎◌, ℕ, List, [], ◌∷◌, IfSome, Result, Ok, Err}
+use Rattle.std.specs.Prelude.{◌≡◌, ◌≢◌, ℕ, ◌+◌, List, ◌∷◌, length, IfSome, Result, Ok, Err}
 use Rattle.std.specs.declared.option.Option.{Option}
 use Rattle.order_meaning.specs.declared.names.Names.{Names}
-use Rattle.gate_log.specs.Records.{Stands}
+use Rattle.gate_log.specs.Records.{blocks, Stands}
+use Rattle.gate_log.specs.Log.{HasNoPayload}
+use Rattle.gate_log.specs.State.{LogState}
 use Rattle.pair_journal.specs.declared.error.JournalError.{JournalError}
 use Rattle.pair_journal.specs.declared.error.JournalError.TheVariants as errors
 use Rattle.pair_entries.specs.declared.entry.Entry.{Entry}
 use Rattle.pair_entries.specs.Payload.{Next, IsEntry, entry_bytes}
 use Rattle.pair_journal.specs.Numbers.{GoesOn}
 use Rattle.pair_journal.specs.Birth.{birth_bytes, AreNames}
-use Rattle.pair_journal.specs.Journal.{Misspells}
+use Rattle.pair_journal.specs.Journal.{JournalOf, Born}
+use Rattle.pair_journal.specs.Calls.{Looks, payloads_of}
 use Rattle.pair_journal.specs.State.{JournalState}
 
 -- payloads of which the first names these
@@ -18,24 +21,36 @@ pub record IsBorn (payloads : List (List ℕ)) (names : Names) : Type 0 where
   pub after : List (List ℕ)
   pub split : payloads ≡ birth_bytes names ∷ after
 
--- payloads are refused at a place, or could not be read
-abbrev pub Misreads : List (List ℕ) → JournalError → Type 0
-Misreads payloads (errors.Refused at) = Misspells payloads at
-Misreads payloads (errors.NamesDiffer kept given) = ⊥
-Misreads payloads errors.Full = ⊥
-Misreads payloads other = Unit {0}
-
 -- this payload is that of an entry whose numbers go on
 pub record Follows (numbers : Next) (payload : List ℕ) (entry : Entry) : Type 0 where
   pub written : payload ≡ entry_bytes entry
   pub sound : IsEntry entry
   pub goes_on : GoesOn numbers entry
 
--- payloads of a log, opened on a disk that told one thing and now tells another
-abbrev pub Opens : Names → Option (List ℕ) → List (List ℕ) → Option (List ℕ) → Type 0
-Opens names told payloads now = IfSome told (λ bytes.
-    (Stands bytes payloads ⊎ (Stands bytes [] × (payloads ≡ birth_bytes names ∷ [])))
-    × IfSome now (λ after. Stands after payloads))
+-- a read at a place gave up: no payload stands there, or it could not be read
+abbrev pub Unread : Option (List ℕ) → ℕ → JournalError → Type 0
+Unread told place (errors.Refused at) = HasNoPayload told place
+Unread told place (errors.NamesDiffer kept given) = ⊥
+Unread told place errors.Full = ⊥
+Unread told place other = Unit {0}
+
+-- the bytes of a disk, where it tells them, are refused, or could not be read
+abbrev pub IsMisread : Option (List ℕ) → JournalError → Type 0
+IsMisread told e = IfSome told (λ bytes. Looks bytes (Err e))
+
+-- the list that a disk tells begins with a record of these names
+abbrev pub TellsNames : Option (List ℕ) → Names → Type 0
+TellsNames told names = IfSome told (λ bytes. (payloads : List (List ℕ))
+    → Stands bytes payloads → IsBorn payloads names)
+
+-- the bytes of a disk, where it tells them, are this journal
+abbrev pub Tells : Option (List ℕ) → Names → List Entry → Type 0
+Tells told names entries = IfSome told (λ bytes. JournalOf bytes (Born names entries))
+
+-- a log has the number and the end of the records of a journal
+pub record HasExtent (log : LogState) (names : Names) (entries : List Entry) : Type 0 where
+  pub number : log.count ≡ length entries + 1
+  pub end : log.end ≡ length (blocks (payloads_of names entries))
 
 -- the journal that was read, where it has these names
 abbrev pub HasNames : Names → JournalState → Result JournalState JournalError → Type 0

@@ -1,27 +1,28 @@
 //! A journal: its names and its entries, and the calls that read and lengthen it.
 
-ghost use Rattle.std.specs.Prelude.{◌≡◌, ◌⊎◌, ◌≤◌, ◌<◌, ℕ, length, false, Some, Err, IfOk, IfErr};
+ghost use Rattle.std.specs.Prelude.{◌≡◌, ◌⊎◌, ◌≤◌, ◌<◌, ℕ, [], length, false, Some, Err, IfOk};
+ghost use Rattle.std.specs.Prelude.{IfErr};
 ghost use Rattle.std.specs.Prelude.{IfSome, OnOk, OnErr, IsOkUnless, is_some};
 ghost use Rattle.std.specs.Option.{ForSome};
 ghost use Rattle.std.specs.List.{slice_get};
 ghost use Rattle.outside.specs.Disk.{HasOneImage};
 ghost use Rattle.order_meaning.specs.declared.names.Names.{Names};
-ghost use Rattle.gate_log.specs.Records.{Stands};
-ghost use Rattle.gate_log.specs.Log.{OnlyReads};
+ghost use Rattle.gate_log.specs.Records.{IsUnborn};
+ghost use Rattle.gate_log.specs.Log.{OnlyReads, StandsOver};
 ghost use Rattle.pair_journal.specs.declared.error.JournalError.TheVariants as errors;
 ghost use Rattle.pair_entries.specs.Payload.{AreNext, IsEntry};
 ghost use Rattle.pair_journal.specs.Birth.{AreNames};
 ghost use Rattle.pair_journal.specs.Numbers.{GoesOn, first_numbers, numbers_after, next_out};
-ghost use Rattle.pair_journal.specs.Journal.{JournalOf, Unborn, Born, Spells, AreEntries};
+ghost use Rattle.pair_journal.specs.Journal.{JournalOf, Unborn, Born, AreEntries};
 ghost use Rattle.pair_journal.specs.Given.{given, source_of};
 ghost use Rattle.pair_journal.specs.OutBuf.{IsGivenAs, IsOutAt};
 ghost use Rattle.pair_journal.specs.Calls.{HasDiskCause, ReadsOnly, Looks, Loads, BornOrNot};
 ghost use Rattle.pair_journal.specs.Calls.{Commits, KeepsJournal};
-ghost use Rattle.pair_journal.specs.Loading.{HasNames, Misreads};
+ghost use Rattle.pair_journal.specs.Loading.{HasNames, Tells, IsMisread};
 
-use crate::birth::same_names;
+use crate::birth::{are_names, same_names, write_birth};
 use crate::given::{given, source_in};
-use crate::loading::{open_log, read_entries, read_names};
+use crate::loading::{read_entries, read_names};
 use crate::numbers::FIRST;
 use crate::{JournalError, OutBuf};
 use gate_log::Log;
@@ -31,8 +32,8 @@ use pair_entries::{Entry, Prepared};
 use std::alloc::Global;
 use std::marker::Model;
 
-/// The names of two sessions and a list of entries, which stand on a disk and are kept in memory
-/// too.
+/// The names of two sessions and a list of entries, which stand on a disk. The entries are kept in
+/// memory too.
 #[derive(Debug, Drop)]
 pub struct Journal {
     log: Log,
@@ -54,19 +55,65 @@ impl Model for Journal {
 impl Journal {
     /// The journal of a log.
     fn of_log<D: Disk>(alloc: Global, disk: &mut D, log: Log) -> Result<Journal, JournalError>
-        requires stands { ForSome (D.bytes disk.old) (λ b. Stands b log.payloads) }
-        ensures ok { IfOk result (λ journal. Spells log.payloads journal.names journal.entries) }
+        requires stands { ForSome (D.bytes disk.old) (StandsOver log) }
+        ensures ok { IfOk result (λ journal.
+            Tells (D.bytes disk.old) journal.names journal.entries) }
         ensures whole { IfOk result (λ journal. journal.broken ≡ log.broken) }
-        ensures err { IfErr result (Misreads log.payloads) }
+        ensures err { IfErr result (IsMisread (D.bytes disk.old)) }
         ensures only_read { OnlyReads D.bytes D.image disk.old disk.new }
         ensures cause { HasDiskCause (D.faults disk.old) (D.faults disk.new) result }
     {
         let names = read_names(alloc, &log, disk)?;
-        let entries = read_entries(alloc, &log, disk)?;
+        let entries = read_entries(alloc, &log, &names, disk)?;
         Ok(Journal {
             log,
             names,
             entries,
+        })
+    }
+
+    /// The journal of a log, where it has these names. It only reads.
+    fn of_names<D: Disk>(
+        alloc: Global,
+        disk: &mut D,
+        log: Log,
+        names: &Names,
+    ) -> Result<Journal, JournalError>
+        requires stands { ForSome (D.bytes disk.old) (StandsOver log) }
+        ensures loads { IfSome (D.bytes disk.old) (λ b.
+            Loads names.now b result (D.bytes disk.new)) }
+        ensures stands { IfOk result (λ journal. ForSome (D.bytes disk.new) (λ b.
+            JournalOf b (Born journal.names journal.entries))) }
+        ensures named { IfOk result (λ journal. journal.names ≡ names.now) }
+        ensures whole { IfOk result (λ journal. journal.broken ≡ log.broken) }
+        ensures only_read { OnlyReads D.bytes D.image disk.old disk.new }
+        ensures cause { HasDiskCause (D.faults disk.old) (D.faults disk.new) result }
+    {
+        let journal = Journal::of_log(alloc, disk, log)?;
+        journal.if_named(names)
+    }
+
+    /// A journal of these names without entries, on a disk that is unborn.
+    fn begin<D: Disk>(alloc: Global, disk: &mut D, names: &Names) -> Result<Journal, JournalError>
+        requires unborn { ForSome (D.bytes disk.old) IsUnborn }
+        ensures ok { IfOk result (λ journal. (journal.names ≡ names.now)
+            × (journal.entries ≡ []) × (journal.broken ≡ false)) }
+        ensures stands { OnOk result (ForSome (D.bytes disk.new) (λ b.
+            JournalOf b (Born names.now []))) }
+        ensures images { BornOrNot (D.bytes disk.old)
+            (D.image disk.old) (D.image disk.new) names.now }
+        ensures durable { OnOk result (HasOneImage (D.bytes disk.new) (D.image disk.new)) }
+        ensures told { is_some (D.bytes disk.new) ≡ is_some (D.bytes disk.old) }
+        ensures cause { HasDiskCause (D.faults disk.old) (D.faults disk.new) result }
+        ensures only { ReadsOnly result }
+    {
+        are_names(names);
+        let birth = write_birth(alloc, names)?;
+        let log = Log::begin(alloc, disk, &birth)?;
+        Ok(Journal {
+            log,
+            names: *names,
+            entries: Vec::new(alloc),
         })
     }
 
@@ -118,9 +165,10 @@ impl Journal {
         ensures told { is_some (D.bytes disk.new) ≡ is_some (D.bytes disk.old) }
         ensures cause { HasDiskCause (D.faults disk.old) (D.faults disk.new) result }
     {
-        let log = open_log(alloc, disk, names)?;
-        let journal = Journal::of_log(alloc, disk, log)?;
-        journal.if_named(names)
+        match Log::look(alloc, disk)? {
+            Some(log) => Journal::of_names(alloc, disk, log, names),
+            None => Journal::begin(alloc, disk, names),
+        }
     }
 
     /// The journal, where it has these names.

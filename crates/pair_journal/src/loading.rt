@@ -1,25 +1,20 @@
 //! The payloads of a log as the names and the entries of a journal.
 
-ghost use Rattle.std.specs.Prelude.{◌≡◌, ◌≢◌, ◌⊎◌, ◌<◌, ℕ, List, [], ◌∷◌, map, drop, MatchOption};
-ghost use Rattle.std.specs.Prelude.{IfOk, IfErr, IfSome, OnOk, Err, false, is_some};
+ghost use Rattle.std.specs.Prelude.{◌≡◌, ◌≤◌, length, MatchOption, IfOk, IfErr, OnOk};
 ghost use Rattle.std.specs.Option.{ForSome};
-ghost use Rattle.order_meaning.specs.declared.names.Names.{Names};
-ghost use Rattle.gate_log.specs.Records.{Stands};
-ghost use Rattle.gate_log.specs.Log.{OnlyReads, IsAt, BornOrNot};
-ghost use Rattle.outside.specs.Disk.{HasOneImage};
-ghost use Rattle.pair_journal.specs.Birth.{AreNames, birth_bytes};
+ghost use Rattle.gate_log.specs.Log.{OnlyReads, StandsOver, ReadsPayload};
+ghost use Rattle.pair_journal.specs.Birth.{AreNames};
 ghost use Rattle.pair_entries.specs.declared.entry.Entry.{Entry};
-ghost use Rattle.pair_journal.specs.declared.error.JournalError.TheVariants as errors;
-ghost use Rattle.pair_entries.specs.Payload.{entry_bytes};
 ghost use Rattle.pair_journal.specs.Numbers.{first_numbers};
-ghost use Rattle.pair_journal.specs.Journal.{AreEntries, JournalOf, Unborn};
-ghost use Rattle.pair_journal.specs.Calls.{HasDiskCause, ReadsOnly, Loads};
-ghost use Rattle.pair_journal.specs.Loading.{IsBorn, Misreads, Follows, Opens};
+ghost use Rattle.pair_journal.specs.Journal.{AreEntries};
+ghost use Rattle.pair_journal.specs.Calls.{HasDiskCause};
+ghost use Rattle.pair_journal.specs.Loading.{Follows, Unread, IsMisread, TellsNames, Tells};
+ghost use Rattle.pair_journal.specs.Loading.{HasExtent};
 
 use crate::JournalError;
-use crate::birth::{are_names, read_birth, write_birth};
+use crate::birth::read_birth;
 use crate::numbers::{FIRST, Next, goes_on};
-use gate_log::{BIRTH_LEN, Log};
+use gate_log::{BIRTH_LEN, Log, MAX_PAYLOAD};
 use order_meaning::Names;
 use outside::{Disk, MAX_DISK};
 use pair_entries::{Entry, read_entry};
@@ -32,50 +27,15 @@ fn read_record<D: Disk>(
     place: u64,
     out: &mut Vec<u8>,
 ) -> Result<(), JournalError>
-    requires place { (payload : List ℕ) × IsAt log.now.payloads place payload }
-    requires stands { ForSome (D.bytes disk.old) (λ b. Stands b log.now.payloads) }
-    ensures payload { OnOk result ((payload : List ℕ) → IsAt log.now.payloads place payload →
-        out.new.items ≡ payload) }
-    ensures bound { place < MAX_DISK }
+    requires { place ≤ MAX_DISK }
+    ensures payload { OnOk result (ReadsPayload (D.bytes disk.old) place out.new.items) }
+    ensures sized { length out.new.items ≤ MAX_PAYLOAD }
+    ensures err { IfErr result (Unread (D.bytes disk.old) place) }
     ensures only_read { OnlyReads D.bytes D.image disk.old disk.new }
     ensures cause { HasDiskCause (D.faults disk.old) (D.faults disk.new) result }
-    ensures only { ReadsOnly result }
 {
     log.read(disk, place, out)?;
     Ok(())
-}
-
-/// The log on a disk. An unborn disk gets the birth record of these names first.
-pub(crate) fn open_log<D: Disk>(
-    alloc: Global,
-    disk: &mut D,
-    names: &Names,
-) -> Result<Log, JournalError>
-    ensures named { AreNames names.now }
-    ensures ok { IfOk result (λ log.
-        Opens names.now (D.bytes disk.old) log.payloads (D.bytes disk.new)) }
-    ensures err { IfErr result (λ e. IfSome (D.bytes disk.old) (λ b.
-        Loads names.now b (Err e) (D.bytes disk.new))) }
-    ensures stands { IfOk result (λ log. ForSome (D.bytes disk.new) (λ b. Stands b log.payloads)) }
-    ensures images { BornOrNot (D.bytes disk.old) (D.image disk.old) (D.image disk.new)
-        (birth_bytes names.now) }
-    ensures durable { OnOk result (HasOneImage (D.bytes disk.old) (D.image disk.old) →
-        HasOneImage (D.bytes disk.new) (D.image disk.new)) }
-    ensures whole { IfOk result (λ log. log.broken ≡ false) }
-    ensures only_unborn_is_written { IfSome (D.bytes disk.old) (λ b.
-        JournalOf b Unborn ⊎ OnlyReads D.bytes D.image disk.old disk.new) }
-    ensures refused_only_reads { (at : ℕ) → result ≡ Err (errors.Refused at) →
-        OnlyReads D.bytes D.image disk.old disk.new }
-    ensures older_only_reads { IfOk result (λ log. log.payloads ≢ birth_bytes names.now ∷ [] →
-        OnlyReads D.bytes D.image disk.old disk.new) }
-    ensures names_alike { (kept given : Names) → result ≡ Err (errors.NamesDiffer kept given) → ⊥ }
-    ensures told { is_some (D.bytes disk.new) ≡ is_some (D.bytes disk.old) }
-    ensures cause { HasDiskCause (D.faults disk.old) (D.faults disk.new) result }
-{
-    are_names(names);
-    let birth = write_birth(alloc, names)?;
-    let log = Log::load(alloc, disk, &birth)?;
-    Ok(log)
 }
 
 /// The names in the birth record of a log.
@@ -84,9 +44,10 @@ pub(crate) fn read_names<D: Disk>(
     log: &Log,
     disk: &mut D,
 ) -> Result<Names, JournalError>
-    requires stands { ForSome (D.bytes disk.old) (λ b. Stands b log.now.payloads) }
-    ensures ok { IfOk result (IsBorn log.now.payloads) }
-    ensures err { IfErr result (Misreads log.now.payloads) }
+    requires stands { ForSome (D.bytes disk.old) (StandsOver log.now) }
+    ensures named { IfOk result AreNames }
+    ensures ok { IfOk result (TellsNames (D.bytes disk.old)) }
+    ensures err { IfErr result (IsMisread (D.bytes disk.old)) }
     ensures only_read { OnlyReads D.bytes D.image disk.old disk.new }
     ensures cause { HasDiskCause (D.faults disk.old) (D.faults disk.new) result }
 {
@@ -122,13 +83,16 @@ pub(crate) fn entry_after(
 pub(crate) fn read_entries<D: Disk>(
     alloc: Global,
     log: &Log,
+    names: &Names,
     disk: &mut D,
 ) -> Result<Vec<Entry>, JournalError>
-    requires born { (names : Names) × IsBorn log.now.payloads names }
-    requires stands { ForSome (D.bytes disk.old) (λ b. Stands b log.now.payloads) }
-    ensures ok { IfOk result (λ v. (drop 1 log.now.payloads ≡ map entry_bytes v.items)
-        × AreEntries first_numbers v.items) }
-    ensures err { IfErr result (Misreads log.now.payloads) }
+    requires named { AreNames names.now }
+    requires born { TellsNames (D.bytes disk.old) names.now }
+    requires stands { ForSome (D.bytes disk.old) (StandsOver log.now) }
+    ensures ok { IfOk result (λ v. Tells (D.bytes disk.old) names.now v.items) }
+    ensures sound { IfOk result (λ v. AreEntries first_numbers v.items) }
+    ensures extent { IfOk result (λ v. HasExtent log.now names.now v.items) }
+    ensures err { IfErr result (IsMisread (D.bytes disk.old)) }
     ensures only_read { OnlyReads D.bytes D.image disk.old disk.new }
     ensures cause { HasDiskCause (D.faults disk.old) (D.faults disk.new) result }
 {
@@ -137,6 +101,9 @@ pub(crate) fn read_entries<D: Disk>(
     let mut numbers = FIRST;
     let mut place = 5 + BIRTH_LEN as u64;
     for index in 1..log.count() {
+        if place >= log.end() {
+            return Err(JournalError::Refused { at: place });
+        }
         read_record(log, disk, place, &mut payload)?;
         let Some(entry) = entry_after(alloc, numbers, &payload)? else {
             return Err(JournalError::Refused { at: place });
@@ -144,6 +111,10 @@ pub(crate) fn read_entries<D: Disk>(
         numbers = entry.next;
         place += 5 + payload.len() as u64;
         entries.push(entry)?;
+    }
+    // Over a disk that tells its bytes it is the end.
+    if place != log.end() {
+        return Err(JournalError::Refused { at: place });
     }
     Ok(entries)
 }
