@@ -1,7 +1,7 @@
 -- What a load answers: of a disk that is only read, and of an unborn one.
 use Rattle.std.proofs.Common.{◌≡◌, inl, inr, ◌⊎◌, ℕ, List, [], ◌∷◌, map, refl, sym, ◌∙◌, ap}
-use Rattle.std.proofs.Common.{subst, Some, IfSome, IfOk, IfErr, Ok, Err, arith, length-append}
-use Rattle.std.specs.Prelude.{Result}
+use Rattle.std.proofs.Common.{subst, Some, IfSome, IfOk, Ok, Err, arith, length-append}
+use Rattle.std.specs.Prelude.{Result, OnOk}
 use Rattle.std.specs.Option.{ForSome}
 use Rattle.std.specs.declared.option.Option.{Option}
 use Rattle.outside.specs.Disk.{Only, AreAmong}
@@ -19,7 +19,7 @@ use Rattle.pair_entries.specs.Payload.{entry_bytes}
 use Rattle.pair_journal.specs.Birth.{birth_bytes, AreNames}
 use Rattle.pair_journal.specs.Journal.{JournalOf, Unborn, Born, Refused}
 use Rattle.pair_journal.specs.State.{JournalState}
-use Rattle.pair_journal.specs.Calls.{Looks, Loads, BornOrNot, ReadsOnly, journal_error}
+use Rattle.pair_journal.specs.Calls.{Loads, BornOrNot, ReadsOnly, journal_error}
 use Rattle.pair_journal.specs.Loading.{IsMisread, Tells, HasNames, HasExtent}
 use Rattle.pair_journal.proofs.Names.{birth_size}
 
@@ -125,6 +125,23 @@ begun names told read now (Err (errors.NamesDiffer kept given)) unborn is only =
 begun names told read now (Err errors.Full) unborn is only = absurd only
 begun names told read now (Err errors.DiskFault) unborn is only = if_some told _ (λ b e. tt)
 begun names told read now (Err errors.NoMemory) unborn is only = if_some told _ (λ b e. tt)
+
+-- what a birth answers, with what stands then
+pub begun_ok : (P Q R : JournalState → Type 0) (S : Type 0)
+    (answer : Result JournalState JournalError)
+    → IfOk answer (λ j. P j × Q j × R j) → OnOk answer S → IfOk answer (λ j. P j × Q j × S)
+begun_ok P Q R S (Ok journal) is stands = (is.0, is.1, stands)
+begun_ok P Q R S (Err error) is stands = tt
+
+pub begun_stands : (names : Names) (now : Option (List ℕ)) (R : JournalState → Type 0)
+    (answer : Result JournalState JournalError)
+    → IfOk answer (λ j. (j.names ≡ names) × (j.entries ≡ []) × R j)
+    → OnOk answer (ForSome now (λ b. JournalOf b (Born names [])))
+    → IfOk answer (λ j. ForSome now (λ b. JournalOf b (Born j.names j.entries)))
+begun_stands names now R (Ok journal) is stands = λ x e.
+    subst (λ (n : Names). JournalOf x (Born n journal.entries)) (sym is.0)
+    (subst (λ (es : List Entry). JournalOf x (Born names es)) (sym is.1) (stands x e))
+begun_stands names now R (Err error) is stands = tt
 
 -- ---- images
 

@@ -1,11 +1,12 @@
 -- What a walk over the records of a log, on a disk that may tell its bytes, says of a journal.
-use Rattle.std.proofs.Common.{◌≡◌, inr, ℕ, ◌+◌, ◌<◌, ◌≤◌, List, ◌∷◌, ◌++◌, length, [], refl, sym}
-use Rattle.std.proofs.Common.{◌∙◌, ap, subst, arith, length-append, IfSome, Some}
+use Rattle.std.proofs.Common.{◌≡◌, inr, ℕ, ◌<◌, ◌≤◌, List, ◌∷◌, ◌++◌, length, [], sym}
+use Rattle.std.proofs.Common.{◌∙◌, ap, subst, arith, length-append, IfSome, IfErr, Some, Ok, Err}
+use Rattle.std.specs.Prelude.{Result, IsErrAnd}
 use Rattle.std.specs.Option.{ForSome}
 use Rattle.std.specs.declared.option.Option.{Option}
 use Rattle.order_meaning.specs.declared.names.Names.{Names}
 use Rattle.gate_log.specs.Records.{blocks, Stands}
-use Rattle.gate_log.specs.Log.{IsAt, StandsOver, ReadsPayload, HasNoPayload}
+use Rattle.gate_log.specs.Log.{IsAt, StandsOver, ReadsPayload}
 use Rattle.gate_log.specs.State.{LogState}
 use Rattle.gate_log.proofs.Blocks.{Stands-unique, blocks-append}
 use Rattle.gate_log.proofs.Told.{if_some, at_some}
@@ -19,6 +20,13 @@ use Rattle.pair_journal.specs.Loading.{IsBorn, Follows, Unread, IsMisread, Tells
 use Rattle.pair_journal.specs.Loading.{HasExtent}
 use Rattle.pair_journal.proofs.Walking.{Walks, Begins, next_at, all_read, misread, more_begins}
 use Rattle.pair_journal.proofs.Walking.{first_at, born, not_born}
+
+-- an error that a call handed on
+pub err_misread : {T : Type 0} (r : Result T JournalError) (error : JournalError)
+    (told : Option (List ℕ)) → IsErrAnd r (λ e. e ≡ error) → IsMisread told error
+    → IfErr r (IsMisread told)
+err_misread (Ok value) error told is misread = tt
+err_misread (Err e) error told is misread = subst (IsMisread told) (sym is) misread
 
 -- a record ends behind its place
 at_within : (payloads : List (List ℕ)) (place : ℕ) (p : List ℕ)

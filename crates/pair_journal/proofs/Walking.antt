@@ -4,8 +4,7 @@ use Rattle.std.proofs.Common.{map, length, drop, refl, sym, ◌∙◌, ap, subst
 use Rattle.std.proofs.Common.{length-append}
 use Rattle.order_meaning.specs.declared.names.Names.{Names}
 use Rattle.std.specs.declared.option.Option.{Option}
-use Rattle.std.specs.Option.{ForSome}
-use Rattle.gate_log.specs.Records.{blocks, Stands}
+use Rattle.gate_log.specs.Records.{blocks}
 use Rattle.gate_log.specs.Log.{IsAt, OnlyRead}
 use Rattle.gate_log.proofs.Blocks.{length-blocks-push}
 use Rattle.pair_entries.specs.declared.entry.Entry.{Entry}
@@ -173,6 +172,7 @@ module _ (names : Names) (entries : List Entry) (index place : ℕ) (numbers : N
   module _ (bytes : List ℕ) (within : index < length payloads)
       (read : (p : List ℕ) → IsAt payloads place p → bytes ≡ p) where
     split_here : (left : List (List ℕ)) × (payloads ≡ payloads_of names entries ++ bytes ∷ left)
+    unfolding next_of next_at
     split_here =
         let n = next_of within in
         let at = next_at within in

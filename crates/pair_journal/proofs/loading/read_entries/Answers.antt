@@ -6,6 +6,8 @@ use Rattle.pair_entries.proofs.Fronts.{at_none, at_some}
 use Rattle.pair_journal.proofs.Walking.{Walks, none_walks, more_walks, only_read_still}
 use Rattle.pair_journal.proofs.Walking.{only_read_on}
 use Rattle.pair_journal.proofs.Reading.{TellsFront, none_told, entry_misread, more_told}
+use Rattle.pair_journal.proofs.Reading.{entry_unread, not_past, not_short, all_told, err_misread}
+use Rattle.pair_journal.specs.Loading.{Unread}
 use Rattle.pair_journal.proofs.loading.read_entries.Goals as goal
 
 pub loop-index-init : goal.loop-index-init
@@ -53,3 +55,40 @@ loop-index-preserved g c =
           only_read_on _ _ _ _ _ _ i.only_read c.read_record.ensures.only_read;
       still = c.in_ok-read_record.ensures.cause ∙ i.still;
     }
+
+pub returns-then-place-end-clause-err : goal.returns-then-place-end-clause-err
+returns-then-place-end-clause-err g c =
+    let i = c.loop-index.invariant in
+    not_past (g.D.Disk.bytes c.args.disk.now) c.args.log.now c.requires.stands c.args.names.now
+    c.requires.named _ _ _ _ i.walks i.front (omega arith)
+    (omega (arith, c.end.ensures.place, c.if-place-end.true))
+
+pub returns-in_err-read_record-clause-err : goal.returns-in_err-read_record-clause-err
+returns-in_err-read_record-clause-err g c =
+    let i = c.loop-index.invariant in
+    let error = c.in_err-read_record.field-0.0 in
+    err_misread c.from_residual.result error _ c.from_residual.ensures.1
+    (entry_unread (g.D.Disk.bytes c.args.disk.now) c.args.log.now c.requires.stands
+    c.args.names.now c.requires.named _ _ _ _ i.walks i.front (omega arith) error
+    (subst (λ t. Unread t c.loop-index.place error) i.only_read.same
+    c.in_err-read_record.ensures.err))
+
+pub returns-then-place-end-2-clause-err : goal.returns-then-place-end-2-clause-err
+returns-then-place-end-2-clause-err g c =
+    let i = c.loop-index.invariant in
+    not_short (g.D.Disk.bytes c.args.disk.now) c.args.log.now c.requires.stands c.args.names.now
+    c.requires.named _ _ _ _ i.walks i.front (omega (
+      arith,
+      c.count-index-end.ensures.count,
+      c.loop-index-test.false,
+    )) (λ e. c.if-place-end-2.true (e ∙ sym c.end-2.ensures.place))
+
+pub returns-clause-ok : goal.returns-clause-ok
+returns-clause-ok g c =
+    let i = c.loop-index.invariant in
+    all_told (g.D.Disk.bytes c.args.disk.now) c.args.log.now c.requires.stands c.args.names.now
+    c.requires.named _ _ _ _ i.walks i.front (omega (
+      arith,
+      c.count-index-end.ensures.count,
+      c.loop-index-test.false,
+    ))
