@@ -10,7 +10,7 @@ use pair_journal::JournalError;
 use std::alloc::AllocError;
 
 /// How a life ends.
-#[derive(Clone, Copy, Debug, PartialEq, Eq)]
+#[derive(Clone, Copy)]
 pub enum LifeEnd {
     /// After all its rounds.
     Done,

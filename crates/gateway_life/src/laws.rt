@@ -10,7 +10,7 @@ use life_laws::{Answering, laws as lives};
 use message_answers::laws::answers_are_given_out;
 
 /// What answers the messages of a life: the answer of message_answers.
-#[derive(Clone, Copy, Debug)]
+#[derive(Clone, Copy)]
 pub struct Messages;
 
 impl Answering for Messages {

@@ -142,7 +142,7 @@ fn run_in_memory<R: System + Files + Copy + Drop, W: Write + Copy + Drop, I: Sou
         }
         None => run_alone(&rt, options.words, input, out, taps, &mut disk),
     };
-    if disk.refused() && status == Status::DiskFault {
+    if disk.refused() && matches!(status, Status::DiskFault) {
         return Status::NoMemory;
     }
     status
@@ -225,7 +225,7 @@ fn run_with_journal<
         }
         None => run_alone(&rt, options.words, input, out, taps, &mut disk),
     };
-    if status == Status::DiskFault {
+    if matches!(status, Status::DiskFault) {
         if let Ok(Some(reason)) = disk.refusal(alloc) {
             tell(lines, reason);
         }

@@ -18,7 +18,7 @@ pub const MAX_FIRST: u64 = 65_536;
 pub const MAX_COUNT: u64 = 10_000;
 
 /// What the words of the command line ask for.
-#[derive(Clone, Copy, Debug, PartialEq, Eq)]
+#[derive(Clone, Copy)]
 pub enum Command {
     /// `--help`: how the program is called.
     Help,

@@ -15,7 +15,7 @@ use std::alloc::{AllocError, Global};
 use translation::TranslateError;
 
 /// What is found of a message.
-#[derive(Clone, Copy, Debug, PartialEq, Eq)]
+#[derive(Clone, Copy)]
 pub(crate) enum Finding {
     /// It is a message of the session.
     Session,

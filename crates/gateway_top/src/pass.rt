@@ -29,7 +29,7 @@ use std::alloc::{AllocError, Global};
 use translation::TranslateError;
 
 /// Why a run stops before the end of its input.
-#[derive(Clone, Copy, Debug, PartialEq, Eq)]
+#[derive(Clone, Copy)]
 pub(crate) enum Stop {
     OutputFault,
     NoMemory,

@@ -16,7 +16,7 @@ use std::fmt;
 use std::marker::Model;
 
 /// How a run ended. Its `Display` is the line that the program prints for it.
-#[derive(Clone, Copy, Debug, PartialEq, Eq)]
+#[derive(Clone, Copy, Debug)]
 pub enum Status {
     /// The command was done.
     Done,

@@ -6,7 +6,7 @@ ghost use Rattle.gateway_top.specs.Task.{kind_of, stops, has_ended, first_of};
 use frame_grammar::Kind;
 
 /// What is done to a stream of frames.
-#[derive(Clone, Copy, Debug, PartialEq, Eq)]
+#[derive(Clone, Copy)]
 pub enum Task {
     /// `translate up`: the requests of a client, FIX 4.2, are written as the venue takes them.
     TranslateUp,
