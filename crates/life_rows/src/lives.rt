@@ -54,6 +54,39 @@ fn words(alloc: Global, command: &str) -> Result<Vec<String>, AllocError> {
     Ok(words)
 }
 
+// A life with this clock, whose entries these taps see.
+fn served(
+    alloc: Global,
+    words: &[String],
+    clock: &mut ListClock,
+    disk: &mut MemDisk,
+    given: Given,
+    taps: &mut Vec<Box<dyn Tap>>,
+) -> Lived {
+    let mut input = MemSource::new(given.input.bytes, given.input.fail);
+    let mut out = MemSink::new(alloc, Vec::new(alloc));
+    let mut client = MemWire::new(alloc, given.client.script, given.client.fail);
+    let mut venue = MemWire::new(alloc, given.venue.script, given.venue.fail);
+    let status = run(
+        alloc,
+        words,
+        &mut input,
+        &mut out,
+        disk,
+        &mut client,
+        &mut venue,
+        clock,
+        taps,
+    );
+    (status, client, venue)
+}
+
+// The words of a command that serves for so many rounds.
+fn serve_words(alloc: Global, rounds: u64) -> Result<Vec<String>, AllocError> {
+    let command = format!(in alloc; "serve {rounds}")?;
+    words(alloc, &command)
+}
+
 // A life whose entries these taps see.
 fn timed(
     alloc: Global,
@@ -61,25 +94,9 @@ fn timed(
     given: Given,
     taps: &mut Vec<Box<dyn Tap>>,
 ) -> Result<Lived, AllocError> {
-    let command = format!(in alloc; "serve {}", given.rounds)?;
-    let words = words(alloc, &command)?;
-    let mut input = MemSource::new(given.input.bytes, given.input.fail);
-    let mut out = MemSink::new(alloc, Vec::new(alloc));
-    let mut client = MemWire::new(alloc, given.client.script, given.client.fail);
-    let mut venue = MemWire::new(alloc, given.venue.script, given.venue.fail);
+    let words = serve_words(alloc, given.rounds)?;
     let mut clock = ListClock::new(vec![in alloc; NOW]?);
-    let status = run(
-        alloc,
-        &words,
-        &mut input,
-        &mut out,
-        disk,
-        &mut client,
-        &mut venue,
-        &mut clock,
-        taps,
-    );
-    Ok((status, client, venue))
+    Ok(served(alloc, &words, &mut clock, disk, given, taps))
 }
 
 // Lines as a text, with ` ~ ` before each; or the last alone.
@@ -96,27 +113,32 @@ fn lines(alloc: Global, bytes: &[u8], is_last: bool) -> Result<String, AllocErro
     Ok(lines)
 }
 
-/// How `show` ends over a disk, and what it shows: ` ~ ` and a line each, or for `last` the last
-/// alone. Of a word `2` the second put fails.
-pub(crate) fn shows(alloc: Global, disk: &mut MemDisk, word: &str) -> Result<String, AllocError> {
-    let words = words(alloc, "show")?;
+// How these words end that show a disk.
+fn showed(alloc: Global, words: &[String], disk: &mut MemDisk, out: &mut MemSink) -> Status {
     let mut input = MemSource::new(Vec::new(alloc), Vec::new(alloc));
-    let mut out = MemSink::new(alloc, failing(alloc, word)?);
     let mut client = QuietWire::new();
     let mut venue = QuietWire::new();
     let mut clock = ListClock::new(Vec::new(alloc));
     let mut taps: Vec<Box<dyn Tap>> = Vec::new(alloc);
-    let status = run(
+    run(
         alloc,
-        &words,
+        words,
         &mut input,
-        &mut out,
+        out,
         disk,
         &mut client,
         &mut venue,
         &mut clock,
         &mut taps,
-    );
+    )
+}
+
+/// How `show` ends over a disk, and what it shows: ` ~ ` and a line each, or for `last` the last
+/// alone. Of a word `2` the second put fails.
+pub(crate) fn shows(alloc: Global, disk: &mut MemDisk, word: &str) -> Result<String, AllocError> {
+    let words = words(alloc, "show")?;
+    let mut out = MemSink::new(alloc, failing(alloc, word)?);
+    let status = showed(alloc, &words, disk, &mut out);
     let text = lines(alloc, out.bytes(), word == "last")?;
     format!(in alloc; "{status:?}{text}")
 }

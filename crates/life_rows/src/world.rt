@@ -147,32 +147,35 @@ impl World {
         Ok(())
     }
 
-    // A life over the present bytes.
-    fn live(&self, alloc: Global, given: &str) -> Result<Left, AllocError> {
-        lived(alloc, &self.polls, &self.image, given)
-    }
-
-    // The same, which is kept: how it ended.
-    fn life(&mut self, alloc: Global, given: &str) -> Result<String, AllocError> {
-        let left = self.live(alloc, given)?;
+    // Keeps what a life left: how it ended.
+    fn keep(&mut self, left: Left) -> Status {
         let end = left.end;
         self.left = Some(left);
+        end
+    }
+
+    // A life over the present bytes, which is kept: how it ended.
+    fn live(&mut self, alloc: Global, given: &str) -> Result<Status, AllocError> {
+        let left = lived(alloc, &self.polls, &self.image, given)?;
+        Ok(self.keep(left))
+    }
+
+    // The same in words.
+    fn life(&mut self, alloc: Global, given: &str) -> Result<String, AllocError> {
+        let end = self.live(alloc, given)?;
         format!(in alloc; "{end:?}")
     }
 
-    // The same, and how the program says that it ended.
+    // The same in the words of the program.
     fn served(&mut self, alloc: Global, given: &str) -> Result<String, AllocError> {
-        let left = self.live(alloc, given)?;
-        let text = format!(in alloc; "{}", left.end)?;
-        self.left = Some(left);
-        Ok(text)
+        let end = self.live(alloc, given)?;
+        format!(in alloc; "{end}")
     }
 
     // The same with taps: what they counted too.
     fn tapped(&mut self, alloc: Global, given: &str) -> Result<String, AllocError> {
         let (left, words) = watched(alloc, &self.polls, &self.image, given)?;
-        let end = left.end;
-        self.left = Some(left);
+        let end = self.keep(left);
         format!(in alloc; "{end:?} {words}")
     }
 
@@ -223,9 +226,7 @@ impl World {
         venue: &mut Peer,
     ) -> Result<Status, AllocError> {
         self.crash(Image::New)?;
-        let left = self.live(alloc, SECOND)?;
-        let end = left.end;
-        self.left = Some(left);
+        let end = self.live(alloc, SECOND)?;
         self.taken(alloc, client, venue)?;
         self.image.clear();
         Ok(end)
@@ -235,10 +236,7 @@ impl World {
     fn first(&mut self, alloc: Global, given: &str) -> Result<Status, AllocError> {
         self.image.clear();
         let words = failing_words(alloc, word(given, 0), word(given, 1))?;
-        let left = self.live(alloc, &words)?;
-        let end = left.end;
-        self.left = Some(left);
-        Ok(end)
+        self.live(alloc, &words)
     }
 
     // A life of which one call fails, and a second life, in which both peers say all again and ask
@@ -250,6 +248,12 @@ impl World {
         self.taken(alloc, &mut client, &mut venue)?;
         let second = self.second(alloc, &mut client, &mut venue)?;
         verdict(alloc, word(given, 0), (first, second), &venue, &client)
+    }
+
+    // What is shown of the present bytes.
+    fn show(&self, alloc: Global, given: &str) -> Result<String, AllocError> {
+        let mut disk = disk(alloc, &self.image, "-")?;
+        shows(alloc, &mut disk, given)
     }
 
     // The answer to a row of one life.
@@ -265,7 +269,7 @@ impl World {
             "tapped" => self.tapped(alloc, given),
             "told" => self.told(alloc, given),
             "connections" => self.connections(alloc),
-            "show" => shows(alloc, &mut disk(alloc, &self.image, "-")?, given),
+            "show" => self.show(alloc, given),
             _ => self.wire_answer(alloc, call, given),
         }
     }
