@@ -10,7 +10,7 @@ ghost use Rattle.sound_laws.specs.Complete.{IsComplete};
 
 use crate::reports42::{written_cancel_reject, written_report};
 use crate::wires::wire;
-use crate::words::{fault_words, found_words, lack_words};
+use crate::words::{fault_words, found_words, lack_words, let_go};
 use exec_translate::{down_cancel_reject, down_report};
 use field_groups::split;
 use report_translate::{ReportTranslator, TranslateError};
@@ -24,7 +24,11 @@ fn report_down(alloc: Global, venue: &Report50) -> Result<Vec<u8>, AllocError>
     requires readable { IsReadableReport venue.now }
 {
     match down_report(alloc, venue) {
-        Ok(client) => written_report(alloc, &client),
+        Ok(client) => {
+            let written = written_report(alloc, &client);
+            let_go(client);
+            written
+        }
         Err(lack) => lack_words(alloc, &lack),
     }
 }
@@ -34,7 +38,11 @@ pub(crate) fn report(alloc: Global, given: &str) -> Result<Vec<u8>, AllocError> 
     let body = wire(alloc, given)?;
     let split = split(alloc, &body)?;
     match read_report(alloc, &split) {
-        Ok(venue) => report_down(alloc, &venue),
+        Ok(venue) => {
+            let down = report_down(alloc, &venue);
+            let_go(venue);
+            down
+        }
         Err(fault) => fault_words(alloc, &fault),
     }
 }
@@ -51,7 +59,11 @@ fn cancel_reject_down(
     requires original { IfSome (option_map (λ id. id.now) original) IsId }
 {
     match down_cancel_reject(alloc, venue, original) {
-        Ok(client) => written_cancel_reject(alloc, &client),
+        Ok(client) => {
+            let written = written_cancel_reject(alloc, &client);
+            let_go(client);
+            written
+        }
         Err(lack) => lack_words(alloc, &lack),
     }
 }
@@ -73,7 +85,11 @@ pub(crate) fn cancel_reject(alloc: Global, given: &str) -> Result<Vec<u8>, Alloc
     let body = wire(alloc, text)?;
     let split = split(alloc, &body)?;
     match read_cancel_reject(alloc, &split) {
-        Ok(venue) => cancel_reject_down(alloc, &venue, original(word)),
+        Ok(venue) => {
+            let down = cancel_reject_down(alloc, &venue, original(word));
+            let_go(venue);
+            down
+        }
         Err(fault) => fault_words(alloc, &fault),
     }
 }

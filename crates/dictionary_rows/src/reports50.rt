@@ -3,7 +3,7 @@
 ghost use Rattle.reports_fix50.specs.Readable.{IsReadableReport, IsReadableCancelReject};
 
 use crate::wires::wire;
-use crate::words::fault_words;
+use crate::words::{fault_words, let_go};
 use field_groups::{Split, split};
 use order_meaning::Fault;
 use reports_fix50::{
@@ -26,7 +26,11 @@ fn written_report(alloc: Global, message: &Report50) -> Result<Vec<u8>, AllocErr
 /// What is written of the fields of an Execution Report(8).
 fn report(alloc: Global, split: &Split<'_>) -> Result<Vec<u8>, AllocError> {
     match read_report(alloc, split) {
-        Ok(message) => written_report(alloc, &message),
+        Ok(message) => {
+            let written = written_report(alloc, &message);
+            let_go(message);
+            written
+        }
         Err(fault) => fault_words(alloc, &fault),
     }
 }
@@ -43,7 +47,11 @@ fn written_cancel_reject(alloc: Global, message: &CancelReject50) -> Result<Vec<
 /// What is written of the fields of an Order Cancel Reject(9).
 fn cancel_reject(alloc: Global, split: &Split<'_>) -> Result<Vec<u8>, AllocError> {
     match read_cancel_reject(alloc, split) {
-        Ok(message) => written_cancel_reject(alloc, &message),
+        Ok(message) => {
+            let written = written_cancel_reject(alloc, &message);
+            let_go(message);
+            written
+        }
         Err(fault) => fault_words(alloc, &fault),
     }
 }

@@ -10,6 +10,9 @@ pub(crate) fn answered(alloc: Global, words: &str) -> Result<Vec<u8>, AllocError
     Vec::from_slice(alloc, words.as_bytes())
 }
 
+/// Drops a message by a call. In line, each of its fields would be a case of its caller.
+pub(crate) fn let_go<M: Drop>(_message: M) {}
+
 /// A fault in words.
 pub(crate) fn fault_words(alloc: Global, fault: &Fault) -> Result<Vec<u8>, AllocError> {
     let words = match *fault {
