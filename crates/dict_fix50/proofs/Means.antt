@@ -51,7 +51,8 @@ module _ (fields : List Field) (h : first_fault judge new_table fields ≡ None)
       & w.security_id & w.id_source & w.security_type & w.maturity.month & w.maturity.date
       & w.security_exchange
       & full _ _ (says new_table fields h 23 54 (Value (Code (codes "123456"))) refl refl) w.side
-      & w.locate & full _ _ (says new_table fields h 25 60 (Value FineStamp) refl refl) w.transact_time
+      & w.locate
+      & full _ _ (says new_table fields h 25 60 (Value FineStamp) refl refl) w.transact_time
       & full _ _ (says new_table fields h 26 38 (Value Qty) refl refl) w.order_qty
       & full _ _ (says new_table fields h 27 40 (Value (Code (codes "1234"))) refl refl) w.ord_type
       & w.price & w.stop_px & w.currency & w.time_in_force & w.effective_time & w.expire_date

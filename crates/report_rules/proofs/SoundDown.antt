@@ -12,7 +12,8 @@ use Rattle.message_tables.specs.Tables.{Tag, Role, Spells, ◌>>=◌, code_of, c
 use Rattle.message_tables.specs.Tables.{groups_of, has_tag, is_listed, is_needed, is_one_of}
 use Rattle.message_tables.specs.Tables.{lines_of, party_in, said_at, value_at}
 use Rattle.message_tables.specs.Content.{content, line_fields}
-use Rattle.value_kinds.specs.ValueKind.{ValueKind, Code, Known, Id, Text, Reason, FineStamp, code_text}
+use Rattle.value_kinds.specs.ValueKind.{ValueKind, Code, Known, Id, Text, Reason, FineStamp}
+use Rattle.value_kinds.specs.ValueKind.{code_text}
 use Rattle.value_kinds.specs.ValueKind.{MonthYear, Day, number_of_two}
 use Rattle.row_values.specs.Kinds.{Kind, Value, DayOf, TimeBeside, judge, is_at_close, row}
 use Rattle.row_values.specs.Amounts.{amount_in}

@@ -166,7 +166,8 @@ module _ (fields : List Field) (good : AreFields None fields) (m : Message)
         → IsOf fields known table50 m → IsReport50 m → HasHeader table50
         → IsSound judge (table letter items) w → table_at w.letter ≡ table letter items
         → AreFew (content (table letter items) w)
-        → items_behind (table letter items) (head_value (type_of fields) (head_down fields)) w ≡ true
+        → items_behind (table letter items) (head_value (type_of fields) (head_down fields)) w
+        ≡ true
         → table_fits (table letter items) (front (table letter items)
         (head_value (type_of fields) (head_down fields)) w) ≡ true
         → ((x : List Field) → message42 known x None

@@ -14,7 +14,8 @@ bodies_keep : (body down : List ℕ) → IsDown body down → KeepSense body dow
 bodies_keep body down is fields others split again =
     let here = (determined body fields is.fields None None split is.stands.goes.report.split).0 in
     let there =
-    (determined down others (with_content (head_down is.fields) is.written) None None again is.again).0 in
+    (determined down others (with_content (head_down is.fields) is.written) None None again
+    is.again).0 in
     let P : List Field → Type 0 = λ fs. MeanTheSame fs others in
     let Q : List Field → Type 0 = λ fs. MeanTheSame is.fields fs in
     subst P (sym here) (subst Q (sym there) (record {

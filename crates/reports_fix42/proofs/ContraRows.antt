@@ -45,7 +45,8 @@ module _ (P : Field → Type 0) (tag : ℕ) where
       by (f.0 == tag) refl e (λ later. first_holds fs v each.1 later)
     where
       by : (b : Bool) → (f.0 == tag) ≡ b
-          → option_map (λ (g : Field). g.1) (if b then Some f else find (λ g. g.0 == tag) fs) ≡ Some v
+          → option_map (λ (g : Field). g.1) (if b then Some f else find (λ g. g.0 == tag) fs)
+          ≡ Some v
           → (value_at tag fs ≡ Some v → P (tag, v)) → P (tag, v)
       by true t e later =
           let is : f.1 ≡ v = cc in

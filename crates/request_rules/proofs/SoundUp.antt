@@ -67,8 +67,8 @@ fine_said fields42 fields50 (Some text) h =
 stamp_up : (fields42 fields50 : List Field) (tag to : ℕ) (need : Need) (said : Said)
     → is_plain need ≡ true
     → IsSaid judge fields42 (record { tag = tag; kind = Value Stamp; need = need }) said
-    → IsSaid judge fields50 (record { tag = to; kind = Value FineStamp; need = coded_need need false })
-    said
+    → IsSaid judge fields50
+    (record { tag = to; kind = Value FineStamp; need = coded_need need false }) said
 stamp_up fields42 fields50 tag to Required said plain h =
     required_said fields50 to (Value FineStamp) said (h.needed refl)
     (fine_said fields42 fields50 said h.spelled) h.clear

@@ -15,7 +15,8 @@ use Rattle.message_tables.specs.Tables.{Need, Lenient, Fixed, Row, Item, One, Ta
 use Rattle.message_tables.specs.Tables.{all_rows, code_of, row_at, says, value_at}
 use Rattle.message_tables.specs.FirstFault.{first_fault, mark_of}
 use Rattle.message_tables.specs.Plain.{is_good}
-use Rattle.value_kinds.specs.ValueKind.{DayOfMonth, FineStamp, MonthYear, Number, Price, Qty, Reason}
+use Rattle.value_kinds.specs.ValueKind.{DayOfMonth, FineStamp, MonthYear, Number, Price, Qty}
+use Rattle.value_kinds.specs.ValueKind.{Reason}
 use Rattle.row_values.specs.Kinds.{Kind, TimeBeside, Value, judge}
 use Rattle.row_slots.specs.declared.slots.Slot.{Slot}
 use Rattle.row_slots.specs.declared.slots.Slot.TheVariants as slots

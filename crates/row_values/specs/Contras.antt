@@ -6,7 +6,8 @@ use Rattle.std.specs.List.{AllByRecursion, AllZip}
 use Rattle.typed_fields.specs.Dec.{dec_text, IsDec}
 use Rattle.typed_fields.specs.Stamp.{stamp_text, IsStamp}
 use Rattle.field_groups.specs.Field.{Field}
-use Rattle.message_tables.specs.Tables.{Required, Optional, RepeatingGroup, Row, Tag, Cell, lines_in}
+use Rattle.message_tables.specs.Tables.{Required, Optional, RepeatingGroup, Row, Tag, Cell}
+use Rattle.message_tables.specs.Tables.{lines_in}
 use Rattle.message_tables.specs.Tables.{tags_in}
 use Rattle.row_values.specs.declared.contras.ContraLine.{ContraLine}
 use Rattle.value_kinds.specs.ValueKind.{ValueKind, Id, Qty, FineStamp}

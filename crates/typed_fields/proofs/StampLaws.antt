@@ -1,7 +1,8 @@
 -- The laws of moments.
 use Rattle.std.proofs.Common.{◌≡◌, ◌==◌, ◌&&◌, ℕ, ◌+◌, ◌/◌, ◌%◌, ◌^◌, ◌<◌, ◌≤◌, nat_le, Bool}
-use Rattle.std.proofs.Common.{true, false, zero, suc, replicate, List, [], ◌∷◌, ◌++◌, length, take, drop, slice_range, codes}
-use Rattle.std.proofs.Common.{Result, Ok, Err, refl, sym, ap, subst, ◌∙◌, arith, pos}
+use Rattle.std.proofs.Common.{true, false, zero, suc, replicate, List, [], ◌∷◌, ◌++◌, length}
+use Rattle.std.proofs.Common.{take, drop, slice_range, codes, Result, Ok, Err, refl, sym, ap}
+use Rattle.std.proofs.Common.{subst, ◌∙◌, arith, pos}
 use Rattle.std.specs.Prelude.{IfOk, if◌then◌else◌}
 use Rattle.std.proofs.lemmas.Bool.Decides.{nat_tests}
 use Rattle.std.proofs.lemmas.List.{take_all, append_assoc, length-drop}
@@ -221,7 +222,8 @@ in_bound v form bound =
     let hour = both_true (nat_le (hour_in v) 23) _ date.1 in
     let minute = both_true (nat_le (minute_in v) 59) (nat_le (second_in v) 60) hour.1 in
     let formed = formed v form in
-    let digits = digits_of_pattern (codes "YYYYMMDD-HH:MM:SS" ++ formed.more) v 0 8 formed.form refl in
+    let digits =
+    digits_of_pattern (codes "YYYYMMDD-HH:MM:SS" ++ formed.more) v 0 8 formed.form refl in
     record {
       day = IsDayNumber-spelled v (day_number v) digits (rw date.0);
       hour = grind (arith, nat_tests);
@@ -291,7 +293,8 @@ fraction_short (Six k) few = absurd (omega arith)
 fraction_short (Nine k) few = absurd (omega arith)
 
 pub stamp_short : (s : Stamp) → width s.frac ≤ 3 → length (stamp_text s) ≤ 21
-stamp_short s few = rw (parts_of s (fraction_text s.frac)) (omega (arith, fraction_short s.frac few))
+stamp_short s few =
+    rw (parts_of s (fraction_text s.frac)) (omega (arith, fraction_short s.frac few))
 
 pub stamp_reads_back : ReadsBack read_stamp IsStamp stamp_text
 stamp_reads_back s good =
@@ -405,8 +408,8 @@ six_joined s k old one two millis more is e f g h =
     ∙ (λ i. sym g i ++ sym h i) in
     f ∙ ap (λ xs. xs ++ more) e ∙ append_assoc old millis more ∙ ap (λ xs. old ++ xs) (sym text)
 
-pub nine_joined : (s : Stamp) (k : ℕ) (old one two three millis more last : List ℕ) → s.frac ≡ Nine k
-    → one ≡ old ++ millis → two ≡ one ++ more → three ≡ two ++ last
+pub nine_joined : (s : Stamp) (k : ℕ) (old one two three millis more last : List ℕ)
+    → s.frac ≡ Nine k → one ≡ old ++ millis → two ≡ one ++ more → three ≡ two ++ last
     → millis ≡ seconds_text s ++ fraction_text (Three (k / 1000000))
     → more ≡ zero_padded 3 (k / 1000 % 1000) → last ≡ zero_padded 3 (k % 1000)
     → three ≡ old ++ stamp_text s

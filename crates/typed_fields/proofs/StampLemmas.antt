@@ -101,7 +101,8 @@ pub form_of : (v : List ℕ) (fraction : Fraction)
     → is_fine_form v ≡ true
 form_of v fraction e = by (is_fine_form v) e
   where
-    by : (b : Bool) → (if b then Some (fraction_of (drop 18 v)) else None) ≡ Some fraction → b ≡ true
+    by : (b : Bool) → (if b then Some (fraction_of (drop 18 v)) else None) ≡ Some fraction
+        → b ≡ true
     by true e = refl
     by false e = absurd cc
 
@@ -159,7 +160,8 @@ padded : (ds : List ℕ) (w : ℕ) → are_digits ds ≡ true → length ds ≡ 
     → 46 ∷ zero_padded w (number_of ds) ≡ 46 ∷ ds
 padded ds w digits long =
     let same = zero_padded-number_of ds digits in
-    ap (λ (n : ℕ). 46 ∷ zero_padded n (number_of ds)) (sym long) ∙ ap (λ (xs : List ℕ). 46 ∷ xs) same
+    ap (λ (n : ℕ). 46 ∷ zero_padded n (number_of ds)) (sym long)
+    ∙ ap (λ (xs : List ℕ). 46 ∷ xs) same
 
 -- what bytes of one of the forms are: whole seconds and a fraction
 pub record Formed (v : List ℕ) : Type 0 where
@@ -219,7 +221,8 @@ formed v form = either (is_stamp_form v) _
 pub short_form : (v : List ℕ) → length v ≤ 21 → is_fine_form v ≡ is_stamp_form v
 short_form v short =
     let six = no_pattern (codes "YYYYMMDD-HH:MM:SS.ssssss") v (λ e. absurd (omega (arith, e))) in
-    let nine = no_pattern (codes "YYYYMMDD-HH:MM:SS.sssssssss") v (λ e. absurd (omega (arith, e))) in
+    let nine =
+    no_pattern (codes "YYYYMMDD-HH:MM:SS.sssssssss") v (λ e. absurd (omega (arith, e))) in
     rw (six, nine) (or_none (is_stamp_form v))
   where
     or_none : (b : Bool) → (b || (false || false)) ≡ b

@@ -111,8 +111,8 @@ seconds_text s =
 abbrev pub stamp_text : Stamp → List ℕ
 stamp_text s = seconds_text s ++ fraction_text s.frac
 
--- A stamp with no more digits of the second than three: the others are left out. Its spelling, where
--- the stamp is spelled so: its first 21 bytes.
+-- A stamp with no more digits of the second than three: the others are left out. Its spelling,
+-- where the stamp is spelled so: its first 21 bytes.
 abbrev pub cut_fraction : Fraction → Fraction
 cut_fraction (Six number) = Three (number / 1000)
 cut_fraction (Nine number) = Three (number / 1_000_000)

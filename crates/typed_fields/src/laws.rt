@@ -69,7 +69,8 @@ pub fn moments_fit_stamps()
 /// reading reads is read once it is cut.
 pub fn fine_stamps_are_cut()
     ensures read { (bytes : List ℕ) (s : Stamp) → read_stamp bytes ≡ Ok s → read_fine bytes ≡ Ok s }
-    ensures whole { (bytes : List ℕ) (s : Stamp) → read_stamp bytes ≡ Ok s → cut_text bytes ≡ bytes }
+    ensures whole { (bytes : List ℕ) (s : Stamp)
+        → read_stamp bytes ≡ Ok s → cut_text bytes ≡ bytes }
     ensures cut { (bytes : List ℕ) (s : Stamp)
         → read_fine bytes ≡ Ok s → read_stamp (cut_text bytes) ≡ Ok (cut s) }
 {}

@@ -6,46 +6,55 @@ use Rattle.typed_fields.proofs.StampLemmas.{no_fraction, six_is, three_is, whole
 use Rattle.typed_fields.proofs.stamp.fraction_in.Goals as goal
 
 pub behind-requires-clause-long : goal.behind-requires-clause-long
-behind-requires-clause-long c = omega (
-  arith,
-  length-has_pattern (codes "YYYYMMDD-HH:MM:SS.sss") c.args.bytes.now (sym c.has_fraction.ensures ∙ c.if-has_fraction.true),
-)
+behind-requires-clause-long c =
+    let form = sym c.has_fraction.ensures ∙ c.if-has_fraction.true in
+    omega (arith, length-has_pattern (codes "YYYYMMDD-HH:MM:SS.sss") c.args.bytes.now form)
 
 pub behind-requires-clause-digits : goal.behind-requires-clause-digits
 behind-requires-clause-digits c =
-    (behind_three c.args.bytes.now (sym c.has_fraction.ensures ∙ c.if-has_fraction.true)).digits
+    let form = sym c.has_fraction.ensures ∙ c.if-has_fraction.true in
+    (behind_three c.args.bytes.now form).digits
 
 pub behind-requires-clause-few : goal.behind-requires-clause-few
 behind-requires-clause-few c =
-    omega (arith, (behind_three c.args.bytes.now (sym c.has_fraction.ensures ∙ c.if-has_fraction.true)).long)
+    let form = sym c.has_fraction.ensures ∙ c.if-has_fraction.true in
+    omega (arith, (behind_three c.args.bytes.now form).long)
 
-pub behind-requires-then-has_fraction-2-clause-long : goal.behind-requires-then-has_fraction-2-clause-long
-behind-requires-then-has_fraction-2-clause-long c = omega (
-  arith,
-  length-has_pattern (codes "YYYYMMDD-HH:MM:SS.ssssss") c.args.bytes.now (sym c.has_fraction-else-has_fraction.ensures ∙ c.if-has_fraction-2.true),
-)
+pub behind-requires-then-has_fraction-2-clause-long :
+    goal.behind-requires-then-has_fraction-2-clause-long
+behind-requires-then-has_fraction-2-clause-long c =
+    let form = sym c.has_fraction-else-has_fraction.ensures ∙ c.if-has_fraction-2.true in
+    omega (arith, length-has_pattern (codes "YYYYMMDD-HH:MM:SS.ssssss") c.args.bytes.now form)
 
-pub behind-requires-then-has_fraction-2-clause-digits : goal.behind-requires-then-has_fraction-2-clause-digits
+pub behind-requires-then-has_fraction-2-clause-digits :
+    goal.behind-requires-then-has_fraction-2-clause-digits
 behind-requires-then-has_fraction-2-clause-digits c =
-    (behind_six c.args.bytes.now (sym c.has_fraction-else-has_fraction.ensures ∙ c.if-has_fraction-2.true)).digits
+    let form = sym c.has_fraction-else-has_fraction.ensures ∙ c.if-has_fraction-2.true in
+    (behind_six c.args.bytes.now form).digits
 
-pub behind-requires-then-has_fraction-2-clause-few : goal.behind-requires-then-has_fraction-2-clause-few
+pub behind-requires-then-has_fraction-2-clause-few :
+    goal.behind-requires-then-has_fraction-2-clause-few
 behind-requires-then-has_fraction-2-clause-few c =
-    omega (arith, (behind_six c.args.bytes.now (sym c.has_fraction-else-has_fraction.ensures ∙ c.if-has_fraction-2.true)).long)
+    let form = sym c.has_fraction-else-has_fraction.ensures ∙ c.if-has_fraction-2.true in
+    omega (arith, (behind_six c.args.bytes.now form).long)
 
-pub behind-requires-then-has_fraction-3-clause-long : goal.behind-requires-then-has_fraction-3-clause-long
-behind-requires-then-has_fraction-3-clause-long c = omega (
-  arith,
-  length-has_pattern (codes "YYYYMMDD-HH:MM:SS.sssssssss") c.args.bytes.now (sym c.has_fraction-else-has_fraction-2.ensures ∙ c.if-has_fraction-3.true),
-)
+pub behind-requires-then-has_fraction-3-clause-long :
+    goal.behind-requires-then-has_fraction-3-clause-long
+behind-requires-then-has_fraction-3-clause-long c =
+    let form = sym c.has_fraction-else-has_fraction-2.ensures ∙ c.if-has_fraction-3.true in
+    omega (arith, length-has_pattern (codes "YYYYMMDD-HH:MM:SS.sssssssss") c.args.bytes.now form)
 
-pub behind-requires-then-has_fraction-3-clause-digits : goal.behind-requires-then-has_fraction-3-clause-digits
+pub behind-requires-then-has_fraction-3-clause-digits :
+    goal.behind-requires-then-has_fraction-3-clause-digits
 behind-requires-then-has_fraction-3-clause-digits c =
-    (behind_nine c.args.bytes.now (sym c.has_fraction-else-has_fraction-2.ensures ∙ c.if-has_fraction-3.true)).digits
+    let form = sym c.has_fraction-else-has_fraction-2.ensures ∙ c.if-has_fraction-3.true in
+    (behind_nine c.args.bytes.now form).digits
 
-pub behind-requires-then-has_fraction-3-clause-few : goal.behind-requires-then-has_fraction-3-clause-few
+pub behind-requires-then-has_fraction-3-clause-few :
+    goal.behind-requires-then-has_fraction-3-clause-few
 behind-requires-then-has_fraction-3-clause-few c =
-    omega (arith, (behind_nine c.args.bytes.now (sym c.has_fraction-else-has_fraction-2.ensures ∙ c.if-has_fraction-3.true)).long)
+    let form = sym c.has_fraction-else-has_fraction-2.ensures ∙ c.if-has_fraction-3.true in
+    omega (arith, (behind_nine c.args.bytes.now form).long)
 
 pub overflow_cast-result : goal.overflow_cast-result
 overflow_cast-result c =
@@ -60,7 +69,8 @@ overflow_cast-result c =
 pub returns-then-has_seconds : goal.returns-then-has_seconds
 returns-then-has_seconds c =
     let form = sym c.has_seconds.ensures ∙ c.if-has_seconds.true in
-    fraction_is c.args.bytes.now _ (fine_whole c.args.bytes.now form) (whole_is c.args.bytes.now form)
+    fraction_is c.args.bytes.now _ (fine_whole c.args.bytes.now form)
+    (whole_is c.args.bytes.now form)
 
 pub returns-then-has_fraction : goal.returns-then-has_fraction
 returns-then-has_fraction c =
