@@ -4,9 +4,9 @@ use Rattle.std.proofs.Common.{◌≡◌, ℕ, List, [], ◌∷◌, Some, None, B
 use Rattle.std.proofs.Common.{sym, ap, subst, ◌∙◌, codes, take}
 use Rattle.std.specs.Prelude.{Ok, IfSome, not, ◌&&◌, ◌||◌, ◌==◌}
 use Rattle.std.proofs.lemmas.Bool.{eqb-true}
-use Rattle.field_groups.specs.Field.{Field, is_soh}
+use Rattle.field_groups.specs.Field.{Field}
 use Rattle.field_groups.specs.Data.{is_data_tag}
-use Rattle.std.specs.List.{AllByRecursion, list_any}
+use Rattle.std.specs.List.{AllByRecursion}
 use Rattle.message_tables.specs.Tables.{Verdict, Spells, Said, ◌>>=◌, value_at}
 use Rattle.message_tables.specs.Tables.{text_of, is_listed, is_one_of}
 use Rattle.value_kinds.specs.ValueKind.{ValueKind, OneByte, Code, Day, MonthYear, Spelling}
