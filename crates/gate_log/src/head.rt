@@ -1,6 +1,6 @@
 //! What stands at a gate.
 
-ghost use Rattle.std.specs.Prelude.{◌≡◌, IfOk, IfSome, drop};
+ghost use Rattle.std.specs.Prelude.{◌≡◌, ◌≤◌, ◌+◌, IfOk, IfSome, drop};
 ghost use Rattle.outside.specs.Causes.{HasCause};
 ghost use Rattle.gate_log.specs.Log.{OnlyReads};
 ghost use Rattle.gate_log.specs.Scan.{IsHead};
@@ -44,6 +44,7 @@ fn head_of(bytes: &[u8]) -> Head
 pub(crate) fn head_at<D: Disk>(disk: &mut D, at: u64) -> Result<Head, Failed>
     ensures head { IfOk result (λ head. IfSome (D.bytes disk.old) (λ b. IsHead (drop at b) head)) }
     ensures only_read { OnlyReads D.bytes D.image disk.old disk.new }
+    ensures reads { D.reads disk.new ≤ D.reads disk.old + 1 }
     ensures cause { HasCause (D.faults disk.old) (D.faults disk.new) result }
 {
     let mut buf = [0; HEAD_LEN];

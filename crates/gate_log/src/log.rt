@@ -1,7 +1,7 @@
 //! A log: where its records end, and the calls that read and lengthen it.
 
 ghost use Rattle.std.specs.Prelude.{◌≡◌, ◌⊎◌, ◌+◌, ◌-◌, ◌≤◌, ◌<◌, ◌∷◌, ◌++◌, ℕ, [], List};
-ghost use Rattle.std.specs.Prelude.{length, is_some, false, IfOk, IfSome, OnOk, OnErr, IsOkUnless};
+ghost use Rattle.std.specs.Prelude.{◌≢◌, Err, length, is_some, false, IfOk, IfSome, OnOk, OnErr, IsOkUnless};
 ghost use Rattle.std.specs.Prelude.{vec_len, vec_capacity};
 ghost use Rattle.std.specs.Option.{ForSome};
 ghost use Rattle.outside.specs.Causes.{HasCause};
@@ -122,8 +122,10 @@ fn write_birth<D: Disk>(disk: &mut D, len: u64, birth: &[u8], staged: &[u8]) -> 
 /// Fills a buffer with the bytes from this place on, and answers how many stand there.
 fn fill<D: Disk>(disk: &mut D, at: u64, out: &mut Vec<u8>) -> Result<usize, Failed>
     ensures len { length out.new.items ≡ length out.old.items }
+    ensures capacity { vec_capacity out.old ≤ vec_capacity out.new }
     ensures value { ReadsAt (D.bytes disk.old) at result out.new.items }
     ensures only_read { OnlyReads D.bytes D.image disk.old disk.new }
+    ensures reads { D.reads disk.new ≤ D.reads disk.old + 1 }
     ensures cause { HasCause (D.faults disk.old) (D.faults disk.new) result }
 {
     disk.read_at(at, out.as_mut_slice())
@@ -134,7 +136,10 @@ fn read_payload<D: Disk>(disk: &mut D, place: u64, out: &mut Vec<u8>) -> Result<
     requires { place ≤ MAX_DISK }
     ensures payload { OnOk result (ReadsPayload (D.bytes disk.old) place out.new.items) }
     ensures sized { OnOk result (length out.new.items ≤ MAX_PAYLOAD) }
+    ensures capacity { vec_capacity out.old ≤ vec_capacity out.new }
+    ensures room { MAX_PAYLOAD ≤ vec_capacity out.old → result ≢ Err LogError.NoMemory }
     ensures only_read { OnlyReads D.bytes D.image disk.old disk.new }
+    ensures reads { D.reads disk.new ≤ D.reads disk.old + 2 }
     ensures cause { HasFaultCause (D.faults disk.old) (D.faults disk.new) result }
     ensures only { (result ≡ Err LogError.Full) → ⊥ }
     ensures foreign { (at : ℕ) → result ≡ Err (LogError.Foreign at) →
@@ -328,17 +333,21 @@ impl Log {
         place
     }
 
-    /// Replaces `out` by the payload that stands at this place. It makes two reads.
+    /// Replaces `out` by the payload that stands at this place. It makes two reads at most.
     ///
     /// # Errors
     /// `Foreign` only where no record of the disk stands there; `DiskFault` only where the disk's
-    /// count of faults rose; `NoMemory`. Then `out` is empty.
+    /// count of faults rose; `NoMemory` only where `out` has no room for 65,536 bytes. Then `out` is
+    /// empty.
     pub fn read<D: Disk>(&self, disk: &mut D, place: u64, out: &mut Vec<u8>) -> Result<(), LogError>
         requires { place ≤ MAX_DISK }
         ensures payload { OnOk result (ReadsPayload (D.bytes disk.old) place out.new.items) }
         ensures sized { length out.new.items ≤ MAX_PAYLOAD }
         ensures refused { OnErr result (out.new.items ≡ []) }
+        ensures capacity { vec_capacity out.old ≤ vec_capacity out.new }
+        ensures room { MAX_PAYLOAD ≤ vec_capacity out.old → result ≢ Err LogError.NoMemory }
         ensures only_read { OnlyReads D.bytes D.image disk.old disk.new }
+        ensures reads { D.reads disk.new ≤ D.reads disk.old + 2 }
         ensures cause { HasFaultCause (D.faults disk.old) (D.faults disk.new) result }
         ensures only { (result ≡ Err LogError.Full) → ⊥ }
         ensures foreign { (at : ℕ) → result ≡ Err (LogError.Foreign at) →

@@ -6,7 +6,10 @@ pub returns-in_default : goal.returns-in_default
 returns-in_default g c = record {
   payload = tt;
   sized = tt;
+  capacity = omega arith;
+  room = λ big e. absurd (cc e);
   only_read = c.head_at.ensures.only_read;
+  reads = omega (arith, c.head_at.ensures.reads);
   cause = c.in_ok-len.ensures.cause.still;
   only = λ e. absurd (cc e);
   foreign = λ at e. none_there (g.D.Disk.bytes c.args.disk.now) c.args.place c.in_ok-len.field-0
