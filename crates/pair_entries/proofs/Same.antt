@@ -1,9 +1,10 @@
 -- A payload spells one entry.
 use Rattle.std.proofs.Common.{◌≡◌, ℕ, ◌==◌, Bool, true, false, List, [], ◌∷◌, ◌++◌}
-use Rattle.std.proofs.Common.{length, take, drop, refl, sym, ◌∙◌, ap, arith, append_assoc}
+use Rattle.std.proofs.Common.{length, take, drop, refl, sym, ◌∙◌, ap, subst, arith, ◌≤◌}
+use Rattle.std.proofs.Common.{append_assoc}
 use Rattle.std.proofs.Common.{Some, None, IfSome}
 use Rattle.std.specs.Prelude.{◌||◌}
-use Rattle.std.specs.Int.{w32, to_be_bytes}
+use Rattle.std.specs.Int.{w32, w64, to_be_bytes}
 use Rattle.std.specs.List.{flat_map}
 use Rattle.std.proofs.lemmas.List.{take_at, drop_at}
 use Rattle.std.specs.declared.option.Option.{Option}
@@ -16,6 +17,9 @@ use Rattle.pair_entries.specs.declared.entry.Entry.{Entry}
 use Rattle.pair_entries.specs.Payload.{counted, side_byte, flags_byte, out_bytes, took_bytes}
 use Rattle.pair_entries.specs.Payload.{next_bytes, entry_bytes, Next, IsOut, AreOuts, IsTook}
 use Rattle.pair_entries.specs.Payload.{AreNext, IsEntry}
+use Rattle.pair_entries.specs.Parts.{took_said, front_bytes, IsFront}
+use Rattle.pair_entries.specs.declared.reading.Front.{Front}
+use Rattle.std.specs.Option.{option_map}
 use Rattle.pair_entries.proofs.Fronts.{same_front_64, same_counted, entry_split, behind_took}
 use Rattle.pair_entries.proofs.Fronts.{behind_next}
 
@@ -174,3 +178,53 @@ same_entry d e hd he is =
     let size : length d.outs ≡ length e.outs = cc ends in
     let outs = same_outs d.outs e.outs hd.outs he.outs size (ap (drop 1) ends) in
     entry_join d.at e.at d.took e.took d.next e.next d.outs e.outs at.0 took next outs
+
+-- ---- an entry before its outs
+
+-- what such a front says is what its entry says
+pub record SaysOf (front : Front) (entry : Entry) : Type 0 where
+  pub at : front.at ≡ entry.at
+  pub next : front.next ≡ entry.next
+  pub outs : front.outs.now ≡ length entry.outs ∷ flat_map out_bytes entry.outs
+
+pub front_is : (front : Front) (entry : Entry) → IsFront front → IsEntry entry
+    → front_bytes front ≡ entry_bytes entry → SaysOf front entry
+front_is front entry hf he is =
+    let ends : List ℕ = length entry.outs ∷ flat_map out_bytes entry.outs in
+    let said : Option Took = option_map took_said front.took in
+    let at = same_front_64 front.at entry.at (took_bytes said ++ (next_bytes front.next
+    ++ front.outs.now)) (took_bytes entry.took ++ (next_bytes entry.next ++ ends))
+    (omega (arith, hf.at)) (omega (arith, he.at)) (is ∙ entry_split entry) in
+    let rest = behind_took said entry.took (next_bytes front.next ++ front.outs.now)
+    (next_bytes entry.next ++ ends) hf.took he.took at.1 in
+    record {
+      at = at.0;
+      next = same_next front.next entry.next front.outs.now ends hf.next he.next rest;
+      outs = behind_next front.next entry.next front.outs.now ends hf.next he.next rest;
+    }
+
+-- a front, and the outs that stand behind it, are an entry
+pub entry_of_front : (front : Front) (outs : List Out) (bytes : List ℕ) → IsFront front
+    → front.outs.now ≡ length outs ∷ flat_map out_bytes outs → AreOuts outs → length outs ≤ 4
+    → (took : Option Took) → took ≡ option_map took_said front.took → bytes ≡ front_bytes front
+    → (bytes ≡ entry_bytes (record { at = front.at; took = took; next = front.next; outs = outs }))
+    × IsEntry (record { at = front.at; took = took; next = front.next; outs = outs })
+entry_of_front front outs bytes hf behind are few took copied is =
+    let entry : Entry = record {
+      at = front.at;
+      took = took;
+      next = front.next;
+      outs = outs;
+    } in (
+      is ∙ ap (λ (t : Option Took). to_be_bytes w64 front.at
+          ++ (took_bytes t ++ (next_bytes front.next ++ front.outs.now))) (sym copied)
+          ∙ ap (λ (l : List ℕ). to_be_bytes w64 front.at
+          ++ (took_bytes took ++ (next_bytes front.next ++ l))) behind ∙ sym (entry_split entry),
+      record {
+        at = hf.at;
+        took = subst (λ (t : Option Took). IfSome t IsTook) (sym copied) hf.took;
+        next = hf.next;
+        few = few;
+        outs = are;
+      },
+    )

@@ -2,7 +2,8 @@
 //!
 //! An entry has the message that was taken, if one was, the next numbers after it, and the messages
 //! that were given out. Its bytes, the payload of a record, are `entry_bytes` of
-//! `specs/Payload.antt`: [`prepare`] writes them, and [`read_entry`] reads them back.
+//! `specs/Payload.antt`: [`prepare`] writes them, and [`read_entry`] reads them back. [`front_of`] and
+//! [`out_ref`] read them where they stand.
 #![tactic(auto)]
 
 mod entry;
@@ -12,7 +13,7 @@ mod writing;
 
 pub use entry::{Entry, Out, Outs, Took};
 pub use prepared::{Prepared, prepare};
-pub use reading::read_entry;
+pub use reading::{Front, OutRef, front_of, out_ref, read_entry, u8_front};
 
 /// The latest moment of an entry, in milliseconds since 1970-01-01 00:00 UTC: the end of 2099.
 pub const MAX_AT: u64 = 4_102_444_799_999;

@@ -13,8 +13,6 @@ use std::marker::Model;
 #[derive(Debug, Drop)]
 pub struct Prepared {
     entry: Entry,
-    // What the journal keeps.
-    copy: Entry,
     payload: Vec<u8>,
 }
 
@@ -27,7 +25,7 @@ impl Model for Prepared {
 
     ghost use Rattle.pair_entries.specs.Prepared.{IsPrepared};
 
-    ghost invariant = { λ p. IsPrepared p.entry p.copy p.payload.items };
+    ghost invariant = { λ p. IsPrepared p.entry p.payload.items };
 }
 
 /// The bytes of an entry that keeps its bounds, so that its commit takes no memory.
@@ -39,12 +37,7 @@ pub fn prepare(alloc: Global, entry: Entry) -> Result<Prepared, AllocError>
     ensures { IfOk result (λ prepared. prepared ≡ entry) }
 {
     let payload = write_entry(alloc, &entry)?;
-    let copy = entry.duplicate()?;
-    Ok(Prepared {
-        entry,
-        copy,
-        payload,
-    })
+    Ok(Prepared { entry, payload })
 }
 
 impl Prepared {
@@ -65,12 +58,11 @@ impl Prepared {
         &self.entry
     }
 
-    /// The entry twice: for whoever commits it, and for the journal.
-    pub fn into_entries(self) -> (Entry, Entry)
-        ensures entry { result.0 ≡ self }
-        ensures copy { result.1 ≡ self }
+    /// The entry, for whoever commits it.
+    pub fn into_entry(self) -> Entry
+        ensures { result ≡ self }
     {
-        let Prepared { entry, copy, .. } = self;
-        (entry, copy)
+        let Prepared { entry, .. } = self;
+        entry
     }
 }

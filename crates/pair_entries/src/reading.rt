@@ -14,7 +14,8 @@ ghost use Rattle.pair_entries.specs.Payload.{Next, IsTook, IsOut, AreOuts, AreNe
 ghost use Rattle.pair_entries.specs.Payload.{IsNextNumber};
 ghost use Rattle.pair_entries.specs.Payload.{side_byte, flags_byte, counted};
 ghost use Rattle.pair_entries.specs.declared.reading.Head.{Head};
-ghost use Rattle.pair_entries.specs.Parts.{head_bytes};
+ghost use Rattle.pair_entries.specs.Parts.{head_bytes, took_said, out_said, front_bytes, IsFront};
+ghost use Rattle.std.specs.Option.{option_map};
 ghost use Rattle.pair_entries.specs.Payload.{took_bytes, next_bytes, out_bytes, entry_bytes};
 
 use crate::{
@@ -40,7 +41,7 @@ fn u64_front(bytes: &[u8]) -> Option<(u64, &[u8])>
 }
 
 /// The byte in front, and what is behind it.
-fn u8_front(bytes: &[u8]) -> Option<(u8, &[u8])>
+pub fn u8_front(bytes: &[u8]) -> Option<(u8, &[u8])>
     ensures { MatchOption result (bytes.now ≡ []) (λ x. bytes.now ≡ x.0 ∷ x.1.now) }
 {
     match bytes {
@@ -119,27 +120,43 @@ fn next_front(bytes: &[u8]) -> Option<(u32, &[u8])>
     None
 }
 
+/// A message that was taken, where its bytes stand.
+#[derive(Clone, Copy)]
+struct TookRef<'b> {
+    side: Side,
+    number: u32,
+    raw: &'b [u8],
+}
+
 /// What was taken, in front, and what is behind it.
-fn took_front(alloc: Global, bytes: &[u8]) -> Result<Option<(Option<Took>, &[u8])>, AllocError>
-    ensures { IfOk result (λ r. MatchOption r
+fn took_front(bytes: &[u8]) -> Option<(Option<TookRef<'_>>, &[u8])>
+    ensures { MatchOption result
         ((took : Option Took) (rest : List ℕ) → IfSome took IsTook →
         bytes.now ≡ took_bytes took ++ rest → ⊥)
-        (λ x. (bytes.now ≡ took_bytes x.0 ++ x.1.now) × IfSome x.0 IsTook)) }
+        (λ x. (bytes.now ≡ took_bytes (option_map took_said x.0) ++ x.1.now) ×
+        IfSome (option_map took_said x.0) IsTook) }
 {
-    let Some((first, rest)) = bytes.split_first() else {
-        return Ok(None);
-    };
+    let (first, rest) = bytes.split_first()?;
     if *first == 0 {
-        return Ok(Some((None, rest)));
+        return Some((None, rest));
     }
-    let Some(side) = side_of(*first) else {
+    let side = side_of(*first)?;
+    let (number, raw, rest) = message_front(rest)?;
+    Some((Some(TookRef { side, number, raw }), rest))
+}
+
+/// What was taken, copied.
+fn took_copied(alloc: Global, took: Option<TookRef<'_>>) -> Result<Option<Took>, AllocError>
+    ensures { IfOk result (λ copied. copied ≡ option_map took_said took.entry) }
+{
+    let Some(took) = took else {
         return Ok(None);
     };
-    let Some((number, raw, rest)) = message_front(rest) else {
-        return Ok(None);
-    };
-    let raw = Bytes::copy(alloc, raw)?;
-    Ok(Some((Some(Took { side, number, raw }), rest)))
+    Ok(Some(Took {
+        side: took.side,
+        number: took.number,
+        raw: Bytes::copy(alloc, took.raw)?,
+    }))
 }
 
 /// A number and a raw body in front, and what is behind them.
@@ -259,27 +276,62 @@ fn texts_front(bytes: &[u8]) -> Option<(&[u8], &[u8], &[u8])>
     Some((msg_type, content, rest))
 }
 
-/// An out in front, and what is behind it.
-fn out_front(alloc: Global, bytes: &[u8]) -> Result<Option<(Out, &[u8])>, AllocError>
-    ensures { IfOk result (λ r. MatchOption r
+/// A message that was given out, where its bytes stand.
+#[derive(Clone, Copy)]
+pub struct OutRef<'b> {
+    /// To whom it goes.
+    pub side: Side,
+    /// MsgSeqNum(34), at most 999,999,999.
+    pub number: u32,
+    /// Whether it is administrative.
+    pub admin: bool,
+    /// Whether it has PossResend(97) with `Y`.
+    pub resend: bool,
+    /// MsgType(35), of 1 to 8 bytes.
+    pub msg_type: &'b [u8],
+    /// The fields behind the header, of at most 7,936 bytes.
+    pub content: &'b [u8],
+}
+
+/// An out in front, where its bytes stand, and what is behind it.
+pub fn out_ref(bytes: &[u8]) -> Option<(OutRef<'_>, &[u8])>
+    ensures { MatchOption result
         ((out : Out) (rest : List ℕ) → IsOut out → bytes.now ≡ out_bytes out ++ rest → ⊥)
-        (λ x. (bytes.now ≡ out_bytes x.0 ++ x.1.now) × IsOut x.0)) }
+        (λ x. (bytes.now ≡ out_bytes (out_said x.0) ++ x.1.now) × IsOut (out_said x.0)) }
 {
     let Some((head, rest)) = head_front(bytes) else {
-        return Ok(None);
+        return None;
     };
     let Some((msg_type, content, rest)) = texts_front(rest) else {
-        return Ok(None);
+        return None;
     };
-    let msg_type = Bytes::copy(alloc, msg_type)?;
-    let content = Bytes::copy(alloc, content)?;
-    let out = Out {
+    let out = OutRef {
         side: head.side,
         number: head.number,
         admin: head.admin,
         resend: head.resend,
         msg_type,
         content,
+    };
+    Some((out, rest))
+}
+
+/// An out in front, copied, and what is behind it.
+fn out_front(alloc: Global, bytes: &[u8]) -> Result<Option<(Out, &[u8])>, AllocError>
+    ensures { IfOk result (λ r. MatchOption r
+        ((out : Out) (rest : List ℕ) → IsOut out → bytes.now ≡ out_bytes out ++ rest → ⊥)
+        (λ x. (bytes.now ≡ out_bytes x.0 ++ x.1.now) × IsOut x.0)) }
+{
+    let Some((out, rest)) = out_ref(bytes) else {
+        return Ok(None);
+    };
+    let out = Out {
+        side: out.side,
+        number: out.number,
+        admin: out.admin,
+        resend: out.resend,
+        msg_type: Bytes::copy(alloc, out.msg_type)?,
+        content: Bytes::copy(alloc, out.content)?,
     };
     Ok(Some((out, rest)))
 }
@@ -305,31 +357,60 @@ fn outs_front(alloc: Global, count: u8, bytes: &[u8]) -> Result<Option<(Outs, &[
     Ok(Some((outs, rest)))
 }
 
+/// An entry but for its outs, where its bytes stand.
+#[derive(Clone, Copy)]
+pub struct Front<'b> {
+    /// When it was, in milliseconds since 1970-01-01 00:00 UTC.
+    pub at: u64,
+    took: Option<TookRef<'b>>,
+    /// The next numbers after it: client in, client out, venue in, venue out.
+    pub next: (u32, u32, u32, u32),
+    /// The count of its outs, and the outs.
+    pub outs: &'b [u8],
+}
+
+/// What these bytes begin with as an entry. It takes no memory.
+pub fn front_of(bytes: &[u8]) -> Option<Front<'_>>
+    ensures { MatchOption result
+        ((entry : Entry) → IsEntry entry → bytes.now ≡ entry_bytes entry → ⊥)
+        (λ front. (bytes.now ≡ front_bytes front) × IsFront front) }
+{
+    let Some((at, rest)) = u64_front(bytes) else {
+        return None;
+    };
+    let Some((took, rest)) = took_front(rest) else {
+        return None;
+    };
+    let Some((next, outs)) = nexts_front(rest) else {
+        return None;
+    };
+    if at > MAX_AT {
+        return None;
+    }
+    Some(Front {
+        at,
+        took,
+        next,
+        outs,
+    })
+}
+
 /// The entry that these bytes spell, all of them.
 pub fn read_entry(alloc: Global, bytes: &[u8]) -> Result<Option<Entry>, AllocError>
     ensures { IfOk result (λ r. MatchOption r
         ((entry : Entry) → IsEntry entry → bytes.now ≡ entry_bytes entry → ⊥)
         (λ entry. (bytes.now ≡ entry_bytes entry) × IsEntry entry)) }
 {
-    let Some((at, rest)) = u64_front(bytes) else {
+    let Some(front) = front_of(bytes) else {
         return Ok(None);
     };
-    let Some((took, rest)) = took_front(alloc, rest)? else {
+    let Some(outs) = all_outs(alloc, front.outs)? else {
         return Ok(None);
     };
-    let Some((next, rest)) = nexts_front(rest) else {
-        return Ok(None);
-    };
-    let Some(outs) = all_outs(alloc, rest)? else {
-        return Ok(None);
-    };
-    if at > MAX_AT {
-        return Ok(None);
-    }
     Ok(Some(Entry {
-        at,
-        took,
-        next,
+        at: front.at,
+        took: took_copied(alloc, front.took)?,
+        next: front.next,
         outs,
     }))
 }

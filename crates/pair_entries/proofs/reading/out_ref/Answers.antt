@@ -1,7 +1,7 @@
 use Rattle.std.proofs.Common.{◌++◌, ◌∷◌, length}
 use Rattle.pair_entries.specs.Payload.{counted}
 use Rattle.pair_entries.specs.declared.reading.Head.{Head}
-use Rattle.pair_entries.proofs.reading.out_front.Goals as goal
+use Rattle.pair_entries.proofs.reading.out_ref.Goals as goal
 
 pub returns-in_default : goal.returns-in_default
 returns-in_default c = λ out rest is_out is.
