@@ -22,11 +22,11 @@ use Rattle.pair_journal.specs.Parts.{given_at}
 other : (m n : ℕ) → (m ≡ n → ⊥) → (m == n) ≡ false
 other m n differ = grind (arith, nat_tests)
 
-passed : (n : ℕ) (o : Out) (outs : List Out)
+pub passed : (n : ℕ) (o : Out) (outs : List Out)
     → (o.number ≡ n → ⊥) → numbered n (o ∷ outs) ≡ numbered n outs
 passed n o outs differ = rw (other o.number n differ, numbered) refl
 
-below_all : (n m : ℕ) (outs : List Out) → Numbered m outs → n < m → numbered n outs ≡ None
+pub below_all : (n m : ℕ) (outs : List Out) → Numbered m outs → n < m → numbered n outs ≡ None
 below_all n m [] count low = refl
 below_all n m (o ∷ outs) count low =
     passed n o outs (λ e. omega (arith, count.0)) ∙ below_all n (m + 1) outs count.1 (omega arith)
@@ -40,20 +40,20 @@ above_all n m (o ∷ outs) count high =
 
 -- ---- in a list of entries
 
-goes : (side : Side) (before : Next) (entry : Entry)
+pub goes : (side : Side) (before : Next) (entry : Entry)
     → GoesOn before entry → OutsGoOn side before entry
 goes Client before entry h = h.client_out
 goes Venue before entry h = h.venue_out
 
-rises : (side : Side) (before : Next) (entry : Entry)
+pub rises : (side : Side) (before : Next) (entry : Entry)
     → GoesOn before entry → next_out side before ≤ next_out side entry.next
 rises side before entry h = omega (arith, (goes side before entry h).next)
 
-none_in : (side : Side) (n : ℕ) (entry : Entry)
+pub none_in : (side : Side) (n : ℕ) (entry : Entry)
     → numbered n (outs_to side entry.outs) ≡ None → given_in side n entry ≡ None
 none_in side n entry e = rw (e, given_in) refl
 
-behind : (side : Side) (n : ℕ) (entry : Entry) (entries : List Entry)
+pub behind : (side : Side) (n : ℕ) (entry : Entry) (entries : List Entry)
     → given_in side n entry ≡ None → given side n (entry ∷ entries) ≡ given side n entries
 behind side n entry entries e = rw (e, given) refl
 
@@ -63,20 +63,20 @@ below_entry side n before entry h low =
     none_in side n entry (below_all
     n (next_out side before) (outs_to side entry.outs) (goes side before entry h).numbered low)
 
-above_entry : (side : Side) (n : ℕ) (before : Next) (entry : Entry)
+pub above_entry : (side : Side) (n : ℕ) (before : Next) (entry : Entry)
     → GoesOn before entry → next_out side entry.next ≤ n → given_in side n entry ≡ None
 above_entry side n before entry h high =
     none_in side n entry (above_all n (next_out side before) (outs_to side entry.outs)
     (goes side before entry h).numbered (omega (arith, (goes side before entry h).next, high)))
 
-none_below : (side : Side) (n : ℕ) (before : Next) (entries : List Entry)
+pub none_below : (side : Side) (n : ℕ) (before : Next) (entries : List Entry)
     → AreEntries before entries → n < next_out side before → given side n entries ≡ None
 none_below side n before [] are low = refl
 none_below side n before (e ∷ es) are low =
     behind side n e es (below_entry side n before e are.1 low)
     ∙ none_below side n e.next es are.2 (omega (arith, low, rises side before e are.1))
 
-here : (side : Side) (n : ℕ) (entry : Entry) (entries : List Entry) (one : Given)
+pub here : (side : Side) (n : ℕ) (entry : Entry) (entries : List Entry) (one : Given)
     → given_in side n entry ≡ Some one → given side n (entry ∷ entries) ≡ Some one
 here side n entry entries one e = rw (e, given) refl
 
@@ -147,13 +147,13 @@ parted side n before entries are i j d order within test =
 
 -- ---- each number that was given out is found
 
-apart : (a b : ℕ) → (a == b) ≡ false → a ≡ b → ⊥
+pub apart : (a b : ℕ) → (a == b) ≡ false → a ≡ b → ⊥
 apart a b e same = grind (arith, nat_tests)
 
-not_past : (a b : ℕ) → leb a b ≡ false → b < a
+pub not_past : (a b : ℕ) → leb a b ≡ false → b < a
 not_past a b h = grind (arith, nat_tests)
 
-among : (n m : ℕ) (outs : List Out)
+pub among : (n m : ℕ) (outs : List Out)
     → Numbered m outs → m ≤ n → n < m + length outs → (o : Out) × (numbered n outs ≡ Some o)
 among n m [] count low high = absurd (omega (arith, low, high))
 among n m (o ∷ outs) count low high =
@@ -196,7 +196,7 @@ given_some side n before (e ∷ es) are low high =
           here side n e es (record { entry = e; out = o.0 }) (found_in side n e o.0 o.1),
         )
 
-first_is_1 : (side : Side) → next_out side first_numbers ≡ 1
+pub first_is_1 : (side : Side) → next_out side first_numbers ≡ 1
 first_is_1 Client = refl
 first_is_1 Venue = refl
 

@@ -6,3 +6,8 @@ pub mod Walking
 pub mod OneReading
 pub mod Reading
 pub mod Loaded
+pub mod Marking
+pub mod Noting
+pub mod Standing
+pub mod Finding
+pub mod Adding

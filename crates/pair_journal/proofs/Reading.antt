@@ -29,7 +29,7 @@ err_misread (Ok value) error told is misread = tt
 err_misread (Err e) error told is misread = subst (IsMisread told) (sym is) misread
 
 -- a record ends behind its place
-at_within : (payloads : List (List ℕ)) (place : ℕ) (p : List ℕ)
+pub at_within : (payloads : List (List ℕ)) (place : ℕ) (p : List ℕ)
     → IsAt payloads place p → place < length (blocks payloads)
 at_within payloads place p there = omega (
   arith,

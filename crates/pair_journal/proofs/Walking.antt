@@ -19,6 +19,9 @@ use Rattle.pair_entries.proofs.Same.{same_entry}
 use Rattle.pair_entries.proofs.Fronts.{entry_short}
 use Rattle.pair_journal.proofs.Carrying.{AreEntries-push, numbers_after-push, payloads-push}
 use Rattle.pair_journal.proofs.Carrying.{map_length}
+use Rattle.pair_journal.proofs.Marking.{place_is}
+use Rattle.pair_journal.specs.Spots.{behind}
+use Rattle.pair_journal.specs.declared.spot.Spot.{Spot}
 
 -- ---- the first payload
 
@@ -73,35 +76,16 @@ pub record Begins (payloads : List (List ℕ)) (names : Names) (entries : List E
   pub after : List (List ℕ)
   pub split : payloads ≡ payloads_of names entries ++ after
 
-pub none_walks : (names : Names) → AreNames names → Walks names [] 1 160 first_numbers
-none_walks names named = record {
-  stands = omega (arith, birth_size names named, length-append (birth_bytes names) []);
-  sound = tt;
-  reached = refl;
-  count = refl;
+-- what is kept of them says where the next stands
+pub walks_at : (names : Names) (entries : List Entry) (index : ℕ) (end : Spot) → AreNames names
+    → AreEntries first_numbers entries → index ≡ length entries + 1 → end ≡ behind entries
+    → Walks names entries index end.place end.next
+walks_at names entries index end named sound count is = record {
+  stands = ap (λ (s : Spot). s.place) is ∙ sym (place_is names entries named);
+  sound = sound;
+  reached = ap (λ (s : Spot). s.next) is;
+  count = count;
 }
-
--- one entry more was read
-pub more_walks : (names : Names) (entries more : List Entry) (index place : ℕ) (numbers : Next)
-    (bytes : List ℕ) (entry : Entry) → Walks names entries index place numbers
-    → Follows numbers bytes entry → more ≡ entries ++ entry ∷ []
-    → Walks names more (index + 1) (place + (5 + length bytes)) entry.next
-more_walks names entries more index place numbers bytes entry walks follows pushed =
-    let on = subst (λ (n : Next). GoesOn n entry) walks.reached follows.goes_on in
-    let longer = length-blocks-push (payloads_of names entries) (entry_bytes entry) in
-    subst (λ (es : List Entry). Walks names es (index + 1) (place + (5 + length bytes)) entry.next)
-    (sym pushed) (record {
-      stands = omega (
-        arith,
-        walks.stands,
-        longer,
-        ap length follows.written,
-        ap (λ (l : List (List ℕ)). length (blocks l)) (payloads-push names entries entry),
-      );
-      sound = AreEntries-push first_numbers entries entry walks.sound follows.sound on;
-      reached = sym (numbers_after-push first_numbers entries entry);
-      count = omega (arith, walks.count, length-append entries (entry ∷ []));
-    })
 
 pub head_of : (x y : List ℕ) (xs ys : List (List ℕ)) → x ∷ xs ≡ y ∷ ys → (x ≡ y) × (xs ≡ ys)
 head_of x y xs ys e = (let h : x ≡ y = cc e in h, ap (drop 1) e)

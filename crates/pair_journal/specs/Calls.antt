@@ -38,6 +38,17 @@ ReadsOnly (Err (errors.NamesDiffer kept given)) = ⊥
 ReadsOnly (Err errors.Full) = ⊥
 ReadsOnly answer = Unit {0}
 
+-- besides these it may refuse what it reads
+abbrev pub OnlyReading : {T : Type 0} → Result T JournalError → Type 0
+OnlyReading (Err (errors.NamesDiffer kept given)) = ⊥
+OnlyReading (Err errors.Full) = ⊥
+OnlyReading answer = Unit {0}
+
+-- the same, but a disk that tells its bytes is not refused
+abbrev pub RefusedUntold : {T : Type 0} → Option (List ℕ) → Result T JournalError → Type 0
+RefusedUntold told (Err (errors.Refused at)) = told ≡ None
+RefusedUntold told answer = OnlyReading answer
+
 -- What a look at these bytes answers: a journal exactly where they stand for it, none exactly where
 -- they are unborn, a refusal exactly where they are refused at that place.
 abbrev pub Looks : List ℕ → Result (Option JournalState) JournalError → Type 0

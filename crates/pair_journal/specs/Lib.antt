@@ -4,7 +4,11 @@ pub mod Journal
 pub mod Laws
 pub mod Parts
 pub mod State
+pub mod Past
 pub mod Given
+pub mod Spots
+pub mod Sources
+pub mod Kept
 pub mod OutBuf
 pub mod Buffer
 pub mod Calls

@@ -1,5 +1,5 @@
 -- Own: an out with the moment of its entry, as a buffer holds it.
-use Rattle.std.specs.Prelude.{◌≡◌, ℕ, ◌≤◌, List, Bool, length, Some, None}
+use Rattle.std.specs.Prelude.{◌≡◌, ℕ, ◌≤◌, List, Bool, true, false, length, Some, None}
 use Rattle.std.specs.declared.option.Option.{Option}
 use Rattle.pair_journal.specs.Given.{Given}
 use Rattle.pair_entries.specs.declared.TheConstants.{MAX_AT, MAX_TYPE, MAX_CONTENT}
@@ -26,6 +26,12 @@ out_at at out = record {
 abbrev pub IsGivenAs : Option Given → OutAt → Type 0
 IsGivenAs None what = ⊥
 IsGivenAs (Some one) what = what ≡ out_at one.entry.at one.out
+
+-- an out of an entry of this moment is told, or there is none
+abbrev pub TellsIf : Bool → Option Out → ℕ → OutAt → Type 0
+TellsIf true (Some out) at what = what ≡ out_at at out
+TellsIf true None at what = ⊥
+TellsIf false out at what = out ≡ None
 
 -- its bounds
 pub record IsOutAt (what : OutAt) : Type 0 where

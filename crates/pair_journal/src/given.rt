@@ -1,53 +1,60 @@
 //! An out by its side and number, and the message that it translated.
 
-ghost use Rattle.std.specs.Prelude.{◌≡◌, ◌==◌, Some, None, MatchOption};
-ghost use Rattle.pair_journal.specs.Numbers.{outs_to, first_numbers};
-ghost use Rattle.pair_journal.specs.Journal.{AreEntries};
-ghost use Rattle.pair_journal.specs.Given.{numbered, given, letters_to, has_letter, is_source};
+ghost use Rattle.std.specs.Prelude.{◌≡◌, ◌==◌, ◌&&◌, ◌∷◌, ◌++◌, ℕ, List, length, IfSome};
+ghost use Rattle.std.specs.Option.{option_map};
+ghost use Rattle.std.specs.List.{list_any, flat_map};
+ghost use Rattle.pair_entries.specs.declared.entry.Out.{Out};
+ghost use Rattle.pair_entries.specs.declared.entry.Entry.{Entry};
+ghost use Rattle.pair_entries.specs.Payload.{IsOut, AreOuts, out_bytes};
+ghost use Rattle.pair_entries.specs.Parts.{out_said};
+ghost use Rattle.pair_journal.specs.Numbers.{is_side, outs_to};
+ghost use Rattle.pair_journal.specs.Given.{numbered, letters_to, has_letter, is_source};
 ghost use Rattle.pair_journal.specs.Given.{source_in};
-ghost use Rattle.std.specs.List.{list_any, slice_get};
-ghost use Rattle.pair_journal.specs.Parts.{given_at};
 
-use crate::numbers::{is_side, next_out};
+use crate::numbers::is_side;
 use order_meaning::Side;
-use pair_entries::{Entry, Out, Took};
+use pair_entries::{Entry, Front, Out, OutRef, Took, out_ref, u8_front};
 
 /// The byte that ends a field; this crate stands on none that reads fields.
 const SOH: u8 = 1;
 
-/// The out of this number among those to a side.
-fn numbered(side: Side, number: u32, outs: &[Out]) -> Option<&Out>
-    ensures { MatchOption result (numbered number (outs_to side outs.now) ≡ None)
-        (λ out. numbered number (outs_to side outs.now) ≡ Some out.now) }
+/// Whether an out is of this side and number.
+fn is_of(side: Side, number: u32, out: &OutRef<'_>) -> bool
+    ensures { result ≡ (is_side side out.now.side && (out.now.number == number)) }
 {
-    match outs {
-        [] => None,
-        [out, rest @ ..] => {
-            if is_side(side, out.side) && out.number == number {
-                return Some(out);
-            }
-            numbered(side, number, rest)
-        }
+    is_side(side, out.side) && out.number == number
+}
+
+/// The first out of this side and number among so many that stand in front.
+fn out_among(side: Side, number: u32, count: u8, bytes: &[u8]) -> Option<OutRef<'_>>
+    ensures bounds { IfSome (option_map out_said result) IsOut }
+    ensures finds { (outs : List Out) (rest : List ℕ) → AreOuts outs → length outs ≡ count →
+        bytes.now ≡ flat_map out_bytes outs ++ rest →
+        option_map out_said result ≡ numbered number (outs_to side outs) }
+{
+    if count == 0 {
+        return None;
     }
+    let Some((out, rest)) = out_ref(bytes) else {
+        return None;
+    };
+    if is_of(side, number, &out) {
+        return Some(out);
+    }
+    out_among(side, number, count - 1, rest)
 }
 
-/// How many entries stand before the one that may have given out this number.
-fn entries_before(side: Side, number: u32, entries: &[Entry]) -> usize
-    requires { AreEntries first_numbers entries.now }
-    ensures { given side number entries.now ≡ given_at side number (slice_get entries.now result) }
+/// The out of this side and number in an entry of which this is the front.
+pub(crate) fn out_in<'b>(side: Side, number: u32, front: &Front<'b>) -> Option<OutRef<'b>>
+    ensures bounds { IfSome (option_map out_said result) IsOut }
+    ensures finds { (entry : Entry) → AreOuts entry.outs →
+        front.now.outs.now ≡ length entry.outs ∷ flat_map out_bytes entry.outs →
+        option_map out_said result ≡ numbered number (outs_to side entry.outs) }
 {
-    entries.partition_point(|entry| next_out(side, entry.next) <= number)
-}
-
-/// The out of this side and number, beside its entry.
-pub(crate) fn given(side: Side, number: u32, entries: &[Entry]) -> Option<(&Entry, &Out)>
-    requires { AreEntries first_numbers entries.now }
-    ensures { MatchOption result (given side number entries.now ≡ None) (λ x.
-        given side number entries.now ≡ Some (record { entry = x.0.now; out = x.1.now })) }
-{
-    let entry = entries.get(entries_before(side, number, entries))?;
-    let out = numbered(side, number, entry.outs.as_slice())?;
-    Some((entry, out))
+    let Some((count, outs)) = u8_front(front.outs) else {
+        return None;
+    };
+    out_among(side, number, count, outs)
 }
 
 /// Whether a message of this letter is translated to a side.

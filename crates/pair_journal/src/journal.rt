@@ -1,8 +1,8 @@
 //! A journal: its names and its entries, and the calls that read and lengthen it.
 
-ghost use Rattle.std.specs.Prelude.{◌≡◌, ◌⊎◌, ◌≤◌, ◌<◌, ℕ, [], length, false, Some, Err, IfOk};
-ghost use Rattle.std.specs.Prelude.{IfErr};
-ghost use Rattle.std.specs.Prelude.{IfSome, OnOk, OnErr, IsOkUnless, is_some};
+ghost use Rattle.std.specs.Prelude.{◌≡◌, ◌≢◌, ◌⊎◌, ◌+◌, ◌≤◌, ◌<◌, ℕ, [], length, true, false};
+ghost use Rattle.std.specs.Prelude.{Some, None, Ok, Err, IfOk, IfErr};
+ghost use Rattle.std.specs.Prelude.{IfSome, OnOk, OnErr, IsOkUnless, is_some, vec_capacity};
 ghost use Rattle.std.specs.Option.{ForSome};
 ghost use Rattle.std.specs.List.{slice_get};
 ghost use Rattle.outside.specs.Disk.{HasOneImage};
@@ -10,35 +10,43 @@ ghost use Rattle.order_meaning.specs.declared.names.Names.{Names};
 ghost use Rattle.gate_log.specs.Records.{IsUnborn};
 ghost use Rattle.gate_log.specs.Log.{OnlyReads, StandsOver};
 ghost use Rattle.pair_journal.specs.declared.error.JournalError.TheVariants as errors;
-ghost use Rattle.pair_entries.specs.Payload.{AreNext, IsEntry};
+ghost use Rattle.pair_journal.specs.declared.spot.Spot.{Spot};
+ghost use Rattle.pair_entries.specs.declared.entry.Entry.{Entry};
+ghost use Rattle.pair_entries.specs.Payload.{AreNext, IsEntry, entry_bytes};
 ghost use Rattle.pair_journal.specs.Birth.{AreNames};
 ghost use Rattle.pair_journal.specs.Numbers.{GoesOn, first_numbers, numbers_after, next_out};
+ghost use Rattle.pair_journal.specs.Numbers.{outs_to};
 ghost use Rattle.pair_journal.specs.Journal.{JournalOf, Unborn, Born, AreEntries};
-ghost use Rattle.pair_journal.specs.Given.{given, source_of};
-ghost use Rattle.pair_journal.specs.OutBuf.{IsGivenAs, IsOutAt};
+ghost use Rattle.pair_journal.specs.Given.{numbered, given_in, given, source_of};
+ghost use Rattle.pair_journal.specs.Spots.{IsSpot, StandsAt, IsUpTo, IsWalk};
+ghost use Rattle.pair_journal.specs.OutBuf.{IsGivenAs, IsOutAt, TellsIf};
+ghost use Rattle.pair_journal.specs.Buffer.{out_told, IsRoomy};
 ghost use Rattle.pair_journal.specs.Calls.{HasDiskCause, ReadsOnly, Looks, Loads, BornOrNot};
-ghost use Rattle.pair_journal.specs.Calls.{Commits, KeepsJournal};
+ghost use Rattle.pair_journal.specs.Calls.{Commits, KeepsJournal, OnlyReading, RefusedUntold};
 ghost use Rattle.pair_journal.specs.Loading.{HasNames, Tells, IsMisread};
 
 use crate::birth::{are_names, same_names, write_birth};
-use crate::given::{given, source_in};
-use crate::loading::{read_entries, read_names};
-use crate::numbers::FIRST;
-use crate::{JournalError, OutBuf};
-use gate_log::Log;
+use crate::given::out_in;
+use crate::kept::Kept;
+use crate::loading::{read_entries, read_names, read_record};
+use crate::numbers::next_out;
+use crate::out_buf::OutTold;
+use crate::spot::{STRIDE, Spot, Walk, later, start};
+use crate::{JournalError, NoReader, OutBuf, Reader};
+use gate_log::{Log, MAX_PAYLOAD};
 use order_meaning::{Names, Side};
 use outside::Disk;
-use pair_entries::{Entry, Prepared};
+use pair_entries::{Entry, Prepared, front_of, read_entry};
 use std::alloc::Global;
 use std::marker::Model;
 
-/// The names of two sessions and a list of entries, which stand on a disk. The entries are kept in
-/// memory too.
-#[derive(Debug, Drop)]
+/// The names of two sessions and a list of entries, which stand on a disk. It holds none of them:
+/// with the bytes of its disk it stands for their list.
+#[derive(Drop)]
 pub struct Journal {
     log: Log,
     names: Names,
-    entries: Vec<Entry>,
+    kept: Kept,
 }
 
 impl Model for Journal {
@@ -52,32 +60,54 @@ impl Model for Journal {
     ghost invariant = { IsKept };
 }
 
+/// Tells the out of this side and number that a payload has; false, where it has none.
+fn tell_out(record: &[u8], side: Side, number: u32, told: &mut OutTold) -> bool
+    requires room { IsRoomy told.old }
+    ensures gives { (entry : Entry) → IsEntry entry → record.now ≡ entry_bytes entry →
+        TellsIf result (numbered number (outs_to side entry.outs)) entry.at (out_told told.new) }
+    ensures bounds { result ≡ true → IsOutAt (out_told told.new) }
+    ensures room { IsRoomy told.new }
+{
+    let Some(front) = front_of(record) else {
+        return false;
+    };
+    let Some(out) = out_in(side, number, &front) else {
+        return false;
+    };
+    told.tell(front.at, out);
+    true
+}
+
 impl Journal {
-    /// The journal of a log.
-    fn of_log<D: Disk>(alloc: Global, disk: &mut D, log: Log) -> Result<Journal, JournalError>
+    /// The journal of a log. Its entries are shown to a reader.
+    fn of_log<D: Disk, R: Reader>(
+        alloc: Global,
+        disk: &mut D,
+        log: Log,
+        reader: &mut R,
+    ) -> Result<Journal, JournalError>
         requires stands { ForSome (D.bytes disk.old) (StandsOver log) }
         ensures ok { IfOk result (λ journal.
             Tells (D.bytes disk.old) journal.names journal.entries) }
         ensures whole { IfOk result (λ journal. journal.broken ≡ log.broken) }
+        ensures shown { IfOk result (λ journal.
+            R.shown reader.old [] → R.shown reader.new journal.entries) }
         ensures err { IfErr result (IsMisread (D.bytes disk.old)) }
         ensures only_read { OnlyReads D.bytes D.image disk.old disk.new }
         ensures cause { HasDiskCause (D.faults disk.old) (D.faults disk.new) result }
     {
         let names = read_names(alloc, &log, disk)?;
-        let entries = read_entries(alloc, &log, &names, disk)?;
-        Ok(Journal {
-            log,
-            names,
-            entries,
-        })
+        let kept = read_entries(alloc, &log, &names, disk, reader)?;
+        Ok(Journal { log, names, kept })
     }
 
     /// The journal of a log, where it has these names. It only reads.
-    fn of_names<D: Disk>(
+    fn of_names<D: Disk, R: Reader>(
         alloc: Global,
         disk: &mut D,
         log: Log,
         names: &Names,
+        reader: &mut R,
     ) -> Result<Journal, JournalError>
         requires stands { ForSome (D.bytes disk.old) (StandsOver log) }
         ensures loads { IfSome (D.bytes disk.old) (λ b.
@@ -86,10 +116,12 @@ impl Journal {
             JournalOf b (Born journal.names journal.entries))) }
         ensures named { IfOk result (λ journal. journal.names ≡ names.now) }
         ensures whole { IfOk result (λ journal. journal.broken ≡ log.broken) }
+        ensures shown { IfOk result (λ journal.
+            R.shown reader.old [] → R.shown reader.new journal.entries) }
         ensures only_read { OnlyReads D.bytes D.image disk.old disk.new }
         ensures cause { HasDiskCause (D.faults disk.old) (D.faults disk.new) result }
     {
-        let journal = Journal::of_log(alloc, disk, log)?;
+        let journal = Journal::of_log(alloc, disk, log, reader)?;
         journal.if_named(names)
     }
 
@@ -113,7 +145,7 @@ impl Journal {
         Ok(Journal {
             log,
             names: *names,
-            entries: Vec::new(alloc),
+            kept: Kept::new(alloc),
         })
     }
 
@@ -128,22 +160,24 @@ impl Journal {
         ensures cause { HasDiskCause (D.faults disk.old) (D.faults disk.new) result }
     {
         match Log::look(alloc, disk)? {
-            Some(log) => Ok(Some(Journal::of_log(alloc, disk, log)?)),
+            Some(log) => Ok(Some(Journal::of_log(alloc, disk, log, &mut NoReader)?)),
             None => Ok(None),
         }
     }
 
-    /// The journal of these names on a disk. An unborn disk becomes one without entries.
+    /// The journal of these names on a disk. An unborn disk becomes one without entries. Each entry is
+    /// shown to a reader as it is read.
     ///
     /// # Errors
     /// `Refused` exactly where the bytes are refused at that place; `NamesDiffer` exactly where
     /// they are a journal of other names; `DiskFault` only where the disk's count of faults rose;
     /// `NoMemory`. At `Refused` and `NamesDiffer` the disk was only read; a disk that is not unborn
     /// was only read whatever the answer.
-    pub fn load<D: Disk>(
+    pub fn load<D: Disk, R: Reader>(
         alloc: Global,
         disk: &mut D,
         names: &Names,
+        reader: &mut R,
     ) -> Result<Journal, JournalError>
         ensures loads { IfSome (D.bytes disk.old) (λ b.
             Loads names.now b result (D.bytes disk.new)) }
@@ -155,6 +189,8 @@ impl Journal {
             HasOneImage (D.bytes disk.new) (D.image disk.new)) }
         ensures named { IfOk result (λ journal. journal.names ≡ names.now) }
         ensures whole { IfOk result (λ journal. journal.broken ≡ false) }
+        ensures shown { IfOk result (λ journal.
+            R.shown reader.old [] → R.shown reader.new journal.entries) }
         ensures only_unborn_is_written { IfSome (D.bytes disk.old) (λ b.
             JournalOf b Unborn ⊎ OnlyReads D.bytes D.image disk.old disk.new) }
         ensures refused_only_reads { (at : ℕ) → result ≡ Err (errors.Refused at) →
@@ -166,7 +202,7 @@ impl Journal {
         ensures cause { HasDiskCause (D.faults disk.old) (D.faults disk.new) result }
     {
         match Log::look(alloc, disk)? {
-            Some(log) => Journal::of_names(alloc, disk, log, names),
+            Some(log) => Journal::of_names(alloc, disk, log, names, reader),
             None => Journal::begin(alloc, disk, names),
         }
     }
@@ -196,7 +232,7 @@ impl Journal {
     pub fn count(&self) -> u64
         ensures { result ≡ length self.now.entries }
     {
-        self.entries.len() as u64
+        self.kept.end().index
     }
 
     /// The next numbers after its last entry: client in, client out, venue in, venue out, each from
@@ -206,28 +242,114 @@ impl Journal {
         ensures bounds { AreNext result }
         ensures sound { AreEntries first_numbers self.now.entries }
     {
-        match self.entries.last() {
-            Some(entry) => entry.next,
-            None => FIRST,
-        }
+        self.kept.end().next
     }
 
-    /// The entry of this index, which counts from 0.
+    /// Reads the record at a spot into `record`, and answers the spot behind it.
+    fn read_at<D: Disk>(
+        &self,
+        disk: &mut D,
+        spot: Spot,
+        record: &mut Vec<u8>,
+    ) -> Result<Spot, JournalError>
+        requires stands { ForSome (D.bytes disk.old) (λ b.
+            JournalOf b (Born self.now.names self.now.entries)) }
+        ensures reads { IfOk result (λ next. ForSome (D.bytes disk.old) (λ b. (entry : Entry) →
+            StandsAt self.now.entries spot entry → (record.new.items ≡ entry_bytes entry)
+            × IsEntry entry × IsSpot self.now.entries next)) }
+        ensures sound { AreEntries first_numbers self.now.entries }
+        ensures index { IfOk result (λ next. next.index ≡ spot.index + 1) }
+        ensures refuses { (at : ℕ) → result ≡ Err (errors.Refused at) →
+            ForSome (D.bytes disk.old) (λ b. (entry : Entry) →
+            StandsAt self.now.entries spot entry → ⊥) }
+        ensures capacity { vec_capacity record.old ≤ vec_capacity record.new }
+        ensures room { MAX_PAYLOAD ≤ vec_capacity record.old → result ≢ Err errors.NoMemory }
+        ensures only_read { OnlyReads D.bytes D.image disk.old disk.new }
+        ensures few { D.reads disk.new ≤ D.reads disk.old + 2 }
+        ensures cause { HasDiskCause (D.faults disk.old) (D.faults disk.new) result }
+        ensures only { OnlyReading result }
+    {
+        if spot.index >= self.kept.end().index {
+            return Err(JournalError::Refused { at: spot.place });
+        }
+        if spot.place >= self.log.end() {
+            return Err(JournalError::Refused { at: spot.place });
+        }
+        read_record(&self.log, disk, spot.place, record)?;
+        let Some(front) = front_of(record) else {
+            return Err(JournalError::Refused { at: spot.place });
+        };
+        Ok(Spot {
+            index: spot.index + 1,
+            place: spot.place + 5 + record.len() as u64,
+            next: front.next,
+        })
+    }
+
+    /// The entry at a spot, and the spot behind it.
+    fn entry_at<D: Disk>(
+        &self,
+        disk: &mut D,
+        spot: Spot,
+        record: &mut Vec<u8>,
+    ) -> Result<(Entry, Spot), JournalError>
+        requires stands { ForSome (D.bytes disk.old) (λ b.
+            JournalOf b (Born self.now.names self.now.entries)) }
+        ensures entry { IfOk result (λ read. ForSome (D.bytes disk.old) (λ b. (entry : Entry) →
+            StandsAt self.now.entries spot entry → (read.0 ≡ entry)
+            × IsSpot self.now.entries read.1)) }
+        ensures index { IfOk result (λ read. read.1.index ≡ spot.index + 1) }
+        ensures bounds { IfOk result (λ read. IsEntry read.0) }
+        ensures refuses { (at : ℕ) → result ≡ Err (errors.Refused at) →
+            ForSome (D.bytes disk.old) (λ b. (entry : Entry) →
+            StandsAt self.now.entries spot entry → ⊥) }
+        ensures only_read { OnlyReads D.bytes D.image disk.old disk.new }
+        ensures cause { HasDiskCause (D.faults disk.old) (D.faults disk.new) result }
+        ensures only { OnlyReading result }
+    {
+        let next = self.read_at(disk, spot, record)?;
+        let Some(entry) = read_entry(*record.allocator(), record)? else {
+            return Err(JournalError::Refused { at: spot.place });
+        };
+        Ok((entry, next))
+    }
+
+    /// The entry of this index, which counts from 0; the walk goes on behind it. It reads at most 64
+    /// records, none twice where the indices rise.
     ///
     /// # Errors
-    /// `DiskFault` only where the disk's count of faults rose; `NoMemory`.
-    pub fn entry<D: Disk>(&self, disk: &mut D, index: u64) -> Result<Entry, JournalError>
+    /// `Refused` only over a disk that does not tell its bytes, where a record that was read is no
+    /// entry; `DiskFault` only where the disk's count of faults rose; `NoMemory`. Then the walk is
+    /// where it was.
+    pub fn entry<D: Disk>(
+        &self,
+        disk: &mut D,
+        walk: &mut Walk,
+        index: u64,
+    ) -> Result<Entry, JournalError>
         requires index { index < length self.now.entries }
         requires stands { ForSome (D.bytes disk.old) (λ b.
             JournalOf b (Born self.now.names self.now.entries)) }
-        ensures entry { IfOk result (λ entry. slice_get self.now.entries index ≡ Some entry) }
+        requires walk { ForSome (D.bytes disk.old) (λ b.
+            IsUpTo self.now.entries index walk.old) }
+        ensures entry { IfOk result (λ entry. ForSome (D.bytes disk.old) (λ b.
+            slice_get self.now.entries index ≡ Some entry)) }
         ensures bounds { IfOk result IsEntry }
+        ensures walk { ForSome (D.bytes disk.old) (λ b.
+            IsUpTo self.now.entries (index + 1) walk.new) }
         ensures only_read { OnlyReads D.bytes D.image disk.old disk.new }
         ensures cause { HasDiskCause (D.faults disk.old) (D.faults disk.new) result }
-        ensures only { ReadsOnly result }
+        ensures only { RefusedUntold (D.bytes disk.old) result }
     {
-        let _ = disk; // It is not read: the entries are in memory.
-        Ok(self.entries[index as usize].duplicate()?)
+        let mut record = Vec::new(self.kept.alloc());
+        let mark = self.kept.before(index);
+        let mut spot = later(mark, walk.spot);
+        'records: while spot.index < index {
+            spot = self.read_at(disk, spot, &mut record)?;
+        }
+        let (entry, next) = self.entry_at(disk, spot, &mut record)?;
+        walk.spot = next;
+        Ok(entry)
     }
 
     /// Makes room for one commit.
@@ -240,7 +362,7 @@ impl Journal {
         ensures only { IsOkUnless result errors.NoMemory }
     {
         self.log.reserve()?;
-        self.entries.reserve(1)?;
+        self.kept.reserve()?;
         Ok(())
     }
 
@@ -273,20 +395,75 @@ impl Journal {
         ensures reads { D.reads disk.new ≡ D.reads disk.old }
         ensures cause { HasDiskCause (D.faults disk.old) (D.faults disk.new) result }
     {
-        self.log.append(disk, prepared.payload())?;
-        let (entry, copy) = prepared.into_entries();
-        self.entries.push_reserved(copy);
+        let payload = prepared.payload();
+        let len = payload.len() as u64;
+        self.log.append(disk, payload)?;
+        let entry = prepared.into_entry();
+        self.kept.add(&entry, len);
         Ok(entry)
     }
 
-    /// Reads the out of this side and number, which was given out. It takes no memory.
+    /// Reads the record at a spot: where it has the out of this side and number, the out is told;
+    /// else the spot behind it is answered.
+    fn out_at<D: Disk>(
+        &self,
+        disk: &mut D,
+        spot: Spot,
+        side: Side,
+        number: u32,
+        into: &mut OutBuf,
+    ) -> Result<Option<Spot>, JournalError>
+        requires stands { ForSome (D.bytes disk.old) (λ b.
+            JournalOf b (Born self.now.names self.now.entries)) }
+        ensures gives { result ≡ Ok None → ForSome (D.bytes disk.old) (λ b. (entry : Entry) →
+            StandsAt self.now.entries spot entry →
+            IsGivenAs (given_in side number entry) into.new) }
+        ensures bounds { result ≡ Ok None → IsOutAt into.new }
+        ensures goes_on { (next : Spot) → result ≡ Ok (Some next) → ForSome (D.bytes disk.old)
+            (λ b. (entry : Entry) → StandsAt self.now.entries spot entry →
+            IsSpot self.now.entries next × (next_out side next.next ≤ number)) }
+        ensures index { (next : Spot) → result ≡ Ok (Some next) →
+            next.index ≡ spot.index + 1 }
+        ensures refuses { (at : ℕ) → result ≡ Err (errors.Refused at) →
+            ForSome (D.bytes disk.old) (λ b. (entry : Entry) →
+            StandsAt self.now.entries spot entry → next_out side spot.next ≤ number → ⊥) }
+        ensures only_read { OnlyReads D.bytes D.image disk.old disk.new }
+        ensures few { D.reads disk.new ≤ D.reads disk.old + 2 }
+        ensures cause { HasDiskCause (D.faults disk.old) (D.faults disk.new) result }
+        ensures only { OnlyReading result }
+        ensures no_memory { result ≢ Err errors.NoMemory }
+    {
+        let next = self.read_at(disk, spot, &mut into.record)?;
+        if next_out(side, next.next) <= number {
+            return Ok(Some(next));
+        }
+        if tell_out(&into.record, side, number, &mut into.told) {
+            return Ok(None);
+        }
+        Err(JournalError::Refused { at: spot.place })
+    }
+
+    /// A walk over it, before the first entry.
+    pub fn walk(&self) -> Walk
+        ensures entries { IsUpTo self.now.entries 0 result }
+        ensures outs { (side : Side) (number : ℕ) → 1 ≤ number →
+            IsWalk self.now.entries side number result }
+    {
+        Walk { spot: start() }
+    }
+
+    /// Reads the out of this side and number, which was given out, and walks on to it. It reads at
+    /// most 64 records, in 128 calls of the disk, none twice where the numbers rise, and takes no
+    /// memory.
     ///
     /// # Errors
-    /// `DiskFault` alone, and only where the disk's count of faults rose; then nothing is said of
-    /// `into`.
+    /// `Refused` only over a disk that does not tell its bytes, where a record that was read is no
+    /// entry or does not have the out; `DiskFault` only where the disk's count of faults rose. Then
+    /// nothing is said of `into`, and the walk is where it was.
     pub fn out<D: Disk>(
         &self,
         disk: &mut D,
+        walk: &mut Walk,
         side: Side,
         number: u32,
         into: &mut OutBuf,
@@ -295,18 +472,32 @@ impl Journal {
         requires below { number < next_out side (numbers_after first_numbers self.now.entries) }
         requires stands { ForSome (D.bytes disk.old) (λ b.
             JournalOf b (Born self.now.names self.now.entries)) }
-        ensures out { OnOk result (IsGivenAs (given side number self.now.entries) into.new) }
+        requires walk { ForSome (D.bytes disk.old) (λ b.
+            IsWalk self.now.entries side number walk.old) }
+        ensures out { OnOk result (ForSome (D.bytes disk.old) (λ b.
+            IsGivenAs (given side number self.now.entries) into.new)) }
         ensures bounds { OnOk result (IsOutAt into.new) }
+        ensures walk { ForSome (D.bytes disk.old) (λ b. (later : ℕ) → number ≤ later →
+            IsWalk self.now.entries side later walk.new) }
         ensures only_read { OnlyReads D.bytes D.image disk.old disk.new }
+        ensures few { D.reads disk.new ≤ D.reads disk.old + 128 }
         ensures cause { HasDiskCause (D.faults disk.old) (D.faults disk.new) result }
-        ensures only { IsOkUnless result errors.DiskFault }
+        ensures only { RefusedUntold (D.bytes disk.old) result }
+        ensures no_memory { result ≢ Err errors.NoMemory }
     {
-        let _ = disk; // It is not read: the entries are in memory.
-        let Some((entry, out)) = given(side, number, &self.entries) else {
-            return Ok(()); // Each number below the next out was given out.
-        };
-        into.tell(entry.at, out);
-        Ok(())
+        let mark = self.kept.holding(side, number);
+        let mut spot = later(mark, walk.spot);
+        'records: while spot.index - mark.index < STRIDE {
+            match self.out_at(disk, spot, side, number, into)? {
+                Some(next) => spot = next,
+                None => {
+                    walk.spot = spot;
+                    return Ok(());
+                }
+            }
+        }
+        // Over a disk that tells its bytes the out was found.
+        Err(JournalError::Refused { at: spot.place })
     }
 
     /// The MsgSeqNum(34) and the type's letter of the message that the out of this side and number
@@ -319,7 +510,6 @@ impl Journal {
     pub fn source_of(&self, side: Side, number: u32) -> Option<(u32, u8)>
         ensures { result ≡ source_of side number self.now.entries }
     {
-        let (entry, out) = given(side, number, &self.entries)?;
-        source_in(entry, out)
+        self.kept.source_of(side, number)
     }
 }

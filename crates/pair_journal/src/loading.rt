@@ -1,27 +1,28 @@
 //! The payloads of a log as the names and the entries of a journal.
 
-ghost use Rattle.std.specs.Prelude.{◌≡◌, ◌≤◌, length, MatchOption, IfOk, IfErr, OnOk};
+ghost use Rattle.std.specs.Prelude.{◌≢◌, ◌+◌, Err, vec_capacity};
+ghost use Rattle.pair_journal.specs.declared.error.JournalError.TheVariants as errors;
+ghost use Rattle.std.specs.Prelude.{◌≡◌, ◌≤◌, [], length, MatchOption, IfOk, IfErr, OnOk};
 ghost use Rattle.std.specs.Option.{ForSome};
 ghost use Rattle.gate_log.specs.Log.{OnlyReads, StandsOver, ReadsPayload};
 ghost use Rattle.pair_journal.specs.Birth.{AreNames};
 ghost use Rattle.pair_entries.specs.declared.entry.Entry.{Entry};
-ghost use Rattle.pair_journal.specs.Numbers.{first_numbers};
-ghost use Rattle.pair_journal.specs.Journal.{AreEntries};
 ghost use Rattle.pair_journal.specs.Calls.{HasDiskCause};
 ghost use Rattle.pair_journal.specs.Loading.{Follows, Unread, IsMisread, TellsNames, Tells};
 ghost use Rattle.pair_journal.specs.Loading.{HasExtent};
 
-use crate::JournalError;
 use crate::birth::read_birth;
-use crate::numbers::{FIRST, Next, goes_on};
-use gate_log::{BIRTH_LEN, Log, MAX_PAYLOAD};
+use crate::kept::Kept;
+use crate::numbers::{Next, goes_on};
+use crate::{JournalError, Reader};
+use gate_log::{Log, MAX_PAYLOAD};
 use order_meaning::Names;
 use outside::{Disk, MAX_DISK};
 use pair_entries::{Entry, read_entry};
 use std::alloc::{AllocError, Global};
 
 /// Replaces `out` by the payload that stands at this place.
-fn read_record<D: Disk>(
+pub(crate) fn read_record<D: Disk>(
     log: &Log,
     disk: &mut D,
     place: u64,
@@ -31,6 +32,9 @@ fn read_record<D: Disk>(
     ensures payload { OnOk result (ReadsPayload (D.bytes disk.old) place out.new.items) }
     ensures sized { length out.new.items ≤ MAX_PAYLOAD }
     ensures err { IfErr result (Unread (D.bytes disk.old) place) }
+    ensures capacity { vec_capacity out.old ≤ vec_capacity out.new }
+    ensures room { MAX_PAYLOAD ≤ vec_capacity out.old → result ≢ Err errors.NoMemory }
+    ensures few { D.reads disk.new ≤ D.reads disk.old + 2 }
     ensures only_read { OnlyReads D.bytes D.image disk.old disk.new }
     ensures cause { HasDiskCause (D.faults disk.old) (D.faults disk.new) result }
 {
@@ -79,42 +83,44 @@ pub(crate) fn entry_after(
     Ok(Some(entry))
 }
 
-/// The entries in the records of a log behind its birth record.
-pub(crate) fn read_entries<D: Disk>(
+/// The entries in the records of a log behind its birth record, as a journal keeps them. Each is
+/// shown to a reader.
+pub(crate) fn read_entries<D: Disk, R: Reader>(
     alloc: Global,
     log: &Log,
     names: &Names,
     disk: &mut D,
-) -> Result<Vec<Entry>, JournalError>
+    reader: &mut R,
+) -> Result<Kept, JournalError>
     requires named { AreNames names.now }
     requires born { TellsNames (D.bytes disk.old) names.now }
     requires stands { ForSome (D.bytes disk.old) (StandsOver log.now) }
-    ensures ok { IfOk result (λ v. Tells (D.bytes disk.old) names.now v.items) }
-    ensures sound { IfOk result (λ v. AreEntries first_numbers v.items) }
-    ensures extent { IfOk result (λ v. HasExtent log.now names.now v.items) }
+    ensures ok { IfOk result (λ kept. Tells (D.bytes disk.old) names.now kept.entries) }
+    ensures extent { IfOk result (λ kept. HasExtent log.now names.now kept.entries) }
+    ensures shown { IfOk result (λ kept. R.shown reader.old [] → R.shown reader.new kept.entries) }
     ensures err { IfErr result (IsMisread (D.bytes disk.old)) }
     ensures only_read { OnlyReads D.bytes D.image disk.old disk.new }
     ensures cause { HasDiskCause (D.faults disk.old) (D.faults disk.new) result }
 {
-    let mut entries = Vec::new(alloc);
+    let mut kept = Kept::new(alloc);
     let mut payload = Vec::new(alloc);
-    let mut numbers = FIRST;
-    let mut place = 5 + BIRTH_LEN as u64;
     for index in 1..log.count() {
-        if place >= log.end() {
-            return Err(JournalError::Refused { at: place });
+        let end = kept.end();
+        if end.place >= log.end() {
+            return Err(JournalError::Refused { at: end.place });
         }
-        read_record(log, disk, place, &mut payload)?;
-        let Some(entry) = entry_after(alloc, numbers, &payload)? else {
-            return Err(JournalError::Refused { at: place });
+        read_record(log, disk, end.place, &mut payload)?;
+        let Some(entry) = entry_after(alloc, end.next, &payload)? else {
+            return Err(JournalError::Refused { at: end.place });
         };
-        numbers = entry.next;
-        place += 5 + payload.len() as u64;
-        entries.push(entry)?;
+        reader.saw(&entry)?;
+        kept.reserve()?;
+        kept.add(&entry, payload.len() as u64);
     }
     // Over a disk that tells its bytes it is the end.
+    let place = kept.end().place;
     if place != log.end() {
         return Err(JournalError::Refused { at: place });
     }
-    Ok(entries)
+    Ok(kept)
 }

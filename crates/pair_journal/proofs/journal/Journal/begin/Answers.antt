@@ -1,7 +1,5 @@
 use Rattle.std.proofs.Common.{◌∙◌, List, ℕ, sym, ap, subst}
 use Rattle.gate_log.specs.Log.{BornOrNot}
-use Rattle.pair_journal.specs.Numbers.{first_numbers}
-use Rattle.pair_journal.specs.Journal.{AreEntries}
 use Rattle.pair_journal.specs.Loading.{HasExtent}
 use Rattle.pair_journal.proofs.Loaded.{extent_first, stands_first, images_born}
 use Rattle.pair_journal.proofs.journal.Journal.begin.Goals as goal
@@ -15,10 +13,9 @@ returns-in_err-log-clause-images g c =
 
 pub invariant_of-result : goal.invariant_of-result
 invariant_of-result g c =
-    let none = sym c.new.ensures.items in
+    let none = sym (ap (λ k. k.entries) c.new.ensures) in
     record {
       named = c.are_names.ensures;
-      sound = subst (AreEntries first_numbers) none tt;
       extent = subst (HasExtent c.in_ok-log.log c.args.names.now) none
           (extent_first c.in_ok-log.log c.args.names.now c.are_names.ensures
           (ap (λ l. l.count) c.in_ok-log.ensures.log) (ap (λ l. l.end) c.in_ok-log.ensures.log));

@@ -1,0 +1,32 @@
+-- Inside: what a journal keeps of its entries in memory: none of them, but their end, the marks and
+-- what their outs translate.
+use Rattle.std.specs.Prelude.{◌≡◌, ◌+◌, ◌≤◌, true, if◌then◌else◌}
+use Rattle.std.specs.Vec.{vec_len, vec_capacity}
+use Rattle.order_meaning.specs.declared.Side.TheVariants.{Client, Venue}
+use Rattle.pair_entries.specs.declared.TheConstants.{MAX_OUTS}
+use Rattle.pair_journal.specs.declared.kept.Kept.TheInside.{Inside}
+use Rattle.pair_journal.specs.Numbers.{first_numbers}
+use Rattle.pair_journal.specs.Journal.{AreEntries}
+use Rattle.pair_journal.specs.Spots.{behind, AreMarks}
+use Rattle.pair_journal.specs.Sources.{sources_to}
+use Rattle.pair_journal.specs.State.{KeptState}
+
+abbrev pub state_of : Inside → KeptState
+state_of kept = record {
+  entries = kept.past.entries;
+  spare = if kept.spare then 1 else 0;
+}
+
+-- there is room for a mark, and for what the outs of an entry translate
+pub record HasRoom (kept : Inside) : Type 0 where
+  pub marks : vec_len kept.marks + 1 ≤ vec_capacity kept.marks
+  pub client : vec_len kept.client + MAX_OUTS ≤ vec_capacity kept.client
+  pub venue : vec_len kept.venue + MAX_OUTS ≤ vec_capacity kept.venue
+
+pub record IsKept (kept : Inside) : Type 0 where
+  pub sound : AreEntries first_numbers kept.past.entries
+  pub end : kept.end ≡ behind kept.past.entries
+  pub marks : AreMarks kept.past.entries kept.marks.items
+  pub client : kept.client.items ≡ sources_to Client kept.past.entries
+  pub venue : kept.venue.items ≡ sources_to Venue kept.past.entries
+  pub room : kept.spare ≡ true → HasRoom kept

@@ -1,0 +1,63 @@
+-- Inside: places among the entries of a journal, and the marks of every 64th.
+use Rattle.std.specs.Prelude.{◌≡◌, ℕ, ◌+◌, ◌*◌, ◌<◌, ◌≤◌, List, length, map, take, Some}
+use Rattle.std.specs.Prelude.{slice_index_or}
+use Rattle.std.specs.List.{slice_get}
+use Rattle.order_meaning.specs.declared.Side.{Side}
+use Rattle.gate_log.specs.declared.TheConstants.{BIRTH_LEN}
+use Rattle.gate_log.specs.Records.{blocks}
+use Rattle.pair_entries.specs.declared.entry.Entry.{Entry}
+use Rattle.pair_entries.specs.Payload.{entry_bytes}
+use Rattle.pair_journal.specs.Numbers.{first_numbers, numbers_after, next_out}
+use Rattle.pair_journal.specs.declared.spot.Spot.{Spot}
+use Rattle.pair_journal.specs.declared.spot.Walk.{Walk}
+use Rattle.pair_journal.specs.declared.spot.TheConstants.{STRIDE}
+
+-- where the records of these entries end, behind a birth record
+abbrev pub end_of : List Entry → ℕ
+end_of entries = 5 + BIRTH_LEN + length (blocks (map entry_bytes entries))
+
+-- the place behind these entries
+abbrev pub behind : List Entry → Spot
+behind entries = record {
+  index = length entries;
+  place = end_of entries;
+  next = numbers_after first_numbers entries;
+}
+
+-- a spot of these entries, before the one of its index
+abbrev pub IsSpot : List Entry → Spot → Type 0
+IsSpot entries spot = spot ≡ behind (take spot.index entries)
+
+-- a walk that has not passed the entry of this index
+abbrev pub IsUpTo : List Entry → ℕ → Walk → Type 0
+IsUpTo entries index walk = IsSpot entries walk.spot × (walk.spot.index ≤ index)
+
+-- a walk that has not passed the out of this number
+abbrev pub IsWalk : List Entry → Side → ℕ → Walk → Type 0
+IsWalk entries side number walk =
+    IsSpot entries walk.spot × (next_out side walk.spot.next ≤ number)
+
+-- this entry stands at a spot of these
+pub record StandsAt (entries : List Entry) (spot : Spot) (entry : Entry) : Type 0 where
+  pub at : IsSpot entries spot
+  pub is : slice_get entries spot.index ≡ Some entry
+
+-- a mark stands behind each 64th of these entries
+pub record AreMarks (entries : List Entry) (marks : List Spot) : Type 0 where
+  pub most : STRIDE * length marks ≤ length entries
+  pub least : length entries < STRIDE * (length marks + 1)
+  pub each : (i : ℕ) (d : Spot) → i < length marks →
+      slice_index_or marks i d ≡ behind (take (STRIDE * (i + 1)) entries)
+
+-- a walk from this spot over so many entries at most comes to the one of this index
+pub record IsBefore (entries : List Entry) (index : ℕ) (spot : Spot) : Type 0 where
+  pub at : IsSpot entries spot
+  pub from : spot.index ≤ index
+  pub to : index < spot.index + STRIDE
+
+-- a walk from this spot over so many entries at most comes to the one that gave out this number
+pub record HoldsOut (entries : List Entry) (side : Side) (number : ℕ) (spot : Spot) : Type 0 where
+  pub at : IsSpot entries spot
+  pub from : next_out side spot.next ≤ number
+  pub to : number
+      < next_out side (numbers_after first_numbers (take (spot.index + STRIDE) entries))

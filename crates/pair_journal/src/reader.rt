@@ -1,0 +1,34 @@
+//! Who is shown the entries of a journal while they are read.
+
+ghost use Rattle.std.specs.Prelude.{◌∷◌, ◌++◌, [], List, OnOk};
+ghost use Rattle.pair_entries.specs.declared.entry.Entry.{Entry};
+
+use pair_entries::Entry;
+use std::alloc::AllocError;
+
+/// Who is shown each entry of a journal, in order, as it is loaded: no journal holds them
+/// afterwards.
+pub trait Reader {
+    /// It was shown these entries.
+    ghost shown: { Self → List Entry → Type 0 };
+
+    /// Is shown the next entry.
+    ///
+    /// # Errors
+    /// `AllocError` for want of memory.
+    fn saw(&mut self, entry: &Entry) -> Result<(), AllocError>
+        ensures { OnOk result ((before : List Entry) → shown self.old before →
+            shown self.new (before ++ entry.now ∷ [])) };
+}
+
+/// Who keeps nothing of them.
+#[derive(Clone, Copy, Debug)]
+pub struct NoReader;
+
+impl Reader for NoReader {
+    ghost shown = { λ _ _. Unit {0} };
+
+    fn saw(&mut self, _entry: &Entry) -> Result<(), AllocError> {
+        Ok(())
+    }
+}

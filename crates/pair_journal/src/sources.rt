@@ -1,0 +1,70 @@
+//! What the outs to a side translate, by their numbers.
+
+ghost use Rattle.std.specs.Prelude.{◌≡◌, ◌+◌, ◌≤◌, ◌++◌, List, length};
+ghost use Rattle.std.specs.Prelude.{vec_len, vec_capacity};
+ghost use Rattle.pair_entries.specs.declared.entry.Entry.{Entry};
+ghost use Rattle.pair_journal.specs.Numbers.{first_numbers};
+ghost use Rattle.pair_journal.specs.Journal.{AreEntries};
+ghost use Rattle.pair_journal.specs.Given.{source_of};
+ghost use Rattle.pair_journal.specs.Sources.{source_to, sources_in, sources_to};
+
+use crate::given::source_in;
+use crate::numbers::is_side;
+use order_meaning::Side;
+use pair_entries::{Entry, Out};
+
+/// What an out translates: its number, and the number and the type's letter of the message.
+#[derive(Clone, Copy, Debug)]
+pub(crate) struct Source {
+    pub(crate) number: u32,
+    pub(crate) from: u32,
+    pub(crate) letter: u8,
+}
+
+/// What an out of an entry translates, if it goes to this side.
+fn source_to(side: Side, entry: &Entry, out: &Out) -> Option<Source>
+    ensures { result ≡ source_to side entry.now out.now }
+{
+    if !is_side(side, out.side) {
+        return None;
+    }
+    let (from, letter) = source_in(entry, out)?;
+    Some(Source {
+        number: out.number,
+        from,
+        letter,
+    })
+}
+
+/// Adds what these outs of an entry translate, for which there is room.
+pub(crate) fn note(list: &mut Vec<Source>, side: Side, entry: &Entry, outs: &[Out])
+    requires room { vec_len list.old + length outs.now ≤ vec_capacity list.old }
+    ensures items { list.new.items ≡ list.old.items ++ sources_in side entry.now outs.now }
+    ensures capacity { vec_capacity list.new ≡ vec_capacity list.old }
+{
+    match outs {
+        [] => {}
+        [out, rest @ ..] => {
+            if let Some(source) = source_to(side, entry, out) {
+                list.push_reserved(source);
+            }
+            note(list, side, entry, rest);
+        }
+    }
+}
+
+/// What the out of this number translates, by a list of what the outs to a side do.
+pub(crate) fn find(list: &[Source], number: u32) -> Option<(u32, u8)>
+    ensures { (side : Side) (entries : List Entry) → AreEntries first_numbers entries →
+        list.now ≡ sources_to side entries → result ≡ source_of side number entries }
+{
+    let count = list.partition_point(|source| source.number <= number);
+    if count == 0 {
+        return None;
+    }
+    let last = list[count - 1];
+    if last.number != number {
+        return None;
+    }
+    Some((last.from, last.letter))
+}

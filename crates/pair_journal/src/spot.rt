@@ -1,0 +1,75 @@
+//! Places among the entries of a journal, and the marks of every 64th.
+
+ghost use Rattle.std.specs.Prelude.{◌≡◌, ◌⊎◌, ◌+◌, ◌*◌, ◌<◌, ◌≤◌, [], ◌∷◌, ◌++◌, List, length, take};
+ghost use Rattle.std.specs.Prelude.{vec_len, vec_capacity};
+ghost use Rattle.pair_entries.specs.declared.entry.Entry.{Entry};
+ghost use Rattle.pair_journal.specs.Spots.{behind, AreMarks};
+
+use crate::numbers::{FIRST, Next};
+use gate_log::BIRTH_LEN;
+
+/// How many entries stand between one mark and the next.
+pub(crate) const STRIDE: u64 = 64;
+
+/// A place among the entries: how many stand before it, where the next record stands, and the next
+/// numbers there.
+#[derive(Clone, Copy, Debug)]
+pub(crate) struct Spot {
+    pub(crate) index: u64,
+    pub(crate) place: u64,
+    pub(crate) next: Next,
+}
+
+/// Where a walk over the outs of a journal has come to.
+#[derive(Clone, Copy, Debug)]
+pub struct Walk {
+    pub(crate) spot: Spot,
+}
+
+/// The place before the first entry, which needs no mark.
+pub(crate) fn start() -> Spot
+    ensures { result ≡ behind [] }
+{
+    Spot {
+        index: 0,
+        place: 5 + BIRTH_LEN as u64,
+        next: FIRST,
+    }
+}
+
+/// The second spot, where it stands behind a mark and before the next one; else the mark.
+pub(crate) fn later(mark: Spot, spot: Spot) -> Spot
+    ensures which { (result ≡ mark) ⊎ (result ≡ spot) }
+    ensures from { mark.index ≤ result.index }
+    ensures to { result.index < mark.index + STRIDE }
+{
+    if mark.index < spot.index && spot.index - mark.index < STRIDE {
+        spot
+    } else {
+        mark
+    }
+}
+
+/// Marks the place behind the last entry, where that is a 64th.
+pub(crate) fn mark(marks: &mut Vec<Spot>, end: Spot)
+    requires room { vec_len marks.old + 1 ≤ vec_capacity marks.old }
+    requires few { STRIDE * length marks.old.items ≤ end.index }
+    ensures marked { (entries : List Entry) (entry : Entry) → end ≡ behind (entries ++ entry ∷ []) →
+        AreMarks entries marks.old.items → AreMarks (entries ++ entry ∷ []) marks.new.items }
+{
+    if end.index - STRIDE * marks.len() as u64 == STRIDE {
+        marks.push_reserved(end);
+    }
+}
+
+/// The mark of this place, counted from 1 on; the start, where it is 0.
+pub(crate) fn mark_of(marks: &[Spot], count: usize) -> Spot
+    requires { count ≤ length marks.now }
+    ensures { (entries : List Entry) → AreMarks entries marks.now →
+        result ≡ behind (take (STRIDE * count) entries) }
+{
+    if count == 0 {
+        return start();
+    }
+    marks[count - 1]
+}
