@@ -3,14 +3,12 @@
 ghost use Rattle.std.specs.Prelude.{◌≡◌, ℕ, ◌≤◌, ◌<◌, ◌-◌, ◌++◌, List, [], length, take, true};
 ghost use Rattle.std.specs.Prelude.{Some, None, Ok, IfOk, OnOk, OnErr, IfSome, unwrap_or};
 ghost use Rattle.std.specs.Prelude.{if◌then◌else◌};
-ghost use Rattle.std.specs.Option.{option_to_list, ForSome};
-ghost use Rattle.gate_log.specs.Log.{OnlyReads};
+ghost use Rattle.std.specs.Option.{option_to_list};
 ghost use Rattle.message_tables.specs.Tables.{value_at};
 ghost use Rattle.frame_grammar.specs.Frame.{IsBody};
 ghost use Rattle.pair_entries.specs.declared.entry.Entry.{Entry};
-ghost use Rattle.pair_journal.specs.Calls.{HasDiskCause, ReadsOnly};
-ghost use Rattle.pair_journal.specs.Journal.{JournalOf, Born};
-ghost use Rattle.pair_entries.specs.Payload.{IsTook, IsOut, AreOuts};
+ghost use Rattle.pair_journal.specs.Numbers.{numbers_after, first_numbers};
+ghost use Rattle.pair_entries.specs.Payload.{IsTook, IsOut, AreOuts, AreNext};
 ghost use Rattle.session_core.specs.Numbers.{AreNextNumbers};
 ghost use Rattle.session_core.specs.Table.{Message, step, number_of};
 ghost use Rattle.event_decisions.specs.Body.{reading_of, fields_of};
@@ -18,7 +16,7 @@ ghost use Rattle.event_decisions.specs.Event.{event_of, IsFramed, Frame, Tick};
 ghost use Rattle.event_decisions.specs.Decide.{session_of, says_of, head_in, Decides};
 ghost use Rattle.event_decisions.specs.Decide.{with_session};
 ghost use Rattle.message_answers.specs.Answer.{Answers};
-ghost use Rattle.message_answers.specs.Chains.{new_item};
+ghost use Rattle.message_answers.specs.Chains.{chains_of, new_item};
 ghost use Rattle.message_answers.specs.Seen.{IsFit};
 ghost use Rattle.gateway_core.specs.Planning.{IsSayable, StepsAreSayable, heard_by};
 ghost use Rattle.gateway_core.specs.Planning.{words_by, given_by, entry_by, decision_by, resolved};
@@ -33,13 +31,12 @@ use crate::outs::{Heard, Speaker, say_all};
 use crate::sessions::{Given, Sessions};
 use crate::{Config, Event, Plan, PlanError};
 use field_groups::{Split, split};
-use message_answers::{Answer, Asked, Known, answer_to, chains_of};
+use message_answers::{Answer, Asked, Known, answer_to};
 use message_tables::Lookup;
 use order_chains::{ChainItem, Chains};
 use order_meaning::Side;
-use outside::Disk;
 use pair_entries::{MAX_AT, Outs, Took};
-use pair_journal::{Journal, JournalError};
+use pair_journal::Journal;
 use session_core::laws::{each_message_takes_a_number, two_messages_at_most};
 use session_core::tag::TEST_REQ_ID;
 use session_core::{ALL_USED, Act, Acts, Head, Numbers, Session, Spent, Step};
@@ -72,33 +69,19 @@ impl Model for Core {
 }
 
 impl Core {
-    /// The core of a journal: both sessions are down, with its next numbers, and the chains are the
-    /// requests that it forwarded.
-    ///
-    /// # Errors
-    ///
-    /// `DiskFault` only where the disk counted a fault; `NoMemory` for want of memory.
-    pub fn load<D: Disk>(
-        alloc: Global,
-        journal: &Journal,
-        disk: &mut D,
-        config: &Config,
-    ) -> Result<Core, JournalError>
-        requires stands { ForSome (D.bytes disk.old) (λ b.
-            JournalOf b (Born journal.now.names journal.now.entries)) }
-        ensures core { IfOk result (λ core. core ≡ loaded config.now journal.now.entries) }
-        ensures only_read { OnlyReads D.bytes D.image disk.old disk.new }
-        ensures cause { HasDiskCause (D.faults disk.old) (D.faults disk.new) result }
-        ensures only { ReadsOnly result }
+    /// The core of a journal that has these next numbers and these chains: both sessions are down.
+    pub fn new(config: &Config, next: (u32, u32, u32, u32), chains: Chains) -> Core
+        requires { AreNext next }
+        ensures { (entries : List Entry) → next ≡ numbers_after first_numbers entries →
+            chains ≡ chains_of entries → result ≡ loaded config.now entries }
     {
-        let chains = chains_of(alloc, journal, disk)?;
-        let (client_in, client_out, venue_in, venue_out) = journal.next();
-        Ok(Core {
+        let (client_in, client_out, venue_in, venue_out) = next;
+        Core {
             config: *config,
             client: Session::new(Side::Client, numbers(client_in, client_out), config.heart),
             venue: Session::new(Side::Venue, numbers(venue_in, venue_out), config.heart),
             chains,
-        })
+        }
     }
 
     /// What is to be done at an event, at this moment, in milliseconds since 1970-01-01 00:00 UTC.

@@ -1,11 +1,8 @@
 //! The requests that a journal forwarded, as they join the chains.
 
-ghost use Rattle.std.specs.Prelude.{◌≡◌, ◌++◌, List, IfOk, OnOk};
-ghost use Rattle.std.specs.Option.{option_map, option_to_list, ForSome};
+ghost use Rattle.std.specs.Prelude.{◌≡◌, ◌++◌, [], List, IfOk, OnOk};
+ghost use Rattle.std.specs.Option.{option_map, option_to_list};
 ghost use Rattle.message_tables.specs.Tables.{first_of};
-ghost use Rattle.gate_log.specs.Log.{OnlyReads};
-ghost use Rattle.pair_journal.specs.Calls.{HasDiskCause, ReadsOnly};
-ghost use Rattle.pair_journal.specs.Journal.{JournalOf, Born};
 ghost use Rattle.message_answers.specs.Chains.{joining_letter, item_in, new_item, chains_of};
 ghost use Rattle.message_answers.specs.Seen.{item_said, original_said};
 
@@ -13,9 +10,8 @@ use dict_fix42::good42;
 use field_groups::{Fields, split};
 use order_chains::{ChainItem, Chains};
 use order_meaning::Bytes;
-use outside::Disk;
 use pair_entries::{Entry, Out};
-use pair_journal::{Journal, JournalError, source_in};
+use pair_journal::{Reader, source_in};
 use row_values::{or_empty, text};
 use std::alloc::{AllocError, Global};
 use translation::msg_type;
@@ -116,27 +112,41 @@ fn join(alloc: Global, chains: &mut Chains, entry: &Entry) -> Result<(), AllocEr
     chains.add(item)
 }
 
-/// The requests that a journal forwarded.
-///
-/// # Errors
-///
-/// `DiskFault` only where the disk's count of faults rose; `NoMemory`.
-pub fn chains_of<D: Disk>(
+/// The requests that a journal forwarded, as its entries are read one by one.
+#[derive(Drop)]
+pub struct Joining {
     alloc: Global,
-    journal: &Journal,
-    disk: &mut D,
-) -> Result<Chains, JournalError>
-    requires stands { ForSome (D.bytes disk.old) (λ b.
-        JournalOf b (Born journal.now.names journal.now.entries)) }
-    ensures chains { IfOk result (λ chains. chains ≡ chains_of journal.now.entries) }
-    ensures only_read { OnlyReads D.bytes D.image disk.old disk.new }
-    ensures cause { HasDiskCause (D.faults disk.old) (D.faults disk.new) result }
-    ensures only { ReadsOnly result }
-{
-    let mut chains = Chains::new(alloc)?;
-    for index in 0..journal.count() {
-        let entry = journal.entry(&mut *disk, index)?;
-        join(alloc, &mut chains, &entry)?;
+    chains: Chains,
+}
+
+impl Joining {
+    /// Of no entries yet.
+    ///
+    /// # Errors
+    ///
+    /// `AllocError` for want of memory.
+    pub fn new(alloc: Global) -> Result<Joining, AllocError>
+        ensures { IfOk result (λ joining. joining.chains ≡ chains_of []) }
+    {
+        Ok(Joining {
+            alloc,
+            chains: Chains::new(alloc)?,
+        })
     }
-    Ok(chains)
+
+    /// The chains of the entries that were read.
+    pub fn into_chains(self) -> Chains
+        ensures { result ≡ self.chains }
+    {
+        let Joining { chains, .. } = self;
+        chains
+    }
+}
+
+impl Reader for Joining {
+    ghost shown = { λ joining entries. joining.chains ≡ chains_of entries };
+
+    fn saw(&mut self, entry: &Entry) -> Result<(), AllocError> {
+        join(self.alloc, &mut self.chains, entry)
+    }
 }

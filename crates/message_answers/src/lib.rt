@@ -17,4 +17,4 @@ mod saying;
 
 pub use answer::{Answer, answer_to};
 pub use asking::{Asked, Known, Words};
-pub use joining::chains_of;
+pub use joining::Joining;

@@ -6,7 +6,7 @@ ghost use Rattle.frame_grammar.specs.Frame.{IsBody};
 use crate::entries::{disk_of, names};
 use crate::texts::{is_body, letter};
 use field_groups::{Split, split};
-use message_answers::{Answer, Asked, Known, Words, answer_to, chains_of};
+use message_answers::{Answer, Asked, Joining, Known, Words, answer_to};
 use order_chains::{ChainItem, Chains};
 use order_meaning::{Names, Side};
 use outside::MemDisk;
@@ -20,9 +20,9 @@ fn loaded(
     disk: &mut MemDisk,
     names: &Names,
 ) -> Result<(Journal, Chains), JournalError> {
-    let journal = Journal::load(alloc, disk, names)?;
-    let chains = chains_of(alloc, &journal, disk)?;
-    Ok((journal, chains))
+    let mut joining = Joining::new(alloc)?;
+    let journal = Journal::load(alloc, disk, names, &mut joining)?;
+    Ok((journal, joining.into_chains()))
 }
 
 // The same of the records of a journal; none where they are no journal.

@@ -7,6 +7,7 @@ ghost use Rattle.gateway_core.specs.State.{IsNew};
 use crate::entries::{disk_of, names};
 use crate::texts::{is_body, letter};
 use gateway_core::{Config, Core, Event, Plan, PlanError};
+use message_answers::Joining;
 use order_chains::ChainItem;
 use order_meaning::Side::{self, Client, Venue};
 use outside::MemDisk;
@@ -33,8 +34,9 @@ fn loaded(
     disk: &mut MemDisk,
     config: &Config,
 ) -> Result<(Journal, Core), JournalError> {
-    let journal = Journal::load(alloc, disk, &config.names)?;
-    let core = Core::load(alloc, &journal, disk, config)?;
+    let mut joining = Joining::new(alloc)?;
+    let journal = Journal::load(alloc, disk, &config.names, &mut joining)?;
+    let core = Core::new(config, journal.next(), joining.into_chains());
     Ok((journal, core))
 }
 
