@@ -1,11 +1,11 @@
 //! What one event does on one wire.
 
-ghost use Rattle.std.specs.Prelude.{◌≡◌, ◌≤◌, ◌-◌, map, if◌then◌else◌, Some, IfOk, IfSome, OnErr};
-ghost use Rattle.std.specs.Prelude.{IsOkUnless, true};
+ghost use Rattle.std.specs.Prelude.{◌≡◌, ◌≢◌, ◌≤◌, ◌-◌, map, if◌then◌else◌, Some, Err, IfOk};
+ghost use Rattle.std.specs.Prelude.{IfSome, OnErr, true};
 ghost use Rattle.std.specs.Option.{ForSome};
 ghost use Rattle.gate_log.specs.Log.{OnlyReads};
 ghost use Rattle.pair_journal.specs.declared.error.JournalError.TheVariants as errors;
-ghost use Rattle.pair_journal.specs.Calls.{HasDiskCause};
+ghost use Rattle.pair_journal.specs.Calls.{HasDiskCause, RefusedUntold};
 ghost use Rattle.pair_journal.specs.Journal.{JournalOf, Born, AreEntries};
 ghost use Rattle.pair_journal.specs.Numbers.{is_side, first_numbers};
 ghost use Rattle.life_laws.specs.Forms.{form_frame};
@@ -29,7 +29,8 @@ use wires::Wire;
 ///
 /// # Errors
 ///
-/// `DiskFault` alone, and only where the disk's count of faults rose. Then a front of it was sent.
+/// `DiskFault` only where the disk's count of faults rose; `Refused` only over a disk that does not
+/// tell its bytes. Then a front of it was sent.
 pub fn repeat_on<D: Disk, W: Wire>(
     journal: &Journal,
     disk: &mut D,
@@ -49,15 +50,16 @@ pub fn repeat_on<D: Disk, W: Wire>(
     requires given { IsGiven journal.now.entries resend }
     requires moment { now ≤ MAX_AT }
     ensures agrees { IfOk result (Agrees (W.recorded wire.new)) }
-    ensures sent { IfOk result (Sent (W.recorded wire.old) (W.recorded wire.new) up
-        (map (form_frame names.now side)
-        (repeated_to side journal.now.entries now (repeat_in resend)))) }
-    ensures part { OnErr result (FrontSent (W.recorded wire.old) (W.recorded wire.new) up
-        (map (form_frame names.now side)
-        (repeated_to side journal.now.entries now (repeat_in resend)))) }
+    ensures sent { IfOk result (λ still. ForSome (D.bytes disk.old) (λ b. Sent
+        (W.recorded wire.old) (W.recorded wire.new) up (map (form_frame names.now side)
+        (repeated_to side journal.now.entries now (repeat_in resend))) still)) }
+    ensures part { OnErr result (ForSome (D.bytes disk.old) (λ b. FrontSent
+        (W.recorded wire.old) (W.recorded wire.new) up (map (form_frame names.now side)
+        (repeated_to side journal.now.entries now (repeat_in resend))))) }
     ensures only_read { OnlyReads D.bytes D.image disk.old disk.new }
     ensures cause { HasDiskCause (D.faults disk.old) (D.faults disk.new) result }
-    ensures only { IsOkUnless result errors.DiskFault }
+    ensures only { RefusedUntold (D.bytes disk.old) result }
+    ensures no_memory { result ≢ Err errors.NoMemory }
     ensures polls { W.polls wire.new ≡ W.polls wire.old }
     ensures plays { Keeps (W.plays wire.old) (W.plays wire.new) }
 {

@@ -1,10 +1,10 @@
 //! What is sent again.
 
-ghost use Rattle.std.specs.Prelude.{◌≡◌, ◌≤◌, ◌+◌, ◌-◌, map, Some, IfOk, OnErr, IsOkUnless};
+ghost use Rattle.std.specs.Prelude.{◌≡◌, ◌≢◌, ◌≤◌, ◌+◌, ◌-◌, map, Some, Err, IfOk, OnErr};
 ghost use Rattle.std.specs.Option.{ForSome};
 ghost use Rattle.gate_log.specs.Log.{OnlyReads};
 ghost use Rattle.pair_journal.specs.declared.error.JournalError.TheVariants as errors;
-ghost use Rattle.pair_journal.specs.Calls.{HasDiskCause};
+ghost use Rattle.pair_journal.specs.Calls.{HasDiskCause, RefusedUntold};
 ghost use Rattle.pair_journal.specs.Journal.{JournalOf, Born, AreEntries};
 ghost use Rattle.pair_journal.specs.Numbers.{numbers_after, first_numbers, next_out};
 ghost use Rattle.pair_journal.specs.OutBuf.{IsOutAt};
@@ -142,7 +142,8 @@ fn send_again<W: Wire>(
 ///
 /// # Errors
 ///
-/// `DiskFault` alone, and only where the disk's count of faults rose. Then a front of it was sent.
+/// `DiskFault` only where the disk's count of faults rose; `Refused` only over a disk that does not
+/// tell its bytes. Then a front of it was sent.
 pub(crate) fn repeat_outs<D: Disk, W: Wire>(
     journal: &Journal,
     disk: &mut D,
@@ -163,22 +164,24 @@ pub(crate) fn repeat_outs<D: Disk, W: Wire>(
     requires limit { again.to ≤ MAX_NUMBER }
     requires moment { again.now ≤ MAX_AT }
     ensures agrees { IfOk result (Agrees (W.recorded wire.new)) }
-    ensures sent { IfOk result (Sent (W.recorded wire.old) (W.recorded wire.new) up
-        (map (form_frame names.now again.side) (repeat_forms journal.now.entries again.side
-        again.from again.to again.now))) }
-    ensures part { OnErr result (FrontSent (W.recorded wire.old) (W.recorded wire.new) up
-        (map (form_frame names.now again.side) (repeat_forms journal.now.entries again.side
-        again.from again.to again.now))) }
+    ensures sent { IfOk result (λ still. ForSome (D.bytes disk.old) (λ b. Sent
+        (W.recorded wire.old) (W.recorded wire.new) up (map (form_frame names.now again.side)
+        (repeat_forms journal.now.entries again.side again.from again.to again.now)) still)) }
+    ensures part { OnErr result (ForSome (D.bytes disk.old) (λ b. FrontSent
+        (W.recorded wire.old) (W.recorded wire.new) up (map (form_frame names.now again.side)
+        (repeat_forms journal.now.entries again.side again.from again.to again.now)))) }
     ensures only_read { OnlyReads D.bytes D.image disk.old disk.new }
     ensures cause { HasDiskCause (D.faults disk.old) (D.faults disk.new) result }
-    ensures only { IsOkUnless result errors.DiskFault }
+    ensures only { RefusedUntold (D.bytes disk.old) result }
+    ensures no_memory { result ≢ Err errors.NoMemory }
     ensures polls { W.polls wire.new ≡ W.polls wire.old }
     ensures plays { Keeps (W.plays wire.old) (W.plays wire.new) }
 {
     let mut still = up;
     let mut run = None;
+    let mut walk = journal.walk();
     for number in again.from..again.to + 1 {
-        journal.out(disk, again.side, number, buf)?;
+        journal.out(disk, &mut walk, again.side, number, buf)?;
         still = send_again(
             wire, still, frame, names, again.side, run, number, buf, again.now,
         );

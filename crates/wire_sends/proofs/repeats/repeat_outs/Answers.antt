@@ -19,7 +19,8 @@ loop-number-init g c = record {
   faults = refl;
   polls = refl;
   plays = λ script plays. plays;
-  sent = begin_repeat _ _ _ _;
+  walk = λ b e. c.walk.ensures.outs c.args.again.side c.args.again.from c.requires.from;
+  sent = λ b e. begin_repeat _ _ _ _;
 }
 
 pub out-requires-clause-above : goal.out-requires-clause-above
@@ -34,6 +35,10 @@ out-requires-clause-stands g c =
     subst (λ t. ForSome t (λ b. JournalOf b
     (Born c.args.journal.now.names c.args.journal.now.entries)))
     (sym c.loop-number.invariant.only_read.same) c.requires.stands
+
+pub out-requires-clause-walk : goal.out-requires-clause-walk
+out-requires-clause-walk g c = λ b e.
+    c.loop-number.invariant.walk b (sym c.loop-number.invariant.only_read.same ∙ e)
 
 pub loop-number-preserved : goal.loop-number-preserved
 loop-number-preserved g c =
@@ -55,7 +60,8 @@ loop-number-preserved g c =
       faults = c.in_ok-out.ensures.cause ∙ inv.faults;
       polls = c.send_again-still.ensures.polls ∙ inv.polls;
       plays = λ script plays. c.send_again-still.ensures.plays script (inv.plays script plays);
-      sent = subst (λ q. Repeated (g.W.Wire.recorded c.args.wire.now)
+      walk = λ b e. c.out.ensures.walk b (inv.only_read.same ∙ e) (number + 1) (omega arith);
+      sent = λ b e. subst (λ q. Repeated (g.W.Wire.recorded c.args.wire.now)
           (g.W.Wire.recorded c.send_again-still.new.wire) c.args.up
           (form_frame c.args.names.now side) c.send_again-still.result
           (repeats entries side q (number + 1) c.args.again.now (end - (number + 1))) all)
@@ -63,8 +69,9 @@ loop-number-preserved g c =
           (repeat_step _ _ _ _ _ _ (form_frame c.args.names.now side) entries side
           (run_of c.loop-number.run) number c.args.again.now end (placed_by side number told) all
           c.loop-number-test.true
-          (told_is_placed side number entries told c.requires.sound c.in_ok-out.ensures.out)
-          inv.sent c.send_again-still.ensures.sent);
+          (told_is_placed side number entries told c.requires.sound
+          (c.in_ok-out.ensures.out b (inv.only_read.same ∙ e)))
+          (inv.sent b e) c.send_again-still.ensures.sent);
     }
 
 pub send_run-requires-clause-begun : goal.send_run-requires-clause-begun
@@ -74,7 +81,7 @@ send_run-requires-clause-begun g c =
     (omega (arith, c.loop-number-test.false))
 
 pub returns-clause-sent : goal.returns-clause-sent
-returns-clause-sent g c =
+returns-clause-sent g c = λ b e.
     let inv = c.loop-number.invariant in
     let side = c.args.again.side in
     let end = c.args.again.to + 1 in
@@ -84,4 +91,4 @@ returns-clause-sent g c =
     (repeat_forms c.args.journal.now.entries side c.args.again.from c.args.again.to
     c.args.again.now) past
     (run_ends c.loop-number.run c.loop-number.number end inv.within past)
-    inv.sent c.send_run.ensures.sent
+    (inv.sent b e) c.send_run.ensures.sent
