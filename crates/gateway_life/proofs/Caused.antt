@@ -23,7 +23,7 @@ use Rattle.pair_entries.specs.declared.TheConstants.{MAX_NUMBER}
 use Rattle.pair_entries.specs.declared.entry.Entry.{Entry}
 use Rattle.pair_entries.specs.declared.entry.Took.{Took}
 use Rattle.pair_journal.specs.Numbers.{numbers_after, first_numbers, next_out}
-use Rattle.pair_journal.specs.Calls.{BornOrNot}
+use Rattle.pair_journal.specs.Calls.{BornOrNot, RefusedUntold}
 use Rattle.pair_journal.specs.Journal.{JournalOf, Born}
 use Rattle.pair_journal.specs.Laws.{HasOneReading}
 use Rattle.pair_journal.specs.declared.error.JournalError.{JournalError}
@@ -277,11 +277,20 @@ module _ (enough : IsEnough) (counted : IsCounted) where
 
 -- an event of which not all could be read fails by the disk
 pub act_cause : {T : Type 0} (r : Result T LifeEnd) (error : JournalError) (names : Names)
-    (entries : List Entry) → IsErrAnd r (λ e. e ≡ end_of error) → error ≡ errors.DiskFault
+    (entries : List Entry) {told : Option (List ℕ)} → IsErrAnd r (λ e. e ≡ end_of error)
+    → RefusedUntold told (Err {T = Unit {0}} error) → (error ≡ errors.NoMemory → ⊥)
     → IfErr r (λ end. IsCause end names entries)
-act_cause (Ok value) error names entries is fault = tt
-act_cause (Err end) error names entries is fault =
-    subst (λ (e : LifeEnd). IsCause e names entries) (sym (is ∙ ap end_of fault)) tt
+act_cause (Ok value) error names entries is only memory = tt
+act_cause (Err end) error names entries is only memory =
+    subst (λ (e : LifeEnd). IsCause e names entries) (sym is) (at error only memory)
+  where
+    at : (e : JournalError) → RefusedUntold told (Err {T = Unit {0}} e)
+        → (e ≡ errors.NoMemory → ⊥) → IsCause (end_of e) names entries
+    at errors.DiskFault only memory = tt
+    at (errors.Refused place) only memory = tt
+    at (errors.NamesDiffer kept given) only memory = tt
+    at errors.Full only memory = absurd only
+    at errors.NoMemory only memory = tt
 
 -- ---- of a whole life
 

@@ -16,3 +16,4 @@ mod Shown
 pub mod Watching
 mod TapsShown
 mod Caused
+pub mod Telling

@@ -28,8 +28,9 @@ use Rattle.life_laws.specs.Ends.{LifeUpTo}
 use Rattle.gateway_life.specs.declared.end.LifeEnd.{LifeEnd}
 use Rattle.gateway_life.specs.declared.end.LifeEnd.TheVariants as ends
 use Rattle.gateway_life.specs.State.{LifeState}
-use Rattle.gateway_life.specs.Ready.{LeavesOf, world_of}
-use Rattle.gateway_life.specs.Stepped.{Records, records, IsOfEvent, IsNotDone, HasCauseOf}
+use Rattle.gateway_life.specs.Ready.{LeavesOf, IfTold, world_of}
+use Rattle.gateway_life.specs.Stepped.{Records, records, IsOfEvent, IsNotDone, EndsEvent}
+use Rattle.gateway_life.specs.Stepped.{HasCauseOf}
 use Rattle.gateway_life.specs.Life.{Done, begun, moment_of, LivesToEnd, LifeFails, hung_up}
 use Rattle.gateway_life.specs.Life.{MayNotBegin, Follows, ToItsEnd, ToAnEvent, NotBegun}
 use Rattle.gateway_life.specs.Life.{IsJournal, counted_on, IsAnswered, IfRefused, IsForeign}
@@ -376,11 +377,12 @@ module _ (one : (image : List ℕ) → HasOneReading image) where
       (i0 i1 : List ℕ → Type 0) (rc0 rc1 rv0 rv1 : Option (List WireCall))
       (km0 km1 : Option (List ℕ)) → is_some t1 ≡ is_some t0
       → (HasOneImage t0 i0 → HasOneImage t1 i1)
-      → LifeWhole config rounds t0 t1 (records rc0 rv0) (records rc1 rv1) km0 km1
+      → IfTold t0 (LifeWhole config rounds t0 t1 (records rc0 rv0) (records rc1 rv1) km0 km1)
       → EndsOf ends.Done config rounds t0 i0 i1 rc0 rc1 rv0 rv1 km0 km1
   live_done config rounds None t1 i0 i1 rc0 rc1 rv0 rv1 km0 km1 told same life = tt
-  live_done config rounds (Some b) t1 i0 i1 rc0 rc1 rv0 rv1 km0 km1 told same life =
+  live_done config rounds (Some b) t1 i0 i1 rc0 rc1 rv0 rv1 km0 km1 told same whole =
       λ only before journal did d image here.
+      let life = whole refl in
       let born = image_of t1 i1 (λ c. JournalOf c (Born config.names life.entries)) image told
       life.stands (same only) here in (
         life.entries,
@@ -441,20 +443,20 @@ lived_unbegun (Err end) error names told i0 i1 r0 k0 Q is begins images = inl (r
 })
 
 pub lived_whole : {T : Type 0} (r : Result T LifeEnd) (config config' : Config) (rounds : ℕ)
-    (t0 t2 : Option (List ℕ)) (old new : LifeState) (r0 r1 : Records)
+    (t0 t1 t2 : Option (List ℕ)) (old new : LifeState) (r0 r1 : Records)
     (k0 k1 : Option (List ℕ)) → config' ≡ config
     → world_of old.engine ≡ begun config old.engine.journal.entries
     → IfSome t0 (λ b. Begins {T = LifeState} (λ life. life.engine.journal.entries) config.names b
-    (Ok old))
+    (Ok old)) → is_some t1 ≡ is_some t0
     → OnOk r (ForSome t2 (λ b. JournalOf b (Born config'.names new.engine.journal.entries)))
     → OnOk r ((given : List ℕ) × (last : ℕ) × (length given ≡ rounds)
     × GrowsBy k0 k1 (given ++ last ∷ [])
-    × LifeDone config' old given last r0 r1 new.engine.journal.entries)
-    → OnOk r (LifeWhole config rounds t0 t2 r0 r1 k0 k1)
-lived_whole (Err end) config config' rounds t0 t2 old new r0 r1 k0 k1 same world begins stands
-    done = tt
-lived_whole (Ok value) config config' rounds t0 t2 old new r0 r1 k0 k1 same world begins stands
-    done = record {
+    × IfTold t1 (LifeDone config' old given last r0 r1 new.engine.journal.entries))
+    → OnOk r (IfTold t0 (LifeWhole config rounds t0 t2 r0 r1 k0 k1))
+lived_whole (Err end) config config' rounds t0 t1 t2 old new r0 r1 k0 k1 same world begins told
+    stands done = tt
+lived_whole (Ok value) config config' rounds t0 t1 t2 old new r0 r1 k0 k1 same world begins told
+    stands done = λ t. record {
       before = old.engine.journal.entries;
       old = old;
       begins = record { world = world; journal = begins };
@@ -466,7 +468,7 @@ lived_whole (Ok value) config config' rounds t0 t2 old new r0 r1 k0 k1 same worl
       each = done.2;
       moments = done.3;
       done = subst (λ (k : Config). LifeDone k old done.0 done.1 r0 r1 new.engine.journal.entries)
-          same done.4;
+          same (done.4 (told ∙ t));
     }
 
 pub lived_stopped : {T : Type 0} (r : Result T LifeEnd) (config config' : Config) (rounds : ℕ)
@@ -475,7 +477,7 @@ pub lived_stopped : {T : Type 0} (r : Result T LifeEnd) (config config' : Config
     → world_of old.engine ≡ begun config old.engine.journal.entries
     → IfSome t0 (λ b. Begins {T = LifeState} (λ life. life.engine.journal.entries) config.names b
     (Ok old)) → is_some t1 ≡ is_some t0 → (HasOneImage t0 i0 → HasOneImage t1 i1)
-    → IfErr r IsOfEvent → IfErr r (λ end. (given : List ℕ) × (last : ℕ) × (length given ≤ rounds)
+    → IfErr r (EndsEvent t1) → IfErr r (λ end. (given : List ℕ) × (last : ℕ) × (length given ≤ rounds)
     × GrowsBy k0 k1 (given ++ last ∷ [])
     × LeavesOf t1 i1 i2 config'.names (LifeBroken end config' old given last r0 r1))
     → IfErr r (λ end. Q end ⊎ LifeStopped end config rounds t0 i0 i2 r0 r1 k0 k1)
@@ -483,7 +485,7 @@ lived_stopped (Ok value) config config' rounds t0 t1 i0 i1 i2 old r0 r1 k0 k1 Q 
     told one of_event ends = tt
 lived_stopped (Err end) config config' rounds t0 t1 i0 i1 i2 old r0 r1 k0 k1 Q same world begins
     told one of_event ends = inr (record {
-      of_event = of_event;
+      of_event = λ t. of_event.of_event (told ∙ t);
       entries = old.engine.journal.entries;
       old = old;
       begins = record { world = world; journal = begins };
@@ -536,7 +538,7 @@ answered_ended end config rounds None i0 i1 r0 r1 k0 k1 how = tt
 answered_ended end config rounds (Some bytes) i0 i1 r0 r1 k0 k1 (inl un) =
     by_begin end config.names bytes un.begins
 answered_ended end config rounds (Some bytes) i0 i1 r0 r1 k0 k1 (inr stopped) =
-    by_event end config.names bytes stopped.entries stopped.of_event stopped.begins.journal
+    by_event end config.names bytes stopped.entries (stopped.of_event refl) stopped.begins.journal
 
 -- ---- nothing is done over a disk that is refused
 
@@ -594,10 +596,11 @@ refused_not P ends.JournalFull of = tt
 refused_not P (ends.NumbersSpent side) of = tt
 refused_not P ends.NoMemory of = tt
 
-pub refused_events : {T : Type 0} (P : Type 0) (r : Result T LifeEnd) → IfErr r IsOfEvent
-    → IfErr r (λ end. IfRefused end P)
-refused_events P (Ok value) of = tt
-refused_events P (Err end) of = refused_not P end of
+pub refused_events : {T : Type 0} (P : Type 0) (r : Result T LifeEnd) (t0 t1 : Option (List ℕ))
+    → is_some t1 ≡ is_some t0 → IfErr r (EndsEvent t1)
+    → IfErr r (λ end. IfTold t0 (IfRefused end P))
+refused_events P (Ok value) t0 t1 told of = tt
+refused_events P (Err end) t0 t1 told of = λ t. refused_not P end (of.of_event (told ∙ t))
 
 pub if_foreign : (P Q : Type 0) (names : Names) (told : Option (List ℕ)) → (P → Q)
     → IfSome told (λ b. IsForeign names b → P) → IfSome told (λ b. IsForeign names b → Q)

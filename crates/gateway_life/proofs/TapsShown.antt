@@ -13,7 +13,7 @@ use Rattle.pair_journal.specs.Laws.{HasOneReading}
 use Rattle.gateway_life.specs.declared.end.LifeEnd.{LifeEnd}
 use Rattle.gateway_life.specs.State.{LifeState}
 use Rattle.gateway_life.specs.Ready.{LeavesOf}
-use Rattle.gateway_life.specs.Stepped.{IsOfEvent}
+use Rattle.gateway_life.specs.Stepped.{EndsEvent}
 use Rattle.gateway_life.specs.Life.{IsJournal, IsForeign, IfRefused}
 use Rattle.gateway_life.specs.Rounds.{Begins}
 use Rattle.drop_taps.specs.Shown.{TapState}
@@ -27,9 +27,10 @@ use Rattle.gateway_life.proofs.Living.{refused_if, refused_not}
 abbrev no_entries : List Entry
 no_entries = []
 
-whole_shown : {V : Type 0} (P : Type 0) (r : Result V LifeEnd) → IfErr r IsOfEvent → IfRefused (end_in r) P
-whole_shown P (Ok value) of = tt
-whole_shown P (Err end) of = refused_not P end of
+whole_shown : {V : Type 0} (P : Type 0) (r : Result V LifeEnd) (told : Option (List ℕ))
+    → is_some told ≡ true → IfErr r (EndsEvent told) → IfRefused (end_in r) P
+whole_shown P (Ok value) told t of = tt
+whole_shown P (Err end) told t of = refused_not P end (of.of_event t)
 
 -- each image of a life that began is the journal of what was committed
 pub left_whole : {V : Type 0} (one : (image : List ℕ) → HasOneReading image)
@@ -72,11 +73,16 @@ module _ (one : (image : List ℕ) → HasOneReading image) {T : Type 0} (state 
   taps_unbegun r taps names told i0 i1 images = record {
     more = [];
     seen = seen_none state taps;
-    refused = refused_if (no_entries ≡ no_entries) (end_in r) refl;
+    refused = not_shown told;
     foreign = none told;
     left = at told images;
   }
     where
+      not_shown : (t : Option (List ℕ))
+          → IfSome t (λ b. IfRefused (end_in r) (no_entries ≡ no_entries))
+      not_shown None = tt
+      not_shown (Some b) = refused_if (no_entries ≡ no_entries) (end_in r) refl
+
       none : (t : Option (List ℕ)) → IfSome t (λ b. IsForeign names b → no_entries ≡ no_entries)
       none None = tt
       none (Some b) = λ foreign. refl
@@ -102,14 +108,14 @@ module _ (one : (image : List ℕ) → HasOneReading image) {T : Type 0} (state 
       → is_some t2 ≡ is_some t1 → OnOk r (HasOneImage t1 i1 → HasOneImage t2 i2)
       → OnOk r (ForSome t2 (λ b. JournalOf b (Born names' new.engine.journal.entries)))
       → IfErr r (λ end. LeavesOf t1 i1 i2 names' (WereCommitted end new.engine.journal.entries))
-      → IfErr r IsOfEvent
+      → IfErr r (EndsEvent t1)
       → Watched state olds news old.engine.journal.entries new.engine.journal.entries
       → TapsSaw state olds news names t0 i0 i2 (end_in r)
   taps_whole r olds news names names' None t1 t2 i0 i1 i2 old new same begins told kept told' kept'
       stands left of watched = record {
         more = watched.more;
         seen = watched.seen;
-        refused = whole_shown (watched.more ≡ []) r of;
+        refused = tt;
         foreign = tt;
         left = tt;
       }
@@ -117,7 +123,7 @@ module _ (one : (image : List ℕ) → HasOneReading image) {T : Type 0} (state 
       kept' stands left of watched = record {
         more = watched.more;
         seen = watched.seen;
-        refused = whole_shown (watched.more ≡ []) r of;
+        refused = whole_shown (watched.more ≡ []) r t1 told of;
         foreign = λ foreign. absurd (foreign old.engine.journal.entries begins);
         left = left_whole one r names names' b t1 t2 i0 i1 i2 old new watched.more same begins told
             kept told' kept' stands left watched.goes_on;

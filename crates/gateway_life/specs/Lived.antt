@@ -94,7 +94,7 @@ pub record Lived (end : LifeEnd) (config : Config) (rounds : ℕ) (before after 
   -- What is no journal, or one of other names, is refused. It is only read, and nothing is done,
   -- also where a disk fault or want of memory comes first.
   pub begins : IfSome old.bytes (IsAnswered end config.names)
-  pub idle : IfRefused end (IsIdle before after old new)
+  pub idle : IfSome old.bytes (λ bytes. IfRefused end (IsIdle before after old new))
   pub foreign : IfSome old.bytes (λ bytes. IsForeign config.names bytes →
       IsIdle before after old new)
   -- A full journal has no room for what some event decides behind its entries, and of spent numbers

@@ -1,5 +1,5 @@
 -- Inside: what holds of an engine between events, and what of a disk.
-use Rattle.std.specs.Prelude.{◌≡◌, ℕ, false, List, IfSome}
+use Rattle.std.specs.Prelude.{◌≡◌, ℕ, true, false, List, IfSome, is_some}
 use Rattle.std.specs.declared.option.Option.{Option}
 use Rattle.std.specs.Option.{ForSome}
 use Rattle.outside.specs.Disk.{Only}
@@ -66,3 +66,7 @@ abbrev pub LeavesOf : Option (List ℕ) → (before after : List ℕ → Type 0)
     → (List Entry → Type 0) → Type 0
 LeavesOf told before after names P =
     IfSome told (λ bytes. Only bytes before → AreLeft after names P)
+
+-- it holds of a disk that tells its bytes
+abbrev pub IfTold : Option (List ℕ) → Type 0 → Type 0
+IfTold told P = is_some told ≡ true → P

@@ -21,7 +21,7 @@ use Rattle.gateway_life.specs.declared.end.LifeEnd.{LifeEnd}
 use Rattle.gateway_life.specs.declared.end.LifeEnd.TheVariants as ends
 use Rattle.gateway_life.specs.Life.{IsJournal, begun, moment_of}
 use Rattle.gateway_life.specs.State.{LifeState}
-use Rattle.gateway_life.specs.Ready.{Ready, world_of, LeavesOf}
+use Rattle.gateway_life.specs.Ready.{Ready, world_of, LeavesOf, IfTold}
 use Rattle.gateway_life.specs.Stepped.{Records, Grew, IsOfEvent, Broken}
 use Rattle.gateway_life.specs.Turned.{StandsWhole, IsDrained}
 
@@ -155,7 +155,7 @@ pub record LifeWhole (config : Config) (rounds : ℕ) (t0 t1 : Option (List ℕ)
 -- a life that an event ended
 pub record LifeStopped (end : LifeEnd) (config : Config) (rounds : ℕ) (told : Option (List ℕ))
     (before after : List ℕ → Type 0) (r0 r1 : Records) (k0 k1 : Option (List ℕ)) : Type 0 where
-  pub of_event : IsOfEvent end
+  pub of_event : IfTold told (IsOfEvent end)
   pub entries : List Entry
   pub old : LifeState
   pub begins : BeginsWith config told entries old

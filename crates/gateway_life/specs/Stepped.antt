@@ -15,6 +15,7 @@ use Rattle.life_laws.specs.Turn.{HappensOrNot, AllHappen, counts}
 use Rattle.gateway_life.specs.declared.end.LifeEnd.{LifeEnd}
 use Rattle.gateway_life.specs.declared.end.LifeEnd.TheVariants as ends
 use Rattle.gateway_life.specs.Fails.{IsWhy, FailsBy}
+use Rattle.gateway_life.specs.Ready.{IfTold}
 
 -- the records of both wires
 pub record Records : Type 0 where
@@ -72,6 +73,11 @@ IsOfEvent end = Unit {0}
 abbrev pub IsNotDone : LifeEnd → Type 0
 IsNotDone ends.Done = ⊥
 IsNotDone end = Unit {0}
+
+-- the same over a disk: one that does not tell its bytes may be refused in the middle of a life
+pub record EndsEvent (told : Option (List ℕ)) (end : LifeEnd) : Type 0 where
+  pub not_done : IsNotDone end
+  pub of_event : IfTold told (IsOfEvent end)
 
 pub record Broken (end : LifeEnd) (config : Config) (before : World) (event : Event) (now : ℕ)
     (old new : Records) (entries : List Entry) : Type 0 where

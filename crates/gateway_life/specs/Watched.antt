@@ -40,7 +40,7 @@ pub record TapsSaw {T : Type 0} (state : T → TapState) (old new : List T) (nam
     (told : Option (List ℕ)) (before after : List ℕ → Type 0) (end : LifeEnd) : Type 0 where
   pub more : List Entry
   pub seen : HaveSeen state old new more
-  pub refused : IfRefused end (more ≡ [])
+  pub refused : IfSome told (λ bytes. IfRefused end (more ≡ []))
   pub foreign : IfSome told (λ bytes. IsForeign names bytes → more ≡ [])
   pub left : IfSome told (λ bytes. Only bytes before →
       (entries : List Entry) → IsJournal names entries bytes →

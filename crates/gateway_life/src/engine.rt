@@ -1,7 +1,7 @@
 //! One event: what it decides is committed, and then it is sent.
 
 ghost use Rattle.std.specs.Prelude.{◌≡◌, ◌⊎◌, ◌≤◌, ◌++◌, Some, Ok, IfOk, IfErr, IfSome, OnOk, OnErr};
-ghost use Rattle.std.specs.Prelude.{false, is_some};
+ghost use Rattle.std.specs.Prelude.{◌≢◌, Err, false, is_some};
 ghost use Rattle.std.specs.Prelude.{IsOkUnless, [], ◌∷◌, true, ◌<◌, ◌-◌, length, take};
 ghost use Rattle.std.specs.Prelude.{if◌then◌else◌};
 ghost use Rattle.std.specs.Option.{ForSome, option_to_list};
@@ -9,7 +9,7 @@ ghost use Rattle.outside.specs.Disk.{HasOneImage};
 ghost use Rattle.wires.specs.Told.{Keeps};
 ghost use Rattle.gate_log.specs.Log.{OnlyReads};
 ghost use Rattle.pair_journal.specs.declared.error.JournalError.TheVariants as errors;
-ghost use Rattle.pair_journal.specs.Calls.{HasDiskCause, BornOrNot};
+ghost use Rattle.pair_journal.specs.Calls.{HasDiskCause, BornOrNot, RefusedUntold};
 ghost use Rattle.pair_journal.specs.Journal.{JournalOf, Unborn, Born};
 ghost use Rattle.pair_journal.specs.Numbers.{GoesOn, numbers_after, first_numbers};
 ghost use Rattle.pair_entries.specs.Payload.{IsEntry};
@@ -22,7 +22,7 @@ ghost use Rattle.wire_sends.specs.Sent.{FrontSent, AreSendable, hung_side};
 ghost use Rattle.gateway_life.specs.Acted.{Acted};
 ghost use Rattle.wire_sends.specs.Again.{IsGiven};
 ghost use Rattle.gateway_life.specs.State.{seen};
-ghost use Rattle.gateway_life.specs.Ready.{IsReady, Ready, world_of, made_of, LeavesOf};
+ghost use Rattle.gateway_life.specs.Ready.{IsReady, Ready, world_of, made_of, LeavesOf, IfTold};
 ghost use Rattle.gateway_life.specs.Fails.{IsWhy};
 ghost use Rattle.gateway_life.specs.Stepped.{Stepped, MayStand, Broken, HasCauseOf, records};
 ghost use Rattle.gateway_life.specs.Committed.{OldOrNew, IsFull};
@@ -31,7 +31,7 @@ ghost use Rattle.gateway_life.specs.Rounds.{Begins};
 ghost use Rattle.drop_taps.specs.Shown.{state_by};
 ghost use Rattle.gateway_life.specs.Watched.{Watched, WereCommitted};
 ghost use Rattle.gateway_life.specs.Causes.{IsCauseIn};
-ghost use Rattle.gateway_life.specs.Stepped.{IsOfEvent, IsNotDone};
+ghost use Rattle.gateway_life.specs.Stepped.{EndsEvent, IsNotDone};
 
 use crate::LifeEnd;
 use crate::acts::{is_sent, standing};
@@ -39,6 +39,7 @@ use drop_taps::{Tap, show};
 use event_decisions::Event;
 use event_decisions::laws::decisions_continue;
 use gateway_core::{Config, Core};
+use message_answers::Joining;
 use order_meaning::{Names, Side};
 use outside::Disk;
 use pair_entries::{Entry, MAX_AT, Prepared};
@@ -161,9 +162,9 @@ fn load<D: Disk>(alloc: Global, config: &Config, disk: &mut D) -> Result<(Journa
     ensures told { is_some (D.bytes disk.new) ≡ is_some (D.bytes disk.old) }
     ensures cause { HasCauseOf (D.faults disk.old) (D.faults disk.new) result }
 {
-    let journal = Journal::load(alloc, disk, &config.names)?;
-    let _ = journal.next(); // Its entries are sound.
-    let core = Core::load(alloc, &journal, disk, config)?;
+    let mut joining = Joining::new(alloc)?;
+    let journal = Journal::load(alloc, disk, &config.names, &mut joining)?;
+    let core = Core::new(config, journal.next(), joining.into_chains());
     Ok((journal, core))
 }
 
@@ -298,27 +299,28 @@ impl Engine {
         ensures config { self.new.core.config ≡ self.old.core.config }
         ensures ready { OnOk result (Ready (seen self.new) (D.bytes disk.new)
             (C.recorded client.new) (V.recorded venue.new)) }
-        ensures client_acts { OnOk result (Acted (C.recorded client.old) (C.recorded client.new)
+        ensures client_acts { OnOk result (IfTold (D.bytes disk.old) (Acted (C.recorded client.old) (C.recorded client.new)
             self.old.client_up (pieces_to names.now Side.Client
             self.old.journal.entries (event_of event.now) now (made_of made.now self.old.core))
-            (hung_side Side.Client made.now.hang_up) self.new.client_up) }
-        ensures venue_acts { OnOk result (Acted (V.recorded venue.old) (V.recorded venue.new)
+            (hung_side Side.Client made.now.hang_up) self.new.client_up)) }
+        ensures venue_acts { OnOk result (IfTold (D.bytes disk.old) (Acted (V.recorded venue.old) (V.recorded venue.new)
             self.old.venue_up (pieces_to names.now Side.Venue
             self.old.journal.entries (event_of event.now) now (made_of made.now self.old.core))
-            (hung_side Side.Venue made.now.hang_up) self.new.venue_up) }
+            (hung_side Side.Venue made.now.hang_up) self.new.venue_up)) }
         ensures sessions { OnOk result (sessions_in self.new.core ≡ both_standing
             self.new.client_up self.new.venue_up (sessions_in self.old.core)) }
-        ensures client_part { OnErr result (FrontSent (C.recorded client.old)
+        ensures client_part { OnErr result (IfTold (D.bytes disk.old) (FrontSent (C.recorded client.old)
             (C.recorded client.new) self.old.client_up (pieces_to names.now
             Side.Client self.old.journal.entries (event_of event.now) now
-            (made_of made.now self.old.core))) }
-        ensures venue_part { OnErr result (FrontSent (V.recorded venue.old)
+            (made_of made.now self.old.core)))) }
+        ensures venue_part { OnErr result (IfTold (D.bytes disk.old) (FrontSent (V.recorded venue.old)
             (V.recorded venue.new) self.old.venue_up (pieces_to names.now
             Side.Venue self.old.journal.entries (event_of event.now) now
-            (made_of made.now self.old.core))) }
+            (made_of made.now self.old.core)))) }
         ensures only_read { OnlyReads D.bytes D.image disk.old disk.new }
         ensures cause { HasDiskCause (D.faults disk.old) (D.faults disk.new) result }
-        ensures only { IsOkUnless result errors.DiskFault }
+        ensures only { RefusedUntold (D.bytes disk.old) result }
+        ensures no_memory { result ≢ Err errors.NoMemory }
         ensures client_polls { C.polls client.new ≡ C.polls client.old }
         ensures venue_polls { V.polls venue.new ≡ V.polls venue.old }
         ensures client_plays { Keeps (C.plays client.old) (C.plays client.new) }
@@ -393,10 +395,10 @@ impl Engine {
         ensures config { self.new.core.config ≡ self.old.core.config }
         ensures ready { OnOk result (Ready (seen self.new) (D.bytes disk.new)
             (C.recorded client.new) (V.recorded venue.new)) }
-        ensures happens { OnOk result (Stepped self.old.core.config (world_of (seen self.old))
+        ensures happens { OnOk result (IfTold (D.bytes disk.old) (Stepped self.old.core.config (world_of (seen self.old))
             (event_of event.now) now (world_of (seen self.new))
             (records (C.recorded client.old) (V.recorded venue.old))
-            (records (C.recorded client.new) (V.recorded venue.new))) }
+            (records (C.recorded client.new) (V.recorded venue.new)))) }
         ensures durable { OnOk result (HasOneImage (D.bytes disk.old) (D.image disk.old) →
             HasOneImage (D.bytes disk.new) (D.image disk.new)) }
         ensures ends { IfErr result (λ end. LeavesOf (D.bytes disk.old) (D.image disk.old)
@@ -404,15 +406,15 @@ impl Engine {
             (world_of (seen self.old)) (event_of event.now) now
             (records (C.recorded client.old) (V.recorded venue.old))
             (records (C.recorded client.new) (V.recorded venue.new)))) }
-        ensures why { IfErr result (λ end. IsWhy end self.old.core.config (world_of (seen self.old))
-            (event_of event.now) now) }
+        ensures why { IfErr result (λ end. IfTold (D.bytes disk.old) (IsWhy end self.old.core.config (world_of (seen self.old))
+            (event_of event.now) now)) }
         ensures taps { Watched (state_by has_failed entries tally counts_all refused)
             taps.old.items taps.new.items self.old.journal.entries
             self.new.journal.entries }
         ensures kept { IfErr result (λ end. LeavesOf (D.bytes disk.old) (D.image disk.old)
             (D.image disk.new) self.old.core.config.names
             (WereCommitted end self.new.journal.entries)) }
-        ensures only { IfErr result IsOfEvent }
+        ensures only { IfErr result (EndsEvent (D.bytes disk.old)) }
         ensures journal_cause { IfErr result (λ end. IsCauseIn end (seen self.new)) }
         ensures told { is_some (D.bytes disk.new) ≡ is_some (D.bytes disk.old) }
         ensures cause { HasCauseOf (D.faults disk.old) (D.faults disk.new) result }
@@ -462,10 +464,10 @@ impl Engine {
         ensures config { self.new.core.config ≡ self.old.core.config }
         ensures ready { OnOk result (Ready (seen self.new) (D.bytes disk.new)
             (C.recorded client.new) (V.recorded venue.new)) }
-        ensures happens { OnOk result (Stepped self.old.core.config (world_of (seen self.old))
+        ensures happens { OnOk result (IfTold (D.bytes disk.old) (Stepped self.old.core.config (world_of (seen self.old))
             (Tick side) now (world_of (seen self.new))
             (records (C.recorded client.old) (V.recorded venue.old))
-            (records (C.recorded client.new) (V.recorded venue.new))) }
+            (records (C.recorded client.new) (V.recorded venue.new)))) }
         ensures durable { OnOk result (HasOneImage (D.bytes disk.old) (D.image disk.old) →
             HasOneImage (D.bytes disk.new) (D.image disk.new)) }
         ensures ends { IfErr result (λ end. LeavesOf (D.bytes disk.old) (D.image disk.old)
@@ -479,7 +481,7 @@ impl Engine {
         ensures kept { IfErr result (λ end. LeavesOf (D.bytes disk.old) (D.image disk.old)
             (D.image disk.new) self.old.core.config.names
             (WereCommitted end self.new.journal.entries)) }
-        ensures only { IfErr result IsOfEvent }
+        ensures only { IfErr result (EndsEvent (D.bytes disk.old)) }
         ensures journal_cause { IfErr result (λ end. IsCauseIn end (seen self.new)) }
         ensures told { is_some (D.bytes disk.new) ≡ is_some (D.bytes disk.old) }
         ensures cause { HasCauseOf (D.faults disk.old) (D.faults disk.new) result }

@@ -15,11 +15,11 @@ ghost use Rattle.gateway_life.specs.Life.{ended, counted_on, begun, moment_of, I
 ghost use Rattle.gateway_life.specs.Life.{IsForeign};
 ghost use Rattle.gateway_life.specs.Lived.{Lived, told};
 ghost use Rattle.gate_log.specs.Log.{OnlyReads};
-ghost use Rattle.gateway_life.specs.Ready.{LeavesOf, world_of};
+ghost use Rattle.gateway_life.specs.Ready.{LeavesOf, IfTold, world_of};
 ghost use Rattle.gateway_life.specs.Rounds.{IsLive, RoundDone, RoundBroken, ends_of, Begins};
 ghost use Rattle.gateway_life.specs.Rounds.{RoundsDone, LifeDone, LifeBroken, LifeWhole};
 ghost use Rattle.gateway_life.specs.Rounds.{LifeStopped};
-ghost use Rattle.gateway_life.specs.Stepped.{IsOfEvent, IsNotDone};
+ghost use Rattle.gateway_life.specs.Stepped.{EndsEvent, IsNotDone};
 ghost use Rattle.drop_taps.specs.Shown.{state_by};
 ghost use Rattle.gateway_life.specs.Watched.{Watched, WereCommitted, TapsSaw, end_in};
 ghost use Rattle.gateway_life.specs.Causes.{IsCauseIn, HasJournalCause};
@@ -132,9 +132,9 @@ impl Life {
             (C.recorded client.new) (V.recorded venue.new)) }
         ensures round { OnOk result ((m : ℕ)
             × GrowsBy (K.moments clock.old) (K.moments clock.new) (m ∷ [])
-            × RoundDone self.old.engine.core.config self.old self.new (moment_of m)
+            × IfTold (D.bytes disk.old) (RoundDone self.old.engine.core.config self.old self.new (moment_of m)
             (records (C.recorded client.old) (V.recorded venue.old))
-            (records (C.recorded client.new) (V.recorded venue.new))) }
+            (records (C.recorded client.new) (V.recorded venue.new)))) }
         ensures ends { IfErr result (λ end. (m : ℕ)
             × GrowsBy (K.moments clock.old) (K.moments clock.new) (m ∷ [])
             × LeavesOf (D.bytes disk.old) (D.image disk.old) (D.image disk.new)
@@ -155,7 +155,7 @@ impl Life {
         ensures kept { IfErr result (λ end. LeavesOf (D.bytes disk.old) (D.image disk.old)
             (D.image disk.new) self.old.engine.core.config.names
             (WereCommitted end self.new.engine.journal.entries)) }
-        ensures only { IfErr result IsOfEvent }
+        ensures only { IfErr result (EndsEvent (D.bytes disk.old)) }
         ensures journal_cause { IfErr result (λ end. IsCauseIn end self.new.engine) }
         ensures told { is_some (D.bytes disk.new) ≡ is_some (D.bytes disk.old) }
         ensures cause { HasCauseOf (D.faults disk.old) (D.faults disk.new) result }
@@ -206,9 +206,9 @@ impl Life {
             (C.recorded client.new) (V.recorded venue.new)) }
         ensures finish { OnOk result ((m : ℕ)
             × GrowsBy (K.moments clock.old) (K.moments clock.new) (m ∷ [])
-            × AllStepped self.old.engine.core.config (world_of self.old.engine) ends_of (moment_of m)
+            × IfTold (D.bytes disk.old) (AllStepped self.old.engine.core.config (world_of self.old.engine) ends_of (moment_of m)
             (world_of self.new.engine) (records (C.recorded client.old) (V.recorded venue.old))
-            (records (C.recorded client.new) (V.recorded venue.new))) }
+            (records (C.recorded client.new) (V.recorded venue.new)))) }
         ensures ends { IfErr result (λ end. (m : ℕ)
             × GrowsBy (K.moments clock.old) (K.moments clock.new) (m ∷ [])
             × LeavesOf (D.bytes disk.old) (D.image disk.old) (D.image disk.new)
@@ -229,7 +229,7 @@ impl Life {
         ensures kept { IfErr result (λ end. LeavesOf (D.bytes disk.old) (D.image disk.old)
             (D.image disk.new) self.old.engine.core.config.names
             (WereCommitted end self.new.engine.journal.entries)) }
-        ensures only { IfErr result IsOfEvent }
+        ensures only { IfErr result (EndsEvent (D.bytes disk.old)) }
         ensures journal_cause { IfErr result (λ end. IsCauseIn end self.new.engine) }
         ensures told { is_some (D.bytes disk.new) ≡ is_some (D.bytes disk.old) }
         ensures cause { HasCauseOf (D.faults disk.old) (D.faults disk.new) result }
@@ -258,9 +258,9 @@ impl Life {
             (C.recorded client.new) (V.recorded venue.new)) }
         ensures done { OnOk result ((given : List ℕ) × (length given ≡ rounds)
             × GrowsBy (K.moments clock.old) (K.moments clock.new) given
-            × RoundsDone self.old.engine.core.config self.old self.new given
+            × IfTold (D.bytes disk.old) (RoundsDone self.old.engine.core.config self.old self.new given
             (records (C.recorded client.old) (V.recorded venue.old))
-            (records (C.recorded client.new) (V.recorded venue.new))) }
+            (records (C.recorded client.new) (V.recorded venue.new)))) }
         ensures ends { IfErr result (λ end. (given : List ℕ) × (last : ℕ)
             × (length given ≤ rounds)
             × GrowsBy (K.moments clock.old) (K.moments clock.new) (given ++ last ∷ [])
@@ -283,7 +283,7 @@ impl Life {
         ensures kept { IfErr result (λ end. LeavesOf (D.bytes disk.old) (D.image disk.old)
             (D.image disk.new) self.old.engine.core.config.names
             (WereCommitted end self.new.engine.journal.entries)) }
-        ensures only { IfErr result IsOfEvent }
+        ensures only { IfErr result (EndsEvent (D.bytes disk.old)) }
         ensures journal_cause { IfErr result (λ end. IsCauseIn end self.new.engine) }
         ensures told { is_some (D.bytes disk.new) ≡ is_some (D.bytes disk.old) }
         ensures cause { HasCauseOf (D.faults disk.old) (D.faults disk.new) result }
@@ -313,10 +313,10 @@ impl Life {
             (Born self.old.engine.core.config.names self.new.engine.journal.entries))) }
         ensures done { OnOk result ((given : List ℕ) × (last : ℕ) × (length given ≡ rounds)
             × GrowsBy (K.moments clock.old) (K.moments clock.new) (given ++ last ∷ [])
-            × LifeDone self.old.engine.core.config self.old given last
+            × IfTold (D.bytes disk.old) (LifeDone self.old.engine.core.config self.old given last
             (records (C.recorded client.old) (V.recorded venue.old))
             (records (C.recorded client.new) (V.recorded venue.new))
-            self.new.engine.journal.entries) }
+            self.new.engine.journal.entries)) }
         ensures ends { IfErr result (λ end. (given : List ℕ) × (last : ℕ)
             × (length given ≤ rounds)
             × GrowsBy (K.moments clock.old) (K.moments clock.new) (given ++ last ∷ [])
@@ -339,7 +339,7 @@ impl Life {
         ensures kept { IfErr result (λ end. LeavesOf (D.bytes disk.old) (D.image disk.old)
             (D.image disk.new) self.old.engine.core.config.names
             (WereCommitted end self.new.engine.journal.entries)) }
-        ensures only { IfErr result IsOfEvent }
+        ensures only { IfErr result (EndsEvent (D.bytes disk.old)) }
         ensures journal_cause { IfErr result (λ end. IsCauseIn end self.new.engine) }
         ensures told { is_some (D.bytes disk.new) ≡ is_some (D.bytes disk.old) }
         ensures cause { HasCauseOf (D.faults disk.old) (D.faults disk.new) result }
@@ -363,10 +363,10 @@ fn lived<D: Disk, C: Wire, V: Wire, K: Clock>(
 ) -> Result<(), LifeEnd>
     requires client { Agrees (C.recorded client.old) false }
     requires venue { Agrees (V.recorded venue.old) false }
-    ensures done { OnOk result (LifeWhole config.now rounds (D.bytes disk.old) (D.bytes disk.new)
+    ensures done { OnOk result (IfTold (D.bytes disk.old) (LifeWhole config.now rounds (D.bytes disk.old) (D.bytes disk.new)
         (records (C.recorded client.old) (V.recorded venue.old))
         (records (C.recorded client.new) (V.recorded venue.new))
-        (K.moments clock.old) (K.moments clock.new)) }
+        (K.moments clock.old) (K.moments clock.new))) }
     ensures ends { IfErr result (λ end.
         IsUnbegun end config.now.names (D.bytes disk.old) (D.image disk.old) (D.image disk.new)
         (records (C.recorded client.old) (V.recorded venue.old))
@@ -394,11 +394,11 @@ fn lived<D: Disk, C: Wire, V: Wire, K: Clock>(
         (records (C.recorded client.old) (V.recorded venue.old))
         (records (C.recorded client.new) (V.recorded venue.new))
         (K.moments clock.old) (K.moments clock.new))) }
-    ensures refused { IfErr result (λ end. IfRefused end (
+    ensures refused { IfErr result (λ end. IfTold (D.bytes disk.old) (IfRefused end (
         IsUntouched (OnlyReads D.bytes D.image disk.old disk.new)
         (records (C.recorded client.old) (V.recorded venue.old))
         (records (C.recorded client.new) (V.recorded venue.new))
-        (K.moments clock.old) (K.moments clock.new))) }
+        (K.moments clock.old) (K.moments clock.new)))) }
     ensures only { IfErr result IsNotDone }
     ensures told { is_some (D.bytes disk.new) ≡ is_some (D.bytes disk.old) }
     ensures cause { HasCauseOf (D.faults disk.old) (D.faults disk.new) result }

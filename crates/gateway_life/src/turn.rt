@@ -16,12 +16,12 @@ ghost use Rattle.wires.specs.Wire.{Poll, Fits, came_of, may_come};
 ghost use Rattle.life_laws.specs.Happens.{up_on};
 ghost use Rattle.life_laws.specs.Turn.{on_side, with_up, up_after};
 ghost use Rattle.wire_sends.specs.Sent.{Agrees};
-ghost use Rattle.gateway_life.specs.Ready.{Ready, world_of, LeavesOf};
+ghost use Rattle.gateway_life.specs.Ready.{Ready, world_of, LeavesOf, IfTold};
 ghost use Rattle.gateway_life.specs.State.{seen};
 ghost use Rattle.gateway_life.specs.Stepped.{SteppedOrNot, BrokenIf, HasCauseOf, Grew, records};
 ghost use Rattle.gateway_life.specs.Turned.{IsDrained, TakenAll, TakenFront, Arrived, ArrivedFront};
 ghost use Rattle.gateway_life.specs.Turned.{Turned, TurnBroken, record_on, polls_after};
-ghost use Rattle.gateway_life.specs.Stepped.{IsOfEvent};
+ghost use Rattle.gateway_life.specs.Stepped.{EndsEvent};
 ghost use Rattle.drop_taps.specs.Shown.{state_by};
 ghost use Rattle.gateway_life.specs.Watched.{Watched, WereCommitted};
 ghost use Rattle.gateway_life.specs.Causes.{IsCauseIn};
@@ -64,10 +64,10 @@ fn frame_event<D: Disk, C: Wire, V: Wire>(
     ensures config { engine.new.core.config ≡ engine.old.core.config }
     ensures ready { OnOk result (Ready (seen engine.new) (D.bytes disk.new)
         (C.recorded client.new) (V.recorded venue.new)) }
-    ensures happens { OnOk result (SteppedOrNot engine.old.core.config (world_of (seen engine.old))
+    ensures happens { OnOk result (IfTold (D.bytes disk.old) (SteppedOrNot engine.old.core.config (world_of (seen engine.old))
         (Frame side body.now) now (world_of (seen engine.new))
         (records (C.recorded client.old) (V.recorded venue.old))
-        (records (C.recorded client.new) (V.recorded venue.new))) }
+        (records (C.recorded client.new) (V.recorded venue.new)))) }
     ensures durable { OnOk result (HasOneImage (D.bytes disk.old) (D.image disk.old) →
         HasOneImage (D.bytes disk.new) (D.image disk.new)) }
     ensures ends { IfErr result (λ end. LeavesOf (D.bytes disk.old) (D.image disk.old)
@@ -81,7 +81,7 @@ fn frame_event<D: Disk, C: Wire, V: Wire>(
     ensures kept { IfErr result (λ end. LeavesOf (D.bytes disk.old) (D.image disk.old)
         (D.image disk.new) engine.old.core.config.names
         (WereCommitted end engine.new.journal.entries)) }
-    ensures only { IfErr result IsOfEvent }
+    ensures only { IfErr result (EndsEvent (D.bytes disk.old)) }
     ensures journal_cause { IfErr result (λ end. IsCauseIn end (seen engine.new)) }
     ensures told { is_some (D.bytes disk.new) ≡ is_some (D.bytes disk.old) }
     ensures cause { HasCauseOf (D.faults disk.old) (D.faults disk.new) result }
@@ -119,10 +119,10 @@ fn take_frames<D: Disk, C: Wire, V: Wire>(
     ensures stands { OnOk result ((stream : List ℕ) × (answered : List Piece)
         × StandsFor framer.new stream answered) }
     ensures room { OnOk result (LEAST_ROOM ≤ room framer.new) }
-    ensures taken { OnOk result (TakenAll framer.old framer.new engine.old.core.config
+    ensures taken { OnOk result (IfTold (D.bytes disk.old) (TakenAll framer.old framer.new engine.old.core.config
         (world_of (seen engine.old)) side now (world_of (seen engine.new))
         (records (C.recorded client.old) (V.recorded venue.old))
-        (records (C.recorded client.new) (V.recorded venue.new))) }
+        (records (C.recorded client.new) (V.recorded venue.new)))) }
     ensures durable { OnOk result (HasOneImage (D.bytes disk.old) (D.image disk.old) →
         HasOneImage (D.bytes disk.new) (D.image disk.new)) }
     ensures ends { IfErr result (λ end. LeavesOf (D.bytes disk.old) (D.image disk.old)
@@ -136,7 +136,7 @@ fn take_frames<D: Disk, C: Wire, V: Wire>(
     ensures kept { IfErr result (λ end. LeavesOf (D.bytes disk.old) (D.image disk.old)
         (D.image disk.new) engine.old.core.config.names
         (WereCommitted end engine.new.journal.entries)) }
-    ensures only { IfErr result IsOfEvent }
+    ensures only { IfErr result (EndsEvent (D.bytes disk.old)) }
     ensures journal_cause { IfErr result (λ end. IsCauseIn end (seen engine.new)) }
     ensures told { is_some (D.bytes disk.new) ≡ is_some (D.bytes disk.old) }
     ensures cause { HasCauseOf (D.faults disk.old) (D.faults disk.new) result }
@@ -186,10 +186,10 @@ fn arrived<D: Disk, C: Wire, V: Wire>(
     ensures ready { OnOk result (Ready (seen engine.new) (D.bytes disk.new)
         (C.recorded client.new) (V.recorded venue.new)) }
     ensures drained { OnOk result (IsDrained side framer.new) }
-    ensures arrived { OnOk result (Arrived framer.old framer.new (came_of found buf.now)
+    ensures arrived { OnOk result (IfTold (D.bytes disk.old) (Arrived framer.old framer.new (came_of found buf.now)
         engine.old.core.config (world_of (seen engine.old)) side now (world_of (seen engine.new))
         (records (C.recorded client.old) (V.recorded venue.old))
-        (records (C.recorded client.new) (V.recorded venue.new))) }
+        (records (C.recorded client.new) (V.recorded venue.new)))) }
     ensures durable { OnOk result (HasOneImage (D.bytes disk.old) (D.image disk.old) →
         HasOneImage (D.bytes disk.new) (D.image disk.new)) }
     ensures ends { IfErr result (λ end. LeavesOf (D.bytes disk.old) (D.image disk.old)
@@ -203,7 +203,7 @@ fn arrived<D: Disk, C: Wire, V: Wire>(
     ensures kept { IfErr result (λ end. LeavesOf (D.bytes disk.old) (D.image disk.old)
         (D.image disk.new) engine.old.core.config.names
         (WereCommitted end engine.new.journal.entries)) }
-    ensures only { IfErr result IsOfEvent }
+    ensures only { IfErr result (EndsEvent (D.bytes disk.old)) }
     ensures journal_cause { IfErr result (λ end. IsCauseIn end (seen engine.new)) }
     ensures told { is_some (D.bytes disk.new) ≡ is_some (D.bytes disk.old) }
     ensures cause { HasCauseOf (D.faults disk.old) (D.faults disk.new) result }
@@ -309,10 +309,10 @@ pub(crate) fn turn<D: Disk, C: Wire, V: Wire>(
     ensures ready { OnOk result (Ready (seen engine.new) (D.bytes disk.new)
         (C.recorded client.new) (V.recorded venue.new)) }
     ensures drained { OnOk result (IsDrained side framer.new) }
-    ensures turn { OnOk result (Turned side framer.old framer.new engine.old.core.config
+    ensures turn { OnOk result (IfTold (D.bytes disk.old) (Turned side framer.old framer.new engine.old.core.config
         (world_of (seen engine.old)) now (world_of (seen engine.new))
         (records (C.recorded client.old) (V.recorded venue.old))
-        (records (C.recorded client.new) (V.recorded venue.new))) }
+        (records (C.recorded client.new) (V.recorded venue.new)))) }
     ensures durable { OnOk result (HasOneImage (D.bytes disk.old) (D.image disk.old) →
         HasOneImage (D.bytes disk.new) (D.image disk.new)) }
     ensures ends { IfErr result (λ end. LeavesOf (D.bytes disk.old) (D.image disk.old)
@@ -326,7 +326,7 @@ pub(crate) fn turn<D: Disk, C: Wire, V: Wire>(
     ensures kept { IfErr result (λ end. LeavesOf (D.bytes disk.old) (D.image disk.old)
         (D.image disk.new) engine.old.core.config.names
         (WereCommitted end engine.new.journal.entries)) }
-    ensures only { IfErr result IsOfEvent }
+    ensures only { IfErr result (EndsEvent (D.bytes disk.old)) }
     ensures journal_cause { IfErr result (λ end. IsCauseIn end (seen engine.new)) }
     ensures told { is_some (D.bytes disk.new) ≡ is_some (D.bytes disk.old) }
     ensures cause { HasCauseOf (D.faults disk.old) (D.faults disk.new) result }

@@ -1,6 +1,7 @@
 use Rattle.gateway_life.proofs.Living.{live_done, live_ended, answered_done, answered_ended}
 use Rattle.gateway_life.proofs.Living.{idle_untouched, images_by, if_refused, if_foreign}
 use Rattle.gateway_life.proofs.Living.{not_foreign, not_done}
+use Rattle.gateway_life.proofs.Telling.{if_told, idle_done, refused_told}
 use Rattle.gateway_life.specs.declared.end.LifeEnd.TheVariants as ends
 use Rattle.gateway_life.proofs.life.live.Goals as goal
 
@@ -11,11 +12,13 @@ returns-in-Ok-clause-lived g c = record {
       (live_done c.an_image_has_one_reading.ensures c.args.config.now c.args.rounds
       (g.D.Disk.bytes c.args.disk.now) (g.D.Disk.bytes c.lived.new.disk) _ _ _ _ _ _ _ _
       c.lived.ensures.told c.in-Ok.ensures.durable c.in-Ok.ensures.done);
-  begins = answered_done c.args.config.now.names (g.D.Disk.bytes c.args.disk.now)
-      c.in-Ok.ensures.done.before c.in-Ok.ensures.done.begins.journal;
-  idle = tt;
-  foreign = not_foreign _ c.args.config.now.names (g.D.Disk.bytes c.args.disk.now)
-      c.in-Ok.ensures.done.before c.in-Ok.ensures.done.begins.journal;
+  begins = if_told (g.D.Disk.bytes c.args.disk.now) _ (λ t.
+      answered_done c.args.config.now.names (g.D.Disk.bytes c.args.disk.now)
+      (c.in-Ok.ensures.done t).before (c.in-Ok.ensures.done t).begins.journal);
+  idle = idle_done (g.D.Disk.bytes c.args.disk.now) _;
+  foreign = if_told (g.D.Disk.bytes c.args.disk.now) _ (λ t.
+      not_foreign _ c.args.config.now.names (g.D.Disk.bytes c.args.disk.now)
+      (c.in-Ok.ensures.done t).before (c.in-Ok.ensures.done t).begins.journal);
   journal_cause = c.in-Ok.ensures.journal_cause;
   durable = λ done. c.in-Ok.ensures.durable;
   client_polls = λ done. c.in-Ok.ensures.client_polls;
@@ -31,8 +34,9 @@ returns-in-Err-clause-lived g c = record {
       c.hang_up.ensures.grows c.hang_up-in-Err.ensures.grows c.in-Err.ensures.ends);
   begins = answered_ended c.in-Err.end c.args.config.now c.args.rounds
       (g.D.Disk.bytes c.args.disk.now) _ _ _ _ _ _ c.in-Err.ensures.ends;
-  idle = if_refused _ _ c.in-Err.end (idle_untouched _ _ _ _ _ _ _ _ _ _ _ _ _ _ _ _
-      c.requires.client c.requires.venue c.hang_up.ensures.grows c.hang_up-in-Err.ensures.grows)
+  idle = refused_told (g.D.Disk.bytes c.args.disk.now) c.in-Err.end _ _
+      (if_refused _ _ c.in-Err.end (idle_untouched _ _ _ _ _ _ _ _ _ _ _ _ _ _ _ _
+      c.requires.client c.requires.venue c.hang_up.ensures.grows c.hang_up-in-Err.ensures.grows))
       c.in-Err.ensures.refused;
   foreign = if_foreign _ _ c.args.config.now.names (g.D.Disk.bytes c.args.disk.now)
       (idle_untouched _ _ _ _ _ _ _ _ _ _ _ _ _ _ _ _ c.requires.client c.requires.venue

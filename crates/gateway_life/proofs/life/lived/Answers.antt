@@ -3,6 +3,7 @@ use Rattle.gateway_config.specs.declared.config.Config.{Config}
 use Rattle.gateway_life.proofs.Living.{lived_unbegun, lived_whole, lived_stopped}
 use Rattle.gateway_life.proofs.Living.{unbegun_foreign, begun_not_foreign}
 use Rattle.gateway_life.proofs.Living.{unbegun_refused, refused_events}
+use Rattle.gateway_life.proofs.Telling.{told_err, ended_event}
 use Rattle.gateway_life.proofs.TapsShown.{taps_unbegun, taps_whole}
 use Rattle.gateway_life.proofs.Caused.{cause_unbegun, cause_whole}
 use Rattle.gateway_life.proofs.life.lived.Goals as goal
@@ -16,9 +17,14 @@ returns-in_err-life-clause-ends g c =
 pub returns-clause-done : goal.returns-clause-done
 returns-clause-done g c =
     lived_whole c.whole.result c.args.config.now c.in_ok-life.life.engine.core.config c.args.rounds
-    (g.D.Disk.bytes c.args.disk.now) _ c.in_ok-life.life c.whole.new.self _ _ _ _
+    (g.D.Disk.bytes c.args.disk.now) (g.D.Disk.bytes c.begin.new.disk) _ c.in_ok-life.life
+    c.whole.new.self _ _ _ _
     c.in_ok-life.ensures.config c.in_ok-life.ensures.begun c.in_ok-life.ensures.begins
-    c.whole.ensures.stands c.whole.ensures.done
+    c.begin.ensures.told c.whole.ensures.stands c.whole.ensures.done
+
+pub returns-clause-only : goal.returns-clause-only
+returns-clause-only g c =
+    ended_event c.whole.result (g.D.Disk.bytes c.begin.new.disk) c.whole.ensures.only
 
 pub returns-clause-ends : goal.returns-clause-ends
 returns-clause-ends g c =
@@ -71,8 +77,10 @@ returns-clause-foreign g c =
 
 pub returns-in_err-life-clause-refused : goal.returns-in_err-life-clause-refused
 returns-in_err-life-clause-refused g c =
-    unbegun_refused _ c.from_residual.result c.in_err-life.field-0.0 _ _ c.from_residual.ensures.1
-    c.in_err-life.ensures.refused_only_reads
+    told_err c.from_residual.result (g.D.Disk.bytes c.args.disk.now) _
+    (unbegun_refused _ c.from_residual.result c.in_err-life.field-0.0 _ _ c.from_residual.ensures.1
+    c.in_err-life.ensures.refused_only_reads)
 
 pub returns-clause-refused : goal.returns-clause-refused
-returns-clause-refused g c = refused_events _ c.whole.result c.whole.ensures.only
+returns-clause-refused g c = refused_events _ c.whole.result (g.D.Disk.bytes c.args.disk.now)
+    (g.D.Disk.bytes c.begin.new.disk) c.begin.ensures.told c.whole.ensures.only

@@ -9,7 +9,7 @@ use Rattle.gateway_life.proofs.Watching.{watched_none}
 use Rattle.gateway_life.proofs.turn.frame_event.Goals as goal
 
 pub returns-then-not-is_up-clause-happens : goal.returns-then-not-is_up-clause-happens
-returns-then-not-is_up-clause-happens g c =
+returns-then-not-is_up-clause-happens g c = λ t.
     not_counted c.args.engine.now.core.config (world_of (seen c.args.engine.now)) c.args.side
     c.args.body.now c.args.now _ (sym c.is_up.ensures ∙ c.if-not-is_up.true)
 

@@ -11,6 +11,7 @@ use Rattle.gateway_life.specs.Turned.{TakenFront}
 use Rattle.gateway_life.proofs.Cutting.{framed}
 use Rattle.gateway_life.proofs.Turning.{taken_none, taken_more, taken_same, taken_all, taken_part}
 use Rattle.gateway_life.proofs.Polling.{err_leaves}
+use Rattle.gateway_life.proofs.Telling.{err_told}
 use Rattle.gateway_life.proofs.Watching.{watched_none, watched_append, kept_err}
 use Rattle.gateway_life.proofs.turn.take_frames.Goals as goal
 
@@ -20,7 +21,7 @@ frames-init g c = record {
   ready = c.requires.ready;
   kind = refl;
   stands = c.requires.stands;
-  taken = taken_none c.args.engine.now.core.config _ _ _ _ _;
+  taken = λ t. taken_none c.args.engine.now.core.config _ _ _ _ _;
   told = refl;
   durable = λ one. one;
   faults = refl;
@@ -37,9 +38,9 @@ returns-in-More-clause-stands g c =
     (s.0, s.1, (c.in-More.ensures.answers s.0 s.1 s.2).0)
 
 pub returns-in-More-clause-taken : goal.returns-in-More-clause-taken
-returns-in-More-clause-taken g c =
+returns-in-More-clause-taken g c = λ t.
     taken_all c.args.engine.now.core.config c.args.framer.now c.frames.framer c.next.new.self _ _ _ _
-    _ _ c.frames.invariant.taken c.in-More.ensures.answers
+    _ _ (c.frames.invariant.taken t) c.in-More.ensures.answers
 
 pub frames-preserved-in-Garbled : goal.frames-preserved-in-Garbled
 frames-preserved-in-Garbled g c =
@@ -51,8 +52,8 @@ frames-preserved-in-Garbled g c =
       ready = inv.ready;
       kind = c.next.ensures.kind ∙ inv.kind;
       stands = (s.0, s.1 ++ Bad c.in-Garbled.cause here.0 ∷ [], here.1);
-      taken = taken_same c.args.engine.now.core.config c.args.framer.now c.frames.framer
-          c.next.new.self _ _ _ _ _ _ inv.taken (λ stream answered stands.
+      taken = λ t. taken_same c.args.engine.now.core.config c.args.framer.now c.frames.framer
+          c.next.new.self _ _ _ _ _ _ (inv.taken t) (λ stream answered stands.
           let found = c.in-Garbled.ensures.answers stream answered stands in
           (c.in-Garbled.cause, found.0, found.1));
       told = inv.told;
@@ -82,8 +83,8 @@ frames-preserved g c =
       ready = dealt.ready;
       kind = c.next.ensures.kind ∙ inv.kind;
       stands = (s.0, s.1 ++ Good here.0 here.1 ∷ [], here.2);
-      taken = taken_more c.args.engine.now.core.config c.args.framer.now c.frames.framer
-          c.next.new.self _ _ _ c.args.side c.part.result.now c.args.now _ _ _ inv.taken
+      taken = λ t. taken_more c.args.engine.now.core.config c.args.framer.now c.frames.framer
+          c.next.new.self _ _ _ c.args.side c.part.result.now c.args.now _ _ _ (inv.taken t)
           (λ stream answered stands.
           let found = c.in-Frame.ensures.answers stream answered stands in (
             found.1,
@@ -95,7 +96,7 @@ frames-preserved g c =
           (world_of (seen c.frame_event.new.engine))
           (records (g.C.Wire.recorded c.frames.client) (g.V.Wire.recorded c.frames.venue))
           (records (g.C.Wire.recorded c.frame_event.new.client)
-          (g.V.Wire.recorded c.frame_event.new.venue))) inv.config dealt.happens);
+          (g.V.Wire.recorded c.frame_event.new.venue))) inv.config (dealt.happens (inv.told ∙ t)));
       told = dealt.told ∙ inv.told;
       durable = λ one. dealt.durable (inv.durable one);
       faults = dealt.cause ∙ inv.faults;
@@ -120,12 +121,14 @@ returns-in_err-frame_event-in-Frame-clause-ends g c =
     let r1 = records (g.C.Wire.recorded c.frames.client) (g.V.Wire.recorded c.frames.venue) in
     let r2 = records (g.C.Wire.recorded c.frame_event.new.client)
     (g.V.Wire.recorded c.frame_event.new.venue) in
+    err_told c.from_residual.result (g.D.Disk.bytes c.args.disk.now) _ _ config.names
+    (λ end. TakenFront end c.args.framer.now config w c.args.side c.args.now r0 r2) (λ t.
     err_leaves c.from_residual.result error _ _ _ _ _ _ _
     (BrokenIf error config' m (Frame c.args.side body) c.args.now r1 r2)
     (λ end. TakenFront end c.args.framer.now config w c.args.side c.args.now r0 r2)
     c.from_residual.ensures.1 inv.told inv.durable (ap (λ (k : Config). k.names) inv.config)
     (λ xs broken. taken_part config error c.args.framer.now c.frames.framer c.next.new.self w m
-    c.args.side body c.args.now r0 r1 r2 xs inv.taken
+    c.args.side body c.args.now r0 r1 r2 xs (inv.taken t)
     (λ stream answered stands.
     let found = c.in-Frame.ensures.answers stream answered stands in (
       found.1,
@@ -133,7 +136,7 @@ returns-in_err-frame_event-in-Frame-clause-ends g c =
           (sym (c.part.ensures ∙ found.5)) found.2,
     )) (c.next.ensures.kind ∙ inv.kind)
     (subst (λ (k : Config). BrokenIf error k m (Frame c.args.side body) c.args.now r1 r2 xs)
-    inv.config broken)) c.in_err-frame_event-in-Frame.ensures.ends
+    inv.config broken)) c.in_err-frame_event-in-Frame.ensures.ends)
 
 pub returns-in_err-frame_event-in-Frame-clause-taps :
     goal.returns-in_err-frame_event-in-Frame-clause-taps

@@ -4,7 +4,8 @@ use Rattle.gateway_config.specs.declared.config.Config.{Config}
 use Rattle.gateway_core.specs.State.{CoreState}
 use Rattle.wires.specs.Wire.{came_of}
 use Rattle.gateway_life.specs.State.{seen}
-use Rattle.gateway_life.specs.Ready.{world_of}
+use Rattle.gateway_life.specs.Ready.{world_of, IfTold}
+use Rattle.gateway_life.proofs.Telling.{err_told, error_event, same_event}
 use Rattle.gateway_life.specs.Stepped.{records, Stepped, Broken}
 use Rattle.gateway_life.specs.Turned.{Arrived, ArrivedFront, Turned, TurnBroken}
 use Rattle.gateway_life.proofs.Polling.{err_leaves, last_leaves, ok_map, turned}
@@ -60,15 +61,16 @@ returns-clause-turn g c =
     let r2 = records (g.C.Wire.recorded c.arrived.new.client)
     (g.V.Wire.recorded c.arrived.new.venue) in
     let r3 = records (g.C.Wire.recorded c.tick.new.client) (g.V.Wire.recorded c.tick.new.venue) in
-    let found = subst (λ (k : Config). Arrived c.args.framer.now c.arrived.new.framer came k polled
-    side c.args.now x r1 r2) at c.in_ok-arrived.ensures.arrived in
-    ok_map c.tick.result
-    (Stepped c.arrived.new.engine.core.config x (Tick side) c.args.now y r2 r3)
-    (Turned side c.args.framer.now c.arrived.new.framer config w c.args.now y r0 r3)
-    (λ one. turned config side came w polled c.args.now r0 r1 poll.ensures.may grew is
-    c.args.framer.now c.arrived.new.framer x y r2 r3 found
+    ok_map c.tick.result (IfTold (g.D.Disk.bytes c.arrived.new.disk)
+    (Stepped c.arrived.new.engine.core.config x (Tick side) c.args.now y r2 r3))
+    (IfTold (g.D.Disk.bytes c.args.disk.now)
+    (Turned side c.args.framer.now c.arrived.new.framer config w c.args.now y r0 r3))
+    (λ one t. turned config side came w polled c.args.now r0 r1 poll.ensures.may grew is
+    c.args.framer.now c.arrived.new.framer x y r2 r3
+    (subst (λ (k : Config). Arrived c.args.framer.now c.arrived.new.framer came k polled
+    side c.args.now x r1 r2) at (c.in_ok-arrived.ensures.arrived t))
     (subst (λ (k : Config). Stepped k x (Tick side) c.args.now y r2 r3)
-    (c.arrived.ensures.config ∙ at) one)) c.tick.ensures.happens
+    (c.arrived.ensures.config ∙ at) (one (c.arrived.ensures.told ∙ t)))) c.tick.ensures.happens
 
 pub returns-clause-ends : goal.returns-clause-ends
 returns-clause-ends g c =
@@ -89,8 +91,10 @@ returns-clause-ends g c =
     let r2 = records (g.C.Wire.recorded c.arrived.new.client)
     (g.V.Wire.recorded c.arrived.new.venue) in
     let r3 = records (g.C.Wire.recorded c.tick.new.client) (g.V.Wire.recorded c.tick.new.venue) in
+    err_told c.tick.result (g.D.Disk.bytes c.args.disk.now) _ _ config.names
+    (λ end. TurnBroken end side c.args.framer.now config w c.args.now r0 r3) (λ t.
     let found = subst (λ (k : Config). Arrived c.args.framer.now c.arrived.new.framer came k polled
-    side c.args.now x r1 r2) at c.in_ok-arrived.ensures.arrived in
+    side c.args.now x r1 r2) at (c.in_ok-arrived.ensures.arrived t) in
     last_leaves c.tick.result (g.D.Disk.bytes c.args.disk.now) (g.D.Disk.bytes c.arrived.new.disk)
     _ _ _ _ _
     (λ end. Broken end c.arrived.new.engine.core.config x (Tick side) c.args.now r2 r3)
@@ -100,7 +104,17 @@ returns-clause-ends g c =
     (λ end xs broken. turn_tick config side came w polled c.args.now r0 r1
     poll.ensures.may grew is end c.args.framer.now c.arrived.new.framer x r2 r3 xs found
     (subst (λ (k : Config). Broken end k x (Tick side) c.args.now r2 r3 xs)
-    (c.arrived.ensures.config ∙ at) broken)) c.tick.ensures.ends
+    (c.arrived.ensures.config ∙ at) broken)) c.tick.ensures.ends)
+
+pub returns-in_err-arrived-clause-only : goal.returns-in_err-arrived-clause-only
+returns-in_err-arrived-clause-only g c =
+    error_event c.from_residual.result c.in_err-arrived.field-0.0 (g.D.Disk.bytes c.args.disk.now)
+    (g.D.Disk.bytes c.args.disk.now) c.from_residual.ensures.1 refl c.in_err-arrived.ensures.only
+
+pub returns-clause-only : goal.returns-clause-only
+returns-clause-only g c =
+    same_event c.tick.result (g.D.Disk.bytes c.args.disk.now) (g.D.Disk.bytes c.arrived.new.disk)
+    c.arrived.ensures.told c.tick.ensures.only
 
 pub returns-in_err-arrived-clause-taps : goal.returns-in_err-arrived-clause-taps
 returns-in_err-arrived-clause-taps g c =

@@ -5,7 +5,8 @@ use Rattle.pair_journal.specs.State.{JournalState}
 use Rattle.life_laws.specs.Happens.{World}
 use Rattle.gateway_life.specs.State.{seen}
 use Rattle.gateway_life.specs.Ready.{world_of, made_of}
-use Rattle.gateway_life.specs.Stepped.{records}
+use Rattle.gateway_life.specs.Stepped.{records, Broken}
+use Rattle.gateway_life.proofs.Telling.{err_told, only_fault, act_event, made_event, same_event}
 use Rattle.gateway_life.proofs.Acting.{stepped, broken_parts, made_ends}
 use Rattle.gateway_life.proofs.Acting.{act_ends}
 use Rattle.gateway_life.proofs.Deciding.{left_after}
@@ -14,7 +15,7 @@ use Rattle.gateway_life.proofs.Caused.{made_cause, act_cause}
 use Rattle.gateway_life.proofs.engine.Engine.event.Goals as goal
 
 pub returns-clause-happens : goal.returns-clause-happens
-returns-clause-happens g c =
+returns-clause-happens g c = λ t.
     let made = c.in_ok-made.ensures in
     let acts = c.in_ok-act.ensures in
     stepped c.args.self.now.core.config (world_of (seen c.args.self.now))
@@ -23,8 +24,8 @@ returns-clause-happens g c =
     c.decide.new.self.journal.entries _ _ _ _ _ _
     (c.names-names.ensures.names ∙ made.ready.names ∙ ap (λ k. k.names) made.config)
     made.up.0 made.up.1 made.entries
-    (ap (λ (j : JournalState). j.entries) acts.journal) made.decides acts.sessions acts.client_acts
-    acts.venue_acts
+    (ap (λ (j : JournalState). j.entries) acts.journal) made.decides acts.sessions
+    (acts.client_acts (made.told ∙ t)) (acts.venue_acts (made.told ∙ t))
 
 pub returns-in_err-made-clause-ends : goal.returns-in_err-made-clause-ends
 returns-in_err-made-clause-ends g c =
@@ -40,20 +41,38 @@ returns-in_err-act-clause-ends g c =
     let r0 = records (g.C.Wire.recorded c.args.client.now) (g.V.Wire.recorded c.args.venue.now) in
     let r1 = records (g.C.Wire.recorded c.act.new.client) (g.V.Wire.recorded c.act.new.venue) in
     let named = made.ready.names ∙ ap (λ k. k.names) made.config in
+    err_told c.from_residual-in_err-act.result (g.D.Disk.bytes c.args.disk.now)
+    (g.D.Disk.image c.args.disk.now) (g.D.Disk.image c.act.new.disk) config.names
+    (λ end. Broken end config w (event_of c.args.event.now) c.args.now r0 r1) (λ t.
+    let t1 = made.told ∙ t in
     act_ends c.from_residual-in_err-act.result c.in_err-act.field-0.0
     (g.D.Disk.bytes c.args.disk.now) (g.D.Disk.image c.args.disk.now)
     (g.D.Disk.image c.act.new.disk) config w (event_of c.args.event.now) c.args.now r0 r1
-    c.from_residual-in_err-act.ensures.1 c.in_err-act.ensures.only
+    c.from_residual-in_err-act.ensures.1
+    (only_fault _ c.in_err-act.field-0.0 t1 c.in_err-act.ensures.only c.in_err-act.ensures.no_memory)
     (broken_parts (g.D.Disk.bytes c.args.disk.now) (g.D.Disk.image c.decide.new.disk)
     (g.D.Disk.image c.act.new.disk) config w (event_of c.args.event.now) c.args.now
     (made_of c.in_ok-made.made c.decide.new.self.core) c.names-names.result
     c.decide.new.self.journal.entries c.decide.new.self.client_up c.decide.new.self.venue_up
     _ _ _ _ (c.names-names.ensures.names ∙ named) made.up.0 made.up.1 made.entries made.decides
-    c.act.ensures.only_read.images c.in_err-act.ensures.client_part c.in_err-act.ensures.venue_part
-    (g.D.Disk.image c.args.disk.now)
+    c.act.ensures.only_read.images (c.in_err-act.ensures.client_part t1)
+    (c.in_err-act.ensures.venue_part t1) (g.D.Disk.image c.args.disk.now)
     (left_after (g.D.Disk.bytes c.args.disk.now) (g.D.Disk.bytes c.decide.new.disk) _ _
     c.decide.new.self.journal.names config.names c.decide.new.self.journal.entries made.told
-    made.durable made.ready.stands named))
+    made.durable made.ready.stands named)))
+
+pub returns-in_err-made-clause-only : goal.returns-in_err-made-clause-only
+returns-in_err-made-clause-only g c =
+    made_event c.from_residual.result (g.D.Disk.bytes c.args.disk.now) c.in_err-made.field-0.0
+    c.args.self.now.core.config (world_of (seen c.args.self.now)) (event_of c.args.event.now)
+    c.args.now c.from_residual.ensures.1 c.in_err-made.ensures.why
+
+pub returns-in_err-act-clause-only : goal.returns-in_err-act-clause-only
+returns-in_err-act-clause-only g c =
+    same_event c.from_residual-in_err-act.result (g.D.Disk.bytes c.args.disk.now)
+    (g.D.Disk.bytes c.decide.new.disk) c.in_ok-made.ensures.told
+    (act_event c.from_residual-in_err-act.result (g.D.Disk.bytes c.decide.new.disk)
+    c.in_err-act.field-0.0 c.from_residual-in_err-act.ensures.1 c.in_err-act.ensures.only)
 
 pub returns-clause-taps : goal.returns-clause-taps
 returns-clause-taps g c = record {
@@ -108,4 +127,4 @@ returns-in_err-made-clause-journal_cause g c =
 pub returns-in_err-act-clause-journal_cause : goal.returns-in_err-act-clause-journal_cause
 returns-in_err-act-clause-journal_cause g c =
     act_cause c.from_residual-in_err-act.result c.in_err-act.field-0.0 _ _
-    c.from_residual-in_err-act.ensures.1 c.in_err-act.ensures.only
+    c.from_residual-in_err-act.ensures.1 c.in_err-act.ensures.only c.in_err-act.ensures.no_memory

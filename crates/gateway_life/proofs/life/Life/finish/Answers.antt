@@ -4,6 +4,7 @@ use Rattle.gateway_life.specs.State.{seen}
 use Rattle.gateway_life.specs.Ready.{world_of}
 use Rattle.gateway_life.proofs.Joining.{finish_ok, finish_client, finish_venue}
 use Rattle.gateway_life.proofs.Polling.{durable_on}
+use Rattle.gateway_life.proofs.Telling.{error_event, same_event}
 use Rattle.gateway_life.proofs.Watching.{watched_append, kept_err, kept_last}
 use Rattle.gateway_life.proofs.life.Life.finish.Goals as goal
 
@@ -21,8 +22,19 @@ returns-clause-finish g c =
     rw (← c.self.view_is) (finish_ok c.event-2.result c.self.inside.engine.core.config
     c.event.new.self.core.config
     (world_of (seen c.self.inside.engine)) (world_of (seen c.event.new.self))
-    (world_of (seen c.event-2.new.self)) c.moment-now.result at.0 _ _ _ _ _
-    c.event.ensures.config at.1 at.2 c.in_ok-event.ensures.happens c.event-2.ensures.happens)
+    (world_of (seen c.event-2.new.self)) c.moment-now.result at.0 _ _ (g.D.Disk.bytes c.args.disk.now)
+    (g.D.Disk.bytes c.event.new.disk) _ _ _ c.event.ensures.config at.1 at.2 c.event.ensures.told
+    c.in_ok-event.ensures.happens c.event-2.ensures.happens)
+
+pub returns-in_err-event-clause-only : goal.returns-in_err-event-clause-only
+returns-in_err-event-clause-only g c =
+    error_event c.from_residual.result c.in_err-event.field-0.0 (g.D.Disk.bytes c.args.disk.now)
+    (g.D.Disk.bytes c.args.disk.now) c.from_residual.ensures.1 refl c.in_err-event.ensures.only
+
+pub returns-clause-only : goal.returns-clause-only
+returns-clause-only g c =
+    same_event c.event-2.result (g.D.Disk.bytes c.args.disk.now) (g.D.Disk.bytes c.event.new.disk)
+    c.event.ensures.told c.event-2.ensures.only
 
 pub returns-clause-ends : goal.returns-clause-ends
 returns-clause-ends g c =

@@ -4,6 +4,7 @@ use Rattle.gateway_life.specs.State.{seen}
 use Rattle.gateway_life.specs.Ready.{world_of}
 use Rattle.gateway_life.proofs.Joining.{round_ok, client_ends, venue_ends}
 use Rattle.gateway_life.proofs.Polling.{durable_on}
+use Rattle.gateway_life.proofs.Telling.{error_event, same_event}
 use Rattle.gateway_life.proofs.Watching.{watched_append, kept_err, kept_last}
 use Rattle.gateway_life.proofs.life.Life.round.Goals as goal
 
@@ -31,9 +32,20 @@ returns-clause-round g c =
       engine = seen c.turn-2.new.engine;
       client = c.turn.new.framer;
       venue = c.turn-2.new.framer;
-    }) (world_of (seen c.turn.new.engine)) c.moment-now.result at.0 _ _ _ _ _
-    c.turn.ensures.config at.1 at.2 c.in_ok-turn.ensures.turn
+    }) (world_of (seen c.turn.new.engine)) c.moment-now.result at.0 _ _
+    (g.D.Disk.bytes c.args.disk.now) (g.D.Disk.bytes c.turn.new.disk) _ _ _
+    c.turn.ensures.config at.1 at.2 c.turn.ensures.told c.in_ok-turn.ensures.turn
     c.turn-2.ensures.turn)
+
+pub returns-in_err-turn-clause-only : goal.returns-in_err-turn-clause-only
+returns-in_err-turn-clause-only g c =
+    error_event c.from_residual.result c.in_err-turn.field-0.0 (g.D.Disk.bytes c.args.disk.now)
+    (g.D.Disk.bytes c.args.disk.now) c.from_residual.ensures.1 refl c.in_err-turn.ensures.only
+
+pub returns-clause-only : goal.returns-clause-only
+returns-clause-only g c =
+    same_event c.turn-2.result (g.D.Disk.bytes c.args.disk.now) (g.D.Disk.bytes c.turn.new.disk)
+    c.turn.ensures.told c.turn-2.ensures.only
 
 pub returns-clause-ends : goal.returns-clause-ends
 returns-clause-ends g c =

@@ -8,6 +8,7 @@ use Rattle.wire_sends.proofs.Sendings.{grows_none, grows_append}
 use Rattle.gateway_life.proofs.Joining.{rounds_end}
 use Rattle.gateway_life.proofs.Rounding.{rounds_none, rounds_more}
 use Rattle.gateway_life.proofs.Living.{one_more, counted_more, counted_none}
+use Rattle.gateway_life.proofs.Telling.{error_event}
 use Rattle.gateway_life.proofs.Watching.{watched_none, watched_append, kept_err}
 use Rattle.gateway_life.proofs.life.Life.rounds.Goals as goal
 
@@ -15,7 +16,7 @@ pub rounds-init : goal.rounds-init
 rounds-init g c = record {
   config = refl;
   live = c.requires.live;
-  done = ([], omega arith, grows_none _, rounds_none c.args.self.now.engine.core.config _ _);
+  done = ([], omega arith, grows_none _, λ t. rounds_none c.args.self.now.engine.core.config _ _);
   told = refl;
   durable = λ one. one;
   faults = refl;
@@ -43,9 +44,10 @@ rounds-preserved g c =
         done.0 ++ m ∷ [],
         one_more done.0 m c.rounds.left c.args.rounds done.1 (omega arith),
         grows_append _ _ _ done.0 (m ∷ []) done.2 one.round.1,
-        rounds_more config c.args.self.now c.rounds.self c.round.new.self done.0 m _ r1 r2 done.3
+        λ t. rounds_more config c.args.self.now c.rounds.self c.round.new.self done.0 m _ r1 r2
+            (done.3 t)
             (subst (λ (k : Config). RoundDone k c.rounds.self c.round.new.self (moment_of m) r1 r2)
-            inv.config one.round.2),
+            inv.config (one.round.2 (inv.told ∙ t))),
       );
       told = one.told ∙ inv.told;
       durable = λ h. one.durable (inv.durable h);
@@ -82,6 +84,12 @@ returns-clause-client_polls g c =
 pub returns-clause-venue_polls : goal.returns-clause-venue_polls
 returns-clause-venue_polls g c =
     sym (counted_none c.rounds.left _ (omega arith)) ∙ c.rounds.invariant.venue_polls
+
+pub returns-in_err-round-clause-only : goal.returns-in_err-round-clause-only
+returns-in_err-round-clause-only g c =
+    error_event c.from_residual.result c.in_err-round.field-0.0 (g.D.Disk.bytes c.args.disk.now)
+    (g.D.Disk.bytes c.rounds.disk) c.from_residual.ensures.1 c.rounds.invariant.told
+    c.in_err-round.ensures.only
 
 pub returns-in_err-round-clause-taps : goal.returns-in_err-round-clause-taps
 returns-in_err-round-clause-taps g c =

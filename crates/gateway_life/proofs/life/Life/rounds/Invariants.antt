@@ -2,6 +2,7 @@ use Rattle.std.proofs.Common.{◌≡◌, ℕ, List, ◌+◌, length}
 use Rattle.std.specs.Prelude.{is_some}
 use Rattle.outside.specs.Disk.{HasOneImage}
 use Rattle.wires.specs.Told.{GrowsBy, Keeps}
+use Rattle.gateway_life.specs.Ready.{IfTold}
 use Rattle.gateway_life.specs.Stepped.{records}
 use Rattle.drop_taps.specs.Shown.{state_by}
 use Rattle.gateway_life.specs.Watched.{Watched}
@@ -19,9 +20,10 @@ invariant-rounds g l = record {
       (g.V.Wire.recorded l.venue);
   done : (given : List ℕ) × (length given + l.left ≡ l.rounds)
       × GrowsBy (g.K.Clock.moments l.initial.clock) (g.K.Clock.moments l.clock) given
-      × RoundsDone l.initial.self.engine.core.config l.initial.self l.self given
+      × IfTold (g.D.Disk.bytes l.initial.disk)
+      (RoundsDone l.initial.self.engine.core.config l.initial.self l.self given
       (records (g.C.Wire.recorded l.initial.client) (g.V.Wire.recorded l.initial.venue))
-      (records (g.C.Wire.recorded l.client) (g.V.Wire.recorded l.venue));
+      (records (g.C.Wire.recorded l.client) (g.V.Wire.recorded l.venue)));
   told : is_some (g.D.Disk.bytes l.disk) ≡ is_some (g.D.Disk.bytes l.initial.disk);
   durable : HasOneImage (g.D.Disk.bytes l.initial.disk) (g.D.Disk.image l.initial.disk)
       → HasOneImage (g.D.Disk.bytes l.disk) (g.D.Disk.image l.disk);

@@ -1,6 +1,7 @@
 use Rattle.std.proofs.Common.{◌∙◌, ap, refl}
 use Rattle.gateway_config.specs.declared.config.Config.{Config}
 use Rattle.gateway_life.proofs.Joining.{end_done, end_ends, stands_live}
+use Rattle.gateway_life.proofs.Telling.{error_event, same_event}
 use Rattle.gateway_life.proofs.Watching.{watched_append, kept_err, kept_last}
 use Rattle.gateway_life.proofs.life.Life.whole.Goals as goal
 
@@ -9,7 +10,18 @@ returns-clause-done g c =
     let done = c.in_ok-rounds.ensures.done in
     end_done c.finish.result c.args.self.now.engine.core.config c.rounds.new.self.engine.core.config
     c.args.self.now c.rounds.new.self c.finish.new.self done.0 c.args.rounds _ _ _ _ _ _
-    c.rounds.ensures.config done.1 done.2 done.3 c.finish.ensures.finish
+    (g.D.Disk.bytes c.args.disk.now) (g.D.Disk.bytes c.rounds.new.disk)
+    c.rounds.ensures.config done.1 done.2 done.3 c.rounds.ensures.told c.finish.ensures.finish
+
+pub returns-in_err-rounds-clause-only : goal.returns-in_err-rounds-clause-only
+returns-in_err-rounds-clause-only g c =
+    error_event c.from_residual.result c.in_err-rounds.field-0.0 (g.D.Disk.bytes c.args.disk.now)
+    (g.D.Disk.bytes c.args.disk.now) c.from_residual.ensures.1 refl c.in_err-rounds.ensures.only
+
+pub returns-clause-only : goal.returns-clause-only
+returns-clause-only g c =
+    same_event c.finish.result (g.D.Disk.bytes c.args.disk.now) (g.D.Disk.bytes c.rounds.new.disk)
+    c.rounds.ensures.told c.finish.ensures.only
 
 pub returns-clause-ends : goal.returns-clause-ends
 returns-clause-ends g c =

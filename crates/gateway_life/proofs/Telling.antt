@@ -1,0 +1,140 @@
+-- What holds where a disk tells its bytes.
+use Rattle.std.proofs.Common.{◌≡◌, true, List, ℕ, refl, sym, ◌∙◌, subst, Some, None, Ok, Err}
+use Rattle.std.specs.Prelude.{Result, OnOk, IfErr, IfSome, IsErrAnd, is_some}
+use Rattle.std.specs.declared.option.Option.{Option}
+use Rattle.std.specs.Option.{ForSome}
+use Rattle.order_meaning.specs.declared.names.Names.{Names}
+use Rattle.pair_entries.specs.declared.entry.Entry.{Entry}
+use Rattle.pair_journal.specs.declared.error.JournalError.{JournalError}
+use Rattle.pair_journal.specs.declared.error.JournalError.TheVariants as errors
+use Rattle.pair_journal.specs.Calls.{RefusedUntold}
+use Rattle.event_decisions.specs.Event.{Event}
+use Rattle.gateway_config.specs.declared.config.Config.{Config}
+use Rattle.life_laws.specs.Happens.{World}
+use Rattle.gateway_life.specs.declared.end.LifeEnd.{LifeEnd}
+use Rattle.gateway_life.specs.declared.end.LifeEnd.TheVariants as ends
+use Rattle.gateway_life.specs.Ended.{end_of}
+use Rattle.gateway_life.specs.Fails.{IsWhy}
+use Rattle.gateway_life.specs.Life.{IfRefused}
+use Rattle.gateway_life.specs.Ready.{IfTold, LeavesOf}
+use Rattle.gateway_life.specs.Stepped.{IsOfEvent, IsNotDone, EndsEvent}
+
+pub some_told : (told : Option (List ℕ)) (P : Type 0) → ForSome told (λ b. P) → IfTold told P
+some_told None P h t = absurd (cc t)
+some_told (Some b) P h t = h b refl
+
+pub ok_if : {T E : Type 0} (r : Result T E) (t0 t1 : Option (List ℕ)) (P Q : Type 0)
+    → is_some t1 ≡ is_some t0 → (P → Q) → OnOk r (IfTold t1 P) → OnOk r (IfTold t0 Q)
+ok_if (Ok value) t0 t1 P Q same f h = λ t. f (h (same ∙ t))
+ok_if (Err error) t0 t1 P Q same f h = tt
+
+pub ok_told : {T E : Type 0} (r : Result T E) {told : Option (List ℕ)} (P Q : Type 0)
+    → (OnOk r P → OnOk r Q) → OnOk r (IfTold told P) → OnOk r (IfTold told Q)
+ok_told (Ok value) P Q f h = λ t. f (h t)
+ok_told (Err error) P Q f h = tt
+
+pub leaves_told : (told : Option (List ℕ)) (i0 i1 : List ℕ → Type 0) (names : Names)
+    (P : List Entry → Type 0) → (is_some told ≡ true → LeavesOf told i0 i1 names P)
+    → LeavesOf told i0 i1 names P
+leaves_told None i0 i1 names P h = tt
+leaves_told (Some b) i0 i1 names P h = h refl
+
+pub err_told : {T : Type 0} (r : Result T LifeEnd) (told : Option (List ℕ))
+    (i0 i1 : List ℕ → Type 0) (names : Names) (P : LifeEnd → List Entry → Type 0)
+    → (is_some told ≡ true → IfErr r (λ end. LeavesOf told i0 i1 names (P end)))
+    → IfErr r (λ end. LeavesOf told i0 i1 names (P end))
+err_told (Ok value) told i0 i1 names P h = tt
+err_told (Err end) told i0 i1 names P h = leaves_told told i0 i1 names (P end) h
+
+pub if_told : (told : Option (List ℕ)) (Q : List ℕ → Type 0)
+    → (is_some told ≡ true → IfSome told Q) → IfSome told Q
+if_told None Q h = tt
+if_told (Some b) Q h = h refl
+
+-- ---- how an event ends a life
+
+-- a read that failed over such a disk
+pub only_fault : (told : Option (List ℕ)) (error : JournalError) → is_some told ≡ true
+    → RefusedUntold told (Err {T = Unit {0}} error) → (error ≡ errors.NoMemory → ⊥)
+    → error ≡ errors.DiskFault
+only_fault told errors.DiskFault t only memory = refl
+only_fault told (errors.Refused at) t only memory =
+    let none : is_some {A = List ℕ} None ≡ true = subst (λ o. is_some o ≡ true) only t in
+    absurd (cc none)
+only_fault told (errors.NamesDiffer kept given) t only memory = absurd only
+only_fault told errors.Full t only memory = absurd only
+only_fault told errors.NoMemory t only memory = absurd (memory refl)
+
+-- by a read, over any disk
+pub act_event : {T : Type 0} (r : Result T LifeEnd) (told : Option (List ℕ)) (error : JournalError)
+    → IsErrAnd r (λ e. e ≡ end_of error) → RefusedUntold told (Err {T = Unit {0}} error)
+    → IfErr r (EndsEvent told)
+act_event (Ok value) told error is only = tt
+act_event (Err end) told error is only = subst (EndsEvent told) (sym is) (at error only)
+  where
+    at : (e : JournalError) → RefusedUntold told (Err {T = Unit {0}} e)
+        → EndsEvent told (end_of e)
+    at errors.DiskFault only = record { not_done = tt; of_event = λ t. tt }
+    at (errors.Refused at) only = record {
+      not_done = tt;
+      of_event = λ t.
+          let none : is_some {A = List ℕ} None ≡ true = subst (λ o. is_some o ≡ true) only t in
+          absurd (cc none);
+    }
+    at (errors.NamesDiffer kept given) only = absurd only
+    at errors.Full only = absurd only
+    at errors.NoMemory only = record { not_done = tt; of_event = λ t. tt }
+
+-- by what was decided
+pub made_event : {T : Type 0} (r : Result T LifeEnd) (told : Option (List ℕ)) (error : LifeEnd)
+    (config : Config) (before : World) (event : Event) (now : ℕ)
+    → IsErrAnd r (λ e. e ≡ error) → IsWhy error config before event now
+    → IfErr r (EndsEvent told)
+made_event (Ok value) told error config before event now is why = tt
+made_event (Err end) told error config before event now is why =
+    subst (EndsEvent told) (sym is) (at error why)
+  where
+    at : (e : LifeEnd) → IsWhy e config before event now → EndsEvent told e
+    at ends.Done why = absurd why
+    at (ends.JournalRefused at) why = absurd why
+    at (ends.NamesDiffer kept given) why = absurd why
+    at ends.DiskFault why = record { not_done = tt; of_event = λ t. tt }
+    at ends.JournalFull why = record { not_done = tt; of_event = λ t. tt }
+    at (ends.NumbersSpent side) why = record { not_done = tt; of_event = λ t. tt }
+    at ends.NoMemory why = record { not_done = tt; of_event = λ t. tt }
+
+-- the same of a disk that tells as much
+pub same_event : {T : Type 0} (r : Result T LifeEnd) (t0 t1 : Option (List ℕ))
+    → is_some t1 ≡ is_some t0 → IfErr r (EndsEvent t1) → IfErr r (EndsEvent t0)
+same_event (Ok value) t0 t1 same h = tt
+same_event (Err end) t0 t1 same h =
+    record { not_done = h.not_done; of_event = λ t. h.of_event (same ∙ t) }
+
+pub error_event : {T : Type 0} (r : Result T LifeEnd) (error : LifeEnd) (t0 t1 : Option (List ℕ))
+    → IsErrAnd r (λ e. e ≡ error) → is_some t1 ≡ is_some t0 → EndsEvent t1 error
+    → IfErr r (EndsEvent t0)
+error_event (Ok value) error t0 t1 is same h = tt
+error_event (Err end) error t0 t1 is same h = subst (EndsEvent t0) (sym is)
+    (record { not_done = h.not_done; of_event = λ t. h.of_event (same ∙ t) })
+
+-- ---- of a whole life
+
+pub idle_done : (told : Option (List ℕ)) (P : Type 0) → IfSome told (λ b. IfRefused ends.Done P)
+idle_done None P = tt
+idle_done (Some b) P = tt
+
+pub refused_told : (told : Option (List ℕ)) (end : LifeEnd) (P Q : Type 0)
+    → (IfRefused end P → IfRefused end Q) → IfTold told (IfRefused end P)
+    → IfSome told (λ b. IfRefused end Q)
+refused_told None end P Q f h = tt
+refused_told (Some b) end P Q f h = f (h refl)
+
+pub told_err : {T : Type 0} (r : Result T LifeEnd) (told : Option (List ℕ)) (P : LifeEnd → Type 0)
+    → IfErr r P → IfErr r (λ end. IfTold told (P end))
+told_err (Ok value) told P h = tt
+told_err (Err end) told P h = λ t. h
+
+pub ended_event : {T : Type 0} (r : Result T LifeEnd) (told : Option (List ℕ))
+    → IfErr r (EndsEvent told) → IfErr r IsNotDone
+ended_event (Ok value) told h = tt
+ended_event (Err end) told h = h.not_done
