@@ -2,6 +2,7 @@
 use Rattle.std.proofs.Common.{◌≡◌, ◌≢◌, ℕ, List, refl, subst, inr}
 use Rattle.std.proofs.Common.{Some, None, IfSome, Result, Ok, Err}
 use Rattle.std.specs.declared.option.Option.{Option}
+use Rattle.std.specs.Option.{ForSome}
 use Rattle.outside.specs.Bytes.{PutAppends}
 use Rattle.pair_journal.specs.State.{JournalState}
 use Rattle.pair_journal.specs.Calls.{Looks}
@@ -29,10 +30,10 @@ born_shows bytes old new journal (Err errors.NoMemory) born put reads =
 pub shown_born : {T : Type 0} (told old new : Option (List ℕ)) (found : Option JournalState)
     (journal : JournalState) (result : Result T ShowError)
     → found ≡ Some journal → IfSome told (λ b. Looks b (Ok found))
-    → PutAppends old new result (lines_from 1 journal.entries)
-    → ((at : ℕ) → result ≢ Err (errors.JournalRefused at))
+    → ForSome told (λ b. PutAppends old new result (lines_from 1 journal.entries))
+    → ForSome told (λ b. (at : ℕ) → result ≢ Err (errors.JournalRefused at))
     → IfSome told (λ b. Shows b result old new)
 shown_born None old new found journal result is looks put reads = tt
 shown_born (Some b) old new found journal result is looks put reads =
     born_shows b old new journal result
-    (subst (λ (f : Option JournalState). Looks b (Ok f)) is looks) put reads
+    (subst (λ (f : Option JournalState). Looks b (Ok f)) is looks) (put b refl) (reads b refl)

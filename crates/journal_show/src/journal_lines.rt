@@ -1,6 +1,6 @@
 //! The lines of a journal: its entries are read one by one, and the line of each is put.
 
-ghost use Rattle.std.specs.Prelude.{◌≡◌, ◌≢◌, ◌+◌, ◌<◌, ◌^◌, ℕ, length, Some, Err, IfSome, OnErr};
+ghost use Rattle.std.specs.Prelude.{◌≡◌, ◌≢◌, ◌+◌, ◌<◌, ◌^◌, ℕ, length, Some, Err, IfSome, OnOk, OnErr};
 ghost use Rattle.std.specs.List.{slice_get};
 ghost use Rattle.std.specs.Option.{ForSome};
 ghost use Rattle.outside.specs.Bytes.{PutAppends};
@@ -8,13 +8,14 @@ ghost use Rattle.outside.specs.Causes.{HasCause};
 ghost use Rattle.gate_log.specs.Log.{OnlyReads};
 ghost use Rattle.pair_entries.specs.declared.entry.Entry.{Entry};
 ghost use Rattle.pair_journal.specs.Journal.{JournalOf, Born};
+ghost use Rattle.pair_journal.specs.Spots.{IsUpTo};
 ghost use Rattle.entry_lines.specs.EntryLine.{entry_line};
 ghost use Rattle.journal_show.specs.declared.journal_lines.ShowError.TheVariants as errors;
 ghost use Rattle.journal_show.specs.JournalLines.{lines_from, Shows, FailsBy, show_error};
 
 use entry_lines::EntryLine;
 use outside::{Disk, Sink};
-use pair_journal::{Journal, JournalError};
+use pair_journal::{Journal, JournalError, Walk};
 use std::alloc::Global;
 use thiserror::Error;
 
@@ -70,6 +71,7 @@ fn put_entry<D: Disk, O: Sink>(
     journal: &Journal,
     disk: &mut D,
     out: &mut O,
+    walk: &mut Walk,
     index: u64,
     line: &mut EntryLine,
 ) -> Result<(), ShowError>
@@ -77,14 +79,19 @@ fn put_entry<D: Disk, O: Sink>(
     requires few { length journal.now.entries < 2 ^ 64 }
     requires stands { ForSome (D.bytes disk.old) (λ b.
         JournalOf b (Born journal.now.names journal.now.entries)) }
-    ensures line { (entry : Entry) → slice_get journal.now.entries index ≡ Some entry →
-        PutAppends (O.bytes out.old) (O.bytes out.new) result (entry_line (1 + index) entry) }
-    ensures reads { (at : ℕ) → result ≢ Err (errors.JournalRefused at) }
+    requires walk { ForSome (D.bytes disk.old) (λ b. IsUpTo journal.now.entries index walk.old) }
+    ensures line { ForSome (D.bytes disk.old) (λ b. (entry : Entry) →
+        slice_get journal.now.entries index ≡ Some entry →
+        PutAppends (O.bytes out.old) (O.bytes out.new) result (entry_line (1 + index) entry)) }
+    ensures walk { ForSome (D.bytes disk.old) (λ b. OnOk result
+        (IsUpTo journal.now.entries (index + 1) walk.new)) }
+    ensures reads { ForSome (D.bytes disk.old) (λ b. (at : ℕ) →
+        result ≢ Err (errors.JournalRefused at)) }
     ensures only_read { OnlyReads D.bytes D.image disk.old disk.new }
     ensures disk_cause { FailsBy errors.DiskFault (D.faults disk.old) (D.faults disk.new) result }
     ensures output_cause { FailsBy errors.OutputFault (O.faults out.old) (O.faults out.new) result }
 {
-    let entry = journal.entry(disk, index)?;
+    let entry = journal.entry(disk, walk, index)?;
     line.write(1 + index, &entry);
     put_line(out, line.as_slice())
 }
@@ -97,16 +104,18 @@ fn put_entries<D: Disk, O: Sink>(
 ) -> Result<(), ShowError>
     requires stands { ForSome (D.bytes disk.old) (λ b.
         JournalOf b (Born journal.now.names journal.now.entries)) }
-    ensures lines { PutAppends (O.bytes out.old) (O.bytes out.new) result
-        (lines_from 1 journal.now.entries) }
-    ensures reads { (at : ℕ) → result ≢ Err (errors.JournalRefused at) }
+    ensures lines { ForSome (D.bytes disk.old) (λ b. PutAppends (O.bytes out.old) (O.bytes out.new)
+        result (lines_from 1 journal.now.entries)) }
+    ensures reads { ForSome (D.bytes disk.old) (λ b. (at : ℕ) →
+        result ≢ Err (errors.JournalRefused at)) }
     ensures only_read { OnlyReads D.bytes D.image disk.old disk.new }
     ensures disk_cause { FailsBy errors.DiskFault (D.faults disk.old) (D.faults disk.new) result }
     ensures output_cause { FailsBy errors.OutputFault (O.faults out.old) (O.faults out.new) result }
 {
     let mut line = EntryLine::new();
+    let mut walk = journal.walk();
     for index in 0..journal.count() {
-        put_entry(journal, disk, out, index, &mut line)?;
+        put_entry(journal, disk, out, &mut walk, index, &mut line)?;
     }
     Ok(())
 }
@@ -115,14 +124,15 @@ fn put_entries<D: Disk, O: Sink>(
 /// where the disk is unborn. Each line is one put, and the disk is only read.
 ///
 /// # Errors
-/// `JournalRefused` exactly where the bytes are refused at that place, and then nothing was put;
+/// `JournalRefused` exactly where the bytes are refused at that place, where the disk tells them, and
+/// then nothing was put;
 /// `DiskFault` and `OutputFault` only where the count of faults of the disk or of the sink rose in
 /// this call; `NoMemory`. What was put is then nothing or a front of the lines.
 pub fn show<D: Disk, O: Sink>(alloc: Global, disk: &mut D, out: &mut O) -> Result<(), ShowError>
     ensures shows { IfSome (D.bytes disk.old) (λ b.
         Shows b result (O.bytes out.old) (O.bytes out.new)) }
-    ensures refused_puts_nothing { (at : ℕ) → result ≡ Err (errors.JournalRefused at) →
-        out.new ≡ out.old }
+    ensures refused_puts_nothing { ForSome (D.bytes disk.old) (λ b. (at : ℕ) →
+        result ≡ Err (errors.JournalRefused at) → out.new ≡ out.old) }
     ensures only_read { OnlyReads D.bytes D.image disk.old disk.new }
     ensures disk_cause { FailsBy errors.DiskFault (D.faults disk.old) (D.faults disk.new) result }
     ensures output_cause { FailsBy errors.OutputFault (O.faults out.old) (O.faults out.new) result }
