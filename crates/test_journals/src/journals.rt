@@ -9,11 +9,11 @@ use crate::entries::{Next, is_entry};
 use order_meaning::{Bytes, Name, Names, Side};
 use outside::{DiskCall, Image, MemDisk};
 use pair_entries::{Entry, MAX_CONTENT, MAX_NEXT, MAX_RAW, Out, Outs, Took, prepare};
-use pair_journal::{Journal, JournalError, OutBuf};
+use pair_journal::{Journal, JournalError, NoReader, OutBuf};
 use std::alloc::{AllocError, Global};
 use std::test::Fail;
 
-fn names() -> Option<Names> {
+pub(crate) fn names() -> Option<Names> {
     Some(Names {
         client_our: Name::new(b"GATE")?,
         client_peer: Name::new(b"CLNT")?,
@@ -153,7 +153,7 @@ fn image_of(alloc: Global, payload: &[u8]) -> Result<Vec<u8>, AllocError> {
 }
 
 /// The entry of this index on a disk; none past the last.
-fn entry_on(
+pub(crate) fn entry_on(
     alloc: Global,
     disk: &mut MemDisk,
     names: &Names,
@@ -161,11 +161,11 @@ fn entry_on(
 ) -> Result<Option<Entry>, JournalError>
     ensures { IfOk result (λ entry. IfSome entry IsEntry) }
 {
-    let journal = Journal::load(alloc, disk, names)?;
+    let journal = Journal::load(alloc, disk, names, &mut NoReader)?;
     if journal.count() <= index {
         return Ok(None);
     }
-    let entry = journal.entry(disk, index)?;
+    let entry = journal.entry(disk, &mut journal.walk(), index)?;
     Ok(Some(entry))
 }
 
@@ -290,13 +290,13 @@ fn order(alloc: Global, next: Next, content: &[u8]) -> Result<Entry, AllocError>
 }
 
 /// Loads the journal on a disk and commits one order more, as far as the disk lets it.
-fn live(
+pub(crate) fn live(
     alloc: Global,
     disk: &mut MemDisk,
     names: &Names,
     content: &[u8],
 ) -> Result<u64, JournalError> {
-    let mut journal = Journal::load(alloc, disk, names)?;
+    let mut journal = Journal::load(alloc, disk, names, &mut NoReader)?;
     journal.reserve()?;
     let next = journal.next();
     if next.0 >= MAX_NEXT || next.3 >= MAX_NEXT {
@@ -484,7 +484,7 @@ type Sources = (Next, [Option<(u32, u8)>; 3]);
 
 fn sources(alloc: Global, names: &Names) -> Result<Sources, JournalError> {
     let mut disk = two_orders(alloc, names)?;
-    let journal = Journal::load(alloc, &mut disk, names)?;
+    let journal = Journal::load(alloc, &mut disk, names, &mut NoReader)?;
     let sources = [
         journal.source_of(Side::Venue, 2),
         journal.source_of(Side::Venue, 3),
@@ -504,12 +504,12 @@ fn an_out_is_found_with_what_it_translated(rt: HostRuntime) -> Result<(), Fail> 
 /// The second out to the venue, from a disk with two orders.
 fn second_out(alloc: Global, names: &Names) -> Result<Option<OutBuf>, JournalError> {
     let mut disk = two_orders(alloc, names)?;
-    let journal = Journal::load(alloc, &mut disk, names)?;
+    let journal = Journal::load(alloc, &mut disk, names, &mut NoReader)?;
     if journal.next().3 <= 2 {
         return Ok(None);
     }
     let mut buf = OutBuf::new(alloc)?;
-    journal.out(&mut disk, Side::Venue, 2, &mut buf)?;
+    journal.out(&mut disk, &mut journal.walk(), Side::Venue, 2, &mut buf)?;
     Ok(Some(buf))
 }
 
@@ -543,7 +543,7 @@ fn an_entry_is_read(rt: HostRuntime) -> Result<(), Fail> {
 
 /// Why the journal on a disk is not loaded under these names.
 fn refusal(alloc: Global, disk: &mut MemDisk, names: &Names) -> Option<JournalError> {
-    Journal::load(alloc, disk, names).err()
+    Journal::load(alloc, disk, names, &mut NoReader).err()
 }
 
 #[test]
