@@ -94,15 +94,6 @@ rise_take side before (e ∷ es) (suc m) zero are most = absurd (omega (arith, m
 rise_take side before (e ∷ es) (suc m) (suc n) are most =
     rise_take side e.next es m n are.2 (omega (arith, most))
 
-pub no_marks : (entries : List Entry) (marks : List Spot)
-    → entries ≡ [] → marks ≡ [] → AreMarks entries marks
-no_marks entries marks none no = subst (λ (es : List Entry). AreMarks es marks) (sym none)
-    (subst (AreMarks []) (sym no) (record {
-      most = omega arith;
-      least = omega arith;
-      each = λ i d within. absurd (omega (arith, within));
-    }))
-
 -- ---- one mark more
 
 index_front : (xs ys : List Spot) (i : ℕ) (d : Spot)

@@ -4,8 +4,8 @@ use Rattle.gate_log.specs.Log.{OnlyRead}
 use Rattle.pair_journal.specs.Spots.{IsSpot}
 use Rattle.pair_journal.proofs.journal.Journal.entry.Given as goal
 
-abbrev pub invariant-loop-records : goal.invariant-loop-records
-invariant-loop-records g l = record {
+abbrev pub invariant-records : goal.invariant-records
+invariant-records g l = record {
   told : ForSome (g.D.Disk.bytes l.fn.disk)
       (λ b. IsSpot l.self.entries l.spot × (l.spot.index ≤ l.index));
   only_read : OnlyRead (g.D.Disk.bytes l.fn.disk)
@@ -13,5 +13,5 @@ invariant-loop-records g l = record {
   still : g.D.Disk.faults l.disk ≡ g.D.Disk.faults l.fn.disk;
 }
 
-abbrev pub decreases-loop-records : goal.decreases-loop-records
-decreases-loop-records g l = l.index - l.spot.index
+abbrev pub decreases-records : goal.decreases-records
+decreases-records g l = l.index - l.spot.index
