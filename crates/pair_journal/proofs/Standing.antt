@@ -23,7 +23,7 @@ use Rattle.pair_journal.specs.Birth.{birth_bytes, AreNames}
 use Rattle.pair_journal.specs.Numbers.{GoesOn, next_out, numbers_after, first_numbers, outs_to}
 use Rattle.pair_journal.specs.Journal.{AreEntries, JournalOf, Born}
 use Rattle.pair_journal.specs.Given.{Given, numbered, given_in, given}
-use Rattle.pair_journal.specs.Calls.{payloads_of}
+use Rattle.pair_journal.specs.Calls.{payloads_of, OnlyReading, RefusedUntold}
 use Rattle.pair_journal.specs.Loading.{HasExtent, Unread}
 use Rattle.pair_journal.specs.declared.error.JournalError.{JournalError}
 use Rattle.pair_journal.specs.declared.error.JournalError.TheVariants as errors
@@ -280,3 +280,24 @@ unread_refused (Ok value) error told place is unread at e = absurd (cc e)
 unread_refused (Err x) error told place is unread at e =
     let same : x ≡ errors.Refused at = cc e in
     subst (Unread told place) (sym is ∙ same) unread
+
+-- a disk of which nothing follows tells nothing
+pub untold : (told : Option (List ℕ)) → ForSome told (λ b. ⊥) → told ≡ None
+untold None empty = refl
+untold (Some b) empty = absurd (empty b refl)
+
+-- an error that another call handed on is a refusal only over a disk that tells nothing
+pub refused_untold : {T : Type 0} (U : Type 0) (r : Result T JournalError) (error : JournalError)
+    (told : Option (List ℕ)) → IsErrAnd r (λ e. e ≡ error) → OnlyReading {T = U} (Err error)
+    → ((at : ℕ) → error ≡ errors.Refused at → told ≡ None) → RefusedUntold told r
+refused_untold U (Ok value) error told is only none = absurd is
+refused_untold {T} U (Err x) error told is only none =
+    subst (λ (e : JournalError). RefusedUntold {T = T} told (Err e)) (sym is) (by error only none)
+  where
+    by : (e : JournalError) → OnlyReading {T = U} (Err e)
+        → ((at : ℕ) → e ≡ errors.Refused at → told ≡ None) → RefusedUntold {T = T} told (Err e)
+    by (errors.Refused at) only none = none at refl
+    by (errors.NamesDiffer kept other) only none = absurd only
+    by errors.Full only none = absurd only
+    by errors.DiskFault only none = tt
+    by errors.NoMemory only none = tt

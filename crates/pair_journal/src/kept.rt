@@ -1,6 +1,6 @@
 //! What a journal keeps of its entries.
 
-ghost use Rattle.std.specs.Prelude.{◌≡◌, ◌+◌, ◌^◌, ◌≤◌, ◌<◌, [], ◌∷◌, ◌++◌, length};
+ghost use Rattle.std.specs.Prelude.{◌≡◌, ◌+◌, ◌-◌, ◌^◌, ◌≤◌, ◌<◌, [], ◌∷◌, ◌++◌, length};
 ghost use Rattle.std.specs.Prelude.{OnOk, OnErr};
 ghost use Rattle.pair_entries.specs.Payload.{IsEntry, entry_bytes};
 ghost use Rattle.pair_journal.specs.Numbers.{GoesOn, first_numbers, numbers_after, next_out};
@@ -76,6 +76,7 @@ impl Kept {
     pub(crate) fn reserve(&mut self) -> Result<(), AllocError>
         ensures ok { OnOk result (self.new ≡ record self.old { spare = 1 }) }
         ensures err { OnErr result (self.new ≡ self.old) }
+        ensures lacks { OnErr result (self.old.spare ≡ 0) }
     {
         if self.spare {
             return Ok(());
@@ -94,7 +95,10 @@ impl Kept {
         requires goes_on { GoesOn (numbers_after first_numbers self.old.entries) entry.now }
         requires len { len ≡ length (entry_bytes entry.now) }
         requires limit { end_of self.old.entries + 5 + len < 2 ^ 64 }
-        ensures { self.new ≡ record { entries = self.old.entries ++ entry.now ∷ []; spare = 0 } }
+        ensures { self.new ≡ record {
+          entries = self.old.entries ++ entry.now ∷ [];
+          spare = self.old.spare - 1;
+        } }
     {
         let outs = entry.outs.as_slice();
         note(&mut self.client, Side::Client, entry, outs);

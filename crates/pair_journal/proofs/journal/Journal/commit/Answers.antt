@@ -5,7 +5,11 @@ use Rattle.pair_journal.specs.Journal.{JournalOf, Born}
 use Rattle.pair_journal.specs.State.{JournalState}
 use Rattle.pair_journal.specs.Keeping.{state_of}
 use Rattle.pair_journal.proofs.Carrying.{stands_log, extent_more, keeps_journal, stands_more}
-use Rattle.pair_journal.proofs.Carrying.{goes_on_inside}
+use Rattle.pair_journal.specs.Calls.{payloads_of}
+use Rattle.gate_log.specs.Log.{HasRoom}
+use Rattle.pair_entries.specs.Payload.{entry_bytes}
+use Rattle.pair_journal.proofs.Carrying.{goes_on_inside, has_room}
+use Rattle.pair_journal.proofs.Adding.{committed}
 use Rattle.pair_journal.proofs.journal.Journal.commit.Goals as goal
 
 pub append-requires-clause-stands : goal.append-requires-clause-stands
@@ -48,3 +52,16 @@ returns-clause-stands g c = λ x e.
     subst (λ (es : List Entry). JournalOf x (Born c.self.inside.names es))
     (sym (ap (λ k. k.entries) c.add.ensures
     ∙ ap (λ (y : Entry). c.self.inside.kept.entries ++ y ∷ []) c.into_entry-entry.ensures)) more
+
+pub returns-clause-commits : goal.returns-clause-commits
+returns-clause-commits g c =
+    let log = c.in_ok-append.ensures.appends in (
+      c.into_entry-entry.ensures,
+      subst (λ (s : JournalState). HasRoom (payloads_of s.names s.entries)
+          (entry_bytes c.args.prepared)) c.self.view_is
+          (has_room c.self.inside.log c.self.inside.names c.self.inside.kept.entries
+          c.args.prepared _ c.self.invariant.extent c.payload-payload.ensures.bytes log.1),
+      committed c.self.inside.log c.append.new.self c.self.inside.names c.self.inside.kept
+          c.add.new.self c.args.self.now c.self.view_is c.args.prepared c.into_entry-entry.result
+          _ _ log.2 c.add.ensures c.into_entry-entry.ensures,
+    )

@@ -7,7 +7,7 @@ use Rattle.pair_journal.specs.Spots.{AreMarks}
 use Rattle.pair_journal.specs.Sources.{sources_in}
 use Rattle.pair_journal.specs.State.{KeptState}
 use Rattle.pair_journal.proofs.Marking.{behind_push}
-use Rattle.pair_journal.proofs.Adding.{sound_added, end_added, sources_added}
+use Rattle.pair_journal.proofs.Adding.{sound_added, end_added, sources_added, kept_added}
 use Rattle.pair_journal.proofs.kept.Kept.add.Goals as goal
 
 pub invariant_of-self : goal.invariant_of-self
@@ -33,3 +33,7 @@ invariant_of-self c =
           ++ sources_in Venue entry os) c.as_slice-outs.ensures.outs);
       room = λ no. absurd (cc no);
     }
+
+pub returns : goal.returns
+returns c = kept_added c.self.inside.past.entries c.joined-self-inside.result.entries
+    c.args.entry.now c.self.inside.spare c.args.self.now c.self.view_is c.joined-self-inside.ensures

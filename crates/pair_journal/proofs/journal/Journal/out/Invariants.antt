@@ -1,0 +1,22 @@
+use Rattle.std.proofs.Common.{◌≡◌, ◌≤◌, ◌+◌, ◌*◌, ◌-◌}
+use Rattle.std.specs.Option.{ForSome}
+use Rattle.gate_log.specs.Log.{OnlyRead}
+use Rattle.pair_journal.specs.Numbers.{next_out}
+use Rattle.pair_journal.specs.Spots.{IsSpot}
+use Rattle.pair_journal.proofs.journal.Journal.out.Given as goal
+
+abbrev pub invariant-records : goal.invariant-records
+invariant-records g l = record {
+  from : l.mark.index ≤ l.spot.index;
+  to : l.spot.index ≤ l.mark.index + 64;
+  told : ForSome (g.D.Disk.bytes l.fn.disk)
+      (λ b. IsSpot l.self.entries l.spot × (next_out l.side l.spot.next ≤ l.number));
+  held : l.walk ≡ l.fn.walk;
+  few : g.D.Disk.reads l.disk ≤ g.D.Disk.reads l.fn.disk + 2 * (l.spot.index - l.mark.index);
+  only_read : OnlyRead (g.D.Disk.bytes l.fn.disk)
+      (g.D.Disk.bytes l.disk) (g.D.Disk.image l.fn.disk) (g.D.Disk.image l.disk);
+  still : g.D.Disk.faults l.disk ≡ g.D.Disk.faults l.fn.disk;
+}
+
+abbrev pub decreases-records : goal.decreases-records
+decreases-records g l = l.mark.index + 64 - l.spot.index
