@@ -1,5 +1,5 @@
 -- What a journal keeps of its entries, with one more.
-use Rattle.std.proofs.Common.{◌≡◌, ℕ, ◌+◌, ◌≤◌, ◌<◌, Bool, true, false, List, [], ◌∷◌, ◌++◌, length}
+use Rattle.std.proofs.Common.{◌≡◌, ℕ, ◌+◌, ◌≤◌, Bool, true, false, List, [], ◌∷◌, ◌++◌, length}
 use Rattle.std.proofs.Common.{refl, sym, ◌∙◌, ap, subst, arith, ◌-◌, min, leb, leb-true, Ok, Err}
 use Rattle.std.specs.Prelude.{Result, OnErr}
 use Rattle.std.proofs.Math.Nat.{min-zero, min-eq_left, min-eq_right}

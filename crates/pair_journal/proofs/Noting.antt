@@ -13,11 +13,11 @@ use Rattle.pair_entries.specs.declared.entry.Entry.{Entry}
 use Rattle.pair_entries.specs.Payload.{Next}
 use Rattle.pair_journal.specs.Numbers.{next_out, outs_to, is_side, Numbered, GoesOn, first_numbers}
 use Rattle.pair_journal.specs.Journal.{AreEntries}
-use Rattle.pair_journal.specs.Given.{Given, numbered, given_in, given, source_in, source_of}
+use Rattle.pair_journal.specs.Given.{Given, numbered, given_in, source_in, source_of}
 use Rattle.pair_journal.specs.Sources.{source_at, source_to, sources_in, sources_to}
 use Rattle.pair_journal.specs.declared.sources.Source.{Source}
-use Rattle.pair_journal.proofs.Giving.{goes, not_past, none_in, behind, here, passed, below_all}
-use Rattle.pair_journal.proofs.Giving.{none_below, apart}
+use Rattle.pair_journal.proofs.Giving.{goes, not_past, none_in, behind, here, passed}
+use Rattle.pair_journal.proofs.Giving.{apart}
 
 -- numbers that rise, the first at least this one
 abbrev pub Rising : ℕ → List Source → Type 0

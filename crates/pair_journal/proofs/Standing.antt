@@ -1,15 +1,15 @@
 -- What a record that is read at a spot says, where the disk tells its bytes.
 use Rattle.std.proofs.Common.{◌≡◌, ℕ, zero, suc, ◌+◌, ◌<◌, ◌≤◌, Bool, true, false, List, [], ◌∷◌}
 use Rattle.std.proofs.Common.{◌++◌, length, map, take, drop, refl, sym, ◌∙◌, ap, subst, arith, Some}
-use Rattle.std.proofs.Common.{None, leb, leb-true, IfOk, Ok, Err}
+use Rattle.std.proofs.Common.{None, leb, leb-true, Ok, Err}
 use Rattle.std.specs.List.{slice_get}
 use Rattle.std.specs.Prelude.{Result, IsErrAnd}
 use Rattle.std.specs.Option.{ForSome}
 use Rattle.std.specs.declared.option.Option.{Option}
-use Rattle.std.proofs.lemmas.List.{map-append, take_all, length-take-le}
+use Rattle.std.proofs.lemmas.List.{map-append, take_all}
 use Rattle.order_meaning.specs.declared.Side.{Side}
 use Rattle.order_meaning.specs.declared.names.Names.{Names}
-use Rattle.gate_log.specs.Records.{blocks, Stands}
+use Rattle.gate_log.specs.Records.{Stands}
 use Rattle.gate_log.specs.Log.{IsAt, ReadsPayload, HasNoPayload}
 use Rattle.gate_log.specs.State.{LogState}
 use Rattle.gate_log.proofs.Told.{at_some}
@@ -28,7 +28,7 @@ use Rattle.pair_journal.specs.Loading.{HasExtent, Unread}
 use Rattle.pair_journal.specs.declared.error.JournalError.{JournalError}
 use Rattle.pair_journal.specs.declared.error.JournalError.TheVariants as errors
 use Rattle.pair_journal.specs.OutBuf.{OutAt, IsGivenAs, TellsIf}
-use Rattle.pair_journal.specs.Spots.{behind, end_of, IsSpot, StandsAt, HoldsOut}
+use Rattle.pair_journal.specs.Spots.{behind, IsSpot, StandsAt, HoldsOut}
 use Rattle.pair_journal.specs.declared.spot.Spot.{Spot}
 use Rattle.pair_journal.proofs.Carrying.{entry_at}
 use Rattle.pair_journal.proofs.Giving.{not_past, above_entry, among, goes}

@@ -6,7 +6,6 @@ use Rattle.order_meaning.specs.declared.names.Names.{Names}
 use Rattle.std.specs.declared.option.Option.{Option}
 use Rattle.gate_log.specs.Records.{blocks}
 use Rattle.gate_log.specs.Log.{IsAt, OnlyRead}
-use Rattle.gate_log.proofs.Blocks.{length-blocks-push}
 use Rattle.pair_entries.specs.declared.entry.Entry.{Entry}
 use Rattle.pair_entries.specs.Payload.{Next, entry_bytes}
 use Rattle.pair_journal.specs.Birth.{birth_bytes, AreNames}
@@ -14,10 +13,9 @@ use Rattle.pair_journal.specs.Numbers.{GoesOn, first_numbers, numbers_after}
 use Rattle.pair_journal.specs.Journal.{AreEntries, Misspells}
 use Rattle.pair_journal.specs.Calls.{payloads_of}
 use Rattle.pair_journal.specs.Loading.{IsBorn, Follows}
-use Rattle.pair_journal.proofs.Names.{birth_size}
 use Rattle.pair_entries.proofs.Same.{same_entry}
 use Rattle.pair_entries.proofs.Fronts.{entry_short}
-use Rattle.pair_journal.proofs.Carrying.{AreEntries-push, numbers_after-push, payloads-push}
+use Rattle.pair_journal.proofs.Carrying.{payloads-push}
 use Rattle.pair_journal.proofs.Carrying.{map_length}
 use Rattle.pair_journal.proofs.Marking.{place_is}
 use Rattle.pair_journal.specs.Spots.{behind}

@@ -1,7 +1,6 @@
-use Rattle.std.proofs.Common.{◌≡◌, ◌≤◌, ◌<◌, ◌+◌, ◌∷◌, ◌++◌, ◌∙◌, [], List, ℕ, length, refl, sym}
+use Rattle.std.proofs.Common.{◌≡◌, ◌<◌, ◌∷◌, ◌++◌, ◌∙◌, [], length, refl, sym}
 use Rattle.std.proofs.Common.{subst, ap, arith, length-append}
 use Rattle.gate_log.specs.Log.{ReadsPayload}
-use Rattle.pair_entries.specs.declared.entry.Entry.{Entry}
 use Rattle.pair_entries.proofs.Fronts.{at_none, at_some}
 use Rattle.pair_journal.specs.Loading.{Follows, Unread}
 use Rattle.pair_journal.specs.State.{KeptState}
@@ -57,7 +56,10 @@ returns-in_default-clause-err g c =
     entry_misread (g.D.Disk.bytes c.args.disk.now) c.args.log.now c.requires.stands
     c.args.names.now c.requires.named _ _ _ _ walks i.front
     (omega (arith, c.loop-index-test.true, c.count-index-end.ensures.count)) c.deref.result.now read
-    (λ entry follows. at_none _ _ _ c.in_default.is c.in_ok-entry.ensures entry follows)
+    (λ entry follows. at_none c.in_ok-entry.field-0
+    ((e : Entry) → Follows c.end-end.result.next c.deref.result.now e → ⊥)
+    (λ (e : Entry). Follows c.end-end.result.next c.deref.result.now e)
+    c.in_default.is c.in_ok-entry.ensures entry follows)
 
 pub loop-index-preserved : goal.loop-index-preserved
 loop-index-preserved g c =
@@ -72,7 +74,10 @@ loop-index-preserved g c =
     i.only_read.same (subst (ReadsPayload (g.D.Disk.bytes c.loop-index.disk) c.end-end.result.place)
     (sym c.deref.ensures.value) c.in_ok-read_record.ensures.payload) in
     let follows : Follows c.end-end.result.next c.deref.result.now entry =
-    at_some _ _ _ _ c.in-Some.is c.in_ok-entry.ensures in
+    at_some c.in_ok-entry.field-0 entry
+    ((e : Entry) → Follows c.end-end.result.next c.deref.result.now e → ⊥)
+    (λ (e : Entry). Follows c.end-end.result.next c.deref.result.now e)
+    c.in-Some.is c.in_ok-entry.ensures in
     let pushed : c.add.new.self.entries ≡ entries ++ entry ∷ [] =
     ap (λ (k : KeptState). k.entries) c.add.ensures
     ∙ ap (λ (k : KeptState). k.entries ++ entry ∷ []) c.in_ok-reserve.ensures.ok in

@@ -1,4 +1,4 @@
-use Rattle.std.proofs.Common.{◌≡◌, ◌-◌, leb, rules, arith, refl, slice_index_or}
+use Rattle.std.proofs.Common.{leb, rules, arith, refl}
 use Rattle.std.proofs.lemmas.List.Sorted.{IsPartitionPoint-from_clause}
 use Rattle.pair_journal.specs.declared.sources.Source.{Source}
 use Rattle.pair_journal.proofs.Noting.{parted, no_source, other_source, this_source}

@@ -1,8 +1,8 @@
-use Rattle.std.proofs.Common.{◌≡◌, ◌≤◌, ◌<◌, ◌+◌, ◌-◌, ◌*◌, ◌∙◌, Ok, Err, Some, None, sym, ap, subst, arith}
-use Rattle.pair_journal.specs.Numbers.{next_out, first_numbers, numbers_after}
+use Rattle.std.proofs.Common.{◌≡◌, ◌≤◌, ◌+◌, ◌∙◌, Ok, Err, sym, ap, subst, arith}
+use Rattle.pair_journal.specs.Numbers.{next_out, first_numbers}
 use Rattle.pair_journal.specs.Journal.{AreEntries}
 use Rattle.pair_journal.specs.State.{JournalState}
-use Rattle.pair_journal.specs.Spots.{IsSpot, HoldsOut}
+use Rattle.pair_journal.specs.Spots.{IsSpot}
 use Rattle.pair_journal.specs.declared.spot.Spot.{Spot}
 use Rattle.pair_journal.specs.declared.spot.Walk.{Walk}
 use Rattle.std.specs.declared.option.Option.{Option}

@@ -1,4 +1,4 @@
-use Rattle.std.proofs.Common.{◌≡◌, ◌∙◌, Ok, Some, sym, ap, subst, arith}
+use Rattle.std.proofs.Common.{◌≡◌, ◌∙◌, ap, subst, arith}
 use Rattle.pair_journal.specs.Numbers.{next_out}
 use Rattle.pair_journal.specs.Spots.{IsSpot}
 use Rattle.pair_journal.specs.declared.spot.Spot.{Spot}

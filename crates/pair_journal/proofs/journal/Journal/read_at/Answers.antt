@@ -1,4 +1,4 @@
-use Rattle.std.proofs.Common.{◌≡◌, ◌+◌, ◌∙◌, length, refl, sym, ap, subst, arith}
+use Rattle.std.proofs.Common.{◌+◌, ◌∙◌, length, refl, sym, ap, subst, arith}
 use Rattle.std.specs.Option.{ForSome}
 use Rattle.pair_journal.specs.Journal.{JournalOf, Born}
 use Rattle.pair_journal.specs.Spots.{IsSpot, StandsAt}

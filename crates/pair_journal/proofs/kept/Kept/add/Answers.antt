@@ -1,4 +1,4 @@
-use Rattle.std.proofs.Common.{◌≡◌, ◌∙◌, ◌++◌, List, refl, sym, ap, subst}
+use Rattle.std.proofs.Common.{◌∙◌, ◌++◌, List, refl, sym, ap, subst}
 use Rattle.order_meaning.specs.declared.Side.TheVariants.{Client, Venue}
 use Rattle.pair_entries.specs.declared.entry.Entry.{Entry}
 use Rattle.pair_entries.specs.declared.entry.Out.{Out}

@@ -1,4 +1,4 @@
-use Rattle.std.proofs.Common.{◌≡◌, ◌<◌, ◌/◌, length, sym, ap, subst, arith}
+use Rattle.std.proofs.Common.{◌<◌, ◌/◌, length, sym, ap, subst, arith}
 use Rattle.pair_journal.specs.Spots.{AreMarks, IsBefore}
 use Rattle.pair_journal.specs.State.{KeptState}
 use Rattle.pair_journal.proofs.Marking.{is_before}

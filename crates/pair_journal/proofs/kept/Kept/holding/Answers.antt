@@ -1,4 +1,4 @@
-use Rattle.std.proofs.Common.{◌≡◌, ◌<◌, leb, rules, sym, subst}
+use Rattle.std.proofs.Common.{◌<◌, leb, rules, sym, subst}
 use Rattle.std.proofs.lemmas.List.Sorted.{IsPartitionPoint-from_clause}
 use Rattle.pair_journal.specs.Numbers.{next_out, numbers_after, first_numbers}
 use Rattle.pair_journal.specs.Spots.{AreMarks, HoldsOut}
