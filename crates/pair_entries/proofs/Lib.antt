@@ -1,3 +1,4 @@
 pub mod Worked
 pub mod Fronts
+pub mod Names
 pub mod Same

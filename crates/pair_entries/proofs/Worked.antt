@@ -1,8 +1,11 @@
--- Worked bytes of a payload, by computation alone.
-use Rattle.std.proofs.Common.{◌≡◌, [], ◌∷◌, refl, true, false, Some}
+-- Worked bytes of payloads, by computation alone.
+use Rattle.std.proofs.Common.{◌≡◌, [], ◌∷◌, take, length, refl, true, false, Some}
 use Rattle.std.specs.Prelude.{codes}
+use Rattle.order_meaning.specs.declared.names.Names.{Names}
 use Rattle.order_meaning.specs.declared.Side.TheVariants.{Client, Venue}
+use Rattle.gate_log.specs.Records.{blocks}
 use Rattle.pair_entries.specs.declared.entry.Entry.{Entry}
+use Rattle.pair_entries.specs.Birth.{birth_bytes}
 use Rattle.pair_entries.specs.Payload.{entry_bytes}
 
 -- the client's message 2 was taken, and goes to the venue as number 3
@@ -26,3 +29,20 @@ entry_is : entry_bytes entry ≡ 0 ∷ 0 ∷ 0 ∷ 0 ∷ 0 ∷ 0 ∷ 1 ∷ 2 ∷
     ∷ 0 ∷ 0 ∷ 2 ∷ 0 ∷ 0 ∷ 0 ∷ 4 ∷ 51 ∷ 53 ∷ 61 ∷ 68 ∷ 0 ∷ 0 ∷ 0 ∷ 3 ∷ 0 ∷ 0 ∷ 0 ∷ 1 ∷ 0 ∷ 0 ∷ 0 ∷ 1
     ∷ 0 ∷ 0 ∷ 0 ∷ 4 ∷ 1 ∷ 2 ∷ 0 ∷ 0 ∷ 0 ∷ 3 ∷ 2 ∷ 1 ∷ 68 ∷ 0 ∷ 0 ∷ 0 ∷ 4 ∷ 49 ∷ 49 ∷ 61 ∷ 65 ∷ []
 entry_is = refl
+
+abbrev names : Names
+names = record {
+  client_our =
+      codes "GATE";
+  client_peer = codes "CLNT";
+  venue_our = codes "GATE";
+  venue_peer = codes "VENU";
+}
+
+-- a birth record begins with an open gate, the length 155, the mark and the first name
+birth_begins : take 21 (blocks (birth_bytes names ∷ [])) ≡ 1 ∷ 0 ∷ 0 ∷ 0 ∷ 155 ∷ 0x46 ∷ 0x49
+    ∷ 0x58 ∷ 0x47 ∷ 0x41 ∷ 0x54 ∷ 0x45 ∷ 0x57 ∷ 0x41 ∷ 0x59 ∷ 0x31 ∷ 4 ∷ 71 ∷ 65 ∷ 84 ∷ 69 ∷ []
+birth_begins = refl
+
+birth_has_155 : length (birth_bytes names) ≡ 155
+birth_has_155 = refl

@@ -1,3 +1,4 @@
+pub mod Birth
 pub mod Payload
 pub mod Parts
 pub mod Prepared

@@ -1,16 +1,19 @@
-//! The entries of the journal of the gateway, and their bytes.
+//! The payloads of the journal of the gateway: its names, its entries, and the bytes of both.
 //!
 //! An entry has the message that was taken, if one was, the next numbers after it, and the messages
 //! that were given out. Its bytes, the payload of a record, are `entry_bytes` of
 //! `specs/Payload.antt`: [`prepare`] writes them, and [`read_entry`] reads them back. [`front_of`] and
-//! [`out_ref`] read them where they stand.
+//! [`out_ref`] read them where they stand. The names stand in the birth record, by `birth_bytes` of
+//! `specs/Birth.antt`.
 #![tactic(auto)]
 
+mod birth;
 mod entry;
 mod prepared;
 mod reading;
 mod writing;
 
+pub use birth::{are_names, read_birth, same_names, write_birth};
 pub use entry::{Entry, Out, Outs, Took};
 pub use prepared::{Prepared, prepare};
 pub use reading::{Front, OutRef, front_of, out_ref, read_entry, u8_front};

@@ -17,7 +17,7 @@ use Rattle.gate_log.proofs.Blocks.{length-blocks-push}
 use Rattle.gate_log.proofs.Told.{if_some, at_some}
 use Rattle.pair_entries.specs.declared.entry.Entry.{Entry}
 use Rattle.pair_entries.specs.Payload.{Next, IsEntry, entry_bytes}
-use Rattle.pair_journal.specs.Birth.{birth_bytes}
+use Rattle.pair_entries.specs.Birth.{birth_bytes}
 use Rattle.pair_journal.specs.Numbers.{GoesOn, first_numbers, numbers_after}
 use Rattle.pair_journal.specs.Journal.{AreEntries, Spells, JournalOf, Born}
 use Rattle.pair_journal.specs.State.{JournalState}

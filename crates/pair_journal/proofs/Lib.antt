@@ -1,5 +1,3 @@
-pub mod Worked
-pub mod Names
 pub mod Giving
 pub mod Carrying
 pub mod Walking

@@ -16,12 +16,12 @@ use Rattle.pair_entries.specs.declared.entry.Entry.{Entry}
 use Rattle.pair_journal.specs.declared.error.JournalError.{JournalError}
 use Rattle.pair_journal.specs.declared.error.JournalError.TheVariants as errors
 use Rattle.pair_entries.specs.Payload.{entry_bytes}
-use Rattle.pair_journal.specs.Birth.{birth_bytes, AreNames}
+use Rattle.pair_entries.specs.Birth.{birth_bytes, AreNames}
 use Rattle.pair_journal.specs.Journal.{JournalOf, Unborn, Born, Refused}
 use Rattle.pair_journal.specs.State.{JournalState}
 use Rattle.pair_journal.specs.Calls.{Loads, BornOrNot, ReadsOnly, journal_error}
 use Rattle.pair_journal.specs.Loading.{IsMisread, Tells, HasNames, HasExtent}
-use Rattle.pair_journal.proofs.Names.{birth_size}
+use Rattle.pair_entries.proofs.Names.{birth_size}
 
 -- ---- a disk that is only read
 

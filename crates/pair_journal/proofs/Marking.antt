@@ -12,7 +12,7 @@ use Rattle.gate_log.specs.Records.{blocks}
 use Rattle.gate_log.proofs.Blocks.{length-blocks-push}
 use Rattle.pair_entries.specs.declared.entry.Entry.{Entry}
 use Rattle.pair_entries.specs.Payload.{Next, entry_bytes}
-use Rattle.pair_journal.specs.Birth.{birth_bytes, AreNames}
+use Rattle.pair_entries.specs.Birth.{birth_bytes, AreNames}
 use Rattle.pair_journal.specs.Numbers.{next_out, numbers_after, first_numbers}
 use Rattle.pair_journal.specs.Journal.{AreEntries}
 use Rattle.pair_journal.specs.Calls.{payloads_of}
@@ -20,7 +20,7 @@ use Rattle.pair_journal.specs.Spots.{end_of, behind, IsSpot, AreMarks, IsBefore,
 use Rattle.pair_journal.specs.declared.spot.Spot.{Spot}
 use Rattle.pair_journal.proofs.Carrying.{numbers_after-push}
 use Rattle.pair_journal.proofs.Giving.{rises, not_past, first_is_1}
-use Rattle.pair_journal.proofs.Names.{birth_size}
+use Rattle.pair_entries.proofs.Names.{birth_size}
 
 -- ---- where entries end
 

@@ -7,11 +7,11 @@ use Rattle.gate_log.proofs.Blocks.{Stands-unique}
 use Rattle.gate_log.proofs.Refused.{refused_stands, refused_once}
 use Rattle.pair_entries.specs.declared.entry.Entry.{Entry}
 use Rattle.pair_entries.specs.Payload.{Next, IsEntry, entry_bytes}
-use Rattle.pair_journal.specs.Birth.{birth_bytes}
+use Rattle.pair_entries.specs.Birth.{birth_bytes}
 use Rattle.pair_journal.specs.Numbers.{GoesOn, first_numbers, numbers_after}
 use Rattle.pair_journal.specs.Journal.{AreEntries, Spells, IsMisspelt, Misspells, Reading}
 use Rattle.pair_journal.specs.Journal.{Unborn, Born, Refused, JournalOf}
-use Rattle.pair_journal.proofs.Names.{same_birth}
+use Rattle.pair_entries.proofs.Names.{same_birth}
 use Rattle.pair_journal.proofs.Walking.{head_of, same_entries}
 
 -- ---- payloads that are spelt have none that is misspelt

@@ -14,7 +14,7 @@ use Rattle.pair_entries.specs.declared.entry.Entry.{Entry}
 use Rattle.pair_entries.specs.Payload.{Next}
 use Rattle.pair_journal.specs.declared.error.JournalError.{JournalError}
 use Rattle.pair_journal.specs.declared.error.JournalError.TheVariants as errors
-use Rattle.pair_journal.specs.Birth.{AreNames, birth_bytes}
+use Rattle.pair_entries.specs.Birth.{AreNames, birth_bytes}
 use Rattle.pair_journal.specs.Calls.{payloads_of}
 use Rattle.pair_journal.specs.Loading.{IsBorn, Follows, Unread, IsMisread, TellsNames, Tells}
 use Rattle.pair_journal.specs.Loading.{HasExtent}

@@ -19,7 +19,7 @@ use Rattle.pair_entries.specs.declared.reading.Front.{Front}
 use Rattle.pair_entries.specs.Payload.{Next, IsEntry, entry_bytes}
 use Rattle.pair_entries.specs.Parts.{front_bytes, IsFront}
 use Rattle.pair_entries.proofs.Same.{front_is}
-use Rattle.pair_journal.specs.Birth.{birth_bytes, AreNames}
+use Rattle.pair_entries.specs.Birth.{birth_bytes, AreNames}
 use Rattle.pair_journal.specs.Numbers.{GoesOn, next_out, numbers_after, first_numbers, outs_to}
 use Rattle.pair_journal.specs.Journal.{AreEntries, JournalOf, Born}
 use Rattle.pair_journal.specs.Given.{Given, numbered, given_in, given}

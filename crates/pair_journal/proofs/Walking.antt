@@ -8,7 +8,7 @@ use Rattle.gate_log.specs.Records.{blocks}
 use Rattle.gate_log.specs.Log.{IsAt, OnlyRead}
 use Rattle.pair_entries.specs.declared.entry.Entry.{Entry}
 use Rattle.pair_entries.specs.Payload.{Next, entry_bytes}
-use Rattle.pair_journal.specs.Birth.{birth_bytes, AreNames}
+use Rattle.pair_entries.specs.Birth.{birth_bytes, AreNames}
 use Rattle.pair_journal.specs.Numbers.{GoesOn, first_numbers, numbers_after}
 use Rattle.pair_journal.specs.Journal.{AreEntries, Misspells}
 use Rattle.pair_journal.specs.Calls.{payloads_of}

@@ -15,7 +15,7 @@ use Rattle.pair_journal.specs.declared.error.JournalError.{JournalError}
 use Rattle.pair_journal.specs.declared.error.JournalError.TheVariants as errors
 use Rattle.pair_entries.specs.declared.entry.Entry.{Entry}
 use Rattle.pair_entries.specs.Payload.{entry_bytes}
-use Rattle.pair_journal.specs.Birth.{birth_bytes}
+use Rattle.pair_entries.specs.Birth.{birth_bytes}
 use Rattle.pair_journal.specs.Journal.{Unborn, Born, Refused, JournalOf}
 use Rattle.pair_journal.specs.State.{JournalState}
 

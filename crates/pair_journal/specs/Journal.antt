@@ -4,7 +4,7 @@ use Rattle.order_meaning.specs.declared.names.Names.{Names}
 use Rattle.gate_log.specs.Records.{blocks, Stands, IsRefused}
 use Rattle.pair_entries.specs.declared.entry.Entry.{Entry}
 use Rattle.pair_entries.specs.Payload.{Next, IsEntry, entry_bytes}
-use Rattle.pair_journal.specs.Birth.{birth_bytes, AreNames}
+use Rattle.pair_entries.specs.Birth.{birth_bytes, AreNames}
 use Rattle.pair_journal.specs.Numbers.{GoesOn, first_numbers, numbers_after}
 
 -- entries within their bounds, whose numbers go on

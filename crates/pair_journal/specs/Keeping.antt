@@ -1,7 +1,7 @@
 -- Inside: how a journal keeps its entries: their number, end and marks beside the log.
 use Rattle.std.specs.Prelude.{min}
 use Rattle.pair_journal.specs.declared.journal.Journal.TheInside.{Inside}
-use Rattle.pair_journal.specs.Birth.{AreNames}
+use Rattle.pair_entries.specs.Birth.{AreNames}
 use Rattle.pair_journal.specs.Loading.{HasExtent}
 use Rattle.pair_journal.specs.State.{JournalState}
 

@@ -1,4 +1,3 @@
-pub mod Birth
 pub mod Numbers
 pub mod Journal
 pub mod Laws

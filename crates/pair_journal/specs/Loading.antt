@@ -10,7 +10,7 @@ use Rattle.pair_journal.specs.declared.error.JournalError.TheVariants as errors
 use Rattle.pair_entries.specs.declared.entry.Entry.{Entry}
 use Rattle.pair_entries.specs.Payload.{Next, IsEntry, entry_bytes}
 use Rattle.pair_journal.specs.Numbers.{GoesOn}
-use Rattle.pair_journal.specs.Birth.{birth_bytes, AreNames}
+use Rattle.pair_entries.specs.Birth.{birth_bytes, AreNames}
 use Rattle.pair_journal.specs.Journal.{JournalOf, Born}
 use Rattle.pair_journal.specs.Calls.{Looks, payloads_of}
 use Rattle.pair_journal.specs.State.{JournalState}

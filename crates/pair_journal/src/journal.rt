@@ -13,7 +13,7 @@ ghost use Rattle.pair_journal.specs.declared.error.JournalError.TheVariants as e
 ghost use Rattle.pair_journal.specs.declared.spot.Spot.{Spot};
 ghost use Rattle.pair_entries.specs.declared.entry.Entry.{Entry};
 ghost use Rattle.pair_entries.specs.Payload.{AreNext, IsEntry, entry_bytes};
-ghost use Rattle.pair_journal.specs.Birth.{AreNames};
+ghost use Rattle.pair_entries.specs.Birth.{AreNames};
 ghost use Rattle.pair_journal.specs.Numbers.{GoesOn, first_numbers, numbers_after, next_out};
 ghost use Rattle.pair_journal.specs.Numbers.{outs_to};
 ghost use Rattle.pair_journal.specs.Journal.{JournalOf, Unborn, Born, AreEntries};
@@ -25,7 +25,6 @@ ghost use Rattle.pair_journal.specs.Calls.{HasDiskCause, ReadsOnly, Looks, Loads
 ghost use Rattle.pair_journal.specs.Calls.{Commits, KeepsJournal, OnlyReading, RefusedUntold};
 ghost use Rattle.pair_journal.specs.Loading.{HasNames, Tells, IsMisread};
 
-use crate::birth::{are_names, same_names, write_birth};
 use crate::given::out_in;
 use crate::kept::Kept;
 use crate::loading::{read_entries, read_names, read_record};
@@ -36,7 +35,7 @@ use crate::{JournalError, NoReader, OutBuf, Reader};
 use gate_log::{Log, MAX_PAYLOAD};
 use order_meaning::{Names, Side};
 use outside::Disk;
-use pair_entries::{Entry, Prepared, front_of, read_entry};
+use pair_entries::{Entry, Prepared, are_names, front_of, read_entry, same_names, write_birth};
 use std::alloc::Global;
 use std::marker::Model;
 

@@ -1,11 +1,11 @@
 //! The journal of the gateway: an entry for each event that moved a number, in order, on a disk.
 //!
-//! Entries and their bytes are those of pair_entries. An entry stands on the disk before any of the
-//! messages that it gives out is sent, and nowhere else: a journal keeps where every 64th stands, and
-//! reads on from there. Whoever needs each of them is a [`Reader`] as the journal is loaded.
+//! Names, entries and their bytes are those of pair_entries. An entry stands on the disk before any
+//! of the messages that it gives out is sent, and nowhere else: a journal keeps where every 64th
+//! stands, and reads on from there. Whoever needs each of them is a [`Reader`] as the journal is
+//! loaded.
 #![tactic(auto)]
 
-mod birth;
 mod error;
 mod given;
 mod journal;

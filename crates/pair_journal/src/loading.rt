@@ -5,20 +5,19 @@ ghost use Rattle.pair_journal.specs.declared.error.JournalError.TheVariants as e
 ghost use Rattle.std.specs.Prelude.{◌≡◌, ◌≤◌, [], length, MatchOption, IfOk, IfErr, OnOk};
 ghost use Rattle.std.specs.Option.{ForSome};
 ghost use Rattle.gate_log.specs.Log.{OnlyReads, StandsOver, ReadsPayload};
-ghost use Rattle.pair_journal.specs.Birth.{AreNames};
+ghost use Rattle.pair_entries.specs.Birth.{AreNames};
 ghost use Rattle.pair_entries.specs.declared.entry.Entry.{Entry};
 ghost use Rattle.pair_journal.specs.Calls.{HasDiskCause};
 ghost use Rattle.pair_journal.specs.Loading.{Follows, Unread, IsMisread, TellsNames, Tells};
 ghost use Rattle.pair_journal.specs.Loading.{HasExtent};
 
-use crate::birth::read_birth;
 use crate::kept::Kept;
 use crate::numbers::{Next, goes_on};
 use crate::{JournalError, Reader};
 use gate_log::{Log, MAX_PAYLOAD};
 use order_meaning::Names;
 use outside::{Disk, MAX_DISK};
-use pair_entries::{Entry, read_entry};
+use pair_entries::{Entry, read_birth, read_entry};
 use std::alloc::{AllocError, Global};
 
 /// Replaces `out` by the payload that stands at this place.

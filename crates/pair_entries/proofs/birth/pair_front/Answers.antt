@@ -1,7 +1,7 @@
 use Rattle.std.proofs.Common.{◌++◌}
-use Rattle.pair_journal.specs.Birth.{name_bytes}
-use Rattle.pair_journal.proofs.Names.{behind_name}
-use Rattle.pair_journal.proofs.birth.pair_front.Goals as goal
+use Rattle.pair_entries.specs.Birth.{name_bytes}
+use Rattle.pair_entries.proofs.Names.{behind_name}
+use Rattle.pair_entries.proofs.birth.pair_front.Goals as goal
 
 pub returns-in_default : goal.returns-in_default
 returns-in_default c = λ our peer rest is_our is_peer is.

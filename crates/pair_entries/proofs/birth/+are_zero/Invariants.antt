@@ -1,5 +1,5 @@
 use Rattle.std.proofs.Common.{length}
-use Rattle.pair_journal.proofs.birth.+are_zero.Given as goal
+use Rattle.pair_entries.proofs.birth.+are_zero.Given as goal
 
 abbrev pub decreases-are_zero : goal.decreases-are_zero
 decreases-are_zero l = length l.bytes.now

@@ -1,7 +1,7 @@
 use Rattle.std.proofs.Common.{◌++◌, [], length, ap, arith}
-use Rattle.pair_journal.specs.Birth.{name_bytes}
-use Rattle.pair_journal.proofs.Names.{behind_pair, behind_marked, spelt, nothing, some_and}
-use Rattle.pair_journal.proofs.birth.read_birth.Goals as goal
+use Rattle.pair_entries.specs.Birth.{name_bytes}
+use Rattle.pair_entries.proofs.Names.{behind_pair, behind_marked, spelt, nothing, some_and}
+use Rattle.pair_entries.proofs.birth.read_birth.Goals as goal
 
 pub returns-in_default-pair_front : goal.returns-in_default-pair_front
 returns-in_default-pair_front c = λ names are is.

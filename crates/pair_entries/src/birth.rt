@@ -3,7 +3,7 @@
 ghost use Rattle.std.specs.Prelude.{◌≡◌, ◌++◌, ◌↔◌, ℕ, List, length, replicate, IsTrue};
 ghost use Rattle.std.specs.Prelude.{IfOk, OnOk, MatchOption, IsSomeAnd};
 ghost use Rattle.order_meaning.specs.declared.names.Names.{Names};
-ghost use Rattle.pair_journal.specs.Birth.{birth_bytes, name_bytes, mark, IsName, AreNames};
+ghost use Rattle.pair_entries.specs.Birth.{birth_bytes, name_bytes, mark, IsName, AreNames};
 
 use order_meaning::{MAX_NAME, Name, Names};
 use std::alloc::{AllocError, Global};
@@ -23,7 +23,10 @@ fn put_name(out: &mut Vec<u8>, name: &Name) -> Result<(), AllocError>
 }
 
 /// The payload of the birth record.
-pub(crate) fn write_birth(alloc: Global, names: &Names) -> Result<Vec<u8>, AllocError>
+///
+/// # Errors
+/// `AllocError` for want of memory.
+pub fn write_birth(alloc: Global, names: &Names) -> Result<Vec<u8>, AllocError>
     ensures { IfOk result (λ v. v.items ≡ birth_bytes names.now) }
 {
     let mut out = Vec::new(alloc);
@@ -119,7 +122,7 @@ fn names_of(
 }
 
 /// The names that the payload of a birth record spells, all of it.
-pub(crate) fn read_birth(bytes: &[u8]) -> Option<Names>
+pub fn read_birth(bytes: &[u8]) -> Option<Names>
     ensures { MatchOption result
         ((names : Names) → AreNames names → bytes.now ≡ birth_bytes names → ⊥)
         (λ names. (bytes.now ≡ birth_bytes names) × AreNames names) }
@@ -138,7 +141,7 @@ pub(crate) fn read_birth(bytes: &[u8]) -> Option<Names>
 }
 
 /// Names have 1 to 35 bytes each.
-pub(crate) fn are_names(names: &Names)
+pub fn are_names(names: &Names)
     ensures { AreNames names.now }
 {
     let _ = names.client_our.as_slice();
@@ -155,7 +158,7 @@ fn same_text(text: &[u8], other: &[u8]) -> bool
 }
 
 /// Whether names are the same.
-pub(crate) fn same_names(names: &Names, other: &Names) -> bool
+pub fn same_names(names: &Names, other: &Names) -> bool
     ensures { IsTrue result ↔ (names.now ≡ other.now) }
 {
     same_text(names.client_our.as_slice(), other.client_our.as_slice())

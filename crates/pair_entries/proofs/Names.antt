@@ -6,7 +6,7 @@ use Rattle.std.proofs.lemmas.List.{take_at, drop_at, length-replicate}
 use Rattle.std.specs.Prelude.{IsSomeAnd}
 use Rattle.std.specs.declared.option.Option.{Option}
 use Rattle.order_meaning.specs.declared.names.Names.{Names}
-use Rattle.pair_journal.specs.Birth.{birth_bytes, name_bytes, mark, IsName, AreNames}
+use Rattle.pair_entries.specs.Birth.{birth_bytes, name_bytes, mark, IsName, AreNames}
 use Rattle.pair_entries.proofs.Fronts.{append_nothing}
 
 same_size : (a b x y : List ℕ) → name_bytes a ++ x ≡ name_bytes b ++ y → length a ≡ length b
