@@ -1,6 +1,7 @@
 use Rattle.std.proofs.Common.{◌≡◌, ◌<◌, ◌∷◌, ◌++◌, ◌∙◌, [], length, refl, sym}
 use Rattle.std.proofs.Common.{subst, ap, arith, length-append}
 use Rattle.gate_log.specs.Log.{ReadsPayload}
+use Rattle.pair_entries.specs.declared.entry.Entry.{Entry}
 use Rattle.pair_entries.proofs.Fronts.{at_none, at_some}
 use Rattle.pair_journal.specs.Loading.{Follows, Unread}
 use Rattle.pair_journal.specs.State.{KeptState}
