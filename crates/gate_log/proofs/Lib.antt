@@ -6,3 +6,4 @@ pub mod CommitSteps
 pub mod Scanning
 pub mod Born
 pub mod Appending
+pub mod Chunks

@@ -1,13 +1,13 @@
 -- What one walk over a disk learns.
 use Rattle.std.proofs.Common.{◌≡◌, inl, inr, ℕ, ◌+◌, ◌-◌, ◌<◌, ◌≤◌}
-use Rattle.std.proofs.Common.{Bool, true, false, min, Some, IfSome, ◌==◌, List, [], ◌∷◌, ◌++◌}
+use Rattle.std.proofs.Common.{Bool, true, false, Some, IfSome, ◌==◌, List, [], ◌∷◌, ◌++◌}
 use Rattle.std.proofs.Common.{length, take}
 use Rattle.std.proofs.Common.{drop, refl, sym, ◌∙◌, ap, subst, arith, append_assoc, length-append}
 use Rattle.std.proofs.Common.{length-take, length-drop, take-append-drop}
 use Rattle.std.specs.Prelude.{nat_le, ◌&&◌, if◌then◌else◌}
 use Rattle.std.specs.declared.option.Option.{Option}
 use Rattle.std.specs.Int.{w32, to_be_bytes}
-use Rattle.std.proofs.lemmas.List.{drop_at, take_all, take_min}
+use Rattle.std.proofs.lemmas.List.{drop_at}
 use Rattle.std.proofs.lemmas.Bool.Decides.{nat_tests}
 use Rattle.outside.specs.declared.disk.TheConstants.{MAX_DISK}
 use Rattle.gate_log.specs.declared.TheConstants.{BIRTH_LEN, MAX_PAYLOAD}
@@ -23,43 +23,6 @@ use Rattle.gate_log.specs.Log.{OnlyRead}
 use Rattle.gate_log.proofs.Blocks.{blocks-push, length-blocks-push, AllFit-push, fits_told}
 use Rattle.gate_log.proofs.Blocks.{same_front}
 use Rattle.gate_log.proofs.Told.{if_some, at_some}
-
--- ---- a head
-
-all_taken : (bytes front : List ℕ) → front ≡ take 5 bytes → length front < 5 → bytes ≡ front
-all_taken bytes front is small =
-    sym (is ∙ take_all 5 bytes (omega (arith, ap length is, length-take 5 bytes, small)))
-
--- what a front of five bytes begins with, all begin with
-pub head_whole : (bytes : List ℕ) (head : Head) → IsHead (take 5 bytes) head → IsHead bytes head
-head_whole bytes heads.Shut (gate, after, is, shut) = (
-  gate,
-  after ++ drop 5 bytes,
-  sym (take-append-drop 5 bytes) ∙ ap (λ l. l ++ drop 5 bytes) is,
-  shut,
-)
-head_whole bytes (heads.Open len) (small, rest, is) = (
-  small,
-  rest ++ drop 5 bytes,
-  sym (take-append-drop 5 bytes) ∙ ap (λ l. l ++ drop 5 bytes) is
-      ∙ ap (λ (l : List ℕ). 1 ∷ l) (append_assoc (to_be_bytes w32 len) rest (drop 5 bytes)),
-)
-head_whole bytes heads.Cut (behind, short, inl none) =
-    (behind, short, inl (all_taken bytes [] (sym none) (omega arith)))
-head_whole bytes heads.Cut (behind, short, inr is) =
-    (behind, short, inr (all_taken bytes (1 ∷ behind) (sym is) (omega (arith, short))))
-
--- what was read at a place
-pub head_read : (told : Option (List ℕ)) (at n : ℕ) (buf : List ℕ) (head : Head) → length buf ≡ 5
-    → IfSome told (λ b. (n ≡ min (length buf) (length b - at)) × (take n buf ≡ take n (drop at b)))
-    → IsHead (take n buf) head → IfSome told (λ b. IsHead (drop at b) head)
-head_read told at n buf head five read is = if_some told _ (λ b e.
-    let r = at_some told (λ x. (n ≡ min (length buf) (length x - at))
-    × (take n buf ≡ take n (drop at x))) b e read in
-    let most : n ≡ min 5 (length (drop at b)) = omega (arith, r.0, five, length-drop at b) in
-    let same : take n buf ≡ take 5 (drop at b) =
-    r.1 ∙ ap (λ k. take k (drop at b)) most ∙ take_min 5 (drop at b) in
-    head_whole (drop at b) head (subst (λ l. IsHead l head) same is))
 
 -- ---- the length of a payload
 
@@ -286,6 +249,19 @@ at_first told size long is = record {
   within = omega arith;
   more = omega (arith, long);
   walked = if_some told _ (λ b e. (at_some told (λ x. size ≡ length x) b e is, none_walked b));
+}
+
+-- the same, where the length was asked again
+pub longer : (told : Option (List ℕ)) (size now count at : ℕ) → size ≤ now
+    → IfSome told (λ b. size ≡ length b → now ≡ length b)
+    → SoFar told size count at → SoFar told now count at
+longer told size now count at more same so_far = record {
+  counted = so_far.counted;
+  within = so_far.within;
+  more = omega (arith, so_far.more, more);
+  walked = if_some told _ (λ b e.
+      let w = at_some told (λ x. (size ≡ length x) × Walked x count at) b e so_far.walked in
+      (at_some told (λ x. size ≡ length x → now ≡ length x) b e same w.0, w.1));
 }
 
 module _ (told : Option (List ℕ)) (size count at : ℕ) (long : 1 < size)

@@ -5,3 +5,4 @@ pub mod State
 pub mod Log
 pub mod Scan
 pub mod Kept
+pub mod Chunk

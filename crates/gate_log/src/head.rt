@@ -10,7 +10,7 @@ use crate::bytes::u32_front;
 use outside::{Disk, Failed};
 
 /// The most bytes of a head: a gate and a length.
-const HEAD_LEN: usize = 5;
+pub(crate) const HEAD_LEN: usize = 5;
 
 /// What stands at a gate.
 #[derive(Clone, Copy, Debug)]
@@ -23,8 +23,8 @@ pub(crate) enum Head {
     Cut,
 }
 
-/// What these bytes begin with, which are at most those of a head.
-fn head_of(bytes: &[u8]) -> Head
+/// What these bytes begin with.
+pub(crate) fn head_of(bytes: &[u8]) -> Head
     ensures { IsHead bytes.now result }
 {
     match bytes {

@@ -6,6 +6,7 @@
 #![tactic(auto)]
 
 mod bytes;
+mod chunk;
 mod commit;
 mod error;
 mod head;

@@ -14,6 +14,7 @@ ghost use Rattle.gate_log.specs.Log.{StandsOver, StaysUnborn, KeepsOneImage, Rea
 ghost use Rattle.gate_log.specs.Log.{HasNoPayload};
 
 use crate::bytes::extend_reserved;
+use crate::chunk::fill;
 use crate::commit::{commit, write_stable};
 use crate::head::{Head, head_at};
 use crate::scan::{Found, scan};
@@ -119,18 +120,6 @@ fn write_birth<D: Disk>(disk: &mut D, len: u64, birth: &[u8], staged: &[u8]) -> 
     commit(disk, 0, birth, staged)
 }
 
-/// Fills a buffer with the bytes from this place on, and answers how many stand there.
-fn fill<D: Disk>(disk: &mut D, at: u64, out: &mut Vec<u8>) -> Result<usize, Failed>
-    ensures len { length out.new.items ≡ length out.old.items }
-    ensures capacity { vec_capacity out.old ≤ vec_capacity out.new }
-    ensures value { ReadsAt (D.bytes disk.old) at result out.new.items }
-    ensures only_read { OnlyReads D.bytes D.image disk.old disk.new }
-    ensures reads { D.reads disk.new ≤ D.reads disk.old + 1 }
-    ensures cause { HasCause (D.faults disk.old) (D.faults disk.new) result }
-{
-    disk.read_at(at, out.as_mut_slice())
-}
-
 /// Replaces `out` by a payload that stands at this place; after an error it holds anything.
 fn read_payload<D: Disk>(disk: &mut D, place: u64, out: &mut Vec<u8>) -> Result<(), LogError>
     requires { place ≤ MAX_DISK }
@@ -177,18 +166,18 @@ impl Log {
         }
     }
 
-    /// The log on a disk; none where the disk is unborn. It only reads, and takes no memory.
+    /// The log on a disk; none where the disk is unborn. It only reads.
     ///
     /// # Errors
     /// `Foreign` exactly where the bytes are refused at that place; `DiskFault` only where the
-    /// disk's count of faults rose.
+    /// disk's count of faults rose; `NoMemory`.
     pub fn look<D: Disk>(alloc: Global, disk: &mut D) -> Result<Option<Log>, LogError>
         ensures looks { IfSome (D.bytes disk.old) (λ b. Looks b result) }
         ensures whole { IfOk result (λ found. IfSome found (λ log. log.broken ≡ false)) }
         ensures only_read { OnlyReads D.bytes D.image disk.old disk.new }
         ensures cause { HasFaultCause (D.faults disk.old) (D.faults disk.new) result }
     {
-        match scan(disk)? {
+        match scan(alloc, disk)? {
             Found::Unborn => Ok(None),
             Found::Records(count, end) => Ok(Some(Log::of(alloc, count, end))),
             Found::Refused(at) => Err(LogError::Foreign { at }),

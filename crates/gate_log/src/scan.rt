@@ -1,14 +1,16 @@
 //! One walk over a disk, from gate to gate: the records that it holds, or where it is refused.
 
-ghost use Rattle.std.specs.Prelude.{◌≡◌, ◌<◌, ◌≤◌, ◌↔◌, IsTrue, length, IfOk, IfSome};
+ghost use Rattle.std.specs.Prelude.{◌≡◌, ◌<◌, ◌≤◌, ◌↔◌, ℕ, IsTrue, length, Err, IfOk, IfSome};
 ghost use Rattle.outside.specs.Causes.{HasCause};
-ghost use Rattle.gate_log.specs.Log.{OnlyReads};
+ghost use Rattle.gate_log.specs.Log.{OnlyReads, HasFaultCause};
 ghost use Rattle.gate_log.specs.Scan.{IsFound, IsWithin, IsStep, GoesOn, fits_at};
 ghost use Rattle.gate_log.specs.Scan.{found_at};
 
-use crate::head::{Head, head_at};
-use crate::{BIRTH_LEN, MAX_PAYLOAD, UNBORN_LEN};
+use crate::chunk::Chunk;
+use crate::head::Head;
+use crate::{BIRTH_LEN, LogError, MAX_PAYLOAD, UNBORN_LEN};
 use outside::{Disk, Failed, MAX_DISK};
+use std::alloc::Global;
 
 /// What a disk holds.
 #[derive(Clone, Copy, Debug)]
@@ -78,24 +80,45 @@ fn ended(count: u64, end: u64, size: u64) -> Found
     }
 }
 
-/// What a disk holds.
-///
-/// # Errors
-/// `Failed` only where the disk's count of faults rose.
-pub(crate) fn scan<D: Disk>(disk: &mut D) -> Result<Found, Failed>
-    ensures found { IfOk result (λ found. IfSome (D.bytes disk.old) (λ b. IsFound b found)) }
-    ensures within { IfOk result IsWithin }
+/// The length of a disk that had so many bytes, at a gate where this stands. It is asked again where
+/// a record there would pass it: to a file that a gateway lengthens meanwhile each record is written
+/// before its gate is opened.
+fn size_at<D: Disk>(disk: &mut D, size: u64, head: Head, at: u64) -> Result<u64, Failed>
+    requires { at < MAX_DISK }
+    ensures told { IfOk result (λ now. IfSome (D.bytes disk.old) (λ b.
+        size ≡ length b → now ≡ length b)) }
+    ensures longer { IfOk result (λ now. size ≤ now) }
     ensures only_read { OnlyReads D.bytes D.image disk.old disk.new }
     ensures cause { HasCause (D.faults disk.old) (D.faults disk.new) result }
 {
-    let size = disk.len()?;
+    match head {
+        Head::Open(len) if size <= at + 5 + len as u64 => Ok(disk.len()?.max(size)),
+        _ => Ok(size),
+    }
+}
+
+/// What a disk holds. It reads many gates at once.
+///
+/// # Errors
+/// `DiskFault` only where the disk's count of faults rose; `NoMemory`.
+pub(crate) fn scan<D: Disk>(alloc: Global, disk: &mut D) -> Result<Found, LogError>
+    ensures found { IfOk result (λ found. IfSome (D.bytes disk.old) (λ b. IsFound b found)) }
+    ensures within { IfOk result IsWithin }
+    ensures only_read { OnlyReads D.bytes D.image disk.old disk.new }
+    ensures cause { HasFaultCause (D.faults disk.old) (D.faults disk.new) result }
+    ensures only { (result ≡ Err LogError.Full) → ⊥ }
+    ensures not_foreign { (at : ℕ) → (result ≡ Err (LogError.Foreign at)) → ⊥ }
+{
+    let mut size = disk.len()?;
     if size <= 1 {
         return Ok(Found::Unborn);
     }
+    let mut chunk = Chunk::new(alloc);
     let mut count = 0;
     let mut end = 0;
     'gates: loop {
-        let head = head_at(disk, end)?;
+        let head = chunk.head_at(disk, end)?;
+        size = size_at(disk, size, head, end)?;
         match step_at(head, end, size) {
             Step::End => return Ok(ended(count, end, size)),
             Step::Break => return Ok(Found::Refused(end)),
