@@ -1,4 +1,4 @@
-//! The journal's file: made for its owner alone, or only read, and locked for this process.
+//! The journal's file: made for its owner alone and locked for this process, or only read.
 
 ghost use Rattle.std.specs.Prelude.{◌≡◌, None};
 ghost use Rattle.std.specs.Io.{ReadsAtMost};
@@ -94,11 +94,11 @@ fn open_to_write<R: Files<File = File>>(rt: &R, path: &str) -> Result<File, Deni
     Ok(file)
 }
 
-// The file as one that is only read: it is not made, and need not be writable.
+// The file as one that is only read: it is not made, need not be writable, and is not locked, since a
+// gateway that runs on it changes no byte in front of its closing gate.
 fn open_to_read<R: Files<File = File>>(rt: &R, path: &str) -> Result<File, Denial> {
     look(rt, path)?;
     let file = File::open(rt, path)?;
-    lock(&file)?;
     judge(&file)?;
     Ok(file)
 }
@@ -159,7 +159,8 @@ impl<'a, R: Files<File = File>> JournalFile<'a, R> {
         JournalFile::with_access(rt, path, Access::Write)
     }
 
-    /// The file at this path, to be read alone: it is not made, and a write fails.
+    /// The file at this path, to be read alone, also while a gateway has it: it is neither made nor
+    /// locked, and a write fails.
     pub fn to_read(rt: &'a R, path: &'a str) -> JournalFile<'a, R>
         ensures { result.tally ≡ record { reads = 0; faults = 0 } }
     {

@@ -89,6 +89,25 @@ fn a_journal_is_locked_and_kept(rt: HostRuntime) -> Result<(), Fail> {
     Ok(())
 }
 
+/// Whether a journal that is only read has the six bytes of one that another has locked, and takes
+/// no byte.
+fn is_only_read(rt: &HostRuntime, path: &str) -> bool {
+    let mut first = JournalFile::new(rt, path);
+    let mut second = JournalFile::to_read(rt, path);
+    takes(&mut first)
+        && second.len() == Ok(6)
+        && reads(&mut second, 3, b"def")
+        && second.write_at(0, b"0") == Err(Failed)
+}
+
+#[test]
+fn a_locked_journal_is_read(rt: HostRuntime) -> Result<(), Fail> {
+    let path = own_path(&rt, ".read")?;
+    assert!(rt; is_only_read(&rt, path.as_str()));
+    fs::remove_file(&rt, path.as_str())?;
+    Ok(())
+}
+
 /// Whether a clock whose stop file lies there gives a moment after 2023, tells the stop, and stands
 /// still.
 fn stands_still<K: Clock>(clock: &mut K, lines: &Printed) -> bool {
