@@ -1,13 +1,12 @@
 -- What an append needs of a log, and what stands at a place of one.
 use Rattle.std.proofs.Common.{◌≡◌, ℕ, ◌+◌, ◌^◌, ◌<◌, ◌≤◌, List, [], ◌∷◌, ◌++◌, length, take, drop}
-use Rattle.std.proofs.Common.{sym, ◌∙◌, ap, subst, arith, append_assoc, length-append, min}
+use Rattle.std.proofs.Common.{refl, sym, ◌∙◌, ap, subst, arith, append_assoc, length-append}
 use Rattle.std.proofs.Common.{Some, IfSome}
 use Rattle.std.proofs.Common.{◌-◌, inl, inr, length-drop}
-use Rattle.std.proofs.lemmas.List.{take_all}
 use Rattle.std.specs.declared.option.Option.{Option}
 use Rattle.std.specs.Option.{ForSome}
 use Rattle.std.specs.Int.{w32, to_be_bytes}
-use Rattle.std.proofs.lemmas.List.{take_at, drop_at}
+use Rattle.std.proofs.lemmas.List.{take_at, drop_at, drop-take, drop-drop, take-take}
 use Rattle.gate_log.specs.declared.TheConstants.{MAX_PAYLOAD}
 use Rattle.gate_log.specs.declared.head.Head.{Head}
 use Rattle.gate_log.specs.declared.head.Head.TheVariants as heads
@@ -17,6 +16,7 @@ use Rattle.gate_log.specs.State.{LogState}
 use Rattle.gate_log.specs.Log.{StandsOver, IsAt, ReadsPayload, HasNoPayload}
 use Rattle.gate_log.specs.Kept.{StandsBehind}
 use Rattle.gate_log.specs.Scan.{IsHead}
+use Rattle.gate_log.specs.Chunk.{StandsAt, IsFront}
 use Rattle.gate_log.proofs.Blocks.{AllTold, fit_told, same_front, blocks-append}
 use Rattle.gate_log.proofs.CommitSteps.{ends}
 use Rattle.gate_log.proofs.Told.{if_some, at_some}
@@ -117,21 +117,34 @@ module _ (bytes : List ℕ) (at : ℕ) (payload : List ℕ) (s : StandsBehind by
   ))
 
   -- what a read of so many bytes behind the length gives
-  pub reads_payload : (n : ℕ) (buf : List ℕ) → length buf ≡ length payload
-      → n ≡ min (length buf) (length bytes - (at + 5))
-      → take n buf ≡ take n (drop (at + 5) bytes) → (n ≡ length payload) × (buf ≡ payload)
-  reads_payload n buf size count read =
+  pub reads_payload : (buf : List ℕ) → IsFront (at + 5) (length payload) buf bytes
+      → (length buf ≡ length payload) × (buf ≡ payload)
+  reads_payload buf (count, read) =
       let behind : length bytes - (at + 5) ≡ length payload + length s.after = omega (
         arith,
         ap length from_payload,
         length-drop (at + 5) bytes,
         length-append payload s.after,
       ) in
-      let whole : n ≡ length payload = omega (arith, size, count, behind) in (
+      let whole : length buf ≡ length payload = omega (arith, count, behind) in (
         whole,
-        sym (take_all n buf (omega (arith, whole, size))) ∙ read
-            ∙ ap (take n) from_payload ∙ take_at payload s.after n (sym whole),
+        read ∙ ap (take (length buf)) from_payload
+            ∙ take_at payload s.after (length buf) (sym whole),
       )
+
+  -- what stands behind the length in bytes that were read from the gate on
+  pub holds_payload : (part : List ℕ) → StandsAt bytes at part → 5 + length payload ≤ length part
+      → take (length payload) (drop 5 part) ≡ payload
+  holds_payload part stands long =
+      let left : ℕ = length part - 5 in
+      let whole : 5 + left ≡ length part = omega (arith, long) in
+      let behind : drop 5 part ≡ take left (payload ++ s.after) =
+      ap (drop 5) (stands ∙ ap (λ n. take n (drop at bytes)) (sym whole))
+      ∙ drop-take 5 left (drop at bytes)
+      ∙ ap (take left) (drop-drop 5 at bytes ∙ from_payload) in
+      ap (take (length payload)) behind
+      ∙ take-take (length payload) left (payload ++ s.after) (omega (arith, long))
+      ∙ take_at payload s.after (length payload) refl
 
 -- ---- on a disk that may tell its bytes
 
@@ -150,28 +163,41 @@ module _ (told : Option (List ℕ)) (place : ℕ) (head : Head)
       none (length payload) (opened b e payloads payload stands at)
       (payload_sized b place payloads payload stands at))
 
-  module _ (len n : ℕ) (buf : List ℕ) (is : head ≡ heads.Open len) (full : length buf ≡ len)
-      (now : Option (List ℕ)) (same : now ≡ told) (read : IfSome now (λ b.
-      (n ≡ min (length buf) (length b - (place + 5)))
-      × (take n buf ≡ take n (drop (place + 5) b)))) where
-    read_at : (b : List ℕ) → told ≡ Some b → (payloads : List (List ℕ)) (payload : List ℕ)
-        → Stands b payloads → IsAt payloads place payload
-        → (n ≡ length payload) × (buf ≡ payload) × (len ≡ length payload)
-    read_at b e payloads payload stands at =
+  module _ (len : ℕ) (is : head ≡ heads.Open len) where
+    sized : (b : List ℕ) → told ≡ Some b → (payloads : List (List ℕ)) (payload : List ℕ)
+        → Stands b payloads → IsAt payloads place payload → len ≡ length payload
+    sized b e payloads payload stands at =
         let one : heads.Open len ≡ heads.Open (length payload) =
         sym is ∙ opened b e payloads payload stands at in
-        let size : len ≡ length payload = cc one in
-        let r = at_some now (λ x. (n ≡ min (length buf) (length x - (place + 5)))
-        × (take n buf ≡ take n (drop (place + 5) x))) b (same ∙ e) read in
-        let got = reads_payload b place payload (stands_behind b place payloads payload stands at)
-        n buf (full ∙ size) r.0 r.1 in
-        (got.0, got.1, size)
+        cc one
 
-    pub all_there : ReadsPayload told place buf
-    all_there = if_some told _ (λ b e payloads payload stands at.
-        (read_at b e payloads payload stands at).1)
+    -- the first read has all of it
+    pub kept_there : (most : ℕ) (part : List ℕ) → IfSome told (IsFront place most part)
+        → 5 + len ≤ length part → ReadsPayload told place (take len (drop 5 part))
+    kept_there most part read long = if_some told _ (λ b e payloads payload stands at.
+        let size = sized b e payloads payload stands at in
+        ap (λ n. take n (drop 5 part)) size
+        ∙ holds_payload b place payload (stands_behind b place payloads payload stands at) part
+        (at_some told (IsFront place most part) b e read).1 (omega (arith, long, size)))
 
-    pub short_there : n < len → HasNoPayload told place
-    short_there short = if_some told _ (λ b e payloads payload stands at.
-        let got = read_at b e payloads payload stands at in
-        absurd (omega (arith, short, got.0, got.2)))
+    module _ (buf : List ℕ) (now : Option (List ℕ)) (same : now ≡ told)
+        (read : IfSome now (IsFront (place + 5) len buf)) where
+      read_at : (b : List ℕ) → told ≡ Some b → (payloads : List (List ℕ)) (payload : List ℕ)
+          → Stands b payloads → IsAt payloads place payload
+          → (length buf ≡ length payload) × (buf ≡ payload) × (len ≡ length payload)
+      read_at b e payloads payload stands at =
+          let size = sized b e payloads payload stands at in
+          let got = reads_payload b place payload
+          (stands_behind b place payloads payload stands at) buf
+          (subst (λ n. IsFront (place + 5) n buf b) size
+          (at_some now (IsFront (place + 5) len buf) b (same ∙ e) read)) in
+          (got.0, got.1, size)
+
+      pub all_there : ReadsPayload told place buf
+      all_there = if_some told _ (λ b e payloads payload stands at.
+          (read_at b e payloads payload stands at).1)
+
+      pub short_there : length buf < len → HasNoPayload told place
+      short_there short = if_some told _ (λ b e payloads payload stands at.
+          let got = read_at b e payloads payload stands at in
+          absurd (omega (arith, short, got.0, got.2)))

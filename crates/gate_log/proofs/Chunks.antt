@@ -1,7 +1,8 @@
 -- What stands in bytes that were read at once.
 use Rattle.std.proofs.Common.{◌≡◌, inl, inr, ℕ, ◌+◌, ◌-◌, ◌<◌, ◌≤◌, ◌⊎◌, min, IfSome, List, [], ◌∷◌}
 use Rattle.std.proofs.Common.{◌++◌, Bool, true, false, length, take, drop, refl, sym, ◌∙◌, ap}
-use Rattle.std.proofs.Common.{subst, arith, append_assoc, length-take, length-drop, take-append-drop}
+use Rattle.std.proofs.Common.{subst, arith, append_assoc, length-take, length-drop}
+use Rattle.std.proofs.Common.{take-append-drop}
 use Rattle.std.proofs.lemmas.List.{drop-take, drop-drop, take_all}
 use Rattle.std.proofs.lemmas.Bool.Decides.{nat_tests}
 use Rattle.std.specs.Prelude.{nat_le}
@@ -10,7 +11,7 @@ use Rattle.std.specs.Int.{w32, to_be_bytes}
 use Rattle.gate_log.specs.declared.head.Head.{Head}
 use Rattle.gate_log.specs.declared.head.Head.TheVariants as heads
 use Rattle.gate_log.specs.Scan.{IsHead}
-use Rattle.gate_log.specs.Chunk.{StandsAt}
+use Rattle.gate_log.specs.Chunk.{StandsAt, IsFront}
 use Rattle.gate_log.proofs.Told.{if_some, at_some}
 
 -- what is behind a part of them stands behind it
@@ -82,23 +83,11 @@ head_among told at part head five stands is = if_some told _ (λ b e.
 
 -- and so does all that was read from there on
 pub head_first : (told : Option (List ℕ)) (at most : ℕ) (part : List ℕ) (head : Head) → 5 ≤ most
-    → IfSome told (λ b. (length part ≡ min most (length b - at)) × StandsAt b at part)
+    → IfSome told (IsFront at most part)
     → IsHead part head → IfSome told (λ b. IsHead (drop at b) head)
 head_first told at most part head five read is = if_some told _ (λ b e.
-    let r = at_some told (λ x. (length part ≡ min most (length x - at)) × StandsAt x at part) b e
-    read in
+    let r = at_some told (IsFront at most part) b e read in
     head_of_front (drop at b) (length part) head
     (enough (length part) most (length (drop at b)) (nat_le 5 (length part)) refl five
     (r.0 ∙ ap (min most) (sym (length-drop at b))))
     (subst (λ l. IsHead l head) r.1 is))
-
--- what was read at a place into five bytes
-pub head_read : (told : Option (List ℕ)) (at n : ℕ) (buf : List ℕ) (head : Head) → length buf ≡ 5
-    → IfSome told (λ b. (n ≡ min (length buf) (length b - at)) × (take n buf ≡ take n (drop at b)))
-    → IsHead (take n buf) head → IfSome told (λ b. IsHead (drop at b) head)
-head_read told at n buf head five read is =
-    head_first told at 5 (take n buf) head (omega arith) (if_some told _ (λ b e.
-    let r = at_some told (λ x. (n ≡ min (length buf) (length x - at))
-    × (take n buf ≡ take n (drop at x))) b e read in
-    let all : length (take n buf) ≡ n = omega (arith, length-take n buf, r.0) in
-    (omega (arith, all, r.0, five), r.1 ∙ ap (λ k. take k (drop at b)) (sym all)))) is

@@ -1,32 +1,43 @@
 //! Bytes of a disk that are read at once, and the heads among them.
 
-ghost use Rattle.std.specs.Prelude.{◌≡◌, ◌+◌, ◌-◌, ◌≤◌, ℕ, List, [], length, drop, min};
+ghost use Rattle.std.specs.Prelude.{◌≡◌, ◌≢◌, ◌+◌, ◌-◌, ◌≤◌, ℕ, List, [], length, drop, min};
 ghost use Rattle.std.specs.Prelude.{Err, IfOk, IfSome, OnOk, vec_capacity};
-ghost use Rattle.outside.specs.Causes.{HasCause};
-ghost use Rattle.outside.specs.Disk.{ReadsAt};
 ghost use Rattle.gate_log.specs.Log.{OnlyReads, HasFaultCause};
 ghost use Rattle.gate_log.specs.Scan.{IsHead};
-ghost use Rattle.gate_log.specs.Chunk.{StandsAt, IsOf};
+ghost use Rattle.gate_log.specs.Chunk.{StandsAt, IsFront, IsOf};
 
 use crate::head::{HEAD_LEN, Head, head_of};
 use crate::{LogError, MAX_PAYLOAD};
-use outside::{Disk, Failed};
+use outside::Disk;
 use std::alloc::Global;
 use std::marker::Model;
 
 /// The most bytes that are read at once.
 const CHUNK_LEN: usize = HEAD_LEN + MAX_PAYLOAD;
 
-/// Fills a buffer with the bytes from this place on, and answers how many stand there.
-pub(crate) fn fill<D: Disk>(disk: &mut D, at: u64, out: &mut Vec<u8>) -> Result<usize, Failed>
-    ensures len { length out.new.items ≡ length out.old.items }
+/// Replaces `out` by the bytes from this place on, at most so many; after an error it holds
+/// anything.
+pub(crate) fn read_front<D: Disk>(
+    disk: &mut D,
+    at: u64,
+    most: usize,
+    out: &mut Vec<u8>,
+) -> Result<(), LogError>
+    ensures front { OnOk result (IfSome (D.bytes disk.old) (IsFront at most out.new.items)) }
+    ensures few { OnOk result (length out.new.items ≤ most) }
     ensures capacity { vec_capacity out.old ≤ vec_capacity out.new }
-    ensures value { ReadsAt (D.bytes disk.old) at result out.new.items }
+    ensures room { most ≤ vec_capacity out.old → result ≢ Err LogError.NoMemory }
     ensures only_read { OnlyReads D.bytes D.image disk.old disk.new }
     ensures reads { D.reads disk.new ≤ D.reads disk.old + 1 }
-    ensures cause { HasCause (D.faults disk.old) (D.faults disk.new) result }
+    ensures cause { HasFaultCause (D.faults disk.old) (D.faults disk.new) result }
+    ensures only { (result ≡ Err LogError.Full) → ⊥ }
+    ensures not_foreign { (at : ℕ) → (result ≡ Err (LogError.Foreign at)) → ⊥ }
 {
-    disk.read_at(at, out.as_mut_slice())
+    out.clear();
+    out.resize(most, 0)?;
+    let count = disk.read_at(at, out.as_mut_slice())?;
+    out.truncate(count);
+    Ok(())
 }
 
 /// Bytes of a disk that were read at once, from a place on.
@@ -73,19 +84,15 @@ impl Chunk {
     /// Replaces them by those from this place on.
     fn read<D: Disk>(&mut self, disk: &mut D, at: u64) -> Result<(), LogError>
         ensures place { OnOk result (self.new.place ≡ at) }
-        ensures read { OnOk result (IfSome (D.bytes disk.old) (λ b.
-            (length self.new.bytes ≡ min CHUNK_LEN (length b - at))
-            × StandsAt b at self.new.bytes)) }
+        ensures read { OnOk result (IfSome (D.bytes disk.old)
+            (IsFront at CHUNK_LEN self.new.bytes)) }
         ensures only_read { OnlyReads D.bytes D.image disk.old disk.new }
         ensures cause { HasFaultCause (D.faults disk.old) (D.faults disk.new) result }
         ensures only { (result ≡ Err LogError.Full) → ⊥ }
         ensures not_foreign { (at : ℕ) → (result ≡ Err (LogError.Foreign at)) → ⊥ }
     {
         self.place = at;
-        self.bytes.resize(CHUNK_LEN, 0)?;
-        let count = fill(disk, at, &mut self.bytes)?;
-        self.bytes.truncate(count);
-        Ok(())
+        read_front(disk, at, CHUNK_LEN, &mut self.bytes)
     }
 
     /// What stands at the gate of this place, which is read where it is not among them.

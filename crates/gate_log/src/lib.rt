@@ -12,6 +12,7 @@ mod error;
 mod head;
 pub mod laws;
 mod log;
+mod payload;
 mod scan;
 
 pub use bytes::{extend_reserved, u32_front};

@@ -14,9 +14,8 @@ ghost use Rattle.gate_log.specs.Log.{StandsOver, StaysUnborn, KeepsOneImage, Rea
 ghost use Rattle.gate_log.specs.Log.{HasNoPayload};
 
 use crate::bytes::extend_reserved;
-use crate::chunk::fill;
 use crate::commit::{commit, write_stable};
-use crate::head::{Head, head_at};
+use crate::payload::read_payload;
 use crate::scan::{Found, scan};
 use crate::{BIRTH_LEN, LogError, MAX_PAYLOAD};
 use outside::{Disk, Failed, MAX_DISK};
@@ -118,37 +117,6 @@ fn write_birth<D: Disk>(disk: &mut D, len: u64, birth: &[u8], staged: &[u8]) -> 
 {
     shut_first_gate(disk, len)?;
     commit(disk, 0, birth, staged)
-}
-
-/// Replaces `out` by a payload that stands at this place; after an error it holds anything.
-fn read_payload<D: Disk>(disk: &mut D, place: u64, out: &mut Vec<u8>) -> Result<(), LogError>
-    requires { place ≤ MAX_DISK }
-    ensures payload { OnOk result (ReadsPayload (D.bytes disk.old) place out.new.items) }
-    ensures sized { OnOk result (length out.new.items ≤ MAX_PAYLOAD) }
-    ensures capacity { vec_capacity out.old ≤ vec_capacity out.new }
-    ensures room { MAX_PAYLOAD ≤ vec_capacity out.old → result ≢ Err LogError.NoMemory }
-    ensures only_read { OnlyReads D.bytes D.image disk.old disk.new }
-    ensures reads { D.reads disk.new ≤ D.reads disk.old + 2 }
-    ensures cause { HasFaultCause (D.faults disk.old) (D.faults disk.new) result }
-    ensures only { (result ≡ Err LogError.Full) → ⊥ }
-    ensures foreign { (at : ℕ) → result ≡ Err (LogError.Foreign at) →
-        HasNoPayload (D.bytes disk.old) place }
-{
-    let foreign = Err(LogError::Foreign { at: place });
-    let Head::Open(len) = head_at(disk, place)? else {
-        return foreign;
-    };
-    let len = len as usize;
-    if len > MAX_PAYLOAD {
-        return foreign;
-    }
-    out.clear();
-    out.resize(len, 0)?;
-    let count = fill(disk, place + 5, out)?;
-    if count < len {
-        return foreign;
-    }
-    Ok(())
 }
 
 impl Log {
@@ -322,12 +290,13 @@ impl Log {
         place
     }
 
-    /// Replaces `out` by the payload that stands at this place. It makes two reads at most.
+    /// Replaces `out` by the payload that stands at this place. It makes one read where that has
+    /// 1,019 bytes at most, and else two.
     ///
     /// # Errors
     /// `Foreign` only where no record of the disk stands there; `DiskFault` only where the disk's
-    /// count of faults rose; `NoMemory` only where `out` has no room for 65,536 bytes. Then `out` is
-    /// empty.
+    /// count of faults rose; `NoMemory` only where `out` has no room for 65,536 bytes. Then `out`
+    /// is empty.
     pub fn read<D: Disk>(&self, disk: &mut D, place: u64, out: &mut Vec<u8>) -> Result<(), LogError>
         requires { place ≤ MAX_DISK }
         ensures payload { OnOk result (ReadsPayload (D.bytes disk.old) place out.new.items) }

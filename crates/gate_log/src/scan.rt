@@ -80,9 +80,9 @@ fn ended(count: u64, end: u64, size: u64) -> Found
     }
 }
 
-/// The length of a disk that had so many bytes, at a gate where this stands. It is asked again where
-/// a record there would pass it: to a file that a gateway lengthens meanwhile each record is written
-/// before its gate is opened.
+/// The length of a disk that had so many bytes, at a gate where this stands. It is asked again
+/// where a record there would pass it: to a file that a gateway lengthens meanwhile each record is
+/// written before its gate is opened.
 fn size_at<D: Disk>(disk: &mut D, size: u64, head: Head, at: u64) -> Result<u64, Failed>
     requires { at < MAX_DISK }
     ensures told { IfOk result (λ now. IfSome (D.bytes disk.old) (λ b.
