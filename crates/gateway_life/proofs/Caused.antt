@@ -330,8 +330,8 @@ module _ (one : (image : List ℕ) → HasOneReading image) where
       (olds news : List T) (names names' : Names) (t0 t1 t2 : Option (List ℕ))
       (i0 i1 i2 : List ℕ → Type 0) (old new : LifeState)
       → names' ≡ names
-      → IfSome t0 (λ b. Begins {T = LifeState} (λ life. life.engine.journal.entries) names b (Ok old))
-      → is_some t1 ≡ is_some t0 → (HasOneImage t0 i0 → HasOneImage t1 i1)
+      → IfSome t0 (λ b. Begins {T = LifeState} (λ life. life.engine.journal.entries) names b
+      (Ok old)) → is_some t1 ≡ is_some t0 → (HasOneImage t0 i0 → HasOneImage t1 i1)
       → is_some t2 ≡ is_some t1 → OnOk r (HasOneImage t1 i1 → HasOneImage t2 i2)
       → OnOk r (ForSome t2 (λ b. JournalOf b (Born names' new.engine.journal.entries)))
       → IfErr r (λ end. LeavesOf t1 i1 i2 names' (WereCommitted end new.engine.journal.entries))

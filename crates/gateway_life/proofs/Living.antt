@@ -294,8 +294,8 @@ module _ (one : (image : List ℕ) → HasOneReading image) where
           }) refl,
         )
 
-        at : (e : LifeEnd) → Begins {T = LifeState} (λ life. life.engine.journal.entries) config.names
-            bytes (Err e)
+        at : (e : LifeEnd) → Begins {T = LifeState} (λ life. life.engine.journal.entries)
+            config.names bytes (Err e)
             → Found e config before rounds did image
         at ends.Done begins = absurd begins
         at (ends.JournalRefused place) begins =
@@ -388,8 +388,8 @@ module _ (one : (image : List ℕ) → HasOneReading image) where
         life.entries,
         inl born,
         (λ done. born),
-        ToItsEnd refl (ends_done one config rounds b image before journal did rc0 rc1 rv0 rv1 km0 km1
-            d.client.0 (d.client.0 ++ did.client) d.venue.0 (d.venue.0 ++ did.venue) d.clock.0
+        ToItsEnd refl (ends_done one config rounds b image before journal did rc0 rc1 rv0 rv1 km0
+            km1 d.client.0 (d.client.0 ++ did.client) d.venue.0 (d.venue.0 ++ did.venue) d.clock.0
             (d.clock.0 ++ did.moments) d.client.1 d.client.2 d.venue.1 d.venue.2 d.clock.1
             d.clock.2 refl refl refl life.old life.before life.entries life.given life.last
             life.begins life.each life.moments life.done),
@@ -438,7 +438,8 @@ lived_unbegun (Err end) error names told i0 i1 r0 k0 Q is begins images = inl (r
   wires = refl;
   clock = refl;
   begins = subst (λ (e : LifeEnd). IfSome told (λ b.
-      Begins {T = LifeState} (λ life. life.engine.journal.entries) names b (Err e))) (sym is) begins;
+      Begins {T = LifeState} (λ life. life.engine.journal.entries) names b (Err e))) (sym is)
+      begins;
   images = images;
 })
 
@@ -477,8 +478,8 @@ pub lived_stopped : {T : Type 0} (r : Result T LifeEnd) (config config' : Config
     → world_of old.engine ≡ begun config old.engine.journal.entries
     → IfSome t0 (λ b. Begins {T = LifeState} (λ life. life.engine.journal.entries) config.names b
     (Ok old)) → is_some t1 ≡ is_some t0 → (HasOneImage t0 i0 → HasOneImage t1 i1)
-    → IfErr r (EndsEvent t1) → IfErr r (λ end. (given : List ℕ) × (last : ℕ) × (length given ≤ rounds)
-    × GrowsBy k0 k1 (given ++ last ∷ [])
+    → IfErr r (EndsEvent t1) → IfErr r (λ end. (given : List ℕ) × (last : ℕ)
+    × (length given ≤ rounds) × GrowsBy k0 k1 (given ++ last ∷ [])
     × LeavesOf t1 i1 i2 config'.names (LifeBroken end config' old given last r0 r1))
     → IfErr r (λ end. Q end ⊎ LifeStopped end config rounds t0 i0 i2 r0 r1 k0 k1)
 lived_stopped (Ok value) config config' rounds t0 t1 i0 i1 i2 old r0 r1 k0 k1 Q same world begins
@@ -628,8 +629,8 @@ unbegun_foreign R (Err end) names told rs moments h = if_foreign R
     (IsUntouched R rs rs moments moments) names told
     (λ read. record { disk = read; wires = refl; clock = refl }) (read_foreign R names told h)
 
-pub unbegun_refused : {T : Type 0} (R : Type 0) (r : Result T LifeEnd) (end : LifeEnd) (rs : Records)
-    (moments : Option (List ℕ)) → IsErrAnd r (λ e. e ≡ end) → IfRefused end R
+pub unbegun_refused : {T : Type 0} (R : Type 0) (r : Result T LifeEnd) (end : LifeEnd)
+    (rs : Records) (moments : Option (List ℕ)) → IsErrAnd r (λ e. e ≡ end) → IfRefused end R
     → IfErr r (λ e. IfRefused e (IsUntouched R rs rs moments moments))
 unbegun_refused R r end rs moments is h = refused_of (IsUntouched R rs rs moments moments) r end is
     (if_refused R (IsUntouched R rs rs moments moments) end

@@ -57,8 +57,8 @@ left_whole one (Ok value) names names' b t1 t2 i0 i1 i2 old new more same begins
 left_whole one (Err end) names names' b t1 t2 i0 i1 i2 old new more same begins told kept told'
     durable here left goes_on only before journal image at_exit =
     let found = leaves_from (Some b) t1 i0 i1 i2 names names'
-    (WereCommitted end new.engine.journal.entries) (WereCommitted end new.engine.journal.entries) told
-    kept same (λ xs h. h) left only image at_exit in (
+    (WereCommitted end new.engine.journal.entries) (WereCommitted end new.engine.journal.entries)
+    told kept same (λ xs h. h) left only image at_exit in (
       found.0,
       inl found.1,
       subst (λ l. WereCommitted end l found.0) (goes_on ∙ ap (λ l. l ++ more)
@@ -103,8 +103,8 @@ module _ (one : (image : List ℕ) → HasOneReading image) {T : Type 0} (state 
   pub taps_whole : {V : Type 0} (r : Result V LifeEnd) (olds news : List T) (names names' : Names)
       (t0 t1 t2 : Option (List ℕ)) (i0 i1 i2 : List ℕ → Type 0) (old new : LifeState)
       → names' ≡ names
-      → IfSome t0 (λ b. Begins {T = LifeState} (λ life. life.engine.journal.entries) names b (Ok old))
-      → is_some t1 ≡ is_some t0 → (HasOneImage t0 i0 → HasOneImage t1 i1)
+      → IfSome t0 (λ b. Begins {T = LifeState} (λ life. life.engine.journal.entries) names b
+      (Ok old)) → is_some t1 ≡ is_some t0 → (HasOneImage t0 i0 → HasOneImage t1 i1)
       → is_some t2 ≡ is_some t1 → OnOk r (HasOneImage t1 i1 → HasOneImage t2 i2)
       → OnOk r (ForSome t2 (λ b. JournalOf b (Born names' new.engine.journal.entries)))
       → IfErr r (λ end. LeavesOf t1 i1 i2 names' (WereCommitted end new.engine.journal.entries))

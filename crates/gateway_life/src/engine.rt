@@ -1,7 +1,7 @@
 //! One event: what it decides is committed, and then it is sent.
 
-ghost use Rattle.std.specs.Prelude.{◌≡◌, ◌⊎◌, ◌≤◌, ◌++◌, Some, Ok, IfOk, IfErr, IfSome, OnOk, OnErr};
-ghost use Rattle.std.specs.Prelude.{◌≢◌, Err, false, is_some};
+ghost use Rattle.std.specs.Prelude.{◌≡◌, ◌⊎◌, ◌≤◌, ◌++◌, Some, Ok, IfOk, IfErr, IfSome, OnOk};
+ghost use Rattle.std.specs.Prelude.{OnErr, ◌≢◌, Err, false, is_some};
 ghost use Rattle.std.specs.Prelude.{IsOkUnless, [], ◌∷◌, true, ◌<◌, ◌-◌, length, take};
 ghost use Rattle.std.specs.Prelude.{if◌then◌else◌};
 ghost use Rattle.std.specs.Option.{ForSome, option_to_list};
@@ -299,23 +299,25 @@ impl Engine {
         ensures config { self.new.core.config ≡ self.old.core.config }
         ensures ready { OnOk result (Ready (seen self.new) (D.bytes disk.new)
             (C.recorded client.new) (V.recorded venue.new)) }
-        ensures client_acts { OnOk result (IfTold (D.bytes disk.old) (Acted (C.recorded client.old) (C.recorded client.new)
-            self.old.client_up (pieces_to names.now Side.Client
-            self.old.journal.entries (event_of event.now) now (made_of made.now self.old.core))
-            (hung_side Side.Client made.now.hang_up) self.new.client_up)) }
-        ensures venue_acts { OnOk result (IfTold (D.bytes disk.old) (Acted (V.recorded venue.old) (V.recorded venue.new)
-            self.old.venue_up (pieces_to names.now Side.Venue
-            self.old.journal.entries (event_of event.now) now (made_of made.now self.old.core))
-            (hung_side Side.Venue made.now.hang_up) self.new.venue_up)) }
+        ensures client_acts { OnOk result (IfTold (D.bytes disk.old)
+            (Acted (C.recorded client.old) (C.recorded client.new) self.old.client_up
+            (pieces_to names.now Side.Client self.old.journal.entries (event_of event.now) now
+            (made_of made.now self.old.core)) (hung_side Side.Client made.now.hang_up)
+            self.new.client_up)) }
+        ensures venue_acts { OnOk result (IfTold (D.bytes disk.old)
+            (Acted (V.recorded venue.old) (V.recorded venue.new) self.old.venue_up
+            (pieces_to names.now Side.Venue self.old.journal.entries (event_of event.now) now
+            (made_of made.now self.old.core)) (hung_side Side.Venue made.now.hang_up)
+            self.new.venue_up)) }
         ensures sessions { OnOk result (sessions_in self.new.core ≡ both_standing
             self.new.client_up self.new.venue_up (sessions_in self.old.core)) }
-        ensures client_part { OnErr result (IfTold (D.bytes disk.old) (FrontSent (C.recorded client.old)
-            (C.recorded client.new) self.old.client_up (pieces_to names.now
-            Side.Client self.old.journal.entries (event_of event.now) now
+        ensures client_part { OnErr result (IfTold (D.bytes disk.old)
+            (FrontSent (C.recorded client.old) (C.recorded client.new) self.old.client_up
+            (pieces_to names.now Side.Client self.old.journal.entries (event_of event.now) now
             (made_of made.now self.old.core)))) }
-        ensures venue_part { OnErr result (IfTold (D.bytes disk.old) (FrontSent (V.recorded venue.old)
-            (V.recorded venue.new) self.old.venue_up (pieces_to names.now
-            Side.Venue self.old.journal.entries (event_of event.now) now
+        ensures venue_part { OnErr result (IfTold (D.bytes disk.old)
+            (FrontSent (V.recorded venue.old) (V.recorded venue.new) self.old.venue_up
+            (pieces_to names.now Side.Venue self.old.journal.entries (event_of event.now) now
             (made_of made.now self.old.core)))) }
         ensures only_read { OnlyReads D.bytes D.image disk.old disk.new }
         ensures cause { HasDiskCause (D.faults disk.old) (D.faults disk.new) result }
@@ -395,7 +397,8 @@ impl Engine {
         ensures config { self.new.core.config ≡ self.old.core.config }
         ensures ready { OnOk result (Ready (seen self.new) (D.bytes disk.new)
             (C.recorded client.new) (V.recorded venue.new)) }
-        ensures happens { OnOk result (IfTold (D.bytes disk.old) (Stepped self.old.core.config (world_of (seen self.old))
+        ensures happens { OnOk result (IfTold (D.bytes disk.old)
+            (Stepped self.old.core.config (world_of (seen self.old))
             (event_of event.now) now (world_of (seen self.new))
             (records (C.recorded client.old) (V.recorded venue.old))
             (records (C.recorded client.new) (V.recorded venue.new)))) }
@@ -406,7 +409,8 @@ impl Engine {
             (world_of (seen self.old)) (event_of event.now) now
             (records (C.recorded client.old) (V.recorded venue.old))
             (records (C.recorded client.new) (V.recorded venue.new)))) }
-        ensures why { IfErr result (λ end. IfTold (D.bytes disk.old) (IsWhy end self.old.core.config (world_of (seen self.old))
+        ensures why { IfErr result (λ end. IfTold (D.bytes disk.old)
+            (IsWhy end self.old.core.config (world_of (seen self.old))
             (event_of event.now) now)) }
         ensures taps { Watched (state_by has_failed entries tally counts_all refused)
             taps.old.items taps.new.items self.old.journal.entries
@@ -464,7 +468,8 @@ impl Engine {
         ensures config { self.new.core.config ≡ self.old.core.config }
         ensures ready { OnOk result (Ready (seen self.new) (D.bytes disk.new)
             (C.recorded client.new) (V.recorded venue.new)) }
-        ensures happens { OnOk result (IfTold (D.bytes disk.old) (Stepped self.old.core.config (world_of (seen self.old))
+        ensures happens { OnOk result (IfTold (D.bytes disk.old)
+            (Stepped self.old.core.config (world_of (seen self.old))
             (Tick side) now (world_of (seen self.new))
             (records (C.recorded client.old) (V.recorded venue.old))
             (records (C.recorded client.new) (V.recorded venue.new)))) }

@@ -132,7 +132,8 @@ impl Life {
             (C.recorded client.new) (V.recorded venue.new)) }
         ensures round { OnOk result ((m : ℕ)
             × GrowsBy (K.moments clock.old) (K.moments clock.new) (m ∷ [])
-            × IfTold (D.bytes disk.old) (RoundDone self.old.engine.core.config self.old self.new (moment_of m)
+            × IfTold (D.bytes disk.old)
+            (RoundDone self.old.engine.core.config self.old self.new (moment_of m)
             (records (C.recorded client.old) (V.recorded venue.old))
             (records (C.recorded client.new) (V.recorded venue.new)))) }
         ensures ends { IfErr result (λ end. (m : ℕ)
@@ -206,8 +207,9 @@ impl Life {
             (C.recorded client.new) (V.recorded venue.new)) }
         ensures finish { OnOk result ((m : ℕ)
             × GrowsBy (K.moments clock.old) (K.moments clock.new) (m ∷ [])
-            × IfTold (D.bytes disk.old) (AllStepped self.old.engine.core.config (world_of self.old.engine) ends_of (moment_of m)
-            (world_of self.new.engine) (records (C.recorded client.old) (V.recorded venue.old))
+            × IfTold (D.bytes disk.old) (AllStepped self.old.engine.core.config
+            (world_of self.old.engine) ends_of (moment_of m) (world_of self.new.engine)
+            (records (C.recorded client.old) (V.recorded venue.old))
             (records (C.recorded client.new) (V.recorded venue.new)))) }
         ensures ends { IfErr result (λ end. (m : ℕ)
             × GrowsBy (K.moments clock.old) (K.moments clock.new) (m ∷ [])
@@ -258,7 +260,8 @@ impl Life {
             (C.recorded client.new) (V.recorded venue.new)) }
         ensures done { OnOk result ((given : List ℕ) × (length given ≡ rounds)
             × GrowsBy (K.moments clock.old) (K.moments clock.new) given
-            × IfTold (D.bytes disk.old) (RoundsDone self.old.engine.core.config self.old self.new given
+            × IfTold (D.bytes disk.old)
+            (RoundsDone self.old.engine.core.config self.old self.new given
             (records (C.recorded client.old) (V.recorded venue.old))
             (records (C.recorded client.new) (V.recorded venue.new)))) }
         ensures ends { IfErr result (λ end. (given : List ℕ) × (last : ℕ)
@@ -363,7 +366,8 @@ fn lived<D: Disk, C: Wire, V: Wire, K: Clock>(
 ) -> Result<(), LifeEnd>
     requires client { Agrees (C.recorded client.old) false }
     requires venue { Agrees (V.recorded venue.old) false }
-    ensures done { OnOk result (IfTold (D.bytes disk.old) (LifeWhole config.now rounds (D.bytes disk.old) (D.bytes disk.new)
+    ensures done { OnOk result (IfTold (D.bytes disk.old)
+        (LifeWhole config.now rounds (D.bytes disk.old) (D.bytes disk.new)
         (records (C.recorded client.old) (V.recorded venue.old))
         (records (C.recorded client.new) (V.recorded venue.new))
         (K.moments clock.old) (K.moments clock.new))) }

@@ -64,7 +64,8 @@ fn frame_event<D: Disk, C: Wire, V: Wire>(
     ensures config { engine.new.core.config ≡ engine.old.core.config }
     ensures ready { OnOk result (Ready (seen engine.new) (D.bytes disk.new)
         (C.recorded client.new) (V.recorded venue.new)) }
-    ensures happens { OnOk result (IfTold (D.bytes disk.old) (SteppedOrNot engine.old.core.config (world_of (seen engine.old))
+    ensures happens { OnOk result (IfTold (D.bytes disk.old)
+        (SteppedOrNot engine.old.core.config (world_of (seen engine.old))
         (Frame side body.now) now (world_of (seen engine.new))
         (records (C.recorded client.old) (V.recorded venue.old))
         (records (C.recorded client.new) (V.recorded venue.new)))) }
@@ -119,7 +120,8 @@ fn take_frames<D: Disk, C: Wire, V: Wire>(
     ensures stands { OnOk result ((stream : List ℕ) × (answered : List Piece)
         × StandsFor framer.new stream answered) }
     ensures room { OnOk result (LEAST_ROOM ≤ room framer.new) }
-    ensures taken { OnOk result (IfTold (D.bytes disk.old) (TakenAll framer.old framer.new engine.old.core.config
+    ensures taken { OnOk result (IfTold (D.bytes disk.old)
+        (TakenAll framer.old framer.new engine.old.core.config
         (world_of (seen engine.old)) side now (world_of (seen engine.new))
         (records (C.recorded client.old) (V.recorded venue.old))
         (records (C.recorded client.new) (V.recorded venue.new)))) }
@@ -186,7 +188,8 @@ fn arrived<D: Disk, C: Wire, V: Wire>(
     ensures ready { OnOk result (Ready (seen engine.new) (D.bytes disk.new)
         (C.recorded client.new) (V.recorded venue.new)) }
     ensures drained { OnOk result (IsDrained side framer.new) }
-    ensures arrived { OnOk result (IfTold (D.bytes disk.old) (Arrived framer.old framer.new (came_of found buf.now)
+    ensures arrived { OnOk result (IfTold (D.bytes disk.old)
+        (Arrived framer.old framer.new (came_of found buf.now)
         engine.old.core.config (world_of (seen engine.old)) side now (world_of (seen engine.new))
         (records (C.recorded client.old) (V.recorded venue.old))
         (records (C.recorded client.new) (V.recorded venue.new)))) }
@@ -309,7 +312,8 @@ pub(crate) fn turn<D: Disk, C: Wire, V: Wire>(
     ensures ready { OnOk result (Ready (seen engine.new) (D.bytes disk.new)
         (C.recorded client.new) (V.recorded venue.new)) }
     ensures drained { OnOk result (IsDrained side framer.new) }
-    ensures turn { OnOk result (IfTold (D.bytes disk.old) (Turned side framer.old framer.new engine.old.core.config
+    ensures turn { OnOk result (IfTold (D.bytes disk.old)
+        (Turned side framer.old framer.new engine.old.core.config
         (world_of (seen engine.old)) now (world_of (seen engine.new))
         (records (C.recorded client.old) (V.recorded venue.old))
         (records (C.recorded client.new) (V.recorded venue.new)))) }

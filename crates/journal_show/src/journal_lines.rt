@@ -1,6 +1,7 @@
 //! The lines of a journal: its entries are read one by one, and the line of each is put.
 
-ghost use Rattle.std.specs.Prelude.{◌≡◌, ◌≢◌, ◌+◌, ◌<◌, ◌^◌, ℕ, length, Some, Err, IfSome, OnOk, OnErr};
+ghost use Rattle.std.specs.Prelude.{◌≡◌, ◌≢◌, ◌+◌, ◌<◌, ◌^◌, ℕ, length, Some, Err, IfSome, OnOk};
+ghost use Rattle.std.specs.Prelude.{OnErr};
 ghost use Rattle.std.specs.List.{slice_get};
 ghost use Rattle.std.specs.Option.{ForSome};
 ghost use Rattle.outside.specs.Bytes.{PutAppends};
@@ -124,10 +125,10 @@ fn put_entries<D: Disk, O: Sink>(
 /// where the disk is unborn. Each line is one put, and the disk is only read.
 ///
 /// # Errors
-/// `JournalRefused` exactly where the bytes are refused at that place, where the disk tells them, and
-/// then nothing was put;
-/// `DiskFault` and `OutputFault` only where the count of faults of the disk or of the sink rose in
-/// this call; `NoMemory`. What was put is then nothing or a front of the lines.
+/// `JournalRefused` exactly where the bytes are refused at that place, where the disk tells them,
+/// and then nothing was put; `DiskFault` and `OutputFault` only where the count of faults of the
+/// disk or of the sink rose in this call; `NoMemory`. What was put is then nothing or a front of
+/// the lines.
 pub fn show<D: Disk, O: Sink>(alloc: Global, disk: &mut D, out: &mut O) -> Result<(), ShowError>
     ensures shows { IfSome (D.bytes disk.old) (λ b.
         Shows b result (O.bytes out.old) (O.bytes out.new)) }

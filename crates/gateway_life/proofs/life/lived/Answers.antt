@@ -28,10 +28,11 @@ returns-clause-only g c =
 
 pub returns-clause-ends : goal.returns-clause-ends
 returns-clause-ends g c =
-    lived_stopped c.whole.result c.args.config.now c.in_ok-life.life.engine.core.config c.args.rounds
-    (g.D.Disk.bytes c.args.disk.now) (g.D.Disk.bytes c.begin.new.disk) _ _ _ c.in_ok-life.life _ _
-    _ _ _ c.in_ok-life.ensures.config c.in_ok-life.ensures.begun c.in_ok-life.ensures.begins
-    c.begin.ensures.told c.in_ok-life.ensures.durable c.whole.ensures.only c.whole.ensures.ends
+    lived_stopped c.whole.result c.args.config.now c.in_ok-life.life.engine.core.config
+    c.args.rounds (g.D.Disk.bytes c.args.disk.now) (g.D.Disk.bytes c.begin.new.disk) _ _ _
+    c.in_ok-life.life _ _ _ _ _ c.in_ok-life.ensures.config c.in_ok-life.ensures.begun
+    c.in_ok-life.ensures.begins c.begin.ensures.told c.in_ok-life.ensures.durable
+    c.whole.ensures.only c.whole.ensures.ends
 
 pub returns-in_err-life-clause-taps : goal.returns-in_err-life-clause-taps
 returns-in_err-life-clause-taps g c =
@@ -67,8 +68,8 @@ returns-clause-journal_cause g c =
 
 pub returns-in_err-life-clause-foreign : goal.returns-in_err-life-clause-foreign
 returns-in_err-life-clause-foreign g c =
-    unbegun_foreign _ c.from_residual.result c.args.config.now.names (g.D.Disk.bytes c.args.disk.now)
-    _ _ c.begin.ensures.only_unborn_is_written
+    unbegun_foreign _ c.from_residual.result c.args.config.now.names
+    (g.D.Disk.bytes c.args.disk.now) _ _ c.begin.ensures.only_unborn_is_written
 
 pub returns-clause-foreign : goal.returns-clause-foreign
 returns-clause-foreign g c =

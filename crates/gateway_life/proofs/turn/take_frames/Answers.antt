@@ -39,8 +39,8 @@ returns-in-More-clause-stands g c =
 
 pub returns-in-More-clause-taken : goal.returns-in-More-clause-taken
 returns-in-More-clause-taken g c = λ t.
-    taken_all c.args.engine.now.core.config c.args.framer.now c.frames.framer c.next.new.self _ _ _ _
-    _ _ (c.frames.invariant.taken t) c.in-More.ensures.answers
+    taken_all c.args.engine.now.core.config c.args.framer.now c.frames.framer c.next.new.self _ _ _
+    _ _ _ (c.frames.invariant.taken t) c.in-More.ensures.answers
 
 pub frames-preserved-in-Garbled : goal.frames-preserved-in-Garbled
 frames-preserved-in-Garbled g c =

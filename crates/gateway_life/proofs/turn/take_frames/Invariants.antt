@@ -23,8 +23,9 @@ invariant-frames g l = record {
       (g.V.Wire.recorded l.venue);
   kind : l.framer.kind ≡ l.initial.framer.kind;
   stands : (stream : List ℕ) × (answered : List Piece) × StandsFor l.framer stream answered;
-  taken : is_some (g.D.Disk.bytes l.initial.disk) ≡ true → Taken l.initial.framer l.framer l.initial.engine.core.config
-      (world_of (seen l.initial.engine)) l.side l.now (world_of (seen l.engine))
+  taken : is_some (g.D.Disk.bytes l.initial.disk) ≡ true → Taken l.initial.framer l.framer
+      l.initial.engine.core.config (world_of (seen l.initial.engine)) l.side l.now
+      (world_of (seen l.engine))
       (records (g.C.Wire.recorded l.initial.client) (g.V.Wire.recorded l.initial.venue))
       (records (g.C.Wire.recorded l.client) (g.V.Wire.recorded l.venue));
   told : is_some (g.D.Disk.bytes l.disk) ≡ is_some (g.D.Disk.bytes l.initial.disk);

@@ -19,7 +19,7 @@ loop-number-init g c = record {
   faults = refl;
   polls = refl;
   plays = λ script plays. plays;
-  walk = λ b e. c.walk.ensures.outs c.args.again.side c.args.again.from c.requires.from;
+  walk = λ b e. c.walk-walk.ensures.outs c.args.again.side c.args.again.from c.requires.from;
   sent = λ b e. begin_repeat _ _ _ _;
 }
 

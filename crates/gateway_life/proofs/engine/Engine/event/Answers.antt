@@ -49,7 +49,8 @@ returns-in_err-act-clause-ends g c =
     (g.D.Disk.bytes c.args.disk.now) (g.D.Disk.image c.args.disk.now)
     (g.D.Disk.image c.act.new.disk) config w (event_of c.args.event.now) c.args.now r0 r1
     c.from_residual-in_err-act.ensures.1
-    (only_fault _ c.in_err-act.field-0.0 t1 c.in_err-act.ensures.only c.in_err-act.ensures.no_memory)
+    (only_fault _ c.in_err-act.field-0.0 t1 c.in_err-act.ensures.only
+    c.in_err-act.ensures.no_memory)
     (broken_parts (g.D.Disk.bytes c.args.disk.now) (g.D.Disk.image c.decide.new.disk)
     (g.D.Disk.image c.act.new.disk) config w (event_of c.args.event.now) c.args.now
     (made_of c.in_ok-made.made c.decide.new.self.core) c.names-names.result

@@ -12,8 +12,8 @@ pub returns-in_err-event-clause-ends : goal.returns-in_err-event-clause-ends
 returns-in_err-event-clause-ends g c =
     let at = c.moment-now.ensures.given in
     rw (← c.self.view_is) (finish_client c.from_residual.result c.in_err-event.field-0.0
-    c.self.inside.engine.core.config (world_of (seen c.self.inside.engine)) c.moment-now.result at.0 _ _
-    (g.D.Disk.bytes c.args.disk.now) _ _ _ _ c.from_residual.ensures.1 at.1 at.2
+    c.self.inside.engine.core.config (world_of (seen c.self.inside.engine)) c.moment-now.result at.0
+    _ _ (g.D.Disk.bytes c.args.disk.now) _ _ _ _ c.from_residual.ensures.1 at.1 at.2
     c.in_err-event.ensures.ends)
 
 pub returns-clause-finish : goal.returns-clause-finish
@@ -22,9 +22,9 @@ returns-clause-finish g c =
     rw (← c.self.view_is) (finish_ok c.event-2.result c.self.inside.engine.core.config
     c.event.new.self.core.config
     (world_of (seen c.self.inside.engine)) (world_of (seen c.event.new.self))
-    (world_of (seen c.event-2.new.self)) c.moment-now.result at.0 _ _ (g.D.Disk.bytes c.args.disk.now)
-    (g.D.Disk.bytes c.event.new.disk) _ _ _ c.event.ensures.config at.1 at.2 c.event.ensures.told
-    c.in_ok-event.ensures.happens c.event-2.ensures.happens)
+    (world_of (seen c.event-2.new.self)) c.moment-now.result at.0 _ _
+    (g.D.Disk.bytes c.args.disk.now) (g.D.Disk.bytes c.event.new.disk) _ _ _ c.event.ensures.config at.1 at.2
+    c.event.ensures.told c.in_ok-event.ensures.happens c.event-2.ensures.happens)
 
 pub returns-in_err-event-clause-only : goal.returns-in_err-event-clause-only
 returns-in_err-event-clause-only g c =
@@ -41,8 +41,8 @@ returns-clause-ends g c =
     let at = c.moment-now.ensures.given in
     rw (← c.self.view_is) (finish_venue c.event-2.result c.self.inside.engine.core.config
     c.event.new.self.core.config
-    (world_of (seen c.self.inside.engine)) (world_of (seen c.event.new.self)) c.moment-now.result at.0
-    _ _ (g.D.Disk.bytes c.args.disk.now) (g.D.Disk.bytes c.event.new.disk) _ _ _ _ _ _
+    (world_of (seen c.self.inside.engine)) (world_of (seen c.event.new.self)) c.moment-now.result
+    at.0 _ _ (g.D.Disk.bytes c.args.disk.now) (g.D.Disk.bytes c.event.new.disk) _ _ _ _ _ _
     c.event.ensures.config at.1 at.2 c.event.ensures.told c.in_ok-event.ensures.durable
     c.in_ok-event.ensures.happens c.event-2.ensures.ends)
 
