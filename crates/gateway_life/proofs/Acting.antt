@@ -1,7 +1,7 @@
 -- What an event does on the wires, part after part.
 use Rattle.std.proofs.Common.{◌≡◌, ℕ, Bool, true, false, List, [], ◌++◌, refl, sym, ◌∙◌, ap}
 use Rattle.std.proofs.Common.{subst, append_assoc, Some, None, inl, inr, Ok, Err}
-use Rattle.std.specs.Prelude.{map, ◌&&◌, Result, OnErr, IfErr, IsErrAnd}
+use Rattle.std.specs.Prelude.{map, ◌&&◌, Result, IfErr, IsErrAnd}
 use Rattle.std.specs.declared.option.Option.{Option}
 use Rattle.std.specs.Option.{option_to_list, ForSome}
 use Rattle.std.proofs.lemmas.List.{map-append}
@@ -36,10 +36,6 @@ use Rattle.gateway_life.specs.Fails.{IsWhy, FailsBy}
 use Rattle.gateway_life.specs.Stepped.{Records, records, Grew, Stepped, MayStand, Broken}
 use Rattle.wire_sends.proofs.Sendings.{sent_append, sent_none, grows_append, grows_none}
 use Rattle.wire_sends.proofs.Sendings.{sends_none}
-
-pub on_err : {T E P : Type 0} (r : Result T E) → P → OnErr r P
-on_err (Ok x) p = tt
-on_err (Err e) p = p
 
 pub acted : (a b c d : Option (List WireCall)) (up mid still after hang_up : Bool)
     (frame : Form → List ℕ) (xs ys : List Form) → Sent a b up (map frame xs) mid

@@ -10,7 +10,7 @@ use Rattle.order_meaning.specs.declared.names.Names.{Names}
 use Rattle.pair_journal.specs.declared.error.JournalError.{JournalError}
 use Rattle.pair_journal.specs.declared.error.JournalError.TheVariants as errors
 use Rattle.pair_entries.specs.declared.entry.Entry.{Entry}
-use Rattle.pair_journal.specs.Calls.{Loads, BornOrNot, ReadsOnly}
+use Rattle.pair_journal.specs.Calls.{Loads, BornOrNot}
 use Rattle.pair_journal.specs.Journal.{JournalOf, Unborn, Born, AreEntries}
 use Rattle.pair_journal.specs.Numbers.{first_numbers}
 use Rattle.pair_journal.specs.State.{JournalState}
@@ -36,23 +36,6 @@ begins_err entries names (Some b) now (errors.NamesDiffer kept given) h = (h.0, 
 begins_err entries names (Some b) now errors.Full h = absurd h
 begins_err entries names (Some b) now errors.NoMemory h = tt
 
--- an error of the core
-pub begins_core : {T V : Type 0} (entries : T → List Entry) (names : Names)
-    (told : Option (List ℕ)) (r : Result V JournalError) (error : JournalError)
-    → r ≡ Err error → ReadsOnly r
-    → IfSome told (λ b. Begins entries names b (Err (end_of error)))
-begins_core entries names None r error is only = tt
-begins_core {T} {V} entries names (Some b) r error is only =
-    at error (subst (ReadsOnly {T = V}) is only)
-  where
-    at : (e : JournalError) → ReadsOnly {T = V} (Err e)
-        → Begins entries names b (Err (end_of e))
-    at errors.DiskFault h = tt
-    at (errors.Refused place) h = absurd h
-    at (errors.NamesDiffer kept given) h = absurd h
-    at errors.Full h = absurd h
-    at errors.NoMemory h = tt
-
 pub begins_ok : {T : Type 0} (entries : T → List Entry) (names : Names) (told : Option (List ℕ))
     (now : Option (List ℕ)) (journal : JournalState) (made : T) → entries made ≡ journal.entries
     → IfSome told (λ b. Loads names b (Ok journal) now)
@@ -77,11 +60,6 @@ born_same (Some b) image names = λ only c left. (
   λ kept entries born.
       subst (λ (d : List ℕ). JournalOf d (Born kept entries)) (sym (only c left)) born,
 )
-
-pub born_read : (told : Option (List ℕ)) (i0 i1 i2 : List ℕ → Type 0) (names : Names)
-    → AreAmong i2 i1 → BornOrNot told i0 i1 names → BornOrNot told i0 i2 names
-born_read None i0 i1 i2 names among h = tt
-born_read (Some b) i0 i1 i2 names among h = λ only c left. h only c (among c left)
 
 pub one_read : (t1 t2 : Option (List ℕ)) (i1 i2 : List ℕ → Type 0) → t2 ≡ t1 → AreAmong i2 i1
     → HasOneImage t1 i1 → HasOneImage t2 i2
@@ -142,34 +120,11 @@ refused_by R r (errors.NamesDiffer kept given) is at_place differ = differ kept 
 refused_by R r errors.Full is at_place differ = tt
 refused_by R r errors.NoMemory is at_place differ = tt
 
--- an error of a call that only reads is no refusal
-pub refused_never : {V : Type 0} (R : Type 0) (r : Result V JournalError) (error : JournalError)
-    → r ≡ Err error → ReadsOnly r → IfRefused (end_of error) R
-refused_never {V} R r error is only = at error (subst (ReadsOnly {T = V}) is only)
-  where
-    at : (e : JournalError) → ReadsOnly {T = V} (Err e) → IfRefused (end_of e) R
-    at errors.DiskFault h = tt
-    at (errors.Refused place) h = absurd h
-    at (errors.NamesDiffer kept given) h = absurd h
-    at errors.Full h = tt
-    at errors.NoMemory h = tt
-
 pub refused_of : {T : Type 0} (R : Type 0) (r : Result T LifeEnd) (end : LifeEnd)
     → IsErrAnd r (λ e. e ≡ end) → IfRefused end R → IfErr r (λ e. IfRefused e R)
 refused_of R (Ok value) end is refused = tt
 refused_of R (Err e) end is refused =
     subst (λ (x : LifeEnd). IfRefused x R) (sym is) refused
-
-pub read_on : (a b c : Option (List ℕ)) (i j k : List ℕ → Type 0)
-    → IfSome a (λ x. JournalOf x Unborn ⊎ OnlyRead a b i j) → OnlyRead b c j k
-    → IfSome a (λ x. JournalOf x Unborn ⊎ OnlyRead a c i k)
-read_on None b c i j k first later = tt
-read_on (Some x) b c i j k (inl unborn) later = inl unborn
-read_on (Some x) b c i j k (inr read) later = inr (record {
-  same = later.same ∙ read.same;
-  images = λ d left. read.images d (later.images d left);
-  kept = λ d left. later.kept d (read.kept d left);
-})
 
 -- a disk that was left alone was only read
 pub untouched : (told : Option (List ℕ)) (image : List ℕ → Type 0)

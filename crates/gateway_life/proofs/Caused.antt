@@ -277,20 +277,20 @@ module _ (enough : IsEnough) (counted : IsCounted) where
 
 -- an event of which not all could be read fails by the disk
 pub act_cause : {T : Type 0} (r : Result T LifeEnd) (error : JournalError) (names : Names)
-    (entries : List Entry) {told : Option (List ℕ)} → IsErrAnd r (λ e. e ≡ end_of error)
-    → RefusedUntold told (Err {T = Unit {0}} error) → (error ≡ errors.NoMemory → ⊥)
+    (entries : List Entry) (told : Option (List ℕ)) → IsErrAnd r (λ e. e ≡ end_of error)
+    → RefusedUntold {T = Unit {0}} told (Err error)
     → IfErr r (λ end. IsCause end names entries)
-act_cause (Ok value) error names entries is only memory = tt
-act_cause (Err end) error names entries is only memory =
-    subst (λ (e : LifeEnd). IsCause e names entries) (sym is) (at error only memory)
+act_cause (Ok value) error names entries told is only = tt
+act_cause (Err end) error names entries told is only =
+    subst (λ (e : LifeEnd). IsCause e names entries) (sym is) (at error only)
   where
-    at : (e : JournalError) → RefusedUntold told (Err {T = Unit {0}} e)
-        → (e ≡ errors.NoMemory → ⊥) → IsCause (end_of e) names entries
-    at errors.DiskFault only memory = tt
-    at (errors.Refused place) only memory = tt
-    at (errors.NamesDiffer kept given) only memory = tt
-    at errors.Full only memory = absurd only
-    at errors.NoMemory only memory = tt
+    at : (e : JournalError) → RefusedUntold {T = Unit {0}} told (Err e)
+        → IsCause (end_of e) names entries
+    at errors.DiskFault only = tt
+    at (errors.Refused place) only = tt
+    at (errors.NamesDiffer kept given) only = tt
+    at errors.Full only = absurd only
+    at errors.NoMemory only = tt
 
 -- ---- of a whole life
 

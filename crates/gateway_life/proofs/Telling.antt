@@ -1,6 +1,6 @@
 -- What holds where a disk tells its bytes.
 use Rattle.std.proofs.Common.{◌≡◌, true, List, ℕ, refl, sym, ◌∙◌, subst, Some, None, Ok, Err}
-use Rattle.std.specs.Prelude.{Result, OnOk, IfErr, IfSome, IsErrAnd, is_some}
+use Rattle.std.specs.Prelude.{Result, OnOk, OnErr, IfErr, IfSome, IsErrAnd, is_some}
 use Rattle.std.specs.declared.option.Option.{Option}
 use Rattle.std.specs.Option.{ForSome}
 use Rattle.order_meaning.specs.declared.names.Names.{Names}
@@ -28,10 +28,15 @@ pub ok_if : {T E : Type 0} (r : Result T E) (t0 t1 : Option (List ℕ)) (P Q : T
 ok_if (Ok value) t0 t1 P Q same f h = λ t. f (h (same ∙ t))
 ok_if (Err error) t0 t1 P Q same f h = tt
 
-pub ok_told : {T E : Type 0} (r : Result T E) {told : Option (List ℕ)} (P Q : Type 0)
+pub ok_told : {T E : Type 0} (r : Result T E) (told : Option (List ℕ)) (P Q : Type 0)
     → (OnOk r P → OnOk r Q) → OnOk r (IfTold told P) → OnOk r (IfTold told Q)
-ok_told (Ok value) P Q f h = λ t. f (h t)
-ok_told (Err error) P Q f h = tt
+ok_told (Ok value) told P Q f h = λ t. f (h t)
+ok_told (Err error) told P Q f h = tt
+
+pub on_err_told : {T E : Type 0} (r : Result T E) (told : Option (List ℕ)) (P : Type 0)
+    → IfTold told P → OnErr r (IfTold told P)
+on_err_told (Ok value) told P h = tt
+on_err_told (Err error) told P h = h
 
 pub leaves_told : (told : Option (List ℕ)) (i0 i1 : List ℕ → Type 0) (names : Names)
     (P : List Entry → Type 0) → (is_some told ≡ true → LeavesOf told i0 i1 names P)
@@ -53,34 +58,32 @@ if_told (Some b) Q h = h refl
 
 -- ---- how an event ends a life
 
+no_bytes : (told : Option (List ℕ)) → is_some told ≡ true → told ≡ None → ⊥
+no_bytes None t none = cc t
+no_bytes (Some b) t none = cc none
+
 -- a read that failed over such a disk
 pub only_fault : (told : Option (List ℕ)) (error : JournalError) → is_some told ≡ true
-    → RefusedUntold told (Err {T = Unit {0}} error) → (error ≡ errors.NoMemory → ⊥)
+    → RefusedUntold {T = Unit {0}} told (Err error) → (error ≡ errors.NoMemory → ⊥)
     → error ≡ errors.DiskFault
 only_fault told errors.DiskFault t only memory = refl
-only_fault told (errors.Refused at) t only memory =
-    let none : is_some {A = List ℕ} None ≡ true = subst (λ o. is_some o ≡ true) only t in
-    absurd (cc none)
+only_fault told (errors.Refused place) t only memory = absurd (no_bytes told t only)
 only_fault told (errors.NamesDiffer kept given) t only memory = absurd only
 only_fault told errors.Full t only memory = absurd only
 only_fault told errors.NoMemory t only memory = absurd (memory refl)
 
 -- by a read, over any disk
 pub act_event : {T : Type 0} (r : Result T LifeEnd) (told : Option (List ℕ)) (error : JournalError)
-    → IsErrAnd r (λ e. e ≡ end_of error) → RefusedUntold told (Err {T = Unit {0}} error)
+    → IsErrAnd r (λ e. e ≡ end_of error) → RefusedUntold {T = Unit {0}} told (Err error)
     → IfErr r (EndsEvent told)
 act_event (Ok value) told error is only = tt
 act_event (Err end) told error is only = subst (EndsEvent told) (sym is) (at error only)
   where
-    at : (e : JournalError) → RefusedUntold told (Err {T = Unit {0}} e)
+    at : (e : JournalError) → RefusedUntold {T = Unit {0}} told (Err e)
         → EndsEvent told (end_of e)
     at errors.DiskFault only = record { not_done = tt; of_event = λ t. tt }
-    at (errors.Refused at) only = record {
-      not_done = tt;
-      of_event = λ t.
-          let none : is_some {A = List ℕ} None ≡ true = subst (λ o. is_some o ≡ true) only t in
-          absurd (cc none);
-    }
+    at (errors.Refused place) only =
+        record { not_done = tt; of_event = λ t. absurd (no_bytes told t only) }
     at (errors.NamesDiffer kept given) only = absurd only
     at errors.Full only = absurd only
     at errors.NoMemory only = record { not_done = tt; of_event = λ t. tt }
@@ -96,7 +99,7 @@ made_event (Err end) told error config before event now is why =
   where
     at : (e : LifeEnd) → IsWhy e config before event now → EndsEvent told e
     at ends.Done why = absurd why
-    at (ends.JournalRefused at) why = absurd why
+    at (ends.JournalRefused place) why = absurd why
     at (ends.NamesDiffer kept given) why = absurd why
     at ends.DiskFault why = record { not_done = tt; of_event = λ t. tt }
     at ends.JournalFull why = record { not_done = tt; of_event = λ t. tt }

@@ -17,7 +17,8 @@ use Rattle.gateway_life.proofs.Watching.{watched_none}
 use Rattle.gateway_life.proofs.turn.arrived.Goals as goal
 
 pub returns-in-Err-clause-arrived : goal.returns-in-Err-clause-arrived
-returns-in-Err-clause-arrived g c = ok_told c.event.result _ _ (λ h.
+returns-in-Err-clause-arrived g c =
+    ok_told c.event.result (g.D.Disk.bytes c.args.disk.now) _ _ (λ h.
     found_broken c.args.engine.now.core.config c.args.side c.args.framer.now _ c.args.now _ _
     (came_of c.args.found c.args.buf.now) c.event.result _
     (ap (λ f. came_of f c.args.buf.now) c.in-Err.is) h) c.event.ensures.happens
@@ -59,8 +60,9 @@ returns-in-Opened-clause-arrived g c =
     let came = came_of c.args.found c.args.buf.now in
     let is = ap (λ f. came_of f c.args.buf.now) c.in-Ok.is
     ∙ ap (λ a. came_by a c.args.buf.now) c.in-Opened.is in
-    ok_told c.event-in-Opened.result _ _ (λ h. found_opened config c.args.side c.args.framer.now w
-    c.args.now r0 _ came c.event-in-Opened.result c.restart.new.self _ is c.restart.ensures.stands
+    ok_told c.event-in-Opened.result (g.D.Disk.bytes c.args.disk.now) _ _ (λ h.
+    found_opened config c.args.side c.args.framer.now w c.args.now r0 _ came
+    c.event-in-Opened.result c.restart.new.self _ is c.restart.ensures.stands
     (ap (λ (h : Held). h.kind) c.restart.ensures.fresh ∙ c.requires.drained.kind)
     h) c.event-in-Opened.ensures.happens
 
@@ -89,8 +91,9 @@ returns-in-Closed-clause-arrived g c =
     let came = came_of c.args.found c.args.buf.now in
     let is = ap (λ f. came_of f c.args.buf.now) c.in-Ok.is
     ∙ ap (λ a. came_by a c.args.buf.now) c.in-Closed.is in
-    ok_told c.event-in-Closed.result _ _ (λ h. found_closed config c.args.side c.args.framer.now w
-    c.args.now r0 _ came c.event-in-Closed.result _ is h) c.event-in-Closed.ensures.happens
+    ok_told c.event-in-Closed.result (g.D.Disk.bytes c.args.disk.now) _ _ (λ h.
+    found_closed config c.args.side c.args.framer.now w c.args.now r0 _ came
+    c.event-in-Closed.result _ is h) c.event-in-Closed.ensures.happens
 
 pub returns-in-Closed-clause-ends : goal.returns-in-Closed-clause-ends
 returns-in-Closed-clause-ends g c =
@@ -129,10 +132,10 @@ returns-in-Bytes-clause-arrived g c =
     let kind = ap (λ (h : Held). h.kind) c.feed.ensures.same ∙ c.requires.drained.kind in
     let r1 = records (g.C.Wire.recorded c.take_frames.new.client)
     (g.V.Wire.recorded c.take_frames.new.venue) in
-    ok_told c.take_frames.result _ _ (λ h. found_bytes config c.args.side c.args.framer.now
-    c.feed.new.self w c.args.now r0 r1 came bytes is c.requires.drained.kind feed
-    c.take_frames.result c.take_frames.new.framer _ (c.take_frames.ensures.kind ∙ kind) h)
-    c.take_frames.ensures.taken
+    ok_told c.take_frames.result (g.D.Disk.bytes c.args.disk.now) _ _ (λ h.
+    found_bytes config c.args.side c.args.framer.now c.feed.new.self w c.args.now r0 r1 came bytes
+    is c.requires.drained.kind feed c.take_frames.result c.take_frames.new.framer _
+    (c.take_frames.ensures.kind ∙ kind) h) c.take_frames.ensures.taken
 
 pub returns-in-Bytes-clause-ends : goal.returns-in-Bytes-clause-ends
 returns-in-Bytes-clause-ends g c =

@@ -9,7 +9,7 @@ use Rattle.gateway_life.proofs.Telling.{err_told, error_event, same_event}
 use Rattle.gateway_life.specs.Stepped.{records, Stepped, Broken}
 use Rattle.gateway_life.specs.Turned.{Arrived, ArrivedFront, Turned, TurnBroken}
 use Rattle.gateway_life.proofs.Polling.{err_leaves, last_leaves, ok_map, turned}
-use Rattle.gateway_life.proofs.Polling.{turn_part}
+use Rattle.gateway_life.proofs.Polling.{turn_part, durable_on}
 use Rattle.pair_journal.specs.State.{JournalState}
 use Rattle.gateway_life.proofs.Polling.{turn_tick}
 use Rattle.gateway_life.proofs.Watching.{watched_from, watched_append, kept_err, kept_last}
@@ -142,3 +142,7 @@ returns-clause-kept g c =
     _ _ _ _ _ c.tick.new.self.journal.entries c.arrived.ensures.told
     c.in_ok-arrived.ensures.durable (ap (λ (k : Config). k.names) (c.arrived.ensures.config
     ∙ ap (λ (k : CoreState). k.config) c.poll-found.ensures.same.1)) c.tick.ensures.kept
+
+pub returns-clause-durable : goal.returns-clause-durable
+returns-clause-durable g c =
+    durable_on c.tick.result _ _ _ c.in_ok-arrived.ensures.durable c.tick.ensures.durable

@@ -9,37 +9,41 @@ use Rattle.life_laws.specs.Happens.{firsts, firsts_to}
 use Rattle.wire_sends.specs.Sent.{Sent}
 use Rattle.wire_sends.specs.Again.{repeat_in}
 use Rattle.gateway_life.specs.Ready.{made_of}
-use Rattle.gateway_life.proofs.Acting.{acted, part_front, part_whole, part_none, on_err}
-use Rattle.gateway_life.proofs.Telling.{some_told}
+use Rattle.gateway_life.proofs.Acting.{acted, part_front, part_whole, part_none}
+use Rattle.gateway_life.proofs.Telling.{some_told, on_err_told}
 use Rattle.gateway_life.proofs.Acting.{ready_acted}
 use Rattle.gateway_life.proofs.engine.Engine.act.Goals as goal
 
 pub returns-in_err-client_up-clause-client_part : goal.returns-in_err-client_up-clause-client_part
 returns-in_err-client_up-clause-client_part g c =
-    on_err _ (λ t. part_front _ _ _ (form_frame c.args.names.now Client)
+    on_err_told c.from_residual.result (g.D.Disk.bytes c.args.disk.now) _
+    (λ t. part_front _ _ _ (form_frame c.args.names.now Client)
     (repeated_to Client c.args.self.now.journal.entries c.args.now
     (repeat_in c.args.made.now.resend))
     (firsts_to Client (event_of c.args.event.now) (made_of c.args.made.now c.args.self.now.core))
-    (some_told _ _ c.in_err-client_up.ensures.part t))
+    (some_told (g.D.Disk.bytes c.args.disk.now) _ c.in_err-client_up.ensures.part t))
 
 pub returns-in_err-client_up-clause-venue_part : goal.returns-in_err-client_up-clause-venue_part
-returns-in_err-client_up-clause-venue_part g c = on_err _ (λ t. part_none _ _ _)
+returns-in_err-client_up-clause-venue_part g c =
+    on_err_told c.from_residual.result (g.D.Disk.bytes c.args.disk.now) _ (λ t. part_none _ _ _)
 
 pub returns-in_err-venue_up-clause-client_part : goal.returns-in_err-venue_up-clause-client_part
 returns-in_err-venue_up-clause-client_part g c =
-    on_err _ (λ t. part_whole _ _ _ _ (form_frame c.args.names.now Client)
+    on_err_told c.from_residual-in_err-venue_up.result (g.D.Disk.bytes c.args.disk.now) _
+    (λ t. part_whole _ _ _ _ (form_frame c.args.names.now Client)
     (repeated_to Client c.args.self.now.journal.entries c.args.now
     (repeat_in c.args.made.now.resend))
     (firsts_to Client (event_of c.args.event.now) (made_of c.args.made.now c.args.self.now.core))
-    (some_told _ _ c.in_ok-client_up.ensures.sent t))
+    (some_told (g.D.Disk.bytes c.args.disk.now) _ c.in_ok-client_up.ensures.sent t))
 
 pub returns-in_err-venue_up-clause-venue_part : goal.returns-in_err-venue_up-clause-venue_part
 returns-in_err-venue_up-clause-venue_part g c =
-    on_err _ (λ t. part_front _ _ _ (form_frame c.args.names.now Venue)
+    on_err_told c.from_residual-in_err-venue_up.result (g.D.Disk.bytes c.args.disk.now) _
+    (λ t. part_front _ _ _ (form_frame c.args.names.now Venue)
     (repeated_to Venue c.args.self.now.journal.entries c.args.now
     (repeat_in c.args.made.now.resend))
     (firsts_to Venue (event_of c.args.event.now) (made_of c.args.made.now c.args.self.now.core))
-    (some_told _ _ c.in_err-venue_up.ensures.part
+    (some_told (g.D.Disk.bytes c.repeat_on.new.disk) _ c.in_err-venue_up.ensures.part
     (ap is_some c.in_ok-client_up.ensures.only_read.same ∙ t)))
 
 pub returns-clause-client_acts : goal.returns-clause-client_acts
@@ -48,7 +52,7 @@ returns-clause-client_acts g c = λ t.
     (repeated_to Client c.args.self.now.journal.entries c.args.now
     (repeat_in c.args.made.now.resend))
     (firsts_to Client (event_of c.args.event.now) (made_of c.args.made.now c.args.self.now.core))
-    (some_told _ _ c.in_ok-client_up.ensures.sent t)
+    (some_told (g.D.Disk.bytes c.args.disk.now) _ c.in_ok-client_up.ensures.sent t)
     (subst (λ b. Sent (g.C.Wire.recorded c.repeat_on.new.wire)
     (g.C.Wire.recorded c.outs_on-client_still.new.wire) c.in_ok-client_up.client_up
     (map (form_frame c.args.names.now Client) (firsts Client b c.args.made.now.entry))
@@ -62,7 +66,7 @@ returns-clause-venue_acts g c = λ t.
     (repeated_to Venue c.args.self.now.journal.entries c.args.now
     (repeat_in c.args.made.now.resend))
     (firsts_to Venue (event_of c.args.event.now) (made_of c.args.made.now c.args.self.now.core))
-    (some_told _ _ c.in_ok-venue_up.ensures.sent
+    (some_told (g.D.Disk.bytes c.repeat_on.new.disk) _ c.in_ok-venue_up.ensures.sent
     (ap is_some c.in_ok-client_up.ensures.only_read.same ∙ t))
     (subst (λ b. Sent (g.V.Wire.recorded c.repeat_on-2.new.wire)
     (g.V.Wire.recorded c.outs_on-venue_still.new.wire) c.in_ok-venue_up.venue_up

@@ -1,4 +1,4 @@
-use Rattle.std.proofs.Common.{◌∙◌, ap}
+use Rattle.std.proofs.Common.{◌∙◌, ap, Err}
 use Rattle.std.specs.Option.{option_to_list}
 use Rattle.event_decisions.specs.Event.{event_of}
 use Rattle.pair_journal.specs.State.{JournalState}
@@ -49,8 +49,8 @@ returns-in_err-act-clause-ends g c =
     (g.D.Disk.bytes c.args.disk.now) (g.D.Disk.image c.args.disk.now)
     (g.D.Disk.image c.act.new.disk) config w (event_of c.args.event.now) c.args.now r0 r1
     c.from_residual-in_err-act.ensures.1
-    (only_fault _ c.in_err-act.field-0.0 t1 c.in_err-act.ensures.only
-    c.in_err-act.ensures.no_memory)
+    (only_fault (g.D.Disk.bytes c.decide.new.disk) c.in_err-act.field-0.0 t1
+    c.in_err-act.ensures.only (λ same. c.in_err-act.ensures.no_memory (λ i. Err (same i))))
     (broken_parts (g.D.Disk.bytes c.args.disk.now) (g.D.Disk.image c.decide.new.disk)
     (g.D.Disk.image c.act.new.disk) config w (event_of c.args.event.now) c.args.now
     (made_of c.in_ok-made.made c.decide.new.self.core) c.names-names.result
@@ -128,4 +128,5 @@ returns-in_err-made-clause-journal_cause g c =
 pub returns-in_err-act-clause-journal_cause : goal.returns-in_err-act-clause-journal_cause
 returns-in_err-act-clause-journal_cause g c =
     act_cause c.from_residual-in_err-act.result c.in_err-act.field-0.0 _ _
-    c.from_residual-in_err-act.ensures.1 c.in_err-act.ensures.only c.in_err-act.ensures.no_memory
+    (g.D.Disk.bytes c.decide.new.disk) c.from_residual-in_err-act.ensures.1
+    c.in_err-act.ensures.only

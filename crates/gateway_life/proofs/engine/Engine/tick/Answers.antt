@@ -7,7 +7,7 @@ use Rattle.gateway_life.proofs.engine.Engine.tick.Goals as goal
 
 pub returns-in-Some-clause-happens : goal.returns-in-Some-clause-happens
 returns-in-Some-clause-happens g c =
-    let pass = c.pass.ensures in
+    let pass = c.pass.ensures in λ t.
     passed (seen c.args.self.now) (seen c.pass.new.self) c.args.side c.in-Some.next c.args.now
     (g.C.Wire.recorded c.args.client.now) (g.V.Wire.recorded c.args.venue.now)
     pass.journal pass.up.0 pass.up.1

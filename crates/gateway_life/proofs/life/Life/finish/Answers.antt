@@ -23,8 +23,9 @@ returns-clause-finish g c =
     c.event.new.self.core.config
     (world_of (seen c.self.inside.engine)) (world_of (seen c.event.new.self))
     (world_of (seen c.event-2.new.self)) c.moment-now.result at.0 _ _
-    (g.D.Disk.bytes c.args.disk.now) (g.D.Disk.bytes c.event.new.disk) _ _ _ c.event.ensures.config at.1 at.2
-    c.event.ensures.told c.in_ok-event.ensures.happens c.event-2.ensures.happens)
+    (g.D.Disk.bytes c.args.disk.now) (g.D.Disk.bytes c.event.new.disk) _ _ _
+    c.event.ensures.config at.1 at.2 c.event.ensures.told c.in_ok-event.ensures.happens
+    c.event-2.ensures.happens)
 
 pub returns-in_err-event-clause-only : goal.returns-in_err-event-clause-only
 returns-in_err-event-clause-only g c =

@@ -1,6 +1,7 @@
 use Rattle.std.proofs.Common.{◌∙◌, ap, refl}
 use Rattle.gateway_config.specs.declared.config.Config.{Config}
 use Rattle.gateway_life.proofs.Joining.{end_done, end_ends, stands_live}
+use Rattle.gateway_life.proofs.Polling.{durable_on}
 use Rattle.gateway_life.proofs.Telling.{error_event, same_event}
 use Rattle.gateway_life.proofs.Watching.{watched_append, kept_err, kept_last}
 use Rattle.gateway_life.proofs.life.Life.whole.Goals as goal
@@ -56,3 +57,7 @@ returns-clause-stands g c =
     stands_live c.finish.result c.args.self.now.engine.core.config c.finish.new.self
     (g.D.Disk.bytes c.finish.new.disk) _ _ (c.finish.ensures.config ∙ c.rounds.ensures.config)
     c.finish.ensures.live
+
+pub returns-clause-durable : goal.returns-clause-durable
+returns-clause-durable g c =
+    durable_on c.finish.result _ _ _ c.in_ok-rounds.ensures.durable c.finish.ensures.durable
