@@ -122,9 +122,9 @@ error_event (Err end) error t0 t1 is same h = subst (EndsEvent t0) (sym is)
 
 -- ---- of a whole life
 
-pub idle_done : (told : Option (List ℕ)) (P : Type 0) → IfSome told (λ b. IfRefused ends.Done P)
-idle_done None P = tt
-idle_done (Some b) P = tt
+pub idle_done : (told : Option (List ℕ)) → IfSome told (λ b. Unit {0})
+idle_done None = tt
+idle_done (Some b) = tt
 
 pub refused_told : (told : Option (List ℕ)) (end : LifeEnd) (P Q : Type 0)
     → (IfRefused end P → IfRefused end Q) → IfTold told (IfRefused end P)

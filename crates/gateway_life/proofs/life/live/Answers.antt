@@ -15,7 +15,7 @@ returns-in-Ok-clause-lived g c = record {
   begins = if_told (g.D.Disk.bytes c.args.disk.now) _ (λ t.
       answered_done c.args.config.now.names (g.D.Disk.bytes c.args.disk.now)
       (c.in-Ok.ensures.done t).before (c.in-Ok.ensures.done t).begins.journal);
-  idle = idle_done (g.D.Disk.bytes c.args.disk.now) _;
+  idle = idle_done (g.D.Disk.bytes c.args.disk.now);
   foreign = if_told (g.D.Disk.bytes c.args.disk.now) _ (λ t.
       not_foreign _ c.args.config.now.names (g.D.Disk.bytes c.args.disk.now)
       (c.in-Ok.ensures.done t).before (c.in-Ok.ensures.done t).begins.journal);

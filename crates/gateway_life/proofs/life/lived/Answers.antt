@@ -3,6 +3,7 @@ use Rattle.gateway_config.specs.declared.config.Config.{Config}
 use Rattle.gateway_life.proofs.Living.{lived_unbegun, lived_whole, lived_stopped}
 use Rattle.gateway_life.proofs.Living.{unbegun_foreign, begun_not_foreign}
 use Rattle.gateway_life.proofs.Living.{unbegun_refused, refused_events}
+use Rattle.gateway_life.proofs.Polling.{durable_on}
 use Rattle.gateway_life.proofs.Telling.{told_err, ended_event}
 use Rattle.gateway_life.proofs.TapsShown.{taps_unbegun, taps_whole}
 use Rattle.gateway_life.proofs.Caused.{cause_unbegun, cause_whole}
@@ -85,3 +86,7 @@ returns-in_err-life-clause-refused g c =
 pub returns-clause-refused : goal.returns-clause-refused
 returns-clause-refused g c = refused_events _ c.whole.result (g.D.Disk.bytes c.args.disk.now)
     (g.D.Disk.bytes c.begin.new.disk) c.begin.ensures.told c.whole.ensures.only
+
+pub returns-clause-durable : goal.returns-clause-durable
+returns-clause-durable g c =
+    durable_on c.whole.result _ _ _ c.in_ok-life.ensures.durable c.whole.ensures.durable
