@@ -1,5 +1,6 @@
 -- The chains of a journal, entry by entry.
-use Rattle.std.proofs.Common.{◌≡◌, List, [], ◌∷◌, ◌++◌, refl, ap, ◌∙◌, sym}
+use Rattle.std.proofs.Common.{◌≡◌, List, [], ◌∷◌, ◌++◌, refl, ap, ◌∙◌, sym, Ok, Err}
+use Rattle.std.specs.Prelude.{Result, OnOk}
 use Rattle.std.specs.Option.{option_to_list}
 use Rattle.order_chains.specs.declared.item.ChainItem.{ChainItem}
 use Rattle.pair_entries.specs.declared.entry.Entry.{Entry}
@@ -13,9 +14,17 @@ after_push items [] entry = refl
 after_push items (e ∷ entries) entry =
     after_push (items ++ option_to_list (new_item items e)) entries entry
 
-pub one_joined : (entries : List Entry) (entry : Entry) (old new : List ChainItem)
+one_joined : (entries : List Entry) (entry : Entry) (old new : List ChainItem)
     → new ≡ old ++ option_to_list (new_item old entry) → old ≡ chains_of entries
     → new ≡ chains_of (entries ++ entry ∷ [])
 one_joined entries entry old new is so_far =
     is ∙ ap (λ (c : List ChainItem). c ++ option_to_list (new_item c entry)) so_far
     ∙ sym (after_push [] entries entry)
+
+pub joined_on : {T E : Type 0} (r : Result T E) (entry : Entry) (old new : List ChainItem)
+    → OnOk r (new ≡ old ++ option_to_list (new_item old entry))
+    → OnOk r ((before : List Entry) → old ≡ chains_of before
+    → new ≡ chains_of (before ++ entry ∷ []))
+joined_on (Ok value) entry old new is = λ before so_far.
+    one_joined before entry old new is so_far
+joined_on (Err error) entry old new is = tt

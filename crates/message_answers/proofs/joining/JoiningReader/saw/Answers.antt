@@ -1,5 +1,6 @@
-use Rattle.message_answers.proofs.Joined.{one_joined}
+use Rattle.message_answers.proofs.Joined.{joined_on}
 use Rattle.message_answers.proofs.joining.JoiningReader.saw.Goals as goal
 
 pub returns : goal.returns
-returns c = λ ok before so_far. one_joined before c.args.entry.now _ _ (c.join.ensures ok) so_far
+returns c =
+    joined_on c.join.result c.args.entry.now c.args.self.now.chains c.join.new.chains c.join.ensures
