@@ -1,8 +1,7 @@
 //! The core: what the gateway knows between events, and what it decides at one.
 
-ghost use Rattle.std.specs.Prelude.{◌≡◌, ℕ, ◌≤◌, ◌<◌, ◌-◌, ◌++◌, List, [], length, take, true};
+ghost use Rattle.std.specs.Prelude.{◌≡◌, ℕ, ◌≤◌, ◌<◌, ◌-◌, ◌++◌, List, [], length, take};
 ghost use Rattle.std.specs.Prelude.{Some, None, Ok, IfOk, OnOk, OnErr, IfSome, unwrap_or};
-ghost use Rattle.std.specs.Prelude.{if◌then◌else◌};
 ghost use Rattle.std.specs.Option.{option_to_list};
 ghost use Rattle.message_tables.specs.Tables.{value_at};
 ghost use Rattle.frame_grammar.specs.Frame.{IsBody};

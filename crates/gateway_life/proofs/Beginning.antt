@@ -1,6 +1,6 @@
 -- How a life begins.
 use Rattle.std.proofs.Common.{◌≡◌, ◌⊎◌, ℕ, false, List, [], refl, sym, subst, Some, None}
-use Rattle.std.proofs.Common.{inl, inr, ◌∙◌}
+use Rattle.std.proofs.Common.{inl, inr}
 use Rattle.std.proofs.Common.{Ok, Err}
 use Rattle.std.specs.Prelude.{Result, IfSome, IfErr, IsErrAnd}
 use Rattle.std.specs.declared.option.Option.{Option}

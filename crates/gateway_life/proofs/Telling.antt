@@ -17,16 +17,11 @@ use Rattle.gateway_life.specs.Ended.{end_of}
 use Rattle.gateway_life.specs.Fails.{IsWhy}
 use Rattle.gateway_life.specs.Life.{IfRefused}
 use Rattle.gateway_life.specs.Ready.{IfTold, LeavesOf}
-use Rattle.gateway_life.specs.Stepped.{IsOfEvent, IsNotDone, EndsEvent}
+use Rattle.gateway_life.specs.Stepped.{IsNotDone, EndsEvent}
 
 pub some_told : (told : Option (List ℕ)) (P : Type 0) → ForSome told (λ b. P) → IfTold told P
 some_told None P h t = absurd (cc t)
 some_told (Some b) P h t = h b refl
-
-pub ok_if : {T E : Type 0} (r : Result T E) (t0 t1 : Option (List ℕ)) (P Q : Type 0)
-    → is_some t1 ≡ is_some t0 → (P → Q) → OnOk r (IfTold t1 P) → OnOk r (IfTold t0 Q)
-ok_if (Ok value) t0 t1 P Q same f h = λ t. f (h (same ∙ t))
-ok_if (Err error) t0 t1 P Q same f h = tt
 
 pub ok_told : {T E : Type 0} (r : Result T E) (told : Option (List ℕ)) (P Q : Type 0)
     → (OnOk r P → OnOk r Q) → OnOk r (IfTold told P) → OnOk r (IfTold told Q)

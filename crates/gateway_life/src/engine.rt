@@ -2,7 +2,7 @@
 
 ghost use Rattle.std.specs.Prelude.{◌≡◌, ◌⊎◌, ◌≤◌, ◌++◌, Some, Ok, IfOk, IfErr, IfSome, OnOk};
 ghost use Rattle.std.specs.Prelude.{OnErr, ◌≢◌, Err, false, is_some};
-ghost use Rattle.std.specs.Prelude.{IsOkUnless, [], ◌∷◌, true, ◌<◌, ◌-◌, length, take};
+ghost use Rattle.std.specs.Prelude.{[], ◌∷◌, true, ◌<◌, ◌-◌, length, take};
 ghost use Rattle.std.specs.Prelude.{if◌then◌else◌};
 ghost use Rattle.std.specs.Option.{ForSome, option_to_list};
 ghost use Rattle.outside.specs.Disk.{HasOneImage};

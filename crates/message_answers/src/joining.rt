@@ -1,6 +1,6 @@
 //! The requests that a journal forwarded, as they join the chains.
 
-ghost use Rattle.std.specs.Prelude.{◌≡◌, ◌++◌, [], List, IfOk, OnOk};
+ghost use Rattle.std.specs.Prelude.{◌≡◌, ◌++◌, [], IfOk, OnOk};
 ghost use Rattle.std.specs.Option.{option_map, option_to_list};
 ghost use Rattle.message_tables.specs.Tables.{first_of};
 ghost use Rattle.message_answers.specs.Chains.{joining_letter, item_in, new_item, chains_of};

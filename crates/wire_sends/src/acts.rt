@@ -1,7 +1,7 @@
 //! What one event does on one wire.
 
-ghost use Rattle.std.specs.Prelude.{◌≡◌, ◌≢◌, ◌≤◌, ◌-◌, map, if◌then◌else◌, Some, Err, IfOk};
-ghost use Rattle.std.specs.Prelude.{IfSome, OnErr, true};
+ghost use Rattle.std.specs.Prelude.{◌≡◌, ◌≢◌, ◌≤◌, ◌-◌, map, Some, Err, IfOk, IfSome};
+ghost use Rattle.std.specs.Prelude.{OnErr};
 ghost use Rattle.std.specs.Option.{ForSome};
 ghost use Rattle.gate_log.specs.Log.{OnlyReads};
 ghost use Rattle.pair_journal.specs.declared.error.JournalError.TheVariants as errors;
