@@ -114,9 +114,10 @@ impl Life {
     /// # Errors
     ///
     /// `JournalFull` exactly where a record would end past the last byte of a disk, `NumbersSpent`
-    /// exactly where an event would take a number of that side past 999,999,999, `DiskFault` only
-    /// where the disk's count of faults rose, `NoMemory` for want of memory. Then the life has
-    /// ended, and no call is made on it any more.
+    /// exactly where an event would take a number of that side past 999,999,999, `JournalRefused`
+    /// only over a disk that does not tell its bytes, where a record that is read again is none,
+    /// `DiskFault` only where the disk's count of faults rose, `NoMemory` for want of memory. Then
+    /// the life has ended, and no call is made on it any more.
     pub fn round<D: Disk, C: Wire, V: Wire, K: Clock>(
         &mut self,
         disk: &mut D,
