@@ -106,7 +106,7 @@ fn each_entry_is_read_from_the_disk(rt: HostRuntime) -> Result<(), Fail> {
 /// Whether the out of this number translates message 2 of type D, which each order is; none does
 /// where there is no order.
 fn has_source(journal: &Journal, number: u32) -> bool {
-    let order = if 1 <= number && number <= ORDERS {
+    let order: Option<(u32, u8)> = if 1 <= number && number <= ORDERS {
         Some((2, b'D'))
     } else {
         None
