@@ -452,8 +452,8 @@ impl Journal {
     }
 
     /// Reads the out of this side and number, which was given out, and walks on to it. It reads at
-    /// most 64 records, in 128 calls of the disk, none twice where the numbers rise, and takes no
-    /// memory.
+    /// most 64 records, in 128 calls of the disk, and takes no memory. Where the numbers rise it
+    /// begins with the record of the out before, which may hold this one too.
     ///
     /// # Errors
     /// `Refused` only over a disk that does not tell its bytes, where a record that was read is no
