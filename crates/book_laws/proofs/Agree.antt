@@ -10,7 +10,7 @@ use Rattle.std.specs.Str.{bytes_eq}
 use Rattle.order_meaning.specs.declared.Side.{Side}
 use Rattle.order_meaning.specs.declared.Side.TheVariants.{Client, Venue}
 use Rattle.pair_entries.specs.declared.entry.Entry.{Entry}
-use Rattle.heard_laws.specs.Heard.{Refusal, Plain, Heard, Carries, is_reject}
+use Rattle.book_laws.specs.Heard.{Refusal, Plain, Heard, Carries, is_reject}
 use Rattle.book_laws.specs.SetAside.{Conversation, is_request, is_report, is_refusal, names_by}
 use Rattle.book_laws.specs.SetAside.{names, answers, is_answered_off, refuses, is_refused, counts}
 use Rattle.book_laws.specs.SetAside.{sent_by, took_of}

@@ -7,8 +7,8 @@ use Rattle.pair_entries.specs.declared.entry.Entry.{Entry}
 use Rattle.pair_journal.specs.Numbers.{first_numbers}
 use Rattle.event_decisions.specs.Laws.{DecisionsMake}
 use Rattle.message_answers.specs.Answer.{other}
-use Rattle.heard_laws.specs.Laws.{AnswersAreHeard, BodiesAreReadAlike, IdsAreCompared}
-use Rattle.heard_laws.specs.Laws.{RefusalsAreHeard, SentSessionsAreHeardPlain}
+use Rattle.book_laws.specs.HeardLaws.{AnswersAreHeard, BodiesAreReadAlike, IdsAreCompared}
+use Rattle.book_laws.specs.HeardLaws.{RefusalsAreHeard, SentSessionsAreHeardPlain}
 use Rattle.book_laws.specs.Keeps.{KeepsHeads, KeepsJournal, conversation}
 use Rattle.book_laws.specs.Laws.{ConversationsAgree, HeadersSayNothing, JournalsAgree, PeersAgree}
 use Rattle.book_laws.proofs.Agree.{agree}

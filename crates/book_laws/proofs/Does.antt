@@ -27,13 +27,13 @@ use Rattle.message_answers.specs.Known.{known_of, named, named_by_id}
 use Rattle.message_answers.specs.Message.{is_refusal, is_refusal_type, message_of, refusal_in}
 use Rattle.message_answers.proofs.ReadShapes.{shape}
 use Rattle.life_laws.specs.Receiver.{IsSent}
-use Rattle.heard_laws.specs.Heard.{Heard, Sort, Request, Report, Refusal, Plain}
-use Rattle.heard_laws.specs.Heard.{cl_ord_id_in, heard_body, heard_out, is_among, is_reject}
-use Rattle.heard_laws.specs.Heard.{refusal_sort, report_types, request_types, sort_of}
-use Rattle.heard_laws.specs.Laws.{HasItsId, IdsAreCompared, IsRefusalOf}
-use Rattle.heard_laws.specs.Laws.{RefusalsAreHeard, SentSessionsAreHeardPlain, sort_from}
-use Rattle.heard_laws.proofs.On.{resend_is}
-use Rattle.heard_laws.proofs.Types.{said_type}
+use Rattle.book_laws.specs.Heard.{Heard, Sort, Request, Report, Refusal, Plain}
+use Rattle.book_laws.specs.Heard.{cl_ord_id_in, heard_body, heard_out, is_among, is_reject}
+use Rattle.book_laws.specs.Heard.{refusal_sort, report_types, request_types, sort_of}
+use Rattle.book_laws.specs.HeardLaws.{HasItsId, IdsAreCompared, IsRefusalOf}
+use Rattle.book_laws.specs.HeardLaws.{RefusalsAreHeard, SentSessionsAreHeardPlain, sort_from}
+use Rattle.book_laws.proofs.On.{resend_is}
+use Rattle.book_laws.proofs.Types.{said_type}
 use Rattle.book_laws.specs.SetAside.{counts, is_id, is_request, is_report, names as names_message}
 use Rattle.book_laws.specs.SetAside.{names_by}
 use Rattle.book_laws.specs.Pairs.{given, taken}

@@ -20,8 +20,8 @@ use Rattle.event_decisions.specs.Laws.{Breaks, DecisionsMake, taking_of}
 use Rattle.message_answers.specs.Answer.{Answers}
 use Rattle.message_answers.specs.Laws.{AreNumbered, IsNumbered}
 use Rattle.life_laws.specs.Receiver.{AreSent, IsSent}
-use Rattle.heard_laws.specs.Laws.{AnswersAreHeard, BodiesAreReadAlike, IdsAreCompared}
-use Rattle.heard_laws.specs.Laws.{RefusalsAreHeard, SentSessionsAreHeardPlain}
+use Rattle.book_laws.specs.HeardLaws.{AnswersAreHeard, BodiesAreReadAlike, IdsAreCompared}
+use Rattle.book_laws.specs.HeardLaws.{RefusalsAreHeard, SentSessionsAreHeardPlain}
 use Rattle.book_laws.specs.Keeps.{Each, In, KeepsHeads, KeepsJournal, KeepsRefusals}
 use Rattle.book_laws.specs.Laws.{HeadersSayNothing, TookBody}
 use Rattle.book_laws.proofs.Does.{AreBefore, AreSentBy, does, new_ids, no_ids}

@@ -46,11 +46,11 @@ use Rattle.message_answers.specs.Known.{known_of, named}
 use Rattle.message_answers.specs.Laws.{AreNumbered, IsGivenOut, IsGivenType}
 use Rattle.message_answers.specs.Message.{is_refusal, message_of, refusal_in}
 use Rattle.life_laws.specs.Receiver.{IsSent}
-use Rattle.heard_laws.specs.Heard.{Refusal, heard_body, heard_out}
-use Rattle.heard_laws.specs.Laws.{AnswersAreHeard, IsHeard, IsHeardOn, IsRefusalOf, IsReturned}
-use Rattle.heard_laws.specs.Laws.{Off, On, Returned, RefusalsAreHeard, sort_from}
-use Rattle.heard_laws.proofs.Answered.{IsAnswer, Nears, Tells, Goes, NamesFirst, answer_is}
-use Rattle.heard_laws.proofs.Texts.{refuses}
+use Rattle.book_laws.specs.Heard.{Refusal, heard_body, heard_out}
+use Rattle.book_laws.specs.HeardLaws.{AnswersAreHeard, IsHeard, IsHeardOn, IsRefusalOf, IsReturned}
+use Rattle.book_laws.specs.HeardLaws.{Off, On, Returned, RefusalsAreHeard, sort_from}
+use Rattle.book_laws.proofs.Answered.{IsAnswer, Nears, Tells, Goes, NamesFirst, answer_is}
+use Rattle.book_laws.proofs.Texts.{refuses}
 use Rattle.book_laws.specs.Keeps.{In}
 use Rattle.book_laws.proofs.Silence.{IsSilence, Repeats, NamesNone, silent, used_stays}
 use Rattle.book_laws.proofs.Tooks.{faulty_tag, no_reset}

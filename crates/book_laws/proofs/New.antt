@@ -15,8 +15,8 @@ use Rattle.pair_journal.specs.Numbers.{outs_to}
 use Rattle.event_decisions.specs.Laws.{IsNumbered, taking_of}
 use Rattle.life_laws.specs.Receiver.{message_of_out, read_body}
 use Rattle.life_laws.specs.Taken.{Read, GapFill, Reset, Other}
-use Rattle.heard_laws.specs.Heard.{Heard}
-use Rattle.heard_laws.specs.Laws.{BodiesAreReadAlike, HasNumber}
+use Rattle.book_laws.specs.Heard.{Heard}
+use Rattle.book_laws.specs.HeardLaws.{BodiesAreReadAlike, HasNumber}
 use Rattle.message_answers.specs.Answer.{other}
 use Rattle.book_laws.specs.Pairs.{given, heard_at, heard_from, message_in, taken}
 use Rattle.book_laws.specs.Keeps.{In}

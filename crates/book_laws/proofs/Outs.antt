@@ -16,9 +16,9 @@ use Rattle.pair_journal.specs.Numbers.{is_side, outs_to}
 use Rattle.event_decisions.specs.Body.{fields_of}
 use Rattle.life_laws.specs.Forms.{Placed, placed_at, placed, all_placed}
 use Rattle.life_laws.specs.Receiver.{IsSent, AreSent, behind_header, message_of_out}
-use Rattle.heard_laws.specs.Heard.{Heard, heard_by, heard_out, message_to, with_resend}
-use Rattle.heard_laws.proofs.Contents.{content_read}
-use Rattle.heard_laws.proofs.EntryFollows.{header_none}
+use Rattle.book_laws.specs.Heard.{Heard, heard_by, heard_out, message_to, with_resend}
+use Rattle.book_laws.proofs.Contents.{content_read}
+use Rattle.book_laws.proofs.EntryFollows.{header_none}
 use Rattle.book_laws.specs.Pairs.{given, heard_at}
 use Rattle.book_laws.specs.Keeps.{In}
 

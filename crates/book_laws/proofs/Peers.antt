@@ -9,8 +9,8 @@ use Rattle.std.proofs.lemmas.List.Elements.{filter-append}
 use Rattle.order_meaning.specs.declared.Side.{Side}
 use Rattle.order_meaning.specs.declared.Side.TheVariants.{Client, Venue}
 use Rattle.pair_entries.specs.declared.entry.Entry.{Entry}
-use Rattle.heard_laws.specs.Heard.{Sort, Request, Report, Refusal, FaultyRefusal, Plain, Heard}
-use Rattle.heard_laws.specs.Heard.{is_reject}
+use Rattle.book_laws.specs.Heard.{Sort, Request, Report, Refusal, FaultyRefusal, Plain, Heard}
+use Rattle.book_laws.specs.Heard.{is_reject}
 use Rattle.book_laws.specs.SetAside.{Conversation, is_request, is_report, is_refusal, is_number}
 use Rattle.book_laws.specs.SetAside.{names, answers, is_answered_off, refuses, is_refused, counts}
 use Rattle.book_laws.specs.SetAside.{sent_by, took_of}

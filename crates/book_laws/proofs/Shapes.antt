@@ -4,8 +4,8 @@ use Rattle.std.specs.Prelude.{◌≡◌, ℕ, ◌<◌, true, false, List, [], �
 use Rattle.order_meaning.specs.declared.Side.{Side}
 use Rattle.order_meaning.specs.declared.Side.TheVariants.{Client, Venue}
 use Rattle.pair_entries.specs.declared.entry.Entry.{Entry}
-use Rattle.heard_laws.specs.Heard.{Refusal, Plain, Heard, Carries, is_reject}
-use Rattle.heard_laws.specs.Laws.{sort_from}
+use Rattle.book_laws.specs.Heard.{Refusal, Plain, Heard, Carries, is_reject}
+use Rattle.book_laws.specs.HeardLaws.{sort_from}
 use Rattle.book_laws.specs.SetAside.{names, counts}
 use Rattle.book_laws.specs.Pairs.{given, taken}
 use Rattle.book_laws.specs.Keeps.{In, KeepsRefusals}

@@ -24,10 +24,10 @@ use Rattle.message_answers.specs.Answer.{other}
 use Rattle.message_answers.specs.Message.{is_refusal_type}
 use Rattle.message_answers.proofs.Typed.{typed}
 use Rattle.life_laws.specs.Receiver.{IsSent, is_administrative}
-use Rattle.heard_laws.specs.Heard.{Request, Report, Plain, heard_out, is_among, is_reject}
-use Rattle.heard_laws.specs.Heard.{refusal_sort, report_types, request_types, sort_of}
-use Rattle.heard_laws.specs.Laws.{sort_from}
-use Rattle.heard_laws.proofs.Types.{said_type}
+use Rattle.book_laws.specs.Heard.{Request, Report, Plain, heard_out, is_among, is_reject}
+use Rattle.book_laws.specs.Heard.{refusal_sort, report_types, request_types, sort_of}
+use Rattle.book_laws.specs.HeardLaws.{sort_from}
+use Rattle.book_laws.proofs.Types.{said_type}
 use Rattle.book_laws.specs.Keeps.{In}
 use Rattle.book_laws.proofs.Made.{Going, Made, MadeNone, MadeOff, MadeOn}
 use Rattle.book_laws.proofs.Made.{MadeRepeat, MadeRest, MadeTold}

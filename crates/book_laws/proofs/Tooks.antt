@@ -41,11 +41,11 @@ use Rattle.life_laws.specs.Justified.{raw_of}
 use Rattle.life_laws.specs.Receiver.{behind_header, header_tags, is_administrative, is_in_header}
 use Rattle.life_laws.specs.Receiver.{message_by, read_body, read_reset}
 use Rattle.life_laws.specs.Taken.{Read, Other}
-use Rattle.heard_laws.specs.Heard.{Heard, Plain, cl_ord_id_in, heard_body, heard_by, id_named_in}
-use Rattle.heard_laws.specs.Heard.{sort_of, with_resend}
-use Rattle.heard_laws.specs.Laws.{IsHeardRefusal, RefusalsAreHeard}
-use Rattle.heard_laws.proofs.On.{resend_is}
-use Rattle.heard_laws.proofs.Session.{plain_type}
+use Rattle.book_laws.specs.Heard.{Heard, Plain, cl_ord_id_in, heard_body, heard_by, id_named_in}
+use Rattle.book_laws.specs.Heard.{sort_of, with_resend}
+use Rattle.book_laws.specs.HeardLaws.{IsHeardRefusal, RefusalsAreHeard}
+use Rattle.book_laws.proofs.On.{resend_is}
+use Rattle.book_laws.proofs.Session.{plain_type}
 use Rattle.book_laws.specs.Laws.{HeadersSayNothing}
 use Rattle.book_laws.specs.Pairs.{heard_from, message_in, taken}
 

@@ -21,9 +21,9 @@ use Rattle.life_laws.specs.Forms.{Placed, all_placed, placed_at}
 use Rattle.life_laws.specs.Justified.{IsJustified, IsSublist, raw_of, tooks_of}
 use Rattle.life_laws.specs.Receiver.{AreSent, is_administrative, message_of_out, read_body}
 use Rattle.life_laws.specs.Taken.{Message, Read, GapFill, Reset, Other, TakesInOrder, taken_from}
-use Rattle.heard_laws.specs.Heard.{Heard, Plain}
-use Rattle.heard_laws.specs.Laws.{BodiesAreReadAlike, HasNumber}
-use Rattle.heard_laws.proofs.Session.{plain_type}
+use Rattle.book_laws.specs.Heard.{Heard, Plain}
+use Rattle.book_laws.specs.HeardLaws.{BodiesAreReadAlike, HasNumber}
+use Rattle.book_laws.proofs.Session.{plain_type}
 use Rattle.book_laws.specs.Pairs.{given, heard_at, heard_from, message_in, taken}
 use Rattle.book_laws.specs.Keeps.{AreAlike, AreNumbered, Filled, In, Keeps, KeepsFrame}
 use Rattle.book_laws.specs.Keeps.{conversation}

@@ -28,7 +28,7 @@ use Rattle.event_decisions.specs.Body.{reading_of}
 use Rattle.life_laws.specs.Receiver.{is_administrative}
 use Rattle.life_laws.specs.Taken as receiver
 use Rattle.life_laws.specs.Taken.{GapFill, Other, Reset}
-use Rattle.heard_laws.specs.Heard.{Sort, Request, Report, Refusal, FaultyRefusal, Heard}
+use Rattle.book_laws.specs.Heard.{Sort, Request, Report, Refusal, FaultyRefusal, Heard}
 use Rattle.book_laws.specs.SetAside.{Conversation, is_answered_off, is_refused, sent_by, took_of}
 use Rattle.book_laws.specs.Books.{Books, book42, book50}
 use Rattle.book_laws.specs.Pairs.{pair}

@@ -8,7 +8,7 @@ use Rattle.dict_fix42.specs.Sense.{request42}
 use Rattle.dict_fix50.specs.Sense.{request50}
 use Rattle.reports_fix42.specs.Step.{step42}
 use Rattle.reports_fix50.specs.Step.{step50}
-use Rattle.heard_laws.specs.Heard.{Heard, book_after}
+use Rattle.book_laws.specs.Heard.{Heard, book_after}
 use Rattle.book_laws.specs.SetAside.{Conversation, sent_by, took_of}
 
 -- what was asked for, in order, and the book of what the reports told

@@ -10,7 +10,7 @@ use Rattle.wires.specs.Wire.{Connection}
 use Rattle.life_laws.specs.Bodies.{bodies_read}
 use Rattle.life_laws.specs.Receiver.{is_administrative, message_of_out, read_body}
 use Rattle.life_laws.specs.Taken.{Message, Read, GapFill, Reset, Other, AreFronts, taken_from}
-use Rattle.heard_laws.specs.Heard.{Refusal, Heard}
+use Rattle.book_laws.specs.Heard.{Refusal, Heard}
 use Rattle.book_laws.specs.SetAside.{Conversation}
 use Rattle.book_laws.specs.Pairs.{heard_at, heard_from, given, pair, taken}
 

@@ -1,3 +1,6 @@
+pub mod Heard
+pub mod Learned
+pub mod HeardLaws
 pub mod SetAside
 pub mod Books
 pub mod Pairs

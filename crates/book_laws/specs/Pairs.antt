@@ -14,7 +14,7 @@ use Rattle.life_laws.specs.Justified.{raw_of}
 use Rattle.life_laws.specs.Receiver.{message_of_out, read_body}
 use Rattle.life_laws.specs.Taken as receiver
 use Rattle.life_laws.specs.Taken.{Read, GapFill, Reset, Other}
-use Rattle.heard_laws.specs.Heard.{Heard, heard_by, message_to, with_resend}
+use Rattle.book_laws.specs.Heard.{Heard, heard_by, message_to, with_resend}
 use Rattle.book_laws.specs.SetAside.{Conversation}
 
 abbrev pub heard_as : receiver.Message → Result Message Fault → Heard

@@ -8,7 +8,7 @@ use Rattle.std.specs.List.{list_any}
 use Rattle.std.specs.Str.{bytes_eq}
 use Rattle.order_meaning.specs.declared.Side.{Side}
 use Rattle.order_meaning.specs.declared.Side.TheVariants.{Client, Venue}
-use Rattle.heard_laws.specs.Heard.{Sort, Request, Report, Refusal, is_reject, Heard}
+use Rattle.book_laws.specs.Heard.{Sort, Request, Report, Refusal, is_reject, Heard}
 
 -- A CONVERSATION of a side: the messages that it sent, and those that it took, in the order of
 -- their numbers

@@ -24,8 +24,8 @@ use Rattle.life_laws.specs.Laws as lives
 use Rattle.gateway_life.specs.declared.end.LifeEnd.{LifeEnd}
 use Rattle.gateway_life.specs.Life.{begun, hung_up, moment_of, Done, LivesToEnd, LifeFails}
 use Rattle.gateway_life.specs.Life.{Follows, ToItsEnd, ToAnEvent, NotBegun}
-use Rattle.heard_laws.specs.Laws.{SidesLearn}
-use Rattle.heard_laws.specs.Learned.{learned_of_taken}
+use Rattle.book_laws.specs.HeardLaws.{SidesLearn}
+use Rattle.book_laws.specs.Learned.{learned_of_taken}
 use Rattle.book_laws.specs.Laws.{PeersAgree}
 use Rattle.gateway_life.specs.Laws.{IsTaken, MessagesAreTaken}
 use Rattle.gateway_life.proofs.Failing.{fails_by}

@@ -19,7 +19,7 @@ use Rattle.life_laws.specs.Repeats.{repeat_forms}
 use Rattle.life_laws.specs.Justified.{transcript_from, Leaves}
 use Rattle.life_laws.specs.Receiver.{read_body, message_of_out}
 use Rattle.life_laws.specs.Taken.{TakesInOrder, take_more, AreReadAsForms}
-use Rattle.heard_laws.specs.Laws.{LearnsWhatWasSaid}
+use Rattle.book_laws.specs.HeardLaws.{LearnsWhatWasSaid}
 use Rattle.book_laws.specs.Laws.{BooksAreEqual}
 use Rattle.gateway_life.specs.declared.end.LifeEnd.{LifeEnd}
 use Rattle.gateway_life.specs.Life.{Done, Follows}

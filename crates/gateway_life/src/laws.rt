@@ -3,9 +3,8 @@
 ghost use Rattle.gateway_life.specs.Laws.{LivesLeave, MessagesAreTaken, FirstLivesBegin};
 ghost use Rattle.gateway_life.specs.Laws.{ReadNamesAreShown};
 
-use book_laws::laws::peers_agree;
+use book_laws::laws::{peers_agree, sides_learn_what_was_said};
 use event_decisions::laws::bodies_are_read;
-use heard_laws::laws::sides_learn_what_was_said;
 use life_laws::{Answering, laws as lives};
 use message_answers::laws::answers_are_given_out;
 

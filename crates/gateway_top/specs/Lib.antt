@@ -1,5 +1,6 @@
 pub mod Command
 pub mod Task
+pub mod Serve
 pub mod Status
 pub mod MsgType
 pub mod Finding

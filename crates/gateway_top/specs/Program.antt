@@ -13,8 +13,8 @@ use Rattle.gateway_top.specs.Task.{kind_of, stops, has_ended, first_of}
 use Rattle.whole_input.specs.declared.reading.TheConstants.{MAX_INPUT, MAX_READ}
 use Rattle.gateway_config.specs.declared.config.Config.{Config}
 use Rattle.gateway_life.specs.declared.end.LifeEnd.{LifeEnd}
-use Rattle.gateway_serve.specs.declared.error.ServeError.{ServeError}
-use Rattle.gateway_serve.specs.Serve.{Served}
+use Rattle.gateway_top.specs.declared.serve_error.ServeError.{ServeError}
+use Rattle.gateway_top.specs.Serve.{Served}
 use Rattle.journal_show.specs.declared.journal_lines.ShowError.{ShowError}
 use Rattle.journal_show.specs.JournalLines.{Shows}
 use Rattle.capture_replay.specs.declared.error.ReplayError.{ReplayError}

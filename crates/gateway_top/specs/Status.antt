@@ -6,8 +6,8 @@ use Rattle.gateway_config.specs.declared.config.ConfigKey.{ConfigKey}
 use Rattle.gateway_config.specs.declared.config.ConfigKey.TheVariants as keys
 use Rattle.gateway_life.specs.declared.end.LifeEnd.{LifeEnd}
 use Rattle.gateway_life.specs.declared.end.LifeEnd.TheVariants as lives
-use Rattle.gateway_serve.specs.declared.error.ServeError.{ServeError}
-use Rattle.gateway_serve.specs.declared.error.ServeError.TheVariants as serves
+use Rattle.gateway_top.specs.declared.serve_error.ServeError.{ServeError}
+use Rattle.gateway_top.specs.declared.serve_error.ServeError.TheVariants as serves
 use Rattle.journal_show.specs.declared.journal_lines.ShowError.{ShowError}
 use Rattle.journal_show.specs.declared.journal_lines.ShowError.TheVariants as shows
 use Rattle.capture_replay.specs.declared.error.ReplayError.{ReplayError}

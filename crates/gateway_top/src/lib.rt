@@ -7,6 +7,8 @@ mod finding;
 mod line;
 mod pass;
 mod program;
+mod serve_error;
+mod serving;
 mod status;
 mod stream;
 mod task;

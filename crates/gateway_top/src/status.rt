@@ -5,10 +5,10 @@ ghost use Rattle.gateway_top.specs.Status.{code_of, end_of, status_of_life, stat
 ghost use Rattle.gateway_top.specs.Status.{status_of_show, status_of_replay, status_of_print};
 ghost use Rattle.gateway_top.specs.Status.{key_name};
 
+use crate::serve_error::ServeError;
 use capture_replay::ReplayError;
 use gateway_config::ConfigKey;
 use gateway_life::LifeEnd;
-use gateway_serve::ServeError;
 use journal_show::ShowError;
 use order_meaning::{Names, Side};
 use replay_lines::PrintError;
