@@ -7,7 +7,7 @@ ghost use Rattle.report_translate.specs.Translation.{IsRefusedByCheck};
 
 use crate::checking::check_fields;
 use crate::report::write_down;
-use field_groups::split;
+use field_groups::{Split, split_into};
 use frame_grammar::{FrameError, Kind, write_frame};
 use std::alloc::Global;
 use translation::TranslateError;
@@ -48,7 +48,8 @@ impl ReportTranslator {
         ensures refused { IfErr result (IsRefused body.now) }
         ensures err { OnErr result (out.new.items ≡ out.old.items) }
     {
-        let split = split(self.alloc, body)?;
+        let mut split = Split::new(self.alloc);
+        split_into(body, &mut split)?;
         write_down(self.alloc, &split, &mut self.down)?;
         match write_frame(Kind::Fix42, &self.down, out) {
             Ok(()) => Ok(()),
@@ -67,7 +68,8 @@ impl ReportTranslator {
         ensures ok { OnOk result ((fields : List Field) × IsKnown body.now fields) }
         ensures refused { IfErr result (IsRefusedByCheck body.now) }
     {
-        let split = split(self.alloc, body)?;
+        let mut split = Split::new(self.alloc);
+        split_into(body, &mut split)?;
         check_fields(&split)
     }
 }

@@ -7,7 +7,7 @@ ghost use Rattle.request_translate.specs.Translation.{IsRefusedByCheck};
 ghost use Rattle.request_translate.specs.Writing.{Appends, IsUpOf, Refuses, RefusesUp};
 
 use crate::checking::{check_fields, good};
-use field_groups::{Split, split};
+use field_groups::{Split, split_into};
 use frame_grammar::{FrameError, Kind, write_frame};
 use request_rules::put_up as put_content;
 use std::alloc::Global;
@@ -77,7 +77,8 @@ impl Translator {
         ensures refused { IfErr result (IsRefused body.now) }
         ensures err { OnErr result (out.new.items ≡ out.old.items) }
     {
-        let split = split(self.alloc, body)?;
+        let mut split = Split::new(self.alloc);
+        split_into(body, &mut split)?;
         write_up(&split, &mut self.up)?;
         match write_frame(Kind::Fixt11, &self.up, out) {
             Ok(()) => Ok(()),
@@ -95,7 +96,8 @@ impl Translator {
         ensures ok { OnOk result ((fields : List Field) × IsGood body.now fields) }
         ensures refused { IfErr result (IsRefusedByCheck body.now) }
     {
-        let split = split(self.alloc, body)?;
+        let mut split = Split::new(self.alloc);
+        split_into(body, &mut split)?;
         check_fields(&split)
     }
 }

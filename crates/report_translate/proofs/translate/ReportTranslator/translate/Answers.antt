@@ -7,19 +7,20 @@ use Rattle.report_translate.proofs.translate.ReportTranslator.translate.Goals as
 
 pub write_frame-requires : goal.write_frame-requires
 write_frame-requires c =
-    let split = c.in_ok-split.split in
+    let split = c.split_into.new.split in
     let P : List ℕ → Type 0 = λ bytes. IsWritable bytes in
     subst P (sym c.deref.ensures.value) (can_be_written c.args.body.now split.fields
-    split.fault c.in_ok-split.ensures c.write_down.new.body.items c.in_ok-write_down.ensures.ok)
+    split.fault c.in_ok-split_into.ensures c.write_down.new.body.items
+    c.in_ok-write_down.ensures.ok)
 
 pub returns-in-Ok-clause-ok : goal.returns-in-Ok-clause-ok
 returns-in-Ok-clause-ok c =
-    let split = c.in_ok-split.split in
+    let split = c.split_into.new.split in
     let down = c.write_down.new.body.items in
     let P : List ℕ → Type 0 = λ b. IsFrame Fix42 b (frame_of Fix42 b) in
     let frame = subst P c.deref.ensures.value c.in-Ok.ensures.frame in (
       frame_of Fix42 down,
-      translation c.args.body.now split.fields split.fault c.in_ok-split.ensures down
+      translation c.args.body.now split.fields split.fault c.in_ok-split_into.ensures down
           c.in_ok-write_down.ensures.ok frame,
       c.in-Ok.ensures.ok
           ∙ ap (λ (b : List ℕ). c.args.out.now.items ++ frame_of Fix42 b) c.deref.ensures.value,
@@ -27,8 +28,8 @@ returns-in-Ok-clause-ok c =
 
 pub returns-in_err-write_down-clause-refused : goal.returns-in_err-write_down-clause-refused
 returns-in_err-write_down-clause-refused c =
-    let split = c.in_ok-split.split in
+    let split = c.split_into.new.split in
     let p = err_from_is_err_and
     c.from_residual-in_err-write_down.result c.from_residual-in_err-write_down.ensures.1 in
     rw (p.1, p.2) (refused c.args.body.now split.fields split.fault
-    c.in_ok-split.ensures c.in_err-write_down.field-0.0 c.in_err-write_down.ensures.refused)
+    c.in_ok-split_into.ensures c.in_err-write_down.field-0.0 c.in_err-write_down.ensures.refused)
