@@ -26,18 +26,15 @@ use Rattle.rows_fix50.specs.Header.{month_by}
 use Rattle.rows_fix50.specs.Meaning.{id_of}
 use Rattle.reports_fix50.specs.Sense.{reason_told, telling}
 use Rattle.rule_rows.specs.ByRules.{content_by, lack_if, rule_fields}
+use Rattle.rule_rows.specs.Rules.{By, Moved}
 use Rattle.report_rules.specs.declared.rules.Rule.{Rule as CodeRule}
 use Rattle.report_rules.specs.declared.rules.Rule.TheVariants as rules
 use Rattle.report_rules.specs.declared.source.Source.{Source}
-use Rattle.report_rules.specs.CodeRules.{close_code, known_of, lacked, number_of}
-use Rattle.report_rules.specs.CodeRules.{numbered, rule_of, says, stands, tells_of, within_text}
-use Rattle.report_rules.specs.CodeRules.{writes}
-use Rattle.report_rules.specs.Rules.{Rule, Same, Moved, PartyOf}
-use Rattle.report_rules.specs.Rules.{Another, Traded, Within}
-use Rattle.report_rules.specs.Rules.{at, at_close, coded, exec_type}
-use Rattle.report_rules.specs.Rules.{fills}
-use Rattle.report_rules.specs.Rules.{id_down, kinds, lacks_type, on_close, party, reason_down}
-use Rattle.report_rules.specs.Rules.{rule_lack, status_if, tells, trans_type, within, works_on}
+use Rattle.report_rules.specs.CodeRules.{close_code, known_of, lacked, number_of, numbered, rule_of}
+use Rattle.report_rules.specs.CodeRules.{says, stands, tells_of, within_text, writes}
+use Rattle.report_rules.specs.Rules.{Rule, PartyOf, Another, Traded, Within, at, at_close, coded}
+use Rattle.report_rules.specs.Rules.{exec_type, fills, id_down, kinds, lacks_type, on_close, party}
+use Rattle.report_rules.specs.Rules.{reason_down, status_if, tells, trans_type, within, works_on}
 
 -- ---- values
 
@@ -114,12 +111,11 @@ pub record IsReadAs (known : Said) (m : Message) (s : Source) : Type 0 where
 module _ (m : Message) (s : Source) where
   -- what a rule reads besides
   abbrev pub IsSaid : Rule → Type 0
-  IsSaid (Same tag) = says s tag ≡ at m tag
   IsSaid (Moved from to) = says s from ≡ at m from
-  IsSaid (Another tag) = says s tag ≡ at m tag
-  IsSaid (Traded tag) = says s tag ≡ at m tag
-  IsSaid (PartyOf role to) = id_of role s.groups.parties ≡ party m role
-  IsSaid (Within tag last other) =
+  IsSaid (By (Another tag)) = says s tag ≡ at m tag
+  IsSaid (By (Traded tag)) = says s tag ≡ at m tag
+  IsSaid (By (PartyOf role to)) = id_of role s.groups.parties ≡ party m role
+  IsSaid (By (Within tag last other)) =
       (at m tag ≡ option_map number_text (numbered s tag)) × IfSome (numbered s tag) IsNumber
   IsSaid rule = Unit {0}
 
@@ -180,7 +176,7 @@ module _ (known : Said) (m : Message) (s : Source) (read : IsReadAs known m s) w
     if at_close (read.ord_type i) (read.time i) then None else read.time_said i,
   )
 
-  rule_lacked : (rule : CodeRule) → lacked s rule ≡ rule_lack m (rule_of known rule)
+  rule_lacked : (rule : CodeRule) → lacked s rule ≡ kinds.lack m (rule_of known rule)
   rule_lacked rules.Original =
       λ i. lack_if (not (is_some (or_known (read.original i) (read.is_known i)))) 41
   rule_lacked rules.TransType = λ i. lack_if (lacks_type (read.exec_type i)) 150
@@ -194,7 +190,7 @@ module _ (known : Said) (m : Message) (s : Source) (read : IsReadAs known m s) w
 
   -- THE LACK of rules of the code
   pub rules_lacked : (rules : List CodeRule)
-      → first_of (lacked s) rules ≡ first_of (rule_lack m) (map (rule_of known) rules)
+      → first_of (lacked s) rules ≡ first_of (kinds.lack m) (map (rule_of known) rules)
   unfolding first_of
   rules_lacked [] = refl
   rules_lacked (rule ∷ rules) = λ i. or_else (rule_lacked rule i) (rules_lacked rules i)

@@ -1,11 +1,11 @@
 -- What goes down of a report stands for it: the two tables.
-use Rattle.std.proofs.Common.{◌≡◌, ℕ, List, [], ◌∷◌, true, false, None, refl, sym}
-use Rattle.std.proofs.Common.{ap, subst, ◌∙◌, option_map}
+use Rattle.std.proofs.Common.{◌≡◌, ℕ, List, [], ◌∷◌, true, false, None, refl, sym, ap, subst, ◌∙◌}
+use Rattle.std.proofs.Common.{option_map}
 use Rattle.std.specs.Prelude.{IfSome, Ok, ◌==◌, if◌then◌else◌}
-use Rattle.message_tables.specs.Tables.{Message, Said}
+use Rattle.message_tables.specs.Tables.{Message, Said, Item, Table}
 use Rattle.message_tables.specs.Content.{content}
 use Rattle.order_meaning.specs.Report.{filled}
-use Rattle.row_values.specs.Kinds.{judge}
+use Rattle.row_values.specs.Kinds.{judge, Kind}
 use Rattle.reports_fix42.specs.Message as tables42
 use Rattle.reports_fix42.specs.Message.{message42}
 use Rattle.reports_fix42.specs.Reports as reports42
@@ -16,19 +16,21 @@ use Rattle.reports_fix50.specs.Sense.{report50}
 use Rattle.sound_laws.specs.Complete.{IsComplete}
 use Rattle.sound_laws.specs.Sound.{IsSound, without_resend}
 use Rattle.sound_laws.proofs.ContentAgain.{read_again}
-use Rattle.sound_laws.proofs.Each.{◌&◌, none_each}
+use Rattle.sound_laws.proofs.Each.{◌&◌}
 use Rattle.rule_rows.specs.ByRules.{by_rules, content_by, lack_by}
 use Rattle.rule_rows.proofs.Made.{content_made}
 use Rattle.rule_rows.proofs.Source as source
+use Rattle.rule_rows.proofs.Looked.{AreOwn}
 use Rattle.report_rules.specs.Rules.{Rule, Same, Original, down_message, down_rules, kinds}
-use Rattle.report_rules.specs.Rules.{rules_for}
-use Rattle.report_rules.specs.Down.{GoDown, IsId, IsOrdinary, IsReport50}
-use Rattle.report_rules.specs.Rules.{table_at}
-use Rattle.report_rules.specs.Down.{Reports42, Rejects42, Reports50, Rejects50}
+use Rattle.report_rules.specs.Rules.{rules_for, table_at}
+use Rattle.report_rules.specs.Down.{GoDown, IsId, IsOrdinary, IsReport50, Reports42, Rejects42}
+use Rattle.report_rules.specs.Down.{Reports50, Rejects50, StandsFor, IsReport42}
 use Rattle.report_rules.proofs.KindsDown.{are_kinds, report_own, reject_own}
 use Rattle.report_rules.proofs.SenseDown.{keeps_books, keeps_sense, has_codes, not_lacking}
 use Rattle.report_rules.proofs.SoundDown.{ordinary_by, sound_down}
 use Rattle.report_rules.proofs.TablesDown.{GoesDown, each_made, items_down, make}
+use Rattle.rows_fix42.specs.Header.{table as table42}
+use Rattle.rows_fix50.specs.Header.{table as table50}
 
 -- What the rules make of the items of FIX 5.0 SP2 are those of FIX 4.2.
 pub reports_made : items_down reports50.execution_report (down_rules (Same 41))
@@ -136,27 +138,58 @@ down_by known m w rules is down =
     let P : List Rule → Type 0 = λ rs. Down rs m w in
     subst P is (record { lack = p.0; is = p.1 })
 
--- WHAT GOES DOWN IS SOUND
+-- ---- a report that goes down by these rules
+
+module _ (original : Rule) (own : AreOwn kinds (down_rules original)) (letter : ℕ)
+    (items : List (Item Kind)) (goes : GoesDown (down_rules original) items) (m w : Message)
+    (c : IsComplete (table50 letter items) m) (d : Down (down_rules original) m w) where
+  abbrev client : Table Kind
+  client = table42 letter (items_down items (down_rules original))
+
+  -- WHAT GOES DOWN IS SOUND
+  sound : IsSound judge client w
+  sound =
+      let P : Message → Type 0 = λ x. IsSound judge client x in
+      subst P d.is (sound_down (down_rules original) own letter items goes m c.sound c.month
+      (has_codes original m d.lack) d.lack)
+
+  -- what is written is what the rules write
+  by_these : content client w ≡ content_by kinds (down_rules original) m
+  by_these =
+      let P : Message → Type 0 = λ x. content client x ≡ content_by kinds (down_rules original) m in
+      subst P d.is (sym (content_made kinds items (make items) m
+      (source.outline_is (table50 letter items) m c.sound) are_kinds (down_rules original) own
+      (each_made items)))
+
+  abbrev IsAgain : ℕ → Type 0
+  IsAgain l = message42 (l ∷ []) (content (table_at l) w) None ≡ Ok (without_resend w)
+
+  -- WHAT GOES DOWN STANDS FOR IT
+  stands : (known : Said) → IsOrdinary m → down_message known m ≡ Ok w
+      → rules_for known m ≡ down_rules original → table_at letter ≡ client → IsReport42 w
+      → IsAgain letter → StandsFor known m w
+  stands known h down rules table report again = record {
+    sound = report;
+    means = keeps_sense known m w h down;
+    books = keeps_books known m w h down;
+    by_rules = ap (λ (l : ℕ). content (table_at l) w) sound.letter
+        ∙ ap (λ (t : Table Kind). content t w) table ∙ by_these
+        ∙ ap (λ rs. content_by kinds rs m) (sym rules);
+    again = subst IsAgain (sym sound.letter) again;
+  }
+
 pub report_sound : (m w : Message) → IsComplete tables50.report_table m
     → Down (down_rules (Same 41)) m w → IsSound judge tables42.execution_report_table w
 report_sound m w c d =
-    let P : Message → Type 0 = λ x. IsSound judge tables42.execution_report_table x in
-    subst P d.is (sound_down (down_rules (Same 41)) report_own 56 reports50.execution_report
-    report_goes m c.sound c.month (has_codes (Same 41) m d.lack)
-    (none_each (kinds.lack m) (down_rules (Same 41)) d.lack))
+    sound (Same 41) report_own 56 reports50.execution_report report_goes m w c d
 
 pub reject_sound : (known : Said) → IfSome known IsId → (m w : Message)
     → IsComplete tables50.cancel_reject_table m → Down (down_rules (Original known)) m w
     → IsSound judge tables42.cancel_reject_table w
-reject_sound known id m w c d =
-    let P : Message → Type 0 = λ x. IsSound judge tables42.cancel_reject_table x in
-    subst P d.is (sound_down (down_rules (Original known)) (reject_own known) 57
-    reports50.cancel_reject (reject_goes known id) m c.sound c.month
-    (has_codes (Original known) m d.lack)
-    (none_each (kinds.lack m) (down_rules (Original known)) d.lack))
+reject_sound known id m w c d = sound (Original known) (reject_own known) 57
+    reports50.cancel_reject (reject_goes known id) m w c d
 
--- ---- what is written is read again
-
+-- what is written is read again
 report_again : (w : Message) → IsSound judge tables42.execution_report_table w
     → message42 (56 ∷ []) (content tables42.execution_report_table w) None ≡ Ok (without_resend w)
 unfolding message42
@@ -167,59 +200,17 @@ reject_again : (w : Message) → IsSound judge tables42.cancel_reject_table w
 unfolding message42
 reject_again w sound = read_again tables42.cancel_reject_table w refl refl sound
 
--- ---- what is written is what the rules write
-
-report_written : (m w : Message) → IsComplete tables50.report_table m
-    → Down (down_rules (Same 41)) m w
-    → content tables42.execution_report_table w ≡ content_by kinds (down_rules (Same 41)) m
-report_written m w c d =
-    let items = reports50.execution_report in
-    let P : Message → Type 0 = λ x. content tables42.execution_report_table x
-    ≡ content_by kinds (down_rules (Same 41)) m in
-    subst P d.is (sym (content_made kinds items (make items) m
-    (source.outline_is tables50.report_table m c.sound) are_kinds (down_rules (Same 41)) report_own
-    (each_made items)))
-
-reject_written : (known : Said) (m w : Message) → IsComplete tables50.cancel_reject_table m
-    → Down (down_rules (Original known)) m w
-    → content tables42.cancel_reject_table w ≡ content_by kinds (down_rules (Original known)) m
-reject_written known m w c d =
-    let items = reports50.cancel_reject in
-    let P : Message → Type 0 = λ x. content tables42.cancel_reject_table x
-    ≡ content_by kinds (down_rules (Original known)) m in
-    subst P d.is (sym (content_made kinds items (make items) m
-    (source.outline_is tables50.cancel_reject_table m c.sound) are_kinds
-    (down_rules (Original known)) (reject_own known) (each_made items)))
-
--- WHAT GOES DOWN STANDS FOR IT.
+-- WHAT GOES DOWN STANDS FOR IT, of both types.
 pub goes_down : GoDown
 goes_down known id m w (Reports50 c) down =
-    let h = report_ordinary m c in
     let rules = rules_of known m 56 c.sound.letter in
     let d = down_by known m w (down_rules (Same 41)) rules down in
     let sound = report_sound m w c d in
-    let P : ℕ → Type 0 = λ l. message42 (l ∷ []) (content (table_at l) w) None
-    ≡ Ok (without_resend w) in
-    record {
-      sound = Reports42 sound;
-      means = keeps_sense known m w h down;
-      books = keeps_books known m w h down;
-      by_rules = ap (λ (l : ℕ). content (table_at l) w) sound.letter ∙ report_written m w c d
-          ∙ ap (λ rs. content_by kinds rs m) (sym rules);
-      again = subst P (sym sound.letter) (report_again w sound);
-    }
+    stands (Same 41) report_own 56 reports50.execution_report report_goes m w c d known
+    (report_ordinary m c) down rules refl (Reports42 sound) (report_again w sound)
 goes_down known id m w (Rejects50 c) down =
-    let h = reject_ordinary m c in
     let rules = rules_of known m 57 c.sound.letter in
     let d = down_by known m w (down_rules (Original known)) rules down in
     let sound = reject_sound known id m w c d in
-    let P : ℕ → Type 0 = λ l. message42 (l ∷ []) (content (table_at l) w) None
-    ≡ Ok (without_resend w) in
-    record {
-      sound = Rejects42 sound;
-      means = keeps_sense known m w h down;
-      books = keeps_books known m w h down;
-      by_rules = ap (λ (l : ℕ). content (table_at l) w) sound.letter ∙ reject_written known m w c d
-          ∙ ap (λ rs. content_by kinds rs m) (sym rules);
-      again = subst P (sym sound.letter) (reject_again w sound);
-    }
+    stands (Original known) (reject_own known) 57 reports50.cancel_reject (reject_goes known id) m w
+    c d known (reject_ordinary m c) down rules refl (Rejects42 sound) (reject_again w sound)

@@ -1,54 +1,45 @@
 -- The kinds of rules by which a report goes down say nothing where the source has nothing.
-use Rattle.std.proofs.Common.{◌≡◌, ℕ, [], ◌∷◌, false, Option, Some, None, refl}
-use Rattle.message_tables.specs.Tables.{Message, Said, Tag, Role, ◌>>=◌, code_of}
-use Rattle.sound_laws.proofs.Each.{either}
-use Rattle.rule_rows.specs.ByRules.{has_any, has_place, outline}
-use Rattle.rule_rows.proofs.Looked.{AreKinds, AreOwn, absent, none_at, no_lines}
-use Rattle.report_rules.specs.Rules.{Rule, Same, Moved, Original, PartyOf, Group, ExecId, TransType}
-use Rattle.report_rules.specs.Rules.{ExecType, OrdStatus, Another, Traded, Within, Told, Month}
-use Rattle.report_rules.specs.Rules.{DayOfDate, OrdType, Time, at, at_close, down_rules, has, kinds}
-use Rattle.report_rules.specs.Rules.{rule_lines, rule_said}
+use Rattle.std.proofs.Common.{◌≡◌, ℕ, false, Option, Some, None, refl}
+use Rattle.std.specs.List.{AllByRecursion}
+use Rattle.message_tables.specs.Tables.{Message, Said, ◌>>=◌, code_of, said_at}
+use Rattle.rule_rows.specs.ByRules.{outline}
+use Rattle.rule_rows.proofs.Looked.{AreKinds, AreOwn, absent}
+use Rattle.rule_rows.specs.Rules.{Same}
+use Rattle.rule_rows.proofs.Own.{are_with}
+use Rattle.report_rules.specs.Rules.{Own, OrKnown, PartyOf, ExecId, TransType, ExecType, OrdStatus}
+use Rattle.report_rules.specs.Rules.{Another, Traded, Within, Told, Month, DayOfDate, OrdType, Time}
+use Rattle.report_rules.specs.Rules.{at, at_close, down_rules, has, kinds, own_kinds, own_said}
+use Rattle.report_rules.specs.Rules.{sources, Original}
 
 -- no time is not at the close
 no_close : (type : Option ℕ) → at_close type None ≡ false
 no_close None = refl
 no_close (Some type) = refl
 
-says_none : (m : Message) (rule : Rule) → has (outline m) rule ≡ false → rule_said m rule ≡ None
-says_none m (Same tag) h = absent m (Tag tag) h
-says_none m (Moved from to) h = absent m (Tag from) h
-says_none m (Original known) h = absurd cc
-says_none m (PartyOf role to) h = absent m (Role role) h
-says_none m (Group count) h = refl
-says_none m ExecId h = rw (absent m (Tag 17) h) refl
-says_none m TransType h = rw (absent m (Tag 150) h) refl
-says_none m ExecType h = rw (absent m (Tag 150) h) refl
-says_none m OrdStatus h = rw (absent m (Tag 39) h) refl
-says_none m (Another tag) h = absent m (Tag tag) h
-says_none m (Traded tag) h = absent m (Tag tag) h
-says_none m (Within tag last other) h = rw (absent m (Tag tag) h) refl
-says_none m Told h =
-    let p = either (has_place (outline m) (Tag 58)) (has_any (outline m) (Tag 103 ∷ Tag 378 ∷ Tag 102 ∷ [])) h in
-    let q = either (has_place (outline m) (Tag 103)) (has_any (outline m) (Tag 378 ∷ Tag 102 ∷ [])) p.1 in
-    let r = either (has_place (outline m) (Tag 378)) (has_any (outline m) (Tag 102 ∷ [])) q.1 in
-    rw (
-      none_at m.cells (Tag 58) p.0,
-      none_at m.cells (Tag 103) q.0,
-      none_at m.cells (Tag 378) r.0,
-      absent m (Tag 102) r.1,
-    ) refl
-says_none m Month h = absent m (Tag 200) h
-says_none m DayOfDate h = rw (absent m (Tag 541) h) refl
-says_none m OrdType h = rw (absent m (Tag 40) h) refl
-says_none m Time h = rw (absent m (Tag 59) h, no_close (at m 40 >>= code_of)) refl
+none_by : (m : Message) (rule : Own)
+    → AllByRecursion (λ place. said_at m.cells place ≡ None) (sources rule)
+    → has (outline m) rule ≡ false → own_said m rule ≡ None
+none_by m (OrKnown known) none h = absurd cc
+none_by m (PartyOf role to) none h = none.0
+none_by m ExecId none h = rw none.0 refl
+none_by m TransType none h = rw none.0 refl
+none_by m ExecType none h = rw none.0 refl
+none_by m OrdStatus none h = rw none.0 refl
+none_by m (Another tag) none h = none.0
+none_by m (Traded tag) none h = none.0
+none_by m (Within tag last other) none h = rw none.0 refl
+none_by m Told none h = rw (none.0, none.1.0, none.1.1.0, none.1.1.1.0) refl
+none_by m Month none h = none.0
+none_by m DayOfDate none h = rw none.0 refl
+none_by m OrdType none h = rw none.0 refl
+none_by m Time none h = rw (none.0, no_close (at m 40 >>= code_of)) refl
 
-says_no_lines : (m : Message) (rule : Rule) → has (outline m) rule ≡ false
-    → rule_lines m rule ≡ []
-says_no_lines m (Group count) h = no_lines m.groups count h
-says_no_lines m rule h = refl
+says_none : (m : Message) (rule : Own) → has (outline m) rule ≡ false → own_said m rule ≡ None
+says_none m (OrKnown known) h = absurd cc
+says_none m rule h = none_by m rule (absent m (sources rule) h) h
 
 pub are_kinds : AreKinds kinds
-are_kinds = record { none = says_none; no_lines = says_no_lines }
+are_kinds = are_with own_kinds (record { none = says_none; no_lines = λ m rule h. refl })
 
 pub report_own : AreOwn kinds (down_rules (Same 41))
 report_own = record { apart = refl; found = refl }

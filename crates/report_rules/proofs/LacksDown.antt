@@ -1,12 +1,9 @@
 -- What lacks a spelling in FIX 4.2.
-use Rattle.std.proofs.Common.{◌≡◌, ℕ, List, [], ◌∷◌, Bool, true, false, Option, Some, None, refl}
-use Rattle.std.proofs.Common.{sym}
-use Rattle.std.proofs.Common.{ap, subst, ◌∙◌, codes, unwrap_or, option_map}
-use Rattle.std.specs.Prelude.{Err, IsOk, not, is_none, is_some, ◌||◌, ◌==◌, if◌then◌else◌}
+use Rattle.std.proofs.Common.{◌≡◌, ℕ, List, Bool, true, false, Option, Some, None, refl, sym, ap}
+use Rattle.std.proofs.Common.{subst, ◌∙◌, codes, unwrap_or, option_map}
+use Rattle.std.specs.Prelude.{Err, IsOk, not, is_none, is_some, ◌==◌, if◌then◌else◌}
 use Rattle.std.specs.List.{list_all}
-use Rattle.std.proofs.lemmas.Bool.{eqb-true}
-use Rattle.message_tables.specs.Tables.{Message, Required, Said, ◌>>=◌, code_if, code_in}
-use Rattle.message_tables.specs.Tables.{code_of}
+use Rattle.message_tables.specs.Tables.{Message, Required, Said, ◌>>=◌, code_if, code_in, code_of}
 use Rattle.message_tables.specs.Tables.{first_of, is_one_of, or_else}
 use Rattle.message_tables.specs.Content.{content}
 use Rattle.value_kinds.specs.ValueKind.{Known}
@@ -17,7 +14,7 @@ use Rattle.reports_fix50.specs.Reports as reports50
 use Rattle.reports_fix50.specs.Sense.{cancel_reject_of, exec_of, execution_of, report50}
 use Rattle.sound_laws.specs.Complete.{IsComplete}
 use Rattle.sound_laws.specs.Sound.{IsSaid}
-use Rattle.sound_laws.proofs.Each.{both}
+use Rattle.sound_laws.proofs.Each.{all_true, one_of}
 use Rattle.sound_laws.proofs.RowsSaid.{row_said}
 use Rattle.rule_rows.specs.ByRules.{by_rules, lack_by, lack_if, or_lack}
 use Rattle.rule_rows.proofs.Source as source
@@ -29,20 +26,6 @@ use Rattle.report_rules.proofs.RowsDown.{is_known_of}
 
 abbrev exec_types : List ℕ
 exec_types = codes "03456789ABCDEFGHIJKL"
-
--- what holds of each listed code
-each_code : (P : ℕ → Bool) (xs : List ℕ) (code : ℕ) → list_all P xs ≡ true
-    → is_one_of xs code ≡ true → P code ≡ true
-each_code P [] code all there = absurd cc
-each_code P (x ∷ xs) code all there =
-    let p = both (P x) (list_all P xs) all in
-    by (x == code) refl there p.0 (λ later. each_code P xs code p.1 later)
-  where
-    by : (b : Bool) → (x == code) ≡ b → (b || is_one_of xs code) ≡ true → P x ≡ true
-        → (is_one_of xs code ≡ true → P code ≡ true) → P code ≡ true
-    by true e there first later =
-        let Q : ℕ → Type 0 = λ y. P y ≡ true in subst Q (eqb-true x code e) first
-    by false e there first later = later there
 
 -- an ExecType has a counterpart just where it means a report
 alike : ℕ → Bool
@@ -56,7 +39,8 @@ no_sense : (code : ℕ) → is_one_of exec_types code ≡ true
     → is_none (exec_of code) ≡ lacks_type (Some code)
 unfolding alike
 no_sense code listed =
-    by (is_some (trans_type code)) (exec_of code) (each_code alike exec_types code all_alike listed)
+    by (is_some (trans_type code)) (exec_of code) (one_of (λ c. alike c ≡ true) exec_types
+    (all_true alike exec_types all_alike) code listed)
   where
     by : (b : Bool) (o : Option Exec) → (if b then is_some o else is_none o) ≡ true
         → is_none o ≡ not b

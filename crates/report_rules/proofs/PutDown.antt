@@ -1,12 +1,10 @@
 -- What the code appends is the content of the message that goes down.
 use Rattle.std.proofs.Common.{◌≡◌, ℕ, List, [], ◌∷◌, ◌++◌, map, Option, Some, None, refl, sym, ap}
-use Rattle.std.proofs.Common.{Bool, true, false, if◌then◌else◌}
+use Rattle.std.proofs.Common.{Bool, true, false, if◌then◌else◌, subst, ◌∙◌, codes}
 use Rattle.std.specs.Borrow.{Bor}
 use Rattle.std.specs.Option.{option_map}
 use Rattle.std.specs.Str.{bytes_eq}
 use Rattle.std.proofs.lemmas.Slice.Eq.{bytes_eq-Decides}
-use Rattle.std.proofs.Common.{subst}
-use Rattle.std.proofs.Common.{◌∙◌, codes}
 use Rattle.std.specs.Prelude.{IfErr, OnOk, Result, Ok, Err}
 use Rattle.std.specs.List.{AllByRecursion, flat_map}
 use Rattle.message_tables.specs.declared.table_fault.TableFault.{TableFault}
@@ -30,10 +28,8 @@ use Rattle.rule_rows.specs.ByRules.{by_rules, content_by, lack_by, or_lack}
 use Rattle.rule_rows.proofs.Made.{content_made}
 use Rattle.report_rules.specs.CodeRules.{IsLackOf, lacked, rule_of, source_in, writes}
 use Rattle.report_rules.specs.Down.{IsGoodBy, IsPut, LacksDown, PutsDown}
-use Rattle.report_rules.specs.Rules.{written}
-use Rattle.report_rules.specs.Rules.{Original, Rule, Same, down_message, down_rules, kinds}
+use Rattle.report_rules.specs.Rules.{written, Original, Rule, Same, down_message, down_rules, kinds}
 use Rattle.report_rules.specs.Rules.{rules_for}
-use Rattle.report_rules.specs.Rules.{rule_lack}
 use Rattle.report_rules.proofs.CodeDown.{IsReadAs, IsSaid, rules_lacked, rules_written}
 use Rattle.report_rules.proofs.KindsDown.{are_kinds, reject_own, report_own}
 use Rattle.report_rules.proofs.SourceDown.{reject_read, reject_said, report_read, report_said}
@@ -73,7 +69,7 @@ module _ (known : Said) (msg_type : List ℕ) (fields : List Field) (all : List 
 
   lack_is : (m : Message) → Read m → lack_by kinds (rules_for known m) m ≡ first_of (lacked s) rules
   lack_is m r =
-      ap (λ rs. first_of (rule_lack m) rs) (r.ruled ∙ sym are)
+      ap (λ rs. first_of (kinds.lack m) rs) (r.ruled ∙ sym are)
       ∙ sym (rules_lacked known m s r.read rules)
 
   content_is : (m : Message) → Read m

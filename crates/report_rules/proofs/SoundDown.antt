@@ -7,14 +7,12 @@ use Rattle.std.specs.List.{AllByRecursion, list_any}
 use Rattle.std.proofs.lemmas.Bool.{eqb-true}
 use Rattle.field_groups.specs.Field.{Field, is_soh}
 use Rattle.message_tables.specs.Tables.{Condition, Need, Required, Optional, Lenient, When, Cell}
-use Rattle.message_tables.specs.Tables.{Row, Item, One, Party, Lines, RepeatingGroup, Message, Said}
-use Rattle.message_tables.specs.Tables.{Tag, Role, Spells, ◌>>=◌, code_of, code_if, code_in}
-use Rattle.message_tables.specs.Tables.{groups_of, has_tag, is_listed, is_needed, is_one_of}
-use Rattle.message_tables.specs.Tables.{lines_of, party_in, said_at, value_at}
+use Rattle.message_tables.specs.Tables.{Row, Item, One, Message, Said, Tag, Role, Spells, ◌>>=◌}
+use Rattle.message_tables.specs.Tables.{code_of, code_if, code_in, has_tag, is_listed, is_needed}
+use Rattle.message_tables.specs.Tables.{is_one_of, lines_of, said_at, value_at}
 use Rattle.message_tables.specs.Content.{content, line_fields}
 use Rattle.value_kinds.specs.ValueKind.{ValueKind, Code, Known, Id, Text, Reason, FineStamp}
-use Rattle.value_kinds.specs.ValueKind.{code_text}
-use Rattle.value_kinds.specs.ValueKind.{MonthYear, Day, number_of_two}
+use Rattle.value_kinds.specs.ValueKind.{code_text, MonthYear, Day, number_of_two}
 use Rattle.row_values.specs.Kinds.{Kind, Value, DayOf, TimeBeside, judge, is_at_close, row}
 use Rattle.row_values.specs.Amounts.{amount_in}
 use Rattle.row_values.specs.Groups.{parties}
@@ -24,24 +22,24 @@ use Rattle.rows_fix42.specs.Meaning.{is_on_close}
 use Rattle.rows_fix42.specs.Header.{has_day, header as header42, table as table42}
 use Rattle.rows_fix50.specs.Header.{month_by, table as table50}
 use Rattle.reports_fix42.specs.Reports.{is_about_another, is_execution}
-use Rattle.sound_laws.specs.Sound.{AreSaid, IsClear, IsSaid, IsLine, IsGroup, IsItem, IsSound}
+use Rattle.sound_laws.specs.Sound.{AreSaid, IsClear, IsSaid, IsLine, IsSound}
 use Rattle.sound_laws.proofs.Each.{both, either}
-use Rattle.sound_laws.proofs.ContentValues.{GroupSaid, is_alone}
+use Rattle.sound_laws.proofs.ContentValues.{is_alone}
 use Rattle.sound_laws.proofs.RowsSaid.{row_of_tag, same_value, required_said, optional_said}
 use Rattle.sound_laws.proofs.RowsSaid.{needed_said, code_said, codes_said, among, is_code_of}
-use Rattle.rule_rows.specs.ByRules.{At, by_rules, has_any, has_place, lack_if, outline_of}
-use Rattle.rule_rows.specs.Rows.{group_at}
-use Rattle.rule_rows.proofs.Items.{count_is, has_one, has_row, item_if, row_there, turned}
-use Rattle.rule_rows.proofs.Items.{turned_group}
-use Rattle.rule_rows.proofs.Looked.{AreOwn, IsFound, all_found, has_lines_of, lines_by}
-use Rattle.rule_rows.proofs.Sound as made
+use Rattle.rule_rows.specs.ByRules.{At, by_rules, lack_if, lack_by}
+use Rattle.rule_rows.proofs.Items.{has_one, has_row, item_if, turned, can_go, is_plain, is_value}
+use Rattle.rule_rows.proofs.Looked.{AreOwn, IsFound, each_rule}
 use Rattle.rule_rows.proofs.Source as source
-use Rattle.rule_rows.proofs.Source.{IsSpelled}
-use Rattle.report_rules.specs.Rules.{Rule, Same, Moved, Original, PartyOf, Group, ExecId, TransType}
-use Rattle.report_rules.specs.Rules.{ExecType, OrdStatus, Another, Traded, Within, Told, Month}
-use Rattle.report_rules.specs.Rules.{DayOfDate, OrdType, Time, at, at_close, coded, exec_type}
-use Rattle.report_rules.specs.Rules.{is_fill, kinds, lacks_type, on_close, rule_said}
-use Rattle.report_rules.specs.Rules.{status_if, time_down, told, trans_type, works_on}
+use Rattle.rule_rows.proofs.Source.{IsSpelled, carried_said, is_less}
+use Rattle.rule_rows.proofs.Sound.{AreGroups, Goes, IsGood, RuleGood, carried_good, has_of, may_fit}
+use Rattle.rule_rows.proofs.Sound.{own_good, role_is, sound_made, turned_good, value_is}
+use Rattle.rule_rows.specs.Rules.{By, Moved, Group}
+use Rattle.report_rules.specs.Rules.{Rule, Own, OrKnown, PartyOf, ExecId, TransType, ExecType}
+use Rattle.report_rules.specs.Rules.{OrdStatus, Another, Traded, Within, Told, Month, DayOfDate}
+use Rattle.report_rules.specs.Rules.{OrdType, Time, at, at_close, coded, exec_type, is_fill, kinds}
+use Rattle.report_rules.specs.Rules.{lacks_type, on_close, status_if, time_down, told, trans_type}
+use Rattle.report_rules.specs.Rules.{works_on, own_kinds, own_said}
 use Rattle.report_rules.specs.Down.{IsId, IsOrdinary}
 use Rattle.report_rules.proofs.CodesSaid.{AreCodes, are_codes, statuses, time_is_code, time_counts}
 use Rattle.report_rules.proofs.CodesSaid.{but_last, close_is, open_is}
@@ -51,11 +49,10 @@ use Rattle.report_rules.proofs.KindsDown.{are_kinds}
 use Rattle.report_rules.proofs.RowsDown.{IsTold, ids_said, id_said, is_known_of, known_down}
 use Rattle.report_rules.proofs.RowsDown.{party_id, reason_said, stamp_down, text_said, told_both}
 use Rattle.report_rules.proofs.RowsDown.{told_said}
-use Rattle.report_rules.proofs.TablesDown.{Fits, GoesDown, IsRow, all_can_go_down, by_type}
-use Rattle.report_rules.proofs.TablesDown.{can_go_down, carried, carried_group}
-use Rattle.report_rules.proofs.TablesDown.{down_kind, down_need, each_made, has_rule, is_plain}
-use Rattle.report_rules.proofs.TablesDown.{is_value, items_down, make, month_row, needed, own_row}
-use Rattle.report_rules.proofs.TablesDown.{time_row, type_row}
+use Rattle.report_rules.proofs.TablesDown.{Fits, GoesDown, IsRow, all_can_go, by_type, carried}
+use Rattle.report_rules.proofs.TablesDown.{carried_group, down_kind, down_need, each_made, has_rule}
+use Rattle.report_rules.proofs.TablesDown.{items_down, make, month_row, needed, own_row, time_row}
+use Rattle.report_rules.proofs.TablesDown.{type_row, NeedsType}
 
 -- ---- a row that is carried
 
@@ -74,17 +71,18 @@ module _ (before after : List Field) where
   valued (Value kind) v said h = kind_down kind said h
   valued kind v said h = absurd cc
 
-  row_down : (tag to : ℕ) (kind : Kind) (need : Need) (said : Said) → is_value kind ≡ true
-      → is_plain need ≡ true
-      → IsSaid judge before (record { tag = tag; kind = kind; need = need }) said
-      → IsSaid judge after (record { tag = to; kind = down_kind kind; need = down_need need }) said
-  row_down tag to kind Required said v plain h =
-      required_said after to (down_kind kind) said (h.needed refl) (valued kind v said h.spelled) h.clear
-  row_down tag to kind Optional said v plain h =
-      optional_said after to (down_kind kind) said (valued kind v said h.spelled) h.clear
-  row_down tag to kind Lenient said v plain h =
-      optional_said after to (down_kind kind) said (valued kind v said h.spelled) h.clear
-  row_down tag to kind need said v plain h = absurd cc
+  row_down : (to : ℕ) (row : Row Kind) (said : Said) → can_go row ≡ true
+      → IsSaid judge before row said → IsSaid judge after (carried to row) said
+  row_down to row said ok h =
+      let p = both (is_value row.kind) (is_plain row.need) ok in
+      carried_said before after row to (down_kind row.kind) (down_need row.need) said
+      (less_is row.need p.1) h (valued row.kind p.0 said h.spelled)
+    where
+      less_is : (need : Need) → is_plain need ≡ true → is_less need (down_need need) ≡ true
+      less_is Required h = refl
+      less_is Optional h = refl
+      less_is Lenient h = refl
+      less_is need h = absurd cc
 
   -- a value that other fields need
   same_kind : (kind : Kind) → is_value kind ≡ true → (said : Said)
@@ -96,20 +94,19 @@ module _ (before after : List Field) where
 -- ---- the lines of a group
 
 cells_down : (fields : List Field) (rows : List (Row Kind)) (cells : List Cell)
-    → all_can_go_down rows ≡ true → AreSaid judge fields rows cells
+    → all_can_go rows ≡ true → AreSaid judge fields rows cells
     → AreSaid judge fields (map (λ row. carried row.tag row) rows) cells
 cells_down fields [] [] ok said = tt
 cells_down fields [] (cell ∷ cells) ok said = absurd said
 cells_down fields (row ∷ rows) [] ok said = absurd said
 cells_down fields (row ∷ rows) (cell ∷ cells) ok said =
-    let p = both (can_go_down (Some row)) (all_can_go_down rows) ok in
-    let q = both (is_value row.kind) (is_plain row.need) p.0 in (
+    let p = both (can_go row) (all_can_go rows) ok in (
       said.0,
-      row_down fields fields row.tag row.tag row.kind row.need cell.1 q.0 q.1 said.1,
+      row_down fields fields row.tag row cell.1 p.0 said.1,
       cells_down fields rows cells p.1 said.2,
     )
 
-lines_down : (rows : List (Row Kind)) (lines : List (List Cell)) → all_can_go_down rows ≡ true
+lines_down : (rows : List (Row Kind)) (lines : List (List Cell)) → all_can_go rows ≡ true
     → AllByRecursion (IsLine judge rows) lines
     → AllByRecursion (IsLine judge (map (λ row. carried row.tag row) rows)) lines
 lines_down rows [] ok said = tt
@@ -117,10 +114,6 @@ lines_down rows (line ∷ lines) ok said =
     (cells_down (line_fields line) rows line ok said.0, lines_down rows lines ok said.1)
 
 -- ---- needs
-
-one_test : (b : Bool) → ((b && true) || false) ≡ true → b ≡ true
-one_test true h = refl
-one_test false h = absurd cc
 
 -- a code that stands there
 listed_at : (listed : List ℕ) (value : Said) (code : ℕ) → value ≡ Some (code ∷ [])
@@ -150,31 +143,26 @@ module _ (all : List Rule) (own : AreOwn kinds all) (letter : ℕ) (items : List
     (goes : GoesDown all items) (m : Message) (sound : IsSound judge (table50 letter items) m)
     (month : said_at m.cells (Tag 200) ≡ month_by (said_at m.cells (Tag 541)) (said_at m.cells (Tag 200)))
   where
-    abbrev w : Message
-    w = by_rules kinds all m
+    abbrev g : Goes Rule
+    g = record {
+      kinds = kinds;
+      are = are_kinds;
+      all = all;
+      own = own;
+      table = table50 letter items;
+      make = make items;
+      each = each_made items;
+      header = header42;
+      strict = true;
+      m = m;
+      sound = sound;
+    }
 
     abbrev before : List Field
     before = content (table50 letter items) m
 
     abbrev after : List Field
-    after = content (table42 letter (items_down items all)) w
-
-    abbrev RuleSaid : Rule → Type 0
-    RuleSaid rule = made.RuleSaid kinds are_kinds all own items (make items) (each_made items) letter
-        header42 true m rule
-
-    abbrev RuleGroups : Rule → Type 0
-    RuleGroups rule = made.RuleGroups kinds are_kinds all own items (make items) (each_made items)
-        letter header42 true m rule
-
-    abbrev AreGroups : Type 0
-    AreGroups = made.AreGroups kinds are_kinds all own items (make items) (each_made items) letter
-        header42 true m
-
-    said_is : (rule : Rule) (tag : ℕ) → kinds.target rule ≡ At (Tag tag) → IsFound kinds all rule
-        → said_at w.cells (Tag tag) ≡ rule_said m rule
-    said_is rule tag is found = made.said_is kinds are_kinds all own items (make items)
-        (each_made items) letter header42 true m rule (Tag tag) is found
+    after = content (table42 letter (items_down items all)) (by_rules kinds all m)
 
     -- ---- what the source says
 
@@ -187,86 +175,6 @@ module _ (all : List Rule) (own : AreOwn kinds all) (letter : ℕ) (items : List
 
     value_before : (tag : ℕ) → is_alone tag items ≡ true → value_at tag before ≡ at m tag
     value_before tag alone = source.value_is (table50 letter items) m sound tag alone
-
-    -- the party of a role
-    role_before : (some : List (Item Kind)) (role : ℕ)
-        → has_place (outline_of some) (Role role) ≡ true
-        → AllByRecursion (IsItem judge before m) some
-        → said_at m.cells (Role role) ≡ party_in role (lines_of 453 m.groups)
-    role_before [] role has said = absurd cc
-    role_before (One row ∷ some) role has said = role_before some role has said.1
-    role_before (Lines group ∷ some) role has said = role_before some role has said.1
-    role_before (Party first ∷ some) role has said =
-        by (first == role) refl has (λ later. role_before some role later said.1)
-      where
-        by : (b : Bool) → (first == role) ≡ b → (b || has_place (outline_of some) (Role role)) ≡ true
-            → (has_place (outline_of some) (Role role) ≡ true
-            → said_at m.cells (Role role) ≡ party_in role (lines_of 453 m.groups))
-            → said_at m.cells (Role role) ≡ party_in role (lines_of 453 m.groups)
-        by true e h later =
-            let P : ℕ → Type 0 =
-            λ r. said_at m.cells (Role r) ≡ party_in r (lines_of 453 m.groups) in
-            subst P (eqb-true first role e) said.0
-        by false e h later = later h
-
-    -- ---- groups
-
-    abbrev HasGroups : Option (Item Kind) → Type 0
-    HasGroups item = IfSome item (λ item. AllByRecursion (GroupSaid judge w) (groups_of item))
-
-    no_group : (turn : Row Kind → Row Kind) (row : Option (Row Kind)) → HasGroups (turned turn row)
-    no_group turn None = tt
-    no_group turn (Some row) = tt
-
-    no_groups : (b : Bool) (row : Row Kind) → HasGroups (item_if b (One row))
-    no_groups true row = tt
-    no_groups false row = tt
-
-    group_down : (count : ℕ) → IsFound kinds all (Group count)
-        → (group : Option (RepeatingGroup Kind)) → group_at count items ≡ group
-        → IfSome group (λ g. all_can_go_down g.rows ≡ true)
-        → IfSome group (λ g. IsGroup judge (carried_group g) (lines_of g.count w.groups))
-    group_down count found None e ok = tt
-    group_down count found (Some group) e ok =
-        let there : lines_of count w.groups ≡ lines_of count m.groups =
-        has_lines_of kinds are_kinds all own m count ∙ ap (lines_by kinds m) found in
-        let said = source.group_is (table50 letter items) m sound count group e in
-        let lines = lines_down group.rows (lines_of count m.groups) ok said.said in
-        let P : List (List Cell) → Type 0 = λ lines. IsGroup judge (carried_group group) lines in
-        let Q : ℕ → Type 0 = λ c. IsGroup judge (carried_group group) (lines_of c w.groups) in
-        subst Q (sym (count_is count items group e))
-        (subst P (sym there) (record { few = said.few; said = lines }))
-
-    rule_groups : (rule : Rule) → IsFound kinds all rule → Fits items rule → RuleGroups rule
-    rule_groups (Same tag) found fit = no_group (carried tag) (row_of_tag tag items)
-    rule_groups (Moved from to) found fit = no_group (carried to) (row_of_tag from items)
-    rule_groups (Another tag) found fit =
-        no_group (needed tag is_about_another) (row_of_tag tag items)
-    rule_groups (Traded tag) found fit = no_group (needed tag is_execution) (row_of_tag tag items)
-    rule_groups (Group count) found fit =
-        by (group_at count items) (group_down count found (group_at count items) refl fit)
-      where
-        by : (group : Option (RepeatingGroup Kind))
-            → IfSome group (λ g. IsGroup judge (carried_group g) (lines_of g.count w.groups))
-            → HasGroups (turned_group carried_group group)
-        by None h = tt
-        by (Some group) h = (h, tt)
-    rule_groups rule found fit = no_groups (has_rule items rule) (own_row rule)
-
-    groups_down : AreGroups
-    groups_down = made.groups_are kinds are_kinds all own items (make items) (each_made items)
-        letter header42 true m (by all (all_found kinds all own) goes.fits)
-      where
-        by : (rules : List Rule) → AllByRecursion (IsFound kinds all) rules
-            → AllByRecursion (Fits items) rules → AllByRecursion RuleGroups rules
-        by [] h fit = tt
-        by (rule ∷ rules) h fit = (rule_groups rule h.0 fit.0, by rules h.1 fit.1)
-
-    value_after : (rule : Rule) (tag : ℕ) → kinds.target rule ≡ At (Tag tag)
-        → IsFound kinds all rule → is_alone tag (items_down items all) ≡ true
-        → value_at tag after ≡ rule_said m rule
-    value_after rule tag is found alone = made.value_is kinds are_kinds all own items (make items)
-        (each_made items) letter header42 true m groups_down tag alone ∙ said_is rule tag is found
 
     -- ---- what the tables ask of a message
 
@@ -339,47 +247,6 @@ module _ (all : List Rule) (own : AreOwn kinds all) (letter : ℕ) (items : List
 
     -- ---- items
 
-    abbrev Says : Option (Item Kind) → Type 0
-    Says item = IfSome item (IsItem judge after w)
-
-    -- a row that says what a rule says
-    one_said : (rule : Rule) (row : Row Kind) → kinds.target rule ≡ At (Tag row.tag)
-        → IsFound kinds all rule → IsSaid judge after row (rule_said m rule)
-        → IsItem judge after w (One row)
-    one_said rule row is found h =
-        let P : Said → Type 0 = λ said. IsSaid judge after row said in
-        subst P (sym (said_is rule row.tag is found)) h
-
-    -- a row that FIX 4.2 says otherwise
-    own_case : (rule : Rule) → kinds.target rule ≡ At (Tag (own_row rule).tag)
-        → IsFound kinds all rule
-        → (has_rule items rule ≡ true → IsSaid judge after (own_row rule) (rule_said m rule))
-        → Says (item_if (has_rule items rule) (One (own_row rule)))
-    own_case rule is found h =
-        by (has_rule items rule) (λ there. one_said rule (own_row rule) is found (h there))
-      where
-        by : (b : Bool) → (b ≡ true → IsItem judge after w (One (own_row rule)))
-            → Says (item_if b (One (own_row rule)))
-        by true h = h refl
-        by false h = tt
-
-    -- a row that is carried
-    row_case : (rule : Rule) (from to : ℕ) → kinds.target rule ≡ At (Tag to)
-        → rule_said m rule ≡ at m from → IsFound kinds all rule → (row : Option (Row Kind))
-        → row_of_tag from items ≡ row → can_go_down row ≡ true → Says (turned (carried to) row)
-    row_case rule from to is says found None e ok = tt
-    row_case rule from to is says found (Some row) e ok =
-        let p = both (is_value row.kind) (is_plain row.need) ok in
-        let P : Said → Type 0 = λ said. IsSaid judge after (carried to row) said in
-        one_said rule (carried to row) is found (subst P (sym says)
-        (row_down before after row.tag to row.kind row.need (at m from) p.0 p.1
-        (source.row_at (table50 letter items) m sound from row e)))
-
-    -- a row that a rule of one source has
-    has_of : (tag : ℕ) → has_any (outline_of items) (Tag tag ∷ []) ≡ true
-        → has_row items tag ≡ true
-    has_of tag h = sym (row_there items tag) ∙ sym (has_one items (Tag tag)) ∙ h
-
     original_said : (said known : Said) → IsSpelled before (Value Id) said → IfSome known IsId
         → lack_if (not (is_some (or_known said known))) 41 ≡ None
         → IsSaid judge after (row Required 41 Id) (or_known said known)
@@ -436,18 +303,18 @@ module _ (all : List Rule) (own : AreOwn kinds all) (letter : ℕ) (items : List
           record { status = k.0; at_status = k.1; listed = k.2 }
 
       -- the codes of FIX 4.2
-      module _ (has : has_row items 150 ≡ true) where
+      module _ (has : has_row items 150 ≡ true) (groups : AreGroups g) where
         x : IsMapped
         x = mapped_by has
 
         s : HasStatus
         s = status_by (goes.both has)
 
-        trans_said : rule_said m TransType ≡ Some (code_text x.trans)
+        trans_said : own_said m TransType ≡ Some (code_text x.trans)
         trans_said = ap (λ (v : Said). coded ((v >>= code_of) >>= trans_type)) x.at_venue
             ∙ ap coded x.mapped
 
-        exec_said : rule_said m ExecType ≡ Some (code_text (exec_type x.venue (code_in m.cells 39)
+        exec_said : own_said m ExecType ≡ Some (code_text (exec_type x.venue (code_in m.cells 39)
             (is_fill (code_in m.cells 39) (amount_in m.cells 151).units)))
         exec_said = ap (λ (v : Said). option_map (λ code. code_text (exec_type code (code_in m.cells 39)
             (is_fill (code_in m.cells 39) (amount_in m.cells 151).units))) (v >>= code_of)) x.at_venue
@@ -465,11 +332,11 @@ module _ (all : List Rule) (own : AreOwn kinds all) (letter : ℕ) (items : List
             (is_fill (code_in m.cells 39) (amount_in m.cells 151).units) status_listed)
 
         at20 : value_at 20 after ≡ Some (code_text x.trans)
-        at20 = value_after TransType 20 refl goes.types (goes.typed has).1 ∙ trans_said
+        at20 = value_is g groups (By TransType) 20 refl goes.types (goes.typed has).1 ∙ trans_said
 
         at150 : value_at 150 after ≡ Some (code_text (exec_type x.venue (code_in m.cells 39)
             (is_fill (code_in m.cells 39) (amount_in m.cells 151).units)))
-        at150 = value_after ExecType 150 refl goes.execs (goes.typed has).2 ∙ exec_said
+        at150 = value_is g groups (By ExecType) 150 refl goes.execs (goes.typed has).2 ∙ exec_said
 
         from150 : value_at 150 before ≡ Some (code_text x.venue)
         from150 = value_before 150 (goes.typed has).0 ∙ x.at_venue
@@ -478,7 +345,7 @@ module _ (all : List Rule) (own : AreOwn kinds all) (letter : ℕ) (items : List
             → is_needed (by_type (codes "GH")) before ≡ true
         needs_another n = type_needs before (codes "GH") x.venue from150 (all_codes.another
             (listed_at (codes "12") (value_at 20 after) x.trans at20
-            (one_test (is_listed (codes "12") (value_at 20 after)) n)))
+            (only_test (is_listed (codes "12") (value_at 20 after)) n)))
 
         needs_trade : is_needed (When is_execution) after ≡ true
             → is_needed (by_type (codes "FG")) before ≡ true
@@ -491,25 +358,24 @@ module _ (all : List Rule) (own : AreOwn kinds all) (letter : ℕ) (items : List
             (listed_at (codes "2") (value_at 20 after) x.trans at20 correct)) n)
 
       -- a row that other fields need
-      needed_case : (rule : Rule) (tag : ℕ) (condition : Condition) (listed : List ℕ)
-          → kinds.target rule ≡ At (Tag tag) → rule_said m rule ≡ at m tag → IsFound kinds all rule
-          → (has_row items 150 ≡ true → is_needed (When condition) after ≡ true
-          → is_needed (by_type listed) before ≡ true)
-          → (row : Option (Row Kind)) → row_of_tag tag items ≡ row
-          → IfSome row (λ row. (is_value row.kind ≡ true) × (row.need ≡ by_type listed)
-          × (has_row items 150 ≡ true))
-          → Says (turned (needed tag condition) row)
-      needed_case rule tag condition listed is says found needs None e fit = tt
-      needed_case rule tag condition listed is says found needs (Some row) e fit =
-          let said = source.row_at (table50 letter items) m sound tag row e in
+      needed_good : (rule : Own) (tag : ℕ) (condition : Condition) (listed : List ℕ)
+          → own_kinds.target rule ≡ At (Tag tag) → own_said m rule ≡ at m tag
+          → IsFound kinds all (By rule)
+          → (has_row items 150 ≡ true → AreGroups g → is_needed (When condition) after ≡ true
+          → is_needed (by_type listed) before ≡ true) → NeedsType items tag listed
+          → IsGood g (turned (needed tag condition) (row_of_tag tag items))
+      needed_good rule tag condition listed is says found needs fit =
+          turned_good g (λ row. (is_value row.kind ≡ true) × (row.need ≡ by_type listed)
+          × (has_row items 150 ≡ true)) (By rule) tag (needed tag condition) (λ row. is) found fit
+          (λ row fit said groups.
           let P : Said → Type 0 = λ s. IsSaid judge after (needed tag condition row) s in
-          one_said rule (needed tag condition row) is found (subst P (sym says)
-          (needed_said after condition tag row.kind (at m tag)
-          (λ n. said.needed (ap (λ (need : Need). is_needed need before) fit.1 ∙ needs fit.2 n))
+          subst P (sym says) (needed_said after condition tag row.kind (at m tag)
+          (λ n. said.needed (ap (λ (need : Need). is_needed need before) fit.1
+          ∙ needs fit.2 groups n))
           (same_kind before after row.kind fit.0 (at m tag) said.spelled) said.clear))
 
       status_case : has_row items 39 ≡ true
-          → IsSaid judge after (row Required 39 (Code statuses)) (rule_said m OrdStatus)
+          → IsSaid judge after (row Required 39 (Code statuses)) (own_said m OrdStatus)
       status_case has = by (works_on (code_if m.cells 39) (code_if m.cells 150))
         where
           by : (b : Bool) → IsSaid judge after (row Required 39 (Code statuses))
@@ -571,7 +437,7 @@ module _ (all : List Rule) (own : AreOwn kinds all) (letter : ℕ) (items : List
 
       -- ---- texts and dates
 
-      told_case : Fits items Told → IsTold 48 (told m)
+      told_case : Fits items (By Told) → IsTold 48 (told m)
       told_case fit =
           let a = told_said before 103 8 (at m 103) (lit≤ tt)
           (spelled (row Optional 103 Reason) fit.1) in
@@ -592,104 +458,102 @@ module _ (all : List Rule) (own : AreOwn kinds all) (letter : ℕ) (items : List
       clear_back (suc n) (b ∷ bs) h =
           clear_back n bs (either (b == 1) (list_any is_soh bs) h).1
 
-      day_case : (date : Said) → at m 541 ≡ date → has_row items 200 ≡ true
+      day_case : AreGroups g → (date : Said) → at m 541 ≡ date → has_row items 200 ≡ true
           → IsSpelled before (Value Day) date
           → IsSaid judge after (record { tag = 205; kind = DayOf 200; need = Optional })
           (option_map (drop 6) date)
-      day_case None e has h = optional_said after 205 (DayOf 200) None tt tt
-      day_case (Some date) e has h =
+      day_case groups None e has h = optional_said after 205 (DayOf 200) None tt tt
+      day_case groups (Some date) e has h =
           let at200 : value_at 200 after ≡ Some (take 6 date) =
-          value_after Month 200 refl goes.months (goes.dated has).2
+          value_is g groups (By Month) 200 refl goes.months (goes.dated has).2
           ∙ month ∙ ap (λ (d : Said). month_by d (at m 200)) e in
           optional_said after 205 (DayOf 200) (Some (drop 6 date))
           (day_spelled before after date h.spelled at200) (clear_back 6 date h.clear)
 
-      month_case : Fits items Month → has_row items 200 ≡ true
+      month_case : AreGroups g → Fits items (By Month) → has_row items 200 ≡ true
           → IsSaid judge after (row (When has_day) 200 MonthYear) (at m 200)
-      month_case fit has =
+      month_case groups fit has =
           let d = spelled (row Optional 541 Day) fit.1 in
           let mo = spelled (month_row items) fit.0 in
           needed_said after has_day 200 (Value MonthYear) (at m 200)
           (λ n. month_there after (at m 541) (at m 200) month
-          (value_after DayOfDate 205 refl goes.days (goes.dated has).1) (only_test (has_tag 205 after) n))
+          (value_is g groups (By DayOfDate) 205 refl goes.days (goes.dated has).1)
+          (only_test (has_tag 205 after) n))
           (month_spelled before after (at m 541) (at m 200) (value_before 541 (goes.dated has).0)
           d.spelled month mo.spelled) mo.clear
 
       -- ---- ONE LEMMA FOR EACH KIND OF RULE
 
+      -- a row of its own, which FIX 4.2 says otherwise
+      own_case : (rule : Own) → own_kinds.target rule ≡ At (Tag (own_row rule).tag)
+          → IsFound kinds all (By rule) → (has_rule items rule ≡ true → AreGroups g
+          → IsSaid judge after (own_row rule) (own_said m rule))
+          → IsGood g (item_if (has_rule items rule) (One (own_row rule)))
+      own_case rule is found h =
+          own_good g (By rule) (has_rule items rule) (own_row rule) is found h
+
       rule_down : (rule : Rule) → IsFound kinds all rule → Fits items rule
-          → kinds.lack m rule ≡ None → RuleSaid rule
-      rule_down (Same tag) found fit lack =
-          row_case (Same tag) tag tag refl refl found (row_of_tag tag items) refl fit
+          → kinds.lack m rule ≡ None → RuleGood g rule
       rule_down (Moved from to) found fit lack =
-          row_case (Moved from to) from to refl refl found (row_of_tag from items) refl fit
-      rule_down (Original known) found fit lack = own_case (Original known) refl found (λ has.
+          turned_good g (λ row. can_go row ≡ true) (Moved from to) from (carried to)
+          (λ row. refl) found (may_fit (row_of_tag from items) fit)
+          (λ row fit said groups. row_down before after to row (at m from) fit said)
+      rule_down (By (OrKnown known)) found fit lack = own_case (OrKnown known) refl found
+          (λ has groups.
           original_said (at m 41) known (spelled (row Optional 41 Id) fit.0) fit.1 lack)
-      rule_down (PartyOf role to) found fit lack = own_case (PartyOf role to) refl found (λ has.
-          let here = sym (has_one items (Role role)) ∙ has in
+      rule_down (By (PartyOf role to)) found fit lack = own_case (PartyOf role to) refl found
+          (λ has groups.
           let P : Said → Type 0 = λ id. IfSome id IsId in
           ids_said after to (said_at m.cells (Role role))
-          (subst P (sym (role_before items role here sound.items))
-          (party_id role (lines_of 453 m.groups)
-          (source.group_is (table50 letter items) m sound 453 parties (fit here)).said)))
+          (subst P (sym (role_is g items role (sym (has_one items (Role role)) ∙ has) sound.items))
+          (party_id role (lines_of 453 m.groups) (source.group_is (table50 letter items) m sound
+          453 parties (fit (sym (has_one items (Role role)) ∙ has))).said)))
       rule_down (Group count) found fit lack =
-          by (group_at count items) (group_down count found (group_at count items) refl fit)
-        where
-          by : (group : Option (RepeatingGroup Kind))
-              → IfSome group (λ g. IsGroup judge (carried_group g) (lines_of g.count w.groups))
-              → Says (turned_group carried_group group)
-          by None h = tt
-          by (Some group) h = h
-      rule_down ExecId found fit lack = own_case ExecId refl found (λ has.
+          carried_good g (λ group. all_can_go group.rows ≡ true) (Group count) count
+          carried_group (λ group. refl) refl refl found fit
+          (λ group lines ok said.
+          record { few = said.few; said = lines_down group.rows lines ok said.said })
+      rule_down (By ExecId) found fit lack = own_case ExecId refl found (λ has groups.
           id_said before after (status_if (code_if m.cells 150)) (at m 17)
-          (is_there (row Required 17 Id) refl (has_of 17 has) fit) (spelled (row Required 17 Id) fit))
-      rule_down TransType found fit lack = own_case TransType refl found (λ has.
+          (is_there (row Required 17 Id) refl (has_of g 17 has) fit)
+          (spelled (row Required 17 Id) fit))
+      rule_down (By TransType) found fit lack = own_case TransType refl found (λ has groups.
+          let has = has_of g 150 has in
           let P : Said → Type 0 = λ said. IsSaid judge after (own_row TransType) said in
-          subst P (sym (trans_said (has_of 150 has)))
-          (code_said after 20 (codes "0123") (x (has_of 150 has)).trans refl
-          (all_codes (has_of 150 has)).trans_type))
-      rule_down ExecType found fit lack = own_case ExecType refl found (λ has.
+          subst P (sym (trans_said has groups)) (code_said after 20 (codes "0123")
+          (x has groups).trans refl (all_codes has groups).trans_type))
+      rule_down (By ExecType) found fit lack = own_case ExecType refl found (λ has groups.
+          let has = has_of g 150 has in
           let P : Said → Type 0 = λ said. IsSaid judge after (own_row ExecType) said in
-          subst P (sym (exec_said (has_of 150 has)))
-          (code_said after 150 statuses _ refl (all_codes (has_of 150 has)).exec_type))
-      rule_down OrdStatus found fit lack =
-          own_case OrdStatus refl found (λ has. status_case (has_of 39 has))
-      rule_down (Another tag) found fit lack =
-          needed_case (Another tag) tag is_about_another (codes "GH") refl refl found needs_another
-          (row_of_tag tag items) refl fit
-      rule_down (Traded tag) found fit lack =
-          needed_case (Traded tag) tag is_execution (codes "FG") refl refl found needs_trade
-          (row_of_tag tag items) refl fit
-      rule_down (Within tag last other) found fit lack =
-          own_case (Within tag last other) refl found (λ has.
+          subst P (sym (exec_said has groups))
+          (code_said after 150 statuses _ refl (all_codes has groups).exec_type))
+      rule_down (By OrdStatus) found fit lack =
+          own_case OrdStatus refl found (λ has groups. status_case (has_of g 39 has))
+      rule_down (By (Another tag)) found fit lack = needed_good (Another tag) tag is_about_another
+          (codes "GH") refl refl found needs_another fit
+      rule_down (By (Traded tag)) found fit lack =
+          needed_good (Traded tag) tag is_execution (codes "FG") refl refl found needs_trade fit
+      rule_down (By (Within tag last other)) found fit lack =
+          own_case (Within tag last other) refl found (λ has groups.
           reason_said before after tag last other fit.1 (at m tag)
           (spelled (row Optional tag Reason) fit.0))
-      rule_down Told found fit lack = own_case Told refl found (λ has.
+      rule_down (By Told) found fit lack = own_case Told refl found (λ has groups.
           text_said before after (at m 58) (told m) (told_case fit)
           (spelled (row Optional 58 Text) fit.0))
-      rule_down Month found fit lack =
-          own_case Month refl found (λ has. month_case fit (has_of 200 has))
-      rule_down DayOfDate found fit lack = own_case DayOfDate refl found (λ has.
-          day_case (at m 541) refl (sym goes.dates ∙ has_of 541 has)
+      rule_down (By Month) found fit lack =
+          own_case Month refl found (λ has groups. month_case groups fit (has_of g 200 has))
+      rule_down (By DayOfDate) found fit lack = own_case DayOfDate refl found (λ has groups.
+          day_case groups (at m 541) refl (sym goes.dates ∙ has_of g 541 has)
           (spelled (row Optional 541 Day) fit))
-      rule_down OrdType found fit lack = own_case OrdType refl found (λ has.
+      rule_down (By OrdType) found fit lack = own_case OrdType refl found (λ has groups.
           type_case (at m 40) (spelled (type_row items) fit)
           (at_close (at m 40 >>= code_of) (at m 59 >>= code_of)))
-      rule_down Time found fit lack = own_case Time refl found (λ has.
-          time_case (at m 40) (at m 59) (value_before 40 (goes.timed (has_of 59 has)))
+      rule_down (By Time) found fit lack = own_case Time refl found (λ has groups.
+          time_case (at m 40) (at m 59) (value_before 40 (goes.timed (has_of g 59 has)))
           (spelled (time_row items) fit.0))
 
       -- WHAT GOES DOWN IS SOUND in the table that goes down.
-      pub sound_down : AllByRecursion (λ rule. kinds.lack m rule ≡ None) all
-          → IsSound judge (table42 letter (items_down items all)) w
-      sound_down lack = made.sound_made kinds are_kinds all own items (make items) (each_made items)
-          letter header42 true m sound.letter (source.outline_is (table50 letter items) m sound)
-          (by all (all_found kinds all own) goes.fits lack)
-        where
-          by : (rules : List Rule) → AllByRecursion (IsFound kinds all) rules
-              → AllByRecursion (Fits items) rules
-              → AllByRecursion (λ rule. kinds.lack m rule ≡ None) rules
-              → AllByRecursion RuleSaid rules
-          by [] found fit lack = tt
-          by (rule ∷ rules) found fit lack =
-              (rule_down rule found.0 fit.0 lack.0, by rules found.1 fit.1 lack.1)
+      pub sound_down : lack_by kinds all m ≡ None
+          → IsSound judge (table42 letter (items_down items all)) (by_rules kinds all m)
+      sound_down lack =
+          sound_made g (each_rule kinds (RuleGood g) (Fits items) all m rule_down own goes.fits lack)

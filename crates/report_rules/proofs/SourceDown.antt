@@ -1,7 +1,6 @@
 -- What the code has read of the fields of a report at no fault.
 use Rattle.std.proofs.Common.{◌≡◌, ◌<◌, ◌^◌, ℕ, List, [], ◌∷◌, Bool, true, false, Option, Some}
-use Rattle.std.proofs.Common.{None, refl}
-use Rattle.std.proofs.Common.{sym, ap, ◌∙◌, map, option_map, lit<}
+use Rattle.std.proofs.Common.{None, refl, sym, ap, ◌∙◌, map, option_map, lit<}
 use Rattle.std.specs.Prelude.{IfSome, unwrap_or, ◌==◌, Result, Ok, Err}
 use Rattle.std.specs.Borrow.{Bor}
 use Rattle.std.specs.List.{AllByRecursion}
@@ -14,13 +13,12 @@ use Rattle.typed_fields.specs.Number.{IsNumber, number_text, read_number}
 use Rattle.typed_fields.proofs.DecLaws.{dec_is_stable}
 use Rattle.typed_fields.proofs.NumberLaws.{number_in_bound}
 use Rattle.field_groups.specs.Field.{Field}
-use Rattle.message_tables.specs.Tables.{Item, Message, Row, Said, ◌>>=◌, all_rows}
-use Rattle.message_tables.specs.Tables.{code_of, group_says, lines_of, party_in, row_at}
+use Rattle.message_tables.specs.Tables.{Item, Message, Row, Said, ◌>>=◌, all_rows, code_of}
+use Rattle.message_tables.specs.Tables.{group_says, lines_of, party_in, row_at}
 use Rattle.message_tables.specs.FirstFault.{first_fault, message_in}
 use Rattle.value_kinds.specs.ValueKind.{units_of_text}
 use Rattle.row_values.specs.Amounts.{amount_of}
-use Rattle.row_values.specs.Contras.{AreContras}
-use Rattle.row_values.specs.Contras.{contra_cells}
+use Rattle.row_values.specs.Contras.{AreContras, contra_cells}
 use Rattle.row_values.specs.Groups.{AreParties, parties as groups50}
 use Rattle.row_values.specs.Kinds.{Kind, judge}
 use Rattle.row_values.proofs.ByTable.{says_parties}
@@ -36,15 +34,15 @@ use Rattle.sound_laws.proofs.RowsSaid.{row_of_tag}
 use Rattle.row_slots.specs.Slots.{row_says, slot_at, slot_code, slot_decimal, slot_said, slot_value}
 use Rattle.row_slots.proofs.Filled.{is_own, slot_filled}
 use Rattle.row_slots.proofs.SlotsSay.{can_say, if_row, is_decimal, is_numeral, is_standing}
-use Rattle.row_slots.proofs.SlotsSay.{month_says}
-use Rattle.row_slots.proofs.SlotsSay.{slot_says, tag_decimal, tag_numbers, tag_stands}
+use Rattle.row_slots.proofs.SlotsSay.{month_says, slot_says, tag_decimal, tag_numbers, tag_stands}
 use Rattle.report_rules.specs.declared.source.Groups.{Groups}
 use Rattle.report_rules.specs.declared.source.Source.{Source}
 use Rattle.report_rules.specs.CodeRules.{known_of, numbered, says, source_in, stands, zero}
-use Rattle.report_rules.specs.Rules.{Rule, Another, Moved, Original, PartyOf, Same, Traded, Within, at}
+use Rattle.report_rules.specs.Rules.{Rule, Another, Original, PartyOf, Same, Traded, Within, at}
 use Rattle.report_rules.specs.Rules.{down_rules, is_fill, no_amount, party}
 use Rattle.report_rules.proofs.CodeDown.{IsReadAs, IsSaid}
 use Rattle.report_rules.proofs.FieldsDown.{at_other, at_month}
+use Rattle.rule_rows.specs.Rules.{By, Moved}
 
 -- ---- values that slots have
 
@@ -181,21 +179,19 @@ module _ (letter : ℕ) (items : List (Item Kind)) (fields : Bor (List Field)) (
 
   -- and so has what a rule reads besides
   abbrev pub IsReadBy : Rule → Type 0
-  IsReadBy (Same tag) = IsRead tag
   IsReadBy (Moved from to) = IsRead from
-  IsReadBy (Another tag) = IsRead tag
-  IsReadBy (Traded tag) = IsRead tag
-  IsReadBy (Within tag last other) = Reads is_numeral tag
-  IsReadBy (PartyOf role to) = id_of role groups.parties ≡ party m role
+  IsReadBy (By (Another tag)) = IsRead tag
+  IsReadBy (By (Traded tag)) = IsRead tag
+  IsReadBy (By (Within tag last other)) = Reads is_numeral tag
+  IsReadBy (By (PartyOf role to)) = id_of role groups.parties ≡ party m role
   IsReadBy rule = Unit {0}
 
   rule_said : (rule : Rule) → IsReadBy rule → IsSaid m s rule
-  rule_said (Same tag) h = said tag h
   rule_said (Moved from to) h = said from h
-  rule_said (Another tag) h = said tag h
-  rule_said (Traded tag) h = said tag h
-  rule_said (Within tag last other) h = (number_said tag h, number_good tag)
-  rule_said (PartyOf role to) h = h
+  rule_said (By (Another tag)) h = said tag h
+  rule_said (By (Traded tag)) h = said tag h
+  rule_said (By (Within tag last other)) h = (number_said tag h, number_good tag)
+  rule_said (By (PartyOf role to)) h = h
   rule_said rule h = tt
 
   pub rules_said : (rules : List Rule) → AllByRecursion IsReadBy rules

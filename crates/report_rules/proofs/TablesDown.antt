@@ -1,7 +1,6 @@
 -- The table that the rules make of a table of FIX 5.0 SP2. The tables of reports of FIX 4.2 are what
 -- they make of those of FIX 5.0 SP2.
-use Rattle.std.specs.Prelude.{◌≡◌, ℕ, Bool, true, false, ◌&&◌, List, [], ◌∷◌, Option, Some, None}
-use Rattle.std.specs.Prelude.{IfSome, codes, map}
+use Rattle.std.specs.Prelude.{◌≡◌, ℕ, Bool, true, List, [], ◌∷◌, Option, Some, IfSome, codes, map}
 use Rattle.std.specs.List.{AllByRecursion, list_all}
 use Rattle.std.proofs.Common.{refl}
 use Rattle.message_tables.specs.Tables.{Condition, Is, Need, Required, Optional, Lenient, When, Row}
@@ -16,13 +15,15 @@ use Rattle.sound_laws.proofs.ContentValues.{is_alone}
 use Rattle.sound_laws.proofs.RowsSaid.{row_of_tag}
 use Rattle.rule_rows.specs.ByRules.{has_place, outline_of}
 use Rattle.rule_rows.specs.Rows.{group_at}
-use Rattle.rule_rows.proofs.Items.{has_row, item_if, item_made, turned, turned_group}
-use Rattle.rule_rows.proofs.Items.{turned_group_made, turned_made}
+use Rattle.rule_rows.proofs.Items.{can_go, has_row, is_value, item_if, item_made, may_go, turned}
+use Rattle.rule_rows.proofs.Items.{turned_made}
 use Rattle.rule_rows.proofs.Looked.{IsFound}
 use Rattle.rule_rows.proofs.Made.{IsMade, made}
-use Rattle.report_rules.specs.Rules.{Rule, Same, Moved, Original, PartyOf, Group, ExecId, TransType}
-use Rattle.report_rules.specs.Rules.{ExecType, OrdStatus, Another, Traded, Within, Told, Month}
-use Rattle.report_rules.specs.Rules.{DayOfDate, OrdType, Time, has, kinds}
+use Rattle.rule_rows.specs.Rules.{By, Moved, Group}
+use Rattle.rule_rows.proofs.Own.{each_with, make_with}
+use Rattle.report_rules.specs.Rules.{Rule, Own, OrKnown, PartyOf, ExecId, TransType, ExecType}
+use Rattle.report_rules.specs.Rules.{OrdStatus, Another, Traded, Within, Told, Month, DayOfDate}
+use Rattle.report_rules.specs.Rules.{OrdType, Time, has, kinds, own_kinds}
 use Rattle.report_rules.specs.Down.{IsId}
 use Rattle.report_rules.proofs.CodesSaid.{statuses}
 use Rattle.report_rules.proofs.RowsDown.{is_other}
@@ -55,30 +56,14 @@ carried_group group = record {
   skipped = [];
 }
 
--- a kind whose values are judged by themselves
-abbrev pub is_value : Kind → Bool
-is_value (Value kind) = true
-is_value kind = false
-
--- rows that can be carried: their values are judged by themselves
-abbrev pub is_plain : Need → Bool
-is_plain Required = true
-is_plain Optional = true
-is_plain Lenient = true
-is_plain need = false
-
-abbrev pub can_go_down : Option (Row Kind) → Bool
-can_go_down None = true
-can_go_down (Some row) = is_value row.kind && is_plain row.need
-
-abbrev pub all_can_go_down : List (Row Kind) → Bool
-all_can_go_down rows = list_all (λ row. can_go_down (Some row)) rows
+abbrev pub all_can_go : List (Row Kind) → Bool
+all_can_go rows = list_all can_go rows
 
 abbrev pub by_type : List ℕ → Need
 by_type listed = When ((Is 150 listed ∷ []) ∷ [])
 
 -- THE ROWS OF FIX 4.2 that say otherwise what FIX 5.0 SP2 says
-abbrev pub own_row : Rule → Row Kind
+abbrev pub own_row : Own → Row Kind
 own_row (PartyOf role to) = row Optional to Id
 own_row ExecId = row Required 17 Id
 own_row TransType = row Required 20 (Code (codes "0123"))
@@ -93,26 +78,26 @@ own_row Time = row Optional 59 (Code (codes "0123456"))
 own_row rule = row Required 41 Id
 
 module _ (items : List (Item Kind)) where
-  abbrev pub has_rule : Rule → Bool
+  abbrev pub has_rule : Own → Bool
   has_rule rule = has (outline_of items) rule
 
   -- WHAT A RULE MAKES of a table
+  abbrev pub make_own : Own → Option (Item Kind)
+  make_own (Another tag) = turned (needed tag is_about_another) (row_of_tag tag items)
+  make_own (Traded tag) = turned (needed tag is_execution) (row_of_tag tag items)
+  make_own rule = item_if (has_rule rule) (One (own_row rule))
+
+  each_own : (rule : Own) → IsMade own_kinds items make_own rule
+  each_own (Another tag) = turned_made items (needed tag is_about_another) tag tag (λ row. refl)
+  each_own (Traded tag) = turned_made items (needed tag is_execution) tag tag (λ row. refl)
+  each_own rule = item_made (has_rule rule) (One (own_row rule))
+
   abbrev pub make : Rule → Option (Item Kind)
-  make (Same tag) = turned (carried tag) (row_of_tag tag items)
-  make (Moved from to) = turned (carried to) (row_of_tag from items)
-  make (Another tag) = turned (needed tag is_about_another) (row_of_tag tag items)
-  make (Traded tag) = turned (needed tag is_execution) (row_of_tag tag items)
-  make (Group count) = turned_group carried_group (group_at count items)
-  make rule = item_if (has_rule rule) (One (own_row rule))
+  make rule = make_with own_kinds carried carried_group items make_own rule
 
   pub each_made : (rule : Rule) → IsMade kinds items make rule
-  each_made (Same tag) = turned_made items (carried tag) tag tag (λ row. refl)
-  each_made (Moved from to) = turned_made items (carried to) from to (λ row. refl)
-  each_made (Another tag) =
-      turned_made items (needed tag is_about_another) tag tag (λ row. refl)
-  each_made (Traded tag) = turned_made items (needed tag is_execution) tag tag (λ row. refl)
-  each_made (Group count) = turned_group_made items carried_group count (λ group. refl)
-  each_made rule = item_made (has_rule rule) (One (own_row rule))
+  each_made rule = each_with own_kinds carried carried_group items make_own (λ to row. refl)
+      (λ group. refl) each_own rule
 
   abbrev pub items_down : List Rule → List (Item Kind)
   items_down rules = made kinds items make rules
@@ -143,23 +128,22 @@ module _ (items : List (Item Kind)) where
   type_row = row Lenient 40 (Code (codes "1234"))
 
   abbrev pub Fits : Rule → Type 0
-  Fits (Same tag) = can_go_down (row_of_tag tag items) ≡ true
-  Fits (Moved from to) = can_go_down (row_of_tag from items) ≡ true
-  Fits (Original known) = IsRow (row Optional 41 Id) × IfSome known IsId
-  Fits (PartyOf role to) =
+  Fits (Moved from to) = may_go (row_of_tag from items) ≡ true
+  Fits (By (OrKnown known)) = IsRow (row Optional 41 Id) × IfSome known IsId
+  Fits (By (PartyOf role to)) =
       has_place (outline_of items) (Role role) ≡ true → group_at 453 items ≡ Some parties
   Fits (Group count) =
-      IfSome (group_at count items) (λ group. all_can_go_down group.rows ≡ true)
-  Fits ExecId = IsRow (row Required 17 Id)
-  Fits (Another tag) = NeedsType tag (codes "GH")
-  Fits (Traded tag) = NeedsType tag (codes "FG")
-  Fits (Within tag last other) = IsRow (row Optional tag Reason) × (is_other other ≡ true)
-  Fits Told = IsRow (row Optional 58 Text) × IsRow (row Optional 103 Reason)
+      IfSome (group_at count items) (λ group. all_can_go group.rows ≡ true)
+  Fits (By ExecId) = IsRow (row Required 17 Id)
+  Fits (By (Another tag)) = NeedsType tag (codes "GH")
+  Fits (By (Traded tag)) = NeedsType tag (codes "FG")
+  Fits (By (Within tag last other)) = IsRow (row Optional tag Reason) × (is_other other ≡ true)
+  Fits (By Told) = IsRow (row Optional 58 Text) × IsRow (row Optional 103 Reason)
       × IsRow (row Optional 378 Reason) × IsRow (row Optional 102 Reason)
-  Fits Month = IsRow month_row × IsRow (row Optional 541 Day)
-  Fits DayOfDate = IsRow (row Optional 541 Day)
-  Fits OrdType = IsRow type_row
-  Fits Time = IsRow time_row × IsRow type_row
+  Fits (By Month) = IsRow month_row × IsRow (row Optional 541 Day)
+  Fits (By DayOfDate) = IsRow (row Optional 541 Day)
+  Fits (By OrdType) = IsRow type_row
+  Fits (By Time) = IsRow time_row × IsRow type_row
   Fits rule = Unit {0}
 
 -- A TABLE GOES DOWN: it fits each rule, and what values are judged by has one place.
@@ -174,7 +158,7 @@ pub record GoesDown (all : List Rule) (items : List (Item Kind)) : Type 0 where
   pub dates : has_row items 541 ≡ has_row items 200
   pub dated : has_row items 200 ≡ true → (is_alone 541 items ≡ true)
       × (is_alone 205 (items_down items all) ≡ true) × (is_alone 200 (items_down items all) ≡ true)
-  pub types : IsFound kinds all TransType
-  pub execs : IsFound kinds all ExecType
-  pub months : IsFound kinds all Month
-  pub days : IsFound kinds all DayOfDate
+  pub types : IsFound kinds all (By TransType)
+  pub execs : IsFound kinds all (By ExecType)
+  pub months : IsFound kinds all (By Month)
+  pub days : IsFound kinds all (By DayOfDate)

@@ -20,38 +20,38 @@ use Rattle.rows_fix50.specs.Meaning.{id_of}
 use Rattle.reports_fix50.specs.Sense.{reason_told, telling}
 use Rattle.row_slots.specs.declared.slots.Slot.{Slot}
 use Rattle.row_slots.specs.Slots.{no_slots, slot_at, slot_code, slot_decimal, slot_number}
-use Rattle.row_slots.specs.Slots.{slot_said, with_items}
-use Rattle.row_slots.specs.Slots.{slot_value}
+use Rattle.row_slots.specs.Slots.{slot_said, with_items, slot_value}
 use Rattle.rule_rows.specs.ByRules.{lack_if}
+use Rattle.rule_rows.specs.Rules.{By, Group, Moved}
 use Rattle.report_rules.specs.declared.rules.Rule.{Rule as CodeRule}
 use Rattle.report_rules.specs.declared.rules.Rule.TheVariants as rules
 use Rattle.report_rules.specs.declared.source.Codes.{Codes}
 use Rattle.report_rules.specs.declared.source.Groups.{Groups}
 use Rattle.report_rules.specs.declared.source.Source.{Source}
-use Rattle.report_rules.specs.Rules.{Rule, Same, Moved, Original, PartyOf, Group, ExecId, TransType}
-use Rattle.report_rules.specs.Rules.{ExecType, OrdStatus, Another, Traded, Within, Told, Month}
-use Rattle.report_rules.specs.Rules.{DayOfDate, OrdType, Time, at_close, coded, exec_type, id_down}
-use Rattle.report_rules.specs.Rules.{is_fill, lacks_type, status_if, trans_type, works_on}
+use Rattle.report_rules.specs.Rules.{Rule, Original, PartyOf, ExecId, TransType, ExecType}
+use Rattle.report_rules.specs.Rules.{OrdStatus, Another, Traded, Within, Told, Month, DayOfDate}
+use Rattle.report_rules.specs.Rules.{OrdType, Time, at_close, coded, exec_type, id_down, is_fill}
+use Rattle.report_rules.specs.Rules.{lacks_type, status_if, trans_type, works_on, Same}
 
 -- the rule that a rule of the code is, where this original id is known
 abbrev pub rule_of : Said → CodeRule → Rule
 rule_of known (rules.Same tag) = Same tag
 rule_of known (rules.Moved from to) = Moved from to
 rule_of known rules.Original = Original known
-rule_of known (rules.PartyOf role to) = PartyOf role to
+rule_of known (rules.PartyOf role to) = By (PartyOf role to)
 rule_of known rules.Contras = Group 382
-rule_of known rules.ExecId = ExecId
-rule_of known rules.TransType = TransType
-rule_of known rules.ExecType = ExecType
-rule_of known rules.OrdStatus = OrdStatus
-rule_of known (rules.Another tag) = Another tag
-rule_of known (rules.Traded tag) = Traded tag
-rule_of known (rules.Within tag last other) = Within tag last (code_text other)
-rule_of known rules.Told = Told
-rule_of known rules.Month = Month
-rule_of known rules.DayOfDate = DayOfDate
-rule_of known rules.OrdType = OrdType
-rule_of known rules.Time = Time
+rule_of known rules.ExecId = By ExecId
+rule_of known rules.TransType = By TransType
+rule_of known rules.ExecType = By ExecType
+rule_of known rules.OrdStatus = By OrdStatus
+rule_of known (rules.Another tag) = By (Another tag)
+rule_of known (rules.Traded tag) = By (Traded tag)
+rule_of known (rules.Within tag last other) = By (Within tag last (code_text other))
+rule_of known rules.Told = By Told
+rule_of known rules.Month = By Month
+rule_of known rules.DayOfDate = By DayOfDate
+rule_of known rules.OrdType = By OrdType
+rule_of known rules.Time = By Time
 
 -- ---- what several rules go by
 

@@ -10,46 +10,48 @@ use Rattle.field_groups.specs.HeadValues.{number_in}
 use Rattle.value_kinds.specs.ValueKind.{code_text}
 use Rattle.field_groups.specs.Field.{Field}
 use Rattle.message_tables.specs.Content.{content}
-use Rattle.message_tables.specs.Tables.{Place, Tag, Role, Said, Cell, Message, Table, ◌>>=◌}
-use Rattle.message_tables.specs.Tables.{code_of, is_one_of, lines_of, said_at}
+use Rattle.message_tables.specs.Tables.{Place, Tag, Role, Said, Message, Table, ◌>>=◌, code_of}
+use Rattle.message_tables.specs.Tables.{is_one_of, said_at}
 use Rattle.row_values.specs.Amounts.{amount_of}
 use Rattle.order_meaning.specs.declared.Amount.{Amount}
 use Rattle.order_meaning.specs.Report.{or_known}
 use Rattle.reports_fix42.specs.Message.{cancel_reject_table, execution_report_table}
 use Rattle.reports_fix50.specs.Sense.{reason_told, telling}
 use Rattle.row_values.specs.Kinds.{Kind}
-use Rattle.rule_rows.specs.ByRules.{At, Grouped, Kinds, Outline, Target, by_rules, has_any}
-use Rattle.rule_rows.specs.ByRules.{has_group, lack_by, lack_if, or_lack}
+use Rattle.rule_rows.specs.Rules.{Rule as RuleOf, By, Group, Moved, with_own}
+pub use Rattle.rule_rows.specs.Rules.{Same}
+use Rattle.rule_rows.specs.ByRules.{At, Kinds, Outline, Target, by_rules, has_any, lack_by, lack_if}
+use Rattle.rule_rows.specs.ByRules.{or_lack}
 
--- How FIX 4.2 says one line of its table.
-pub data Rule : Type 0 where
-  -- the field of a tag, as the source says it
-  Same : (tag : ℕ) → Rule
-  -- the field of another tag, as the source says it
-  Moved : (from to : ℕ) → Rule
+-- How FIX 4.2 says one line of its table otherwise than FIX 5.0 SP2.
+pub data Own : Type 0 where
   -- OrigClOrdID of a cancel reject, or else the one that is known
-  Original : (known : Said) → Rule
+  OrKnown : (known : Said) → Own
   -- the id of the first party of a role
-  PartyOf : (role to : ℕ) → Rule
-  -- the lines of a group, as the source says them
-  Group : (count : ℕ) → Rule
+  PartyOf : (role to : ℕ) → Own
   -- ExecID, ExecTransType, ExecType and OrdStatus, by ExecType, OrdStatus and LeavesQty
-  ExecId : Rule
-  TransType : Rule
-  ExecType : Rule
-  OrdStatus : Rule
+  ExecId : Own
+  TransType : Own
+  ExecType : Own
+  OrdStatus : Own
   -- what each report on another execution says, and what each trade says
-  Another : (tag : ℕ) → Rule
-  Traded : (tag : ℕ) → Rule
+  Another : (tag : ℕ) → Own
+  Traded : (tag : ℕ) → Own
   -- a reason; one past the last of FIX 4.2 is another one, and the text tells it
-  Within : (tag last : ℕ) → (other : List ℕ) → Rule
-  Told : Rule
+  Within : (tag last : ℕ) → (other : List ℕ) → Own
+  Told : Own
   -- the month of a maturity, and the day of its date
-  Month : Rule
-  DayOfDate : Rule
+  Month : Own
+  DayOfDate : Own
   -- OrdType and TimeInForce, of which FIX 4.2 says by the first that an order is on close
-  OrdType : Rule
-  Time : Rule
+  OrdType : Own
+  Time : Own
+
+abbrev pub Rule : Type 0
+Rule = RuleOf Own
+
+abbrev pub Original : Said → Rule
+Original known = By (OrKnown known)
 
 -- THE RULES by which a report goes down, in the order of writing of FIX 4.2. An execution report
 -- says OrigClOrdID as it is; a cancel reject has to say it.
@@ -59,17 +61,17 @@ down_rules original =
     Same 198 ∷  -- SecondaryOrderID
     Same 11 ∷  -- ClOrdID
     original ∷  -- OrigClOrdID
-    PartyOf 3 109 ∷  -- ClientID
-    PartyOf 1 76 ∷  -- ExecBroker
-    PartyOf 4 439 ∷  -- ClearingFirm
+    By (PartyOf 3 109) ∷  -- ClientID
+    By (PartyOf 1 76) ∷  -- ExecBroker
+    By (PartyOf 4 439) ∷  -- ClearingFirm
     Group 382 ∷  -- NoContraBrokers
-    ExecId ∷
-    TransType ∷
-    Another 19 ∷  -- ExecRefID
-    ExecType ∷
-    OrdStatus ∷
-    Within 103 8 (codes "0") ∷  -- OrdRejReason: Stale order; Broker option
-    Within 378 5 (codes "4") ∷  -- ExecRestatementReason: Partial decline; Broker option
+    By ExecId ∷
+    By TransType ∷
+    By (Another 19) ∷  -- ExecRefID
+    By ExecType ∷
+    By OrdStatus ∷
+    By (Within 103 8 (codes "0")) ∷  -- OrdRejReason: Stale order; Broker option
+    By (Within 378 5 (codes "4")) ∷  -- ExecRestatementReason: Partial decline; Broker option
     Same 1 ∷  -- Account
     Same 63 ∷  -- SettlmntTyp
     Same 64 ∷  -- FutSettDate
@@ -78,21 +80,21 @@ down_rules original =
     Same 48 ∷  -- SecurityID
     Same 22 ∷  -- IDSource
     Same 167 ∷  -- SecurityType
-    Month ∷
-    DayOfDate ∷
+    By Month ∷
+    By DayOfDate ∷
     Same 207 ∷  -- SecurityExchange
     Same 54 ∷  -- Side
     Same 38 ∷  -- OrderQty
-    OrdType ∷
+    By OrdType ∷
     Same 44 ∷  -- Price
     Same 99 ∷  -- StopPx
     Same 15 ∷  -- Currency
-    Time ∷
+    By Time ∷
     Same 432 ∷  -- ExpireDate
     Same 126 ∷  -- ExpireTime
     Moved 528 47 ∷  -- OrderCapacity, Rule80A
-    Traded 32 ∷  -- LastShares
-    Traded 31 ∷  -- LastPx
+    By (Traded 32) ∷  -- LastShares
+    By (Traded 31) ∷  -- LastPx
     Same 30 ∷  -- LastMkt
     Same 151 ∷  -- LeavesQty
     Same 14 ∷  -- CumQty
@@ -100,21 +102,18 @@ down_rules original =
     Same 75 ∷  -- TradeDate
     Same 60 ∷  -- TransactTime
     Same 434 ∷  -- CxlRejResponseTo
-    Within 102 3 (codes "2") ∷  -- CxlRejReason: Already pending; Broker option
+    By (Within 102 3 (codes "2")) ∷  -- CxlRejReason: Already pending; Broker option
     Same 110 ∷  -- MinQty
     Moved 1138 111 ∷  -- DisplayQty, MaxFloor
-    Told ∷  -- Text
+    By Told ∷  -- Text
     []
 
 -- ---- where a rule reads and writes
 
--- the places of the source of which a rule tells; a group has none
-abbrev pub sources : Rule → List Place
-sources (Same tag) = Tag tag ∷ []
-sources (Moved from to) = Tag from ∷ []
-sources (Original known) = Tag 41 ∷ []
+-- the places of the source of which such a rule tells
+abbrev pub sources : Own → List Place
+sources (OrKnown known) = Tag 41 ∷ []
 sources (PartyOf role to) = Role role ∷ []
-sources (Group count) = []
 sources ExecId = Tag 17 ∷ []
 sources TransType = Tag 150 ∷ []
 sources ExecType = Tag 150 ∷ []
@@ -128,18 +127,14 @@ sources DayOfDate = Tag 541 ∷ []
 sources OrdType = Tag 40 ∷ []
 sources Time = Tag 59 ∷ []
 
--- whether a rule has its place or its lines: a cancel reject always names its order
-abbrev pub has : Outline → Rule → Bool
-has there (Original known) = true
-has there (Group count) = has_group there count
+-- whether it has its place: a cancel reject always names its order
+abbrev pub has : Outline → Own → Bool
+has there (OrKnown known) = true
 has there rule = has_any there (sources rule)
 
-abbrev pub target : Rule → Target
-target (Same tag) = At (Tag tag)
-target (Moved from to) = At (Tag to)
-target (Original known) = At (Tag 41)
+abbrev pub target : Own → Target
+target (OrKnown known) = At (Tag 41)
 target (PartyOf role to) = At (Tag to)
-target (Group count) = Grouped count
 target ExecId = At (Tag 17)
 target TransType = At (Tag 20)
 target ExecType = At (Tag 150)
@@ -251,32 +246,29 @@ module _ (at party : ℕ → Said) where
   tells = reason_told 103 8 (at 103 >>= number_in)
       ++ (reason_told 378 5 (at 378 >>= number_in) ++ reason_told 102 3 (at 102 >>= number_in))
 
-  -- what a rule says at its place
-  abbrev pub rule_says : Rule → Said
-  rule_says (Same tag) = at tag
-  rule_says (Moved from to) = at from
-  rule_says (Original known) = or_known (at 41) known
-  rule_says (PartyOf role to) = party role
-  rule_says (Group count) = None
-  rule_says ExecId = id_down (status_if (code 150)) (at 17)
-  rule_says TransType = coded (code 150 >>= trans_type)
-  rule_says ExecType =
+  -- what such a rule says at its place
+  abbrev pub own_says : Own → Said
+  own_says (OrKnown known) = or_known (at 41) known
+  own_says (PartyOf role to) = party role
+  own_says ExecId = id_down (status_if (code 150)) (at 17)
+  own_says TransType = coded (code 150 >>= trans_type)
+  own_says ExecType =
       option_map (λ type. code_text (exec_type type (unwrap_or (code 39) 0) fills)) (code 150)
-  rule_says OrdStatus = if works_on (code 39) (code 150) then Some (codes "5") else at 39
-  rule_says (Another tag) = at tag
-  rule_says (Traded tag) = at tag
-  rule_says (Within tag last other) = reason_down last other (at tag)
-  rule_says Told = telling (at 58) tells
-  rule_says Month = at 200
-  rule_says DayOfDate = option_map (drop 6) (at 541)
-  rule_says OrdType = type_down (at 40) (at 59)
-  rule_says Time = time_down (at 40) (at 59)
+  own_says OrdStatus = if works_on (code 39) (code 150) then Some (codes "5") else at 39
+  own_says (Another tag) = at tag
+  own_says (Traded tag) = at tag
+  own_says (Within tag last other) = reason_down last other (at tag)
+  own_says Told = telling (at 58) tells
+  own_says Month = at 200
+  own_says DayOfDate = option_map (drop 6) (at 541)
+  own_says OrdType = type_down (at 40) (at 59)
+  own_says Time = time_down (at 40) (at 59)
 
   -- the tag that a rule cannot say
-  abbrev pub rule_lacks : Rule → Option ℕ
-  rule_lacks TransType = lack_if (lacks_type (code 150)) 150
-  rule_lacks (Original known) = lack_if (not (is_some (or_known (at 41) known))) 41
-  rule_lacks rule = None
+  abbrev pub own_lacks : Own → Option ℕ
+  own_lacks TransType = lack_if (lacks_type (code 150)) 150
+  own_lacks (OrKnown known) = lack_if (not (is_some (or_known (at 41) known))) 41
+  own_lacks rule = None
 
 module _ (m : Message) where
   abbrev pub at : ℕ → Said
@@ -288,25 +280,23 @@ module _ (m : Message) where
   abbrev pub told : List ℕ
   told = tells at party
 
-  abbrev pub rule_said : Rule → Said
-  rule_said rule = rule_says at party rule
+  abbrev pub own_said : Own → Said
+  own_said rule = own_says at party rule
 
-  abbrev pub rule_lack : Rule → Option ℕ
-  rule_lack rule = rule_lacks at party rule
+  abbrev pub own_lack : Own → Option ℕ
+  own_lack rule = own_lacks at party rule
 
-  -- the lines of a rule's group
-  abbrev pub rule_lines : Rule → List (List Cell)
-  rule_lines (Group count) = lines_of count m.groups
-  rule_lines rule = []
-
-abbrev pub kinds : Kinds Rule
-kinds = record {
+abbrev pub own_kinds : Kinds Own
+own_kinds = record {
   target = target;
   has = has;
-  said = rule_said;
-  lines = rule_lines;
-  lack = rule_lack;
+  said = own_said;
+  lines = λ m rule. [];
+  lack = own_lack;
 }
+
+abbrev pub kinds : Kinds Rule
+kinds = with_own own_kinds
 
 -- ---- THE MESSAGE
 

@@ -1,7 +1,7 @@
 -- What the code reads of fields at no fault is what their message says: it writes rule by rule what
 -- the rules write of the message, and lacks what they lack.
-use Rattle.std.proofs.Common.{◌≡◌, ℕ, List, [], ◌∷◌, ◌++◌, map, Bool, true, false, Some, None}
-use Rattle.std.proofs.Common.{refl, sym, ap, subst, ◌∙◌}
+use Rattle.std.proofs.Common.{◌≡◌, ℕ, List, [], ◌∷◌, ◌++◌, map, Bool, true, false, Some, None, refl}
+use Rattle.std.proofs.Common.{sym, ap, subst, ◌∙◌}
 use Rattle.std.specs.Prelude.{◌&&◌, not, if◌then◌else◌}
 use Rattle.std.specs.declared.option.Option.{Option}
 use Rattle.std.specs.List.{AllByRecursion, flat_map, list_all}
@@ -27,24 +27,24 @@ use Rattle.sound_laws.proofs.SpelledAgain.{is_own, own_bytes}
 use Rattle.row_slots.specs.Slots.{row_says}
 use Rattle.row_slots.proofs.SlotsSay.{quantities, said_as, said_is}
 use Rattle.rule_rows.specs.ByRules.{lack_if, rule_fields}
+use Rattle.rule_rows.specs.Rules.{By, Moved}
 use Rattle.request_rules.specs.declared.rules.Rule.{Rule as CodeRule}
 use Rattle.request_rules.specs.declared.rules.Rule.TheVariants as rules
-use Rattle.request_rules.specs.CodeRules.{decimal_text, is_amount, is_decimal, is_read}
-use Rattle.request_rules.specs.CodeRules.{rule_of, wrote}
-use Rattle.request_rules.specs.Rules.{Rule, Same, Moved, Listed, Time, at, date_up, is_late}
-use Rattle.request_rules.specs.Rules.{is_unlisted, kinds, party_lines, rule_lack, time_up, type_up}
-use Rattle.request_rules.specs.Rules.{up_content, up_lack, up_rules}
+use Rattle.request_rules.specs.CodeRules.{decimal_text, is_amount, is_decimal, is_read, rule_of}
+use Rattle.request_rules.specs.CodeRules.{wrote}
+use Rattle.request_rules.specs.Rules.{Rule, Listed, Time, at, date_up, is_late, is_unlisted, kinds}
+use Rattle.request_rules.specs.Rules.{party_lines, rule_lack, time_up, type_up, up_content, up_lack}
+use Rattle.request_rules.specs.Rules.{up_rules}
 use Rattle.request_rules.proofs.TablesUp.{day_row, month_row}
 
 -- the tags whose values are written as they stand, and those of decimal numbers
 abbrev pub texts_read : Rule → List ℕ
-texts_read (Same tag) = if is_decimal tag then [] else tag ∷ []
-texts_read (Listed from to listed) = from ∷ []
+texts_read (Moved from to) = if is_decimal from then [] else from ∷ []
+texts_read (By (Listed from to listed)) = from ∷ []
 texts_read rule = []
 
 abbrev pub decimals_read : Rule → List ℕ
-decimals_read (Same tag) = if is_decimal tag then tag ∷ [] else []
-decimals_read (Moved from to) = from ∷ []
+decimals_read (Moved from to) = if is_decimal from then from ∷ [] else []
 decimals_read rule = []
 
 abbrev pub text_tags : List ℕ
@@ -55,10 +55,9 @@ decimal_tags = flat_map decimals_read up_rules
 
 -- whether a rule reads such tags alone
 abbrev pub reads_tags : Rule → Bool
-reads_tags (Same tag) =
-    if is_decimal tag then is_one_of decimal_tags tag else is_one_of text_tags tag
-reads_tags (Moved from to) = is_one_of decimal_tags from
-reads_tags (Listed from to listed) = is_one_of text_tags from
+reads_tags (Moved from to) =
+    if is_decimal from then is_one_of decimal_tags from else is_one_of text_tags from
+reads_tags (By (Listed from to listed)) = is_one_of text_tags from
 reads_tags rule = true
 
 -- rows whose values are faults where they are outside the profile
@@ -242,6 +241,13 @@ module _ (table : Table Kind) (has : HasRows table) (fields : List Field)
 
   -- ---- ONE LEMMA FOR EACH KIND OF RULE
 
+  decimal_read : (from to : ℕ) (b : Bool) → b ≡ true
+      → (if b then is_one_of decimal_tags from else is_one_of text_tags from) ≡ true
+      → cell_fields (Tag to, decimal_text (value_at from fields))
+      ≡ cell_fields (Tag to, at m from)
+  decimal_read from to true form ok = ap (λ s. cell_fields (Tag to, s)) (decimal_is from ok)
+  decimal_read from to false form ok = absurd cc
+
   rule_read : (rule : CodeRule) → is_read rule ≡ true → reads_tags (rule_of rule) ≡ true
       → wrote table fields rule ≡ rule_fields kinds m (rule_of rule)
   rule_read (rules.Same tag) form ok = by (is_decimal tag) form ok
@@ -251,15 +257,8 @@ module _ (table : Table Kind) (has : HasRows table) (fields : List Field)
           → cell_fields (Tag tag, value_at tag fields) ≡ cell_fields (Tag tag, at m tag)
       by true form ok = absurd cc
       by false form ok = ap (λ s. cell_fields (Tag tag, s)) (text_is tag ok)
-  rule_read (rules.Decimal tag) form ok = by (is_decimal tag) form ok
-    where
-      by : (b : Bool) → b ≡ true
-          → (if b then is_one_of decimal_tags tag else is_one_of text_tags tag) ≡ true
-          → cell_fields (Tag tag, decimal_text (value_at tag fields))
-          ≡ cell_fields (Tag tag, at m tag)
-      by true form ok = ap (λ s. cell_fields (Tag tag, s)) (decimal_is tag ok)
-      by false form ok = absurd cc
-  rule_read (rules.Moved from to) form ok = ap (λ s. cell_fields (Tag to, s)) (decimal_is from ok)
+  rule_read (rules.Decimal tag) form ok = decimal_read tag tag (is_decimal tag) form ok
+  rule_read (rules.Moved from to) form ok = decimal_read from to (is_decimal from) form ok
   rule_read (rules.Listed from to listed) form ok =
       ap (λ s. cell_fields (Tag to, s)) (text_is from ok)
   rule_read rules.Parties form ok = λ i. group_fields 453
@@ -273,9 +272,9 @@ module _ (table : Table Kind) (has : HasRows table) (fields : List Field)
 
   rule_lacks : (rule : Rule) → reads_tags rule ≡ true
       → rule_lack (λ tag. value_at tag fields) rule ≡ kinds.lack m rule
-  rule_lacks Time ok =
+  rule_lacks (By Time) ok =
       λ i. lack_if (is_late (text_is 40 refl i >>= code_of) (text_is 59 refl i >>= code_of)) 59
-  rule_lacks (Listed from to listed) ok =
+  rule_lacks (By (Listed from to listed)) ok =
       ap (λ s. lack_if (is_unlisted listed (s >>= code_of)) from) (text_is from ok)
   rule_lacks rule ok = refl
 

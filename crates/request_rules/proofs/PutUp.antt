@@ -1,5 +1,5 @@
 -- What `put_up` appends is the content of what goes up, or its lack is told.
-use Rattle.std.proofs.Common.{◌≡◌, ◌++◌, ℕ, List, [], ◌∷◌, map, true, Option, Some, None, refl, sym}
+use Rattle.std.proofs.Common.{◌≡◌, ◌++◌, ℕ, List, [], ◌∷◌, map, true, Some, None, refl, sym}
 use Rattle.std.proofs.Common.{ap, subst, ◌∙◌}
 use Rattle.std.specs.List.{flat_map, list_all}
 use Rattle.field_groups.specs.Field.{Field, body_of}

@@ -1,47 +1,44 @@
 -- What goes up of a sound message is sound in the table that goes up: one lemma for each kind of
 -- rule.
-use Rattle.std.proofs.Common.{◌≡◌, ℕ, List, [], ◌∷◌, Bool, true, false, Option, Some, None, refl}
-use Rattle.std.proofs.Common.{sym, ap, subst, ◌∙◌, codes, length, arith}
+use Rattle.std.proofs.Common.{◌≡◌, ℕ, List, [], ◌∷◌, Bool, true, false, Some, None, refl, sym, ap}
+use Rattle.std.proofs.Common.{subst, ◌∙◌, codes, length, arith}
 use Rattle.std.proofs.lemmas.Bool.{eqb-true}
 use Rattle.std.proofs.lemmas.Bool.Decides.{nat_tests}
 use Rattle.std.specs.Prelude.{IsSome, IfSome, ◌||◌, ◌==◌, not}
-use Rattle.std.specs.List.{AllByRecursion, list_any, slice_get}
+use Rattle.std.specs.List.{list_any, slice_get}
 use Rattle.field_groups.specs.Field.{Field, is_soh}
-use Rattle.message_tables.specs.Tables.{Need, Required, Optional, Lenient, Row, Item, One, Party}
-use Rattle.message_tables.specs.Tables.{Lines as LinesOf, RepeatingGroup, Message, Said, Tag, Role}
-use Rattle.message_tables.specs.Tables.{Spells, Cell, said_at, lines_of, party_in, groups_of}
+use Rattle.message_tables.specs.Tables.{Need, Required, Optional, Lenient, Row, Item, Party}
+use Rattle.message_tables.specs.Tables.{Message, Said, Role, Spells, Cell, lines_of, party_in}
 use Rattle.message_tables.specs.Tables.{value_at, ◌>>=◌, code_of, is_one_of}
-use Rattle.message_tables.specs.Content.{content}
-use Rattle.value_kinds.specs.ValueKind.{Code, Id, FineStamp, Stamp, MonthYear, Day, OneByte, formed}
-use Rattle.value_kinds.specs.ValueKind.{spelling}
+use Rattle.value_kinds.specs.ValueKind.{Code, Id, Stamp, MonthYear, Day, OneByte, formed, spelling}
 use Rattle.row_values.specs.Kinds.{Kind, Value, Byte, DayOf, MonthBeside, TimeBeside, judge, row}
 use Rattle.row_values.specs.Kinds.{verdict_of}
 use Rattle.row_values.specs.Groups.{parties}
 use Rattle.rows_fix42.specs.Header.{table as table42}
 use Rattle.rows_fix50.specs.Header.{header as header50, table as table50}
 use Rattle.sound_laws.specs.Sound.{IsClear, IsSaid, IsGroup, IsItem, IsSound}
-use Rattle.sound_laws.proofs.Each.{at_index, both, not_true}
+use Rattle.sound_laws.proofs.Each.{at_index, both, not_true, all_true}
 use Rattle.sound_laws.proofs.PlainRows.{spelled as spelled_text}
 use Rattle.sound_laws.proofs.RowsSaid.{row_of_tag, same_value, optional_said, lenient_said}
-use Rattle.sound_laws.proofs.RowsSaid.{required_said}
-use Rattle.sound_laws.proofs.ContentValues.{GroupSaid, is_alone}
 use Rattle.sound_laws.proofs.SpelledAgain.{clear_joined, fine_up}
-use Rattle.rule_rows.specs.ByRules.{At, lack_if}
+use Rattle.rule_rows.specs.ByRules.{lack_if}
 use Rattle.rule_rows.specs.Rows.{group_at}
-use Rattle.rule_rows.proofs.Items.{count_is, group_item, has_one, has_row, item_if, row_there}
-use Rattle.rule_rows.proofs.Items.{turned}
-use Rattle.rule_rows.proofs.Looked.{IsFound, all_found, each_rule, has_lines_of, lines_by}
+use Rattle.rule_rows.proofs.Items.{has_row, row_there, can_go, is_plain, is_value}
+use Rattle.rule_rows.proofs.Looked.{IsFound, each_rule}
 use Rattle.rule_rows.proofs.Source as source
 use Rattle.rule_rows.proofs.Source.{IsSpelled, carried_said, is_less}
-use Rattle.rule_rows.proofs.Sound as made
-use Rattle.request_rules.specs.Rules.{Rule, Same, Moved, Listed, Parties, PartyOf, Month, Date}
-use Rattle.request_rules.specs.Rules.{OrdType, Time, Lines, Who, Client, at, date_up, is_unlisted}
-use Rattle.request_rules.specs.Rules.{kinds, role_of, tag_of, up_lack, up_message, up_rules}
+use Rattle.rule_rows.proofs.Sound.{AreGroups, Goes, RuleGood, after, before, carried_good, has_of}
+use Rattle.rule_rows.proofs.Sound.{lines_are, lines_good, may_fit, own_good, party_good, said_is}
+use Rattle.rule_rows.proofs.Sound.{sound_made, turned_good, value_is, w, whatever}
+use Rattle.rule_rows.specs.Rules.{By, Group, Moved}
+use Rattle.request_rules.specs.Rules.{Rule, Listed, Parties, PartyOf, Month, Date, OrdType, Time}
+use Rattle.request_rules.specs.Rules.{Who, Client, at, date_up, is_unlisted, kinds, role_of, tag_of}
+use Rattle.request_rules.specs.Rules.{up_lack, up_message, up_rules}
 use Rattle.request_rules.proofs.KindsUp.{are_kinds, own}
-use Rattle.request_rules.proofs.TablesUp.{GoesUp, own_rows, IsRow, beside, can_go_up}
-use Rattle.request_rules.proofs.TablesUp.{capacity_row, coded_need, day_row, each_made, has_rule}
-use Rattle.request_rules.proofs.TablesUp.{is_carried, is_coded, is_plain, is_value, items_up, make}
-use Rattle.request_rules.proofs.TablesUp.{month_row, time_row, type_row, up_kind, up_row}
+use Rattle.request_rules.proofs.TablesUp.{GoesUp, own_rows, IsRow, capacity_row, coded_need}
+use Rattle.request_rules.proofs.TablesUp.{day_row, each_made, has_rule, is_carried, is_coded}
+use Rattle.request_rules.proofs.TablesUp.{items_up, make, month_row, time_row, type_row, up_kind}
+use Rattle.request_rules.proofs.TablesUp.{up_row, up_need}
 use Rattle.request_rules.proofs.PartiesUp.{IsPartyId, parties_said, roles_said, id_for}
 use Rattle.request_rules.proofs.DatesUp.{date_spelled, month_spelled}
 use Rattle.request_rules.proofs.TermsUp.{are_listed, listed_said, type_said, time_said}
@@ -53,45 +50,28 @@ less_is : (need : Need) (coded : Bool) → is_plain need ≡ true
 less_is Required coded h = refl
 less_is Optional true h = refl
 less_is Optional false h = refl
+less_is Lenient coded h = refl
 less_is other coded h = absurd cc
 
 -- a moment of FIX 4.2 is a fine one
-fine_said : (fields42 fields50 : List Field) (said : Said)
-    → IfSome said (λ text. judge fields42 (Value Stamp) text ≡ Spells text)
-    → IfSome said (λ text. judge fields50 (Value FineStamp) text ≡ Spells text)
+kind_up : (fields42 fields50 : List Field) (kind : Kind) (said : Said) → is_value kind ≡ true
+    → IfSome said (λ text. judge fields42 kind text ≡ Spells text)
+    → IfSome said (λ text. judge fields50 (up_kind kind) text ≡ Spells text)
 unfolding judge
-fine_said fields42 fields50 None h = tt
-fine_said fields42 fields50 (Some text) h =
+kind_up fields42 fields50 (Value Stamp) None value h = tt
+kind_up fields42 fields50 (Value Stamp) (Some text) value h =
     ap verdict_of (fine_up text (spelled_text (spelling Stamp text) text h))
-
-stamp_up : (fields42 fields50 : List Field) (tag to : ℕ) (need : Need) (said : Said)
-    → is_plain need ≡ true
-    → IsSaid judge fields42 (record { tag = tag; kind = Value Stamp; need = need }) said
-    → IsSaid judge fields50
-    (record { tag = to; kind = Value FineStamp; need = coded_need need false }) said
-stamp_up fields42 fields50 tag to Required said plain h =
-    required_said fields50 to (Value FineStamp) said (h.needed refl)
-    (fine_said fields42 fields50 said h.spelled) h.clear
-stamp_up fields42 fields50 tag to Optional said plain h =
-    optional_said fields50 to (Value FineStamp) said
-    (fine_said fields42 fields50 said h.spelled) h.clear
-stamp_up fields42 fields50 tag to need said plain h = absurd cc
+kind_up fields42 fields50 (Value kind) said value h = same_value fields42 fields50 kind said h
+kind_up fields42 fields50 other said value h = absurd cc
 
 row_up : (fields42 fields50 : List Field) (to : ℕ) (row : Row Kind) (said : Said)
-    → can_go_up (Some row) ≡ true → IsSaid judge fields42 row said
+    → can_go row ≡ true → IsSaid judge fields42 row said
     → IsSaid judge fields50 (up_row to row) said
 row_up fields42 fields50 to row said ok h =
-    let p = both (is_value row.kind) (is_plain row.need) ok in by row.kind p.0 p.1 h
-  where
-    by : (kind : Kind) → is_value kind ≡ true → is_plain row.need ≡ true
-        → IsSaid judge fields42 (record { tag = row.tag; kind = kind; need = row.need }) said
-        → IsSaid judge fields50
-        (record { tag = to; kind = up_kind kind; need = coded_need row.need (is_coded kind) }) said
-    by (Value Stamp) value plain h = stamp_up fields42 fields50 row.tag to row.need said plain h
-    by (Value kind) value plain h = carried_said fields42 fields50 row.tag to kind row.need
-        (coded_need row.need (is_coded (Value kind))) said
-        (less_is row.need (is_coded (Value kind)) plain) h
-    by other value plain h = absurd cc
+    let p = both (is_value row.kind) (is_plain row.need) ok in
+    carried_said fields42 fields50 row to (up_kind row.kind) (up_need row) said
+    (less_is row.need (is_coded row.kind) p.1) h
+    (kind_up fields42 fields50 row.kind said p.0 h.spelled)
 
 -- ---- a code that is listed
 
@@ -132,31 +112,26 @@ lacks_not false tag h = refl
 
 module _ (letter : ℕ) (items : List (Item Kind)) (goes : GoesUp items) (m : Message)
     (sound : IsSound judge (table42 letter items) m) where
-  abbrev w : Message
-  w = up_message m
+  abbrev g : Goes Rule
+  g = record {
+    kinds = kinds;
+    are = are_kinds;
+    all = up_rules;
+    own = own;
+    table = table42 letter items;
+    make = make items;
+    each = each_made items;
+    header = header50;
+    strict = false;
+    m = m;
+    sound = sound;
+  }
 
   abbrev fields42 : List Field
-  fields42 = content (table42 letter items) m
+  fields42 = before g
 
   abbrev fields50 : List Field
-  fields50 = content (table50 letter (items_up items)) w
-
-  abbrev RuleSaid : Rule → Type 0
-  RuleSaid rule = made.RuleSaid kinds are_kinds up_rules own items (make items) (each_made items)
-      letter header50 false m rule
-
-  abbrev RuleGroups : Rule → Type 0
-  RuleGroups rule = made.RuleGroups kinds are_kinds up_rules own items (make items)
-      (each_made items) letter header50 false m rule
-
-  abbrev AreGroups : Type 0
-  AreGroups = made.AreGroups kinds are_kinds up_rules own items (make items) (each_made items)
-      letter header50 false m
-
-  said_is : (rule : Rule) (tag : ℕ) → kinds.target rule ≡ At (Tag tag)
-      → IsFound kinds up_rules rule → said_at w.cells (Tag tag) ≡ kinds.said m rule
-  said_is rule tag is found = made.said_is kinds are_kinds up_rules own items (make items)
-      (each_made items) letter header50 false m rule (Tag tag) is found
+  fields50 = after g
 
   -- ---- what FIX 4.2 says
 
@@ -196,12 +171,12 @@ module _ (letter : ℕ) (items : List (Item Kind)) (goes : GoesUp items) (m : Me
   at200 : value_at 200 fields42 ≡ at m 200
   at200 = source.value_is (table42 letter items) m sound 200 goes.month_alone
 
-  -- ---- groups
+  -- ---- the parties
 
-  parties_are : lines_of 453 w.groups ≡ kinds.lines m Parties
-  parties_are = has_lines_of kinds are_kinds up_rules own m 453
+  parties_are : lines_of 453 (w g).groups ≡ kinds.lines m (By Parties)
+  parties_are = lines_are g (By Parties) 453 refl refl
 
-  three : IsGroup judge parties (lines_of 453 w.groups)
+  three : IsGroup judge parties (lines_of 453 (w g).groups)
   three =
       let P : List (List Cell) → Type 0 = λ lines. IsGroup judge parties lines in
       subst P (sym parties_are) (parties_said (at m 109) (at m 76) (at m 439)
@@ -209,195 +184,94 @@ module _ (letter : ℕ) (items : List (Item Kind)) (goes : GoesUp items) (m : Me
       (party_id 76 (spelled (row Optional 76 Id) 6 refl))
       (party_id 439 (spelled (row Optional 439 Id) 7 refl)))
 
-  abbrev HasGroups : Option (Item Kind) → Type 0
-  HasGroups item = IfSome item (λ item. AllByRecursion (GroupSaid judge w) (groups_of item))
-
-  no_groups : (b : Bool) (item : Item Kind) → groups_of item ≡ [] → HasGroups (item_if b item)
-  no_groups true item none = rw none tt
-  no_groups false item none = tt
-
-  no_group : (to : ℕ) (row : Option (Row Kind)) → HasGroups (turned (up_row to) row)
-  no_group to None = tt
-  no_group to (Some row) = tt
-
-  -- a group that is carried
-  group_up : (count : ℕ) → IsFound kinds up_rules (Lines count)
-      → (group : Option (RepeatingGroup Kind)) → group_at count items ≡ group
-      → IfSome group (λ g. IsGroup judge g (lines_of g.count w.groups))
-  group_up count found None e = tt
-  group_up count found (Some group) e =
-      let there : lines_of count w.groups ≡ lines_of count m.groups =
-      has_lines_of kinds are_kinds up_rules own m count ∙ ap (lines_by kinds m) found in
-      let P : List (List Cell) → Type 0 = λ lines. IsGroup judge group lines in
-      let Q : ℕ → Type 0 = λ c. IsGroup judge group (lines_of c w.groups) in
-      subst Q (sym (count_is count items group e))
-      (subst P (sym there) (source.group_is (table42 letter items) m sound count group e))
-
-  rule_groups : (rule : Rule) → IsFound kinds up_rules rule → RuleGroups rule
-  rule_groups (Same tag) found = no_group tag (row_of_tag tag items)
-  rule_groups (Moved from to) found = no_group to (row_of_tag from items)
-  rule_groups Parties found = by (has_rule items Parties)
+  role_there : (who : Who) → IsFound kinds up_rules (By (PartyOf who))
+      → IsItem judge fields50 (w g) (Party (role_of who))
+  role_there who found =
+      said_is g (By (PartyOf who)) (Role (role_of who)) refl found
+      ∙ id_is who ∙ roles_said (at m 109) (at m 76) (at m 439) who
+      ∙ ap (party_in (role_of who)) (sym parties_are)
     where
-      by : (b : Bool) → HasGroups (item_if b (LinesOf parties))
-      by true = (three, tt)
-      by false = tt
-  rule_groups (Lines count) found =
-      by (group_at count items) (group_up count found (group_at count items) refl)
+      id_is : (who : Who) → at m (tag_of who) ≡ id_for who (at m 109) (at m 76) (at m 439)
+      id_is Client = refl
+      id_is who = refl
+
+  -- ---- rows
+
+  date50 : AreGroups g → IsSpelled fields50 (Value Day) (date_up (at m 200) (at m 205))
+  date50 groups = by (at m 200) (at m 205) at200 month42 day42
     where
-      by : (group : Option (RepeatingGroup Kind))
-          → IfSome group (λ g. IsGroup judge g (lines_of g.count w.groups))
-          → HasGroups (group_item group)
-      by None h = tt
-      by (Some group) h = (h, tt)
-  rule_groups rule found = no_groups (has_rule items rule) _ refl
+      by : (month day : Said) → value_at 200 fields42 ≡ month
+          → IsSpelled fields42 (Value MonthYear) month → IsSpelled fields42 (DayOf 200) day
+          → IsSpelled fields50 (Value Day) (date_up month day)
+      by None day at mo d = record { spelled = tt; clear = tt }
+      by (Some month) None at mo d = record { spelled = tt; clear = tt }
+      by (Some month) (Some day) at mo d = record {
+        spelled = date_spelled fields42 fields50 month day at mo.spelled d.spelled;
+        clear = clear_joined month day mo.clear d.clear;
+      }
 
-  -- ---- items
-
-  module _ (groups : AreGroups) where
-    value_is : (rule : Rule) (tag : ℕ) → kinds.target rule ≡ At (Tag tag)
-        → IsFound kinds up_rules rule → is_alone tag (items_up items) ≡ true
-        → value_at tag fields50 ≡ kinds.said m rule
-    value_is rule tag is found alone = made.value_is kinds are_kinds up_rules own items (make items)
-        (each_made items) letter header50 false m groups tag alone ∙ said_is rule tag is found
-
-    at541 : value_at 541 fields50 ≡ date_up (at m 200) (at m 205)
-    at541 = value_is Date 541 refl refl goes.date_alone
-
-    date50 : IsSpelled fields50 (Value Day) (date_up (at m 200) (at m 205))
-    date50 = by (at m 200) (at m 205) at200 month42 day42
-      where
-        by : (month day : Said) → value_at 200 fields42 ≡ month
-            → IsSpelled fields42 (Value MonthYear) month → IsSpelled fields42 (DayOf 200) day
-            → IsSpelled fields50 (Value Day) (date_up month day)
-        by None day at mo d = record { spelled = tt; clear = tt }
-        by (Some month) None at mo d = record { spelled = tt; clear = tt }
-        by (Some month) (Some day) at mo d = record {
-          spelled = date_spelled fields42 fields50 month day at mo.spelled d.spelled;
-          clear = clear_joined month day mo.clear d.clear;
-        }
-
-    abbrev Says : Option (Item Kind) → Type 0
-    Says item = IfSome item (IsItem judge fields50 w)
-
-    -- a row that says what a rule says
-    one_said : (rule : Rule) (row : Row Kind) → kinds.target rule ≡ At (Tag row.tag)
-        → IsFound kinds up_rules rule → IsSaid judge fields50 row (kinds.said m rule)
-        → IsItem judge fields50 w (One row)
-    one_said rule row is found h =
-        let P : Said → Type 0 = λ said. IsSaid judge fields50 row said in
-        subst P (sym (said_is rule row.tag is found)) h
-
-    item_case : (b : Bool) (item : Item Kind) → (b ≡ true → IsItem judge fields50 w item)
-        → Says (item_if b item)
-    item_case true item h = h refl
-    item_case false item h = tt
-
-    row_case : (rule : Rule) (from to : ℕ) → kinds.target rule ≡ At (Tag to)
-        → kinds.said m rule ≡ at m from → IsFound kinds up_rules rule → (row : Option (Row Kind))
-        → row_of_tag from items ≡ row → can_go_up row ≡ true → Says (turned (up_row to) row)
-    row_case rule from to is says found None e ok = tt
-    row_case rule from to is says found (Some row) e ok =
-        let P : Said → Type 0 = λ said. IsSaid judge fields50 (up_row to row) said in
-        one_said rule (up_row to row) is found
-        (subst P (sym says) (row_up fields42 fields50 to row (at m from) ok
-        (source.row_at (table42 letter items) m sound from row e)))
-
-    -- OrdType stands where one of the places of Time does
-    timed : has_rule items Time ≡ true → has_row items 40 ≡ true
-    timed h = by (has_row items 40) (has_row items 59) goes.timed
-        (sym ((λ i. row_there items 40 i || (row_there items 59 i || false))) ∙ h)
-      where
-        by : (a b : Bool) → b ≡ a → (a || (b || false)) ≡ true → a ≡ true
-        by true b e h = refl
-        by other b e h = absurd cc
-
-    typed : has_rule items OrdType ≡ true → has_row items 40 ≡ true
-    typed h = sym (row_there items 40) ∙ sym (has_one items (Tag 40)) ∙ h
-
-    role_there : (who : Who) → IsFound kinds up_rules (PartyOf who)
-        → IsItem judge fields50 w (Party (role_of who))
-    role_there who found =
-        made.said_is kinds are_kinds up_rules own items (make items) (each_made items) letter
-        header50 false m (PartyOf who) (Role (role_of who)) refl found
-        ∙ id_is who ∙ roles_said (at m 109) (at m 76) (at m 439) who
-        ∙ ap (party_in (role_of who)) (sym parties_are)
-      where
-        id_is : (who : Who) → at m (tag_of who) ≡ id_for who (at m 109) (at m 76) (at m 439)
-        id_is Client = refl
-        id_is who = refl
-
-    -- the code of a rule that is listed
-    listed_case : (from to : ℕ) (listed : List ℕ) → (from == 47) ≡ true
-        → kinds.lack m (Listed from to listed) ≡ None → are_listed listed (at m from) ≡ true
-    listed_case from to listed ok lack =
-        let P : ℕ → Type 0 = λ tag. Spelled (Value OneByte) tag in
-        let capacity : Spelled (Value OneByte) from =
-        subst P (sym (eqb-true from 47 ok)) (spelled capacity_row 4 refl) in
-        code_listed fields42 listed (at m from) capacity.spelled
-        (lacks_not (is_unlisted listed (at m from >>= code_of)) from lack)
-
-    -- ONE LEMMA FOR EACH KIND OF RULE
-    rule_up : (rule : Rule) → IsFound kinds up_rules rule → is_carried items rule ≡ true
-        → kinds.lack m rule ≡ None → RuleSaid rule
-    rule_up (Same tag) found ok lack =
-        row_case (Same tag) tag tag refl refl found (row_of_tag tag items) refl ok
-    rule_up (Moved from to) found ok lack =
-        row_case (Moved from to) from to refl refl found (row_of_tag from items) refl ok
-    rule_up (Listed from to listed) found ok lack =
-        let p = both (not (list_any is_soh listed)) (from == 47) ok in
-        item_case (has_rule items (Listed from to listed)) (beside to (Byte listed)) (λ there.
-        one_said (Listed from to listed) (record { tag = to; kind = Byte listed; need = Lenient })
-        refl found
-        (listed_said fields50 to listed (at m from) (not_true (list_any is_soh listed) p.0)
-        (listed_case from to listed p.1 lack)))
-    rule_up Parties found ok lack =
-        item_case (has_rule items Parties) (LinesOf parties) (λ there. three)
-    rule_up (PartyOf who) found ok lack =
-        item_case (has_rule items (PartyOf who)) (Party (role_of who))
-        (λ there. role_there who found)
-    rule_up Month found ok lack =
-        item_case (has_rule items Month) (beside 200 (MonthBeside 541)) (λ there.
-        one_said Month (record { tag = 200; kind = MonthBeside 541; need = Lenient }) refl found
-        (lenient_said fields50 200 (MonthBeside 541) (at m 200)
-        (month_spelled fields42 fields50 (at m 200) (at m 205) at541 month42.spelled date50.spelled)
-        month42.clear))
-    rule_up Date found ok lack =
-        item_case (has_rule items Date) (One (row Optional 541 Day)) (λ there.
-        one_said Date (row Optional 541 Day) refl found
-        (optional_said fields50 541 (Value Day) (date_up (at m 200) (at m 205))
-        date50.spelled date50.clear))
-    rule_up OrdType found ok lack =
-        item_case (has_rule items OrdType) (One (row Required 40 (Code (codes "1234")))) (λ there.
-        one_said OrdType (row Required 40 (Code (codes "1234"))) refl found
-        (type_said fields50 fields42 (at m 40) (has_type (typed there)) type42.spelled))
-    rule_up Time found ok lack =
-        item_case (has_rule items Time) (beside 59 (TimeBeside 40)) (λ there.
-        one_said Time (record { tag = 59; kind = TimeBeside 40; need = Lenient }) refl found
-        (time_said fields50 fields42 (at m 59) time42.spelled (at m 40) (has_type (timed there))
-        type42.spelled
-        (value_is OrdType 40 refl refl (goes.type_alone (timed there)))))
-    rule_up (Lines count) found ok lack =
-        by (group_at count items) (group_up count found (group_at count items) refl)
-      where
-        by : (group : Option (RepeatingGroup Kind))
-            → IfSome group (λ g. IsGroup judge g (lines_of g.count w.groups))
-            → Says (group_item group)
-        by None h = tt
-        by (Some group) h = h
-
-  groups_up : AreGroups
-  groups_up = made.groups_are kinds are_kinds up_rules own items (make items) (each_made items)
-      letter header50 false m (each_found up_rules (all_found kinds up_rules own))
+  -- OrdType stands where one of the places of Time does
+  timed : has_rule items Time ≡ true → has_row items 40 ≡ true
+  timed h = by (has_row items 40) (has_row items 59) goes.timed
+      (sym ((λ i. row_there items 40 i || (row_there items 59 i || false))) ∙ h)
     where
-      each_found : (rules : List Rule) → AllByRecursion (IsFound kinds up_rules) rules
-          → AllByRecursion RuleGroups rules
-      each_found [] h = tt
-      each_found (rule ∷ rules) h = (rule_groups rule h.0, each_found rules h.1)
+      by : (a b : Bool) → b ≡ a → (a || (b || false)) ≡ true → a ≡ true
+      by true b e h = refl
+      by other b e h = absurd cc
+
+  -- the code of a rule that is listed
+  listed_case : (from to : ℕ) (listed : List ℕ) → (from == 47) ≡ true
+      → kinds.lack m (By (Listed from to listed)) ≡ None → are_listed listed (at m from) ≡ true
+  listed_case from to listed ok lack =
+      let P : ℕ → Type 0 = λ tag. Spelled (Value OneByte) tag in
+      let capacity : Spelled (Value OneByte) from =
+      subst P (sym (eqb-true from 47 ok)) (spelled capacity_row 4 refl) in
+      code_listed fields42 listed (at m from) capacity.spelled
+      (lacks_not (is_unlisted listed (at m from >>= code_of)) from lack)
+
+  -- ONE LEMMA FOR EACH KIND OF RULE
+  rule_up : (rule : Rule) → IsFound kinds up_rules rule → is_carried items rule ≡ true
+      → kinds.lack m rule ≡ None → RuleGood g rule
+  rule_up (Moved from to) found ok lack =
+      turned_good g (λ row. can_go row ≡ true) (Moved from to) from (up_row to)
+      (λ row. refl) found (may_fit (row_of_tag from items) ok)
+      (λ row fit said groups. row_up fields42 fields50 to row (at m from) fit said)
+  rule_up (By (Listed from to listed)) found ok lack =
+      let p = both (not (list_any is_soh listed)) (from == 47) ok in
+      own_good g (By (Listed from to listed)) (has_rule items (Listed from to listed))
+      (record { tag = to; kind = Byte listed; need = Lenient }) refl found (λ there groups.
+      listed_said fields50 to listed (at m from) (not_true (list_any is_soh listed) p.0)
+      (listed_case from to listed p.1 lack))
+  rule_up (By Parties) found ok lack = lines_good g (has_rule items Parties) parties three
+  rule_up (By (PartyOf who)) found ok lack =
+      party_good g (has_rule items (PartyOf who)) (role_of who) (role_there who found)
+  rule_up (By Month) found ok lack =
+      own_good g (By Month) (has_rule items Month)
+      (record { tag = 200; kind = MonthBeside 541; need = Lenient }) refl found (λ there groups.
+      lenient_said fields50 200 (MonthBeside 541) (at m 200)
+      (month_spelled fields42 fields50 (at m 200) (at m 205)
+      (value_is g groups (By Date) 541 refl refl goes.date_alone) month42.spelled
+      (date50 groups).spelled)
+      month42.clear)
+  rule_up (By Date) found ok lack =
+      own_good g (By Date) (has_rule items Date) (row Optional 541 Day) refl found (λ there groups.
+      optional_said fields50 541 (Value Day) (date_up (at m 200) (at m 205))
+      (date50 groups).spelled (date50 groups).clear)
+  rule_up (By OrdType) found ok lack =
+      own_good g (By OrdType) (has_rule items OrdType) (row Required 40 (Code (codes "1234"))) refl found
+      (λ there groups.
+      type_said fields50 fields42 (at m 40) (has_type (has_of g 40 there)) type42.spelled)
+  rule_up (By Time) found ok lack =
+      own_good g (By Time) (has_rule items Time)
+      (record { tag = 59; kind = TimeBeside 40; need = Lenient }) refl found (λ there groups.
+      time_said fields50 fields42 (at m 59) time42.spelled (at m 40) (has_type (timed there))
+      type42.spelled (value_is g groups (By OrdType) 40 refl refl (goes.type_alone (timed there))))
+  rule_up (Group count) found ok lack =
+      carried_good g (λ group. Unit {0}) (Group count) count (λ group. group) (λ group. refl) refl
+      refl found (whatever (group_at count items)) (λ group lines fit said. said)
 
   -- WHAT GOES UP IS SOUND in the table that goes up.
-  pub sound_up : up_lack m ≡ None → IsSound judge (table50 letter (items_up items)) w
-  sound_up lack = made.sound_made kinds are_kinds up_rules own items (make items) (each_made items)
-      letter header50 false m sound.letter
-      (source.outline_is (table42 letter items) m sound)
-      (each_rule kinds RuleSaid up_rules (is_carried items) m (rule_up groups_up) own goes.carried
-      lack)
+  pub sound_up : up_lack m ≡ None → IsSound judge (table50 letter (items_up items)) (up_message m)
+  sound_up lack = sound_made g
+      (each_rule kinds (RuleGood g) (λ rule. is_carried items rule ≡ true) up_rules m rule_up own
+      (all_true (is_carried items) up_rules goes.carried) lack)

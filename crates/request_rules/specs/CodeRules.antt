@@ -18,24 +18,24 @@ use Rattle.request_rules.specs.declared.rules.Rule.{Rule as CodeRule}
 use Rattle.request_rules.specs.declared.rules.Rule.TheVariants as rules
 use Rattle.request_rules.specs.declared.reading.Good.{Good}
 use Rattle.request_rules.specs.Good.{table}
-use Rattle.request_rules.specs.Rules.{Rule, Same, Moved, Listed, Parties, PartyOf, Month, Date}
-use Rattle.request_rules.specs.Rules.{OrdType, Time, Lines, Client, Broker, Firm, date_up}
-use Rattle.request_rules.specs.Rules.{party_lines, time_up, type_up}
+use Rattle.rule_rows.specs.Rules.{By, Group, Moved, Same}
+use Rattle.request_rules.specs.Rules.{Rule, Listed, Parties, PartyOf, Month, Date, OrdType, Time}
+use Rattle.request_rules.specs.Rules.{Client, Broker, Firm, date_up, party_lines, time_up, type_up}
 
 abbrev pub rule_of : CodeRule → Rule
 rule_of (rules.Same tag) = Same tag
 rule_of (rules.Decimal tag) = Same tag
 rule_of (rules.Moved from to) = Moved from to
-rule_of (rules.Listed from to listed) = Listed from to listed.now
-rule_of rules.Parties = Parties
-rule_of rules.Client = PartyOf Client
-rule_of rules.Broker = PartyOf Broker
-rule_of rules.Firm = PartyOf Firm
-rule_of rules.Month = Month
-rule_of rules.Date = Date
-rule_of rules.OrdType = OrdType
-rule_of rules.Time = Time
-rule_of (rules.Lines count) = Lines count
+rule_of (rules.Listed from to listed) = By (Listed from to listed.now)
+rule_of rules.Parties = By Parties
+rule_of rules.Client = By (PartyOf Client)
+rule_of rules.Broker = By (PartyOf Broker)
+rule_of rules.Firm = By (PartyOf Firm)
+rule_of rules.Month = By Month
+rule_of rules.Date = By Date
+rule_of rules.OrdType = By OrdType
+rule_of rules.Time = By Time
+rule_of (rules.Lines count) = Group count
 
 -- the code that a text is
 abbrev pub byte_of : Said → Option ℕ
@@ -58,10 +58,11 @@ is_amount_row (Some row) = is_amount row.kind
 abbrev pub is_decimal : ℕ → Bool
 is_decimal tag = is_amount_row (row_at tag (flat_map rows_of replace_request))
 
--- whether a rule of the code respells just the decimal numbers; what is moved is one
+-- whether a rule of the code respells just the decimal numbers
 abbrev pub is_read : CodeRule → Bool
 is_read (rules.Same tag) = not (is_decimal tag)
 is_read (rules.Decimal tag) = is_decimal tag
+is_read (rules.Moved from to) = is_decimal from
 is_read rule = true
 
 -- the decimal number that a text spells, if it spells one, in its canonical spelling

@@ -6,12 +6,13 @@ use Rattle.std.specs.Prelude.{ℕ, Bool, true, false, not, ◌==◌, ◌&&◌, L
 use Rattle.std.specs.Prelude.{codes, Option, Some, None, is_some, if◌then◌else◌}
 use Rattle.field_groups.specs.Field.{Field}
 use Rattle.message_tables.specs.Tables.{Tag, Role, Place, Said, Cell, Message, ◌>>=◌, code_of}
-use Rattle.message_tables.specs.Tables.{is_one_of, lines_of, said_at}
+use Rattle.message_tables.specs.Tables.{is_one_of, said_at}
 use Rattle.party_translate.specs.Parties.{parties_of}
 use Rattle.row_values.specs.Lines.{party_cells}
 use Rattle.rows_fix42.specs.Meaning.{is_on_close, time_of}
-use Rattle.rule_rows.specs.ByRules.{At, Grouped, Kinds, Outline, Target, by_rules, content_by}
-use Rattle.rule_rows.specs.ByRules.{has_any, has_group, lack_by, lack_if}
+use Rattle.rule_rows.specs.ByRules.{At, Grouped, Kinds, Target, by_rules, content_by, has_any}
+use Rattle.rule_rows.specs.ByRules.{lack_by, lack_if}
+use Rattle.rule_rows.specs.Rules.{Rule as RuleOf, By, Group, Moved, Same, with_own}
 
 -- the parties for which FIX 4.2 has a field each: ClientID, ExecBroker and ClearingFirm
 pub data Who : Type 0 where
@@ -29,26 +30,23 @@ role_of Client = 3
 role_of Broker = 1
 role_of Firm = 4
 
--- How FIX 5.0 SP2 says one line of its table.
-pub data Rule : Type 0 where
-  -- the field of a tag, as FIX 4.2 says it
-  Same : (tag : ℕ) → Rule
-  -- the field of another tag, as FIX 4.2 says it
-  Moved : (from to : ℕ) → Rule
+-- How FIX 5.0 SP2 says one line of its table otherwise than FIX 4.2.
+pub data Own : Type 0 where
   -- a code of another tag, where each that is not listed lacks a spelling
-  Listed : (from to : ℕ) → (listed : List ℕ) → Rule
+  Listed : (from to : ℕ) → (listed : List ℕ) → Own
   -- the parties of FIX 4.2's fields, as lines of a group
-  Parties : Rule
+  Parties : Own
   -- one of these parties, by its role
-  PartyOf : (who : Who) → Rule
+  PartyOf : (who : Who) → Own
   -- the month and the date of a maturity
-  Month : Rule
-  Date : Rule
+  Month : Own
+  Date : Own
   -- OrdType and TimeInForce, of which FIX 5.0 SP2 says by the second that an order is on close
-  OrdType : Rule
-  Time : Rule
-  -- the lines of a group, as FIX 4.2 says them
-  Lines : (count : ℕ) → Rule
+  OrdType : Own
+  Time : Own
+
+abbrev pub Rule : Type 0
+Rule = RuleOf Own
 
 -- THE RULES by which a request goes up, in the order of writing of FIX 5.0 SP2
 abbrev pub up_rules : List Rule
@@ -56,12 +54,12 @@ up_rules =
     Same 11 ∷  -- ClOrdID
     Same 41 ∷  -- OrigClOrdID
     Same 37 ∷  -- OrderID
-    Parties ∷
-    PartyOf Client ∷
-    PartyOf Broker ∷
-    PartyOf Firm ∷
+    By Parties ∷
+    By (PartyOf Client) ∷
+    By (PartyOf Broker) ∷
+    By (PartyOf Firm) ∷
     Same 1 ∷  -- Account
-    Lines 78 ∷  -- NoAllocs
+    Group 78 ∷  -- NoAllocs
     Same 63 ∷  -- SettlType
     Same 64 ∷  -- SettlDate
     Same 21 ∷  -- HandlInst
@@ -69,28 +67,28 @@ up_rules =
     Same 110 ∷  -- MinQty
     Moved 111 1138 ∷  -- MaxFloor, DisplayQty
     Same 100 ∷  -- ExDestination
-    Lines 386 ∷  -- NoTradingSessions
+    Group 386 ∷  -- NoTradingSessions
     Same 55 ∷  -- Symbol
     Same 65 ∷  -- SymbolSfx
     Same 48 ∷  -- SecurityID
     Same 22 ∷  -- SecurityIDSource
     Same 167 ∷  -- SecurityType
-    Month ∷
-    Date ∷
+    By Month ∷
+    By Date ∷
     Same 207 ∷  -- SecurityExchange
     Same 54 ∷  -- Side
     Same 114 ∷  -- LocateReqd
     Same 60 ∷  -- TransactTime
     Same 38 ∷  -- OrderQty
-    OrdType ∷
+    By OrdType ∷
     Same 44 ∷  -- Price
     Same 99 ∷  -- StopPx
     Same 15 ∷  -- Currency
-    Time ∷
+    By Time ∷
     Same 168 ∷  -- EffectiveTime
     Same 432 ∷  -- ExpireDate
     Same 126 ∷  -- ExpireTime
-    Listed 47 528 (codes "AIP") ∷  -- Rule80A, OrderCapacity
+    By (Listed 47 528 (codes "AIP")) ∷  -- Rule80A, OrderCapacity
     Same 77 ∷  -- PositionEffect
     Same 58 ∷  -- Text
     []
@@ -101,10 +99,8 @@ up_rules =
 abbrev pub party_tags : List Place
 party_tags = Tag 109 ∷ Tag 76 ∷ Tag 439 ∷ []
 
--- the places of which a rule tells, where FIX 4.2 has one of them
-abbrev pub sources : Rule → List Place
-sources (Same tag) = Tag tag ∷ []
-sources (Moved from to) = Tag from ∷ []
+-- the places of which such a rule tells, where FIX 4.2 has one of them
+abbrev pub sources : Own → List Place
 sources (Listed from to listed) = Tag from ∷ []
 sources Parties = party_tags
 sources (PartyOf who) = Tag (tag_of who) ∷ []
@@ -112,15 +108,8 @@ sources Month = Tag 200 ∷ []
 sources Date = Tag 205 ∷ []
 sources OrdType = Tag 40 ∷ []
 sources Time = Tag 40 ∷ Tag 59 ∷ []
-sources (Lines count) = []
 
-abbrev pub has : Outline → Rule → Bool
-has there (Lines count) = has_group there count
-has there rule = has_any there (sources rule)
-
-abbrev pub target : Rule → Target
-target (Same tag) = At (Tag tag)
-target (Moved from to) = At (Tag to)
+abbrev pub target : Own → Target
 target (Listed from to listed) = At (Tag to)
 target Parties = Grouped 453
 target (PartyOf who) = At (Role (role_of who))
@@ -128,7 +117,6 @@ target Month = At (Tag 200)
 target Date = At (Tag 541)
 target OrdType = At (Tag 40)
 target Time = At (Tag 59)
-target (Lines count) = Grouped count
 
 -- ---- what FIX 5.0 SP2 says
 
@@ -155,24 +143,20 @@ abbrev pub party_lines : Said → Said → Said → List (List Cell)
 party_lines client broker firm =
     map party_cells (parties_of (record { client = client; broker = broker; firm = firm }))
 
--- what a rule says at its place, by what FIX 4.2 says at its tags
-abbrev pub rule_said : (ℕ → Said) → Rule → Said
-rule_said at (Same tag) = at tag
-rule_said at (Moved from to) = at from
-rule_said at (Listed from to listed) = at from
-rule_said at (PartyOf who) = at (tag_of who)
-rule_said at Month = at 200
-rule_said at Date = date_up (at 200) (at 205)
-rule_said at OrdType = type_up (at 40)
-rule_said at Time = time_up (at 40) (at 59)
-rule_said at Parties = None
-rule_said at (Lines count) = None
+-- what such a rule says at its place, by what FIX 4.2 says at its tags
+abbrev pub own_said : (ℕ → Said) → Own → Said
+own_said at (Listed from to listed) = at from
+own_said at Parties = None
+own_said at (PartyOf who) = at (tag_of who)
+own_said at Month = at 200
+own_said at Date = date_up (at 200) (at 205)
+own_said at OrdType = type_up (at 40)
+own_said at Time = time_up (at 40) (at 59)
 
--- the lines of a rule's group, by those of FIX 4.2's groups
-abbrev pub rule_lines : (ℕ → Said) → (ℕ → List (List Cell)) → Rule → List (List Cell)
-rule_lines at lines Parties = party_lines (at 109) (at 76) (at 439)
-rule_lines at lines (Lines count) = lines count
-rule_lines at lines rule = []
+-- the lines of its group
+abbrev pub own_lines : (ℕ → Said) → Own → List (List Cell)
+own_lines at Parties = party_lines (at 109) (at 76) (at 439)
+own_lines at rule = []
 
 -- ---- what FIX 5.0 SP2 cannot say
 
@@ -186,9 +170,13 @@ abbrev pub is_late : Option ℕ → Option ℕ → Bool
 is_late ord_type time = is_on_close ord_type && is_some (time_of true time)
 
 -- the tag that a rule cannot say
+abbrev pub own_lack : (ℕ → Said) → Own → Option ℕ
+own_lack at Time = lack_if (is_late (at 40 >>= code_of) (at 59 >>= code_of)) 59
+own_lack at (Listed from to listed) = lack_if (is_unlisted listed (at from >>= code_of)) from
+own_lack at rule = None
+
 abbrev pub rule_lack : (ℕ → Said) → Rule → Option ℕ
-rule_lack at Time = lack_if (is_late (at 40 >>= code_of) (at 59 >>= code_of)) 59
-rule_lack at (Listed from to listed) = lack_if (is_unlisted listed (at from >>= code_of)) from
+rule_lack at (By rule) = own_lack at rule
 rule_lack at rule = None
 
 -- ---- a message
@@ -196,14 +184,17 @@ rule_lack at rule = None
 abbrev pub at : Message → ℕ → Said
 at m tag = said_at m.cells (Tag tag)
 
-abbrev pub kinds : Kinds Rule
-kinds = record {
+abbrev pub own_kinds : Kinds Own
+own_kinds = record {
   target = target;
-  has = has;
-  said = λ m rule. rule_said (at m) rule;
-  lines = λ m rule. rule_lines (at m) (λ count. lines_of count m.groups) rule;
-  lack = λ m rule. rule_lack (at m) rule;
+  has = λ there rule. has_any there (sources rule);
+  said = λ m rule. own_said (at m) rule;
+  lines = λ m rule. own_lines (at m) rule;
+  lack = λ m rule. own_lack (at m) rule;
 }
+
+abbrev pub kinds : Kinds Rule
+kinds = with_own own_kinds
 
 -- THE MESSAGE OF FIX 5.0 SP2 that a message of FIX 4.2 is; its content; and the tag of FIX 4.2 that
 -- says what FIX 5.0 SP2 cannot say, if there is one

@@ -4,11 +4,11 @@ use Rattle.std.proofs.Common.{◌≡◌, ℕ, List, [], ◌∷◌, Bool, true, f
 use Rattle.std.proofs.Common.{sym, ap, subst, ◌∙◌}
 use Rattle.std.proofs.lemmas.Bool.{eqb-true}
 use Rattle.std.specs.Option.{option_map}
-use Rattle.std.specs.Prelude.{◌||◌, ◌==◌, is_some, if◌then◌else◌}
+use Rattle.std.specs.Prelude.{◌||◌, ◌&&◌, ◌==◌, is_some, if◌then◌else◌}
 use Rattle.std.specs.List.{AllByRecursion, flat_map, list_any}
-use Rattle.message_tables.specs.Tables.{Place, Tag, Row, Item, One, Party, Lines}
-use Rattle.message_tables.specs.Tables.{RepeatingGroup, is_place}
-use Rattle.row_values.specs.Kinds.{Kind}
+use Rattle.message_tables.specs.Tables.{Need, Required, Optional, Lenient, Place, Tag, Row, Item}
+use Rattle.message_tables.specs.Tables.{One, Party, Lines, RepeatingGroup, is_place}
+use Rattle.row_values.specs.Kinds.{Kind, Value}
 use Rattle.sound_laws.specs.Sound.{places_of}
 use Rattle.sound_laws.proofs.Each.{each_at}
 use Rattle.sound_laws.proofs.RowsSaid.{row_of_tag}
@@ -74,6 +74,25 @@ pub count_is : (count : ℕ) (items : List (Item Kind)) (group : RepeatingGroup 
 count_is count items group e = (group_found (λ item. Unit {0}) count items group e
     (each_at (λ item. Unit {0}) items (λ i item at. tt))).0
 
+-- ---- ROWS THAT CAN BE CARRIED: their values are judged by themselves
+
+abbrev pub is_value : Kind → Bool
+is_value (Value kind) = true
+is_value kind = false
+
+abbrev pub is_plain : Need → Bool
+is_plain Required = true
+is_plain Optional = true
+is_plain Lenient = true
+is_plain need = false
+
+abbrev pub can_go : Row Kind → Bool
+can_go row = is_value row.kind && is_plain row.need
+
+abbrev pub may_go : Option (Row Kind) → Bool
+may_go None = true
+may_go (Some row) = can_go row
+
 -- ---- THE SHAPES of what a rule makes
 
 -- what a row becomes, and what a group does
@@ -87,9 +106,6 @@ turned_group turn group = option_map (λ group. Lines (turn group)) group
 abbrev pub item_if : Bool → Item Kind → Option (Item Kind)
 item_if true item = Some item
 item_if false item = None
-
-abbrev pub group_item : Option (RepeatingGroup Kind) → Option (Item Kind)
-group_item group = turned_group (λ group. group) group
 
 module _ (items : List (Item Kind)) where
   or_false : (b : Bool) → (b || false) ≡ b
@@ -128,11 +144,6 @@ module _ (items : List (Item Kind)) where
       by None e = refl
       by (Some group) e =
           ap (λ n. Some (Grouped n)) (same group ∙ count_is count items group e)
-
-  pub group_made : (count : ℕ)
-      → option_map target_of (group_item (group_at count items))
-      ≡ target_if (has_group (outline_of items) count) (Grouped count)
-  group_made count = turned_group_made (λ group. group) count (λ group. refl)
 
 -- an item where this holds
 pub item_made : (b : Bool) (item : Item Kind)

@@ -4,7 +4,7 @@ use Rattle.std.proofs.Common.{◌≡◌, ℕ, List, [], ◌∷◌, ◌++◌, map
 use Rattle.std.proofs.Common.{None, refl, sym, ap, ◌∙◌}
 use Rattle.std.proofs.lemmas.Bool.{eqb-true}
 use Rattle.std.specs.Prelude.{not, ◌&&◌, ◌==◌, is_some, if◌then◌else◌}
-use Rattle.std.specs.List.{AllByRecursion, flat_map, list_all, list_any}
+use Rattle.std.specs.List.{AllByRecursion, flat_map, list_any}
 use Rattle.message_tables.specs.Tables.{Place, Tag, Role, Said, Cell, Message, is_place, lines_of}
 use Rattle.message_tables.specs.Tables.{said_at}
 use Rattle.sound_laws.proofs.Each.{both, either, none_each}
@@ -36,10 +36,13 @@ no_lines (group ∷ groups) count h =
     (list_any (λ one. one == count) (map (λ group. group.0) groups)) h in
     rw p.0 (no_lines groups count p.1)
 
--- a place that is the only one of these, or the first
-pub absent : (m : Message) (place : Place) → has_any (outline m) (place ∷ []) ≡ false
-    → said_at m.cells place ≡ None
-absent m place h = none_at m.cells place (either (has_place (outline m) place) false h).0
+-- of these places none says a thing, where the message has none of them
+pub absent : (m : Message) (places : List Place) → has_any (outline m) places ≡ false
+    → AllByRecursion (λ place. said_at m.cells place ≡ None) places
+absent m [] h = tt
+absent m (place ∷ places) h =
+    let p = either (has_place (outline m) place) (has_any (outline m) places) h in
+    (none_at m.cells place p.0, absent m places p.1)
 
 -- ---- targets
 
@@ -200,18 +203,15 @@ module _ {Rule : Type 0} (kinds : Kinds Rule) where
           let rest : map (λ r. rule_at (kinds.target r) all) rules ≡ map (λ r. Some r) rules = cc in
           (here, by rules rest)
 
-  -- what holds of each rule that passes a test and lacks nothing holds of all
-  pub each_rule : (P : Rule → Type 0) (all : List Rule) (test : Rule → Bool) (m : Message)
-      → ((rule : Rule) → IsFound all rule → test rule ≡ true → kinds.lack m rule ≡ None → P rule)
-      → AreOwn all → list_all test all ≡ true → lack_by kinds all m ≡ None
-      → AllByRecursion P all
-  each_rule P all test m each own passed lack =
-      by all (all_found all own) passed (none_each (kinds.lack m) all lack)
+  -- what holds of each rule that fits and lacks nothing holds of all
+  pub each_rule : (P Fits : Rule → Type 0) (all : List Rule) (m : Message)
+      → ((rule : Rule) → IsFound all rule → Fits rule → kinds.lack m rule ≡ None → P rule)
+      → AreOwn all → AllByRecursion Fits all → lack_by kinds all m ≡ None → AllByRecursion P all
+  each_rule P Fits all m each own fit lack =
+      by all (all_found all own) fit (none_each (kinds.lack m) all lack)
     where
-      by : (rules : List Rule) → AllByRecursion (IsFound all) rules
-          → list_all test rules ≡ true → AllByRecursion (λ rule. kinds.lack m rule ≡ None) rules
-          → AllByRecursion P rules
-      by [] found passed lack = tt
-      by (rule ∷ rules) found passed lack =
-          let p = both (test rule) (list_all test rules) passed in
-          (each rule found.0 p.0 lack.0, by rules found.1 p.1 lack.1)
+      by : (rules : List Rule) → AllByRecursion (IsFound all) rules → AllByRecursion Fits rules
+          → AllByRecursion (λ rule. kinds.lack m rule ≡ None) rules → AllByRecursion P rules
+      by [] found fit lack = tt
+      by (rule ∷ rules) found fit lack =
+          (each rule found.0 fit.0 lack.0, by rules found.1 fit.1 lack.1)

@@ -1,97 +1,261 @@
 -- What rules make of a sound message is sound in the table that they make, where each rule makes an
--- item that it says.
-use Rattle.std.proofs.Common.{◌≡◌, ℕ, List, [], ◌∷◌, Bool, true, Option, Some, None, sym, ap, subst}
-use Rattle.std.proofs.Common.{◌∙◌, append-nil}
-use Rattle.std.specs.Prelude.{IfSome, option_to_list}
+-- item that it says: the shapes of such items, whatever the kinds of the rules are.
+use Rattle.std.proofs.Common.{◌≡◌, ℕ, List, [], ◌∷◌, Bool, true, false, Option, Some, None, refl}
+use Rattle.std.proofs.Common.{sym, ap, subst, ◌∙◌, append-nil}
+use Rattle.std.proofs.lemmas.Bool.{eqb-true}
+use Rattle.std.specs.Prelude.{IfSome, option_to_list, ◌||◌, ◌==◌}
 use Rattle.std.specs.List.{AllByRecursion, flat_map}
 use Rattle.field_groups.specs.Field.{Field}
-use Rattle.message_tables.specs.Tables.{Row, Item, RepeatingGroup, Message, Place, Tag, Table}
-use Rattle.message_tables.specs.Tables.{said_at, groups_of, value_at}
+use Rattle.message_tables.specs.Tables.{Row, Item, One, Party, Lines, RepeatingGroup, Message}
+use Rattle.message_tables.specs.Tables.{Place, Tag, Role, Said, Cell, Table, said_at, groups_of}
+use Rattle.message_tables.specs.Tables.{value_at, lines_of, party_in}
 use Rattle.message_tables.specs.Content.{content}
 use Rattle.row_values.specs.Kinds.{Kind, judge}
-use Rattle.sound_laws.specs.Sound.{IsItem, IsSound}
+use Rattle.sound_laws.specs.Sound.{IsGroup, IsItem, IsSaid, IsSound}
 use Rattle.sound_laws.proofs.ContentValues.{GroupSaid, is_alone, value_said}
-use Rattle.rule_rows.specs.ByRules.{At, Kinds, by_rules, outline, outline_of}
-use Rattle.rule_rows.proofs.Looked.{AreKinds, AreOwn, IsFound, rule_at, said_by, says}
+use Rattle.sound_laws.proofs.RowsSaid.{row_of_tag}
+use Rattle.rule_rows.specs.ByRules.{At, Grouped, Kinds, by_rules, has_any, has_place, outline_of}
+use Rattle.rule_rows.specs.Rows.{group_at}
+use Rattle.rule_rows.proofs.Items.{can_go, count_is, has_one, has_row, item_if, may_go, row_there}
+use Rattle.rule_rows.proofs.Items.{turned, turned_group}
+use Rattle.rule_rows.proofs.Looked.{AreKinds, AreOwn, IsFound, has_lines_of, lines_by, rule_at}
+use Rattle.rule_rows.proofs.Looked.{said_by, says}
 use Rattle.rule_rows.proofs.Made.{IsMade, groups_made, items_made, made, outline_made}
+use Rattle.rule_rows.proofs.Source as source
 
-module _ {Rule : Type 0} (kinds : Kinds Rule) (are : AreKinds kinds) (all : List Rule)
-    (own : AreOwn kinds all) (items : List (Item Kind)) (make : Rule → Option (Item Kind))
-    (each : (rule : Rule) → IsMade kinds items make rule)
-    (letter : ℕ) (header : List (Row Kind)) (strict : Bool) (m : Message) where
-  -- the table that the rules make, the message, and its content
+-- a row that may go, where there is one
+pub may_fit : (row : Option (Row Kind)) → may_go row ≡ true → IfSome row (λ row. can_go row ≡ true)
+may_fit None h = tt
+may_fit (Some row) h = h
+
+-- of whatever stands there
+pub whatever : {A : Type 0} (some : Option A) → IfSome some (λ one. Unit {0})
+whatever None = tt
+whatever (Some one) = tt
+
+-- A MESSAGE THAT GOES by rules: the kinds of its rules, and the rules, which have a target each;
+-- the table in which it is sound; what a rule makes of that table, and the header of what they make.
+pub record Goes (Rule : Type 0) : Type 0 where
+  pub kinds : Kinds Rule
+  pub are : AreKinds kinds
+  pub all : List Rule
+  pub own : AreOwn kinds all
+  pub table : Table Kind
+  pub make : Rule → Option (Item Kind)
+  pub each : (rule : Rule) → IsMade kinds table.items make rule
+  pub header : List (Row Kind)
+  pub strict : Bool
+  pub m : Message
+  pub sound : IsSound judge table m
+
+module _ {Rule : Type 0} (g : Goes Rule) where
+  abbrev items : List (Item Kind)
+  items = g.table.items
+
+  abbrev pub at : ℕ → Said
+  at tag = said_at g.m.cells (Tag tag)
+
+  -- the table that the rules make, the message, and both contents
   abbrev pub target : Table Kind
   target = record {
-    letter = letter;
-    header = header;
-    items = made kinds items make all;
-    strict = strict;
+    letter = g.table.letter;
+    header = g.header;
+    items = made g.kinds items g.make g.all;
+    strict = g.strict;
   }
 
   abbrev pub w : Message
-  w = by_rules kinds all m
+  w = by_rules g.kinds g.all g.m
 
-  abbrev pub fields : List Field
-  fields = content target w
+  abbrev pub before : List Field
+  before = content g.table g.m
+
+  abbrev pub after : List Field
+  after = content target w
+
+  abbrev Found : Rule → Type 0
+  Found rule = IsFound g.kinds g.all rule
 
   -- what is said where a rule is found
-  pub said_is : (rule : Rule) (place : Place) → kinds.target rule ≡ At place
-      → IsFound kinds all rule → said_at w.cells place ≡ kinds.said m rule
+  pub said_is : (rule : Rule) (place : Place) → g.kinds.target rule ≡ At place
+      → Found rule → said_at w.cells place ≡ g.kinds.said g.m rule
   said_is rule place is found =
-      says kinds are all own m place
-      ∙ ap (λ t. said_by kinds m (rule_at kinds t all)) (sym is)
-      ∙ ap (said_by kinds m) found
+      says g.kinds g.are g.all g.own g.m place
+      ∙ ap (λ t. said_by g.kinds g.m (rule_at g.kinds t g.all)) (sym is)
+      ∙ ap (said_by g.kinds g.m) found
 
-  -- the groups of what a rule makes
-  abbrev pub RuleGroups : Rule → Type 0
-  RuleGroups rule = IfSome (make rule) (λ item. AllByRecursion (GroupSaid judge w) (groups_of item))
+  -- ---- what holds of what a rule makes
+
+  abbrev HasGroups : Option (Item Kind) → Type 0
+  HasGroups item = IfSome item (λ item. AllByRecursion (GroupSaid judge w) (groups_of item))
 
   abbrev pub AreGroups : Type 0
-  AreGroups = AllByRecursion (GroupSaid judge w) (flat_map groups_of (made kinds items make all))
+  AreGroups = AllByRecursion (GroupSaid judge w) (flat_map groups_of target.items)
 
-  -- what a rule makes is said
-  abbrev pub RuleSaid : Rule → Type 0
-  RuleSaid rule = IfSome (make rule) (IsItem judge fields w)
+  abbrev Says : Option (Item Kind) → Type 0
+  Says item = IfSome item (IsItem judge after w)
 
-  pub groups_are : AllByRecursion RuleGroups all → AreGroups
-  groups_are h = groups_made kinds items make (GroupSaid judge w) all (by all h)
+  -- WHAT A RULE MAKES IS SAID: its groups, and where the groups of all rules are, the item
+  pub record IsGood (item : Option (Item Kind)) : Type 0 where
+    pub groups : HasGroups item
+    pub said : AreGroups → Says item
+
+  nothing : IsGood None
+  nothing = record { groups = tt; said = λ groups. tt }
+
+  -- the value of a tag that one row alone writes
+  pub value_is : AreGroups → (rule : Rule) (tag : ℕ) → g.kinds.target rule ≡ At (Tag tag)
+      → Found rule → is_alone tag target.items ≡ true
+      → value_at tag after ≡ g.kinds.said g.m rule
+  value_is groups rule tag is found alone =
+      value_said judge w tag target.items alone groups ∙ said_is rule (Tag tag) is found
+
+  -- ---- rows
+
+  -- a row that says what a rule says
+  row_good : (rule : Rule) (row : Row Kind) → g.kinds.target rule ≡ At (Tag row.tag) → Found rule
+      → (AreGroups → IsSaid judge after row (g.kinds.said g.m rule)) → IsGood (Some (One row))
+  row_good rule row is found h =
+      let P : Said → Type 0 = λ said. IsSaid judge after row said in record {
+        groups = tt;
+        said = λ groups. subst P (sym (said_is rule (Tag row.tag) is found)) (h groups);
+      }
+
+  -- what the row of a tag becomes
+  pub turned_good : (Fits : Row Kind → Type 0) (rule : Rule) (from : ℕ) (turn : Row Kind → Row Kind)
+      → ((row : Row Kind) → g.kinds.target rule ≡ At (Tag (turn row).tag)) → Found rule
+      → IfSome (row_of_tag from items) Fits
+      → ((row : Row Kind) → Fits row → IsSaid judge before row (at from) → AreGroups
+      → IsSaid judge after (turn row) (g.kinds.said g.m rule))
+      → IsGood (turned turn (row_of_tag from items))
+  turned_good Fits rule from turn is found fit h = by (row_of_tag from items) refl fit
     where
-      one : (item : Option (Item Kind))
-          → IfSome item (λ item. AllByRecursion (GroupSaid judge w) (groups_of item))
+      by : (row : Option (Row Kind)) → row_of_tag from items ≡ row → IfSome row Fits
+          → IsGood (turned turn row)
+      by None e fit = nothing
+      by (Some row) e fit = row_good rule (turn row) (is row) found
+          (h row fit (source.row_at g.table g.m g.sound from row e))
+
+  -- a row where this holds
+  pub own_good : (rule : Rule) (b : Bool) (row : Row Kind) → g.kinds.target rule ≡ At (Tag row.tag)
+      → Found rule → (b ≡ true → AreGroups → IsSaid judge after row (g.kinds.said g.m rule))
+      → IsGood (item_if b (One row))
+  own_good rule true row is found h = row_good rule row is found (h refl)
+  own_good rule false row is found h = nothing
+
+  -- a rule of one source has the row of that
+  pub has_of : (tag : ℕ) → has_any (outline_of items) (Tag tag ∷ []) ≡ true
+      → has_row items tag ≡ true
+  has_of tag h = sym (row_there items tag) ∙ sym (has_one items (Tag tag)) ∙ h
+
+  -- ---- parties and groups
+
+  -- a party where this holds
+  pub party_good : (b : Bool) (role : ℕ) → IsItem judge after w (Party role)
+      → IsGood (item_if b (Party role))
+  party_good true role h = record { groups = tt; said = λ groups. h }
+  party_good false role h = nothing
+
+  -- the party of a role of the source
+  pub role_is : (some : List (Item Kind)) (role : ℕ)
+      → has_place (outline_of some) (Role role) ≡ true
+      → AllByRecursion (IsItem judge before g.m) some
+      → said_at g.m.cells (Role role) ≡ party_in role (lines_of 453 g.m.groups)
+  role_is [] role has said = absurd cc
+  role_is (One row ∷ some) role has said = role_is some role has said.1
+  role_is (Lines group ∷ some) role has said = role_is some role has said.1
+  role_is (Party first ∷ some) role has said =
+      by (first == role) refl has (λ later. role_is some role later said.1)
+    where
+      by : (b : Bool) → (first == role) ≡ b → (b || has_place (outline_of some) (Role role)) ≡ true
+          → (has_place (outline_of some) (Role role) ≡ true
+          → said_at g.m.cells (Role role) ≡ party_in role (lines_of 453 g.m.groups))
+          → said_at g.m.cells (Role role) ≡ party_in role (lines_of 453 g.m.groups)
+      by true e h later =
+          let P : ℕ → Type 0 =
+          λ r. said_at g.m.cells (Role r) ≡ party_in r (lines_of 453 g.m.groups) in
+          subst P (eqb-true first role e) said.0
+      by false e h later = later h
+
+  -- the lines of a rule's group
+  pub lines_are : (rule : Rule) (count : ℕ) → g.kinds.target rule ≡ Grouped count → Found rule
+      → lines_of count w.groups ≡ g.kinds.lines g.m rule
+  lines_are rule count is found =
+      has_lines_of g.kinds g.are g.all g.own g.m count
+      ∙ ap (λ t. lines_by g.kinds g.m (rule_at g.kinds t g.all)) (sym is)
+      ∙ ap (lines_by g.kinds g.m) found
+
+  group_good : (group : RepeatingGroup Kind) → GroupSaid judge w group → IsGood (Some (Lines group))
+  group_good group h = record { groups = (h, tt); said = λ groups. h }
+
+  -- a group where this holds
+  pub lines_good : (b : Bool) (group : RepeatingGroup Kind) → GroupSaid judge w group
+      → IsGood (item_if b (Lines group))
+  lines_good true group h = group_good group h
+  lines_good false group h = nothing
+
+  -- what the group of a count becomes
+  pub carried_good : (Fits : RepeatingGroup Kind → Type 0) (rule : Rule) (count : ℕ)
+      (turn : RepeatingGroup Kind → RepeatingGroup Kind)
+      → ((group : RepeatingGroup Kind) → (turn group).count ≡ group.count)
+      → g.kinds.target rule ≡ Grouped count → g.kinds.lines g.m rule ≡ lines_of count g.m.groups
+      → Found rule → IfSome (group_at count items) Fits
+      → ((group : RepeatingGroup Kind) (lines : List (List Cell)) → Fits group
+      → IsGroup judge group lines → IsGroup judge (turn group) lines)
+      → IsGood (turned_group turn (group_at count items))
+  carried_good Fits rule count turn same is lines found fit h = by (group_at count items) refl fit
+    where
+      by : (group : Option (RepeatingGroup Kind)) → group_at count items ≡ group → IfSome group Fits
+          → IsGood (turned_group turn group)
+      by None e fit = nothing
+      by (Some group) e fit =
+          let P : List (List Cell) → Type 0 = λ lines. IsGroup judge (turn group) lines in
+          let Q : ℕ → Type 0 = λ c. IsGroup judge (turn group) (lines_of c w.groups) in
+          group_good (turn group) (subst Q (sym (same group ∙ count_is count items group e))
+          (subst P (sym (lines_are rule count is found ∙ lines))
+          (h group (lines_of count g.m.groups) fit
+          (source.group_is g.table g.m g.sound count group e))))
+
+  -- ---- the whole
+
+  abbrev pub RuleGood : Rule → Type 0
+  RuleGood rule = IsGood (g.make rule)
+
+  pub groups_are : AllByRecursion RuleGood g.all → AreGroups
+  groups_are h = groups_made g.kinds items g.make (GroupSaid judge w) g.all (by g.all h)
+    where
+      one : (item : Option (Item Kind)) → HasGroups item
           → AllByRecursion (GroupSaid judge w) (flat_map groups_of (option_to_list item))
       one None h = tt
       one (Some item) h =
           subst (λ (gs : List (RepeatingGroup Kind)). AllByRecursion (GroupSaid judge w) gs)
           (sym (append-nil (groups_of item))) h
 
-      by : (rules : List Rule) → AllByRecursion RuleGroups rules → AllByRecursion
+      by : (rules : List Rule) → AllByRecursion RuleGood rules → AllByRecursion
           (λ rule. AllByRecursion (GroupSaid judge w)
-          (flat_map groups_of (option_to_list (make rule)))) rules
+          (flat_map groups_of (option_to_list (g.make rule)))) rules
       by [] h = tt
-      by (rule ∷ rules) h = (one (make rule) h.0, by rules h.1)
-
-  -- the value of a tag that one row alone writes
-  pub value_is : AreGroups → (tag : ℕ) → is_alone tag target.items ≡ true
-      → value_at tag fields ≡ said_at w.cells (Tag tag)
-  value_is groups tag alone = value_said judge w tag target.items alone groups
+      by (rule ∷ rules) h = (one (g.make rule) h.0.groups, by rules h.1)
 
   -- WHAT THE RULES MAKE IS SOUND
-  pub sound_made : m.letter ≡ letter → outline m ≡ outline_of items
-      → AllByRecursion RuleSaid all → IsSound judge target w
-  sound_made is there h =
-      let same = outline_made kinds items make m there each all in record {
-        letter = is;
+  pub sound_made : AllByRecursion RuleGood g.all → IsSound judge target w
+  sound_made h =
+      let same = outline_made g.kinds items g.make g.m (source.outline_is g.table g.m g.sound)
+      g.each g.all in record {
+        letter = g.sound.letter;
         places = ap (λ o. o.places) same;
         counts = ap (λ o. o.counts) same;
-        items = items_made kinds items make (IsItem judge fields w) all (by all h);
+        items = items_made g.kinds items g.make (IsItem judge after w) g.all
+            (by g.all (groups_are h) h);
       }
     where
-      one : (item : Option (Item Kind)) → IfSome item (IsItem judge fields w)
-          → AllByRecursion (IsItem judge fields w) (option_to_list item)
+      one : (item : Option (Item Kind)) → Says item
+          → AllByRecursion (IsItem judge after w) (option_to_list item)
       one None h = tt
       one (Some item) h = (h, tt)
 
-      by : (rules : List Rule) → AllByRecursion RuleSaid rules → AllByRecursion
-          (λ rule. AllByRecursion (IsItem judge fields w) (option_to_list (make rule))) rules
-      by [] h = tt
-      by (rule ∷ rules) h = (one (make rule) h.0, by rules h.1)
+      by : (rules : List Rule) → AreGroups → AllByRecursion RuleGood rules → AllByRecursion
+          (λ rule. AllByRecursion (IsItem judge after w) (option_to_list (g.make rule))) rules
+      by [] groups h = tt
+      by (rule ∷ rules) groups h =
+          (one (g.make rule) (h.0.said groups), by rules groups h.1)

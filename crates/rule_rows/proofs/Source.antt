@@ -1,17 +1,16 @@
 -- What a sound message says at the rows and groups of its table.
-use Rattle.std.proofs.Common.{◌≡◌, ℕ, List, Bool, true, false, Option, Some, None, refl}
-use Rattle.std.proofs.Common.{sym, ap, subst, ◌∙◌}
+use Rattle.std.proofs.Common.{◌≡◌, ℕ, List, Bool, true, false, Option, Some, None, refl, sym, ap}
+use Rattle.std.proofs.Common.{subst, ◌∙◌}
 use Rattle.std.specs.Prelude.{IsSome, IfSome, is_some}
 use Rattle.field_groups.specs.Field.{Field}
-use Rattle.message_tables.specs.Tables.{Need, Required, Optional, Lenient, Row}
-use Rattle.message_tables.specs.Tables.{RepeatingGroup, Message, Said, Tag, Spells, Table}
-use Rattle.message_tables.specs.Tables.{said_at, lines_of, is_needed, value_at}
+use Rattle.message_tables.specs.Tables.{Need, Required, Optional, Lenient, Row, RepeatingGroup}
+use Rattle.message_tables.specs.Tables.{Message, Said, Tag, Spells, Table, said_at, lines_of}
+use Rattle.message_tables.specs.Tables.{is_needed, value_at}
 use Rattle.message_tables.specs.Content.{content}
-use Rattle.value_kinds.specs.ValueKind.{ValueKind}
-use Rattle.row_values.specs.Kinds.{Kind, Value, judge}
+use Rattle.row_values.specs.Kinds.{Kind, judge}
 use Rattle.sound_laws.specs.Sound.{IsClear, IsSaid, IsGroup, IsItem, IsSound}
-use Rattle.sound_laws.proofs.RowsSaid.{row_found, row_of_tag, same_value, required_said}
-use Rattle.sound_laws.proofs.RowsSaid.{optional_said, lenient_said}
+use Rattle.sound_laws.proofs.RowsSaid.{row_found, row_of_tag, required_said, optional_said}
+use Rattle.sound_laws.proofs.RowsSaid.{lenient_said}
 use Rattle.sound_laws.proofs.ContentValues.{groups_said, is_alone, value_said}
 use Rattle.rule_rows.specs.ByRules.{has_place, outline, outline_of}
 use Rattle.rule_rows.proofs.Looked.{none_at}
@@ -35,18 +34,22 @@ is_less need Lenient = true
 is_less Required Required = true
 is_less need other = false
 
--- what is said by a row whose values are judged by themselves is said by such a row of another tag
-pub carried_said : (source target : List Field) (from to : ℕ) (kind : ValueKind) (need less : Need)
-    (said : Said) → is_less need less ≡ true
-    → IsSaid judge source (record { tag = from; kind = Value kind; need = need }) said
-    → IsSaid judge target (record { tag = to; kind = Value kind; need = less }) said
-carried_said source target from to kind need Optional said ok h = optional_said target to
-    (Value kind) said (same_value source target kind said h.spelled) h.clear
-carried_said source target from to kind need Lenient said ok h = lenient_said target to
-    (Value kind) said (same_value source target kind said h.spelled) h.clear
-carried_said source target from to kind Required Required said ok h = required_said target to
-    (Value kind) said (h.needed refl) (same_value source target kind said h.spelled) h.clear
-carried_said source target from to kind need other said ok h = absurd cc
+-- what is said by a row is said by a row of a need that asks for no more, where its kind spells it
+pub carried_said : (source target : List Field) (row : Row Kind) (to : ℕ) (kind : Kind)
+    (less : Need) (said : Said) → is_less row.need less ≡ true → IsSaid judge source row said
+    → IfSome said (λ text. judge target kind text ≡ Spells text)
+    → IsSaid judge target (record { tag = to; kind = kind; need = less }) said
+carried_said source target row to kind Optional said ok h s =
+    optional_said target to kind said s h.clear
+carried_said source target row to kind Lenient said ok h s =
+    lenient_said target to kind said s h.clear
+carried_said source target row to kind Required said ok h s =
+    required_said target to kind said (h.needed (needs row.need ok)) s h.clear
+  where
+    needs : (need : Need) → is_less need Required ≡ true → is_needed need source ≡ true
+    needs Required ok = refl
+    needs need ok = absurd cc
+carried_said source target row to kind other said ok h s = absurd cc
 
 -- ---- a sound message
 
