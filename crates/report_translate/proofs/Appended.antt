@@ -1,10 +1,10 @@
 -- The content of the report that stands for fields, as it is appended.
-use Rattle.std.proofs.Common.{◌≡◌, ◌≤◌, ℕ, List, Option, None, Some, Bool, true, false, refl, sym, ap}
-use Rattle.std.proofs.Common.{◌∙◌, subst, length, length-append, arith, codes, if◌then◌else◌}
+use Rattle.std.proofs.Common.{◌≡◌, ℕ, List, Option, None, Some, Bool, true, false, refl, sym, ap}
+use Rattle.std.proofs.Common.{◌∙◌, subst, codes, if◌then◌else◌}
 use Rattle.std.specs.Prelude.{IfErr, OnOk, Result, Ok, Err}
 use Rattle.std.specs.Str.{bytes_eq}
 use Rattle.field_groups.specs.declared.fault.SplitFault.{SplitFault}
-use Rattle.field_groups.specs.Field.{Field, body_of}
+use Rattle.field_groups.specs.Field.{Field}
 use Rattle.message_tables.specs.FirstFault.{message_in}
 use Rattle.message_tables.specs.Tables.{Message, Table}
 use Rattle.order_meaning.specs.declared.fault.Fault.{Fault}
@@ -16,14 +16,15 @@ use Rattle.rows_fix50.specs.Header.{completed}
 use Rattle.reports_fix50.specs.Message.{cancel_reject_table, message50, report_table}
 use Rattle.reports_fix50.specs.Message.{report_table_of}
 use Rattle.report_rules.specs.Down.{IsGoodBy, LacksDown, PutsDown}
-use Rattle.report_rules.specs.Rules.{written}
 use Rattle.translation.specs.Errors.{error_of_lack}
 use Rattle.translation.specs.Header.{type_of}
 use Rattle.translation.specs.Judged.{AreGood, AreGoodBy}
 use Rattle.translation.specs.declared.error.TranslateError.{TranslateError}
 use Rattle.translation.specs.declared.error.TranslateError.TheVariants as errors
 use Rattle.report_translate.specs.Reading.{is_report, report_message}
-use Rattle.report_translate.specs.Writing.{Appends, Refuses, RefusesCheck}
+use Rattle.translation.specs.Going.{Appends, StayBack}
+use Rattle.report_translate.specs.Translation.{down}
+use Rattle.report_translate.specs.Writing.{RefusesCheck}
 use Rattle.report_translate.proofs.GoodFields.{of_good, read_8, read_9}
 
 -- ---- a report at no fault
@@ -40,20 +41,20 @@ module _ (fields : List Field) (m : Message)
   told = told_by (is_report (type_of fields)) (message50 (type_of fields) fields None) m read
 
   appends : (before after : List ℕ) → PutsDown (type_of fields) None fields before after
-      → Appends fields None before after
+      → Appends down fields None before after
   appends before after puts =
       let put = puts m told in record {
-        client = put.w;
-        told = record {
-          venue = m;
+        gone = record {
+          m = m;
+          w = put.w;
           read = record { whole = refl; read = read };
-          down = put.down;
+          goes = put.down;
         };
         bytes = put.bytes;
       }
 
   refuses : (lack : Lack) → LacksDown (type_of fields) None fields lack
-      → Refuses fields None (error_of_lack lack)
+      → StayBack down fields None (error_of_lack lack)
   refuses lacks.NoMemory h = tt
   refuses (lacks.Tag tag) h = (m, record { whole = refl; read = read }, h m told)
 
@@ -83,33 +84,25 @@ module _ (fields : List Field) (msg_type : List ℕ) (same : msg_type ≡ type_o
       )
 
   pub appended : (before after : List ℕ) → PutsDown msg_type None fields before after
-      → Appends fields None before after
+      → Appends down fields None before after
   appended before after h =
       let P : List ℕ → Type 0 = λ t. PutsDown t None fields before after in
       appends fields read.0 read.1 before after (subst P same h)
 
   pub refused : (lack : Lack) (error : TranslateError) → error ≡ error_of_lack lack
-      → LacksDown msg_type None fields lack → Refuses fields None error
+      → LacksDown msg_type None fields lack → StayBack down fields None error
   refused lack error is h =
       let P : List ℕ → Type 0 = λ t. LacksDown t None fields lack in
-      let Q : TranslateError → Type 0 = λ e. Refuses fields None e in
+      let Q : TranslateError → Type 0 = λ e. StayBack down fields None e in
       subst Q (sym is) (refuses fields read.0 read.1 lack (subst P same h))
 
 pub ruleset of_put = (is_good, appended, refused)
-
--- ---- what is appended makes no body shorter
-
-pub grows : (fields : List Field) (stopped : Option SplitFault) (before after : List ℕ)
-    → Appends fields stopped before after → length before ≤ length after
-grows fields stopped before after h =
-    let long = ap length h.bytes ∙ length-append before (body_of (written h.client)) in
-    omega (arith, long)
 
 -- ---- fields that were judged
 
 -- why they are no report is why there is none of FIX 4.2
 checked_by : (fields : List Field) (stopped : Option SplitFault) (error : TranslateError)
-    → RefusesCheck fields stopped error → Refuses fields stopped error
+    → RefusesCheck fields stopped error → StayBack down fields stopped error
 checked_by fields stopped errors.NoMemory h = tt
 checked_by fields stopped errors.TooLong h = absurd h
 checked_by fields stopped (errors.Faulty fault) h = h
@@ -118,24 +111,24 @@ checked_by fields stopped (errors.Lacking tag) h =
 
 module _ (fields good : List Field) (stopped : Option SplitFault)
     (are : AreGood (report_table_of (type_of fields)) fields stopped good) where
-  appends_of : (before after : List ℕ) → Appends good None before after
-      → Appends fields stopped before after
+  appends_of : (before after : List ℕ) → Appends down good None before after
+      → Appends down fields stopped before after
   appends_of before after h =
-      let P : List Field → Type 0 = λ f. Appends f None before after in
-      let Q : Option SplitFault → Type 0 = λ s. Appends fields s before after in
+      let P : List Field → Type 0 = λ f. Appends down f None before after in
+      let Q : Option SplitFault → Type 0 = λ s. Appends down fields s before after in
       subst Q (sym are.whole) (subst P are.same h)
 
   pub appends_of_if : (r : Result (Unit {0}) TranslateError) (before after : List ℕ)
-      → OnOk r (Appends good None before after) → OnOk r (Appends fields stopped before after)
+      → OnOk r (Appends down good None before after) → OnOk r (Appends down fields stopped before after)
   appends_of_if (Ok done) before after h = appends_of before after h
   appends_of_if (Err error) before after h = tt
 
-  pub refuses_if : (r : Result (Unit {0}) TranslateError) → IfErr r (Refuses good None)
-      → IfErr r (Refuses fields stopped)
+  pub refuses_if : (r : Result (Unit {0}) TranslateError) → IfErr r (StayBack down good None)
+      → IfErr r (StayBack down fields stopped)
   refuses_if (Ok done) h = tt
   refuses_if (Err error) h =
-      let P : List Field → Type 0 = λ f. Refuses f None error in
-      let Q : Option SplitFault → Type 0 = λ s. Refuses fields s error in
+      let P : List Field → Type 0 = λ f. StayBack down f None error in
+      let Q : Option SplitFault → Type 0 = λ s. StayBack down fields s error in
       subst Q (sym are.whole) (subst P are.same h)
 
 pub ruleset of_good_fields = (of_good, refuses_if, appends_of_if)

@@ -1,8 +1,7 @@
 -- What fields at no fault are, by the table of their type: a report, and whether it goes down.
 use Rattle.std.proofs.Common.{◌≡◌, ℕ, List, Option, Some, None, Bool, true, false, not, refl, ◌∙◌}
 use Rattle.std.proofs.Common.{codes, subst, sym, ap}
-use Rattle.std.specs.Prelude.{IsSome, IfSome, IfErr, OnOk, Result, Ok, Err, is_some}
-use Rattle.std.specs.Prelude.{if◌then◌else◌}
+use Rattle.std.specs.Prelude.{IsSome, IfSome, IfErr, OnOk, Result, Ok, Err, is_some, if◌then◌else◌}
 use Rattle.std.specs.Borrow.{Bor}
 use Rattle.std.specs.Str.{bytes_eq}
 use Rattle.field_groups.specs.declared.fault.SplitFault.{SplitFault}
@@ -30,7 +29,9 @@ use Rattle.translation.specs.declared.error.TranslateError.{TranslateError}
 use Rattle.translation.specs.declared.error.TranslateError.TheVariants as errors
 use Rattle.translation.proofs.Judged.{clean_is, fault_by}
 use Rattle.report_translate.specs.Reading.{report_message}
-use Rattle.report_translate.specs.Writing.{AreRead, IsCheckedOf, LacksAt, RefusesCheck, lacks_at}
+use Rattle.translation.specs.Going.{AreRead}
+use Rattle.report_translate.specs.Translation.{down}
+use Rattle.report_translate.specs.Writing.{IsCheckedOf, LacksAt, RefusesCheck, lacks_at}
 use Rattle.report_translate.proofs.OfType.{eight, nine, no_report}
 
 -- ---- the table of a type
@@ -156,13 +157,13 @@ module _ (fields : List Field) (msg_type : List ℕ) (same : msg_type ≡ type_o
       subst P (sym same) good
 
   are_read : (message : Message) → report_message msg_type fields None ≡ Ok message
-      → AreRead fields None message
+      → AreRead down fields None message
   are_read message is =
       let P : List ℕ → Type 0 = λ m. report_message m fields None ≡ Ok message in
       record { whole = refl; read = subst P same is }
 
   module _ (test : is_8 msg_type fields ≡ true) where
-    are_8 : AreRead fields None (completed (message_in judge report_table fields))
+    are_8 : AreRead down fields None (completed (message_in judge report_table fields))
     are_8 = are_read (completed (message_in judge report_table fields))
         (read_8 msg_type fields test good_by)
 

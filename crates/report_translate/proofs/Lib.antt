@@ -1,6 +1,5 @@
 pub mod OfType
 pub mod GoodFields
-pub mod Stands
 pub mod Appended
 pub mod DownAgain
 pub mod Translated

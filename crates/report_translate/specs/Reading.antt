@@ -1,7 +1,6 @@
 -- Standard: MsgType (35) of FIX 4.2 and FIX 5.0 SP2: 8 Execution Report, 9 Order Cancel Reject,
 -- 3 Reject, j Business Message Reject. Own: no other type is a report or a refusal.
-use Rattle.std.specs.Prelude.{ℕ, Bool, ◌||◌, List, codes, Option, Result, Err}
-use Rattle.std.specs.Prelude.{if◌then◌else◌}
+use Rattle.std.specs.Prelude.{ℕ, Bool, ◌||◌, List, codes, Option, Result, Err, if◌then◌else◌}
 use Rattle.std.specs.Str.{bytes_eq}
 use Rattle.field_groups.specs.declared.fault.SplitFault.{SplitFault}
 use Rattle.field_groups.specs.Field.{Field}

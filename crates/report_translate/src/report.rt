@@ -2,7 +2,8 @@
 
 ghost use Rattle.std.specs.Prelude.{IfErr, None, OnOk};
 ghost use Rattle.reports_fix50.specs.Message.{report_table_of};
-ghost use Rattle.report_translate.specs.Writing.{Appends, IsDownOf, Refuses, RefusesDown};
+ghost use Rattle.report_translate.specs.Translation.{down};
+ghost use Rattle.translation.specs.Going.{Appends, IsOtherOf, Refuses, StayBack};
 ghost use Rattle.translation.specs.Header.{type_of};
 ghost use Rattle.translation.specs.Judged.{AreGoodBy};
 
@@ -15,8 +16,8 @@ use translation::{HeadDown, TranslateError, check_lengths, lacking, msg_type, wr
 #[tactic(auto, using(crate::proofs::Appended::of_put))]
 fn put_good(alloc: Global, fields: &Fields<'_>, out: &mut Vec<u8>) -> Result<(), TranslateError>
     requires { AreGoodBy (report_table_of (type_of fields.now)) fields.now }
-    ensures ok { OnOk result (Appends fields.now None out.old.items out.new.items) }
-    ensures refused { IfErr result (Refuses fields.now None) }
+    ensures ok { OnOk result (Appends down fields.now None out.old.items out.new.items) }
+    ensures refused { IfErr result (StayBack down fields.now None) }
 {
     match report_rules::put_down(alloc, msg_type(fields), fields, None, out) {
         Ok(()) => Ok(()),
@@ -28,21 +29,21 @@ fn put_good(alloc: Global, fields: &Fields<'_>, out: &mut Vec<u8>) -> Result<(),
 #[tactic(auto, using(crate::proofs::Appended::of_good_fields))]
 fn put_down(alloc: Global, split: &Split<'_>, out: &mut Vec<u8>) -> Result<(), TranslateError>
     ensures ok { OnOk result
-        (Appends split.now.fields split.now.fault out.old.items out.new.items) }
-    ensures refused { IfErr result (Refuses split.now.fields split.now.fault) }
+        (Appends down split.now.fields split.now.fault out.old.items out.new.items) }
+    ensures refused { IfErr result (StayBack down split.now.fields split.now.fault) }
 {
     put_good(alloc, good(split)?, out)
 }
 
 /// Writes to `body`, in place of what it has, the body that stands for the fields of a body.
-#[tactic(auto, using(crate::proofs::Appended::grows))]
+#[tactic(auto, using(translation::proofs::Going::grows))]
 pub(crate) fn write_down(
     alloc: Global,
     split: &Split<'_>,
     body: &mut Vec<u8>,
 ) -> Result<(), TranslateError>
-    ensures ok { OnOk result (IsDownOf split.now.fields split.now.fault body.new.items) }
-    ensures refused { IfErr result (RefusesDown split.now.fields split.now.fault) }
+    ensures ok { OnOk result (IsOtherOf down split.now.fields split.now.fault body.new.items) }
+    ensures refused { IfErr result (Refuses down split.now.fields split.now.fault) }
 {
     body.clear();
     let header = HeadDown {

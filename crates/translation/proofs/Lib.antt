@@ -2,6 +2,9 @@ pub mod BehindHeader
 pub mod Bodies
 pub mod CarriedDown
 pub mod CarriedHeader
+pub mod Going
 pub mod Judged
+pub mod Kept
+pub mod Outcomes
 pub mod SplitAgain
 pub mod Writable

@@ -3,7 +3,8 @@ use Rattle.std.proofs.lemmas.Result.{err_from_is_err_and}
 use Rattle.report_rules.specs.Rules.{written as content_of}
 use Rattle.translation.specs.Header.{head_down}
 use Rattle.translation.proofs.Bodies.{head_is, written, unwritten}
-use Rattle.report_translate.proofs.Stands.{written_down, unwritten_down, refused_down}
+use Rattle.translation.proofs.Going.{refused_other, unwritten_other, written_other}
+use Rattle.report_translate.specs.Translation.{down}
 use Rattle.report_translate.proofs.report.write_down.Goals as goal
 
 pub returns-clause-ok : goal.returns-clause-ok
@@ -14,9 +15,9 @@ returns-clause-ok c =
     c.msg_type.result.now c.in_ok-write_head.ensures c.msg_type.ensures in
     let head : c.len-head.result ≡ length c.write_head.new.out.items = search rules in
     let whole : c.len-whole.result ≡ length c.put_down.new.out.items = search rules in
-    written_down fields c.args.split.now.fault put.client c.put_down.new.out.items
-    c.check_lengths.result put.told
-    (written (head_down fields) (content_of put.client) c.clear.new.self.items
+    written_other down fields c.args.split.now.fault put.gone c.put_down.new.out.items
+    c.check_lengths.result
+    (written (head_down fields) (content_of put.gone.w) c.clear.new.self.items
     c.write_head.new.out.items c.put_down.new.out.items c.clear.ensures.items begun put.bytes
     c.len-head.result c.len-whole.result head whole c.check_lengths.result
     c.check_lengths.ensures.ok)
@@ -29,8 +30,8 @@ returns-clause-refused c =
     c.msg_type.result.now c.in_ok-write_head.ensures c.msg_type.ensures in
     let head : c.len-head.result ≡ length c.write_head.new.out.items = search rules in
     let whole : c.len-whole.result ≡ length c.put_down.new.out.items = search rules in
-    unwritten_down fields c.args.split.now.fault put.client c.check_lengths.result put.told
-    (unwritten (head_down fields) (content_of put.client) c.clear.new.self.items
+    unwritten_other down fields c.args.split.now.fault put.gone c.check_lengths.result
+    (unwritten (head_down fields) (content_of put.gone.w) c.clear.new.self.items
     c.write_head.new.out.items c.put_down.new.out.items c.clear.ensures.items begun put.bytes
     c.len-head.result c.len-whole.result head whole c.check_lengths.result
     c.check_lengths.ensures.long)
@@ -39,5 +40,5 @@ pub returns-in_err-put_down-clause-refused : goal.returns-in_err-put_down-clause
 returns-in_err-put_down-clause-refused c =
     let p = err_from_is_err_and c.from_residual-in_err-put_down.result
     c.from_residual-in_err-put_down.ensures.1 in
-    rw (p.1, p.2) (refused_down c.args.split.now.fields c.args.split.now.fault
+    rw (p.1, p.2) (refused_other down c.args.split.now.fields c.args.split.now.fault
     c.in_err-put_down.field-0.0 c.in_err-put_down.ensures.refused)

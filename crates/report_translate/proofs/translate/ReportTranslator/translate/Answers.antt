@@ -2,15 +2,17 @@ use Rattle.std.proofs.Common.{◌++◌, ℕ, List, sym, ap, ◌∙◌, subst}
 use Rattle.std.proofs.lemmas.Result.{err_from_is_err_and}
 use Rattle.frame_grammar.specs.declared.frame.Kind.TheVariants.{Fix42}
 use Rattle.frame_grammar.specs.Frame.{IsFrame, IsWritable, frame_of}
-use Rattle.report_translate.proofs.Translated.{can_be_written, translation, refused}
+use Rattle.translation.proofs.Going.{can_be_written, refused, translation}
+use Rattle.report_translate.specs.Translation.{down as way}
+use Rattle.report_translate.proofs.Translated.{fair}
 use Rattle.report_translate.proofs.translate.ReportTranslator.translate.Goals as goal
 
 pub write_frame-requires : goal.write_frame-requires
 write_frame-requires c =
     let split = c.split_into.new.split in
     let P : List ℕ → Type 0 = λ bytes. IsWritable bytes in
-    subst P (sym c.deref.ensures.value) (can_be_written c.args.body.now split.fields
-    split.fault c.in_ok-split_into.ensures c.write_down.new.body.items
+    subst P (sym c.deref.ensures.value) (can_be_written way split.fields split.fault
+    c.args.body.now c.in_ok-split_into.ensures fair c.write_down.new.body.items
     c.in_ok-write_down.ensures.ok)
 
 pub returns-in-Ok-clause-ok : goal.returns-in-Ok-clause-ok
@@ -20,7 +22,7 @@ returns-in-Ok-clause-ok c =
     let P : List ℕ → Type 0 = λ b. IsFrame Fix42 b (frame_of Fix42 b) in
     let frame = subst P c.deref.ensures.value c.in-Ok.ensures.frame in (
       frame_of Fix42 down,
-      translation c.args.body.now split.fields split.fault c.in_ok-split_into.ensures down
+      translation way split.fields split.fault c.args.body.now c.in_ok-split_into.ensures fair down
           c.in_ok-write_down.ensures.ok frame,
       c.in-Ok.ensures.ok
           ∙ ap (λ (b : List ℕ). c.args.out.now.items ++ frame_of Fix42 b) c.deref.ensures.value,
@@ -31,5 +33,5 @@ returns-in_err-write_down-clause-refused c =
     let split = c.split_into.new.split in
     let p = err_from_is_err_and
     c.from_residual-in_err-write_down.result c.from_residual-in_err-write_down.ensures.1 in
-    rw (p.1, p.2) (refused c.args.body.now split.fields split.fault
-    c.in_ok-split_into.ensures c.in_err-write_down.field-0.0 c.in_err-write_down.ensures.refused)
+    rw (p.1, p.2) (refused way split.fields split.fault c.args.body.now
+    c.in_ok-split_into.ensures fair c.in_err-write_down.field-0.0 c.in_err-write_down.ensures.refused)

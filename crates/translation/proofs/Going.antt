@@ -1,0 +1,116 @@
+-- What a translator answers of a body, by what is known of its fields, whatever its direction.
+use Rattle.std.proofs.Common.{◌≡◌, ◌≤◌, ◌++◌, ℕ, List, Option, None, Result, Ok, Err, refl, sym, ap}
+use Rattle.std.proofs.Common.{◌∙◌, subst, length, length-append, arith}
+use Rattle.std.specs.Prelude.{IfErr, OnOk}
+use Rattle.frame_grammar.specs.Frame.{IsFrame, IsWritable, frame_of}
+use Rattle.field_groups.specs.declared.fault.SplitFault.{SplitFault}
+use Rattle.field_groups.specs.Field.{AreFields, Field, body_of}
+use Rattle.field_groups.specs.Fields.{SplitsInto}
+use Rattle.message_tables.specs.Tables.{Message}
+use Rattle.translation.specs.declared.error.TranslateError.{TranslateError}
+use Rattle.translation.specs.declared.error.TranslateError.TheVariants as errors
+use Rattle.translation.specs.Bodies.{Direction, Goes, IsRead, IsRefused, IsTranslation, others}
+use Rattle.translation.specs.Going.{Appends, AreGone, AreRead, IsOtherOf, Refuses, StayBack}
+use Rattle.translation.specs.Header.{carried, type_of}
+use Rattle.translation.specs.Writing.{IsUnwritten, IsWritten}
+use Rattle.translation.proofs.Writable.{IsType, writable}
+
+module _ (d : Direction) where
+  -- WHAT A DIRECTION OWES of fields whose message becomes another: what they have in common, that
+  -- what is written is split again, and that its type has one byte
+  pub record Keeps (fields : List Field) (m w : Message) : Type 0 where
+    pub kept : d.Kept fields m w
+    pub again : SplitsInto (body_of (others d fields m w)) (others d fields m w) None
+    pub typed : IsType (type_of (d.head fields))
+
+  abbrev pub IsFair : Type 0
+  IsFair = (fields : List Field) → AreFields None fields → (m w : Message)
+      → d.source (type_of fields) fields None ≡ Ok m → d.goes m ≡ Ok w → Keeps fields m w
+
+  module _ (fields : List Field) (stopped : Option SplitFault) where
+    -- what is appended makes no body shorter
+    pub grows : (before after : List ℕ) → Appends d fields stopped before after
+        → length before ≤ length after
+    grows before after h =
+        let long = ap length h.bytes ∙ length-append before (body_of (d.content h.gone.m h.gone.w))
+        in omega (arith, long)
+
+    -- ---- what is written of fields whose message becomes another, and why nothing is
+
+    pub written_other : (gone : AreGone d fields stopped) (other : List ℕ)
+        (r : Result (Unit {0}) TranslateError)
+        → OnOk r (IsWritten (d.head fields) (d.content gone.m gone.w) other)
+        → OnOk r (IsOtherOf d fields stopped other)
+    written_other gone other (Ok done) h = record { gone = gone; written = h }
+    written_other gone other (Err error) h = tt
+
+    pub unwritten_other : (gone : AreGone d fields stopped) (r : Result (Unit {0}) TranslateError)
+        → IfErr r (IsUnwritten (d.head fields) (d.content gone.m gone.w))
+        → IfErr r (Refuses d fields stopped)
+    unwritten_other gone (Ok done) h = tt
+    unwritten_other gone (Err errors.NoMemory) h = tt
+    unwritten_other gone (Err errors.TooLong) h = record { gone = gone; long = h }
+    unwritten_other gone (Err other) h = absurd h
+
+    pub refused_other : (error : TranslateError) → StayBack d fields stopped error
+        → Refuses d fields stopped error
+    refused_other errors.TooLong h = absurd h
+    refused_other other h = h
+
+    -- ---- the outcome of a body
+
+    module _ (body : List ℕ) (split : SplitsInto body fields stopped) where
+      abbrev pub is_read : (m : Message) → AreRead d fields stopped m → IsRead d body fields
+      is_read m h =
+          let P : Option SplitFault → Type 0 = λ s. SplitsInto body fields s in
+          record { message = m; split = subst P h.whole split; read = h.read }
+
+      module _ (fair : IsFair) where
+        keeps : (gone : AreGone d fields stopped) → Keeps fields gone.m gone.w
+        keeps gone = fair fields split.good gone.m gone.w gone.read.read gone.goes
+
+        pub goes : AreGone d fields stopped → Goes d body fields
+        goes gone = record {
+          read = is_read gone.m gone.read;
+          other = gone.w;
+          goes = gone.goes;
+          kept = (keeps gone).kept;
+        }
+
+        pub can_be_written : (other : List ℕ) → IsOtherOf d fields stopped other → IsWritable other
+        can_be_written other is =
+            let P : List ℕ → Type 0 = λ bytes. IsWritable bytes in
+            subst P (sym is.written.bytes) (writable (type_of (d.head fields))
+            (carried (d.head fields) ++ d.content is.gone.m is.gone.w) (keeps is.gone).typed)
+
+        pub translation : (other : List ℕ) → IsOtherOf d fields stopped other
+            → IsFrame d.kind other (frame_of d.kind other)
+            → IsTranslation d body (frame_of d.kind other)
+        unfolding goes
+        translation other is frame =
+            let P : List ℕ → Type 0 =
+            λ bytes. SplitsInto bytes (others d fields is.gone.m is.gone.w) None in
+            record {
+              other = other;
+              stands = record {
+                fields = fields;
+                stands = goes is.gone;
+                bytes = is.written.bytes;
+                content_fits = is.written.content_fits;
+                body_fits = is.written.body_fits;
+                again = subst P (sym is.written.bytes) (keeps is.gone).again;
+              };
+              written = refl;
+              frame = frame;
+            }
+
+        pub refused : (error : TranslateError) → Refuses d fields stopped error
+            → IsRefused d body error
+        unfolding goes
+        refused errors.NoMemory h = tt
+        refused errors.TooLong h =
+            record { fields = fields; stands = goes h.gone; long = h.long }
+        refused (errors.Faulty fault) h =
+            record { fields = fields; stopped = stopped; split = split; read = h }
+        refused (errors.Lacking tag) h =
+            record { fields = fields; read = is_read h.0 h.1; lack = h.2 }
