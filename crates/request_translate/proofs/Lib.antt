@@ -1,13 +1,10 @@
 mod AgainFields
-mod Appended
 mod AsStructs
 mod GoodFields
 mod KeptSense
 mod Lacks
 mod OneContent
-mod Outcomes
 mod PlainOrders
-mod Requested
 mod SameRows
 mod Sayable
 mod SenseAgain

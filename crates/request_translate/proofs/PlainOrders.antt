@@ -32,16 +32,17 @@ use Rattle.message_tables.specs.Content.{content}
 use Rattle.dict_fix42.specs.Message.{message42}
 use Rattle.request_translate.specs.Lack.{lack42}
 use Rattle.translation.specs.Header.{with_content}
-use Rattle.request_translate.specs.Translation.{IsGood}
+use Rattle.request_translate.specs.Translation.{up}
 use Rattle.request_translate.specs.Plain.{PlainOrder, IsValue, HasPlainValues, client_field}
 use Rattle.request_translate.specs.Plain.{client_party, terms, plain_fields, translated_fields}
 use Rattle.request_translate.specs.Plain.{PlainOrdersAreTranslated}
 use Rattle.sound_laws.specs.Sound.{IsClear}
 use Rattle.sound_laws.proofs.PlainFields.{all_of, is_good_tag, plain_field}
 use Rattle.sound_laws.proofs.Each.{◌&◌, both, each_by, each_joined}
-use Rattle.request_translate.proofs.Outcomes.{IsToldBy, fit, fits, good_is, is_told, one_told}
-use Rattle.request_translate.proofs.Outcomes.{outcome}
-use Rattle.request_rules.specs.Rules.{up_content}
+use Rattle.translation.specs.Bodies.{IsRead}
+use Rattle.translation.proofs.Outcomes.{IsToldBy, fit, fits, gone_is, is_told, one_told, outcome}
+use Rattle.rule_rows.specs.ByRules.{or_lack}
+use Rattle.request_rules.specs.Rules.{up_content, up_message}
 
 -- cells of tags at which nothing is said
 abbrev unsaid : List ℕ → List Cell
@@ -351,30 +352,28 @@ module _ (o : PlainOrder) (v : HasPlainValues o) where
 
   -- ---- its one outcome
 
-  framed : Ok (frame_of Fixt11 (body_of (translated_fields o))) ≡ outcome (plain_fields o) None
+  framed : Ok (frame_of Fixt11 (body_of (translated_fields o))) ≡ outcome up (plain_fields o) None
   framed =
       let fields = plain_fields o in
-      let good : IsGood body fields = record {
-        message = said42 o;
-        split = split;
-        read = read o v;
-        said = lacks_nothing o;
-      } in
+      let m = said42 o in
+      let goes : IsRead up body fields =
+      record { message = m; split = split; read = read o v } in
       let content = content_is o o.client_id o.limit refl refl in
-      let up = up_is o o.client_id o.limit refl refl in
-      let whole = subst (λ (fs : List Field). length (body_of fs) ≤ 8192) (sym up) body_fits in
+      let bytes = up_is o o.client_id o.limit refl refl in
+      let whole = subst (λ (fs : List Field). length (body_of fs) ≤ 8192) (sym bytes) body_fits in
       let fitting =
       ap (fits fields) (sym content) ∙ fit fields (content_fields o) content_fits whole in
       ap (λ (fs : List Field). Ok (frame_of Fixt11 (body_of fs)))
-      (sym up ∙ ap (with_content fields) content)
-      ∙ good_is body fields good true fitting
+      (sym bytes ∙ ap (with_content fields) content)
+      ∙ gone_is up body fields goes (up_message m)
+      (ap (λ (lack : Option ℕ). or_lack lack (up_message m)) (lacks_nothing o)) true fitting
 
-  pub told : IsToldBy body (Ok (frame_of Fixt11 (body_of (translated_fields o))))
+  pub told : IsToldBy up body (Ok (frame_of Fixt11 (body_of (translated_fields o))))
   told = record { fields = plain_fields o; stopped = None; split = split; is = framed }
 
 -- THE ONE OUTCOME OF A PLAIN ORDER
 pub plain_orders : PlainOrdersAreTranslated
 plain_orders o outcome v is =
-    one_told (body_of (plain_fields o)) outcome
+    one_told up (body_of (plain_fields o)) outcome
     (Ok (frame_of Fixt11 (body_of (translated_fields o))))
-    (is_told (body_of (plain_fields o)) outcome is) (told o v)
+    (is_told up (body_of (plain_fields o)) outcome is) (told o v)

@@ -1,6 +1,6 @@
 -- What is written of a request is read again as that request, behind its header.
-use Rattle.std.proofs.Common.{◌≡◌, ℕ, List, ◌∷◌, ◌++◌, Option, Some, None, Bool, true, false, Ok}
-use Rattle.std.proofs.Common.{Result, refl, sym, ap, subst, ◌∙◌}
+use Rattle.std.proofs.Common.{◌≡◌, ℕ, List, ◌∷◌, ◌++◌, Option, Some, None, true, false, Ok, Result}
+use Rattle.std.proofs.Common.{refl, sym, ap, subst, ◌∙◌}
 use Rattle.std.specs.Prelude.{unwrap_or}
 use Rattle.std.specs.Option.{option_map}
 use Rattle.std.specs.Result.{result_ok}
@@ -115,82 +115,66 @@ read_of table fields = of_message table fields (Read42 table fields)
 
 -- ---- the sense
 
-abbrev resend_in : Option Request → Option Bool
-resend_in request = option_map (λ (q : Request). q.resend) request
-
 module _ (msg_type : List ℕ) (fields : List Field) (x r : Message) (is_type : IsType msg_type)
     (clear : AllByRecursion (IsClearField judge) fields) (means : request50 r ≡ request42 x)
-  where
-    -- one of the four tables of each version
-    one_table : (letter letter42 : ℕ) (items items42 : List (Item Kind))
-        → IsBehind msg_type fields r letter items → Fits msg_type fields r letter items
-        → IsCanonical letter items r → Read42 (header42.table letter42 items42) fields x
-        → resend_in (request50 r) ≡ Some r.resend → resend_in (request42 x) ≡ Some x.resend →
-        result_ok (told50 (message_of judge (table letter items) (up_fields_of
-        msg_type fields (content (table letter items) r)))) >>= request50 ≡ request42 x
-    one_table letter letter42 items items42 behind fit c read mine theirs =
-        let flag : x.resend ≡ unwrap_or (option_map flag_of (value_at 97 fields)) false =
-        ap (λ (y : Message). y.resend) (sym read.is) in
-        let both_are : Some r.resend ≡ Some x.resend = sym mine ∙ ap resend_in means ∙ theirs in
-        let same : r.resend ≡ x.resend = cc in
-        let own = head_is_own (header42.table letter42 items42) fields read.good clear msg_type
-        is_type (has_header letter42 items42) in
-        ap (λ (y : Result Message Fault). result_ok y >>= request50)
-        (read_by msg_type fields r own letter items behind fit c (same ∙ flag)) ∙ means
+    (resend : r.resend ≡ x.resend) where
+  -- one of the four tables of each version
+  one_table : (letter letter42 : ℕ) (items items42 : List (Item Kind))
+      → IsBehind msg_type fields r letter items → Fits msg_type fields r letter items
+      → IsCanonical letter items r → Read42 (header42.table letter42 items42) fields x →
+      result_ok (told50 (message_of judge (table letter items) (up_fields_of
+      msg_type fields (content (table letter items) r)))) >>= request50 ≡ request42 x
+  one_table letter letter42 items items42 behind fit c read =
+      let flag : x.resend ≡ unwrap_or (option_map flag_of (value_at 97 fields)) false =
+      ap (λ (y : Message). y.resend) (sym read.is) in
+      let own = head_is_own (header42.table letter42 items42) fields read.good clear msg_type
+      is_type (has_header letter42 items42) in
+      ap (λ (y : Result Message Fault). result_ok y >>= request50)
+      (read_by msg_type fields r own letter items behind fit c (resend ∙ flag)) ∙ means
 
-    -- what a message of a letter asks for, and that its request says PossResend
-    IsAskedBy : RequestKind → ℕ → Type 0
-    IsAskedBy kind letter = (y : Message) → y.letter ≡ letter
-        → (option_map (λ (q : Request). q.kind) (request42 y) ≡ Some kind)
-        × (resend_in (request42 y) ≡ Some y.resend)
+  -- what was asked for is what is asked for
+  one_kind : (kind : RequestKind)
+      → IsBehind msg_type fields r (letter_of kind) (items50 kind)
+      → Fits msg_type fields r (letter_of kind) (items50 kind)
+      → ((y : Message) → y.letter ≡ letter_of kind
+      → option_map (λ (q : Request). q.kind) (request42 y) ≡ Some kind)
+      → row_faults.message_by (Some (asked42 kind)) fields None ≡ Ok x
+      → (written : List Field) → IsRequest r written →
+      result_ok (read50.message50_by (Some (asked50 kind))
+      (up_fields_of msg_type fields written) None) >>= request50 ≡ request42 x
+  one_kind kind behind fit asked e written request =
+      let read = read_of (asked42 kind) fields x e in
+      let theirs = asked x (ap (λ (y : Message). y.letter) (sym read.is)) in
+      let own = of_kind r written request in
+      let kinds_are : Some own.0 ≡ Some kind = sym own.1.asks
+      ∙ ap (option_map (λ (q : Request). q.kind)) means ∙ theirs in
+      let same : own.0 ≡ kind = cc in
+      let Q : RequestKind → Type 0 = λ k. IsOfKind r written k in
+      let of : IsOfKind r written kind = subst Q same own.1 in
+      let P : List Field → Type 0 = λ fs. result_ok (told50
+      (message_of judge (asked50 kind) (up_fields_of msg_type fields fs)))
+      >>= request50 ≡ request42 x in
+      subst P (sym of.is)
+      (one_table (letter_of kind) (letter_of kind) (items50 kind) (items42 kind) behind fit
+      of.canonical read)
 
-    -- what was asked for is what is asked for
-    one_kind : (kind : RequestKind)
-        → IsBehind msg_type fields r (letter_of kind) (items50 kind)
-        → Fits msg_type fields r (letter_of kind) (items50 kind)
-        → IsAskedBy kind (letter_of kind)
-        → ((y : Message) → y.letter ≡ letter_of kind → resend_in (request50 y) ≡ Some y.resend)
-        → row_faults.message_by (Some (asked42 kind)) fields None ≡ Ok x
-        → (written : List Field) → IsRequest r written →
-        result_ok (read50.message50_by (Some (asked50 kind))
-        (up_fields_of msg_type fields written) None) >>= request50 ≡ request42 x
-    unfolding IsAskedBy
-    one_kind kind behind fit asked mine e written request =
-        let read = read_of (asked42 kind) fields x e in
-        let theirs = asked x (ap (λ (y : Message). y.letter) (sym read.is)) in
-        let own = of_kind r written request in
-        let kinds_are : Some own.0 ≡ Some kind = sym own.1.asks
-        ∙ ap (option_map (λ (q : Request). q.kind)) means ∙ theirs.0 in
-        let same : own.0 ≡ kind = cc in
-        let Q : RequestKind → Type 0 = λ k. IsOfKind r written k in
-        let of : IsOfKind r written kind = subst Q same own.1 in
-        let P : List Field → Type 0 = λ fs. result_ok (told50
-        (message_of judge (asked50 kind) (up_fields_of msg_type fields fs)))
-        >>= request50 ≡ request42 x in
-        subst P (sym of.is)
-        (one_table (letter_of kind) (letter_of kind) (items50 kind) (items42 kind) behind fit
-        of.canonical read (mine r of.canonical.sound.letter) theirs.1)
+  -- A REQUEST IS READ AGAIN with the sense that it had.
+  each : (written : List Field) → IsRequest r written → (kind : RequestKind)
+      → row_faults.message_by (Some (asked42 kind)) fields None ≡ Ok x →
+      result_ok (read50.message50_by (Some (asked50 kind))
+      (up_fields_of msg_type fields written) None) >>= request50 ≡ request42 x
+  each written request New e = one_kind New refl refl (λ y is. rw is refl) e written request
+  each written request kind e = one_kind kind refl refl (λ y is. rw is refl) e written request
 
-    -- A REQUEST IS READ AGAIN with the sense that it had.
-    each : (written : List Field) → IsRequest r written → (kind : RequestKind)
-        → row_faults.message_by (Some (asked42 kind)) fields None ≡ Ok x →
-        result_ok (read50.message50_by (Some (asked50 kind))
-        (up_fields_of msg_type fields written) None) >>= request50 ≡ request42 x
-    unfolding IsAskedBy
-    each written request New e = one_kind New refl refl
-        (λ y is. (rw is refl, rw is refl)) (λ y is. rw is refl) e written request
-    each written request kind e = one_kind kind refl refl
-        (λ y is. (rw is refl, rw is refl)) (λ y is. rw is refl) e written request
-
-    -- WHAT IS WRITTEN HAS THE SENSE OF WHAT WAS READ.
-    pub same_sense : (written : List Field)
-        → IsRequest r written → read42.message42 msg_type fields None ≡ Ok x →
-        sense50 msg_type ((35, msg_type) ∷ carried fields ++ written) ≡ sense42 msg_type fields
-    unfolding sense50 sense42 read50.message50 read42.message42
-    same_sense written request e =
-        let P : List ℕ → Option (Table Kind) → Option (Table Kind) → Type 0 = λ t of42 of50.
-        row_faults.message_by of42 fields None ≡ Ok x
-        → result_ok (read50.message50_by of50 (up_fields_of msg_type fields written) None)
-        >>= request50 ≡ request42 x in
-        by_type P (λ t no. absurd cc) (each written request) msg_type e
-        ∙ sym (ap (λ (y : Result Message Fault). result_ok y >>= request42) e)
+  -- WHAT IS WRITTEN HAS THE SENSE OF WHAT WAS READ.
+  pub same_sense : (written : List Field)
+      → IsRequest r written → read42.message42 msg_type fields None ≡ Ok x →
+      sense50 msg_type ((35, msg_type) ∷ carried fields ++ written) ≡ sense42 msg_type fields
+  unfolding sense50 sense42 read50.message50 read42.message42
+  same_sense written request e =
+      let P : List ℕ → Option (Table Kind) → Option (Table Kind) → Type 0 = λ t of42 of50.
+      row_faults.message_by of42 fields None ≡ Ok x
+      → result_ok (read50.message50_by of50 (up_fields_of msg_type fields written) None)
+      >>= request50 ≡ request42 x in
+      by_type P (λ t no. absurd cc) (each written request) msg_type e
+      ∙ sym (ap (λ (y : Result Message Fault). result_ok y >>= request42) e)

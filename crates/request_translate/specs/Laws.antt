@@ -1,5 +1,5 @@
 -- Own: what holds of the translations of requests.
-use Rattle.std.specs.Prelude.{◌≡◌, ℕ, List, [], ◌∷◌, None, Result, Ok, IfSome}
+use Rattle.std.specs.Prelude.{◌≡◌, ℕ, List, [], ◌∷◌, None, Ok, IfSome}
 use Rattle.frame_grammar.specs.declared.frame.Kind.TheVariants.{Fix42, Fixt11}
 use Rattle.frame_grammar.specs.Frame.{IsFrame}
 use Rattle.field_groups.specs.Field.{Field, AreFields}
@@ -20,9 +20,9 @@ use Rattle.rows_fix50.specs.Header.{table}
 use Rattle.sound_laws.specs.Sound.{without_resend}
 use Rattle.request_rules.specs.Canonical.{IsCanonical}
 use Rattle.request_rules.specs.Up.{IsRequest42}
-use Rattle.translation.specs.declared.error.TranslateError.{TranslateError}
+use Rattle.translation.specs.Bodies.{HasOneOutcome}
 use Rattle.request_translate.specs.Lack.{lack_of}
-use Rattle.request_translate.specs.Translation.{IsOutcome, IsTranslation, KeepSense}
+use Rattle.request_translate.specs.Translation.{IsTranslation, KeepSense, up}
 use Rattle.request_translate.specs.Up.{IsRequest50, IsSound42, IsSound50}
 
 -- what a message of FIX 5.0 SP2 means lacks nothing there
@@ -44,14 +44,14 @@ pub record RequestsHaveOneContent : Type 0 where
 
 -- a body has one outcome
 abbrev pub OneOutcome : Type 0
-OneOutcome = (body : List ℕ) (a b : Result (List ℕ) TranslateError)
-    → IsOutcome body a → IsOutcome body b → a ≡ b
+OneOutcome = HasOneOutcome up
 
 -- A frame of FIX 4.2 and one of FIXT 1.1 that is its translation mean the same, whatever bodies
 -- they are read as.
 abbrev pub FramesKeepSense : Type 0
 FramesKeepSense = (body input text : List ℕ) → IsFrame Fix42 body input → IsTranslation body text
-    → (other up : List ℕ) → IsFrame Fix42 other input → IsFrame Fixt11 up text → KeepSense other up
+    → (other sent : List ℕ) → IsFrame Fix42 other input → IsFrame Fixt11 sent text
+    → KeepSense other sent
 
 -- what is written of a sound message is read again: its content, under its type, is at no fault and
 -- says what the message says

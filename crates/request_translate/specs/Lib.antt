@@ -3,4 +3,3 @@ pub mod Laws
 pub mod Plain
 pub mod Translation
 pub mod Up
-pub mod Writing

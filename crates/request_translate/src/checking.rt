@@ -2,8 +2,10 @@
 //! It takes no memory.
 
 ghost use Rattle.std.specs.Prelude.{IfErr, IfOk, OnOk};
-ghost use Rattle.request_rules.specs.Good.{IsGood, said};
-ghost use Rattle.request_translate.specs.Writing.{AreRead, LackNothing, Refuses};
+ghost use Rattle.request_rules.specs.Good.{IsGood, IsRead, said};
+ghost use Rattle.request_translate.specs.Translation.{up};
+ghost use Rattle.translation.specs.Going.{AreGone, StayBack};
+ghost use Rattle.translation.specs.Header.{type_of};
 
 use field_groups::Split;
 use request_rules::{Good, good_request, lack_up};
@@ -14,8 +16,8 @@ use translation::{TranslateError, faulty, msg_type};
 pub(crate) fn good<'s, 'a>(split: &'s Split<'a>) -> Result<Good<'s, 'a>, TranslateError>
     ensures good { IfOk result IsGood }
     ensures read { IfOk result (λ good.
-        AreRead split.now.fields split.now.fault (said good)) }
-    ensures refused { IfErr result (Refuses split.now.fields split.now.fault) }
+        IsRead (type_of split.now.fields) split.now.fields split.now.fault (said good)) }
+    ensures refused { IfErr result (StayBack up split.now.fields split.now.fault) }
 {
     match good_request(msg_type(&split.fields), split) {
         Ok(good) => Ok(good),
@@ -26,8 +28,8 @@ pub(crate) fn good<'s, 'a>(split: &'s Split<'a>) -> Result<Good<'s, 'a>, Transla
 /// Whether the fields of a body are at no fault and lack nothing.
 #[tactic(auto, using(crate::proofs::GoodFields::checked_by))]
 pub(crate) fn check_fields(split: &Split<'_>) -> Result<(), TranslateError>
-    ensures ok { OnOk result (LackNothing split.now.fields split.now.fault) }
-    ensures refused { IfErr result (Refuses split.now.fields split.now.fault) }
+    ensures ok { OnOk result (AreGone up split.now.fields split.now.fault) }
+    ensures refused { IfErr result (StayBack up split.now.fields split.now.fault) }
 {
     let good = good(split)?;
     match lack_up(&good) {

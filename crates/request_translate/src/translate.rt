@@ -2,9 +2,10 @@
 
 ghost use Rattle.std.specs.Prelude.{◌≡◌, ◌++◌, ℕ, List, None, IfErr, OnErr, OnOk};
 ghost use Rattle.field_groups.specs.Field.{Field};
-ghost use Rattle.request_translate.specs.Translation.{IsGood, IsTranslation, IsRefused};
-ghost use Rattle.request_translate.specs.Translation.{IsRefusedByCheck};
-ghost use Rattle.request_translate.specs.Writing.{Appends, IsUpOf, Refuses, RefusesUp};
+ghost use Rattle.request_translate.specs.Translation.{IsRefused, IsRefusedByCheck};
+ghost use Rattle.request_translate.specs.Translation.{IsTranslation, up as way};
+ghost use Rattle.translation.specs.Bodies.{Goes};
+ghost use Rattle.translation.specs.Going.{Appends, IsOtherOf, Refuses, StayBack};
 
 use crate::checking::{check_fields, good};
 use field_groups::{Split, split_into};
@@ -17,8 +18,8 @@ use translation::{TranslateError, check_lengths, lacking, msg_type, write_head};
 #[tactic(auto, using(crate::proofs::GoodFields::put))]
 fn put_up(split: &Split<'_>, out: &mut Vec<u8>) -> Result<(), TranslateError>
     ensures ok { OnOk result
-        (Appends split.now.fields split.now.fault out.old.items out.new.items) }
-    ensures refused { IfErr result (Refuses split.now.fields split.now.fault) }
+        (Appends way split.now.fields split.now.fault out.old.items out.new.items) }
+    ensures refused { IfErr result (StayBack way split.now.fields split.now.fault) }
 {
     let good = good(split)?;
     match put_content(&good, out) {
@@ -28,10 +29,10 @@ fn put_up(split: &Split<'_>, out: &mut Vec<u8>) -> Result<(), TranslateError>
 }
 
 /// Writes to `up`, in place of what it has, the body that stands for the fields of a body.
-#[tactic(auto, using(crate::proofs::Appended::grows))]
+#[tactic(auto, using(translation::proofs::Going::grows))]
 fn write_up(split: &Split<'_>, up: &mut Vec<u8>) -> Result<(), TranslateError>
-    ensures ok { OnOk result (IsUpOf split.now.fields split.now.fault up.new.items) }
-    ensures refused { IfErr result (RefusesUp split.now.fields split.now.fault) }
+    ensures ok { OnOk result (IsOtherOf way split.now.fields split.now.fault up.new.items) }
+    ensures refused { IfErr result (Refuses way split.now.fields split.now.fault) }
 {
     up.clear();
     write_head(msg_type(&split.fields), &split.fields, up)?;
@@ -93,7 +94,7 @@ impl Translator {
     ///
     /// `Faulty` and `Lacking` as `translate` has them; `NoMemory` for want of memory.
     pub fn check(&self, body: &[u8]) -> Result<(), TranslateError>
-        ensures ok { OnOk result ((fields : List Field) × IsGood body.now fields) }
+        ensures ok { OnOk result ((fields : List Field) × Goes way body.now fields) }
         ensures refused { IfErr result (IsRefusedByCheck body.now) }
     {
         let mut split = Split::new(self.alloc);
