@@ -1,6 +1,6 @@
 -- Reports and refusals, by their types.
-use Rattle.std.proofs.Common.{◌≡◌, ℕ, Bool, true, false, List, codes, Option, Some, None}
-use Rattle.std.proofs.Common.{Result, Ok, Err, refl, sym, ap, ◌∙◌, arith}
+use Rattle.std.proofs.Common.{◌≡◌, ℕ, Bool, true, false, List, codes, Option, Some, None, Result}
+use Rattle.std.proofs.Common.{Ok, Err, refl, sym, ap, ◌∙◌, arith, if◌then◌else◌}
 use Rattle.std.specs.Str.{bytes_eq}
 use Rattle.std.proofs.lemmas.Slice.Eq.{bytes_eq-Decides}
 use Rattle.field_groups.specs.declared.fault.SplitFault.{SplitFault}
@@ -23,7 +23,7 @@ use Rattle.reports_fix50.specs.Message.{message50 as any50}
 use Rattle.reports_fix50.specs.Message.{session_reject_table as session_reject_table50}
 use Rattle.reports_fix50.specs.Message.{business_reject_table as business_reject_table50}
 use Rattle.translation.proofs.Writable.{IsType, is_byte}
-use Rattle.report_translate.specs.Reading.{report_message, refusal_message}
+use Rattle.report_translate.specs.Reading.{is_refusal, message_of, report_message, refusal_message}
 use Rattle.report_translate.specs.Writing.{IsReadAs}
 
 module _ (msg_type : List ℕ) (fields : List Field) (stopped : Option SplitFault) where
@@ -73,29 +73,15 @@ module _ (msg_type : List ℕ) (fields : List Field) (stopped : Option SplitFaul
       by false true a' b' = is_byte msg_type 57 (λ no. absurd (omega (arith, no))) b'
       by false false a' b' = let no = no_report a' b' in absurd cc
 
-  three42 : bytes_eq msg_type (codes "3") ≡ true → refusal_message Client msg_type fields stopped
-      ≡ any42 (codes "3") fields stopped
+  -- a refusal of a known type
+  refusal_is : (side : Side) (known : List ℕ) → is_refusal known ≡ true
+      → bytes_eq msg_type known ≡ true
+      → refusal_message side msg_type fields stopped ≡ message_of side known fields stopped
   unfolding refusal_message
-  three42 test =
-      ap (λ (t : List ℕ). refusal_message Client t fields stopped) (is_type (codes "3") test)
-
-  j42 : bytes_eq msg_type (codes "j") ≡ true → refusal_message Client msg_type fields stopped
-      ≡ any42 (codes "j") fields stopped
-  unfolding refusal_message
-  j42 test =
-      ap (λ (t : List ℕ). refusal_message Client t fields stopped) (is_type (codes "j") test)
-
-  three50 : bytes_eq msg_type (codes "3") ≡ true → refusal_message Venue msg_type fields stopped
-      ≡ any50 (codes "3") fields stopped
-  unfolding refusal_message
-  three50 test =
-      ap (λ (t : List ℕ). refusal_message Venue t fields stopped) (is_type (codes "3") test)
-
-  j50 : bytes_eq msg_type (codes "j") ≡ true → refusal_message Venue msg_type fields stopped
-      ≡ any50 (codes "j") fields stopped
-  unfolding refusal_message
-  j50 test =
-      ap (λ (t : List ℕ). refusal_message Venue t fields stopped) (is_type (codes "j") test)
+  refusal_is side known is test =
+      ap (λ (t : List ℕ). refusal_message side t fields stopped) (is_type known test)
+      ∙ ap (λ (b : Bool). if b then message_of side known fields stopped
+      else Err faults.NotSupported) is
 
   pub no_refusal : (side : Side) → bytes_eq msg_type (codes "3") ≡ false
       → bytes_eq msg_type (codes "j") ≡ false
@@ -113,30 +99,30 @@ module _ (msg_type : List ℕ) (fields : List Field) (stopped : Option SplitFaul
       by None is = refl
       by (Some fault) is = let no = stops fault in absurd cc
 
-  whole42 : (a b : Bool) → bytes_eq msg_type (codes "3") ≡ a → bytes_eq msg_type (codes "j") ≡ b
-      → (x : Message) → refusal_message Client msg_type fields stopped ≡ Ok x → stopped ≡ None
-  unfolding any42
-  whole42 true b a' b' x is =
-      ends (any42 (codes "3") fields) x (λ fault. refl) (sym (three42 a') ∙ is)
-  whole42 false true a' b' x is =
-      ends (any42 (codes "j") fields) x (λ fault. refl) (sym (j42 b') ∙ is)
-  whole42 false false a' b' x is = let no = no_refusal Client a' b' in absurd cc
+  three_ends : (side : Side) (fault : SplitFault)
+      → message_of side (codes "3") fields (Some fault) ≡ Err (of_split fault)
+  unfolding any42 any50
+  three_ends Client fault = refl
+  three_ends Venue fault = refl
 
-  whole50 : (a b : Bool) → bytes_eq msg_type (codes "3") ≡ a → bytes_eq msg_type (codes "j") ≡ b
-      → (x : Message) → refusal_message Venue msg_type fields stopped ≡ Ok x → stopped ≡ None
-  unfolding any50
-  whole50 true b a' b' x is =
-      ends (any50 (codes "3") fields) x (λ fault. refl) (sym (three50 a') ∙ is)
-  whole50 false true a' b' x is =
-      ends (any50 (codes "j") fields) x (λ fault. refl) (sym (j50 b') ∙ is)
-  whole50 false false a' b' x is = let no = no_refusal Venue a' b' in absurd cc
+  j_ends : (side : Side) (fault : SplitFault)
+      → message_of side (codes "j") fields (Some fault) ≡ Err (of_split fault)
+  unfolding any42 any50
+  j_ends Client fault = refl
+  j_ends Venue fault = refl
 
   pub whole_refusal : (side : Side) (x : Message)
       → refusal_message side msg_type fields stopped ≡ Ok x → stopped ≡ None
-  whole_refusal Client x is =
-      whole42 (bytes_eq msg_type (codes "3")) (bytes_eq msg_type (codes "j")) refl refl x is
-  whole_refusal Venue x is =
-      whole50 (bytes_eq msg_type (codes "3")) (bytes_eq msg_type (codes "j")) refl refl x is
+  whole_refusal side x is =
+      by (bytes_eq msg_type (codes "3")) (bytes_eq msg_type (codes "j")) refl refl
+    where
+      by : (a b : Bool) → bytes_eq msg_type (codes "3") ≡ a → bytes_eq msg_type (codes "j") ≡ b
+          → stopped ≡ None
+      by true b a' b' = ends (message_of side (codes "3") fields) x (three_ends side)
+          (sym (refusal_is side (codes "3") refl a') ∙ is)
+      by false true a' b' = ends (message_of side (codes "j") fields) x (j_ends side)
+          (sym (refusal_is side (codes "j") refl b') ∙ is)
+      by false false a' b' = let no = no_refusal side a' b' in absurd cc
 
   read_as : (says : Refusal → Message) (r : Result Refusal Fault) (x y : Result Message Fault)
       → Gives says r x → y ≡ x → IsReadAs r y
@@ -152,7 +138,8 @@ module _ (msg_type : List ℕ) (fields : List Field) (stopped : Option SplitFaul
       → IsReadAs r (refusal_message Client msg_type fields stopped)
   unfolding any42
   session42 says r test gives =
-      read_as says r (refusal_by session_reject_table42 fields stopped) _ gives (three42 test)
+      read_as says r (refusal_by session_reject_table42 fields stopped) _ gives
+      (refusal_is Client (codes "3") refl test)
 
   pub business42 : (says : Refusal → Message) (r : Result Refusal Fault)
       → bytes_eq msg_type (codes "j") ≡ true
@@ -160,7 +147,8 @@ module _ (msg_type : List ℕ) (fields : List Field) (stopped : Option SplitFaul
       → IsReadAs r (refusal_message Client msg_type fields stopped)
   unfolding any42
   business42 says r test gives =
-      read_as says r (refusal_by business_reject_table42 fields stopped) _ gives (j42 test)
+      read_as says r (refusal_by business_reject_table42 fields stopped) _ gives
+      (refusal_is Client (codes "j") refl test)
 
   pub session50 : (says : Refusal → Message) (r : Result Refusal Fault)
       → bytes_eq msg_type (codes "3") ≡ true
@@ -168,7 +156,8 @@ module _ (msg_type : List ℕ) (fields : List Field) (stopped : Option SplitFaul
       → IsReadAs r (refusal_message Venue msg_type fields stopped)
   unfolding any50
   session50 says r test gives =
-      read_as says r (refusal_by session_reject_table50 fields stopped) _ gives (three50 test)
+      read_as says r (refusal_by session_reject_table50 fields stopped) _ gives
+      (refusal_is Venue (codes "3") refl test)
 
   pub business50 : (says : Refusal → Message) (r : Result Refusal Fault)
       → bytes_eq msg_type (codes "j") ≡ true
@@ -176,7 +165,8 @@ module _ (msg_type : List ℕ) (fields : List Field) (stopped : Option SplitFaul
       → IsReadAs r (refusal_message Venue msg_type fields stopped)
   unfolding any50
   business50 says r test gives =
-      read_as says r (refusal_by business_reject_table50 fields stopped) _ gives (j50 test)
+      read_as says r (refusal_by business_reject_table50 fields stopped) _ gives
+      (refusal_is Venue (codes "j") refl test)
 
 pub ruleset refusals42 = (session42, business42, no_refusal)
 
