@@ -39,7 +39,7 @@ use Rattle.request_translate.specs.Plain.{PlainOrdersAreTranslated}
 use Rattle.sound_laws.specs.Sound.{IsClear}
 use Rattle.sound_laws.proofs.PlainFields.{all_of, is_good_tag, plain_field}
 use Rattle.sound_laws.proofs.Each.{◌&◌, both, each_by, each_joined}
-use Rattle.translation.specs.Bodies.{IsRead}
+use Rattle.translation.specs.Bodies.{IsRead as IsReadBody}
 use Rattle.translation.proofs.Outcomes.{IsToldBy, fit, fits, gone_is, is_told, one_told, outcome}
 use Rattle.rule_rows.specs.ByRules.{or_lack}
 use Rattle.request_rules.specs.Rules.{up_content, up_message}
@@ -356,7 +356,7 @@ module _ (o : PlainOrder) (v : HasPlainValues o) where
   framed =
       let fields = plain_fields o in
       let m = said42 o in
-      let goes : IsRead up body fields =
+      let goes : IsReadBody up body fields =
       record { message = m; split = split; read = read o v } in
       let content = content_is o o.client_id o.limit refl refl in
       let bytes = up_is o o.client_id o.limit refl refl in
