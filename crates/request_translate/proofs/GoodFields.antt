@@ -53,5 +53,3 @@ module _ (fields : List Field) (stopped : Option SplitFault) where
 pub ruleset judged = (fault_is)
 
 pub ruleset put = (refuses)
-
-pub ruleset checked_by = (checked, lacking)

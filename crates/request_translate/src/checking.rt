@@ -26,7 +26,7 @@ pub(crate) fn good<'s, 'a>(split: &'s Split<'a>) -> Result<Good<'s, 'a>, Transla
 }
 
 /// Whether the fields of a body are at no fault and lack nothing.
-#[tactic(auto, using(crate::proofs::GoodFields::checked_by))]
+#[tactic(auto, using(crate::proofs::GoodFields::lacking))]
 pub(crate) fn check_fields(split: &Split<'_>) -> Result<(), TranslateError>
     ensures ok { OnOk result (AreGone up split.now.fields split.now.fault) }
     ensures refused { IfErr result (StayBack up split.now.fields split.now.fault) }
