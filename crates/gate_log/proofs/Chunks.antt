@@ -73,6 +73,10 @@ enough : (n most all : ℕ) (test : Bool) → nat_le 5 n ≡ test → 5 ≤ most
 enough n most all true test five is = inl (some_are n test)
 enough n most all false test five is = inr (omega (arith, few_are n test, five, is))
 
+-- no bytes stand anywhere
+pub none_of : (told : Option (List ℕ)) (place : ℕ) → IfSome told (λ b. StandsAt b place [])
+none_of told place = if_some told _ (λ b e. refl)
+
 -- five bytes of a part tell what stands there
 pub head_among : (told : Option (List ℕ)) (at : ℕ) (part : List ℕ) (head : Head) → 5 ≤ length part
     → IfSome told (λ b. StandsAt b at part) → IsHead part head

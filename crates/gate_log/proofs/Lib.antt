@@ -7,3 +7,4 @@ pub mod Scanning
 pub mod Born
 pub mod Appending
 pub mod Chunks
+pub mod Payloads

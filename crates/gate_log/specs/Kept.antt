@@ -1,7 +1,5 @@
--- Inside: what a log keeps in memory, and where a payload stands on its disk.
-use Rattle.std.specs.Prelude.{◌≡◌, ℕ, ◌+◌, ◌^◌, ◌≤◌, ◌<◌, List, [], ◌∷◌, ◌++◌, length, true}
-use Rattle.std.specs.Prelude.{if◌then◌else◌}
-use Rattle.std.specs.Int.{w32, to_be_bytes}
+-- Inside: what a log keeps in memory.
+use Rattle.std.specs.Prelude.{◌≡◌, ◌+◌, ◌≤◌, ◌<◌, [], true, if◌then◌else◌}
 use Rattle.std.specs.Vec.{vec_len, vec_capacity}
 use Rattle.outside.specs.declared.disk.TheConstants.{MAX_DISK}
 use Rattle.gate_log.specs.declared.TheConstants.{MAX_PAYLOAD}
@@ -23,11 +21,3 @@ pub record IsWhole (log : Inside) : Type 0 where
   pub within : log.end < MAX_DISK
   pub empty : log.staged.items ≡ []
   pub room : log.spare ≡ true → vec_len log.staged + (5 + MAX_PAYLOAD) ≤ vec_capacity log.staged
-
--- a payload of the list stands behind its gate
-pub record StandsBehind (bytes : List ℕ) (at : ℕ) (payload : List ℕ) : Type 0 where
-  pub front : List ℕ
-  pub after : List ℕ
-  pub small : length payload < 2 ^ 32
-  pub place : at ≡ length front
-  pub split : bytes ≡ front ++ 1 ∷ (to_be_bytes w32 (length payload) ++ (payload ++ after))

@@ -16,6 +16,7 @@ mod payload;
 mod scan;
 
 pub use bytes::{extend_reserved, u32_front};
+pub use chunk::Chunk;
 pub use error::LogError;
 pub use log::Log;
 

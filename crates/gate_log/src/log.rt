@@ -290,12 +290,11 @@ impl Log {
         place
     }
 
-    /// Replaces `out` by the payload that stands at this place. It makes one read where that has
-    /// 1,019 bytes at most, and else two.
+    /// Replaces `out` by the payload that stands at this place, in one read.
     ///
     /// # Errors
     /// `Foreign` only where no record of the disk stands there; `DiskFault` only where the disk's
-    /// count of faults rose; `NoMemory` only where `out` has no room for 65,536 bytes. Then `out`
+    /// count of faults rose; `NoMemory` only where `out` has no room for 65,541 bytes. Then `out`
     /// is empty.
     pub fn read<D: Disk>(&self, disk: &mut D, place: u64, out: &mut Vec<u8>) -> Result<(), LogError>
         requires { place ≤ MAX_DISK }
@@ -303,9 +302,9 @@ impl Log {
         ensures sized { length out.new.items ≤ MAX_PAYLOAD }
         ensures refused { OnErr result (out.new.items ≡ []) }
         ensures capacity { vec_capacity out.old ≤ vec_capacity out.new }
-        ensures room { MAX_PAYLOAD ≤ vec_capacity out.old → result ≢ Err LogError.NoMemory }
+        ensures room { 5 + MAX_PAYLOAD ≤ vec_capacity out.old → result ≢ Err LogError.NoMemory }
         ensures only_read { OnlyReads D.bytes D.image disk.old disk.new }
-        ensures reads { D.reads disk.new ≤ D.reads disk.old + 2 }
+        ensures reads { D.reads disk.new ≤ D.reads disk.old + 1 }
         ensures cause { HasFaultCause (D.faults disk.old) (D.faults disk.new) result }
         ensures only { (result ≡ Err LogError.Full) → ⊥ }
         ensures foreign { (at : ℕ) → result ≡ Err (LogError.Foreign at) →

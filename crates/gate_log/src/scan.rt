@@ -113,7 +113,7 @@ pub(crate) fn scan<D: Disk>(alloc: Global, disk: &mut D) -> Result<Found, LogErr
     if size <= 1 {
         return Ok(Found::Unborn);
     }
-    let mut chunk = Chunk::new(alloc);
+    let mut chunk = Chunk::new(alloc)?;
     let mut count = 0;
     let mut end = 0;
     'gates: loop {
