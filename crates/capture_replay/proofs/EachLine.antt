@@ -1,13 +1,17 @@
 -- The lines of a life, one more at a time.
-use Rattle.std.proofs.Common.{◌≡◌, ◌∙◌, ℕ, zero, suc, ◌+◌, ◌<◌, List, [], ◌∷◌}
+use Rattle.std.proofs.Common.{◌≡◌, ◌∙◌, ℕ, zero, suc, ◌+◌, ◌-◌, ◌^◌, ◌<◌, List, [], ◌∷◌}
 use Rattle.std.proofs.Common.{◌++◌, length, get_or, filter, All, Bool, true, false}
-use Rattle.std.proofs.Common.{refl, sym, ap, append_assoc, arith, if◌then◌else◌}
+use Rattle.std.proofs.Common.{refl, sym, ap, arith, if◌then◌else◌}
+use Rattle.outside.specs.Causes.{next_count}
+use Rattle.wires.specs.Clock.{moment_at}
 use Rattle.capture_text.specs.declared.capture.Event.{Event}
+use Rattle.capture_text.specs.declared.capture.Event.TheVariants as event
 use Rattle.capture_text.specs.Capture.{MayStand, AreEvents}
 use Rattle.capture_text.specs.Line.{IsBounded}
 use Rattle.capture_text.proofs.Standing.{is_bounded}
 use Rattle.capture_replay.specs.Rounds.{is_round, now_after, moment_after}
-use Rattle.capture_replay.specs.Rounds.{moments_at, moments_from}
+use Rattle.capture_replay.specs.Rounds.{moments_from}
+use Rattle.capture_replay.specs.LifeClock.{IsAt}
 
 -- ---- bounds
 
@@ -23,32 +27,127 @@ all_bounded life events = bounded_in [] life events
 
 -- ---- moments
 
-pub one_more : (line : Event) (left rest : List Event) (moments all : List ℕ) (now : ℕ)
-    → left ≡ line ∷ rest → moments ++ moments_from now left ≡ all
-    → (moments ++ moments_at now line) ++ moments_from (now_after now line) rest ≡ all
-one_more line left rest moments all now is was =
-    append_assoc moments (moments_at now line) (moments_from (now_after now line) rest)
-    ∙ ap (λ (l : List ℕ). moments ++ l) (sym (ap (moments_from now) is)) ∙ was
+pub no_round : (line : Event) (left rest : List Event) (all : List ℕ) (now : ℕ)
+    → is_round line ≡ false → left ≡ line ∷ rest → all ≡ moments_from now left
+    → all ≡ moments_from (now_after now line) rest
+no_round line left rest all now is there was = was ∙ ap (moments_from now) there
+    ∙ ap (λ (b : Bool). (if b then now ∷ [] else []) ++ moments_from (now_after now line) rest) is
 
-pub at_end : (left : List Event) (moments all : List ℕ) (now : ℕ) → left ≡ []
-    → moments ++ moments_from now left ≡ all → moments ++ now ∷ [] ≡ all
-at_end left moments all now none was =
-    ap (λ l. moments ++ moments_from now l) (sym none) ∙ was
+-- a round leaves the clock where it is
+stands : (now : ℕ) (line : Event) → is_round line ≡ true → now_after now line ≡ now
+stands now (event.Stop call image) is = refl
+stands now (event.At ms) is = absurd (cc is)
+stands now event.Tick is = refl
+stands now (event.Opened side) is = refl
+stands now (event.Closed side) is = refl
+stands now (event.Text side bytes) is = refl
+stands now (event.Frame side body) is = refl
 
-pub ruleset moment_more = (one_more, at_end)
+round_next : (line : Event) (left rest : List Event) (all : List ℕ) (now : ℕ)
+    → is_round line ≡ true → left ≡ line ∷ rest → all ≡ moments_from now left
+    → all ≡ now ∷ moments_from now rest
+round_next line left rest all now is there was = was ∙ ap (moments_from now) there
+    ∙ ap (λ (b : Bool). (if b then now ∷ [] else []) ++ moments_from (now_after now line) rest) is
+    ∙ ap (λ (m : ℕ). now ∷ moments_from m rest) (stands now line is)
 
--- as many moments as rounds, and that of the end
-pub rounds_are : (now : ℕ) (life : List Event)
-    → length (moments_from now life) ≡ length (filter is_round life) + 1
-rounds_are now [] = omega arith
-rounds_are now (line ∷ life) = by (is_round line) (rounds_are (now_after now line) life)
+abbrev Begins : List ℕ → Type 0
+Begins list = (first : ℕ) × (rest : List ℕ) × (list ≡ first ∷ rest)
+
+some_moment : (now : ℕ) (life : List Event) → Begins (moments_from now life)
+some_moment now [] = (now, [], refl)
+some_moment now (line ∷ life) = by (is_round line) (some_moment (now_after now line) life)
   where
-    by : (round : Bool)
-        → length (moments_from (now_after now line) life) ≡ length (filter is_round life) + 1
-        → length ((if round then now ∷ [] else []) ++ moments_from (now_after now line) life)
-        ≡ length (if round then line ∷ filter is_round life else filter is_round life) + 1
-    by true is = omega (arith, is)
-    by false is = is
+    by : (round : Bool) → Begins (moments_from (now_after now line) life)
+        → Begins ((if round then now ∷ [] else []) ++ moments_from (now_after now line) life)
+    by true begins = (now, moments_from (now_after now line) life, refl)
+    by false begins = begins
+
+first_of : (now : ℕ) (rest : List ℕ) → moment_at (now ∷ rest) 0 ≡ now
+first_of now [] = refl
+first_of now (next ∷ rest) = refl
+
+rest_of : (now : ℕ) (rest : List ℕ) → Begins rest → (after : ℕ)
+    → moment_at (now ∷ rest) (suc after) ≡ moment_at rest after
+rest_of now rest (next, more, is) after =
+    ap (λ (l : List ℕ). moment_at (now ∷ l) (suc after)) is
+    ∙ ap (λ (l : List ℕ). moment_at l after) (sym is)
+
+-- the moment of a round, and those behind it
+module _ (line : Event) (left rest : List Event) (all : List ℕ) (now : ℕ)
+    (is : is_round line ≡ true) (there : left ≡ line ∷ rest) (was : all ≡ moments_from now left)
+  where
+    pub round_first : moment_at all 0 ≡ now
+    round_first = ap (λ (l : List ℕ). moment_at l 0) (round_next line left rest all now is there was)
+        ∙ first_of now (moments_from now rest)
+
+    pub round_rest : (after : ℕ)
+        → moment_at all (suc after) ≡ moment_at (moments_from now rest) after
+    round_rest after =
+        ap (λ (l : List ℕ). moment_at l (suc after)) (round_next line left rest all now is there was)
+        ∙ rest_of now (moments_from now rest) (some_moment now rest) after
+
+-- the moment of the end, again and again
+module _ (left rest : List Event) (all : List ℕ) (now : ℕ) (none : left ≡ []) (past : rest ≡ [])
+    (was : all ≡ moments_from now left) where
+  pub end_first : moment_at all 0 ≡ now
+  end_first = ap (λ (l : List ℕ). moment_at l 0) (was ∙ ap (moments_from now) none)
+
+  pub end_rest : (after : ℕ) → moment_at all (suc after) ≡ moment_at (moments_from now rest) after
+  end_rest after =
+      ap (λ (l : List ℕ). moment_at l (suc after)) (was ∙ ap (moments_from now) none)
+      ∙ ap (λ (l : List Event). moment_at (moments_from now l) after) (sym past)
+
+-- ---- the clock
+
+-- what is left after one ask more
+pub at_next : (listed left next : List ℕ) (asked later : ℕ) → IsAt listed asked left
+    → ((after : ℕ) → moment_at left (suc after) ≡ moment_at next after)
+    → later ≡ next_count asked → IsAt listed later next
+at_next listed left next asked later is goes counted = λ within after.
+    let before : asked < 2 ^ 64 - 1 = omega (arith, counted, within) in
+    let same : later + after ≡ asked + suc after = omega (arith, counted, within) in
+    ap (moment_at listed) same ∙ is before (suc after) ∙ goes after
+
+-- the moment that was given
+pub at_first : (listed left : List ℕ) (asked moment : ℕ) → IsAt listed asked left
+    → moment_at left 0 ≡ moment → asked < 2 ^ 64 - 1 → moment ≡ moment_at listed asked
+at_first listed left asked moment is first before =
+    let same : asked ≡ asked + 0 = omega arith in
+    sym (ap (moment_at listed) same ∙ is before 0 ∙ first)
+
+-- ---- how many rounds there are
+
+-- with a line more, or at their end
+pub count_more : (line : Event) (left rest : List Event) (rounds all : ℕ) → is_round line ≡ true
+    → left ≡ line ∷ rest → rounds + length (filter is_round left) ≡ all
+    → (rounds + 1) + length (filter is_round rest) ≡ all
+count_more line left rest rounds all is there was =
+    let one : length (filter is_round left) ≡ length (filter is_round rest) + 1 =
+    ap (λ (l : List Event). length (filter is_round l)) there
+    ∙ ap (λ (b : Bool). length (if b then line ∷ filter is_round rest
+    else filter is_round rest)) is ∙ omega arith in
+    omega (arith, one, was)
+
+pub count_same : (line : Event) (left rest : List Event) (rounds all : ℕ)
+    → is_round line ≡ false → left ≡ line ∷ rest
+    → rounds + length (filter is_round left) ≡ all → rounds + length (filter is_round rest) ≡ all
+count_same line left rest rounds all is there was =
+    let same : length (filter is_round left) ≡ length (filter is_round rest) =
+    ap (λ (l : List Event). length (filter is_round l)) there
+    ∙ ap (λ (b : Bool). length (if b then line ∷ filter is_round rest
+    else filter is_round rest)) is in
+    omega (arith, same, was)
+
+pub none_left : (left : List Event) (rounds all : ℕ) → left ≡ []
+    → rounds + length (filter is_round left) ≡ all → rounds ≡ all
+none_left left rounds all none was =
+    let zero : length (filter is_round left) ≡ 0 =
+    ap (λ (l : List Event). length (filter is_round l)) none in
+    omega (arith, zero, was)
+
+pub one_fewer : (line : Event) (left rest : List Event) → left ≡ line ∷ rest
+    → length left ≡ length rest + 1
+one_fewer line left rest is = ap (λ (l : List Event). length l) is ∙ omega arith
 
 -- ---- the moment behind lines
 

@@ -174,26 +174,18 @@ module _ {T : Type 0} (state : T → TapState) (capture : Capture)
   -- what was put of it, where its lines were not put whole
   pub cut_off : (told : Result ⊤ PrintError) → IsErr told → (error : PrintError)
       (result : Result ⊤ PrintError) (next : Option (List ℕ)) → result ≡ Err error
-      → (result ≢ Err NoMemory → PutAppends new next result (lines_of (count + 1) life))
-      → (result ≡ Err NoMemory → next ≡ new)
+      → PutAppends new next result (lines_of (count + 1) life)
       → Replays state capture seen now told old next
-  cut_off (Ok value) failed error result next is put kept = absurd (cc failed)
-  cut_off (Err other) failed error result next is put kept = (
+  cut_off (Ok value) failed error result next is put = absurd (cc failed)
+  cut_off (Err other) failed error result next is put = (
     longer,
     now,
     [],
     are_longer,
     seen_none state now,
-    front_longer next (front error is),
+    front_longer next (subst (λ (r : Result ⊤ PrintError).
+        PutAppends new next r (lines_of (count + 1) life)) is put),
   )
-    where
-      front : (e : PrintError) → result ≡ Err e → AppendsFront new next (lines_of (count + 1) life)
-      front OutputFault is = subst (λ (r : Result ⊤ PrintError).
-          PutAppends new next r (lines_of (count + 1) life)) is (put (λ no. absurd (cc (is, no))))
-      front NoMemory is = (
-        0,
-        subst (λ (n : Option (List ℕ)). Appends new n []) (sym (kept is)) (Appends-nil new),
-      )
 
 module _ {T : Type 0} (state : T → TapState) (capture : Capture) where
   -- nothing was played yet
@@ -261,15 +253,13 @@ module _ {T : Type 0} (state : T → TapState) (capture : Capture) where
       -- it was lived, and a front of its lines was put
       pub broken_off : (told : Result ⊤ PrintError) → IsErr told → (error : PrintError)
           (result : Result ⊤ PrintError) (next : Option (List ℕ)) → result ≡ Err error
-          → (result ≢ Err NoMemory → PutAppends new next result
-          (life_lines (count + 1) (pieces_of client_calls) (pieces_of venue_calls) name))
-          → (result ≡ Err NoMemory → next ≡ new)
+          → PutAppends new next result
+          (life_lines (count + 1) (pieces_of client_calls) (pieces_of venue_calls) name)
           → Replays state capture seen now told old next
-      broken_off told failed error result next is put kept =
+      broken_off told failed error result next is put =
           cut_off state capture count clock seen between now image old new so_far lines life
           lived.more within there lived.played lived.committed lived.saw told failed error result
-          next is
-          (λ no. subst (λ (l : List ℕ). PutAppends new next result l) text (put no)) kept
+          next is (subst (λ (l : List ℕ). PutAppends new next result l) text put)
 
     abbrev last_of : List ℕ
     last_of = last_lines (length (entries_left [] so_far.played))

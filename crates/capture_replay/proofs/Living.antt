@@ -31,7 +31,6 @@ use Rattle.capture_replay.specs.Replay.{Left}
 use Rattle.capture_replay.specs.Stops.{may_end}
 use Rattle.capture_replay.specs.LifeWire.{unplayed}
 use Rattle.capture_replay.specs.Lived.{IsLived, LivesOn}
-use Rattle.capture_replay.proofs.EachLine.{rounds_are}
 
 only_fresh : (bytes fail : List ℕ) (fuse : Fuse) → Only bytes (IsImageOf (fresh bytes fail fuse))
 only_fresh bytes fail fuse image (inl is) = is
@@ -151,14 +150,14 @@ module _ {T : Type 0} (state : T → TapState) (seen now : List T) (config : Con
     (lines : List Event) (disk0 disk : DiskState) (client0 client venue0 venue : WireState)
     (clock0 clock : ClockState) (end : LifeEnd) (rounds : ℕ)
     (says : LiveSays state seen now config disk0 disk client0 client venue0 venue clock0 clock end
-    rounds) (from : ℕ) (bytes fail listed image : List ℕ) (fuse : Fuse)
+    rounds) (from : ℕ) (bytes fail image : List ℕ) (fuse : Fuse)
     (client_calls venue_calls : List WireCall) where
   -- over fresh forms
   says_fresh : disk0 ≡ fresh bytes fail fuse → client0 ≡ unplayed Client lines
-      → venue0 ≡ unplayed Venue lines → clock0 ≡ record { listed = listed; asked = 0 }
+      → venue0 ≡ unplayed Venue lines → clock0 ≡ record { listed = moments_from from lines; asked = 0 }
       → LiveSays state seen now config (fresh bytes fail fuse) disk
       (unplayed Client lines) client (unplayed Venue lines) venue
-      (record { listed = listed; asked = 0 }) clock end rounds
+      (record { listed = moments_from from lines; asked = 0 }) clock end rounds
   says_fresh is_disk is_client is_venue is_clock =
       subst (λ (k : ClockState). LiveSays state seen now config (fresh bytes fail fuse) disk
       (unplayed Client lines) client (unplayed Venue lines) venue k clock end rounds) is_clock
@@ -171,21 +170,19 @@ module _ {T : Type 0} (state : T → TapState) (seen now : List T) (config : Con
 
   pub lives_on : ((i : List ℕ) → HasOneReading i)
       → disk0 ≡ fresh bytes fail fuse → client0 ≡ unplayed Client lines
-      → venue0 ≡ unplayed Venue lines → clock0 ≡ record { listed = listed; asked = 0 }
-      → listed ≡ moments_from from lines → rounds ≡ length listed - 1 → IsImageOf disk image
+      → venue0 ≡ unplayed Venue lines → clock0 ≡ record { listed = moments_from from lines; asked = 0 }
+      → rounds ≡ length (filter is_round lines) → IsImageOf disk image
       → client.recorded ≡ Some client_calls → venue.recorded ≡ Some venue_calls
       → is_some (moments_told clock) ≡ true → may_end (stop_of lines) end ≡ true
       → LivesOn state config lines from bytes seen now (Some client_calls) (Some venue_calls) end
       image
-  lives_on one is_disk is_client is_venue is_clock listed_is rounds_is among
+  lives_on one is_disk is_client is_venue is_clock count among
       client_told venue_told clock_told whole before is_from journal shown leaves =
       let fresh_says = says_fresh is_disk is_client is_venue is_clock in
-      let many = rounds_are from lines in
-      let most : length listed ≡ length (moments_from from lines) = ap length listed_is in
-      let count : rounds ≡ length (filter is_round lines) = omega (arith, rounds_is, many, most) in
       lived state seen now config lines before bytes image disk client venue clock end rounds fail
-      listed fuse client_calls venue_calls fresh_says client_told venue_told clock_told one
+      (moments_from from lines) fuse client_calls venue_calls fresh_says client_told venue_told
+      clock_told one
       (fresh_says.client_plays (script_of Client lines) refl)
       (fresh_says.venue_plays (script_of Venue lines) refl)
-      (fresh_says.follows listed refl ∙ listed_is
+      (fresh_says.follows (moments_from from lines) refl
       ∙ ap (λ (m : ℕ). moments_from m lines) (sym is_from)) count among whole journal shown leaves

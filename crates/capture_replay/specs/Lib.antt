@@ -4,4 +4,5 @@ pub mod Replay
 pub mod Lived
 pub mod Drills
 pub mod Input
+pub mod LifeClock
 pub mod LifeWire

@@ -6,7 +6,7 @@ ghost use Rattle.pair_entries.specs.declared.entry.Entry.{Entry};
 ghost use Rattle.pair_journal.specs.Numbers.{first_numbers, numbers_after};
 ghost use Rattle.gateway_life.specs.Life.{IsJournal};
 
-use outside::MemDisk;
+use crate::stops::disk_of;
 use pair_journal::laws::an_image_has_one_reading;
 use pair_journal::{Journal, JournalError};
 use std::alloc::{AllocError, Global};
@@ -25,7 +25,7 @@ pub(crate) fn left_by(
         → (left.0 ≡ length entries) × (left.1 ≡ numbers_after first_numbers entries)) }
 {
     an_image_has_one_reading();
-    let mut disk = MemDisk::new(alloc, image, Vec::new(alloc));
+    let mut disk = disk_of(alloc, None, image);
     match Journal::look(alloc, &mut disk) {
         Ok(Some(journal)) => Ok((journal.count(), journal.next())),
         Ok(None) => Ok((0, (1, 1, 1, 1))),

@@ -3,7 +3,9 @@
 //! same way, and its summary printed.
 #![tactic(auto)]
 
+mod clock;
 mod config;
+mod disk;
 mod drilling;
 mod ends;
 mod error;

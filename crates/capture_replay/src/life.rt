@@ -6,7 +6,8 @@ ghost use Rattle.drop_taps.specs.Shown.{HaveSeen, state_by};
 ghost use Rattle.capture_text.specs.Line.{IsBounded};
 ghost use Rattle.capture_replay.specs.Lived.{LivesOn};
 
-use crate::rounds::{moments_of, rounds_of};
+use crate::clock::LifeClock;
+use crate::rounds::rounds_of;
 use crate::stops::{disk_of, image_of, may_end};
 use crate::wire::LifeWire;
 use capture_text::Life;
@@ -17,7 +18,6 @@ use order_meaning::Side;
 use pair_journal::laws::an_image_has_one_reading;
 use replay_lines::CallLog;
 use std::alloc::{AllocError, Global};
-use wires::ListClock;
 
 /// A life that was lived: what was done on its wires, how it ended, and what it left on the disk.
 #[derive(Drop)]
@@ -54,11 +54,10 @@ pub(crate) fn live_lines(
         (state_by has_failed entries tally counts_all refused) taps.old.items taps.new.items more }
 {
     an_image_has_one_reading();
-    let moments = moments_of(alloc, from, life)?;
-    let rounds = rounds_of(&moments);
+    let rounds = rounds_of(life);
     let mut client = LifeWire::new(alloc, Side::Client, life);
     let mut venue = LifeWire::new(alloc, Side::Venue, life);
-    let mut clock = ListClock::new(moments);
+    let mut clock = LifeClock::new(from, life);
     let stop = life.stop();
     let mut disk = disk_of(alloc, stop, image);
     let end = live(
@@ -81,7 +80,7 @@ pub(crate) fn live_lines(
     let Some(venue) = venue else {
         return Err(AllocError);
     };
-    let image = disk.image(image_of(stop))?;
+    let image = disk.into_image(image_of(stop))?;
     Ok(Lived {
         client,
         venue,

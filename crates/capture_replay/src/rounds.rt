@@ -1,12 +1,10 @@
-//! The moments of the rounds of a life.
+//! The rounds of a life.
 
-ghost use Rattle.std.specs.Prelude.{◌≡◌, ◌-◌, ◌++◌, length, IfOk, OnOk};
+ghost use Rattle.std.specs.Prelude.{◌≡◌, filter, length};
 ghost use Rattle.capture_text.specs.Kept.{event_of};
 ghost use Rattle.capture_replay.specs.Rounds.{is_round, now_after, moment_after};
-ghost use Rattle.capture_replay.specs.Rounds.{moments_at, moments_from};
 
 use capture_text::{Life, Line};
-use std::alloc::{AllocError, Global};
 
 /// Whether a line is a round.
 pub(crate) fn is_round(line: Line<'_>) -> bool
@@ -16,7 +14,7 @@ pub(crate) fn is_round(line: Line<'_>) -> bool
 }
 
 /// The moment that the clock says behind a line.
-fn now_after(now: u64, line: Line<'_>) -> u64
+pub(crate) fn now_after(now: u64, line: Line<'_>) -> u64
     ensures { result ≡ now_after now (event_of line.entry) }
 {
     match line {
@@ -38,36 +36,17 @@ pub(crate) fn moment_after(from: u64, life: &Life) -> u64
     now
 }
 
-/// Adds the moment of a line that is a round.
-fn push_round(moments: &mut Vec<u64>, now: u64, line: Line<'_>) -> Result<(), AllocError>
-    ensures { OnOk result (moments.new.items ≡
-        moments.old.items ++ moments_at now (event_of line.entry)) }
+/// How many rounds the lines of a life are.
+pub(crate) fn rounds_of(life: &Life) -> u64
+    ensures { result ≡ length (filter is_round life.now) }
 {
-    if is_round(line) {
-        moments.push(now)?;
-    }
-    Ok(())
-}
-
-/// The moment of each round, and that of the end: this one before the first that a line tells.
-#[tactic(auto, using(crate::proofs::EachLine::moment_more))]
-pub(crate) fn moments_of(alloc: Global, from: u64, life: &Life) -> Result<Vec<u64>, AllocError>
-    ensures { IfOk result (λ v. v.items ≡ moments_from from life.now) }
-{
-    let mut moments = Vec::new(alloc);
-    let mut now = from;
+    let count = life.len(); // there are no more rounds than lines
+    let mut rounds = 0;
     let mut left = life.lines();
     while let Some(line) = left.next() {
-        push_round(&mut moments, now, line)?;
-        now = now_after(now, line);
+        if is_round(line) {
+            rounds += 1;
+        }
     }
-    moments.push(now)?;
-    Ok(moments)
-}
-
-/// How many rounds these moments are of, the last of which is that of the end.
-pub(crate) fn rounds_of(moments: &[u64]) -> u64
-    ensures { result ≡ length moments.now - 1 }
-{
-    (moments.len() as u64).saturating_sub(1)
+    rounds
 }

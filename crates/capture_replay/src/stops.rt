@@ -4,19 +4,20 @@ ghost use Rattle.std.specs.Prelude.{◌≡◌, []};
 ghost use Rattle.outside.specs.MemDisk.{fresh};
 ghost use Rattle.capture_replay.specs.Stops.{fuse_of, image_of, may_end};
 
+use crate::disk::LifeDisk;
 use gateway_life::LifeEnd;
 use outside::{Image, MemDisk};
 use std::alloc::Global;
 
 /// The disk of a life, of these bytes. With a stop it does the writes and syncs before that one,
 /// and then every call fails.
-pub(crate) fn disk_of(alloc: Global, stop: Option<(u64, Image)>, bytes: Vec<u8>) -> MemDisk
+pub(crate) fn disk_of(alloc: Global, stop: Option<(u64, Image)>, bytes: Vec<u8>) -> LifeDisk
     ensures { result ≡ fresh bytes.items [] (fuse_of stop) }
 {
-    match stop {
+    LifeDisk::new(match stop {
         Some((call, _)) => MemDisk::fuse(alloc, bytes, call.saturating_sub(1)),
         None => MemDisk::new(alloc, bytes, Vec::new(alloc)),
-    }
+    })
 }
 
 /// The image that a life leaves.

@@ -26,7 +26,7 @@ use wires::{Arrival, Wire};
 
 /// A wire of one side, on which the lines of a life come, a round a poll, and then nothing. It
 /// fails for want of memory alone.
-#[derive(Debug, Drop)]
+#[derive(Drop)]
 pub(crate) struct LifeWire<'a> {
     alloc: Global,
     side: Side,

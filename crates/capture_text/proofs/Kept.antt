@@ -1,5 +1,6 @@
 -- An event more behind those of a life.
-use Rattle.std.proofs.Common.{◌≡◌, ◌∙◌, ℕ, List, [], ◌∷◌, ◌++◌, refl, sym, ap, subst}
+use Rattle.std.proofs.Common.{◌≡◌, ◌∙◌, ℕ, suc, List, [], ◌∷◌, ◌++◌, length, drop}
+use Rattle.std.proofs.Common.{refl, sym, ap, subst}
 use Rattle.capture_text.specs.declared.capture.Event.{Event}
 use Rattle.capture_text.specs.declared.capture.Event.TheVariants as event
 use Rattle.capture_text.specs.declared.capture.Mark.{Mark}
@@ -73,3 +74,14 @@ module _ (marks all : List Mark) (numbers times : List ℕ) (pieces parts : List
       (subst (λ (t : List ℕ). AreWhole (marks ++ last ∷ []) t parts) (sym timed)
       (subst (AreWhole (marks ++ last ∷ []) (numbers ++ late)) (sym parted)
       (stays last late more marks numbers pieces whole next)))
+
+pub as_many : (marks : List Mark) (numbers : List ℕ) (pieces : List (List ℕ))
+    → length (events_of marks numbers pieces) ≡ length marks
+as_many [] numbers pieces = refl
+as_many (mark.Stop image ∷ marks) numbers pieces = ap suc (as_many marks (drop 1 numbers) pieces)
+as_many (mark.At ∷ marks) numbers pieces = ap suc (as_many marks (drop 1 numbers) pieces)
+as_many (mark.Tick ∷ marks) numbers pieces = ap suc (as_many marks numbers pieces)
+as_many (mark.Opened side ∷ marks) numbers pieces = ap suc (as_many marks numbers pieces)
+as_many (mark.Closed side ∷ marks) numbers pieces = ap suc (as_many marks numbers pieces)
+as_many (mark.Text side ∷ marks) numbers pieces = ap suc (as_many marks numbers (drop 1 pieces))
+as_many (mark.Frame side ∷ marks) numbers pieces = ap suc (as_many marks numbers (drop 1 pieces))

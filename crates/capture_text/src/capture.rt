@@ -1,6 +1,6 @@
 //! What a capture says.
 
-ghost use Rattle.std.specs.Prelude.{◌≡◌, ◌<◌, ◌++◌, [], ◌∷◌, List, drop, IfSome, IsNone};
+ghost use Rattle.std.specs.Prelude.{◌≡◌, ◌<◌, ◌++◌, [], ◌∷◌, List, length, drop, IfSome, IsNone};
 ghost use Rattle.std.specs.Prelude.{OnOk, OnErr};
 ghost use Rattle.capture_text.specs.declared.capture.Event.{Event};
 ghost use Rattle.capture_text.specs.declared.capture.Mark.{Mark};
@@ -214,6 +214,14 @@ impl Life {
             numbers: &self.numbers,
             pieces: self.pieces.left(),
         }
+    }
+
+    /// How many events there are.
+    #[tactic(auto, using(crate::proofs::Kept::as_many))]
+    pub fn len(&self) -> usize
+        ensures { result ≡ length self.now }
+    {
+        self.marks.len()
     }
 
     /// The stop that its first line tells: the number of the first write or sync that fails, and

@@ -237,6 +237,27 @@ impl MemDisk {
         write_all(self.alloc, stable, &self.pending, pick)
     }
 
+    /// What a crash leaves now, as [`MemDisk::image`]. Where no write is pending it takes no memory.
+    ///
+    /// # Errors
+    /// `AllocError` for want of memory.
+    pub fn into_image(self, pick: Image) -> Result<Vec<u8>, AllocError>
+        ensures value { IfOk result (λ v. v.items ≡ picked_image pick self) }
+        ensures among { IfOk result (λ v. IsImageOf self v.items) }
+    {
+        if self.pending.is_empty() {
+            return Ok(self.bytes);
+        }
+        self.image(pick)
+    }
+
+    /// Lets go of the list of calls that were made.
+    pub fn forget_calls(&mut self)
+        ensures { self.new ≡ record self.old { made = [] } }
+    {
+        self.made.clear();
+    }
+
     // Counts a call. It fails where it is listed or the fuse is blown, or for want of memory.
     fn begin(&mut self, call: DiskCall) -> Result<(), Failed>
         ensures answers { Answers call self.old self.new result }

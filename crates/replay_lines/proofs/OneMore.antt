@@ -2,13 +2,14 @@
 use Rattle.std.proofs.Common.{◌≡◌, ℕ, suc, ◌+◌, ◌≤◌, ◌<◌, Bool, List, [], ◌∷◌, ◌++◌}
 use Rattle.std.proofs.Common.{length, take, get_or, map, refl, sym, ◌∙◌, ap, append_assoc}
 use Rattle.std.proofs.Common.{append-nil, arith, codes}
-use Rattle.std.specs.Prelude.{fold, if◌then◌else◌}
+use Rattle.std.specs.Prelude.{fold, filter, if◌then◌else◌}
 use lib.Dec.{eqb-suc-zero}
 use Rattle.std.specs.List.{flat_map}
 use Rattle.std.proofs.lemmas.Grind.{flat_map-append}
 use Rattle.std.proofs.lemmas.List.{map-append, take_more, length_push}
 use Rattle.wires.specs.Wire.{WireCall, Poll, Send, HangUp, Nothing, Opened, Bytes, Closed, Broken}
 use Rattle.replay_lines.specs.Pieces.{add_piece, pieces_after, pieces_of}
+use Rattle.replay_lines.specs.CallLog.{has_line}
 use Rattle.replay_lines.specs.Calls.{opened, call_lines, lines_from}
 use Rattle.replay_lines.specs.ReplayLines.{printed, piece_line, numbered, connection_lines}
 use Rattle.replay_lines.specs.ReplayLines.{side_lines}
@@ -114,23 +115,27 @@ lines_are : (side : List ℕ) (calls : List WireCall)
     → lines_from side 0 calls ≡ side_lines side 1 (pieces_of calls)
 lines_are side calls = sym (all_lines side [] calls)
 
--- a call more, of those that were left
-pub lines_more : (side now text all : List ℕ) (connections next : ℕ) (call : WireCall)
-    (left rest : List WireCall) → left ≡ call ∷ rest
-    → now ++ lines_from side connections left ≡ all → next ≡ opened connections call
-    → text ≡ now ++ call_lines side connections call → text ++ lines_from side next rest ≡ all
-lines_more side now text all connections next call left rest is was opens more =
-    ap (λ (l : List ℕ). l ++ lines_from side next rest) more
-    ∙ append_assoc now (call_lines side connections call) (lines_from side next rest)
-    ∙ ap (λ n. now ++ (call_lines side connections call ++ lines_from side n rest)) opens
-    ∙ ap (λ calls. now ++ lines_from side connections calls) (sym is) ∙ was
+-- a call without a line does nothing
+pub kept_lines : (side : List ℕ) (connections : ℕ) (calls : List WireCall)
+    → lines_from side connections (filter has_line calls) ≡ lines_from side connections calls
+kept_lines side connections [] = refl
+kept_lines side connections (Poll Opened ∷ calls) =
+    ap (λ (l : List ℕ). numbered side (connections + 1) ++ l)
+    (kept_lines side (connections + 1) calls)
+kept_lines side connections (Poll Nothing ∷ calls) = kept_lines side connections calls
+kept_lines side connections (Poll (Bytes bytes) ∷ calls) = kept_lines side connections calls
+kept_lines side connections (Poll Closed ∷ calls) = kept_lines side connections calls
+kept_lines side connections (Poll Broken ∷ calls) = kept_lines side connections calls
+kept_lines side connections (Send piece wrote done ∷ calls) =
+    ap (λ (l : List ℕ). call_lines side connections (Send piece wrote done) ++ l)
+    (kept_lines side connections calls)
+kept_lines side connections (HangUp ∷ calls) = kept_lines side connections calls
 
-pub none_more : (side old now : List ℕ) (connections : ℕ) (left calls : List WireCall)
-    → left ≡ [] → now ++ lines_from side connections left ≡ old ++ lines_from side 0 calls
-    → now ≡ old ++ side_lines side 1 (pieces_of calls)
-none_more side old now connections left calls is was = sym (append-nil now)
-    ∙ ap (λ calls. now ++ lines_from side connections calls) (sym is) ∙ was
-    ∙ ap (λ l. old ++ l) (lines_are side calls)
+-- those that are kept have the lines of all
+pub side_kept : (side : List ℕ) (calls kept : List WireCall) → kept ≡ filter has_line calls
+    → lines_from side 0 kept ≡ side_lines side 1 (pieces_of calls)
+side_kept side calls kept is = ap (lines_from side 0) is ∙ kept_lines side 0 calls
+    ∙ lines_are side calls
 
 opened_most : (count : ℕ) (call : WireCall) → opened count call ≤ count + 1
 opened_most count (Poll Opened) = omega arith
@@ -148,5 +153,3 @@ few_more connections next count call left rest is few opens =
     let most = opened_most connections call in
     let longer : length left ≡ length rest + 1 = ap length is ∙ omega arith in
     omega (arith, most, longer, few, opens)
-
-pub ruleset sides = (lines_more, none_more, few_more)

@@ -2,3 +2,5 @@ pub mod Pieces
 pub mod ReplayLines
 pub mod Calls
 pub mod CallLog
+pub mod Past
+pub mod Prints

@@ -1,10 +1,12 @@
 //! The calls on a wire, as they are kept until they are printed.
 
-ghost use Rattle.std.specs.Prelude.{◌≡◌, ◌<◌, ◌++◌, [], ◌∷◌, List, length, drop, IfSome, IsNone};
-ghost use Rattle.std.specs.Prelude.{OnOk, OnErr};
+ghost use Rattle.std.specs.Prelude.{◌≡◌, ◌<◌, ◌++◌, [], ◌∷◌, List, length, drop, filter};
+ghost use Rattle.std.specs.Prelude.{IfSome, IsNone, OnOk, OnErr};
 ghost use Rattle.replay_lines.specs.declared.call_log.Mark.{Mark};
-ghost use Rattle.replay_lines.specs.CallLog.{call_of, calls_of, AreWhole};
+ghost use Rattle.replay_lines.specs.CallLog.{call_of, calls_of, has_line, AreWhole};
+ghost use Rattle.replay_lines.specs.Past.{call_with};
 
+use crate::past::{Kind, Past, joined, none};
 use kept_pieces::{Left, Pieces};
 use std::alloc::{AllocError, Global};
 use std::marker::Model;
@@ -26,20 +28,18 @@ pub enum Call<'a> {
     HungUp,
 }
 
-/// What a call is, without its bytes.
+/// What a call with a line is, without its bytes.
 #[derive(Clone, Copy, Debug)]
-enum Mark {
-    Nothing,
+pub(crate) enum Mark {
     Opened,
-    Bytes,
-    Closed,
     Sent,
-    HungUp,
 }
 
-/// The calls on a wire, seen as its record. One without bytes takes a byte.
-#[derive(Debug, Drop)]
+/// The calls on a wire, seen as its record. Those that have a line when they are printed are kept,
+/// an opening in a byte; of the others only clauses know.
+#[derive(Drop)]
 pub struct CallLog {
+    past: Past,
     marks: Vec<Mark>,
     pieces: Pieces,
 }
@@ -47,18 +47,18 @@ pub struct CallLog {
 impl Model for CallLog {
     ghost use Rattle.std.specs.Prelude.{List};
     ghost use Rattle.wires.specs.Wire.{WireCall};
-    ghost use Rattle.replay_lines.specs.CallLog.{calls_of, AreWhole};
+    ghost use Rattle.replay_lines.specs.CallLog.{AreKept};
 
     ghost Value = { List WireCall };
 
-    ghost view = { λ l. calls_of l.marks.items l.pieces };
+    ghost view = { λ l. l.past.calls };
 
-    ghost invariant = { λ l. AreWhole l.marks.items l.pieces };
+    ghost invariant = { λ l. AreKept l.past.calls l.marks.items l.pieces };
 }
 
-/// The calls that are left of a record, seen as their list.
+/// The calls with a line that are left of a record, seen as their list.
 #[derive(Debug, Drop)]
-pub struct Calls<'a> {
+pub(crate) struct Calls<'a> {
     marks: &'a [Mark],
     pieces: Left<'a>,
 }
@@ -79,12 +79,60 @@ fn call_of<'a>(mark: Mark, pieces: &mut Left<'a>) -> Call<'a>
         ≡ call_of result ∷ calls_of marks pieces.new }
 {
     match mark {
-        Mark::Nothing => Call::Nothing,
         Mark::Opened => Call::Opened,
-        Mark::Bytes => Call::Bytes(pieces.next_or_empty()),
-        Mark::Closed => Call::Closed,
         Mark::Sent => Call::Sent(pieces.next_or_empty()),
-        Mark::HungUp => Call::HungUp,
+    }
+}
+
+// Keeps an opening.
+fn keep_opened(marks: &mut Vec<Mark>) -> Result<(), AllocError>
+    ensures ok { OnOk result (marks.new.items ≡ marks.old.items ++ Mark.Opened ∷ []) }
+    ensures err { OnErr result (marks.new.items ≡ marks.old.items) }
+{
+    marks.push(Mark::Opened)?;
+    Ok(())
+}
+
+// Keeps a piece that was sent.
+fn keep_sent(marks: &mut Vec<Mark>, pieces: &mut Pieces, piece: &[u8]) -> Result<(), AllocError>
+    ensures ok { OnOk result (marks.new.items ≡ marks.old.items ++ Mark.Sent ∷ []) }
+    ensures piece { OnOk result (pieces.new ≡ pieces.old ++ piece.now ∷ []) }
+    ensures err { OnErr result (marks.new.items ≡ marks.old.items) }
+    ensures same { OnErr result (pieces.new ≡ pieces.old) }
+{
+    marks.reserve(1)?;
+    pieces.push(piece)?;
+    marks.push_reserved(Mark::Sent);
+    Ok(())
+}
+
+// Keeps a call, where it has a line.
+fn keep(marks: &mut Vec<Mark>, pieces: &mut Pieces, call: Call<'_>) -> Result<(), AllocError>
+    requires { AreWhole marks.old.items pieces.old }
+    ensures ok { OnOk result (calls_of marks.new.items pieces.new
+        ≡ calls_of marks.old.items pieces.old ++ filter has_line (call_of call.entry ∷ [])) }
+    ensures whole { OnOk result (AreWhole marks.new.items pieces.new) }
+    ensures err { OnErr result (marks.new.items ≡ marks.old.items) }
+    ensures same { OnErr result (pieces.new ≡ pieces.old) }
+{
+    match call {
+        Call::Opened => keep_opened(marks),
+        Call::Sent(piece) => keep_sent(marks, pieces, piece),
+        Call::Nothing | Call::Bytes(_) | Call::Closed | Call::HungUp => Ok(()),
+    }
+}
+
+// What a call is, and its bytes.
+fn parts_of<'a>(call: Call<'a>) -> (Kind, &'a [u8])
+    ensures { call_with result.0 result.1.now ≡ call_of call.entry }
+{
+    match call {
+        Call::Nothing => (Kind::Nothing, &[]),
+        Call::Opened => (Kind::Opened, &[]),
+        Call::Bytes(bytes) => (Kind::Bytes, bytes),
+        Call::Closed => (Kind::Closed, &[]),
+        Call::Sent(piece) => (Kind::Sent, piece),
+        Call::HungUp => (Kind::HungUp, &[]),
     }
 }
 
@@ -94,6 +142,7 @@ impl CallLog {
         ensures { result ≡ [] }
     {
         CallLog {
+            past: none(),
             marks: Vec::new(alloc),
             pieces: Pieces::new(alloc),
         }
@@ -107,49 +156,15 @@ impl CallLog {
         ensures ok { OnOk result (self.new ≡ self.old ++ call_of call.entry ∷ []) }
         ensures err { OnErr result (self.new ≡ self.old) }
     {
-        match call {
-            Call::Nothing => self.push_mark(Mark::Nothing),
-            Call::Opened => self.push_mark(Mark::Opened),
-            Call::Bytes(bytes) => self.push_piece(Mark::Bytes, bytes),
-            Call::Closed => self.push_mark(Mark::Closed),
-            Call::Sent(piece) => self.push_piece(Mark::Sent, piece),
-            Call::HungUp => self.push_mark(Mark::HungUp),
-        }
-    }
-
-    // Adds a call that is its mark alone.
-    fn push_mark(&mut self, mark: Mark) -> Result<(), AllocError>
-        requires { AreWhole (mark ∷ []) [] }
-        ensures ok { OnOk result (self.new ≡ self.old ++ calls_of (mark ∷ []) []) }
-        ensures err { OnErr result (self.new ≡ self.old) }
-    {
-        self.marks.push(mark)?;
+        keep(&mut self.marks, &mut self.pieces, call)?;
+        let (kind, bytes) = parts_of(call);
+        self.past = joined(&self.past, kind, bytes);
         Ok(())
     }
 
-    // Adds a call of these bytes.
-    fn push_piece(&mut self, mark: Mark, piece: &[u8]) -> Result<(), AllocError>
-        requires { AreWhole (mark ∷ []) (piece.now ∷ []) }
-        ensures ok { OnOk result (self.new ≡ self.old ++ calls_of (mark ∷ []) (piece.now ∷ [])) }
-        ensures err { OnErr result (self.new ≡ self.old) }
-    {
-        self.marks.reserve(1)?;
-        self.pieces.push(piece)?;
-        self.marks.push_reserved(mark);
-        Ok(())
-    }
-
-    /// How many calls there are.
-    #[tactic(auto, using(crate::proofs::Kept::as_many))]
-    pub fn len(&self) -> usize
-        ensures { result ≡ length self.now }
-    {
-        self.marks.len()
-    }
-
-    /// The calls, from the first on; it takes no memory.
-    pub fn calls(&self) -> Calls<'_>
-        ensures { result ≡ self.now }
+    /// The calls with a line, from the first on; it takes no memory.
+    pub(crate) fn calls(&self) -> Calls<'_>
+        ensures { result ≡ filter has_line self.now }
     {
         Calls {
             marks: &self.marks,
@@ -159,8 +174,16 @@ impl CallLog {
 }
 
 impl<'a> Calls<'a> {
+    /// How many calls there are.
+    #[tactic(auto, using(crate::proofs::Kept::as_many))]
+    pub(crate) fn len(&self) -> usize
+        ensures { result ≡ length self.now }
+    {
+        self.marks.len()
+    }
+
     /// The next call, which is then behind.
-    pub fn next(&mut self) -> Option<Call<'a>>
+    pub(crate) fn next(&mut self) -> Option<Call<'a>>
         ensures some { IfSome result (λ call. self.old ≡ call_of call ∷ self.new) }
         ensures none { IsNone result → self.old ≡ [] }
     {

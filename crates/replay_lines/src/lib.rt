@@ -5,9 +5,10 @@
 mod call_log;
 pub mod laws;
 mod lines;
+mod past;
 mod played;
 mod printing;
 
-pub use call_log::{Call, CallLog, Calls};
+pub use call_log::{Call, CallLog};
 pub use played::{PlayedDrill, PlayedLife};
 pub use printing::{PrintError, put_drill, put_last, put_life};

@@ -2,13 +2,12 @@
 
 ghost use Rattle.std.specs.Prelude.{◌≡◌, ◌<◌, ◌-◌, ◌^◌, ◌∷◌, ◌++◌, [], codes, decimal, IfOk, OnOk};
 ghost use Rattle.replay_lines.specs.CallLog.{call_of};
-ghost use Rattle.replay_lines.specs.Pieces.{pieces_of};
 ghost use Rattle.replay_lines.specs.Calls.{opened, call_lines};
-ghost use Rattle.replay_lines.specs.ReplayLines.{printed, piece_line, numbered, side_lines};
-ghost use Rattle.replay_lines.specs.ReplayLines.{end_line, four_numbered, life_lines};
+ghost use Rattle.replay_lines.specs.ReplayLines.{printed, piece_line, numbered};
+ghost use Rattle.replay_lines.specs.ReplayLines.{end_line, four_numbered};
 ghost use Rattle.replay_lines.specs.ReplayLines.{last_lines, drill_line, drill_lines};
 
-use crate::{Call, CallLog, PlayedDrill, PlayedLife};
+use crate::{Call, PlayedDrill};
 use itoa::Buffer;
 use std::alloc::AllocError;
 
@@ -43,7 +42,11 @@ fn append_number(number: u64, text: &mut Vec<u8>) -> Result<(), AllocError>
 }
 
 /// Appends a line of a word and a number.
-fn append_numbered(word: &[u8], number: u64, text: &mut Vec<u8>) -> Result<(), AllocError>
+pub(crate) fn append_numbered(
+    word: &[u8],
+    number: u64,
+    text: &mut Vec<u8>,
+) -> Result<(), AllocError>
     ensures { OnOk result (text.new.items ≡ text.old.items ++ numbered word.now number) }
 {
     text.extend_from_slice(word)?;
@@ -55,7 +58,7 @@ fn append_numbered(word: &[u8], number: u64, text: &mut Vec<u8>) -> Result<(), A
 
 /// Appends the line of a call, if it has one, behind so many connections: that of the connection
 /// that it opens, or of the piece that it wrote. Answers how many connections there are then.
-fn append_call(
+pub(crate) fn append_call(
     side: &[u8],
     connections: u64,
     call: Call<'_>,
@@ -79,41 +82,14 @@ fn append_call(
     }
 }
 
-/// Appends the lines of the connections of a side.
-#[tactic(auto, using(crate::proofs::OneMore::sides))]
-fn append_side(side: &[u8], log: &CallLog, text: &mut Vec<u8>) -> Result<(), AllocError>
-    ensures { OnOk result (text.new.items ≡ text.old.items
-        ++ side_lines side.now 1 (pieces_of log.now)) }
-{
-    let count = log.len(); // there are no more connections than calls
-    let mut left = log.calls();
-    let mut connections = 0;
-    while let Some(call) = left.next() {
-        connections = append_call(side, connections, call, text)?;
-    }
-    Ok(())
-}
-
 /// Appends the line of an end.
-fn append_end(end: &[u8], text: &mut Vec<u8>) -> Result<(), AllocError>
+pub(crate) fn append_end(end: &[u8], text: &mut Vec<u8>) -> Result<(), AllocError>
     ensures { OnOk result (text.new.items ≡ text.old.items ++ end_line end.now) }
 {
     text.extend_from_slice(b"end ")?;
     text.extend_from_slice(end)?;
     text.push(b'\n')?;
     Ok(())
-}
-
-/// Appends the lines of a life.
-pub(crate) fn append_life(life: &PlayedLife<'_>, text: &mut Vec<u8>) -> Result<(), AllocError>
-    ensures { OnOk result (text.new.items ≡ text.old.items
-        ++ life_lines life.now.number (pieces_of life.now.client.now)
-        (pieces_of life.now.venue.now) life.now.end.now) }
-{
-    append_numbered(b"life", life.number, text)?;
-    append_side(b"client", life.client, text)?;
-    append_side(b"venue", life.venue, text)?;
-    append_end(life.end, text)
 }
 
 /// Appends a number and a byte behind it.

@@ -3,7 +3,7 @@
 use crate::CallLog;
 
 /// A life that was played: what was done on its wires, and how it ended.
-#[derive(Clone, Copy, Debug)]
+#[derive(Clone, Copy)]
 pub struct PlayedLife<'a> {
     /// Its number, from 1 on.
     pub number: u64,

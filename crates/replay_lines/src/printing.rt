@@ -1,17 +1,23 @@
 //! The lines, put to a sink.
 
-ghost use Rattle.std.specs.Prelude.{◌≡◌, ◌≢◌, Err, OnErr};
+ghost use Rattle.std.specs.Prelude.{◌≡◌, ◌≢◌, ◌<◌, ◌-◌, ◌^◌, [], Err, IfOk, OnErr};
 ghost use Rattle.outside.specs.Bytes.{PutAppends};
-ghost use Rattle.outside.specs.Causes.{HasCause};
+ghost use Rattle.outside.specs.Causes.{HasCause, Rose};
+ghost use Rattle.replay_lines.specs.CallLog.{call_of};
+ghost use Rattle.replay_lines.specs.Calls.{opened, call_lines};
 ghost use Rattle.replay_lines.specs.Pieces.{pieces_of};
 ghost use Rattle.replay_lines.specs.declared.printing.PrintError.TheVariants as errors;
-ghost use Rattle.replay_lines.specs.ReplayLines.{life_lines, last_lines, drill_lines};
+ghost use Rattle.replay_lines.specs.Prints.{Prints};
+ghost use Rattle.replay_lines.specs.ReplayLines.{side_lines, life_lines, last_lines, drill_lines};
 
-use crate::lines::{append_last, append_life, append_summary};
-use crate::{PlayedDrill, PlayedLife};
+use crate::lines::{append_call, append_end, append_last, append_numbered, append_summary};
+use crate::{Call, CallLog, PlayedDrill, PlayedLife};
 use outside::Sink;
 use std::alloc::{AllocError, Global};
 use thiserror::Error;
+
+/// How many bytes of lines wait to be put, and a line more.
+const LONG_TEXT: usize = 65_536;
 
 /// Why lines were not put.
 #[derive(Clone, Copy, Debug, Error, PartialEq, Eq)]
@@ -19,7 +25,7 @@ pub enum PrintError {
     /// The sink failed, and its count of faults says so too.
     #[error("the output failed")]
     OutputFault,
-    /// Memory was refused, and nothing was put.
+    /// Memory was refused.
     #[error("out of memory")]
     NoMemory,
 }
@@ -44,27 +50,90 @@ fn put_text<O: Sink>(out: &mut O, text: &[u8]) -> Result<(), PrintError>
     }
 }
 
-/// Puts the lines of a life, in one put: `life N`; for each connection of the client, and then of
-/// the venue, `client N` or `venue N` and below it a line of each piece that was written, `> ` and
-/// its bytes with `|` for SOH; and `end ` with the name of its end.
+/// Puts a text that is long, and empties it.
+fn put_long<O: Sink>(out: &mut O, text: &mut Vec<u8>) -> Result<(), PrintError>
+    ensures prints { Prints (O.bytes out.old) (O.bytes out.new) text.old.items text.new.items
+        result [] }
+    ensures fault { result ≡ Err errors.OutputFault →
+        Rose (O.faults out.old) (O.faults out.new) }
+    ensures still { result ≢ Err errors.OutputFault → O.faults out.new ≡ O.faults out.old }
+{
+    if text.len() < LONG_TEXT {
+        return Ok(());
+    }
+    put_text(out, text)?;
+    text.clear();
+    Ok(())
+}
+
+/// Prints the line of a call, if it has one, behind so many connections. Answers how many there are
+/// then.
+fn print_call<O: Sink>(
+    out: &mut O,
+    side: &[u8],
+    connections: u64,
+    call: Call<'_>,
+    text: &mut Vec<u8>,
+) -> Result<u64, PrintError>
+    requires { connections < 2 ^ 64 - 1 }
+    ensures count { IfOk result (λ n. n ≡ opened connections (call_of call.entry)) }
+    ensures prints { Prints (O.bytes out.old) (O.bytes out.new) text.old.items text.new.items
+        result (call_lines side.now connections (call_of call.entry)) }
+    ensures fault { result ≡ Err errors.OutputFault →
+        Rose (O.faults out.old) (O.faults out.new) }
+    ensures still { result ≢ Err errors.OutputFault → O.faults out.new ≡ O.faults out.old }
+{
+    let connections = append_call(side, connections, call, text)?;
+    put_long(out, text)?;
+    Ok(connections)
+}
+
+/// Prints the lines of the connections of a side.
+fn print_side<O: Sink>(
+    out: &mut O,
+    side: &[u8],
+    log: &CallLog,
+    text: &mut Vec<u8>,
+) -> Result<(), PrintError>
+    ensures prints { Prints (O.bytes out.old) (O.bytes out.new) text.old.items text.new.items
+        result (side_lines side.now 1 (pieces_of log.now)) }
+    ensures fault { result ≡ Err errors.OutputFault →
+        Rose (O.faults out.old) (O.faults out.new) }
+    ensures still { result ≢ Err errors.OutputFault → O.faults out.new ≡ O.faults out.old }
+{
+    let mut left = log.calls();
+    let count = left.len(); // there are no more connections than calls
+    let mut connections = 0;
+    while let Some(call) = left.next() {
+        connections = print_call(out, side, connections, call, text)?;
+    }
+    Ok(())
+}
+
+/// Puts the lines of a life, at least 65,536 bytes at a time: `life N`; for each connection of the
+/// client, and then of the venue, `client N` or `venue N` and below it a line of each piece that
+/// was written, `> ` and its bytes with `|` for SOH; and `end ` with the name of its end.
 ///
 /// # Errors
-/// `OutputFault` only where the sink's count of faults rose in this call; then a front of the lines
-/// was put. `NoMemory` for want of memory; then nothing was put.
+/// `OutputFault` only where the sink's count of faults rose in this call; `NoMemory` for want of
+/// memory. What was put is then a front of the lines.
 pub fn put_life<O: Sink>(
     alloc: Global,
     out: &mut O,
     life: &PlayedLife<'_>,
 ) -> Result<(), PrintError>
-    ensures lines { result ≢ Err errors.NoMemory → PutAppends (O.bytes out.old) (O.bytes out.new)
-        result (life_lines life.now.number (pieces_of life.now.client.now)
+    ensures lines { PutAppends (O.bytes out.old) (O.bytes out.new) result
+        (life_lines life.now.number (pieces_of life.now.client.now)
         (pieces_of life.now.venue.now) life.now.end.now) }
-    ensures nothing { result ≡ Err errors.NoMemory → out.new ≡ out.old }
-    ensures cause { result ≢ Err errors.NoMemory →
-        HasCause (O.faults out.old) (O.faults out.new) result }
+    ensures fault { result ≡ Err errors.OutputFault →
+        Rose (O.faults out.old) (O.faults out.new) }
+    ensures still { result ≢ Err errors.OutputFault → O.faults out.new ≡ O.faults out.old }
 {
     let mut text = Vec::new(alloc);
-    append_life(life, &mut text)?;
+    append_numbered(b"life", life.number, &mut text)?;
+    print_side(out, b"client", life.client, &mut text)?;
+    print_side(out, b"venue", life.venue, &mut text)?;
+    append_end(life.end, &mut text)?;
     put_text(out, &text)
 }
 
@@ -72,7 +141,8 @@ pub fn put_life<O: Sink>(
 /// out of the client's session and then of the venue's.
 ///
 /// # Errors
-/// As of [`put_life`].
+/// `OutputFault` only where the sink's count of faults rose in this call; then a front of the lines
+/// was put. `NoMemory` for want of memory; then nothing was put.
 pub fn put_last<O: Sink>(
     alloc: Global,
     out: &mut O,
@@ -95,7 +165,7 @@ pub fn put_last<O: Sink>(
 /// and the last lines as of [`put_last`].
 ///
 /// # Errors
-/// As of [`put_life`].
+/// As of [`put_last`].
 pub fn put_drill<O: Sink>(
     alloc: Global,
     out: &mut O,

@@ -1,21 +1,15 @@
-use Rattle.std.proofs.Common.{◌≡◌, ◌-◌, [], true, rules, length, Some}
+use Rattle.std.proofs.Common.{◌≡◌, [], true, rules, Some}
 use Rattle.std.specs.Prelude.{is_some}
 use Rattle.wires.specs.Clock.{moments_told}
-use Rattle.drop_taps.proofs.Showing.{seen_none}
 use Rattle.capture_text.specs.Capture.{stop_of}
 use Rattle.capture_replay.specs.Stops.{fuse_of, may_end}
 use Rattle.capture_replay.proofs.Living.{lives_on}
 use Rattle.capture_replay.proofs.life.live_lines.Goals as goal
 
-pub returns-in_err-moments-clause-taps : goal.returns-in_err-moments-clause-taps
-returns-in_err-moments-clause-taps g c = ([], seen_none _ c.args.taps.now.items)
-
 pub returns-clause-lived : goal.returns-clause-lived
 returns-clause-lived g c =
     let live = c.live-end in
     let clock_told : is_some (moments_told live.new.clock) ≡ true = search rules in
-    let rounds : c.rounds_of-rounds.result ≡ length c.in_ok-moments.moments.items - 1 = search rules
-    in
     let client_told : live.new.client.recorded ≡ Some c.in-Some.client = search rules in
     let venue_told : live.new.venue.recorded ≡ Some c.in-Some-venue.venue = search rules in
     let whole : may_end (stop_of c.args.life.now) live.result ≡ true = search rules in
@@ -29,9 +23,8 @@ returns-clause-lived g c =
       venue_plays = live.ensures.venue_plays;
       follows = live.ensures.follows;
     })
-    c.args.from c.args.image.items [] c.in_ok-moments.moments.items
-    c.in_ok-image.image.items (fuse_of c.stop-stop.result) c.in-Some.client c.in-Some-venue.venue
+    c.args.from c.args.image.items [] c.in_ok-image.image.items (fuse_of c.stop-stop.result) c.in-Some.client c.in-Some-venue.venue
     c.an_image_has_one_reading.ensures c.disk_of-disk.ensures c.new-client.ensures
     c.new-venue.ensures
-    c.new-clock.ensures c.in_ok-moments.ensures rounds c.in_ok-image.ensures.among
+    c.new-clock.ensures c.rounds_of-rounds.ensures c.in_ok-image.ensures
     client_told venue_told clock_told whole

@@ -56,8 +56,8 @@ loop-index-preserved g c =
           refl refl c.end_name.ensures
           c.moment_after-moment.result c.moment_after-moment.ensures
           (g.O.Sink.bytes c.put_life.new.out)
-          (c.in_ok-put_life.ensures.lines (λ none. absurd (cc none)));
-      faults = (c.in_ok-put_life.ensures.cause (λ none. absurd (cc none))).still
+          c.in_ok-put_life.ensures.lines;
+      faults = c.in_ok-put_life.ensures.still (λ no. absurd (cc no))
           ∙ c.loop-index.invariant.faults;
     }
 
@@ -100,7 +100,6 @@ returns-in_err-put_life-clause-replays g c =
     c.from_residual-in_err-put_life.result c.from_residual-in_err-put_life.ensures.0
     c.in_err-put_life.field-0.0 c.put_life.result (g.O.Sink.bytes c.put_life.new.out)
     c.in_err-put_life.was c.put_life.ensures.lines
-    (λ none. ap g.O.Sink.bytes (c.put_life.ensures.nothing none))
 
 pub left_by-requires : goal.left_by-requires
 left_by-requires g c = (_, _, c.loop-index.invariant.so_far.journal)
