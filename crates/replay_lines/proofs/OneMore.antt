@@ -153,3 +153,11 @@ few_more connections next count call left rest is few opens =
     let most = opened_most connections call in
     let longer : length left ≡ length rest + 1 = ap length is ∙ omega arith in
     omega (arith, most, longer, few, opens)
+
+-- the line of the first call, and the rest
+pub line_first : (side : List ℕ) (connections next : ℕ) (call : WireCall)
+    (left rest : List WireCall) → left ≡ call ∷ rest → next ≡ opened connections call
+    → lines_from side connections left
+    ≡ call_lines side connections call ++ lines_from side next rest
+line_first side connections next call left rest is opens = ap (lines_from side connections) is
+    ∙ ap (λ n. call_lines side connections call ++ lines_from side n rest) (sym opens)

@@ -1,7 +1,7 @@
 -- Lines that are printed one after another.
 use Rattle.std.proofs.Common.{◌≡◌, ◌∙◌, ℕ, ◌+◌, List, [], ◌∷◌, ◌++◌, length}
 use Rattle.std.proofs.Common.{refl, sym, ap, subst, append_assoc, append-nil, arith}
-use Rattle.std.specs.Prelude.{Result, Ok, Err}
+use Rattle.std.specs.Prelude.{Result, Ok, Err, IsErr}
 use Rattle.std.specs.declared.option.Option.{Option}
 use Rattle.std.specs.Io.KnownBytes.{Appends}
 use Rattle.std.proofs.KnownBytes.{Appends-nil, Appends-trans}
@@ -31,9 +31,10 @@ module _ (old mid new : Option (List ℕ)) (before rest whole line : List ℕ)
       ∙ ap (λ (l : List ℕ). so_far.put ++ l) is ∙ sym (append_assoc so_far.put before line))
       ∙ append_assoc (so_far.put ++ before) line rest ∙ so_far.is
 
-  pub printed : {T E : Type 0} (value : T) (after : List ℕ)
-      → Prints {T} {E} mid new before after (Ok value) line → SoFar old new after rest whole
-  printed value after (put, appends, is) = record {
+  pub printed : (after : List ℕ)
+      → (put : List ℕ) × Appends mid new put × (put ++ after ≡ before ++ line)
+      → SoFar old new after rest whole
+  printed after (put, appends, is) = record {
     put = so_far.put ++ put;
     appends = Appends-trans old mid new so_far.put put so_far.appends appends;
     is = joined put after is;
@@ -78,3 +79,29 @@ last_put old mid new before text rest whole so_far is (Err error) put =
     subst (λ (l : List ℕ). AppendsFront old new l)
     (ap (λ (l : List ℕ). so_far.put ++ l) is ∙ sym (append_assoc so_far.put before rest)
     ∙ so_far.is) (appended_front old mid new so_far.put text so_far.appends put)
+
+-- a front was put, where a call failed
+pub front_prints : {T E : Type 0} (told : Result T E) → IsErr told → (old new : Option (List ℕ))
+    (before after lines : List ℕ) → AppendsFront old new (before ++ lines)
+    → Prints old new before after told lines
+front_prints (Ok value) failed old new before after lines front = absurd (cc failed)
+front_prints (Err error) failed old new before after lines front = front
+
+pub front_put : {T E : Type 0} (told : Result T E) → IsErr told → (old new : Option (List ℕ))
+    (whole : List ℕ) → AppendsFront old new whole → PutAppends old new told whole
+front_put (Ok value) failed old new whole front = absurd (cc failed)
+front_put (Err error) failed old new whole front = front
+
+-- the same rest, in other words
+pub with_rest : (old now : Option (List ℕ)) (text rest more whole : List ℕ)
+    → SoFar old now text rest whole → rest ≡ more → SoFar old now text more whole
+with_rest old now text rest more whole so_far is =
+    subst (λ (l : List ℕ). SoFar old now text l whole) is so_far
+
+-- a life begins
+pub life_begins : (old : Option (List ℕ)) (text head client venue end : List ℕ) → text ≡ head
+    → SoFar old old text (client ++ (venue ++ end)) (head ++ client ++ venue ++ end)
+life_begins old text head client venue end is =
+    begun old text (client ++ (venue ++ end)) (head ++ client ++ venue ++ end)
+    (ap (λ (l : List ℕ). l ++ (client ++ (venue ++ end))) is
+    ∙ sym (append_assoc (head ++ client) venue end ∙ append_assoc head client (venue ++ end)))

@@ -6,7 +6,7 @@ use Rattle.capture_replay.proofs.last.left_by.Goals as goal
 
 pub returns-in-Ok-Some : goal.returns-in-Ok-Some
 returns-in-Ok-Some c = λ names entries is.
-    let bytes : c.new-disk.result.bytes ≡ c.args.image.items = search rules in
+    let bytes : c.disk_of-disk.result.bytes ≡ c.args.image.items = search rules in
     let same = found_entries c.args.image.items names entries _ c.in-Ok-Some.journal
     (c.an_image_has_one_reading.ensures c.args.image.items) is c.in-Ok-Some.field-0-is
     (subst (λ b. Looks b (Ok c.in-Ok-Some.field-0)) bytes c.in-Ok-Some.ensures.looks) in
@@ -14,7 +14,7 @@ returns-in-Ok-Some c = λ names entries is.
 
 pub unreachable-requires : goal.unreachable-requires
 unreachable-requires c =
-    let bytes : c.new-disk.result.bytes ≡ c.args.image.items = search rules in
+    let bytes : c.disk_of-disk.result.bytes ≡ c.args.image.items = search rules in
     none_refused c.args.image.items c.in-Err-Refused.field-0-0
     (c.an_image_has_one_reading.ensures c.args.image.items) c.requires
     (subst (λ e. Looks c.args.image.items (Err e)) c.in-Err-Refused.field-0-is
