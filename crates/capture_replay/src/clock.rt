@@ -68,7 +68,7 @@ impl<'a> LifeClock<'a> {
 
     /// Whether it tells the moments that it gave: it was asked fewer than 2^64 - 1 times.
     pub(crate) fn is_told(&self) -> bool
-        ensures { result ≡ is_some (moments_told self.now) }
+        ensures { result ≡ is_some (moments_told self.entry.now) }
     {
         self.asked != u64::MAX
     }

@@ -4,7 +4,7 @@ use Rattle.replay_lines.specs.Calls.{opened, call_lines, lines_from}
 use Rattle.replay_lines.specs.Pieces.{pieces_of}
 use Rattle.replay_lines.specs.ReplayLines.{side_lines}
 use Rattle.replay_lines.proofs.OneMore.{side_kept, few_more, line_first}
-use Rattle.replay_lines.proofs.Printed.{SoFar, begun, printed, broken, front_prints, with_rest}
+use Rattle.replay_lines.proofs.Printed.{begun, printed, broken, front_prints, with_rest}
 use Rattle.replay_lines.proofs.printing.print_side.Goals as goal
 
 pub loop-call-init : goal.loop-call-init

@@ -1,8 +1,8 @@
-use Rattle.std.proofs.Common.{◌≡◌, ◌++◌, List, ℕ, codes, rules}
+use Rattle.std.proofs.Common.{◌≡◌, ◌++◌, codes, rules}
 use Rattle.outside.specs.Bytes.{PutAppends}
 use Rattle.replay_lines.specs.Pieces.{pieces_of}
 use Rattle.replay_lines.specs.ReplayLines.{numbered, side_lines, end_line}
-use Rattle.replay_lines.proofs.Printed.{SoFar, printed, broken, stopped, last_put, front_put}
+use Rattle.replay_lines.proofs.Printed.{printed, broken, stopped, last_put, front_put}
 use Rattle.replay_lines.proofs.Printed.{life_begins}
 use Rattle.replay_lines.proofs.printing.put_life.Goals as goal
 
