@@ -13,28 +13,35 @@ use Rattle.std.proofs.lemmas.Fmt.{length-decimal-le}
 use Rattle.typed_fields.specs.declared.number.Number.{Number}
 use Rattle.typed_fields.specs.Digits.{are_digits, number_of as number_in_digits}
 use Rattle.typed_fields.specs.Number.{IsNumber, number_text}
+use Rattle.typed_fields.specs.Stamp.{cut_text}
 use Rattle.typed_fields.proofs.DateLemmas.{in_range_holds}
 use Rattle.typed_fields.proofs.DigitsLemmas.{numerals}
 use Rattle.field_groups.specs.HeadValues.{number_in}
 use Rattle.message_tables.specs.Content.{cell_fields, group_fields}
 use Rattle.message_tables.specs.Tables.{Message, Said, Tag, ◌>>=◌, code_of, first_of, lines_of}
-use Rattle.message_tables.specs.Tables.{or_else}
-use Rattle.value_kinds.specs.ValueKind.{code_text}
+use Rattle.message_tables.specs.Tables.{Item, or_else}
+use Rattle.value_kinds.specs.ValueKind.{Day, code_text}
+use Rattle.row_values.specs.CodeKinds.{kind_of}
 use Rattle.row_values.specs.Contras.{contra_cells}
+use Rattle.row_values.specs.Kinds.{Kind, MonthBeside, Value, said}
 use Rattle.order_meaning.specs.Report.{or_known}
 use Rattle.rows_fix50.specs.Header.{month_by}
 use Rattle.rows_fix50.specs.Meaning.{id_of}
 use Rattle.reports_fix50.specs.Sense.{reason_told, telling}
-use Rattle.rule_rows.specs.ByRules.{content_by, lack_if, rule_fields}
-use Rattle.rule_rows.specs.Rules.{By, Moved}
+use Rattle.rule_rows.specs.ByRules.{Outline, content_by, fields_at, lack_if, outline, outline_of}
+use Rattle.rule_rows.specs.ByRules.{rule_fields}
+use Rattle.rule_rows.specs.Texts.{decimal_text, kept}
+use Rattle.rule_rows.proofs.Made.{nothing_at}
 use Rattle.report_rules.specs.declared.rules.Rule.{Rule as CodeRule}
 use Rattle.report_rules.specs.declared.rules.Rule.TheVariants as rules
 use Rattle.report_rules.specs.declared.source.Source.{Source}
-use Rattle.report_rules.specs.CodeRules.{close_code, known_of, lacked, number_of, numbered, rule_of}
-use Rattle.report_rules.specs.CodeRules.{says, stands, tells_of, within_text, writes}
-use Rattle.report_rules.specs.Rules.{Rule, PartyOf, Another, Traded, Within, at, at_close, coded}
-use Rattle.report_rules.specs.Rules.{exec_type, fills, id_down, kinds, lacks_type, on_close, party}
-use Rattle.report_rules.specs.Rules.{reason_down, status_if, tells, trans_type, within, works_on}
+use Rattle.report_rules.specs.CodeRules.{close_code, known_of, lacked, number_of, numbered, placed}
+use Rattle.report_rules.specs.CodeRules.{rule_of, stands, tells_of, times, told, types, with_rule}
+use Rattle.report_rules.specs.CodeRules.{within_text, writes}
+use Rattle.report_rules.specs.Rules.{Rule, at, at_close, coded, exec_type, fills, id_down, kinds}
+use Rattle.report_rules.specs.Rules.{lacks_type, on_close, party, reason_down, status_if, tells}
+use Rattle.report_rules.specs.Rules.{trans_type, within, works_on}
+use Rattle.report_rules.proofs.KindsDown.{are_kinds, lacks_none}
 
 -- ---- values
 
@@ -84,113 +91,161 @@ coded_is f (Some code) = refl
 
 -- ---- what is read
 
--- A SOURCE IS READ AS A MESSAGE: it has the codes, the texts and the reasons of the message.
+-- A SOURCE IS READ AS A MESSAGE: it has the codes and the reasons of the message.
 pub record IsReadAs (known : Said) (m : Message) (s : Source) : Type 0 where
   pub exec_type : s.codes.exec_type ≡ (at m 150 >>= code_of)
   pub ord_status : s.codes.ord_status ≡ (at m 39 >>= code_of)
   pub filled : s.codes.fills ≡ fills (at m) (party m)
   pub ord_type : s.codes.ord_type ≡ (at m 40 >>= code_of)
   pub time : s.codes.time ≡ (at m 59 >>= code_of)
-  pub status_said : says s 39 ≡ at m 39
-  pub type_said : says s 40 ≡ at m 40
-  pub time_said : says s 59 ≡ at m 59
-  pub exec_id : stands s 17 ≡ at m 17
-  pub original : stands s 41 ≡ at m 41
-  pub text : stands s 58 ≡ at m 58
-  pub date : stands s 541 ≡ at m 541
-  pub month : month_by (stands s 541) (says s 200) ≡ at m 200
-  pub rej : at m 103 ≡ option_map number_text (numbered s 103)
-  pub restate : at m 378 ≡ option_map number_text (numbered s 378)
-  pub cxl : at m 102 ≡ option_map number_text (numbered s 102)
-  pub rej_number : IfSome (numbered s 103) IsNumber
-  pub restate_number : IfSome (numbered s 378) IsNumber
-  pub cxl_number : IfSome (numbered s 102) IsNumber
+  pub told : told s ≡ tells (at m) (party m)
   pub contras : map contra_cells s.groups.contras ≡ lines_of 382 m.groups
   pub is_known : known_of s ≡ known
 
+-- the reasons are told
+pub tells_is : (m : Message) (rej restate cxl : Option Number) → IfSome rej IsNumber
+    → IfSome restate IsNumber → IfSome cxl IsNumber → at m 103 ≡ option_map number_text rej
+    → at m 378 ≡ option_map number_text restate → at m 102 ≡ option_map number_text cxl
+    → tells_of rej restate cxl ≡ tells (at m) (party m)
+tells_is m rej restate cxl a b c e f g = λ i.
+    reason_told 103 8 (number_is rej (at m 103) a e i)
+    ++ (reason_told 378 5 (number_is restate (at m 378) b f i)
+    ++ reason_told 102 3 (number_is cxl (at m 102) c g i))
+
 module _ (m : Message) (s : Source) where
-  -- what a rule reads besides
-  abbrev pub IsSaid : Rule → Type 0
-  IsSaid (Moved from to) = says s from ≡ at m from
-  IsSaid (By (Another tag)) = says s tag ≡ at m tag
-  IsSaid (By (Traded tag)) = says s tag ≡ at m tag
-  IsSaid (By (PartyOf role to)) = id_of role s.groups.parties ≡ party m role
-  IsSaid (By (Within tag last other)) =
+  -- what the code reads by a rule
+  abbrev pub IsSaid : CodeRule → Type 0
+  IsSaid (rules.Same tag) = stands s tag ≡ at m tag
+  IsSaid (rules.Decimal from to) = decimal_text (stands s from) ≡ at m from
+  IsSaid (rules.Moment tag) = option_map cut_text (stands s tag) ≡ at m tag
+  IsSaid (rules.Kept from to kind) = kept s.fields.now from (kind_of kind) ≡ at m from
+  IsSaid rules.Original = stands s 41 ≡ at m 41
+  IsSaid (rules.PartyOf role to) = id_of role s.groups.parties ≡ party m role
+  IsSaid rules.ExecId = stands s 17 ≡ at m 17
+  IsSaid rules.OrdStatus = stands s 39 ≡ at m 39
+  IsSaid (rules.Another tag) = stands s tag ≡ at m tag
+  IsSaid (rules.Traded tag) = decimal_text (stands s tag) ≡ at m tag
+  IsSaid (rules.Within tag last other) =
       (at m tag ≡ option_map number_text (numbered s tag)) × IfSome (numbered s tag) IsNumber
+  IsSaid rules.Told = stands s 58 ≡ at m 58
+  IsSaid rules.Month = month_by (said s.fields.now 541 (Value Day))
+      (said s.fields.now 200 (MonthBeside 541)) ≡ at m 200
+  IsSaid rules.DayOfDate = stands s 541 ≡ at m 541
+  IsSaid rules.OrdType = kept s.fields.now 40 types ≡ at m 40
+  IsSaid rules.Time = kept s.fields.now 59 times ≡ at m 59
   IsSaid rule = Unit {0}
 
 module _ (known : Said) (m : Message) (s : Source) (read : IsReadAs known m s) where
-  tells_is : tells_of (numbered s 103) (numbered s 378) (numbered s 102) ≡ tells (at m) (party m)
-  tells_is = λ i.
-      reason_told 103 8 (number_is (numbered s 103) (at m 103) read.rej_number read.rej i)
-      ++ (reason_told 378 5 (number_is (numbered s 378) (at m 378) read.restate_number read.restate i)
-      ++ reason_told 102 3 (number_is (numbered s 102) (at m 102) read.cxl_number read.cxl i))
-
   type_is : (b : Bool) (o : Option ℕ) (said : Said) → o ≡ (at m 40 >>= code_of) → said ≡ at m 40
       → (if b then option_map code_text (option_map close_code o) else said)
       ≡ (if b then on_close (at m 40 >>= code_of) else at m 40)
   type_is true o said e f = close_is o ∙ ap on_close e
   type_is false o said e f = f
 
+  -- what is written of a field that is moved
+  moved : {a b : Said} (tag : ℕ) → a ≡ b → cell_fields (Tag tag, a) ≡ cell_fields (Tag tag, b)
+  moved tag e = ap (λ (x : Said). cell_fields (Tag tag, x)) e
+
   -- ONE CLAUSE FOR EACH RULE
-  rule_written : (rule : CodeRule) → IsSaid m s (rule_of known rule)
+  rule_written : (rule : CodeRule) → IsSaid m s rule
       → writes s rule ≡ rule_fields kinds m (rule_of known rule)
-  rule_written (rules.Same tag) h = ap (λ (x : Said). cell_fields (Tag tag, x)) h
-  rule_written (rules.Moved from to) h = ap (λ (x : Said). cell_fields (Tag to, x)) h
-  rule_written rules.Original h =
-      λ i. cell_fields (Tag 41, or_known (read.original i) (read.is_known i))
-  rule_written (rules.PartyOf role to) h = ap (λ (x : Said). cell_fields (Tag to, x)) h
+  rule_written (rules.Same tag) h = moved tag h
+  rule_written (rules.Decimal from to) h = moved to h
+  rule_written (rules.Moment tag) h = moved tag h
+  rule_written (rules.Kept from to kind) h = moved to h
+  rule_written rules.Original h = λ i. cell_fields (Tag 41, or_known (h i) (read.is_known i))
+  rule_written (rules.PartyOf role to) h = moved to h
   rule_written rules.Contras h = ap (group_fields 382) read.contras
   rule_written rules.ExecId h =
-      λ i. cell_fields (Tag 17, id_down (status_if (read.exec_type i)) (read.exec_id i))
+      λ i. cell_fields (Tag 17, id_down (status_if (read.exec_type i)) (h i))
   rule_written rules.TransType h =
       λ i. cell_fields (Tag 20, coded (read.exec_type i >>= trans_type))
   rule_written rules.ExecType h =
-      ap (λ (x : Said). cell_fields (Tag 150, x))
-      (coded_is (λ code. exec_type code (unwrap_or s.codes.ord_status 0) s.codes.fills)
+      moved 150 (coded_is (λ code. exec_type code (unwrap_or s.codes.ord_status 0) s.codes.fills)
       s.codes.exec_type
       ∙ (λ i. option_map (λ code. code_text (exec_type code (unwrap_or (read.ord_status i) 0)
       (read.filled i))) (read.exec_type i)))
   rule_written rules.OrdStatus h = λ i. cell_fields (
     Tag 39,
-    if works_on (read.ord_status i) (read.exec_type i) then Some (codes "5")
-        else read.status_said i,
+    if works_on (read.ord_status i) (read.exec_type i) then Some (codes "5") else h i,
   )
-  rule_written (rules.Another tag) h = ap (λ (x : Said). cell_fields (Tag tag, x)) h
-  rule_written (rules.Traded tag) h = ap (λ (x : Said). cell_fields (Tag tag, x)) h
+  rule_written (rules.Another tag) h = moved tag h
+  rule_written (rules.Traded tag) h = moved tag h
   rule_written (rules.Within tag last other) h =
-      ap (λ (x : Said). cell_fields (Tag tag, x)) (reason_is last other (numbered s tag) (at m tag)
-      h.1 h.0)
-  rule_written rules.Told h = λ i. cell_fields (Tag 58, telling (read.text i) (tells_is i))
-  rule_written rules.Month h = ap (λ (x : Said). cell_fields (Tag 200, x)) read.month
-  rule_written rules.DayOfDate h =
-      ap (λ (x : Said). cell_fields (Tag 205, option_map (drop 6) x)) read.date
+      moved tag (reason_is last other (numbered s tag) (at m tag) h.1 h.0)
+  rule_written rules.Told h = λ i. cell_fields (Tag 58, telling (h i) (read.told i))
+  rule_written rules.Month h = moved 200 h
+  rule_written rules.DayOfDate h = moved 205 (ap (λ (x : Said). option_map (drop 6) x) h)
   rule_written rules.OrdType h =
-      ap (λ (x : Said). cell_fields (Tag 40, x))
-      ((λ i. if at_close (read.ord_type i) (read.time i)
-      then option_map code_text (option_map close_code s.codes.ord_type) else says s 40)
-      ∙ type_is (at_close (at m 40 >>= code_of) (at m 59 >>= code_of)) s.codes.ord_type (says s 40)
-      read.ord_type read.type_said)
+      moved 40 ((λ i. if at_close (read.ord_type i) (read.time i)
+      then option_map code_text (option_map close_code s.codes.ord_type)
+      else kept s.fields.now 40 types)
+      ∙ type_is (at_close (at m 40 >>= code_of) (at m 59 >>= code_of)) s.codes.ord_type
+      (kept s.fields.now 40 types) read.ord_type h)
   rule_written rules.Time h = λ i. cell_fields (
     Tag 59,
-    if at_close (read.ord_type i) (read.time i) then None else read.time_said i,
+    if at_close (read.ord_type i) (read.time i) then None else h i,
   )
 
-  rule_lacked : (rule : CodeRule) → lacked s rule ≡ kinds.lack m (rule_of known rule)
-  rule_lacked rules.Original =
-      λ i. lack_if (not (is_some (or_known (read.original i) (read.is_known i)))) 41
-  rule_lacked rules.TransType = λ i. lack_if (lacks_type (read.exec_type i)) 150
-  rule_lacked rule = refl
+  rule_lacked : (rule : CodeRule) → IsSaid m s rule
+      → lacked s rule ≡ kinds.lack m (rule_of known rule)
+  rule_lacked rules.Original h =
+      λ i. lack_if (not (is_some (or_known (h i) (read.is_known i)))) 41
+  rule_lacked rules.TransType h = λ i. lack_if (lacks_type (read.exec_type i)) 150
+  rule_lacked rule h = refl
 
   -- WHAT IS WRITTEN by rules of the code
-  pub rules_written : (rules : List CodeRule) → AllByRecursion (IsSaid m s) (map (rule_of known) rules)
+  pub rules_written : (rules : List CodeRule) → AllByRecursion (IsSaid m s) rules
       → flat_map (writes s) rules ≡ content_by kinds (map (rule_of known) rules) m
   rules_written [] h = refl
   rules_written (rule ∷ rules) h = λ i. rule_written rule h.0 i ++ rules_written rules h.1 i
 
   -- THE LACK of rules of the code
-  pub rules_lacked : (rules : List CodeRule)
+  pub rules_lacked : (rules : List CodeRule) → AllByRecursion (IsSaid m s) rules
       → first_of (lacked s) rules ≡ first_of (kinds.lack m) (map (rule_of known) rules)
   unfolding first_of
-  rules_lacked [] = refl
-  rules_lacked (rule ∷ rules) = λ i. or_else (rule_lacked rule i) (rules_lacked rules i)
+  rules_lacked [] h = refl
+  rules_lacked (rule ∷ rules) h = λ i. or_else (rule_lacked rule h.0 i) (rules_lacked rules h.1 i)
+
+-- ---- rules that the table of a message has no place for
+
+module _ (m : Message) (items : List (Item Kind)) (there : outline m ≡ outline_of items) where
+  has_is : (rule : Rule) (b : Bool) → kinds.has (outline_of items) rule ≡ b
+      → kinds.has (outline m) rule ≡ b
+  has_is rule b e = ap (λ (o : Outline). kinds.has o rule) there ∙ e
+
+  nothing : (rule : Rule) → kinds.has (outline m) rule ≡ false → rule_fields kinds m rule ≡ []
+  nothing rule e =
+      (λ i. fields_at (kinds.target rule) (are_kinds.none m rule e i)
+      (are_kinds.no_lines m rule e i))
+      ∙ nothing_at (kinds.target rule)
+
+  -- write nothing
+  pub placed_content : (all : List Rule)
+      → content_by kinds (placed items all) m ≡ content_by kinds all m
+  placed_content [] = refl
+  placed_content (rule ∷ all) =
+      by (kinds.has (outline_of items) rule) refl (placed_content all)
+    where
+      by : (b : Bool) → kinds.has (outline_of items) rule ≡ b
+          → content_by kinds (placed items all) m ≡ content_by kinds all m
+          → content_by kinds (with_rule b rule (placed items all)) m
+          ≡ rule_fields kinds m rule ++ content_by kinds all m
+      by true e rest = ap (λ fs. rule_fields kinds m rule ++ fs) rest
+      by false e rest = rest
+          ∙ ap (λ fs. fs ++ content_by kinds all m) (sym (nothing rule (has_is rule false e)))
+
+  -- and lack nothing
+  pub placed_lack : (all : List Rule)
+      → first_of (kinds.lack m) (placed items all) ≡ first_of (kinds.lack m) all
+  unfolding first_of
+  placed_lack [] = refl
+  placed_lack (rule ∷ all) = by (kinds.has (outline_of items) rule) refl (placed_lack all)
+    where
+      by : (b : Bool) → kinds.has (outline_of items) rule ≡ b
+          → first_of (kinds.lack m) (placed items all) ≡ first_of (kinds.lack m) all
+          → first_of (kinds.lack m) (with_rule b rule (placed items all))
+          ≡ or_else (kinds.lack m rule) (first_of (kinds.lack m) all)
+      by true e rest = ap (or_else (kinds.lack m rule)) rest
+      by false e rest = rest ∙ ap (λ (o : Option ℕ). or_else o (first_of (kinds.lack m) all))
+          (sym (lacks_none m rule (has_is rule false e)))

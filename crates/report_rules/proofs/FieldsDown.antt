@@ -9,8 +9,7 @@ use Rattle.row_values.specs.Kinds.{Kind, judge}
 use Rattle.rows_fix50.specs.Header.{completed, month_by, table as table50}
 use Rattle.sound_laws.proofs.Completed.{month_said, other_said}
 use Rattle.sound_laws.proofs.RowsSaid.{row_of_tag}
-use Rattle.row_slots.specs.Slots.{row_says}
-use Rattle.row_slots.proofs.SlotsSay.{said_is}
+use Rattle.rule_rows.proofs.FieldsSaid.{row_says, said_is}
 use Rattle.report_rules.specs.Rules.{at}
 
 -- WHAT A MESSAGE SAYS at a tag is what fields say by the row of the tag of a lenient table, whatever

@@ -4,12 +4,12 @@ use Rattle.std.specs.List.{AllByRecursion}
 use Rattle.message_tables.specs.Tables.{Message, Said, ◌>>=◌, code_of, said_at}
 use Rattle.rule_rows.specs.ByRules.{outline}
 use Rattle.rule_rows.proofs.Looked.{AreKinds, AreOwn, absent}
-use Rattle.rule_rows.specs.Rules.{Same}
+use Rattle.rule_rows.specs.Rules.{By, Same}
 use Rattle.rule_rows.proofs.Own.{are_with}
 use Rattle.report_rules.specs.Rules.{Own, OrKnown, PartyOf, ExecId, TransType, ExecType, OrdStatus}
 use Rattle.report_rules.specs.Rules.{Another, Traded, Within, Told, Month, DayOfDate, OrdType, Time}
-use Rattle.report_rules.specs.Rules.{at, at_close, down_rules, has, kinds, own_kinds, own_said}
-use Rattle.report_rules.specs.Rules.{sources, Original}
+use Rattle.report_rules.specs.Rules.{at, at_close, down_rules, has, kinds, own_kinds, own_lack}
+use Rattle.report_rules.specs.Rules.{Rule, own_said, sources, Original}
 
 -- no time is not at the close
 no_close : (type : Option ℕ) → at_close type None ≡ false
@@ -40,6 +40,17 @@ says_none m rule h = none_by m rule (absent m (sources rule) h) h
 
 pub are_kinds : AreKinds kinds
 are_kinds = are_with own_kinds (record { none = says_none; no_lines = λ m rule h. refl })
+
+own_lacks_none : (m : Message) (rule : Own) → has (outline m) rule ≡ false → own_lack m rule ≡ None
+own_lacks_none m (OrKnown known) h = absurd cc
+own_lacks_none m TransType h = let none = absent m (sources TransType) h in rw none.0 refl
+own_lacks_none m rule h = refl
+
+-- and lack nothing there
+pub lacks_none : (m : Message) (rule : Rule) → kinds.has (outline m) rule ≡ false
+    → kinds.lack m rule ≡ None
+lacks_none m (By rule) h = own_lacks_none m rule h
+lacks_none m rule h = refl
 
 pub report_own : AreOwn kinds (down_rules (Same 41))
 report_own = record { apart = refl; found = refl }

@@ -10,7 +10,7 @@ use Rattle.std.specs.List.{AllByRecursion, flat_map}
 use Rattle.message_tables.specs.declared.table_fault.TableFault.{TableFault}
 use Rattle.field_groups.specs.Field.{Field, body_of}
 use Rattle.message_tables.specs.FirstFault.{first_fault, message_in, message_of, unless}
-use Rattle.message_tables.specs.Tables.{Message, Said, Table, first_of}
+use Rattle.message_tables.specs.Tables.{Item, Message, Said, Table, first_of}
 use Rattle.first_faults.specs.Faults.{told}
 use Rattle.row_values.specs.Contras.{AreContras}
 use Rattle.row_values.specs.Groups.{AreParties}
@@ -24,13 +24,15 @@ use Rattle.reports_fix50.specs.Reports.{cancel_reject, execution_report}
 use Rattle.report_rules.specs.declared.rules.Rule.{Rule as CodeRule}
 use Rattle.report_rules.specs.declared.source.Groups.{Groups}
 use Rattle.report_rules.specs.declared.source.Source.{Source}
-use Rattle.rule_rows.specs.ByRules.{by_rules, content_by, lack_by, or_lack}
+use Rattle.rule_rows.specs.ByRules.{by_rules, content_by, lack_by, or_lack, outline, outline_of}
 use Rattle.rule_rows.proofs.Made.{content_made}
-use Rattle.report_rules.specs.CodeRules.{IsLackOf, lacked, rule_of, source_in, writes}
+use Rattle.report_rules.specs.CodeRules.{AreRead, IsLackOf, lacked, placed, reject_source}
+use Rattle.report_rules.specs.CodeRules.{report_source, rule_of, writes}
 use Rattle.report_rules.specs.Down.{IsGoodBy, IsPut, LacksDown, PutsDown}
 use Rattle.report_rules.specs.Rules.{written, Original, Rule, Same, down_message, down_rules, kinds}
 use Rattle.report_rules.specs.Rules.{rules_for}
-use Rattle.report_rules.proofs.CodeDown.{IsReadAs, IsSaid, rules_lacked, rules_written}
+use Rattle.report_rules.proofs.CodeDown.{IsReadAs, IsSaid, placed_content, placed_lack}
+use Rattle.report_rules.proofs.CodeDown.{rules_lacked, rules_written}
 use Rattle.report_rules.proofs.KindsDown.{are_kinds, reject_own, report_own}
 use Rattle.report_rules.proofs.SourceDown.{reject_read, reject_said, report_read, report_said}
 use Rattle.report_rules.proofs.TablesDown.{each_made, make}
@@ -56,29 +58,20 @@ reject_is fields x h =
 -- ---- a message, and the rules of the code for it
 
 module _ (known : Said) (msg_type : List ℕ) (fields : List Field) (all : List Rule) (s : Source)
-    (rules : List CodeRule) (are : map (rule_of known) rules ≡ all) where
+    (rules : List CodeRule) where
   pub record Read (m : Message) : Type 0 where
     ruled : rules_for known m ≡ all
-    read : IsReadAs known m s
-    said : AllByRecursion (IsSaid m s) all
+    bytes : flat_map (writes s) rules ≡ content_by kinds all m
+    lack : first_of (lacked s) rules ≡ first_of (kinds.lack m) all
     content : written (by_rules kinds all m) ≡ content_by kinds all m
 
-  said_of : (m : Message) → Read m → AllByRecursion (IsSaid m s) (map (rule_of known) rules)
-  said_of m r = let P : List Rule → Type 0 = λ rs. AllByRecursion (IsSaid m s) rs in
-      subst P (sym are) r.said
-
   lack_is : (m : Message) → Read m → lack_by kinds (rules_for known m) m ≡ first_of (lacked s) rules
-  lack_is m r =
-      ap (λ rs. first_of (kinds.lack m) rs) (r.ruled ∙ sym are)
-      ∙ sym (rules_lacked known m s r.read rules)
+  lack_is m r = ap (λ rs. first_of (kinds.lack m) rs) r.ruled ∙ sym r.lack
 
   content_is : (m : Message) → Read m
       → flat_map (writes s) rules ≡ written (by_rules kinds (rules_for known m) m)
   content_is m r =
-      rules_written known m s r.read rules (said_of m r)
-      ∙ ap (λ rs. content_by kinds rs m) are
-      ∙ sym r.content
-      ∙ ap (λ rs. written (by_rules kinds rs m)) (sym r.ruled)
+      r.bytes ∙ sym r.content ∙ ap (λ rs. written (by_rules kinds rs m)) (sym r.ruled)
 
   is_put : (m : Message) → Read m → (before after : List ℕ) → first_of (lacked s) rules ≡ None
       → after ≡ before ++ body_of (flat_map (writes s) rules) → IsPut known m before after
@@ -127,6 +120,18 @@ module _ (known : Said) (msg_type : List ℕ) (fields : List Field) (all : List 
 
 -- ---- the two reports
 
+module _ (m : Message) (items : List (Item Kind)) (there : outline m ≡ outline_of items)
+    (known : Said) (s : Source) (read : IsReadAs known m s) (all : List Rule)
+    (rules : List CodeRule) (are : map (rule_of known) rules ≡ placed items all)
+    (said : AllByRecursion (IsSaid m s) rules) where
+  all_written : flat_map (writes s) rules ≡ content_by kinds all m
+  all_written = rules_written known m s read rules said ∙ ap (λ rs. content_by kinds rs m) are
+      ∙ placed_content m items there all
+
+  all_lacked : first_of (lacked s) rules ≡ first_of (kinds.lack m) all
+  all_lacked = rules_lacked known m s read rules said ∙ ap (first_of (kinds.lack m)) are
+      ∙ placed_lack m items there all
+
 module _ (fields : Bor (List Field)) (groups : Groups) (id : Option (Bor (List ℕ)))
     (rules : List CodeRule) where
   abbrev known : Said
@@ -134,38 +139,46 @@ module _ (fields : Bor (List Field)) (groups : Groups) (id : Option (Bor (List �
 
   pub report_reads : first_fault judge report_table fields.now ≡ None
       → AreParties fields.now groups.parties → AreContras fields.now groups.contras
-      → (are : map (rule_of known) rules ≡ down_rules (Same 41))
+      → map (rule_of known) rules ≡ placed report_table.items (down_rules (Same 41))
+      → AreRead report_table rules
       → (m : Message) → message50 (56 ∷ []) fields.now None ≡ Ok m
-      → Read known (56 ∷ []) fields.now (down_rules (Same 41))
-      (source_in execution_report fields groups id) rules are m
-  report_reads none parties contras are m told =
-      let P : Message → Type 0 = λ x. Read known (56 ∷ []) fields.now (down_rules (Same 41))
-      (source_in execution_report fields groups id) rules are x in
+      → Read known (56 ∷ []) fields.now (down_rules (Same 41)) (report_source fields groups id)
+      rules m
+  report_reads none parties contras are has m told =
+      let x = completed (message_in judge report_table fields.now) in
+      let s = report_source fields groups id in
+      let all = down_rules (Same 41) in
+      let read = report_read fields groups id none parties contras in
+      let said = report_said fields groups id none parties contras rules has in
+      let P : Message → Type 0 = λ x. Read known (56 ∷ []) fields.now all s rules x in
       subst P (report_is fields.now m told) (record {
         ruled = refl;
-        read = report_read fields groups id none parties contras;
-        said = report_said fields groups id none parties contras;
-        content = sym (content_made kinds execution_report (make execution_report)
-            (completed (message_in judge report_table fields.now)) refl are_kinds
-            (down_rules (Same 41)) report_own (each_made execution_report));
+        bytes = all_written x execution_report refl known s read all rules are said;
+        lack = all_lacked x execution_report refl known s read all rules are said;
+        content = sym (content_made kinds execution_report (make execution_report) x refl are_kinds
+            all report_own (each_made execution_report));
       })
 
   pub reject_reads : first_fault judge cancel_reject_table fields.now ≡ None
-      → groups.parties ≡ [] → groups.contras ≡ []
-      → (are : map (rule_of known) rules ≡ down_rules (Original known))
+      → groups.contras ≡ []
+      → map (rule_of known) rules ≡ placed cancel_reject_table.items (down_rules (Original known))
+      → AreRead cancel_reject_table rules
       → (m : Message) → message50 (57 ∷ []) fields.now None ≡ Ok m
       → Read known (57 ∷ []) fields.now (down_rules (Original known))
-      (source_in cancel_reject fields groups id) rules are m
-  reject_reads none parties contras are m told =
-      let P : Message → Type 0 = λ x. Read known (57 ∷ []) fields.now (down_rules (Original known))
-      (source_in cancel_reject fields groups id) rules are x in
+      (reject_source fields groups id) rules m
+  reject_reads none contras are has m told =
+      let x = completed (message_in judge cancel_reject_table fields.now) in
+      let s = reject_source fields groups id in
+      let all = down_rules (Original known) in
+      let read = reject_read fields groups id none contras in
+      let said = reject_said fields groups id none contras rules has in
+      let P : Message → Type 0 = λ x. Read known (57 ∷ []) fields.now all s rules x in
       subst P (reject_is fields.now m told) (record {
         ruled = refl;
-        read = reject_read fields groups id none parties contras;
-        said = reject_said fields groups id none parties contras known;
-        content = sym (content_made kinds cancel_reject (make cancel_reject)
-            (completed (message_in judge cancel_reject_table fields.now)) refl are_kinds
-            (down_rules (Original known)) (reject_own known) (each_made cancel_reject));
+        bytes = all_written x cancel_reject refl known s read all rules are said;
+        lack = all_lacked x cancel_reject refl known s read all rules are said;
+        content = sym (content_made kinds cancel_reject (make cancel_reject) x refl are_kinds all
+            (reject_own known) (each_made cancel_reject));
       })
 
 -- ---- by the type

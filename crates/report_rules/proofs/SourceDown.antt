@@ -1,7 +1,7 @@
 -- What the code has read of the fields of a report at no fault.
 use Rattle.std.proofs.Common.{◌≡◌, ◌<◌, ◌^◌, ℕ, List, [], ◌∷◌, Bool, true, false, Option, Some}
 use Rattle.std.proofs.Common.{None, refl, sym, ap, ◌∙◌, map, option_map, lit<}
-use Rattle.std.specs.Prelude.{IfSome, unwrap_or, ◌==◌, Result, Ok, Err}
+use Rattle.std.specs.Prelude.{IfSome, unwrap_or, ◌==◌, ◌&&◌, Result, Ok, Err}
 use Rattle.std.specs.Borrow.{Bor}
 use Rattle.std.specs.List.{AllByRecursion}
 use Rattle.std.specs.Result.{result_ok}
@@ -10,44 +10,49 @@ use Rattle.typed_fields.specs.declared.fault.FieldFault.{FieldFault}
 use Rattle.typed_fields.specs.declared.number.Number.{Number}
 use Rattle.typed_fields.specs.Dec.{dec_text, read_dec}
 use Rattle.typed_fields.specs.Number.{IsNumber, number_text, read_number}
+use Rattle.typed_fields.specs.Stamp.{cut_text}
 use Rattle.typed_fields.proofs.DecLaws.{dec_is_stable}
 use Rattle.typed_fields.proofs.NumberLaws.{number_in_bound}
 use Rattle.field_groups.specs.Field.{Field}
-use Rattle.message_tables.specs.Tables.{Item, Message, Row, Said, ◌>>=◌, all_rows, code_of}
-use Rattle.message_tables.specs.Tables.{group_says, lines_of, party_in, row_at}
+use Rattle.message_tables.specs.Tables.{Item, Message, Need, Row, Said, Table, ◌>>=◌, all_rows}
+use Rattle.message_tables.specs.Tables.{code_of, group_says, is_one_of, party_in, row_at, says}
+use Rattle.message_tables.specs.Tables.{value_at}
 use Rattle.message_tables.specs.FirstFault.{first_fault, message_in}
-use Rattle.value_kinds.specs.ValueKind.{units_of_text}
+use Rattle.value_kinds.specs.ValueKind.{Day, units_of_text}
 use Rattle.row_values.specs.Amounts.{amount_of}
+use Rattle.row_values.specs.CodeKinds.{kind_of}
 use Rattle.row_values.specs.Contras.{AreContras, contra_cells}
 use Rattle.row_values.specs.Groups.{AreParties, parties as groups50}
-use Rattle.row_values.specs.Kinds.{Kind, judge}
+use Rattle.row_values.specs.Kinds.{Kind, MonthBeside, Value, judge, said}
 use Rattle.row_values.proofs.ByTable.{says_parties}
 use Rattle.row_values.proofs.ContraRows.{says_contras}
-use Rattle.row_values.proofs.Texts.{date_said}
 use Rattle.rows_fix50.specs.Header.{completed, month_by, table as table50}
 use Rattle.rows_fix50.specs.Meaning.{id_of}
 use Rattle.rows_fix50.proofs.Roles.{of_role}
 use Rattle.reports_fix50.specs.Message.{cancel_reject_table, report_table}
 use Rattle.reports_fix50.specs.Reports.{cancel_reject, execution_report}
-use Rattle.sound_laws.proofs.Each.{◌&◌}
-use Rattle.sound_laws.proofs.RowsSaid.{row_of_tag}
-use Rattle.row_slots.specs.Slots.{row_says, slot_at, slot_code, slot_decimal, slot_said, slot_value}
-use Rattle.row_slots.proofs.Filled.{is_own, slot_filled}
-use Rattle.row_slots.proofs.SlotsSay.{can_say, if_row, is_decimal, is_numeral, is_standing}
-use Rattle.row_slots.proofs.SlotsSay.{month_says, slot_says, tag_decimal, tag_numbers, tag_stands}
+use Rattle.sound_laws.proofs.Each.{◌&◌, both, one_of}
+use Rattle.sound_laws.proofs.RowsSaid.{row_of_tag, tag_is}
+use Rattle.rule_rows.specs.Texts.{decimal_of, decimal_text, is_amount, is_kept, is_moment}
+use Rattle.rule_rows.specs.Texts.{is_own_kind, is_reason, is_row, is_strict, is_unfixed, kept}
+use Rattle.rule_rows.specs.Texts.{number_of}
+use Rattle.rule_rows.proofs.FieldsSaid.{by_row, decimal_is, kept_is, moment_is, reason_is, row_says}
+use Rattle.rule_rows.proofs.FieldsSaid.{text_is, unfixed_says}
 use Rattle.report_rules.specs.declared.source.Groups.{Groups}
+use Rattle.report_rules.specs.declared.rules.Rule.{Rule as CodeRule}
+use Rattle.report_rules.specs.declared.rules.Rule.TheVariants as rules
 use Rattle.report_rules.specs.declared.source.Source.{Source}
-use Rattle.report_rules.specs.CodeRules.{known_of, numbered, says, source_in, stands, zero}
-use Rattle.report_rules.specs.Rules.{Rule, Another, Original, PartyOf, Same, Traded, Within, at}
-use Rattle.report_rules.specs.Rules.{down_rules, is_fill, no_amount, party}
-use Rattle.report_rules.proofs.CodeDown.{IsReadAs, IsSaid}
+use Rattle.report_rules.specs.CodeRules.{AreRead, Facts, OfKept, OfKinds, found, if_row, known_of}
+use Rattle.report_rules.specs.CodeRules.{reading, reject_source, report_source, times, told, types}
+use Rattle.report_rules.specs.CodeRules.{wanted, zero}
+use Rattle.report_rules.specs.Rules.{at, is_fill, no_amount, party}
+use Rattle.report_rules.proofs.CodeDown.{IsReadAs, IsSaid, tells_is}
 use Rattle.report_rules.proofs.FieldsDown.{at_other, at_month}
-use Rattle.rule_rows.specs.Rules.{By, Moved}
 
--- ---- values that slots have
+-- ---- values that are read
 
 -- the number of a value is bounded
-bounded : (value : Option (List ℕ)) → IfSome (value >>= (λ v. result_ok (read_number v))) IsNumber
+bounded : (value : Option (List ℕ)) → IfSome (number_of value) IsNumber
 bounded None = tt
 bounded (Some v) = by (read_number v) refl
   where
@@ -56,9 +61,8 @@ bounded (Some v) = by (read_number v) refl
     by (Err fault) e = tt
 
 -- the units of a decimal number are those of its spelling
-units_are : (value : Option (List ℕ)) → (unwrap_or (value >>= (λ v. result_ok (read_dec v))) zero).units
-    ≡ (unwrap_or (option_map dec_text (value >>= (λ v. result_ok (read_dec v))) >>= amount_of)
-    no_amount).units
+units_are : (value : Option (List ℕ)) → (unwrap_or (decimal_of value) zero).units
+    ≡ (unwrap_or (decimal_text value >>= amount_of) no_amount).units
 unfolding units_of_text
 units_are None = refl
 units_are (Some v) = by (read_dec v) refl
@@ -77,127 +81,120 @@ units_are (Some v) = by (read_dec v) refl
 
 -- ---- what is read by the rows of a table
 
-module _ (letter : ℕ) (items : List (Item Kind)) (fields : Bor (List Field)) (groups : Groups)
-    (known : Option (Bor (List ℕ)))
-    (none : first_fault judge (table50 letter items) fields.now ≡ None) where
-  abbrev pub s : Source
-  s = source_in items fields groups known
+module _ (letter : ℕ) (items : List (Item Kind)) (fields : List Field)
+    (none : first_fault judge (table50 letter items) fields ≡ None) where
+  abbrev table : Table Kind
+  table = table50 letter items
 
   abbrev pub m : Message
-  m = completed (message_in judge (table50 letter items) fields.now)
+  m = completed (message_in judge table fields)
 
-  abbrev Facts : Type 0
-  Facts = Option (Row Kind) × Bool × Bool × Bool
+  -- a row of a tag by which the code reads so
+  abbrev Has : (Kind → Bool) → ℕ → Type 0
+  Has test tag = found table (OfKinds test tag) ≡ wanted table (OfKinds test tag)
 
-  -- a tag by whose row the code reads
-  abbrev pub IsRead : ℕ → Type 0
-  IsRead tag = ◌≡◌ {A = Facts} (
-    row_at tag (all_rows (table50 letter items)),
-    can_say (row_of_tag tag items),
-    is_own tag items,
-    tag == 200,
-  )
-      (row_of_tag tag items, true, true, false)
+  by_kinds : (test : Kind → Bool) (tag : ℕ) (reads : Said) → Has test tag
+      → ((kind : Kind) (need : Need)
+      → row_at tag (all_rows table) ≡ Some (record { tag = tag; kind = kind; need = need })
+      → is_row is_strict test (record { tag = tag; kind = kind; need = need }) ≡ true
+      → reads ≡ says need (judge fields kind) (value_at tag fields))
+      → reads ≡ at m tag
+  by_kinds test tag reads has each =
+      by_row table fields none tag (ap (λ (f : Facts). f.0) has) (if_row (is_row is_strict test))
+      (λ said. reads ≡ said) (ap (λ (f : Facts). f.2) has) (λ absent no. absurd cc) each
+      ∙ sym (at_other fields letter items tag (ap (λ (f : Facts). f.3) has))
 
-  own : (tag : ℕ) → IsRead tag → is_own tag items ≡ true
-  own tag h = ap (λ (f : Facts). f.2) h
+  text_said : (tag : ℕ) → Has is_own_kind tag → value_at tag fields ≡ at m tag
+  text_said tag has = by_kinds is_own_kind tag (value_at tag fields) has
+      (λ kind need its t. text_is table fields none tag kind need its t)
 
-  said : (tag : ℕ) → IsRead tag → says s tag ≡ at m tag
-  said tag h =
-      slot_says (table50 letter items) fields.now none tag
-      (ap (λ (f : Facts). f.0) h) (ap (λ (f : Facts). f.1) h) (own tag h)
-      ∙ sym (at_other fields.now letter items tag (ap (λ (f : Facts). f.3) h))
+  decimal_said : (tag : ℕ) → Has is_amount tag → decimal_text (value_at tag fields) ≡ at m tag
+  decimal_said tag has = by_kinds is_amount tag (decimal_text (value_at tag fields)) has
+      (λ kind need its t. decimal_is table fields none tag kind need its t)
 
-  -- and its kind
-  abbrev Reads : (Kind → Bool) → ℕ → Type 0
-  Reads test tag = IsRead tag × (if_row test (row_of_tag tag items) ≡ true)
+  moment_said : (tag : ℕ) → Has is_moment tag
+      → option_map cut_text (value_at tag fields) ≡ at m tag
+  moment_said tag has = by_kinds is_moment tag (option_map cut_text (value_at tag fields)) has
+      (λ kind need its t. moment_is table fields none tag kind need its t)
 
-  stood : (tag : ℕ) → Reads is_standing tag → stands s tag ≡ at m tag
-  stood tag h = tag_stands fields.now items tag (own tag h.0) h.1 ∙ said tag h.0
+  number_said : (tag : ℕ) → Has is_reason tag
+      → at m tag ≡ option_map number_text (number_of (value_at tag fields))
+  number_said tag has =
+      sym (by_kinds is_reason tag (option_map number_text (number_of (value_at tag fields))) has
+      (λ kind need its t. reason_is table fields none tag kind need its t))
 
-  code_said : (tag : ℕ) → Reads is_standing tag
-      → slot_code fields.now (slot_at s.slots tag) ≡ (at m tag >>= code_of)
-  code_said tag h = ap (λ (v : Said). v >>= code_of) (stood tag h)
+  number_good : (tag : ℕ) → IfSome (number_of (value_at tag fields)) IsNumber
+  number_good tag = bounded (value_at tag fields)
 
-  number_said : (tag : ℕ) → Reads is_numeral tag
-      → at m tag ≡ option_map number_text (numbered s tag)
-  number_said tag h =
-      sym (said tag h.0) ∙ tag_numbers fields.now items tag (own tag h.0) h.1
-
-  number_good : (tag : ℕ) → IfSome (numbered s tag) IsNumber
-  number_good tag = bounded (slot_value fields.now (slot_at s.slots tag))
-
-  amount_said : (tag : ℕ) → Reads is_decimal tag
-      → (unwrap_or (slot_decimal fields.now (slot_at s.slots tag)) zero).units
+  amount_said : (tag : ℕ) → Has is_amount tag
+      → (unwrap_or (decimal_of (value_at tag fields)) zero).units
       ≡ (unwrap_or (at m tag >>= amount_of) no_amount).units
-  amount_said tag h =
-      units_are (slot_value fields.now (slot_at s.slots tag))
-      ∙ ap (λ (t : Said). (unwrap_or (t >>= amount_of) no_amount).units)
-      (sym (tag_decimal fields.now items tag (own tag h.0) h.1) ∙ said tag h.0)
+  amount_said tag has = units_are (value_at tag fields)
+      ∙ ap (λ (t : Said). (unwrap_or (t >>= amount_of) no_amount).units) (decimal_said tag has)
 
-  -- WHAT SEVERAL RULES READ has such rows, the month, and the lines of the other side
-  pub record AreRead : Type 0 where
-    pub exec_type : Reads is_standing 150
-    pub ord_status : Reads is_standing 39
-    pub leaves : Reads is_decimal 151
-    pub ord_type : Reads is_standing 40
-    pub time : Reads is_standing 59
-    pub exec_id : Reads is_standing 17
-    pub original : Reads is_standing 41
-    pub text : Reads is_standing 58
-    pub date : Reads is_standing 541
-    pub rej : Reads is_numeral 103
-    pub restate : Reads is_numeral 378
-    pub cxl : Reads is_numeral 102
-    pub month : month_by (stands s 541) (says s 200) ≡ at m 200
-    pub contras : map contra_cells groups.contras ≡ lines_of 382 m.groups
+  kept_said : (tag : ℕ) (kind : Kind)
+      → found table (OfKept kind tag) ≡ wanted table (OfKept kind tag)
+      → kept fields tag kind ≡ at m tag
+  kept_said tag kind has =
+      by (row_of_tag tag items) refl (ap (λ (f : Facts). f.1) has) (ap (λ (f : Facts). f.2) has)
+      ∙ sym (at_other fields letter items tag (ap (λ (f : Facts). f.3) has))
+    where
+      by : (o : Option (Row Kind)) → row_of_tag tag items ≡ o
+          → option_map (λ row. row.kind) o ≡ Some kind → if_row (is_row is_unfixed is_kept) o ≡ true
+          → kept fields tag kind ≡ row_says fields o
+      by None e k t = absurd cc
+      by (Some row) e k t =
+          let same : row.kind ≡ kind = cc in
+          let tagged : row.tag ≡ tag = tag_is tag items row e in
+          let p = both (is_unfixed row.need) (is_kept row.kind) t in
+          kept_is fields tag kind (ap is_kept (sym same) ∙ p.1)
+          ∙ (λ i. said fields (sym tagged i) (sym same i))
+          ∙ sym (unfixed_says row.need (judge fields row.kind) (value_at row.tag fields) p.0)
 
-  pub source_read : AreRead → IsReadAs (known_of s) m s
-  source_read r = record {
-    exec_type = code_said 150 r.exec_type;
-    ord_status = code_said 39 r.ord_status;
-    filled = λ i. is_fill (unwrap_or (code_said 39 r.ord_status i) 0) (amount_said 151 r.leaves i);
-    ord_type = code_said 40 r.ord_type;
-    time = code_said 59 r.time;
-    status_said = said 39 r.ord_status.0;
-    type_said = said 40 r.ord_type.0;
-    time_said = said 59 r.time.0;
-    exec_id = stood 17 r.exec_id;
-    original = stood 41 r.original;
-    text = stood 58 r.text;
-    date = stood 541 r.date;
-    month = r.month;
-    rej = number_said 103 r.rej;
-    restate = number_said 378 r.restate;
-    cxl = number_said 102 r.cxl;
-    rej_number = number_good 103;
-    restate_number = number_good 378;
-    cxl_number = number_good 102;
-    contras = r.contras;
-    is_known = refl;
-  }
+-- WHAT THE CODE READS BY RULES that the table has rows for is what the message says
+module _ (letter : ℕ) (items : List (Item Kind)) (s : Source)
+    (none : first_fault judge (table50 letter items) s.fields.now ≡ None)
+    (month : (letter == 56) ≡ true → month_by (said s.fields.now 541 (Value Day))
+    (said s.fields.now 200 (MonthBeside 541)) ≡ at (m letter items s.fields.now none) 200)
+    (party_at : (role : ℕ) → ((letter == 56) && is_one_of (1 ∷ 3 ∷ 4 ∷ []) role) ≡ true
+    → id_of role s.groups.parties ≡ party (m letter items s.fields.now none) role) where
+  abbrev fs : List Field
+  fs = s.fields.now
 
-  -- and so has what a rule reads besides
-  abbrev pub IsReadBy : Rule → Type 0
-  IsReadBy (Moved from to) = IsRead from
-  IsReadBy (By (Another tag)) = IsRead tag
-  IsReadBy (By (Traded tag)) = IsRead tag
-  IsReadBy (By (Within tag last other)) = Reads is_numeral tag
-  IsReadBy (By (PartyOf role to)) = id_of role groups.parties ≡ party m role
-  IsReadBy rule = Unit {0}
+  abbrev IsRead : CodeRule → Type 0
+  IsRead rule = found (table50 letter items) (reading (table50 letter items) rule)
+      ≡ wanted (table50 letter items) (reading (table50 letter items) rule)
 
-  rule_said : (rule : Rule) → IsReadBy rule → IsSaid m s rule
-  rule_said (Moved from to) h = said from h
-  rule_said (By (Another tag)) h = said tag h
-  rule_said (By (Traded tag)) h = said tag h
-  rule_said (By (Within tag last other)) h = (number_said tag h, number_good tag)
-  rule_said (By (PartyOf role to)) h = h
-  rule_said rule h = tt
+  rule_said : (rule : CodeRule) → IsRead rule → IsSaid (m letter items fs none) s rule
+  rule_said (rules.Same tag) has = text_said letter items fs none tag has
+  rule_said (rules.Decimal from to) has = decimal_said letter items fs none from has
+  rule_said (rules.Moment tag) has = moment_said letter items fs none tag has
+  rule_said (rules.Kept from to kind) has =
+      kept_said letter items fs none from (kind_of kind) has
+  rule_said rules.Original has = text_said letter items fs none 41 has
+  rule_said (rules.PartyOf role to) has = party_at role (ap (λ (f : Facts). f.2) has)
+  rule_said rules.ExecId has = text_said letter items fs none 17 has
+  rule_said rules.OrdStatus has = text_said letter items fs none 39 has
+  rule_said (rules.Another tag) has = text_said letter items fs none tag has
+  rule_said (rules.Traded tag) has = decimal_said letter items fs none tag has
+  rule_said (rules.Within tag last other) has = (
+    number_said letter items fs none tag has,
+    number_good letter items fs none tag,
+  )
+  rule_said rules.Told has = text_said letter items fs none 58 has
+  rule_said rules.Month has = month (ap (λ (f : Facts). f.2) has)
+  rule_said rules.DayOfDate has = text_said letter items fs none 541 has
+  rule_said rules.OrdType has = kept_said letter items fs none 40 types has
+  rule_said rules.Time has = kept_said letter items fs none 59 times has
+  rule_said rule has = tt
 
-  pub rules_said : (rules : List Rule) → AllByRecursion IsReadBy rules
-      → AllByRecursion (IsSaid m s) rules
-  rules_said [] h = tt
-  rules_said (rule ∷ rules) h = (rule_said rule h.0, rules_said rules h.1)
+  pub rules_said : (rules : List CodeRule) → AreRead (table50 letter items) rules
+      → AllByRecursion (IsSaid (m letter items fs none) s) rules
+  rules_said [] has = tt
+  rules_said (rule ∷ rules) has =
+      let here : IsRead rule = cc in
+      let rest : AreRead (table50 letter items) rules = cc in
+      (rule_said rule here, rules_said rules rest)
 
 -- ---- an execution report
 
@@ -206,83 +203,94 @@ module _ (fields : Bor (List Field)) (groups : Groups) (known : Option (Bor (Lis
     (parties : AreParties fields.now groups.parties)
     (contras : AreContras fields.now groups.contras) where
   abbrev report : Message
-  report = m 56 execution_report fields groups known none
+  report = m 56 execution_report fields.now none
 
   abbrev source : Source
-  source = s 56 execution_report fields groups known none
+  source = report_source fields groups known
 
-  -- the month, beside a date or not
-  month_at : month_by (stands source 541) (says source 200) ≡ at report 200
-  month_at =
-      ap (λ (d : Said). month_by d (says source 200))
-      (tag_stands fields.now execution_report 541 refl refl
-      ∙ slot_says report_table fields.now none 541 refl refl refl)
-      ∙ by (row_says fields.now (row_of_tag 541 execution_report)) refl
-      ∙ sym (at_month fields.now 56 execution_report refl)
-    where
-      alone : row_says fields.now (row_of_tag 541 execution_report) ≡ None
-          → says source 200 ≡ row_says fields.now (row_of_tag 200 execution_report)
-      alone e =
-          ap (slot_said fields.now) (slot_filled fields.now 200 execution_report refl)
-          ∙ month_says fields.now 200 541 (sym (date_said fields.now 541) ∙ e)
+  code_said : (tag : ℕ) → Has 56 execution_report fields.now none is_own_kind tag
+      → (value_at tag fields.now >>= code_of) ≡ (at report tag >>= code_of)
+  code_said tag has =
+      ap (λ (v : Said). v >>= code_of) (text_said 56 execution_report fields.now none tag has)
 
-      by : (d : Said) → row_says fields.now (row_of_tag 541 execution_report) ≡ d
-          → month_by d (says source 200)
-          ≡ month_by d (row_says fields.now (row_of_tag 200 execution_report))
-      by (Some date) e = refl
-      by None e = alone e
+  type_said : kept fields.now 40 types ≡ at report 40
+  type_said = kept_said 56 execution_report fields.now none 40 types refl
+
+  time_said : kept fields.now 59 times ≡ at report 59
+  time_said = kept_said 56 execution_report fields.now none 59 times refl
 
   pub report_read : IsReadAs (known_of source) report source
-  report_read =
-      let lines = says_contras report_table fields.now none 8 refl refl groups.contras contras in
-      source_read 56 execution_report fields groups known none (search (month_at, lines))
+  report_read = record {
+    exec_type = code_said 150 refl;
+    ord_status = code_said 39 refl;
+    filled = λ i. is_fill (unwrap_or (code_said 39 refl i) 0)
+        (amount_said 56 execution_report fields.now none 151 refl i);
+    ord_type = ap (λ (v : Said). v >>= code_of) type_said;
+    time = ap (λ (v : Said). v >>= code_of) time_said;
+    told = tells_is report (number_of (value_at 103 fields.now))
+        (number_of (value_at 378 fields.now)) None
+        (number_good 56 execution_report fields.now none 103)
+        (number_good 56 execution_report fields.now none 378) tt
+        (number_said 56 execution_report fields.now none 103 refl)
+        (number_said 56 execution_report fields.now none 378 refl)
+        (at_other fields.now 56 execution_report 102 refl);
+    contras = says_contras report_table fields.now none 8 refl refl groups.contras contras;
+    is_known = refl;
+  }
 
   party_at : (role : ℕ) → role < 2 ^ 64
       → id_of role groups.parties ≡ party_in role (group_says judge fields.now groups50).1
   party_at role small = of_role fields.now groups.parties parties
       (says_parties report_table fields.now none 4 refl refl refl groups.parties parties) role small
 
-  pub report_said : AllByRecursion (IsSaid report source) (down_rules (Same 41))
-  report_said = rules_said 56 execution_report fields groups known none (down_rules (Same 41))
-      (refl & refl & refl & refl & party_at 3 (lit< tt) & party_at 1 (lit< tt)
-      & party_at 4 (lit< tt) & tt & tt & tt & refl & tt & tt & (refl, refl) & (refl, refl)
-      & refl & refl & refl & refl & refl & refl & refl & refl & tt & tt & refl & refl & refl & tt
-      & refl & refl & refl & tt & refl & refl & refl & refl & refl & refl & refl & refl & refl
-      & refl & refl & refl & (refl, refl) & refl & refl & tt & tt)
+  pub report_said : (rules : List CodeRule) → AreRead report_table rules
+      → AllByRecursion (IsSaid report source) rules
+  report_said = rules_said 56 execution_report source none
+      (λ is. sym (at_month fields.now 56 execution_report refl))
+      (one_of (λ role. id_of role groups.parties ≡ party report role) (1 ∷ 3 ∷ 4 ∷ [])
+      (party_at 1 (lit< tt) & party_at 3 (lit< tt) & party_at 4 (lit< tt) & tt))
 
 -- ---- a cancel reject
 
 module _ (fields : Bor (List Field)) (groups : Groups) (known : Option (Bor (List ℕ)))
     (none : first_fault judge cancel_reject_table fields.now ≡ None)
-    (parties : groups.parties ≡ []) (contras : groups.contras ≡ []) where
+    (contras : groups.contras ≡ []) where
   abbrev reject : Message
-  reject = m 57 cancel_reject fields groups known none
+  reject = m 57 cancel_reject fields.now none
 
   abbrev rejected : Source
-  rejected = s 57 cancel_reject fields groups known none
+  rejected = reject_source fields groups known
 
-  -- a cancel reject has neither a date nor a month
-  no_date : stands rejected 541 ≡ None
-  no_date = ap (slot_value fields.now) (slot_filled fields.now 541 cancel_reject refl)
+  -- what no row of its table says
+  unsaid : (tag : ℕ) → (tag == 200) ≡ false → row_of_tag tag cancel_reject ≡ None
+      → at reject tag ≡ None
+  unsaid tag other absent =
+      at_other fields.now 57 cancel_reject tag other ∙ ap (row_says fields.now) absent
 
-  no_month : says rejected 200 ≡ None
-  no_month = ap (slot_said fields.now) (slot_filled fields.now 200 cancel_reject refl)
+  code_unsaid : (tag : ℕ) → (tag == 200) ≡ false → row_of_tag tag cancel_reject ≡ None
+      → None ≡ (at reject tag >>= code_of)
+  code_unsaid tag other absent = ap (λ (v : Said). v >>= code_of) (sym (unsaid tag other absent))
+
+  status_said : (value_at 39 fields.now >>= code_of) ≡ (at reject 39 >>= code_of)
+  status_said =
+      ap (λ (v : Said). v >>= code_of) (text_said 57 cancel_reject fields.now none 39 refl)
 
   pub reject_read : IsReadAs (known_of rejected) reject rejected
-  reject_read =
-      let month : month_by (stands rejected 541) (says rejected 200) ≡ at reject 200 =
-      λ i. month_by (no_date i) (no_month i) in
-      let lines = ap (map contra_cells) contras in
-      source_read 57 cancel_reject fields groups known none (search (month, lines))
+  reject_read = record {
+    exec_type = code_unsaid 150 refl refl;
+    ord_status = status_said;
+    filled = λ i. is_fill (unwrap_or (status_said i) 0)
+        (unwrap_or (sym (unsaid 151 refl refl) i >>= amount_of) no_amount).units;
+    ord_type = code_unsaid 40 refl refl;
+    time = code_unsaid 59 refl refl;
+    told = tells_is reject None None (number_of (value_at 102 fields.now)) tt tt
+        (number_good 57 cancel_reject fields.now none 102) (unsaid 103 refl refl)
+        (unsaid 378 refl refl) (number_said 57 cancel_reject fields.now none 102 refl);
+    contras = ap (map contra_cells) contras;
+    is_known = refl;
+  }
 
-  no_party : (role : ℕ) → id_of role groups.parties ≡ None
-  no_party role = ap (id_of role) parties
-
-  pub reject_said : (id : Said)
-      → AllByRecursion (IsSaid reject rejected) (down_rules (Original id))
-  reject_said id = rules_said 57 cancel_reject fields groups known none (down_rules (Original id))
-      (refl & refl & refl & tt & no_party 3 & no_party 1 & no_party 4 & tt & tt & tt & refl & tt
-      & tt & (refl, refl) & (refl, refl) & refl & refl & refl & refl & refl & refl & refl & refl
-      & tt & tt & refl & refl & refl & tt & refl & refl & refl & tt & refl & refl & refl & refl
-      & refl & refl & refl & refl & refl & refl & refl & refl & (refl, refl) & refl & refl & tt
-      & tt)
+  pub reject_said : (rules : List CodeRule) → AreRead cancel_reject_table rules
+      → AllByRecursion (IsSaid reject rejected) rules
+  reject_said = rules_said 57 cancel_reject rejected none
+      (λ no. absurd cc) (λ role no. absurd cc)

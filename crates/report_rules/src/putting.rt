@@ -9,11 +9,10 @@ ghost use Rattle.reports_fix50.specs.Message.{cancel_reject_table, report_table,
 ghost use Rattle.report_rules.specs.Down.{IsGoodBy, LacksDown, PutsDown};
 
 use crate::rules::{reject_rules, report_rules};
-use crate::source::{no_groups, read_groups, source_of};
+use crate::source::{no_groups, read_groups, reject_source, report_source};
 use crate::writing::put_rules;
 use field_groups::{Fields, is_type};
 use order_meaning::Lack;
-use reports_fix50::{cancel_reject, execution_report};
 use std::alloc::Global;
 
 /// Appends the content of FIX 4.2 of an execution report (8).
@@ -31,7 +30,7 @@ fn put_report(
     ensures err { OnErr result (out.new.items ≡ out.old.items) }
 {
     let groups = read_groups(alloc, fields)?;
-    let source = source_of(execution_report(), fields, groups, known);
+    let source = report_source(fields, groups, known);
     put_rules(alloc, &source, report_rules(), out)
 }
 
@@ -50,7 +49,7 @@ fn put_cancel_reject(
     ensures err { OnErr result (out.new.items ≡ out.old.items) }
 {
     let groups = no_groups(alloc);
-    let source = source_of(cancel_reject(), fields, groups, known);
+    let source = reject_source(fields, groups, known);
     put_rules(alloc, &source, reject_rules(), out)
 }
 

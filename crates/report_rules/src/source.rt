@@ -3,24 +3,30 @@
 ghost use Rattle.std.specs.Prelude.{◌≡◌, ◌==◌, ◌≤◌, [], IfOk, length};
 ghost use Rattle.std.specs.List.{find};
 ghost use Rattle.std.specs.Option.{option_map};
-ghost use Rattle.message_tables.specs.CodeTables.{table_of as code_table};
 ghost use Rattle.message_tables.specs.Tables.{lines_in, tags_in};
 ghost use Rattle.row_values.specs.Contras as contras;
 ghost use Rattle.row_values.specs.Contras.{AreContras};
 ghost use Rattle.row_values.specs.Groups as groups;
 ghost use Rattle.row_values.specs.Groups.{AreParties};
 ghost use Rattle.rows_fix50.specs.Meaning.{id_of};
-ghost use Rattle.row_values.specs.CodeKinds.{kind_of};
-ghost use Rattle.report_rules.specs.CodeRules.{codes_in, source_in};
+ghost use Rattle.report_rules.specs.CodeRules.{reject_codes, reject_source, report_codes};
+ghost use Rattle.report_rules.specs.CodeRules.{report_source};
 
 use crate::mapping::is_fill;
 use field_groups::Fields;
-use message_tables::Table;
+use message_tables::Lookup;
 use order_meaning::{Lines, PartyLine};
-use row_slots::{Slots, code, decimal, slot_at, slots_of};
 use row_values::{Contras, Kind, read_lines};
+use rule_rows::{code_of, decimal_of, kept};
 use std::alloc::{AllocError, Global};
 use typed_fields::Dec;
+use value_kinds::ValueKind;
+
+/// OrdType(40) of the profile.
+pub(crate) const TYPES: Kind = Kind::Value(ValueKind::Code(b"1234"));
+
+/// TimeInForce(59), which may be at the close beside some types alone.
+pub(crate) const TIMES: Kind = Kind::TimeBeside(40);
 
 /// The codes by which several rules go.
 #[derive(Clone, Copy, Debug)]
@@ -37,18 +43,32 @@ pub(crate) struct Codes {
     pub(crate) time: Option<u8>,
 }
 
-/// Reads these codes.
-fn codes_of(fields: &Fields<'_>, slots: &Slots) -> Codes
-    ensures { result ≡ codes_in fields.now slots.now }
+/// Reads the codes of an execution report.
+fn report_codes(fields: &Fields<'_>) -> Codes
+    ensures { result ≡ report_codes fields.now }
 {
-    let ord_status = code(fields, slot_at(slots, 39));
-    let leaves = decimal(fields, slot_at(slots, 151)).unwrap_or(Dec { units: 0 });
+    let ord_status = code_of(fields.value(39));
+    let leaves = decimal_of(fields.value(151)).unwrap_or(Dec { units: 0 });
     Codes {
-        exec_type: code(fields, slot_at(slots, 150)),
+        exec_type: code_of(fields.value(150)),
         ord_status,
         fills: is_fill(ord_status.unwrap_or(0), leaves),
-        ord_type: code(fields, slot_at(slots, 40)),
-        time: code(fields, slot_at(slots, 59)),
+        ord_type: code_of(kept(fields, 40, &TYPES)),
+        time: code_of(kept(fields, 59, &TIMES)),
+    }
+}
+
+/// Reads the codes of a cancel reject.
+fn reject_codes(fields: &Fields<'_>) -> Codes
+    ensures { result ≡ reject_codes fields.now }
+{
+    let ord_status = code_of(fields.value(39));
+    Codes {
+        exec_type: None,
+        ord_status,
+        fills: is_fill(ord_status.unwrap_or(0), Dec { units: 0 }),
+        ord_type: None,
+        time: None,
     }
 }
 
@@ -107,32 +127,45 @@ pub(crate) fn party(lines: &Lines, role: u32) -> Option<&[u8]>
 pub(crate) struct Source<'f, 'k, 'a> {
     /// The fields of its body.
     pub(crate) fields: &'f Fields<'a>,
-    /// The slots of the rows of its table.
-    pub(crate) slots: Slots,
     /// The codes by which several rules go.
     pub(crate) codes: Codes,
+    /// Whether it is an execution report.
+    pub(crate) is_report: bool,
     /// Its groups.
     pub(crate) groups: Groups,
     /// The original id of its order, where it is known besides.
     pub(crate) known: Option<&'k [u8]>,
 }
 
-/// What the rules read of the fields of a report by the rows of its table.
-pub(crate) fn source_of<'f, 'k, 'a>(
-    table: &Table<Kind>,
+/// What the rules read of the fields of an execution report.
+pub(crate) fn report_source<'f, 'k, 'a>(
     fields: &'f Fields<'a>,
     groups: Groups,
     known: Option<&'k [u8]>,
 ) -> Source<'f, 'k, 'a>
-    ensures { result
-        ≡ source_in (code_table kind_of table.now).items fields.entry groups known.entry }
+    ensures { result ≡ report_source fields.entry groups known.entry }
 {
-    let slots = slots_of(table, fields);
-    let codes = codes_of(fields, &slots);
     Source {
         fields,
-        slots,
-        codes,
+        codes: report_codes(fields),
+        is_report: true,
+        groups,
+        known,
+    }
+}
+
+/// What the rules read of the fields of a cancel reject.
+pub(crate) fn reject_source<'f, 'k, 'a>(
+    fields: &'f Fields<'a>,
+    groups: Groups,
+    known: Option<&'k [u8]>,
+) -> Source<'f, 'k, 'a>
+    ensures { result ≡ reject_source fields.entry groups known.entry }
+{
+    Source {
+        fields,
+        codes: reject_codes(fields),
+        is_report: false,
         groups,
         known,
     }

@@ -12,22 +12,25 @@ ghost use Rattle.message_tables.specs.Content.{cell_fields, group_fields};
 ghost use Rattle.message_tables.specs.Tables.{Tag, first_of};
 ghost use Rattle.row_values.specs.Contras.{AreReadableContras, contra_cells};
 ghost use Rattle.order_meaning.specs.Report.{or_known};
-ghost use Rattle.rows_fix50.specs.Header.{month_by};
 ghost use Rattle.reports_fix50.specs.Sense.{most_before_reasons, reason_told, telling};
 ghost use Rattle.rule_rows.specs.ByRules.{lack_if};
 ghost use Rattle.report_rules.specs.CodeRules.{IsLackOf, close_code, exec_type_in, known_of};
-ghost use Rattle.report_rules.specs.CodeRules.{lacked, number_of, numbered, says, stands, tells_of};
-ghost use Rattle.report_rules.specs.CodeRules.{told_text, trans_type_in, within_text, writes};
+ghost use Rattle.report_rules.specs.CodeRules.{lacked, number_of, stands, tells_of, times, told};
+ghost use Rattle.report_rules.specs.CodeRules.{told_text, trans_type_in, types, within_text};
+ghost use Rattle.report_rules.specs.CodeRules.{writes};
+ghost use Rattle.rule_rows.specs.Texts.{kept};
+ghost use Rattle.report_rules.specs.declared.rules.Rule.TheVariants as rules;
 ghost use Rattle.report_rules.specs.Rules.{at_close, id_down, lacks_type, status_if, works_on};
 
 use crate::mapping::{at_close, exec_type, on_close, status_if, trans_type, works_on};
 use crate::rules::Rule;
-use crate::source::{Source, party};
+use crate::source::{Source, TIMES, TYPES, party};
 use field_groups::{SOH, put_byte, put_field, put_number, put_tag};
+use message_tables::Lookup;
 use order_meaning::Lack;
-use row_slots::{number, put_slot, slot_at, value};
-use row_values::{Contras, Part, put_content};
-use rule_rows::put_text;
+use row_values::{Contras, Part, Value};
+use rows_fix50::maturity;
+use rule_rows::{kept, number_of, put_decimal, put_moment, put_one, put_text};
 use std::alloc::{AllocError, Global};
 use typed_fields::{FieldValue, Number};
 
@@ -66,14 +69,13 @@ fn put_within(out: &mut Vec<u8>, tag: u32, last: u32, other: u8, reason: Option<
 }
 
 /// Appends the brokers on the other side of a trade.
-#[tactic(auto, using(rule_rows::proofs::Parts::of_parts))]
 fn put_contras(out: &mut Vec<u8>, contras: &Contras) -> Appended
     requires { AreReadableContras contras.now }
     ensures done { OnOk result (out.new.items
         ≡ out.old.items ++ body_of (group_fields 382 (map contra_cells contras.now))) }
     ensures kept { StartsWith out.new.items out.old.items }
 {
-    put_content(out, &[Part::Contras(contras)])
+    put_one(out, Part::Contras(contras))
 }
 
 /// Appends ` [tag=reason]`.
@@ -170,13 +172,6 @@ fn put_telling(out: &mut Vec<u8>, tag: u32, text: Option<&[u8]>, told: &[u8]) ->
     }
 }
 
-/// The month of a date.
-fn month_of(date: &[u8]) -> &[u8]
-    ensures { result.now ≡ take 6 date.now }
-{
-    if date.len() > 6 { &date[..6] } else { date }
-}
-
 /// The day of a date.
 fn day_of(date: &[u8]) -> &[u8]
     ensures { result.now ≡ drop 6 date.now }
@@ -190,7 +185,7 @@ fn put_original(source: &Source<'_, '_, '_>, out: &mut Vec<u8>) -> Appended
         (Tag 41, or_known (stands source.now 41) (known_of source.now)))) }
     ensures kept { StartsWith out.new.items out.old.items }
 {
-    match value(source.fields, slot_at(&source.slots, 41)) {
+    match source.fields.value(41) {
         Some(id) => put_field(out, 41, id),
         None => put_text(out, 41, source.known),
     }
@@ -202,7 +197,7 @@ fn put_exec_id(source: &Source<'_, '_, '_>, out: &mut Vec<u8>) -> Appended
         (Tag 17, id_down (status_if source.now.codes.exec_type) (stands source.now 17)))) }
     ensures kept { StartsWith out.new.items out.old.items }
 {
-    match value(source.fields, slot_at(&source.slots, 17)) {
+    match source.fields.value(17) {
         None => Ok(()),
         Some(id) => {
             if status_if(source.codes.exec_type) {
@@ -243,44 +238,48 @@ fn put_status(source: &Source<'_, '_, '_>, out: &mut Vec<u8>) -> Appended
     ensures done { OnOk result (out.new.items ≡ out.old.items ++ body_of (cell_fields (
       Tag 39,
       if works_on source.now.codes.ord_status source.now.codes.exec_type
-          then Some (codes "5") else says source.now 39,
+          then Some (codes "5") else stands source.now 39,
     ))) }
     ensures kept { StartsWith out.new.items out.old.items }
 {
     if works_on(source.codes.ord_status, source.codes.exec_type) {
         put_byte(out, 39, b'5')
     } else {
-        put_slot(out, source.fields, slot_at(&source.slots, 39), 39)
+        put_text(out, 39, source.fields.value(39))
+    }
+}
+
+/// The reasons of a report that FIX 4.2 lacks, by the rows of its table.
+fn told(alloc: Global, source: &Source<'_, '_, '_>) -> Result<Vec<u8>, AllocError>
+    ensures { IfOk result (λ text. text.items ≡ told source.now) }
+{
+    let fields = source.fields;
+    if source.is_report {
+        let restate = number_of(fields.value(378));
+        tells_of(alloc, number_of(fields.value(103)), restate, None)
+    } else {
+        tells_of(alloc, None, None, number_of(fields.value(102)))
     }
 }
 
 /// Appends Text(58), which tells the reasons that FIX 4.2 lacks.
 fn put_told(alloc: Global, source: &Source<'_, '_, '_>, out: &mut Vec<u8>) -> Appended
-    ensures done { OnOk result (out.new.items ≡ out.old.items ++ body_of (cell_fields (
-      Tag 58,
-      telling (stands source.now 58) (tells_of (numbered source.now 103) (numbered source.now 378)
-          (numbered source.now 102)),
-    ))) }
+    ensures done { OnOk result (out.new.items ≡ out.old.items
+        ++ body_of (cell_fields (Tag 58, telling (stands source.now 58) (told source.now)))) }
     ensures kept { StartsWith out.new.items out.old.items }
 {
-    let rej = number(source.fields, slot_at(&source.slots, 103));
-    let restate = number(source.fields, slot_at(&source.slots, 378));
-    let cxl = number(source.fields, slot_at(&source.slots, 102));
-    let told = tells_of(alloc, rej, restate, cxl)?;
-    let text = value(source.fields, slot_at(&source.slots, 58));
-    put_telling(out, 58, text, &told)
+    let told = told(alloc, source)?;
+    put_telling(out, 58, source.fields.value(58), &told)
 }
 
 /// Appends MaturityMonthYear(200), which is that of the date where there is one.
 fn put_month(source: &Source<'_, '_, '_>, out: &mut Vec<u8>) -> Appended
-    ensures done { OnOk result (out.new.items ≡ out.old.items ++ body_of (cell_fields
-        (Tag 200, month_by (stands source.now 541) (says source.now 200)))) }
+    ensures done { OnOk result (out.new.items
+        ≡ out.old.items ++ body_of (writes source.now rules.Month)) }
     ensures kept { StartsWith out.new.items out.old.items }
 {
-    match value(source.fields, slot_at(&source.slots, 541)) {
-        Some(date) => put_field(out, 200, month_of(date)),
-        None => put_slot(out, source.fields, slot_at(&source.slots, 200), 200),
-    }
+    let maturity = maturity(source.fields);
+    put_one(out, Part::Row(200, Value::Month(&maturity)))
 }
 
 /// Appends MaturityDay(205), where there is a date.
@@ -289,7 +288,7 @@ fn put_day(source: &Source<'_, '_, '_>, out: &mut Vec<u8>) -> Appended
         (Tag 205, option_map (drop 6) (stands source.now 541)))) }
     ensures kept { StartsWith out.new.items out.old.items }
 {
-    match value(source.fields, slot_at(&source.slots, 541)) {
+    match source.fields.value(541) {
         Some(date) => put_field(out, 205, day_of(date)),
         None => Ok(()),
     }
@@ -311,14 +310,14 @@ fn put_type(source: &Source<'_, '_, '_>, out: &mut Vec<u8>) -> Appended
       Tag 40,
       if at_close source.now.codes.ord_type source.now.codes.time
           then option_map code_text (option_map close_code source.now.codes.ord_type)
-          else says source.now 40,
+          else kept source.now.fields.now 40 types,
     ))) }
     ensures kept { StartsWith out.new.items out.old.items }
 {
     if at_close(source.codes.ord_type, source.codes.time) {
         put_code_if(out, 40, close_if(source.codes.ord_type))
     } else {
-        put_slot(out, source.fields, slot_at(&source.slots, 40), 40)
+        put_text(out, 40, kept(source.fields, 40, &TYPES))
     }
 }
 
@@ -326,14 +325,15 @@ fn put_type(source: &Source<'_, '_, '_>, out: &mut Vec<u8>) -> Appended
 fn put_time(source: &Source<'_, '_, '_>, out: &mut Vec<u8>) -> Appended
     ensures done { OnOk result (out.new.items ≡ out.old.items ++ body_of (cell_fields (
       Tag 59,
-      if at_close source.now.codes.ord_type source.now.codes.time then None else says source.now 59,
+      if at_close source.now.codes.ord_type source.now.codes.time then None
+          else kept source.now.fields.now 59 times,
     ))) }
     ensures kept { StartsWith out.new.items out.old.items }
 {
     if at_close(source.codes.ord_type, source.codes.time) {
         Ok(())
     } else {
-        put_slot(out, source.fields, slot_at(&source.slots, 59), 59)
+        put_text(out, 59, kept(source.fields, 59, &TIMES))
     }
 }
 
@@ -344,9 +344,12 @@ fn put_said(alloc: Global, source: &Source<'_, '_, '_>, rule: &Rule, out: &mut V
         ≡ out.old.items ++ body_of (writes source.now rule.now)) }
     ensures kept { StartsWith out.new.items out.old.items }
 {
+    let fields = source.fields;
     match rule {
-        Rule::Same(tag) => put_slot(out, source.fields, slot_at(&source.slots, *tag), *tag),
-        Rule::Moved(from, to) => put_slot(out, source.fields, slot_at(&source.slots, *from), *to),
+        Rule::Same(tag) => put_text(out, *tag, fields.value(*tag)),
+        Rule::Decimal(from, to) => put_decimal(out, *to, fields.value(*from)),
+        Rule::Moment(tag) => put_moment(out, *tag, fields.value(*tag)),
+        Rule::Kept(from, to, kind) => put_text(out, *to, kept(fields, *from, kind)),
         Rule::Original => put_original(source, out),
         Rule::PartyOf(role, to) => put_text(out, *to, party(&source.groups.parties, *role)),
         Rule::Contras => put_contras(out, &source.groups.contras),
@@ -354,15 +357,11 @@ fn put_said(alloc: Global, source: &Source<'_, '_, '_>, rule: &Rule, out: &mut V
         Rule::TransType => put_code_if(out, 20, trans_type_if(source.codes.exec_type)),
         Rule::ExecType => put_code_if(out, 150, exec_type_if(source)),
         Rule::OrdStatus => put_status(source, out),
-        Rule::Another(tag) => put_slot(out, source.fields, slot_at(&source.slots, *tag), *tag),
-        Rule::Traded(tag) => put_slot(out, source.fields, slot_at(&source.slots, *tag), *tag),
-        Rule::Within(tag, last, other) => put_within(
-            out,
-            *tag,
-            *last,
-            *other,
-            number(source.fields, slot_at(&source.slots, *tag)),
-        ),
+        Rule::Another(tag) => put_text(out, *tag, fields.value(*tag)),
+        Rule::Traded(tag) => put_decimal(out, *tag, fields.value(*tag)),
+        Rule::Within(tag, last, other) => {
+            put_within(out, *tag, *last, *other, number_of(fields.value(*tag)))
+        }
         Rule::Told => put_told(alloc, source, out),
         Rule::Month => put_month(source, out),
         Rule::DayOfDate => put_day(source, out),
@@ -385,7 +384,7 @@ fn lacks_type(exec_type: Option<u8>) -> bool
 fn lacks_original(source: &Source<'_, '_, '_>) -> bool
     ensures { result ≡ not (is_some (or_known (stands source.now 41) (known_of source.now))) }
 {
-    match value(source.fields, slot_at(&source.slots, 41)) {
+    match source.fields.value(41) {
         Some(_) => false,
         None => source.known.is_none(),
     }

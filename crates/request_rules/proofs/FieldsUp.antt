@@ -1,37 +1,31 @@
 -- What the code reads of fields at no fault is what their message says: it writes rule by rule what
 -- the rules write of the message, and lacks what they lack.
 use Rattle.std.proofs.Common.{◌≡◌, ℕ, List, [], ◌∷◌, ◌++◌, map, Bool, true, false, Some, None, refl}
-use Rattle.std.proofs.Common.{sym, ap, subst, ◌∙◌}
-use Rattle.std.specs.Prelude.{◌&&◌, not, if◌then◌else◌}
+use Rattle.std.proofs.Common.{sym, ap, ◌∙◌}
+use Rattle.std.specs.Prelude.{not, if◌then◌else◌}
 use Rattle.std.specs.declared.option.Option.{Option}
 use Rattle.std.specs.List.{AllByRecursion, flat_map, list_all}
-use Rattle.std.specs.Option.{option_map}
-use Rattle.std.specs.Result.{result_ok}
-use Rattle.typed_fields.specs.Dec.{dec_text, read_dec}
 use Rattle.field_groups.specs.Field.{Field}
 use Rattle.message_tables.specs.declared.table_fault.Mark.{Mark}
-use Rattle.message_tables.specs.Tables.{Message, Need, Lenient, Fixed, Row, Said, Table, Tag}
+use Rattle.message_tables.specs.Tables.{Message, Need, Row, Said, Table, Tag}
 use Rattle.message_tables.specs.Tables.{all_rows, code_of, first_of, is_one_of, or_else, row_at}
 use Rattle.message_tables.specs.Tables.{says, value_at, ◌>>=◌}
 use Rattle.message_tables.specs.Content.{cell_fields, group_fields}
 use Rattle.message_tables.specs.FirstFault.{beyond, by_row, first_fault, is_passed, message_in}
 use Rattle.message_tables.specs.FirstFault.{without_row, wrong}
-use Rattle.value_kinds.specs.ValueKind.{MonthYear, Price, Qty, spelling}
+use Rattle.value_kinds.specs.ValueKind.{MonthYear}
 use Rattle.row_values.specs.Kinds.{DayOf, Kind, Value, judge, said}
-use Rattle.row_values.proofs.Texts.{price_said}
 use Rattle.sound_laws.proofs.Each.{all_true, both, not_true, one_of}
 use Rattle.sound_laws.proofs.Good.{IsGood, all_good, held}
-use Rattle.sound_laws.proofs.PlainRows.{spelled}
-use Rattle.sound_laws.proofs.RowsSaid.{among, row_of_tag, tag_is}
-use Rattle.sound_laws.proofs.SpelledAgain.{is_own, own_bytes}
-use Rattle.row_slots.specs.Slots.{row_says}
-use Rattle.row_slots.proofs.SlotsSay.{quantities, said_as, said_is}
+use Rattle.sound_laws.proofs.RowsSaid.{among, row_of_tag}
+use Rattle.rule_rows.proofs.FieldsSaid as texts
+use Rattle.rule_rows.proofs.FieldsSaid.{row_says, said_is}
+use Rattle.rule_rows.specs.Texts.{decimal_text, is_amount, is_own_kind, is_row, is_strict}
 use Rattle.rule_rows.specs.ByRules.{lack_if, rule_fields}
 use Rattle.rule_rows.specs.Rules.{By, Moved}
 use Rattle.request_rules.specs.declared.rules.Rule.{Rule as CodeRule}
 use Rattle.request_rules.specs.declared.rules.Rule.TheVariants as rules
-use Rattle.request_rules.specs.CodeRules.{decimal_text, is_amount, is_decimal, is_read, rule_of}
-use Rattle.request_rules.specs.CodeRules.{wrote}
+use Rattle.request_rules.specs.CodeRules.{is_decimal, is_read, rule_of, wrote}
 use Rattle.request_rules.specs.Rules.{Rule, Listed, Time, at, date_up, is_late, is_unlisted, kinds}
 use Rattle.request_rules.specs.Rules.{party_lines, rule_lack, time_up, type_up, up_content, up_lack}
 use Rattle.request_rules.specs.Rules.{up_rules}
@@ -60,23 +54,13 @@ reads_tags (Moved from to) =
 reads_tags (By (Listed from to listed)) = is_one_of text_tags from
 reads_tags rule = true
 
--- rows whose values are faults where they are outside the profile
-abbrev pub is_strict : Need → Bool
-is_strict Lenient = false
-is_strict (Fixed text) = false
-is_strict need = true
-
-abbrev pub is_own_kind : Kind → Bool
-is_own_kind (Value kind) = is_own kind
-is_own_kind kind = false
-
 abbrev pub is_text : Option (Row Kind) → Bool
 is_text None = true
-is_text (Some row) = is_strict row.need && is_own_kind row.kind
+is_text (Some row) = is_row is_strict is_own_kind row
 
 abbrev pub is_number : Option (Row Kind) → Bool
 is_number None = true
-is_number (Some row) = is_strict row.need && is_amount row.kind
+is_number (Some row) = is_row is_strict is_amount row
 
 abbrev pub read_tags : List ℕ
 read_tags = text_tags ++ decimal_tags
@@ -104,16 +88,6 @@ alike f g tags same = one_of (λ t. f t ≡ g t) tags (by tags same)
     by (tag ∷ tags) same =
         let here : f tag ≡ g tag = cc in
         let rest : map f tags ≡ map g tags = cc in (here, by tags rest)
-
--- a value that stands as it is, and one that spells a decimal number
-as_itself : (said : Said) → said ≡ (said >>= (λ text. Some text))
-as_itself None = refl
-as_itself (Some text) = refl
-
-as_decimal : (said : Said)
-    → decimal_text said ≡ (said >>= (λ text. option_map dec_text (result_ok (read_dec text))))
-as_decimal None = refl
-as_decimal (Some text) = refl
 
 -- ---- what fields say by the rows of a table
 
@@ -155,83 +129,33 @@ module _ (table : Table Kind) (has : HasRows table) (fields : List Field)
     no_field absent = none_there tag (own_row ∙ absent) (not_true (is_passed table tag)
         (passes (λ t. not (is_passed table t)) read_tags has.out tag there))
 
-    by_row_of : (P : Option (Row Kind) → Bool) (Q : Said → Type 0)
-        → P (row_of_tag tag table.items) ≡ true
-        → (value_at tag fields ≡ None → Q None)
+    -- what is read there
+    read_as : (test : Option (Row Kind) → Bool) (reads : Said)
+        → test (row_of_tag tag table.items) ≡ true
+        → (value_at tag fields ≡ None → reads ≡ None)
         → ((kind : Kind) (need : Need)
         → row_at tag (all_rows table) ≡ Some (record { tag = tag; kind = kind; need = need })
-        → P (Some (record { tag = tag; kind = kind; need = need })) ≡ true
-        → Q (says need (judge fields kind) (value_at tag fields)))
-        → Q (at m tag)
-    by_row_of P Q test missing found =
-        subst Q (sym (says_row tag)) (by (row_of_tag tag table.items) refl test)
-      where
-        by : (o : Option (Row Kind)) → row_of_tag tag table.items ≡ o → P o ≡ true
-            → Q (row_says fields o)
-        by None e t = missing (no_field e)
-        by (Some row) e t =
-            let is : row.tag ≡ tag = tag_is tag table.items row e in
-            let here : Some row
-            ≡ Some (record { tag = tag; kind = row.kind; need = row.need }) =
-            λ i. Some (record { tag = is i; kind = row.kind; need = row.need }) in
-            let R : ℕ → Type 0 =
-            λ n. Q (says row.need (judge fields row.kind) (value_at n fields)) in
-            subst R (sym is) (found row.kind row.need (own_row ∙ e ∙ here) (ap P (sym here) ∙ t))
+        → test (Some (record { tag = tag; kind = kind; need = need })) ≡ true
+        → reads ≡ says need (judge fields kind) (value_at tag fields))
+        → reads ≡ at m tag
+    read_as test reads holds missing found =
+        texts.by_row table fields none tag own_row test (λ said. reads ≡ said) holds
+        (λ absent t. missing (no_field absent)) found ∙ sym (says_row tag)
 
   text_is : (tag : ℕ) → is_one_of text_tags tag ≡ true → value_at tag fields ≡ at m tag
-  unfolding judge
   text_is tag there =
-      by_row_of tag (among text_tags read_tags tag refl there) is_text
-      (λ said. value_at tag fields ≡ said)
+      read_as tag (among text_tags read_tags tag refl there) is_text (value_at tag fields)
       (passes (λ t. is_text (row_of_tag t table.items)) text_tags has.texts tag there)
-      (λ absent. absent) by
-    where
-      of_kind : (kind : Kind) (need : Need)
-          → row_at tag (all_rows table) ≡ Some (record { tag = tag; kind = kind; need = need })
-          → is_strict need ≡ true → is_own_kind kind ≡ true
-          → value_at tag fields ≡ says need (judge fields kind) (value_at tag fields)
-      of_kind kind Lenient its strict own = absurd cc
-      of_kind kind (Fixed text) its strict own = absurd cc
-      of_kind (Value kind) need its strict own = as_itself (value_at tag fields)
-          ∙ said_as table fields none tag (Value kind) need refl its (λ text. Some text)
-          (λ bytes text h. ap (λ (t : List ℕ). Some t)
-          (sym (own_bytes kind bytes own text (spelled (spelling kind bytes) text h))))
-      of_kind kind need its strict own = absurd cc
-
-      by : (kind : Kind) (need : Need)
-          → row_at tag (all_rows table) ≡ Some (record { tag = tag; kind = kind; need = need })
-          → is_text (Some (record { tag = tag; kind = kind; need = need })) ≡ true
-          → value_at tag fields ≡ says need (judge fields kind) (value_at tag fields)
-      by kind need its t =
-          let p = both (is_strict need) (is_own_kind kind) t in of_kind kind need its p.0 p.1
+      (λ absent. absent) (λ kind need its t. texts.text_is table fields none tag kind need its t)
 
   decimal_is : (tag : ℕ) → is_one_of decimal_tags tag ≡ true
       → decimal_text (value_at tag fields) ≡ at m tag
-  unfolding judge
   decimal_is tag there =
-      by_row_of tag (among decimal_tags read_tags tag refl there) is_number
-      (λ said. decimal_text (value_at tag fields) ≡ said)
+      read_as tag (among decimal_tags read_tags tag refl there) is_number
+      (decimal_text (value_at tag fields))
       (passes (λ t. is_number (row_of_tag t table.items)) decimal_tags has.decimals tag there)
-      (λ absent. ap decimal_text absent) by
-    where
-      of_kind : (kind : Kind) (need : Need)
-          → row_at tag (all_rows table) ≡ Some (record { tag = tag; kind = kind; need = need })
-          → is_strict need ≡ true → is_amount kind ≡ true
-          → decimal_text (value_at tag fields) ≡ says need (judge fields kind) (value_at tag fields)
-      of_kind kind Lenient its strict amount = absurd cc
-      of_kind kind (Fixed text) its strict amount = absurd cc
-      of_kind (Value Qty) need its strict amount = as_decimal (value_at tag fields)
-          ∙ said_as table fields none tag (Value Qty) need refl its
-          (λ text. option_map dec_text (result_ok (read_dec text))) quantities
-      of_kind (Value Price) need its strict amount = price_said fields tag
-      of_kind kind need its strict amount = absurd cc
-
-      by : (kind : Kind) (need : Need)
-          → row_at tag (all_rows table) ≡ Some (record { tag = tag; kind = kind; need = need })
-          → is_number (Some (record { tag = tag; kind = kind; need = need })) ≡ true
-          → decimal_text (value_at tag fields) ≡ says need (judge fields kind) (value_at tag fields)
-      by kind need its t =
-          let p = both (is_strict need) (is_amount kind) t in of_kind kind need its p.0 p.1
+      (λ absent. ap decimal_text absent)
+      (λ kind need its t. texts.decimal_is table fields none tag kind need its t)
 
   month_is : said fields 200 (Value MonthYear) ≡ at m 200
   month_is = sym (says_row 200 ∙ ap (row_says fields) has.month)

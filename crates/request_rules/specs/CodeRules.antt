@@ -1,24 +1,22 @@
 -- Inside: what the code writes by a rule, straight from fields.
-use Rattle.std.specs.Prelude.{ℕ, Bool, true, false, not, List, [], Option, Some, None, option_map}
-use Rattle.std.specs.Prelude.{option_and_then}
+use Rattle.std.specs.Prelude.{ℕ, Bool, true, false, not, List, [], Option, Some, None}
 use Rattle.std.specs.List.{flat_map}
-use Rattle.std.specs.Result.{result_ok}
-use Rattle.typed_fields.specs.Dec.{dec_text, read_dec}
 use Rattle.field_groups.specs.Field.{Field}
 use Rattle.message_tables.specs.Content.{cell_fields, group_fields, line_fields}
 use Rattle.message_tables.specs.FirstFault.{message_in}
-use Rattle.message_tables.specs.Tables.{Row, Said, Table, Tag, ◌>>=◌, code_of, lines_of, row_at}
+use Rattle.message_tables.specs.Tables.{Row, Said, Table, Tag, lines_of, row_at}
 use Rattle.message_tables.specs.Tables.{rows_of, value_at}
 use Rattle.party_translate.specs.Parties.{line_of}
 use Rattle.row_values.specs.Lines.{party_cells}
 use Rattle.row_values.specs.Kinds.{DayOf, Kind, Value, judge, said}
-use Rattle.value_kinds.specs.ValueKind.{MonthYear, Price, Qty}
+use Rattle.value_kinds.specs.ValueKind.{MonthYear}
 use Rattle.dict_fix42.specs.Requests.{replace_request}
 use Rattle.request_rules.specs.declared.rules.Rule.{Rule as CodeRule}
 use Rattle.request_rules.specs.declared.rules.Rule.TheVariants as rules
 use Rattle.request_rules.specs.declared.reading.Good.{Good}
 use Rattle.request_rules.specs.Good.{table}
 use Rattle.rule_rows.specs.Rules.{By, Group, Moved, Same}
+use Rattle.rule_rows.specs.Texts.{decimal_text, is_amount}
 use Rattle.request_rules.specs.Rules.{Rule, Listed, Parties, PartyOf, Month, Date, OrdType, Time}
 use Rattle.request_rules.specs.Rules.{Client, Broker, Firm, date_up, party_lines, time_up, type_up}
 
@@ -37,20 +35,11 @@ rule_of rules.OrdType = By OrdType
 rule_of rules.Time = By Time
 rule_of (rules.Lines count) = Group count
 
--- the code that a text is
-abbrev pub byte_of : Said → Option ℕ
-byte_of said = said >>= code_of
-
 -- the line of a party of a role
 abbrev pub party_fields : ℕ → Said → List Field
 party_fields role id = flat_map (λ line. line_fields (party_cells line)) (line_of role id)
 
--- kinds of decimal numbers, which may be spelled otherwise, and their tags; G has each of them
-abbrev pub is_amount : Kind → Bool
-is_amount (Value Qty) = true
-is_amount (Value Price) = true
-is_amount kind = false
-
+-- the tags of decimal numbers, which may be spelled otherwise; G has each of them
 abbrev pub is_amount_row : Option (Row Kind) → Bool
 is_amount_row None = false
 is_amount_row (Some row) = is_amount row.kind
@@ -64,10 +53,6 @@ is_read (rules.Same tag) = not (is_decimal tag)
 is_read (rules.Decimal tag) = is_decimal tag
 is_read (rules.Moved from to) = is_decimal from
 is_read rule = true
-
--- the decimal number that a text spells, if it spells one, in its canonical spelling
-abbrev pub decimal_text : Said → Said
-decimal_text said = option_map dec_text (option_and_then (λ b. result_ok (read_dec b)) said)
 
 module _ (table : Table Kind) (fields : List Field) where
   -- the value of the first field of a tag, as it stands, and the decimal number that it spells

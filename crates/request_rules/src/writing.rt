@@ -10,8 +10,7 @@ ghost use Rattle.message_tables.specs.Tables.{Tag, first_of, value_at};
 ghost use Rattle.party_translate.specs.Parties.{line_of};
 ghost use Rattle.rows_fix42.specs.Meaning.{is_on_close};
 ghost use Rattle.rule_rows.specs.Rows.{have_written_lines};
-ghost use Rattle.request_rules.specs.CodeRules.{byte_of, decimal_text, party_fields};
-ghost use Rattle.request_rules.specs.CodeRules.{writes, wrote};
+ghost use Rattle.request_rules.specs.CodeRules.{party_fields, writes, wrote};
 ghost use Rattle.request_rules.specs.Good.{table};
 ghost use Rattle.request_rules.specs.Rules.{is_late, is_unlisted, party_lines, rule_lack};
 ghost use Rattle.request_rules.specs.Rules.{time_up, type_up, up_rules};
@@ -20,9 +19,8 @@ use crate::reading::Good;
 use crate::rules::Rule;
 use field_groups::{Fields, put_byte, put_field, put_number};
 use message_tables::Lookup;
-use row_slots::put_decimal;
 use row_values::{Part, Value, month_and_day};
-use rule_rows::{put_count, put_lines, put_one, put_text};
+use rule_rows::{code_of, put_count, put_decimal, put_lines, put_one, put_text};
 use std::alloc::AllocError;
 
 /// TimeInForce(59): at the close.
@@ -34,17 +32,6 @@ const PROPRIETARY: u8 = b'D';
 /// What a call answers that appends: an error only for want of memory. What stood there stays.
 type Appended = Result<(), AllocError>;
 
-/// The code that a text is, if it is one byte.
-#[inline(always)]
-fn code_of(text: Option<&[u8]>) -> Option<u8>
-    ensures { result ≡ byte_of (option_map (λ t. t.now) text.entry) }
-{
-    match text {
-        Some([byte]) => Some(*byte),
-        _ => None,
-    }
-}
-
 /// Whether an OrdType is on close: market (5) or limit (B).
 #[inline(always)]
 fn is_on_close(ord_type: Option<u8>) -> bool
@@ -53,19 +40,6 @@ fn is_on_close(ord_type: Option<u8>) -> bool
     match ord_type {
         None => false,
         Some(code) => code == b'5' || code == b'B',
-    }
-}
-
-/// Appends the field of the decimal number that a text spells, if it spells one.
-#[inline(always)]
-fn put_spelled(out: &mut Vec<u8>, tag: u32, text: Option<&[u8]>) -> Appended
-    ensures done { OnOk result (out.new.items ≡ out.old.items
-        ++ body_of (cell_fields (Tag tag, decimal_text (option_map (λ t. t.now) text.entry)))) }
-    ensures kept { StartsWith out.new.items out.old.items }
-{
-    match text {
-        None => Ok(()),
-        Some(text) => put_decimal(out, tag, text),
     }
 }
 
@@ -182,8 +156,8 @@ fn put_said(good: &Good<'_, '_>, rule: &Rule, out: &mut Vec<u8>) -> Appended
     let fields = good.fields;
     match rule {
         Rule::Same(tag) => put_text(out, *tag, fields.value(*tag)),
-        Rule::Decimal(tag) => put_spelled(out, *tag, fields.value(*tag)),
-        Rule::Moved(from, to) => put_spelled(out, *to, fields.value(*from)),
+        Rule::Decimal(tag) => put_decimal(out, *tag, fields.value(*tag)),
+        Rule::Moved(from, to) => put_decimal(out, *to, fields.value(*from)),
         Rule::Listed(from, to, _) => put_text(out, *to, fields.value(*from)),
         Rule::Parties => put_parties(out, fields.value(109), fields.value(76), fields.value(439)),
         Rule::Client => Ok(()),

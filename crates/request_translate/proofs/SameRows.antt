@@ -36,7 +36,7 @@ use Rattle.sound_laws.specs.Sound.{IsLine}
 use Rattle.sound_laws.proofs.Each.{◌&◌, both, one_of}
 use Rattle.sound_laws.proofs.Judged50.{counts}
 use Rattle.sound_laws.proofs.RowsSaid.{is_code_of}
-use Rattle.row_slots.proofs.SlotsSay.{prices, quantities}
+use Rattle.rule_rows.proofs.FieldsSaid.{prices, quantities}
 
 -- what the meanings of two give back is the same where they mean the same
 pub same_by : {S A : Type 0} (means : S → A) (back : A → S) (a b : S)

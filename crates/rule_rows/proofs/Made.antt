@@ -19,6 +19,11 @@ use Rattle.rule_rows.specs.ByRules.{rule_cells, rule_fields, rule_groups}
 use Rattle.rule_rows.proofs.Looked.{AreKinds, AreOwn, IsFound, all_found, has_lines_of, lines_by}
 use Rattle.rule_rows.proofs.Looked.{rule_at, said_by, says}
 
+-- nothing is written where nothing is said
+pub nothing_at : (target : Target) → fields_at target None [] ≡ []
+nothing_at (At (Tag tag)) = refl
+nothing_at other = refl
+
 -- ---- what a rule makes of a table
 
 abbrev pub target_of : Item Kind → Target
@@ -137,10 +142,6 @@ module _ {Rule : Type 0} (kinds : Kinds Rule) (items : List (Item Kind))
       item_at rule (Party role) found = refl
       item_at rule (Lines group) found = ap (group_fields group.count)
           (sym (has_lines_of kinds are all own m group.count ∙ ap (lines_by kinds m) found))
-
-      nothing_at : (target : Target) → fields_at target None [] ≡ []
-      nothing_at (At (Tag tag)) = refl
-      nothing_at other = refl
 
       fields_made : (rule : Rule) → IsFound kinds all rule → (has : Bool)
           → kinds.has (outline m) rule ≡ has → (item : Option (Item Kind))

@@ -1,3 +1,4 @@
 pub mod ByRules
 pub mod Rows
 pub mod Rules
+pub mod Texts

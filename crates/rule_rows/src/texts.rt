@@ -1,0 +1,117 @@
+//! Texts that stand in fields, read and written.
+
+ghost use Rattle.std.specs.Prelude.{◌≡◌, ◌++◌, IfSome, OnOk};
+ghost use Rattle.std.specs.Io.{StartsWith};
+ghost use Rattle.std.specs.Option.{option_map};
+ghost use Rattle.std.specs.Result.{result_ok};
+ghost use Rattle.typed_fields.specs.Dec.{dec_text, read_dec};
+ghost use Rattle.typed_fields.specs.Number.{IsNumber};
+ghost use Rattle.typed_fields.specs.Stamp.{cut_text};
+ghost use Rattle.field_groups.specs.Field.{body_of};
+ghost use Rattle.message_tables.specs.Content.{cell_fields};
+ghost use Rattle.message_tables.specs.Tables.{Tag};
+ghost use Rattle.row_values.specs.CodeKinds.{kind_of};
+ghost use Rattle.rule_rows.specs.Texts.{byte_of, decimal_of, decimal_text, kept, number_of};
+
+use crate::group_lines::put_text;
+use field_groups::{AROUND, Fields, SOH, push_tag};
+use message_tables::{Lookup, Mark};
+use row_values::Kind;
+use std::alloc::AllocError;
+use typed_fields::{Dec, FieldValue, MAX_SPELLING, Number, cut_text};
+
+/// The code that a text is, if it is one byte.
+#[inline(always)]
+pub fn code_of(text: Option<&[u8]>) -> Option<u8>
+    ensures { result ≡ byte_of (option_map (λ t. t.now) text.entry) }
+{
+    match text {
+        Some([byte]) => Some(*byte),
+        _ => None,
+    }
+}
+
+/// The decimal number that a text spells, if it spells one.
+pub fn decimal_of(text: Option<&[u8]>) -> Option<Dec>
+    ensures { result ≡ decimal_of (option_map (λ t. t.now) text.entry) }
+{
+    match text {
+        None => None,
+        Some(text) => Dec::read(text).ok(),
+    }
+}
+
+/// The number that a text spells, if it spells one.
+pub fn number_of(text: Option<&[u8]>) -> Option<Number>
+    ensures value { result ≡ number_of (option_map (λ t. t.now) text.entry) }
+    ensures bound { IfSome result IsNumber }
+{
+    match text {
+        None => None,
+        Some(text) => Number::read(text).ok(),
+    }
+}
+
+/// The value of a tag, where it is of the profile of a kind.
+pub fn kept<'f>(fields: &'f Fields<'_>, tag: u32, kind: &Kind) -> Option<&'f [u8]>
+    ensures { option_map (λ t. t.now) result ≡ kept fields.now tag (kind_of kind.now) }
+{
+    match fields.value(tag) {
+        None => None,
+        Some(text) => match kind.judge(fields, text) {
+            Mark::Good => Some(text),
+            _ => None,
+        },
+    }
+}
+
+/// Appends a field of the decimal number that a text spells, if it spells one.
+#[inline(never)]
+fn put_spelled(out: &mut Vec<u8>, tag: u32, text: &[u8]) -> Result<(), AllocError>
+    ensures done { OnOk result (out.new.items ≡ out.old.items
+        ++ body_of (cell_fields (Tag tag, option_map dec_text (result_ok (read_dec text.now))))) }
+    ensures kept { StartsWith out.new.items out.old.items }
+{
+    let start = out.len();
+    out.reserve(AROUND + MAX_SPELLING)?;
+    push_tag(out, tag);
+    match Dec::respell(text, out) {
+        Ok(()) => out.push_reserved(SOH),
+        Err(_) => out.truncate(start),
+    }
+    Ok(())
+}
+
+/// Appends the field of the decimal number that a text spells, if there is one.
+///
+/// # Errors
+///
+/// As [`put_text`].
+#[inline(always)]
+pub fn put_decimal(out: &mut Vec<u8>, tag: u32, text: Option<&[u8]>) -> Result<(), AllocError>
+    ensures done { OnOk result (out.new.items ≡ out.old.items
+        ++ body_of (cell_fields (Tag tag, decimal_text (option_map (λ t. t.now) text.entry)))) }
+    ensures kept { StartsWith out.new.items out.old.items }
+{
+    match text {
+        None => Ok(()),
+        Some(text) => put_spelled(out, tag, text),
+    }
+}
+
+/// Appends the field of a moment in the fine form, to its milliseconds, if there is one.
+///
+/// # Errors
+///
+/// As [`put_text`].
+#[inline(always)]
+pub fn put_moment(out: &mut Vec<u8>, tag: u32, text: Option<&[u8]>) -> Result<(), AllocError>
+    ensures done { OnOk result (out.new.items ≡ out.old.items ++ body_of
+        (cell_fields (Tag tag, option_map cut_text (option_map (λ t. t.now) text.entry)))) }
+    ensures kept { StartsWith out.new.items out.old.items }
+{
+    match text {
+        None => Ok(()),
+        Some(text) => put_text(out, tag, Some(cut_text(text))),
+    }
+}
