@@ -9,7 +9,7 @@ ghost use Rattle.outside.specs.Causes.{HasCause};
 ghost use Rattle.gate_log.specs.Log.{OnlyReads};
 ghost use Rattle.pair_entries.specs.declared.entry.Entry.{Entry};
 ghost use Rattle.pair_journal.specs.Journal.{JournalOf, Born};
-ghost use Rattle.pair_journal.specs.Spots.{IsUpTo};
+ghost use Rattle.pair_journal.specs.Walks.{IsUpTo};
 ghost use Rattle.entry_lines.specs.EntryLine.{entry_line};
 ghost use Rattle.journal_show.specs.declared.journal_lines.ShowError.TheVariants as errors;
 ghost use Rattle.journal_show.specs.JournalLines.{lines_from, Shows, FailsBy, show_error};
@@ -80,12 +80,12 @@ fn put_entry<D: Disk, O: Sink>(
     requires few { length journal.now.entries < 2 ^ 64 }
     requires stands { ForSome (D.bytes disk.old) (λ b.
         JournalOf b (Born journal.now.names journal.now.entries)) }
-    requires walk { ForSome (D.bytes disk.old) (λ b. IsUpTo journal.now.entries index walk.old) }
+    requires walk { IsUpTo (D.bytes disk.old) journal.now.entries index walk.old }
     ensures line { ForSome (D.bytes disk.old) (λ b. (entry : Entry) →
         slice_get journal.now.entries index ≡ Some entry →
         PutAppends (O.bytes out.old) (O.bytes out.new) result (entry_line (1 + index) entry)) }
-    ensures walk { ForSome (D.bytes disk.old) (λ b. OnOk result
-        (IsUpTo journal.now.entries (index + 1) walk.new)) }
+    ensures walk { OnOk result
+        (IsUpTo (D.bytes disk.new) journal.now.entries (index + 1) walk.new) }
     ensures reads { ForSome (D.bytes disk.old) (λ b. (at : ℕ) →
         result ≢ Err (errors.JournalRefused at)) }
     ensures only_read { OnlyReads D.bytes D.image disk.old disk.new }
@@ -114,7 +114,7 @@ fn put_entries<D: Disk, O: Sink>(
     ensures output_cause { FailsBy errors.OutputFault (O.faults out.old) (O.faults out.new) result }
 {
     let mut line = EntryLine::new();
-    let mut walk = journal.walk();
+    let mut walk = journal.walk()?;
     for index in 0..journal.count() {
         put_entry(journal, disk, out, &mut walk, index, &mut line)?;
     }

@@ -6,6 +6,7 @@ pub mod State
 pub mod Past
 pub mod Given
 pub mod Spots
+pub mod Walks
 pub mod Sources
 pub mod Kept
 pub mod OutBuf

@@ -9,7 +9,6 @@ use Rattle.pair_entries.specs.declared.entry.Entry.{Entry}
 use Rattle.pair_entries.specs.Payload.{entry_bytes}
 use Rattle.pair_journal.specs.Numbers.{first_numbers, numbers_after, next_out}
 use Rattle.pair_journal.specs.declared.spot.Spot.{Spot}
-use Rattle.pair_journal.specs.declared.spot.Walk.{Walk}
 use Rattle.pair_journal.specs.declared.spot.TheConstants.{STRIDE}
 
 -- where the records of these entries end, behind a birth record
@@ -27,15 +26,6 @@ behind entries = record {
 -- a spot of these entries, before the one of its index
 abbrev pub IsSpot : List Entry → Spot → Type 0
 IsSpot entries spot = spot ≡ behind (take spot.index entries)
-
--- a walk that has not passed the entry of this index
-abbrev pub IsUpTo : List Entry → ℕ → Walk → Type 0
-IsUpTo entries index walk = IsSpot entries walk.spot × (walk.spot.index ≤ index)
-
--- a walk that has not passed the out of this number
-abbrev pub IsWalk : List Entry → Side → ℕ → Walk → Type 0
-IsWalk entries side number walk =
-    IsSpot entries walk.spot × (next_out side walk.spot.next ≤ number)
 
 -- this entry stands at a spot of these
 pub record StandsAt (entries : List Entry) (spot : Spot) (entry : Entry) : Type 0 where

@@ -2,13 +2,14 @@
 
 ghost use Rattle.std.specs.Prelude.{◌≡◌, ◌≢◌, ◌⊎◌, ◌+◌, ◌≤◌, ◌<◌, ℕ, [], length, true, false};
 ghost use Rattle.std.specs.Prelude.{Some, None, Ok, Err, IfOk, IfErr};
-ghost use Rattle.std.specs.Prelude.{IfSome, OnOk, OnErr, IsOkUnless, is_some, vec_capacity};
+ghost use Rattle.std.specs.Prelude.{IfSome, OnOk, OnErr, IsOkUnless, is_some};
 ghost use Rattle.std.specs.Option.{ForSome};
 ghost use Rattle.std.specs.List.{slice_get};
 ghost use Rattle.outside.specs.Disk.{HasOneImage};
 ghost use Rattle.order_meaning.specs.declared.names.Names.{Names};
 ghost use Rattle.gate_log.specs.Records.{IsUnborn};
 ghost use Rattle.gate_log.specs.Log.{OnlyReads, StandsOver};
+ghost use Rattle.gate_log.specs.Chunk.{IsOf};
 ghost use Rattle.pair_journal.specs.declared.error.JournalError.TheVariants as errors;
 ghost use Rattle.pair_journal.specs.declared.spot.Spot.{Spot};
 ghost use Rattle.pair_entries.specs.declared.entry.Entry.{Entry};
@@ -18,7 +19,8 @@ ghost use Rattle.pair_journal.specs.Numbers.{GoesOn, first_numbers, numbers_afte
 ghost use Rattle.pair_journal.specs.Numbers.{outs_to};
 ghost use Rattle.pair_journal.specs.Journal.{JournalOf, Unborn, Born, AreEntries};
 ghost use Rattle.pair_journal.specs.Given.{numbered, given_in, given, source_of};
-ghost use Rattle.pair_journal.specs.Spots.{IsSpot, StandsAt, IsUpTo, IsWalk};
+ghost use Rattle.pair_journal.specs.Spots.{IsSpot, StandsAt};
+ghost use Rattle.pair_journal.specs.Walks.{IsUpTo, IsWalk, BeginsEntries};
 ghost use Rattle.pair_journal.specs.OutBuf.{IsGivenAs, IsOutAt, TellsIf};
 ghost use Rattle.pair_journal.specs.Buffer.{out_told, IsRoomy};
 ghost use Rattle.pair_journal.specs.Calls.{HasDiskCause, ReadsOnly, Looks, Loads, BornOrNot};
@@ -30,9 +32,10 @@ use crate::kept::Kept;
 use crate::loading::{read_entries, read_names, read_record};
 use crate::numbers::next_out;
 use crate::out_buf::OutTold;
-use crate::spot::{STRIDE, Spot, Walk, later, start};
+use crate::spot::{STRIDE, Spot, later};
+use crate::walk::Walk;
 use crate::{JournalError, NoReader, OutBuf, Reader};
-use gate_log::{Log, MAX_PAYLOAD};
+use gate_log::{Chunk, Log};
 use order_meaning::{Names, Side};
 use outside::Disk;
 use pair_entries::{Entry, Prepared, are_names, front_of, read_entry, same_names, write_birth};
@@ -95,8 +98,9 @@ impl Journal {
         ensures only_read { OnlyReads D.bytes D.image disk.old disk.new }
         ensures cause { HasDiskCause (D.faults disk.old) (D.faults disk.new) result }
     {
-        let names = read_names(alloc, &log, disk)?;
-        let kept = read_entries(alloc, &log, &names, disk, reader)?;
+        let mut chunk = Chunk::new(alloc)?;
+        let names = read_names(&log, disk, &mut chunk)?;
+        let kept = read_entries(alloc, &log, &names, disk, &mut chunk, reader)?;
         Ok(Journal { log, names, kept })
     }
 
@@ -244,29 +248,30 @@ impl Journal {
         self.kept.end().next
     }
 
-    /// Reads the record at a spot into `record`, and answers the spot behind it.
+    /// Finds the record at a spot, and answers the spot behind it.
     fn read_at<D: Disk>(
         &self,
         disk: &mut D,
         spot: Spot,
-        record: &mut Vec<u8>,
+        chunk: &mut Chunk,
     ) -> Result<Spot, JournalError>
         requires stands { ForSome (D.bytes disk.old) (λ b.
             JournalOf b (Born self.now.names self.now.entries)) }
+        requires of { IsOf (D.bytes disk.old) chunk.old }
+        ensures of { IsOf (D.bytes disk.new) chunk.new }
         ensures reads { IfOk result (λ next. ForSome (D.bytes disk.old) (λ b. (entry : Entry) →
-            StandsAt self.now.entries spot entry → (record.new.items ≡ entry_bytes entry)
+            StandsAt self.now.entries spot entry → (chunk.new.payload ≡ entry_bytes entry)
             × IsEntry entry × IsSpot self.now.entries next)) }
         ensures sound { AreEntries first_numbers self.now.entries }
         ensures index { IfOk result (λ next. next.index ≡ spot.index + 1) }
         ensures refuses { (at : ℕ) → result ≡ Err (errors.Refused at) →
             ForSome (D.bytes disk.old) (λ b. (entry : Entry) →
             StandsAt self.now.entries spot entry → ⊥) }
-        ensures capacity { vec_capacity record.old ≤ vec_capacity record.new }
-        ensures room { MAX_PAYLOAD ≤ vec_capacity record.old → result ≢ Err errors.NoMemory }
         ensures only_read { OnlyReads D.bytes D.image disk.old disk.new }
-        ensures few { D.reads disk.new ≤ D.reads disk.old + 2 }
+        ensures few { D.reads disk.new ≤ D.reads disk.old + 1 }
         ensures cause { HasDiskCause (D.faults disk.old) (D.faults disk.new) result }
         ensures only { OnlyReading result }
+        ensures no_memory { result ≢ Err errors.NoMemory }
     {
         if spot.index >= self.kept.end().index {
             return Err(JournalError::Refused { at: spot.place });
@@ -274,7 +279,8 @@ impl Journal {
         if spot.place >= self.log.end() {
             return Err(JournalError::Refused { at: spot.place });
         }
-        read_record(&self.log, disk, spot.place, record)?;
+        read_record(chunk, disk, spot.place)?;
+        let record = chunk.payload();
         let Some(front) = front_of(record) else {
             return Err(JournalError::Refused { at: spot.place });
         };
@@ -290,10 +296,12 @@ impl Journal {
         &self,
         disk: &mut D,
         spot: Spot,
-        record: &mut Vec<u8>,
+        chunk: &mut Chunk,
     ) -> Result<(Entry, Spot), JournalError>
         requires stands { ForSome (D.bytes disk.old) (λ b.
             JournalOf b (Born self.now.names self.now.entries)) }
+        requires of { IsOf (D.bytes disk.old) chunk.old }
+        ensures of { IsOf (D.bytes disk.new) chunk.new }
         ensures entry { IfOk result (λ read. ForSome (D.bytes disk.old) (λ b. (entry : Entry) →
             StandsAt self.now.entries spot entry → (read.0 ≡ entry)
             × IsSpot self.now.entries read.1)) }
@@ -306,15 +314,27 @@ impl Journal {
         ensures cause { HasDiskCause (D.faults disk.old) (D.faults disk.new) result }
         ensures only { OnlyReading result }
     {
-        let next = self.read_at(disk, spot, record)?;
-        let Some(entry) = read_entry(*record.allocator(), record)? else {
+        let next = self.read_at(disk, spot, chunk)?;
+        let Some(entry) = read_entry(self.kept.alloc(), chunk.payload())? else {
             return Err(JournalError::Refused { at: spot.place });
         };
         Ok((entry, next))
     }
 
-    /// The entry of this index, which counts from 0; the walk goes on behind it. It reads at most 64
-    /// records, none twice where the indices rise.
+    /// A walk over its entries, before the first.
+    ///
+    /// # Errors
+    /// `NoMemory` alone.
+    pub fn walk(&self) -> Result<Walk, JournalError>
+        ensures entries { IfOk result BeginsEntries }
+        ensures only { IsOkUnless result errors.NoMemory }
+    {
+        Ok(Walk::new(self.kept.alloc())?)
+    }
+
+    /// The entry of this index, which counts from 0; the walk goes on behind it. It finds at most 64
+    /// records, none twice where the indices rise, in one read of 65,541 bytes for as many of them
+    /// as these hold.
     ///
     /// # Errors
     /// `Refused` only over a disk that does not tell its bytes, where a record that was read is no
@@ -329,24 +349,21 @@ impl Journal {
         requires index { index < length self.now.entries }
         requires stands { ForSome (D.bytes disk.old) (λ b.
             JournalOf b (Born self.now.names self.now.entries)) }
-        requires walk { ForSome (D.bytes disk.old) (λ b.
-            IsUpTo self.now.entries index walk.old) }
+        requires walk { IsUpTo (D.bytes disk.old) self.now.entries index walk.old }
         ensures entry { IfOk result (λ entry. ForSome (D.bytes disk.old) (λ b.
             slice_get self.now.entries index ≡ Some entry)) }
         ensures bounds { IfOk result IsEntry }
-        ensures walk { ForSome (D.bytes disk.old) (λ b.
-            IsUpTo self.now.entries (index + 1) walk.new) }
+        ensures walk { IsUpTo (D.bytes disk.new) self.now.entries (index + 1) walk.new }
         ensures only_read { OnlyReads D.bytes D.image disk.old disk.new }
         ensures cause { HasDiskCause (D.faults disk.old) (D.faults disk.new) result }
         ensures only { RefusedUntold (D.bytes disk.old) result }
     {
-        let mut record = Vec::new(self.kept.alloc());
         let mark = self.kept.before(index);
         let mut spot = later(mark, walk.spot);
         'records: while spot.index < index {
-            spot = self.read_at(disk, spot, &mut record)?;
+            spot = self.read_at(disk, spot, &mut walk.chunk)?;
         }
-        let (entry, next) = self.entry_at(disk, spot, &mut record)?;
+        let (entry, next) = self.entry_at(disk, spot, &mut walk.chunk)?;
         walk.spot = next;
         Ok(entry)
     }
@@ -402,7 +419,7 @@ impl Journal {
         Ok(entry)
     }
 
-    /// Reads the record at a spot: where it has the out of this side and number, the out is told;
+    /// Finds the record at a spot: where it has the out of this side and number, the out is told;
     /// else the spot behind it is answered.
     fn out_at<D: Disk>(
         &self,
@@ -414,10 +431,13 @@ impl Journal {
     ) -> Result<Option<Spot>, JournalError>
         requires stands { ForSome (D.bytes disk.old) (λ b.
             JournalOf b (Born self.now.names self.now.entries)) }
+        requires of { IsOf (D.bytes disk.old) into.old.walk.chunk }
+        ensures of { IsOf (D.bytes disk.new) into.new.walk.chunk }
+        ensures held { into.new.walk.spot ≡ into.old.walk.spot }
         ensures gives { result ≡ Ok None → ForSome (D.bytes disk.old) (λ b. (entry : Entry) →
             StandsAt self.now.entries spot entry →
-            IsGivenAs (given_in side number entry) into.new) }
-        ensures bounds { result ≡ Ok None → IsOutAt into.new }
+            IsGivenAs (given_in side number entry) into.new.told) }
+        ensures bounds { result ≡ Ok None → IsOutAt into.new.told }
         ensures goes_on { (next : Spot) → result ≡ Ok (Some next) → ForSome (D.bytes disk.old)
             (λ b. (entry : Entry) → StandsAt self.now.entries spot entry →
             IsSpot self.now.entries next × (next_out side next.next ≤ number)) }
@@ -427,42 +447,33 @@ impl Journal {
             ForSome (D.bytes disk.old) (λ b. (entry : Entry) →
             StandsAt self.now.entries spot entry → next_out side spot.next ≤ number → ⊥) }
         ensures only_read { OnlyReads D.bytes D.image disk.old disk.new }
-        ensures few { D.reads disk.new ≤ D.reads disk.old + 2 }
+        ensures few { D.reads disk.new ≤ D.reads disk.old + 1 }
         ensures cause { HasDiskCause (D.faults disk.old) (D.faults disk.new) result }
         ensures only { OnlyReading result }
         ensures no_memory { result ≢ Err errors.NoMemory }
     {
-        let next = self.read_at(disk, spot, &mut into.record)?;
+        let next = self.read_at(disk, spot, &mut into.walk.chunk)?;
         if next_out(side, next.next) <= number {
             return Ok(Some(next));
         }
-        if tell_out(&into.record, side, number, &mut into.told) {
+        if tell_out(into.walk.chunk.payload(), side, number, &mut into.told) {
             return Ok(None);
         }
         Err(JournalError::Refused { at: spot.place })
     }
 
-    /// A walk over it, before the first entry.
-    pub fn walk(&self) -> Walk
-        ensures entries { IsUpTo self.now.entries 0 result }
-        ensures outs { (side : Side) (number : ℕ) → 1 ≤ number →
-            IsWalk self.now.entries side number result }
-    {
-        Walk { spot: start() }
-    }
-
-    /// Reads the out of this side and number, which was given out, and walks on to it. It reads at
-    /// most 64 records, in 128 calls of the disk, and takes no memory. Where the numbers rise it
-    /// begins with the record of the out before, which may hold this one too.
+    /// Reads the out of this side and number, which was given out, and walks on to it. It finds at
+    /// most 64 records, in as many calls of the disk where each of them has 65,541 bytes, and takes
+    /// no memory. Where the numbers rise it begins with the record of the out before, which may hold
+    /// this one too and is not read again.
     ///
     /// # Errors
     /// `Refused` only over a disk that does not tell its bytes, where a record that was read is no
     /// entry or does not have the out; `DiskFault` only where the disk's count of faults rose. Then
-    /// nothing is said of `into`, and the walk is where it was.
+    /// nothing is said of the out in `into`, and its walk is where it was.
     pub fn out<D: Disk>(
         &self,
         disk: &mut D,
-        walk: &mut Walk,
         side: Side,
         number: u32,
         into: &mut OutBuf,
@@ -471,26 +482,25 @@ impl Journal {
         requires below { number < next_out side (numbers_after first_numbers self.now.entries) }
         requires stands { ForSome (D.bytes disk.old) (λ b.
             JournalOf b (Born self.now.names self.now.entries)) }
-        requires walk { ForSome (D.bytes disk.old) (λ b.
-            IsWalk self.now.entries side number walk.old) }
+        requires walk { IsWalk (D.bytes disk.old) self.now.entries side number into.old.walk }
         ensures out { OnOk result (ForSome (D.bytes disk.old) (λ b.
-            IsGivenAs (given side number self.now.entries) into.new)) }
-        ensures bounds { OnOk result (IsOutAt into.new) }
-        ensures walk { ForSome (D.bytes disk.old) (λ b. (later : ℕ) → number ≤ later →
-            IsWalk self.now.entries side later walk.new) }
+            IsGivenAs (given side number self.now.entries) into.new.told)) }
+        ensures bounds { OnOk result (IsOutAt into.new.told) }
+        ensures walk { (later : ℕ) → number ≤ later →
+            IsWalk (D.bytes disk.new) self.now.entries side later into.new.walk }
         ensures only_read { OnlyReads D.bytes D.image disk.old disk.new }
-        ensures few { D.reads disk.new ≤ D.reads disk.old + 128 }
+        ensures few { D.reads disk.new ≤ D.reads disk.old + 64 }
         ensures cause { HasDiskCause (D.faults disk.old) (D.faults disk.new) result }
         ensures only { RefusedUntold (D.bytes disk.old) result }
         ensures no_memory { result ≢ Err errors.NoMemory }
     {
         let mark = self.kept.holding(side, number);
-        let mut spot = later(mark, walk.spot);
+        let mut spot = later(mark, into.walk.spot);
         'records: while spot.index - mark.index < STRIDE {
             match self.out_at(disk, spot, side, number, into)? {
                 Some(next) => spot = next,
                 None => {
-                    walk.spot = spot;
+                    into.walk.spot = spot;
                     return Ok(());
                 }
             }

@@ -18,10 +18,11 @@ mod past;
 mod reader;
 mod sources;
 mod spot;
+mod walk;
 
 pub use error::JournalError;
 pub use given::source_in;
 pub use journal::Journal;
 pub use out_buf::{OUT_ROOM, OutBuf};
 pub use reader::{NoReader, Reader};
-pub use spot::Walk;
+pub use walk::Walk;

@@ -1,10 +1,11 @@
 //! The payloads of a log as the names and the entries of a journal.
 
-ghost use Rattle.std.specs.Prelude.{◌≢◌, ◌+◌, Err, vec_capacity};
+ghost use Rattle.std.specs.Prelude.{◌≢◌, ◌+◌, Err};
 ghost use Rattle.pair_journal.specs.declared.error.JournalError.TheVariants as errors;
-ghost use Rattle.std.specs.Prelude.{◌≡◌, ◌≤◌, [], length, MatchOption, IfOk, IfErr, OnOk};
+ghost use Rattle.std.specs.Prelude.{◌≡◌, ◌≤◌, [], MatchOption, IfOk, IfErr, OnOk};
 ghost use Rattle.std.specs.Option.{ForSome};
 ghost use Rattle.gate_log.specs.Log.{OnlyReads, StandsOver, ReadsPayload};
+ghost use Rattle.gate_log.specs.Chunk.{IsOf};
 ghost use Rattle.pair_entries.specs.Birth.{AreNames};
 ghost use Rattle.pair_entries.specs.declared.entry.Entry.{Entry};
 ghost use Rattle.pair_journal.specs.Calls.{HasDiskCause};
@@ -14,40 +15,41 @@ ghost use Rattle.pair_journal.specs.Loading.{HasExtent};
 use crate::kept::Kept;
 use crate::numbers::{Next, goes_on};
 use crate::{JournalError, Reader};
-use gate_log::{Log, MAX_PAYLOAD};
+use gate_log::{Chunk, Log};
 use order_meaning::Names;
 use outside::{Disk, MAX_DISK};
 use pair_entries::{Entry, read_birth, read_entry};
 use std::alloc::{AllocError, Global};
 
-/// Replaces `out` by the payload that stands at this place.
+/// Finds the payload of the record at this place.
 pub(crate) fn read_record<D: Disk>(
-    log: &Log,
+    chunk: &mut Chunk,
     disk: &mut D,
     place: u64,
-    out: &mut Vec<u8>,
 ) -> Result<(), JournalError>
-    requires { place ≤ MAX_DISK }
-    ensures payload { OnOk result (ReadsPayload (D.bytes disk.old) place out.new.items) }
-    ensures sized { length out.new.items ≤ MAX_PAYLOAD }
+    requires place { place ≤ MAX_DISK }
+    requires of { IsOf (D.bytes disk.old) chunk.old }
+    ensures of { IsOf (D.bytes disk.new) chunk.new }
+    ensures payload { OnOk result (ReadsPayload (D.bytes disk.old) place chunk.new.payload) }
     ensures err { IfErr result (Unread (D.bytes disk.old) place) }
-    ensures capacity { vec_capacity out.old ≤ vec_capacity out.new }
-    ensures room { MAX_PAYLOAD ≤ vec_capacity out.old → result ≢ Err errors.NoMemory }
-    ensures few { D.reads disk.new ≤ D.reads disk.old + 2 }
+    ensures no_memory { result ≢ Err errors.NoMemory }
+    ensures few { D.reads disk.new ≤ D.reads disk.old + 1 }
     ensures only_read { OnlyReads D.bytes D.image disk.old disk.new }
     ensures cause { HasDiskCause (D.faults disk.old) (D.faults disk.new) result }
 {
-    log.read(disk, place, out)?;
+    chunk.read(disk, place)?;
     Ok(())
 }
 
 /// The names in the birth record of a log.
 pub(crate) fn read_names<D: Disk>(
-    alloc: Global,
     log: &Log,
     disk: &mut D,
+    chunk: &mut Chunk,
 ) -> Result<Names, JournalError>
     requires stands { ForSome (D.bytes disk.old) (StandsOver log.now) }
+    requires of { IsOf (D.bytes disk.old) chunk.old }
+    ensures of { IsOf (D.bytes disk.new) chunk.new }
     ensures named { IfOk result AreNames }
     ensures ok { IfOk result (TellsNames (D.bytes disk.old)) }
     ensures err { IfErr result (IsMisread (D.bytes disk.old)) }
@@ -55,9 +57,8 @@ pub(crate) fn read_names<D: Disk>(
     ensures cause { HasDiskCause (D.faults disk.old) (D.faults disk.new) result }
 {
     let _ = log.count(); // says that it has a record
-    let mut payload = Vec::new(alloc);
-    read_record(log, disk, 0, &mut payload)?;
-    match read_birth(&payload) {
+    read_record(chunk, disk, 0)?;
+    match read_birth(chunk.payload()) {
         Some(names) => Ok(names),
         None => Err(JournalError::Refused { at: 0 }),
     }
@@ -89,11 +90,13 @@ pub(crate) fn read_entries<D: Disk, R: Reader>(
     log: &Log,
     names: &Names,
     disk: &mut D,
+    chunk: &mut Chunk,
     reader: &mut R,
 ) -> Result<Kept, JournalError>
     requires named { AreNames names.now }
     requires born { TellsNames (D.bytes disk.old) names.now }
     requires stands { ForSome (D.bytes disk.old) (StandsOver log.now) }
+    requires of { IsOf (D.bytes disk.old) chunk.old }
     ensures ok { IfOk result (λ kept. Tells (D.bytes disk.old) names.now kept.entries) }
     ensures extent { IfOk result (λ kept. HasExtent log.now names.now kept.entries) }
     ensures shown { IfOk result (λ kept. R.shown reader.old [] → R.shown reader.new kept.entries) }
@@ -102,14 +105,14 @@ pub(crate) fn read_entries<D: Disk, R: Reader>(
     ensures cause { HasDiskCause (D.faults disk.old) (D.faults disk.new) result }
 {
     let mut kept = Kept::new(alloc);
-    let mut payload = Vec::new(alloc);
     for index in 1..log.count() {
         let end = kept.end();
         if end.place >= log.end() {
             return Err(JournalError::Refused { at: end.place });
         }
-        read_record(log, disk, end.place, &mut payload)?;
-        let Some(entry) = entry_after(alloc, end.next, &payload)? else {
+        read_record(chunk, disk, end.place)?;
+        let payload = chunk.payload();
+        let Some(entry) = entry_after(alloc, end.next, payload)? else {
             return Err(JournalError::Refused { at: end.place });
         };
         reader.saw(&entry)?;

@@ -4,8 +4,10 @@ ghost use Rattle.std.specs.Prelude.{◌≡◌, ◌+◌, ◌≤◌, [], length, I
 ghost use Rattle.pair_entries.specs.Parts.{out_said};
 ghost use Rattle.pair_journal.specs.OutBuf.{out_at};
 ghost use Rattle.pair_journal.specs.Buffer.{out_told, IsRoomy};
+ghost use Rattle.pair_journal.specs.Walks.{BeginsOuts};
 
-use gate_log::{MAX_PAYLOAD, extend_reserved};
+use crate::walk::Walk;
+use gate_log::extend_reserved;
 use pair_entries::OutRef;
 use std::alloc::{AllocError, Global};
 use std::marker::Model;
@@ -24,25 +26,22 @@ pub(crate) struct OutTold {
     resend: bool,
 }
 
-/// Room for one out and for the record that it stands in, which tells the out and the moment of its
-/// entry.
+/// Room for one out, which tells it and the moment of its entry, and a walk from one out to the
+/// next.
 #[derive(Debug, Drop)]
 pub struct OutBuf {
-    // The record that was read last.
-    pub(crate) record: Vec<u8>,
+    pub(crate) walk: Walk,
     pub(crate) told: OutTold,
 }
 
 impl Model for OutBuf {
-    ghost use Rattle.pair_journal.specs.OutBuf.{OutAt};
+    ghost use Rattle.pair_journal.specs.Buffer.{OutKept, out_kept, TellsRoomy};
 
-    ghost Value = { OutAt };
-
-    ghost use Rattle.pair_journal.specs.Buffer.{out_kept, HoldsRecord};
+    ghost Value = { OutKept };
 
     ghost view = { out_kept };
 
-    ghost invariant = { HoldsRecord };
+    ghost invariant = { TellsRoomy };
 }
 
 impl OutTold {
@@ -64,14 +63,15 @@ impl OutTold {
 }
 
 impl OutBuf {
-    /// Room that tells no out yet: an empty type, and no content.
+    /// Room that tells no out yet: an empty type, and no content. Its walk begins.
     ///
     /// # Errors
     /// `AllocError` for want of memory.
     pub fn new(alloc: Global) -> Result<OutBuf, AllocError>
-        ensures { IfOk result (λ buf. (buf.msg_type ≡ []) × (buf.content ≡ [])) }
+        ensures none { IfOk result (λ buf. (buf.told.msg_type ≡ []) × (buf.told.content ≡ [])) }
+        ensures walk { IfOk result (λ buf. BeginsOuts buf.walk) }
     {
-        let record = Vec::with_capacity(alloc, MAX_PAYLOAD)?;
+        let walk = Walk::new(alloc)?;
         let told = OutTold {
             bytes: Vec::with_capacity(alloc, OUT_ROOM)?,
             type_len: 0,
@@ -79,40 +79,47 @@ impl OutBuf {
             admin: false,
             resend: false,
         };
-        Ok(OutBuf { record, told })
+        Ok(OutBuf { walk, told })
+    }
+
+    /// Begins its walk anew, as the disk may have changed since the last out, and takes no memory.
+    pub fn restart(&mut self)
+        ensures walk { BeginsOuts self.new.walk }
+    {
+        self.walk.restart();
     }
 
     /// MsgType(35).
     pub fn msg_type(&self) -> &[u8]
-        ensures { result.now ≡ self.now.msg_type }
+        ensures { result.now ≡ self.now.told.msg_type }
     {
         &self.told.bytes[..self.told.type_len]
     }
 
     /// The fields behind the header.
     pub fn content(&self) -> &[u8]
-        ensures { result.now ≡ self.now.content }
+        ensures { result.now ≡ self.now.told.content }
     {
         &self.told.bytes[self.told.type_len..]
     }
 
     /// The moment of its entry, in milliseconds since 1970-01-01 00:00 UTC.
     pub fn at(&self) -> u64
-        ensures { result ≡ self.now.at }
+        ensures { result ≡ self.now.told.at }
     {
         self.told.at
     }
 
     /// Whether it is administrative.
     pub fn admin(&self) -> bool
-        ensures { result ≡ self.now.admin }
+        ensures { result ≡ self.now.told.admin }
     {
         self.told.admin
     }
 
     /// Whether it has PossResend(97) with `Y`.
     pub fn resend(&self) -> bool
-        ensures { result ≡ self.now.resend }
+        ensures { result ≡ self.now.told.resend }
     {
         self.told.resend
     }

@@ -20,12 +20,6 @@ pub(crate) struct Spot {
     pub(crate) next: Next,
 }
 
-/// Where a walk over the outs of a journal has come to.
-#[derive(Clone, Copy, Debug)]
-pub struct Walk {
-    pub(crate) spot: Spot,
-}
-
 /// The place before the first entry, which needs no mark.
 pub(crate) fn start() -> Spot
     ensures { result ≡ behind [] }

@@ -165,7 +165,8 @@ pub(crate) fn entry_on(
     if journal.count() <= index {
         return Ok(None);
     }
-    let entry = journal.entry(disk, &mut journal.walk(), index)?;
+    let mut walk = journal.walk()?;
+    let entry = journal.entry(disk, &mut walk, index)?;
     Ok(Some(entry))
 }
 
@@ -509,7 +510,7 @@ fn second_out(alloc: Global, names: &Names) -> Result<Option<OutBuf>, JournalErr
         return Ok(None);
     }
     let mut buf = OutBuf::new(alloc)?;
-    journal.out(&mut disk, &mut journal.walk(), Side::Venue, 2, &mut buf)?;
+    journal.out(&mut disk, Side::Venue, 2, &mut buf)?;
     Ok(Some(buf))
 }
 

@@ -5,6 +5,7 @@ ghost use Rattle.gate_log.specs.Records.{IsSized};
 use gate_log::*;
 use outside::{Disk, DiskCall, Image, MemDisk};
 use std::alloc::{AllocError, Global};
+use std::test::Fail;
 
 /// A byte, and how often it stands there.
 type Runs = &'static [(u8, usize)];
@@ -156,7 +157,7 @@ const LAST: [DiskCall; 5] = [
     DiskCall::Sync,
     DiskCall::Write { at: 160, len: 1 },
     DiskCall::Sync,
-    DiskCall::Read { at: 160, len: 1024 },
+    DiskCall::Read { at: 160, len: 65_541 },
 ];
 
 #[test]
@@ -164,6 +165,49 @@ fn an_append_makes_four_calls_and_a_read_one(rt: HostRuntime) {
     let mut disk = MemDisk::new(rt.alloc(), Vec::new(rt.alloc()), Vec::new(rt.alloc()));
     assert_eq!(rt; live(rt.alloc(), &mut disk), Ok(3));
     assert!(rt; disk.calls().ends_with(&LAST));
+}
+
+/// A log of two records, the length of the second payload, and what is read of the disk to find one
+/// after the other.
+#[rattlefmt::skip]
+const CHUNKS: [(&str, Runs, usize, &[DiskCall]); 3] = [
+    ("a record ends where the chunk does",
+        &[(1, 1), (0, 3), (155, 1), (7, 155), (1, 1), (0, 2), (255, 1), (96, 1), (9, 65_376), (0, 1)],
+        65_376, &[DiskCall::Read { at: 0, len: 65_541 }]),
+    ("a record ends one byte behind it",
+        &[(1, 1), (0, 3), (155, 1), (7, 155), (1, 1), (0, 2), (255, 1), (97, 1), (9, 65_377), (0, 1)],
+        65_377,
+        &[DiskCall::Read { at: 0, len: 65_541 }, DiskCall::Read { at: 160, len: 65_541 }]),
+    ("a payload of the most bytes",
+        &[(1, 1), (0, 3), (155, 1), (7, 155), (1, 1), (0, 1), (1, 1), (0, 2), (9, 65_536), (0, 1)],
+        65_536,
+        &[DiskCall::Read { at: 0, len: 65_541 }, DiskCall::Read { at: 160, len: 65_541 }]),
+];
+
+/// The lengths of the two payloads of a log, if their bytes are 7 and 9.
+fn two_found(alloc: Global, disk: &mut MemDisk) -> Result<Option<(usize, usize)>, LogError> {
+    let mut chunk = Chunk::new(alloc)?;
+    chunk.read(disk, 0)?;
+    let first = chunk.payload().len();
+    let sevens = chunk.payload().iter().all(|byte| *byte == 7);
+    chunk.read(disk, 160)?;
+    let nines = chunk.payload().iter().all(|byte| *byte == 9);
+    if !sevens || !nines {
+        return Ok(None);
+    }
+    Ok(Some((first, chunk.payload().len())))
+}
+
+#[test]
+fn a_chunk_is_read_where_it_lacks_a_record(rt: HostRuntime) -> Result<(), Fail> {
+    for (shows, runs, len, calls) in &CHUNKS {
+        let bytes = bytes_of(rt.alloc(), runs)?;
+        let mut disk = MemDisk::new(rt.alloc(), bytes, Vec::new(rt.alloc()));
+        let found = two_found(rt.alloc(), &mut disk);
+        assert_eq!(rt; found, Ok(Some((155, *len))), "{shows}");
+        assert!(rt; disk.calls() == *calls, "{shows}");
+    }
+    Ok(())
 }
 
 /// The most bytes of a disk.

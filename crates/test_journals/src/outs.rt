@@ -1,10 +1,13 @@
-//! A journal of more entries than stand between two marks: each is read again from its disk.
+//! A journal of more entries than stand between two marks: each is read again from its disk, and the
+//! outs one after the other.
 
 ghost use Rattle.std.specs.Prelude.{◌<◌};
+ghost use Rattle.std.specs.Option.{ForSome};
+ghost use Rattle.pair_journal.specs.Journal.{JournalOf, Born};
 
 use crate::journals::{entry_on, live, names};
 use order_meaning::{Names, Side};
-use outside::MemDisk;
+use outside::{Disk, MemDisk};
 use pair_journal::{Journal, JournalError, NoReader, OutBuf};
 use std::alloc::Global;
 use std::test::Fail;
@@ -21,52 +24,48 @@ fn orders(alloc: Global, names: &Names) -> Result<MemDisk, JournalError> {
     Ok(disk)
 }
 
-/// What is told of the out of this number to the venue, and whether that took at most 128 calls of
-/// the disk; none where it was not given out.
-fn told(
-    alloc: Global,
-    disk: &mut MemDisk,
-    names: &Names,
-    number: u32,
-) -> Result<Option<(OutBuf, bool)>, JournalError> {
-    let journal = Journal::load(alloc, disk, names, &mut NoReader)?;
-    if number == 0 || journal.next().3 <= number {
-        return Ok(None);
-    }
-    let mut buf = OutBuf::new(alloc)?;
-    let most = disk.calls().len().saturating_add(128);
-    journal.out(disk, &mut journal.walk(), Side::Venue, number, &mut buf)?;
-    Ok(Some((buf, disk.calls().len() <= most)))
+/// Whether an out is told as it was given.
+fn is_told(buf: &OutBuf, number: u32) -> bool {
+    buf.msg_type() == b"D".as_slice() && buf.content() == number.to_be_bytes().as_slice()
 }
 
-/// Whether the out of this number is told as it was given, in so few calls.
-fn is_told(
-    alloc: Global,
-    disk: &mut MemDisk,
-    names: &Names,
-    number: u32,
-) -> Result<bool, JournalError> {
-    let Some((out, few)) = told(alloc, disk, names, number)? else {
-        return Ok(false);
-    };
-    Ok(out.content() == number.to_be_bytes().as_slice() && few)
-}
-
-/// The first out that is not told so.
-fn first_untold(alloc: Global, names: &Names) -> Result<Option<u32>, JournalError> {
-    let mut disk = orders(alloc, names)?;
-    for number in 1..ORDERS + 1 {
-        if !is_told(alloc, &mut disk, names, number)? {
+/// The first out to the venue that is not told as it was given, where one is read after the other.
+fn first_untold<D: Disk>(
+    disk: &mut D,
+    journal: &Journal,
+    buf: &mut OutBuf,
+) -> Result<Option<u32>, JournalError>
+    requires stands { ForSome (D.bytes disk.old) (λ b.
+        JournalOf b (Born journal.now.names journal.now.entries)) }
+{
+    buf.restart();
+    for number in 1..journal.next().3 {
+        journal.out(disk, Side::Venue, number, buf)?;
+        if !is_told(buf, number) {
             return Ok(Some(number));
         }
     }
     Ok(None)
 }
 
+/// What the outs of so many orders tell, how many these are, and how often the disk is read for all.
+fn all_told(alloc: Global, names: &Names) -> Result<(Option<u32>, u32, usize), JournalError> {
+    let mut disk = orders(alloc, names)?;
+    let journal = Journal::load(alloc, &mut disk, names, &mut NoReader)?;
+    let before = disk.calls().len();
+    let mut buf = OutBuf::new(alloc)?;
+    let untold = first_untold(&mut disk, &journal, &mut buf)?;
+    Ok((
+        untold,
+        journal.next().3,
+        disk.calls().len().saturating_sub(before),
+    ))
+}
+
 #[test]
-fn each_out_is_read_from_the_disk(rt: HostRuntime) -> Result<(), Fail> {
+fn outs_in_a_row_are_told_by_one_read(rt: HostRuntime) -> Result<(), Fail> {
     let names = names().ok_or("names of four bytes")?;
-    assert_eq!(rt; first_untold(rt.alloc(), &names), Ok(None));
+    assert_eq!(rt; all_told(rt.alloc(), &names), Ok((None, ORDERS + 1, 1)));
     Ok(())
 }
 

@@ -77,9 +77,9 @@ fn send_run<W: Wire>(
 fn run_behind(run: Option<Run>, number: u32, told: &OutBuf) -> Option<Run>
     requires begun { IsBegun run number }
     requires number { (1 ≤ number) × (number ≤ MAX_NUMBER) }
-    requires bounds { IsOutAt told.now }
+    requires bounds { IsOutAt told.now.told }
     ensures run { (side : Side) →
-        run_of result ≡ run_after (run_of run) number (Some (placed_by side number told.now)) }
+        run_of result ≡ run_after (run_of run) number (Some (placed_by side number told.now.told)) }
     ensures begun { IsBegun result (number + 1) }
 {
     if !told.admin() {
@@ -109,12 +109,12 @@ fn send_again<W: Wire>(
     requires agrees { Agrees (W.recorded wire.old) up }
     requires begun { IsBegun run number }
     requires number { (1 ≤ number) × (number ≤ MAX_NUMBER) }
-    requires bounds { IsOutAt told.now }
+    requires bounds { IsOutAt told.now.told }
     requires moment { now ≤ MAX_AT }
     ensures agrees { Agrees (W.recorded wire.new) result }
     ensures sent { Sent (W.recorded wire.old) (W.recorded wire.new) up
         (map (form_frame names.now side)
-        (repeat_one (run_of run) number now (Some (placed_by side number told.now)))) result }
+        (repeat_one (run_of run) number now (Some (placed_by side number told.now.told)))) result }
     ensures polls { W.polls wire.new ≡ W.polls wire.old }
     ensures plays { Keeps (W.plays wire.old) (W.plays wire.new) }
 {
@@ -179,9 +179,9 @@ pub(crate) fn repeat_outs<D: Disk, W: Wire>(
 {
     let mut still = up;
     let mut run = None;
-    let mut walk = journal.walk();
+    buf.restart();
     for number in again.from..again.to + 1 {
-        journal.out(disk, &mut walk, again.side, number, buf)?;
+        journal.out(disk, again.side, number, buf)?;
         still = send_again(
             wire, still, frame, names, again.side, run, number, buf, again.now,
         );

@@ -9,16 +9,12 @@ returns-in_err-put_entry-clause-lines g c = λ b e.
     (c.loop-index.invariant.put b e)
     (c.in_err-put_entry.ensures.line b (c.loop-index.invariant.only_read.same ∙ e) one.0 one.1)
 
-pub put_entry-requires-clause-walk : goal.put_entry-requires-clause-walk
-put_entry-requires-clause-walk g c = λ b e.
-    c.loop-index.invariant.walk b (sym c.loop-index.invariant.only_read.same ∙ e)
-
 pub loop-index-preserved : goal.loop-index-preserved
 loop-index-preserved g c = record {
   put = λ b e. let one = entry_at c.args.journal.now.entries c.loop-index.index (search rules) in
       line_put _ _ _ _ _ _ one.1 (c.loop-index.invariant.put b e)
       (c.in_ok-put_entry.ensures.line b (c.loop-index.invariant.only_read.same ∙ e) one.0 one.1);
-  walk = λ b e. c.in_ok-put_entry.ensures.walk b (c.loop-index.invariant.only_read.same ∙ e);
+  walk = c.in_ok-put_entry.ensures.walk;
   only_read = search rules;
   disk_still = search rules;
   output_still = search rules;

@@ -21,6 +21,7 @@ loop-index-init g c =
       shown = λ s. subst (g.R.Reader.shown c.args.reader.now) none s;
       only_read = only_read_still _ _;
       still = refl;
+      of = c.requires.of;
     }
 
 pub returns-then-end-clause-err : goal.returns-then-end-clause-err
@@ -51,15 +52,15 @@ returns-in_default-clause-err g c =
     let i = c.loop-index.invariant in
     let walks = walks_at c.args.names.now _ _ _ c.requires.named c.end-end.ensures.sound i.count
     c.end-end.ensures.end in
-    let read = subst (λ t. ReadsPayload t c.end-end.result.place c.deref.result.now)
+    let read = subst (λ t. ReadsPayload t c.end-end.result.place c.payload-payload.result.now)
     i.only_read.same (subst (ReadsPayload (g.D.Disk.bytes c.loop-index.disk) c.end-end.result.place)
-    (sym c.deref.ensures.value) c.in_ok-read_record.ensures.payload) in
+    (sym c.payload-payload.ensures.payload) c.in_ok-read_record.ensures.payload) in
     entry_misread (g.D.Disk.bytes c.args.disk.now) c.args.log.now c.requires.stands
     c.args.names.now c.requires.named _ _ _ _ walks i.front
-    (omega (arith, c.loop-index-test.true, c.count-index-end.ensures.count)) c.deref.result.now read
+    (omega (arith, c.loop-index-test.true, c.count-index-end.ensures.count)) c.payload-payload.result.now read
     (λ entry follows. at_none c.in_ok-entry.field-0
-    ((e : Entry) → Follows c.end-end.result.next c.deref.result.now e → ⊥)
-    (λ (e : Entry). Follows c.end-end.result.next c.deref.result.now e)
+    ((e : Entry) → Follows c.end-end.result.next c.payload-payload.result.now e → ⊥)
+    (λ (e : Entry). Follows c.end-end.result.next c.payload-payload.result.now e)
     c.in_default.is c.in_ok-entry.ensures entry follows)
 
 pub loop-index-preserved : goal.loop-index-preserved
@@ -71,13 +72,13 @@ loop-index-preserved g c =
     i.count c.end-end.ensures.end in
     let within : c.loop-index.index < c.args.log.now.count =
     omega (arith, c.loop-index-test.true, c.count-index-end.ensures.count) in
-    let read = subst (λ t. ReadsPayload t c.end-end.result.place c.deref.result.now)
+    let read = subst (λ t. ReadsPayload t c.end-end.result.place c.payload-payload.result.now)
     i.only_read.same (subst (ReadsPayload (g.D.Disk.bytes c.loop-index.disk) c.end-end.result.place)
-    (sym c.deref.ensures.value) c.in_ok-read_record.ensures.payload) in
-    let follows : Follows c.end-end.result.next c.deref.result.now entry =
+    (sym c.payload-payload.ensures.payload) c.in_ok-read_record.ensures.payload) in
+    let follows : Follows c.end-end.result.next c.payload-payload.result.now entry =
     at_some c.in_ok-entry.field-0 entry
-    ((e : Entry) → Follows c.end-end.result.next c.deref.result.now e → ⊥)
-    (λ (e : Entry). Follows c.end-end.result.next c.deref.result.now e)
+    ((e : Entry) → Follows c.end-end.result.next c.payload-payload.result.now e → ⊥)
+    (λ (e : Entry). Follows c.end-end.result.next c.payload-payload.result.now e)
     c.in-Some.is c.in_ok-entry.ensures in
     let pushed : c.add.new.self.entries ≡ entries ++ entry ∷ [] =
     ap (λ (k : KeptState). k.entries) c.add.ensures
@@ -85,13 +86,14 @@ loop-index-preserved g c =
     record {
       front = more_told (g.D.Disk.bytes c.args.disk.now) c.args.log.now c.requires.stands
           c.args.names.now c.requires.named entries _ _ _ walks i.front within
-          c.deref.result.now read entry c.add.new.self.entries follows pushed;
+          c.payload-payload.result.now read entry c.add.new.self.entries follows pushed;
       count = omega (arith, i.count, ap length pushed, length-append entries (entry ∷ []));
       most = omega (arith, within);
       shown = λ s. subst (g.R.Reader.shown c.saw.new.self) (sym pushed)
           (c.in_ok-saw.ensures entries (i.shown s));
       only_read = only_read_on _ _ _ _ _ _ i.only_read c.in_ok-read_record.ensures.only_read;
       still = c.in_ok-read_record.ensures.cause ∙ i.still;
+      of = c.read_record.ensures.of;
     }
 
 pub returns-then-place-end-clause-err : goal.returns-then-place-end-clause-err

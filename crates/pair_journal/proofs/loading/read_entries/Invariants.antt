@@ -1,5 +1,6 @@
 use Rattle.std.proofs.Common.{◌≡◌, ◌≤◌, ◌+◌, [], length}
 use Rattle.gate_log.specs.Log.{OnlyRead}
+use Rattle.gate_log.specs.Chunk.{IsOf}
 use Rattle.pair_journal.proofs.Reading.{TellsFront}
 use Rattle.pair_journal.proofs.loading.read_entries.Given as goal
 
@@ -12,4 +13,5 @@ invariant-loop-index g l = record {
   only_read : OnlyRead (g.D.Disk.bytes l.fn.disk)
       (g.D.Disk.bytes l.disk) (g.D.Disk.image l.fn.disk) (g.D.Disk.image l.disk);
   still : g.D.Disk.faults l.disk ≡ g.D.Disk.faults l.fn.disk;
+  of : IsOf (g.D.Disk.bytes l.disk) l.chunk;
 }

@@ -19,7 +19,8 @@ loop-number-init g c = record {
   faults = refl;
   polls = refl;
   plays = λ script plays. plays;
-  walk = λ b e. c.walk-walk.ensures.outs c.args.again.side c.args.again.from c.requires.from;
+  walk = c.restart.ensures (g.D.Disk.bytes c.args.disk.now) c.args.journal.now.entries
+      c.args.again.side c.args.again.from c.requires.from;
   sent = λ b e. begin_repeat _ _ _ _;
 }
 
@@ -36,17 +37,13 @@ out-requires-clause-stands g c =
     (Born c.args.journal.now.names c.args.journal.now.entries)))
     (sym c.loop-number.invariant.only_read.same) c.requires.stands
 
-pub out-requires-clause-walk : goal.out-requires-clause-walk
-out-requires-clause-walk g c = λ b e.
-    c.loop-number.invariant.walk b (sym c.loop-number.invariant.only_read.same ∙ e)
-
 pub loop-number-preserved : goal.loop-number-preserved
 loop-number-preserved g c =
     let inv = c.loop-number.invariant in
     let side = c.args.again.side in
     let entries = c.args.journal.now.entries in
     let number = c.loop-number.number in
-    let told = c.out.new.into in
+    let told = c.out.new.into.told in
     let end = c.args.again.to + 1 in
     let all = repeat_forms entries side c.args.again.from c.args.again.to c.args.again.now in
     let ran : run_of c.run_behind-run.result
@@ -60,7 +57,7 @@ loop-number-preserved g c =
       faults = c.in_ok-out.ensures.cause ∙ inv.faults;
       polls = c.send_again-still.ensures.polls ∙ inv.polls;
       plays = λ script plays. c.send_again-still.ensures.plays script (inv.plays script plays);
-      walk = λ b e. c.out.ensures.walk b (inv.only_read.same ∙ e) (number + 1) (omega arith);
+      walk = c.out.ensures.walk (number + 1) (omega arith);
       sent = λ b e. subst (λ q. Repeated (g.W.Wire.recorded c.args.wire.now)
           (g.W.Wire.recorded c.send_again-still.new.wire) c.args.up
           (form_frame c.args.names.now side) c.send_again-still.result

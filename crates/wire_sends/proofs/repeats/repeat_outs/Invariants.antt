@@ -1,7 +1,7 @@
 use Rattle.std.proofs.Common.{◌≡◌, ◌⊎◌, ◌≤◌, ◌+◌, ◌-◌, None}
 use Rattle.std.specs.Option.{ForSome}
 use Rattle.gate_log.specs.Log.{OnlyReads}
-use Rattle.pair_journal.specs.Spots.{IsWalk}
+use Rattle.pair_journal.specs.Walks.{IsWalk}
 use Rattle.wires.specs.Told.{Keeps}
 use Rattle.life_laws.specs.Forms.{form_frame}
 use Rattle.life_laws.specs.Repeats.{repeats, repeat_forms}
@@ -18,8 +18,7 @@ invariant-loop-number g l = record {
   faults : g.D.Disk.faults l.disk ≡ g.D.Disk.faults l.initial.disk;
   polls : g.W.Wire.polls l.wire ≡ g.W.Wire.polls l.initial.wire;
   plays : Keeps (g.W.Wire.plays l.initial.wire) (g.W.Wire.plays l.wire);
-  walk : ForSome (g.D.Disk.bytes l.initial.disk)
-      (λ b. IsWalk l.journal.entries l.again.side l.number l.walk);
+  walk : IsWalk (g.D.Disk.bytes l.disk) l.journal.entries l.again.side l.number l.buf.walk;
   sent : ForSome (g.D.Disk.bytes l.initial.disk) (λ b. Repeated
       (g.W.Wire.recorded l.initial.wire) (g.W.Wire.recorded l.wire) l.up
       (form_frame l.names l.again.side) l.still

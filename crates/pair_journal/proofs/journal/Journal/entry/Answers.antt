@@ -21,6 +21,8 @@ pub records-preserved : goal.records-preserved
 records-preserved g c =
     let i = c.records.invariant in
     record {
+      of = c.read_at.ensures.of;
+      held = i.held;
       told = λ b e.
           let found = get_some c.args.self.now.entries c.records.spot.index
           (omega (arith, c.records-test.true, c.requires.index)) in
@@ -56,11 +58,15 @@ returns-clause-entry g c = λ b e.
     ap (slice_get c.args.self.now.entries) same ∙ found.1 ∙ ap (λ (x : Entry). Some x) (sym read.0)
 
 pub returns-clause-walk : goal.returns-clause-walk
-returns-clause-walk g c = λ b e.
-    let i = c.records.invariant in
-    let here = i.told b e in
-    let found = get_some c.args.self.now.entries c.records.spot.index
-    (omega (arith, here.1, c.requires.index)) in
-    let read = c.in_ok-entry.ensures.entry b (i.only_read.same ∙ e) found.0
-    (record { at = here.0; is = found.1 }) in
-    (read.1, omega (arith, here.1, c.in_ok-entry.ensures.index))
+returns-clause-walk g c = (
+  c.entry_at.ensures.of,
+  λ b e.
+      let i = c.records.invariant in
+      let before = sym c.entry_at.ensures.only_read.same ∙ e in
+      let here = i.told b (sym i.only_read.same ∙ before) in
+      let found = get_some c.args.self.now.entries c.records.spot.index
+      (omega (arith, here.1, c.requires.index)) in
+      let read = c.in_ok-entry.ensures.entry b before found.0
+      (record { at = here.0; is = found.1 }) in
+      (read.1, omega (arith, here.1, c.in_ok-entry.ensures.index)),
+)

@@ -1,11 +1,14 @@
 use Rattle.std.proofs.Common.{◌≡◌, ◌≤◌, ◌-◌}
 use Rattle.std.specs.Option.{ForSome}
 use Rattle.gate_log.specs.Log.{OnlyRead}
+use Rattle.gate_log.specs.Chunk.{IsOf}
 use Rattle.pair_journal.specs.Spots.{IsSpot}
 use Rattle.pair_journal.proofs.journal.Journal.entry.Given as goal
 
 abbrev pub invariant-records : goal.invariant-records
 invariant-records g l = record {
+  of : IsOf (g.D.Disk.bytes l.disk) l.walk.chunk;
+  held : l.walk.spot ≡ l.fn.walk.spot;
   told : ForSome (g.D.Disk.bytes l.fn.disk)
       (λ b. IsSpot l.self.entries l.spot × (l.spot.index ≤ l.index));
   only_read : OnlyRead (g.D.Disk.bytes l.fn.disk)

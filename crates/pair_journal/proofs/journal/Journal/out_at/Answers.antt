@@ -25,7 +25,7 @@ returns-then-next_out-number-clause-goes_on g c = λ next is b e entry here.
 pub returns-clause-refuses : goal.returns-clause-refuses
 returns-clause-refuses g c = λ at is b e entry here low.
     let read = c.in_ok-next.ensures.reads b e entry here in
-    let tells = c.tell_out.ensures.gives entry read.1 (c.deref.ensures.value ∙ read.0) in
+    let tells = c.tell_out.ensures.gives entry read.1 (c.payload.ensures.payload ∙ read.0) in
     has_out c.args.side c.args.number c.args.self.now.entries c.args.spot c.in_ok-next.next entry
     c.in_ok-next.ensures.sound here read.2 c.in_ok-next.ensures.index low
     (omega (arith, c.if-next_out-number.false, c.next_out.ensures))

@@ -38,9 +38,9 @@ returns-in_default-clause-refuses g c = λ at is b e entry here.
     let there = subst (λ (s : JournalState). StandsAt s.entries c.args.spot entry)
     (sym c.self.view_is) here in
     let read = read_is told c.self.inside.names c.self.invariant.named c.self.inside.kept.entries
-    c.end.ensures.sound stands c.args.spot c.read_record.new.out.items
+    c.end.ensures.sound stands c.args.spot c.read_record.new.chunk.payload
     c.in_ok-read_record.ensures.payload b e entry there in
-    c.in_default.ensures entry read.1 (c.deref.ensures.value ∙ read.0)
+    c.in_default.ensures entry read.1 (c.payload-record.ensures.payload ∙ read.0)
 
 pub returns-clause-reads : goal.returns-clause-reads
 returns-clause-reads g c = λ b e entry here.
@@ -51,13 +51,13 @@ returns-clause-reads g c = λ b e entry here.
     (sym c.self.view_is) here in
     let next : Spot = record {
       index = c.args.spot.index + 1;
-      place = c.args.spot.place + 5 + c.len.result;
+      place = c.args.spot.place + 5 + length c.payload-record.result.now;
       next = c.in-Some.front.next;
     } in
     let read = front_next told c.self.inside.names c.self.invariant.named
     c.self.inside.kept.entries c.end.ensures.sound stands c.args.spot
-    c.read_record.new.out.items c.in-Some.front c.len.result next
-    c.in_ok-read_record.ensures.payload (sym c.deref.ensures.value ∙ c.in-Some.ensures.0)
-    c.in-Some.ensures.1 (c.len.ensures ∙ sym c.deref.ensures.len ∙ ap length c.deref.ensures.value)
+    c.read_record.new.chunk.payload c.in-Some.front (length c.payload-record.result.now) next
+    c.in_ok-read_record.ensures.payload (sym c.payload-record.ensures.payload ∙ c.in-Some.ensures.0)
+    c.in-Some.ensures.1 (ap length c.payload-record.ensures.payload)
     refl b e entry there in
     (read.0, read.1, subst (λ (s : JournalState). IsSpot s.entries next) c.self.view_is read.2)
