@@ -16,7 +16,7 @@ ghost use Rattle.journal_show.specs.JournalLines.{lines_from, Shows, FailsBy, sh
 
 use entry_lines::EntryLine;
 use outside::{Disk, Sink};
-use pair_journal::{Journal, JournalError, Walk};
+use pair_journal::{Journal, JournalError, Look, Walk};
 use std::alloc::Global;
 use thiserror::Error;
 
@@ -69,7 +69,7 @@ fn put_line<O: Sink>(out: &mut O, line: &[u8]) -> Result<(), ShowError>
 
 /// Puts the line of the entry of this index, which counts from 0. It is made in `line`.
 fn put_entry<D: Disk, O: Sink>(
-    journal: &Journal,
+    journal: &Look,
     disk: &mut D,
     out: &mut O,
     walk: &mut Walk,
@@ -98,11 +98,7 @@ fn put_entry<D: Disk, O: Sink>(
 }
 
 /// Puts the line of each entry of a journal, in order.
-fn put_entries<D: Disk, O: Sink>(
-    journal: &Journal,
-    disk: &mut D,
-    out: &mut O,
-) -> Result<(), ShowError>
+fn put_entries<D: Disk, O: Sink>(journal: &Look, disk: &mut D, out: &mut O) -> Result<(), ShowError>
     requires stands { ForSome (D.bytes disk.old) (λ b.
         JournalOf b (Born journal.now.names journal.now.entries)) }
     ensures lines { ForSome (D.bytes disk.old) (λ b. PutAppends (O.bytes out.old) (O.bytes out.new)

@@ -16,7 +16,7 @@ use Rattle.pair_entries.specs.Birth.{birth_bytes, AreNames}
 use Rattle.pair_journal.specs.Numbers.{next_out, numbers_after, first_numbers}
 use Rattle.pair_journal.specs.Journal.{AreEntries}
 use Rattle.pair_journal.specs.Calls.{payloads_of}
-use Rattle.pair_journal.specs.Spots.{end_of, behind, IsSpot, AreMarks, IsBefore, HoldsOut}
+use Rattle.pair_journal.specs.Spots.{end_of, behind, IsSpot, AreMarks, HoldsOut}
 use Rattle.pair_journal.specs.declared.spot.Spot.{Spot}
 use Rattle.pair_journal.proofs.Carrying.{numbers_after-push}
 use Rattle.pair_journal.proofs.Giving.{rises, not_past, first_is_1}
@@ -181,18 +181,6 @@ nth_mark entries marks count mark some most is are =
     positive (suc n) none = omega arith
 
 module _ (entries : List Entry) (marks : List Spot) (are : AreMarks entries marks) where
-  -- for an entry of this index
-  pub is_before : (index count : ℕ) (spot : Spot) → 64 * count ≤ index → index < 64 * count + 64
-      → index < length entries → spot ≡ behind (take (64 * count) entries)
-      → IsBefore entries index spot
-  is_before index count spot low high within is =
-      let at = spot_of_take (64 * count) entries spot is (omega (arith, low, within)) in
-      record {
-        at = at.1;
-        from = omega (arith, at.0, low);
-        to = omega (arith, at.0, high);
-      }
-
   module _ (sound : AreEntries first_numbers entries) (side : Side) (number : ℕ) where
     pub parted_marks : IsPartitionedBy (λ (m : Spot). leb (next_out side m.next) number) marks
     parted_marks i j d order within test =

@@ -7,13 +7,13 @@ use Rattle.pair_entries.specs.declared.TheConstants.{MAX_OUTS}
 use Rattle.pair_journal.specs.declared.kept.Kept.TheInside.{Inside}
 use Rattle.pair_journal.specs.Numbers.{first_numbers}
 use Rattle.pair_journal.specs.Journal.{AreEntries}
-use Rattle.pair_journal.specs.Spots.{behind, AreMarks}
+use Rattle.pair_journal.specs.Spots.{AreMarks}
 use Rattle.pair_journal.specs.Sources.{sources_to}
 use Rattle.pair_journal.specs.State.{KeptState}
 
 abbrev pub state_of : Inside → KeptState
 state_of kept = record {
-  entries = kept.past.entries;
+  entries = kept.reached;
   spare = if kept.spare then 1 else 0;
 }
 
@@ -24,9 +24,8 @@ pub record HasRoom (kept : Inside) : Type 0 where
   pub venue : vec_len kept.venue + MAX_OUTS ≤ vec_capacity kept.venue
 
 pub record IsKept (kept : Inside) : Type 0 where
-  pub sound : AreEntries first_numbers kept.past.entries
-  pub end : kept.end ≡ behind kept.past.entries
-  pub marks : AreMarks kept.past.entries kept.marks.items
-  pub client : kept.client.items ≡ sources_to Client kept.past.entries
-  pub venue : kept.venue.items ≡ sources_to Venue kept.past.entries
+  pub sound : AreEntries first_numbers kept.reached
+  pub marks : AreMarks kept.reached kept.marks.items
+  pub client : kept.client.items ≡ sources_to Client kept.reached
+  pub venue : kept.venue.items ≡ sources_to Venue kept.reached
   pub room : kept.spare ≡ true → HasRoom kept

@@ -9,8 +9,10 @@ pub mod Spots
 pub mod Walks
 pub mod Sources
 pub mod Kept
+pub mod Reached
 pub mod OutBuf
 pub mod Buffer
 pub mod Calls
 pub mod Keeping
 pub mod Loading
+pub mod Look

@@ -39,12 +39,6 @@ pub record AreMarks (entries : List Entry) (marks : List Spot) : Type 0 where
   pub each : (i : ℕ) (d : Spot) → i < length marks →
       slice_index_or marks i d ≡ behind (take (STRIDE * (i + 1)) entries)
 
--- a walk from this spot over so many entries at most comes to the one of this index
-pub record IsBefore (entries : List Entry) (index : ℕ) (spot : Spot) : Type 0 where
-  pub at : IsSpot entries spot
-  pub from : spot.index ≤ index
-  pub to : index < spot.index + STRIDE
-
 -- a walk from this spot over so many entries at most comes to the one that gave out this number
 pub record HoldsOut (entries : List Entry) (side : Side) (number : ℕ) (spot : Spot) : Type 0 where
   pub at : IsSpot entries spot

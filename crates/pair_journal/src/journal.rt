@@ -4,7 +4,6 @@ ghost use Rattle.std.specs.Prelude.{◌≡◌, ◌≢◌, ◌⊎◌, ◌+◌, �
 ghost use Rattle.std.specs.Prelude.{Some, None, Ok, Err, IfOk, IfErr};
 ghost use Rattle.std.specs.Prelude.{IfSome, OnOk, OnErr, IsOkUnless, is_some};
 ghost use Rattle.std.specs.Option.{ForSome};
-ghost use Rattle.std.specs.List.{slice_get};
 ghost use Rattle.outside.specs.Disk.{HasOneImage};
 ghost use Rattle.order_meaning.specs.declared.names.Names.{Names};
 ghost use Rattle.gate_log.specs.Records.{IsUnborn};
@@ -20,7 +19,7 @@ ghost use Rattle.pair_journal.specs.Numbers.{outs_to};
 ghost use Rattle.pair_journal.specs.Journal.{JournalOf, Unborn, Born, AreEntries};
 ghost use Rattle.pair_journal.specs.Given.{numbered, given_in, given, source_of};
 ghost use Rattle.pair_journal.specs.Spots.{IsSpot, StandsAt};
-ghost use Rattle.pair_journal.specs.Walks.{IsUpTo, IsWalk, BeginsEntries};
+ghost use Rattle.pair_journal.specs.Walks.{IsWalk};
 ghost use Rattle.pair_journal.specs.OutBuf.{IsGivenAs, IsOutAt, TellsIf};
 ghost use Rattle.pair_journal.specs.Buffer.{out_told, IsRoomy};
 ghost use Rattle.pair_journal.specs.Calls.{HasDiskCause, ReadsOnly, Looks, Loads, BornOrNot};
@@ -29,16 +28,16 @@ ghost use Rattle.pair_journal.specs.Loading.{HasNames, Tells, IsMisread};
 
 use crate::given::out_in;
 use crate::kept::Kept;
-use crate::loading::{read_entries, read_names, read_record};
+use crate::loading::{read_log, read_record};
 use crate::numbers::next_out;
 use crate::out_buf::OutTold;
+use crate::reached::Keeper;
 use crate::spot::{STRIDE, Spot, later};
-use crate::walk::Walk;
-use crate::{JournalError, NoReader, OutBuf, Reader};
+use crate::{JournalError, Look, OutBuf, Reader};
 use gate_log::{Chunk, Log};
 use order_meaning::{Names, Side};
 use outside::Disk;
-use pair_entries::{Entry, Prepared, are_names, front_of, read_entry, same_names, write_birth};
+use pair_entries::{Entry, Prepared, are_names, front_of, same_names, write_birth};
 use std::alloc::Global;
 use std::marker::Model;
 
@@ -98,9 +97,7 @@ impl Journal {
         ensures only_read { OnlyReads D.bytes D.image disk.old disk.new }
         ensures cause { HasDiskCause (D.faults disk.old) (D.faults disk.new) result }
     {
-        let mut chunk = Chunk::new(alloc)?;
-        let names = read_names(&log, disk, &mut chunk)?;
-        let kept = read_entries(alloc, &log, &names, disk, &mut chunk, reader)?;
+        let (names, kept) = read_log(alloc, &log, disk, reader, Kept::new(alloc))?;
         Ok(Journal { log, names, kept })
     }
 
@@ -152,18 +149,19 @@ impl Journal {
         })
     }
 
-    /// The journal on a disk; none where the disk is unborn. It only reads, and compares no names.
+    /// A look at the journal on a disk; none where the disk is unborn. It only reads, and compares no
+    /// names.
     ///
     /// # Errors
     /// `Refused` exactly where the bytes are refused at that place; `DiskFault` only where the
     /// disk's count of faults rose; `NoMemory`.
-    pub fn look<D: Disk>(alloc: Global, disk: &mut D) -> Result<Option<Journal>, JournalError>
+    pub fn look<D: Disk>(alloc: Global, disk: &mut D) -> Result<Option<Look>, JournalError>
         ensures looks { IfSome (D.bytes disk.old) (λ b. Looks b result) }
         ensures only_read { OnlyReads D.bytes D.image disk.old disk.new }
         ensures cause { HasDiskCause (D.faults disk.old) (D.faults disk.new) result }
     {
         match Log::look(alloc, disk)? {
-            Some(log) => Ok(Some(Journal::of_log(alloc, disk, log, &mut NoReader)?)),
+            Some(log) => Ok(Some(Look::of_log(alloc, disk, log)?)),
             None => Ok(None),
         }
     }
@@ -289,83 +287,6 @@ impl Journal {
             place: spot.place + 5 + record.len() as u64,
             next: front.next,
         })
-    }
-
-    /// The entry at a spot, and the spot behind it.
-    fn entry_at<D: Disk>(
-        &self,
-        disk: &mut D,
-        spot: Spot,
-        chunk: &mut Chunk,
-    ) -> Result<(Entry, Spot), JournalError>
-        requires stands { ForSome (D.bytes disk.old) (λ b.
-            JournalOf b (Born self.now.names self.now.entries)) }
-        requires of { IsOf (D.bytes disk.old) chunk.old }
-        ensures of { IsOf (D.bytes disk.new) chunk.new }
-        ensures entry { IfOk result (λ read. ForSome (D.bytes disk.old) (λ b. (entry : Entry) →
-            StandsAt self.now.entries spot entry → (read.0 ≡ entry)
-            × IsSpot self.now.entries read.1)) }
-        ensures index { IfOk result (λ read. read.1.index ≡ spot.index + 1) }
-        ensures bounds { IfOk result (λ read. IsEntry read.0) }
-        ensures refuses { (at : ℕ) → result ≡ Err (errors.Refused at) →
-            ForSome (D.bytes disk.old) (λ b. (entry : Entry) →
-            StandsAt self.now.entries spot entry → ⊥) }
-        ensures only_read { OnlyReads D.bytes D.image disk.old disk.new }
-        ensures cause { HasDiskCause (D.faults disk.old) (D.faults disk.new) result }
-        ensures only { OnlyReading result }
-    {
-        let next = self.read_at(disk, spot, chunk)?;
-        let Some(entry) = read_entry(self.kept.alloc(), chunk.payload())? else {
-            return Err(JournalError::Refused { at: spot.place });
-        };
-        Ok((entry, next))
-    }
-
-    /// A walk over its entries, before the first.
-    ///
-    /// # Errors
-    /// `NoMemory` alone.
-    pub fn walk(&self) -> Result<Walk, JournalError>
-        ensures entries { IfOk result BeginsEntries }
-        ensures only { IsOkUnless result errors.NoMemory }
-    {
-        Ok(Walk::new(self.kept.alloc())?)
-    }
-
-    /// The entry of this index, which counts from 0; the walk goes on behind it. It finds at most 64
-    /// records, none twice where the indices rise, in one read of 65,541 bytes for as many of them
-    /// as these hold.
-    ///
-    /// # Errors
-    /// `Refused` only over a disk that does not tell its bytes, where a record that was read is no
-    /// entry; `DiskFault` only where the disk's count of faults rose; `NoMemory`. Then the walk is
-    /// where it was.
-    pub fn entry<D: Disk>(
-        &self,
-        disk: &mut D,
-        walk: &mut Walk,
-        index: u64,
-    ) -> Result<Entry, JournalError>
-        requires index { index < length self.now.entries }
-        requires stands { ForSome (D.bytes disk.old) (λ b.
-            JournalOf b (Born self.now.names self.now.entries)) }
-        requires walk { IsUpTo (D.bytes disk.old) self.now.entries index walk.old }
-        ensures entry { IfOk result (λ entry. ForSome (D.bytes disk.old) (λ b.
-            slice_get self.now.entries index ≡ Some entry)) }
-        ensures bounds { IfOk result IsEntry }
-        ensures walk { IsUpTo (D.bytes disk.new) self.now.entries (index + 1) walk.new }
-        ensures only_read { OnlyReads D.bytes D.image disk.old disk.new }
-        ensures cause { HasDiskCause (D.faults disk.old) (D.faults disk.new) result }
-        ensures only { RefusedUntold (D.bytes disk.old) result }
-    {
-        let mark = self.kept.before(index);
-        let mut spot = later(mark, walk.spot);
-        'records: while spot.index < index {
-            spot = self.read_at(disk, spot, &mut walk.chunk)?;
-        }
-        let (entry, next) = self.entry_at(disk, spot, &mut walk.chunk)?;
-        walk.spot = next;
-        Ok(entry)
     }
 
     /// Makes room for one commit.

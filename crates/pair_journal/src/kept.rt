@@ -6,12 +6,12 @@ ghost use Rattle.pair_entries.specs.Payload.{IsEntry, entry_bytes};
 ghost use Rattle.pair_journal.specs.Numbers.{GoesOn, first_numbers, numbers_after, next_out};
 ghost use Rattle.pair_journal.specs.Journal.{AreEntries};
 ghost use Rattle.pair_journal.specs.Given.{source_of};
-ghost use Rattle.pair_journal.specs.Spots.{behind, end_of, IsBefore, HoldsOut};
+ghost use Rattle.pair_journal.specs.Spots.{end_of, HoldsOut};
 
 use crate::numbers::next_out;
-use crate::past::{Past, joined, none};
+use crate::reached::{Keeper, Reached};
 use crate::sources::{Source, find, note};
-use crate::spot::{STRIDE, Spot, mark, mark_of, start};
+use crate::spot::{Spot, mark, mark_of};
 use order_meaning::Side;
 use pair_entries::{Entry, MAX_OUTS};
 use std::alloc::{AllocError, Global};
@@ -21,8 +21,7 @@ use std::marker::Model;
 /// 64th, and what the outs to each side translate. It holds no entry.
 #[derive(Drop)]
 pub(crate) struct Kept {
-    past: Past,
-    end: Spot,
+    reached: Reached,
     marks: Vec<Spot>,
     client: Vec<Source>,
     venue: Vec<Source>,
@@ -47,26 +46,12 @@ impl Kept {
         ensures { result ≡ record { entries = []; spare = 0 } }
     {
         Kept {
-            past: none(),
-            end: start(),
+            reached: Reached::new(),
             marks: Vec::new(alloc),
             client: Vec::new(alloc),
             venue: Vec::new(alloc),
             spare: false,
         }
-    }
-
-    /// Its allocator.
-    pub(crate) fn alloc(&self) -> Global {
-        *self.marks.allocator()
-    }
-
-    /// The place behind the last entry.
-    pub(crate) fn end(&self) -> Spot
-        ensures end { result ≡ behind self.now.entries }
-        ensures sound { AreEntries first_numbers self.now.entries }
-    {
-        self.end
     }
 
     /// Makes room for one entry.
@@ -103,22 +88,9 @@ impl Kept {
         let outs = entry.outs.as_slice();
         note(&mut self.client, Side::Client, entry, outs);
         note(&mut self.venue, Side::Venue, entry, outs);
-        self.past = joined(&self.past, entry);
-        self.end = Spot {
-            index: self.end.index + 1,
-            place: self.end.place + 5 + len,
-            next: entry.next,
-        };
-        mark(&mut self.marks, self.end);
+        self.reached.add(entry, len);
+        mark(&mut self.marks, self.reached.end());
         self.spare = false;
-    }
-
-    /// Where a walk to the entry of this index begins.
-    pub(crate) fn before(&self, index: u64) -> Spot
-        requires { index < length self.now.entries }
-        ensures { IsBefore self.now.entries index result }
-    {
-        mark_of(&self.marks, (index / STRIDE) as usize)
     }
 
     /// Where a walk to the entry that gave out this number begins.
@@ -142,5 +114,19 @@ impl Kept {
             Side::Client => find(&self.client, number),
             Side::Venue => find(&self.venue, number),
         }
+    }
+}
+
+impl Keeper for Kept {
+    ghost entries = { λ kept. kept.entries };
+
+    fn end(&self) -> Spot {
+        self.reached.end()
+    }
+
+    fn keep(&mut self, entry: &Entry, len: u64) -> Result<(), AllocError> {
+        self.reserve()?;
+        self.add(entry, len);
+        Ok(())
     }
 }

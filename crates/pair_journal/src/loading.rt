@@ -12,8 +12,8 @@ ghost use Rattle.pair_journal.specs.Calls.{HasDiskCause};
 ghost use Rattle.pair_journal.specs.Loading.{Follows, Unread, IsMisread, TellsNames, Tells};
 ghost use Rattle.pair_journal.specs.Loading.{HasExtent};
 
-use crate::kept::Kept;
 use crate::numbers::{Next, goes_on};
+use crate::reached::Keeper;
 use crate::{JournalError, Reader};
 use gate_log::{Chunk, Log};
 use order_meaning::Names;
@@ -42,11 +42,7 @@ pub(crate) fn read_record<D: Disk>(
 }
 
 /// The names in the birth record of a log.
-pub(crate) fn read_names<D: Disk>(
-    log: &Log,
-    disk: &mut D,
-    chunk: &mut Chunk,
-) -> Result<Names, JournalError>
+fn read_names<D: Disk>(log: &Log, disk: &mut D, chunk: &mut Chunk) -> Result<Names, JournalError>
     requires stands { ForSome (D.bytes disk.old) (StandsOver log.now) }
     requires of { IsOf (D.bytes disk.old) chunk.old }
     ensures of { IsOf (D.bytes disk.new) chunk.new }
@@ -65,11 +61,7 @@ pub(crate) fn read_names<D: Disk>(
 }
 
 /// The entry that these bytes spell, where its numbers go on from these.
-pub(crate) fn entry_after(
-    alloc: Global,
-    numbers: Next,
-    bytes: &[u8],
-) -> Result<Option<Entry>, AllocError>
+fn entry_after(alloc: Global, numbers: Next, bytes: &[u8]) -> Result<Option<Entry>, AllocError>
     ensures { IfOk result (λ r. MatchOption r
         ((entry : Entry) → Follows numbers bytes.now entry → ⊥)
         (λ entry. Follows numbers bytes.now entry)) }
@@ -83,28 +75,30 @@ pub(crate) fn entry_after(
     Ok(Some(entry))
 }
 
-/// The entries in the records of a log behind its birth record, as a journal keeps them. Each is
-/// shown to a reader.
-pub(crate) fn read_entries<D: Disk, R: Reader>(
+/// What a keeper, which has none yet, keeps of the entries in the records of a log behind its birth
+/// record. Each is shown to a reader.
+fn read_entries<D: Disk, R: Reader, K: Keeper + Drop>(
     alloc: Global,
     log: &Log,
     names: &Names,
     disk: &mut D,
     chunk: &mut Chunk,
     reader: &mut R,
-) -> Result<Kept, JournalError>
+    keeper: K,
+) -> Result<K, JournalError>
     requires named { AreNames names.now }
     requires born { TellsNames (D.bytes disk.old) names.now }
     requires stands { ForSome (D.bytes disk.old) (StandsOver log.now) }
+    requires none { K.entries keeper ≡ [] }
     requires of { IsOf (D.bytes disk.old) chunk.old }
-    ensures ok { IfOk result (λ kept. Tells (D.bytes disk.old) names.now kept.entries) }
-    ensures extent { IfOk result (λ kept. HasExtent log.now names.now kept.entries) }
-    ensures shown { IfOk result (λ kept. R.shown reader.old [] → R.shown reader.new kept.entries) }
+    ensures ok { IfOk result (λ kept. Tells (D.bytes disk.old) names.now (K.entries kept)) }
+    ensures extent { IfOk result (λ kept. HasExtent log.now names.now (K.entries kept)) }
+    ensures shown { IfOk result (λ kept. R.shown reader.old [] → R.shown reader.new (K.entries kept)) }
     ensures err { IfErr result (IsMisread (D.bytes disk.old)) }
     ensures only_read { OnlyReads D.bytes D.image disk.old disk.new }
     ensures cause { HasDiskCause (D.faults disk.old) (D.faults disk.new) result }
 {
-    let mut kept = Kept::new(alloc);
+    let mut kept = keeper;
     for index in 1..log.count() {
         let end = kept.end();
         if end.place >= log.end() {
@@ -116,8 +110,7 @@ pub(crate) fn read_entries<D: Disk, R: Reader>(
             return Err(JournalError::Refused { at: end.place });
         };
         reader.saw(&entry)?;
-        kept.reserve()?;
-        kept.add(&entry, payload.len() as u64);
+        kept.keep(&entry, payload.len() as u64)?;
     }
     // Over a disk that tells its bytes it is the end.
     let place = kept.end().place;
@@ -125,4 +118,30 @@ pub(crate) fn read_entries<D: Disk, R: Reader>(
         return Err(JournalError::Refused { at: place });
     }
     Ok(kept)
+}
+
+/// The names in the birth record of a log, and what a keeper, which has none yet, keeps of its
+/// entries. Each is shown to a reader.
+pub(crate) fn read_log<D: Disk, R: Reader, K: Keeper + Drop>(
+    alloc: Global,
+    log: &Log,
+    disk: &mut D,
+    reader: &mut R,
+    keeper: K,
+) -> Result<(Names, K), JournalError>
+    requires stands { ForSome (D.bytes disk.old) (StandsOver log.now) }
+    requires none { K.entries keeper ≡ [] }
+    ensures named { IfOk result (λ read. AreNames read.0) }
+    ensures ok { IfOk result (λ read. Tells (D.bytes disk.old) read.0 (K.entries read.1)) }
+    ensures extent { IfOk result (λ read. HasExtent log.now read.0 (K.entries read.1)) }
+    ensures shown { IfOk result (λ read.
+        R.shown reader.old [] → R.shown reader.new (K.entries read.1)) }
+    ensures err { IfErr result (IsMisread (D.bytes disk.old)) }
+    ensures only_read { OnlyReads D.bytes D.image disk.old disk.new }
+    ensures cause { HasDiskCause (D.faults disk.old) (D.faults disk.new) result }
+{
+    let mut chunk = Chunk::new(alloc)?;
+    let names = read_names(log, disk, &mut chunk)?;
+    let kept = read_entries(alloc, log, &names, disk, &mut chunk, reader, keeper)?;
+    Ok((names, kept))
 }

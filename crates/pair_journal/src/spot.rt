@@ -1,12 +1,13 @@
 //! Places among the entries of a journal, and the marks of every 64th.
 
-ghost use Rattle.std.specs.Prelude.{◌≡◌, ◌⊎◌, ◌+◌, ◌*◌, ◌<◌, ◌≤◌, [], ◌∷◌, ◌++◌, List, length, take};
+ghost use Rattle.std.specs.Prelude.{◌≡◌, ◌⊎◌, ◌+◌, ◌*◌, ◌<◌, ◌≤◌, ◌^◌, [], ◌∷◌, ◌++◌, List, length, take};
 ghost use Rattle.std.specs.Prelude.{vec_len, vec_capacity};
 ghost use Rattle.pair_entries.specs.declared.entry.Entry.{Entry};
 ghost use Rattle.pair_journal.specs.Spots.{behind, AreMarks};
 
 use crate::numbers::{FIRST, Next};
 use gate_log::BIRTH_LEN;
+use pair_entries::Entry;
 
 /// How many entries stand between one mark and the next.
 pub(crate) const STRIDE: u64 = 64;
@@ -18,6 +19,25 @@ pub(crate) struct Spot {
     pub(crate) index: u64,
     pub(crate) place: u64,
     pub(crate) next: Next,
+}
+
+impl Spot {
+    /// The spot behind the entry that stands here, by the length of its payload.
+    pub(crate) fn behind(self, entry: &Entry, len: u64) -> Spot
+        requires index { self.index + 1 < 2 ^ 64 }
+        requires place { self.place + 5 + len < 2 ^ 64 }
+        ensures { result ≡ record {
+          index = self.index + 1;
+          place = self.place + 5 + len;
+          next = entry.now.next;
+        } }
+    {
+        Spot {
+            index: self.index + 1,
+            place: self.place + 5 + len,
+            next: entry.next,
+        }
+    }
 }
 
 /// The place before the first entry, which needs no mark.

@@ -156,46 +156,41 @@ fn image_of(alloc: Global, payload: &[u8]) -> Result<Vec<u8>, AllocError> {
 pub(crate) fn entry_on(
     alloc: Global,
     disk: &mut MemDisk,
-    names: &Names,
     index: u64,
 ) -> Result<Option<Entry>, JournalError>
     ensures { IfOk result (λ entry. IfSome entry IsEntry) }
 {
-    let journal = Journal::load(alloc, disk, names, &mut NoReader)?;
-    if journal.count() <= index {
+    let Some(look) = Journal::look(alloc, disk)? else {
+        return Ok(None);
+    };
+    if look.count() <= index {
         return Ok(None);
     }
-    let mut walk = journal.walk()?;
-    let entry = journal.entry(disk, &mut walk, index)?;
+    let mut walk = look.walk()?;
+    let entry = look.entry(disk, &mut walk, index)?;
     Ok(Some(entry))
 }
 
 /// Whether the entry of a record of this payload is written as this payload again.
-fn is_kept(alloc: Global, names: &Names, payload: &[u8]) -> Result<bool, JournalError> {
+fn is_kept(alloc: Global, payload: &[u8]) -> Result<bool, JournalError> {
     let mut disk = MemDisk::new(alloc, image_of(alloc, payload)?, Vec::new(alloc));
-    match entry_on(alloc, &mut disk, names, 0)? {
+    match entry_on(alloc, &mut disk, 0)? {
         Some(entry) => Ok(prepare(alloc, entry)?.payload() == payload),
         None => Ok(false),
     }
 }
 
 /// The same, with one byte of the order changed.
-fn is_broken_kept(
-    alloc: Global,
-    names: &Names,
-    place: usize,
-    byte: u8,
-) -> Result<bool, JournalError> {
+fn is_broken_kept(alloc: Global, place: usize, byte: u8) -> Result<bool, JournalError> {
     let payload = broken(alloc, place, byte)?;
-    is_kept(alloc, names, &payload)
+    is_kept(alloc, &payload)
 }
 
 #[test]
 fn a_payload_is_read_and_written_or_has_a_broken_field(rt: HostRuntime) -> Result<(), Fail> {
-    let names = names().ok_or("names of four bytes")?;
-    assert_eq!(rt; is_kept(rt.alloc(), &names, &ORDER), Ok(true));
+    assert_eq!(rt; is_kept(rt.alloc(), &ORDER), Ok(true));
     for (place, byte, shows) in &BROKEN {
-        let kept = is_broken_kept(rt.alloc(), &names, *place, *byte);
+        let kept = is_broken_kept(rt.alloc(), *place, *byte);
         assert_eq!(rt; kept, Err(JournalError::Refused { at: 160 }), "{shows}");
     }
     Ok(())
@@ -229,9 +224,8 @@ fn longest(alloc: Global) -> Result<Vec<u8>, AllocError> {
 
 #[test]
 fn the_longest_entry_is_read_and_written(rt: HostRuntime) -> Result<(), Fail> {
-    let names = names().ok_or("names of four bytes")?;
     let payload = longest(rt.alloc())?;
-    assert_eq!(rt; is_kept(rt.alloc(), &names, &payload), Ok(true));
+    assert_eq!(rt; is_kept(rt.alloc(), &payload), Ok(true));
     Ok(())
 }
 
@@ -531,7 +525,7 @@ fn an_out_is_read(rt: HostRuntime) -> Result<(), Fail> {
 /// The next numbers of the second entry of a disk with two orders.
 fn second_next(alloc: Global, names: &Names) -> Result<Option<Next>, JournalError> {
     let mut disk = two_orders(alloc, names)?;
-    let entry = entry_on(alloc, &mut disk, names, 1)?;
+    let entry = entry_on(alloc, &mut disk, 1)?;
     Ok(entry.as_ref().map(|entry| entry.next))
 }
 

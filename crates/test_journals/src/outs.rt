@@ -70,15 +70,10 @@ fn outs_in_a_row_are_told_by_one_read(rt: HostRuntime) -> Result<(), Fail> {
 }
 
 /// Whether the entry of this index is the one that gave out the number behind it.
-fn is_entry_of(
-    alloc: Global,
-    disk: &mut MemDisk,
-    names: &Names,
-    index: u32,
-) -> Result<bool, JournalError>
+fn is_entry_of(alloc: Global, disk: &mut MemDisk, index: u32) -> Result<bool, JournalError>
     requires { index < ORDERS }
 {
-    match entry_on(alloc, disk, names, u64::from(index))? {
+    match entry_on(alloc, disk, u64::from(index))? {
         Some(entry) => Ok(entry.next == (index + 2, 1, 1, index + 2)),
         None => Ok(false),
     }
@@ -88,7 +83,7 @@ fn is_entry_of(
 fn first_unread(alloc: Global, names: &Names) -> Result<Option<u32>, JournalError> {
     let mut disk = orders(alloc, names)?;
     for index in 0..ORDERS {
-        if !is_entry_of(alloc, &mut disk, names, index)? {
+        if !is_entry_of(alloc, &mut disk, index)? {
             return Ok(Some(index));
         }
     }

@@ -4,7 +4,6 @@ use Rattle.gate_log.specs.Log.{ReadsPayload}
 use Rattle.pair_entries.specs.declared.entry.Entry.{Entry}
 use Rattle.pair_entries.proofs.Fronts.{at_none, at_some}
 use Rattle.pair_journal.specs.Loading.{Follows, Unread}
-use Rattle.pair_journal.specs.State.{KeptState}
 use Rattle.pair_journal.proofs.Walking.{walks_at, only_read_still, only_read_on}
 use Rattle.pair_journal.proofs.Reading.{TellsFront, none_told, not_past, entry_unread, entry_misread}
 use Rattle.pair_journal.proofs.Reading.{more_told, all_told, not_short, extent_is, err_misread}
@@ -12,7 +11,7 @@ use Rattle.pair_journal.proofs.loading.read_entries.Goals as goal
 
 pub loop-index-init : goal.loop-index-init
 loop-index-init g c =
-    let none : [] ≡ c.new-kept.result.entries = sym (ap (λ k. k.entries) c.new-kept.ensures) in
+    let none : [] ≡ g.K.Keeper.entries c.args.keeper = sym c.requires.none in
     record {
       front = subst (TellsFront (g.D.Disk.bytes c.args.disk.now) c.args.names.now)
           none (none_told _ c.args.names.now c.requires.born);
@@ -66,7 +65,7 @@ returns-in_default-clause-err g c =
 pub loop-index-preserved : goal.loop-index-preserved
 loop-index-preserved g c =
     let i = c.loop-index.invariant in
-    let entries = c.loop-index.kept.entries in
+    let entries = g.K.Keeper.entries c.loop-index.kept in
     let entry = c.in-Some.entry in
     let walks = walks_at c.args.names.now entries _ _ c.requires.named c.end-end.ensures.sound
     i.count c.end-end.ensures.end in
@@ -80,13 +79,13 @@ loop-index-preserved g c =
     ((e : Entry) → Follows c.end-end.result.next c.payload-payload.result.now e → ⊥)
     (λ (e : Entry). Follows c.end-end.result.next c.payload-payload.result.now e)
     c.in-Some.is c.in_ok-entry.ensures in
-    let pushed : c.add.new.self.entries ≡ entries ++ entry ∷ [] =
-    ap (λ (k : KeptState). k.entries) c.add.ensures
-    ∙ ap (λ (k : KeptState). k.entries ++ entry ∷ []) c.in_ok-reserve.ensures.ok in
+    let pushed : g.K.Keeper.entries c.keep.new.self ≡ entries ++ entry ∷ [] =
+    c.in_ok-keep.ensures in
     record {
       front = more_told (g.D.Disk.bytes c.args.disk.now) c.args.log.now c.requires.stands
           c.args.names.now c.requires.named entries _ _ _ walks i.front within
-          c.payload-payload.result.now read entry c.add.new.self.entries follows pushed;
+          c.payload-payload.result.now read entry (g.K.Keeper.entries c.keep.new.self) follows
+          pushed;
       count = omega (arith, i.count, ap length pushed, length-append entries (entry ∷ []));
       most = omega (arith, within);
       shown = λ s. subst (g.R.Reader.shown c.saw.new.self) (sym pushed)

@@ -6,10 +6,10 @@ use Rattle.pair_journal.proofs.loading.read_entries.Given as goal
 
 abbrev pub invariant-loop-index : goal.invariant-loop-index
 invariant-loop-index g l = record {
-  front : TellsFront (g.D.Disk.bytes l.fn.disk) l.names l.kept.entries;
-  count : l.index ≡ length l.kept.entries + 1;
+  front : TellsFront (g.D.Disk.bytes l.fn.disk) l.names (g.K.Keeper.entries l.kept);
+  count : l.index ≡ length (g.K.Keeper.entries l.kept) + 1;
   most : l.index ≤ l.log.count;
-  shown : g.R.Reader.shown l.fn.reader [] → g.R.Reader.shown l.reader l.kept.entries;
+  shown : g.R.Reader.shown l.fn.reader [] → g.R.Reader.shown l.reader (g.K.Keeper.entries l.kept);
   only_read : OnlyRead (g.D.Disk.bytes l.fn.disk)
       (g.D.Disk.bytes l.disk) (g.D.Disk.image l.fn.disk) (g.D.Disk.image l.disk);
   still : g.D.Disk.faults l.disk ≡ g.D.Disk.faults l.fn.disk;

@@ -9,7 +9,7 @@ use Rattle.pair_journal.proofs.kept.Kept.holding.Goals as goal
 
 pub returns-clause-holds : goal.returns-clause-holds
 returns-clause-holds c =
-    let entries = c.self.inside.past.entries in
+    let entries = c.self.inside.reached in
     let marks = subst (AreMarks entries) (sym c.deref.ensures.value) c.self.invariant.marks in
     let sound = c.self.invariant.sound in
     let point = IsPartitionPoint-from_clause (λ (m : Spot). leb (next_out c.args.side m.next)

@@ -7,14 +7,14 @@ use Rattle.pair_journal.proofs.kept.Kept.source_of.Goals as goal
 
 pub returns-in-Client : goal.returns-in-Client
 returns-in-Client c =
-    c.find.ensures Client c.self.inside.past.entries c.self.invariant.sound
+    c.find.ensures Client c.self.inside.reached c.self.invariant.sound
     (c.deref.ensures.value ∙ c.self.invariant.client)
     ∙ ap (λ (k : KeptState). source_of Client c.args.number k.entries) c.self.view_is
     ∙ ap (λ (s : Side). source_of s c.args.number c.args.self.now.entries) (sym c.in-Client.is)
 
 pub returns-in-Venue : goal.returns-in-Venue
 returns-in-Venue c =
-    c.find-in-Venue.ensures Venue c.self.inside.past.entries c.self.invariant.sound
+    c.find-in-Venue.ensures Venue c.self.inside.reached c.self.invariant.sound
     (c.deref-in-Venue.ensures.value ∙ c.self.invariant.venue)
     ∙ ap (λ (k : KeptState). source_of Venue c.args.number k.entries) c.self.view_is
     ∙ ap (λ (s : Side). source_of s c.args.number c.args.self.now.entries) (sym c.in-Venue.is)

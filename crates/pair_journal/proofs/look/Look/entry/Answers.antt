@@ -4,33 +4,33 @@ use Rattle.pair_entries.specs.declared.entry.Entry.{Entry}
 use Rattle.pair_journal.specs.declared.spot.Spot.{Spot}
 use Rattle.pair_journal.proofs.Standing.{get_some, untold, refused_untold}
 use Rattle.pair_journal.proofs.Walking.{only_read_on}
-use Rattle.pair_journal.proofs.journal.Journal.entry.Goals as goal
+use Rattle.pair_journal.proofs.look.Look.entry.Goals as goal
 
-pub returns-in_err-spot-clause-only : goal.returns-in_err-spot-clause-only
-returns-in_err-spot-clause-only g c =
+pub returns-in_err-next-clause-only : goal.returns-in_err-next-clause-only
+returns-in_err-next-clause-only g c =
     let i = c.records.invariant in
     let told = g.D.Disk.bytes c.args.disk.now in
-    refused_untold Spot c.from_residual.result c.in_err-spot.field-0.0 told
-    c.from_residual.ensures.1 c.in_err-spot.ensures.only (λ at is. untold told (λ b e.
+    refused_untold (Entry × Spot) c.from_residual.result c.in_err-next.field-0.0 told
+    c.from_residual.ensures.1 c.in_err-next.ensures.only (λ at is. untold told (λ b e.
     let found = get_some c.args.self.now.entries c.records.spot.index
     (omega (arith, c.records-test.true, c.requires.index)) in
-    c.in_err-spot.ensures.refuses at (ap Err is) b (i.only_read.same ∙ e) found.0
+    c.in_err-next.ensures.refuses at (ap Err is) b (i.only_read.same ∙ e) found.0
     (record { at = (i.told b e).0; is = found.1 })))
 
 pub records-preserved : goal.records-preserved
 records-preserved g c =
     let i = c.records.invariant in
     record {
-      of = c.read_at.ensures.of;
+      of = c.entry_at.ensures.of;
       held = i.held;
       told = λ b e.
           let found = get_some c.args.self.now.entries c.records.spot.index
           (omega (arith, c.records-test.true, c.requires.index)) in
-          let read = c.in_ok-spot.ensures.reads b (i.only_read.same ∙ e) found.0
+          let read = c.in_ok-next.ensures.entry b (i.only_read.same ∙ e) found.0
           (record { at = (i.told b e).0; is = found.1 }) in
-          (read.2, omega (arith, c.records-test.true, c.in_ok-spot.ensures.index));
-      only_read = only_read_on _ _ _ _ _ _ i.only_read c.in_ok-spot.ensures.only_read;
-      still = c.in_ok-spot.ensures.cause ∙ i.still;
+          (read.1, omega (arith, c.records-test.true, c.in_ok-next.ensures.index));
+      only_read = only_read_on _ _ _ _ _ _ i.only_read c.in_ok-next.ensures.only_read;
+      still = c.in_ok-next.ensures.cause ∙ i.still;
     }
 
 pub returns-in_err-entry-clause-only : goal.returns-in_err-entry-clause-only
@@ -59,10 +59,10 @@ returns-clause-entry g c = λ b e.
 
 pub returns-clause-walk : goal.returns-clause-walk
 returns-clause-walk g c = (
-  c.entry_at.ensures.of,
+  c.entry_at-2.ensures.of,
   λ b e.
       let i = c.records.invariant in
-      let before = sym c.entry_at.ensures.only_read.same ∙ e in
+      let before = sym c.entry_at-2.ensures.only_read.same ∙ e in
       let here = i.told b (sym i.only_read.same ∙ before) in
       let found = get_some c.args.self.now.entries c.records.spot.index
       (omega (arith, here.1, c.requires.index)) in
