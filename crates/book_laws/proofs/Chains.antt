@@ -1,13 +1,12 @@
 -- What a refusal names by an id: the request that the chains have, which went on.
 use Rattle.std.proofs.Common.{◌≡◌, ℕ, ◌==◌, not, Bool, true, false, List}
-use Rattle.std.proofs.Common.{[], ◌∷◌, ◌++◌, codes, Option, Some, None, Result, Ok, Err}
+use Rattle.std.proofs.Common.{[], ◌∷◌, ◌++◌, codes, Option, Some, None, Ok, unwrap_or}
 use Rattle.std.proofs.Common.{refl, sym, ap, ◌∙◌, inl, inr}
 use Rattle.std.proofs.Common.{option_map}
 use Rattle.std.proofs.Common.{if◌then◌else◌}
 use Rattle.std.specs.Prelude.{is_some}
 use Rattle.std.specs.List.{list_any}
 use Rattle.std.specs.Option.{option_to_list}
-use Rattle.std.specs.Result.{result_ok}
 use Rattle.std.specs.Str.{bytes_eq}
 use Rattle.std.proofs.lemmas.Slice.Eq.{bytes_eq-Decides}
 use Rattle.message_tables.specs.Tables.{Message, ◌>>=◌, first_of, is_one_of, or_else}
@@ -15,24 +14,27 @@ use Rattle.message_tables.specs.Tables.{text_in}
 use Rattle.order_meaning.specs.declared.Side.{Side}
 use Rattle.order_meaning.specs.declared.Side.TheVariants.{Client, Venue}
 use Rattle.order_meaning.specs.declared.names.Names.{Names}
-use Rattle.order_meaning.specs.declared.fault.Fault.{Fault}
 use Rattle.order_chains.specs.Chains.{has_id, item_with, number_of}
 use Rattle.order_chains.specs.declared.item.ChainItem.{ChainItem}
 use Rattle.frame_grammar.specs.Frame.{IsBody}
+use Rattle.event_decisions.specs.Body.{fields_of, reading_of, type_of}
 use Rattle.pair_entries.specs.declared.entry.Took.{Took}
 use Rattle.pair_entries.specs.declared.entry.Out.{Out}
 use Rattle.pair_entries.specs.declared.entry.Entry.{Entry}
 use Rattle.pair_journal.specs.Given.{letters_to, source_in}
 use Rattle.message_answers.specs.Answer.{other}
-use Rattle.message_answers.specs.Chains.{chains_after, chains_of, if_new, item_in, item_of, joining}
-use Rattle.message_answers.specs.Chains.{joining_letter, new_item}
+use Rattle.message_answers.specs.Chains.{chains_after, chains_of, if_new, item_in, item_said}
+use Rattle.message_answers.specs.Chains.{joining, joining_letter, new_item}
 use Rattle.message_answers.specs.Message.{message_of}
+use Rattle.message_answers.specs.Seen.{item_of}
+use Rattle.message_answers.proofs.Forwards.{request_said}
 use Rattle.message_answers.proofs.Letters.{joining_by}
 use Rattle.book_laws.specs.Keeps.{In}
 use Rattle.book_laws.proofs.Lists.{in-either}
 use Rattle.book_laws.proofs.Made.{Going}
 use Rattle.book_laws.proofs.Sources.{AreKnown, letter_among, listed, made_source, not_true, own_out}
 use Rattle.book_laws.proofs.Sources.{same_took, source_is, sourced}
+use Rattle.book_laws.proofs.Types.{said_type}
 
 -- the request of an item
 pub record IsItemOf (e : Entry) (item : ChainItem) : Type 0 where
@@ -43,9 +45,7 @@ pub record IsItemOf (e : Entry) (item : ChainItem) : Type 0 where
   pub letter : ℕ
   pub joins : is_one_of joining letter ≡ true
   pub source : source_in (record { entry = e; out = out }) ≡ Some (took.number, letter)
-  pub m : Message
-  pub reads : message_of Client took.raw ≡ Ok m
-  pub item_is : item_of took letter m ≡ item
+  pub item_is : item_said took.number letter (fields_of took.raw) ≡ item
 
 first_in : (e : Entry) (outs : List Out) (letter : ℕ)
     → first_of (joining_letter e) outs ≡ Some letter
@@ -87,14 +87,15 @@ joined_source e out letter is = by (source_in (record { entry = e; out = out }))
     by None at is = absurd (cc is)
     by (Some (n, l)) at is = by_test n l (is_one_of joining l) at refl is
 
-item_of_entry : (e : Entry) (item : ChainItem) → item_in e ≡ Some item → IsItemOf e item
+pub item_of_entry : (e : Entry) (item : ChainItem) → item_in e ≡ Some item → IsItemOf e item
 item_of_entry e item is = by e.took refl is
   where
-    by_read : (took : Took) (letter : ℕ) (r : Result Message Fault) → e.took ≡ Some took
-        → first_of (joining_letter e) e.outs ≡ Some letter → message_of Client took.raw ≡ r
-        → (result_ok r >>= (λ m. Some (item_of took letter m))) ≡ Some item → IsItemOf e item
-    by_read took letter (Err fault) at first reads is = absurd (cc is)
-    by_read took letter (Ok m) at first reads is =
+    by_letter : (took : Took) (letter : Option ℕ) → e.took ≡ Some took
+        → first_of (joining_letter e) e.outs ≡ letter
+        → (letter >>= (λ l. Some (item_said took.number l (fields_of took.raw)))) ≡ Some item
+        → IsItemOf e item
+    by_letter took None at first is = absurd (cc is)
+    by_letter took (Some letter) at first is =
         let one = first_in e e.outs letter first in
         let s = joined_source e one.0 letter one.2 in
         let t = source_is e one.0 (s.0, letter) s.2 in
@@ -108,23 +109,12 @@ item_of_entry e item is = by e.took refl is
           joins = s.1;
           source = s.2 ∙ ap (λ (n : ℕ). Some (n, letter))
               (sym t.number ∙ ap (λ (x : Took). x.number) same);
-          m = m;
-          reads = reads;
-          item_is = cc is;
+          item_is = ap (λ (o : Option ChainItem). unwrap_or o item) is;
         }
 
-    by_letter : (took : Took) (letter : Option ℕ) → e.took ≡ Some took
-        → first_of (joining_letter e) e.outs ≡ letter
-        → (letter >>= (λ letter. result_ok (message_of Client took.raw)
-        >>= (λ m. Some (item_of took letter m)))) ≡ Some item → IsItemOf e item
-    by_letter took None at first is = absurd (cc is)
-    by_letter took (Some letter) at first is =
-        by_read took letter (message_of Client took.raw) at first refl is
-
     by : (took : Option Took) → e.took ≡ took
-        → (took >>= (λ took. first_of (joining_letter e) e.outs >>= (λ letter.
-        result_ok (message_of Client took.raw) >>= (λ m. Some (item_of took letter m)))))
-        ≡ Some item → IsItemOf e item
+        → (took >>= (λ t. first_of (joining_letter e) e.outs >>= (λ letter.
+        Some (item_said t.number letter (fields_of t.raw))))) ≡ Some item → IsItemOf e item
     by None at is = absurd (cc is)
     by (Some took) at is = by_letter took (first_of (joining_letter e) e.outs) at refl is
 
@@ -187,7 +177,7 @@ found_item (x ∷ items) id at is = by (bytes_eq id x.id) refl is
         record { item = f.item; among = inr f.among; named = f.named; is = f.is }
 
 -- a letter that joins is the client's
-joins_client : (side : Side) (l : ℕ) → is_one_of joining l ≡ true
+pub joins_client : (side : Side) (l : ℕ) → is_one_of joining l ≡ true
     → list_any (λ b. l == b) (letters_to (other side)) ≡ true → side ≡ Client
 joins_client Client l joins listed = refl
 joins_client Venue l joins listed = absurd (cc (
@@ -209,8 +199,11 @@ pub record WentById (names : Names) (id : List ℕ) (at : ℕ × ℕ) (entries :
   pub id_is : text_in m.cells 11 ≡ id
   pub number : took.number ≡ at.0
 
-same_ok : (r : Result Message Fault) (a b : Message) → r ≡ Ok a → r ≡ Ok b → a ≡ b
-same_ok r a b x y = cc (x, y)
+-- the type of a message that was read
+pub type_read : (raw : List ℕ) (m : Message) → message_of Client raw ≡ Ok m
+    → type_of raw ≡ m.letter ∷ []
+type_read raw m reads =
+    said_type (type_of raw) (fields_of raw) (reading_of raw).fault m Client reads
 
 module _ (names : Names) (entries : List Entry) (known : AreKnown names entries) where
   -- AN ID OF THE CHAINS names a request that went on.
@@ -248,8 +241,9 @@ module _ (names : Names) (entries : List Entry) (known : AreKnown names entries)
             going = w.going;
             client = client;
             joins = joins;
-            id_is = ap (λ (m : Message). text_in m.cells 11)
-                (same_ok (message_of Client x.took.raw) w.m x.m reads x.reads)
+            id_is = ap (λ (y : ChainItem). y.id)
+                (request_said x.took.raw w.m reads (type_read x.took.raw w.m reads) joins
+                x.took.number)
                 ∙ ap (λ (y : ChainItem). y.id) x.item_is ∙ sym f.named;
             number = ap (λ (t : Took). t.number) took
                 ∙ ap (λ (y : ChainItem). y.number) x.item_is
@@ -317,18 +311,19 @@ module _ (past : List Entry) (e : Entry) (took : Took) (out : Out) (m : Message)
       (sourced past e took out m going body)
       ∙ ap (λ (b : Bool). or_else (if b then Some m.letter else None) None) joins
 
-  item_is : item_in e ≡ Some (item_of took m.letter m)
-  item_is = ap (λ (t : Option Took). t >>= (λ took.
+  item_is : item_in e ≡ Some (item_of took.number m)
+  item_is =
+      let reads : message_of Client took.raw ≡ Ok m =
+      ap (λ (s : Side). message_of s took.raw) (sym client) ∙ going.read.reads in
+      ap (λ (t : Option Took). t >>= (λ took.
       first_of (joining_letter e) e.outs >>= (λ letter.
-      result_ok (message_of Client took.raw) >>= (λ m. Some (item_of took letter m)))))
-      going.taken.is
+      Some (item_said took.number letter (fields_of took.raw))))) going.taken.is
       ∙ ap (λ (o : Option ℕ). o >>= (λ letter.
-      result_ok (message_of Client took.raw) >>= (λ m. Some (item_of took letter m)))) front
-      ∙ ap (λ (r : Result Message Fault). result_ok r
-      >>= (λ x. Some (item_of took m.letter x)))
-      (ap (λ (s : Side). message_of s took.raw) (sym client) ∙ going.read.reads)
+      Some (item_said took.number letter (fields_of took.raw)))) front
+      ∙ ap (λ (item : ChainItem). Some item)
+      (sym (request_said took.raw m reads (type_read took.raw m reads) joins took.number))
 
   -- THE ID OF A REQUEST THAT WENT ON is in the chains.
   pub id_kept : (entries : List Entry) → In e entries
       → has_id (chains_of entries) (text_in m.cells 11) ≡ true
-  id_kept entries i = has_item [] entries e i (item_of took m.letter m) item_is
+  id_kept entries i = has_item [] entries e i (item_of took.number m) item_is

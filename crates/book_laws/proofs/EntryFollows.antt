@@ -202,15 +202,15 @@ from_if true x e is = absurd (cc is)
 from_if false x e is = cc is
 
 -- quiet messages of its session, and then these words
-record IsMadeOf (took : Option Took) (e : Entry) (words : Option Words) : Type 0 where
-  took_is : e.took ≡ took
-  own : List Out
-  quiet : AreQuiet own
-  given : List Out
-  are : AreWords words given
-  outs : e.outs ≡ own ++ given
+pub record IsMadeOf (took : Option Took) (e : Entry) (words : Option Words) : Type 0 where
+  pub took_is : e.took ≡ took
+  pub own : List Out
+  pub quiet : AreQuiet own
+  pub given : List Out
+  pub are : AreWords words given
+  pub outs : e.outs ≡ own ++ given
 
-concluded_is : (names : Names) (window : ℕ) (s t : Sessions) (event : Event) (now : ℕ)
+pub concluded_is : (names : Names) (window : ℕ) (s t : Sessions) (event : Event) (now : ℕ)
     (words : Option Words) (step : Step) (r : Result Given Side) (d : Decision) (e : Entry)
     → give now t words ≡ r → concluded names window s event now step r ≡ Ok d
     → d.entry ≡ Some e

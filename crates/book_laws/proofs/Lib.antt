@@ -12,4 +12,5 @@ pub mod Texts
 pub mod Session
 mod Quiet
 pub mod EntryFollows
+mod Judged
 mod Followed

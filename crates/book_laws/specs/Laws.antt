@@ -1,22 +1,25 @@
 -- Own: that both peers rebuild the same books.
-use Rattle.std.specs.Prelude.{◌≡◌, ℕ, false, List, IfSome, None, Ok}
+use Rattle.std.specs.Prelude.{◌≡◌, ℕ, false, List, IfSome, Some, None, Ok}
 use Rattle.std.specs.List.{AllByRecursion}
 use Rattle.order_meaning.specs.declared.Side.{Side}
 use Rattle.order_meaning.specs.declared.Side.TheVariants.{Client, Venue}
 use Rattle.order_meaning.specs.declared.names.Names.{Names}
 use Rattle.frame_grammar.specs.Frame.{IsBody}
+use Rattle.order_chains.specs.declared.item.ChainItem.{ChainItem}
+use Rattle.pair_entries.specs.declared.entry.Took.{Took}
 use Rattle.pair_entries.specs.declared.entry.Entry.{Entry}
 use Rattle.pair_journal.specs.Numbers.{first_numbers}
 use Rattle.pair_journal.specs.Journal.{AreEntries}
 use Rattle.event_decisions.specs.Body.{fields_of, type_of}
 use Rattle.event_decisions.specs.Decide.{IsLawful}
-use Rattle.message_tables.specs.Tables.{Message}
+use Rattle.message_tables.specs.Tables.{Message, Tag, said_at, text_in}
 use Rattle.wires.specs.Wire.{Connection}
 use Rattle.life_laws.specs.Justified.{IsJustified}
 use Rattle.life_laws.specs.Receiver.{AreSent, behind_header, message_of_out, read_body}
 use Rattle.life_laws.specs.Taken as receiver
 use Rattle.life_laws.specs.Taken.{TakesInOrder}
 use Rattle.message_answers.specs.Answer.{Answers, other}
+use Rattle.message_answers.specs.Chains.{item_in}
 use Rattle.message_answers.specs.Message.{message_of, said_by}
 use Rattle.book_laws.specs.Books.{book42, book50}
 use Rattle.book_laws.specs.Pairs.{pair}
@@ -27,6 +30,22 @@ abbrev pub HeadersSayNothing : Type 0
 HeadersSayNothing = (side : Side) (body : List ℕ) (m : Message) → message_of side body ≡ Ok m →
     said_by side (type_of body) (behind_header (fields_of body)) None
     ≡ Ok (record m { resend = false })
+
+-- a request is at no fault, and an item has what it says of an order
+pub record IsJudged (took : Took) (item : ChainItem) : Type 0 where
+  pub m : Message
+  pub reads : message_of Client took.raw ≡ Ok m
+  pub id : item.id ≡ text_in m.cells 11
+  pub orig : item.orig ≡ said_at m.cells (Tag 41)
+  pub number : item.number ≡ took.number
+  pub letter : item.letter ≡ m.letter
+
+-- EACH REQUEST THAT A LAWFUL JOURNAL FORWARDED IS AT NO FAULT, though the chains read its fields and
+-- do not judge them.
+abbrev pub RequestsAreJudged : Type 0
+RequestsAreJudged = (names : Names) (entries : List Entry) → IsLawful Answers names entries →
+    AllByRecursion (λ e. (item : ChainItem) → item_in e ≡ Some item →
+    IfSome e.took (λ took. IsJudged took item)) entries
 
 -- what an entry took is the body of a frame
 abbrev pub TookBody : Entry → Type 0

@@ -5,7 +5,7 @@ ghost use Rattle.book_laws.specs.HeardLaws.{IdsAreCompared, RefusalsAreHeard, An
 ghost use Rattle.book_laws.specs.HeardLaws.{BodiesAreReadAlike, SessionsAreHeardPlain};
 ghost use Rattle.book_laws.specs.HeardLaws.{SentSessionsAreHeardPlain, SidesLearn};
 ghost use Rattle.book_laws.specs.Laws.{ConversationsAgree, HeadersSayNothing, JournalsAgree};
-ghost use Rattle.book_laws.specs.Laws.{PeersAgree};
+ghost use Rattle.book_laws.specs.Laws.{PeersAgree, RequestsAreJudged};
 
 use event_decisions::laws::decisions_make;
 use message_answers::laws::answers_are_given_out;
@@ -36,6 +36,12 @@ pub fn sides_learn_what_was_said()
     messages_are_read();
     answers_are_given_out();
 }
+
+/// Each request that a lawful journal forwarded is at no fault, and the chains have of it what it
+/// says of an order, though its fields are read and not judged again.
+pub fn requests_are_judged()
+    ensures { RequestsAreJudged }
+{}
 
 /// A message means what its fields without the header mean: of the header PossResend(97) alone
 /// counts.

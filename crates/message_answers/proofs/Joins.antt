@@ -4,7 +4,6 @@ use Rattle.std.proofs.Common.{codes, Option, Some, None, Result, Ok, Err, refl, 
 use Rattle.std.proofs.Common.{subst, ◌∙◌, if◌then◌else◌}
 use Rattle.std.specs.Prelude.{IfOk}
 use Rattle.std.specs.List.{list_any}
-use Rattle.std.specs.Result.{result_ok}
 use Rattle.field_groups.specs.Field.{body_of}
 use Rattle.message_tables.specs.Tables.{Message, ◌>>=◌, first_of, is_one_of, or_else, text_in}
 use Rattle.order_meaning.specs.declared.Side.{Side}
@@ -20,18 +19,21 @@ use Rattle.pair_entries.specs.declared.entry.Entry.{Entry}
 use Rattle.pair_journal.specs.Given.{has_letter, is_source, letter_of}
 use Rattle.reject_rules.specs.Content.{business_reject}
 use Rattle.reject_rules.specs.Renumbered.{renumbered}
+use Rattle.event_decisions.specs.Body.{reading_of}
 use Rattle.event_decisions.specs.Decide.{Words, out_of}
 use Rattle.event_decisions.specs.Laws.{AreWords}
 use Rattle.message_answers.specs.declared.answer.Answer.{Answer as GivenAnswer}
 use Rattle.message_answers.specs.declared.asking.Asked.{Asked as GivenAsked}
 use Rattle.message_answers.specs.declared.asking.Known.{Known as GivenKnown}
 use Rattle.message_answers.specs.Answer.{other, is_used, to_near}
-use Rattle.message_answers.specs.Chains.{joining, joining_letter, item_of, if_new, new_item}
+use Rattle.message_answers.specs.Chains.{if_new, item_said, joining, joining_letter, new_item}
 use Rattle.message_answers.specs.Known.{named}
 use Rattle.message_answers.specs.Message.{message_of}
 use Rattle.message_answers.specs.Seen.{IsSplit, IsRefused, IsTold, IsForwarded, Sent, Long, Joins}
-use Rattle.message_answers.specs.Seen.{IsSpelled, Lacks, Goes, asked_in, joined, known_in, words_in}
+use Rattle.message_answers.specs.Seen.{IsSpelled, Lacks, Goes, asked_in, item_of, joined}
+use Rattle.message_answers.specs.Seen.{known_in, words_in}
 use Rattle.message_answers.specs.Seen.{told_words}
+use Rattle.message_answers.proofs.Forwards.{request_said}
 use Rattle.message_answers.proofs.Letters.{among, joining_by, source_by}
 use Rattle.message_answers.proofs.Typed.{typed}
 
@@ -48,7 +50,7 @@ entry_is entry took outs is gives =
 -- what joins by the letters of the outs
 abbrev item_by : List ChainItem → Took → Option ℕ → Option ChainItem
 item_by chains took letter = if_new chains (letter >>= (λ l.
-    result_ok (message_of Client took.raw) >>= (λ m. Some (item_of took l m))))
+    Some (item_said took.number l (reading_of took.raw).fields)))
 
 no_outs : (chains : List ChainItem) (entry : Entry) (took : Took)
     → new_item chains (as_entry entry took []) ≡ None
@@ -207,9 +209,9 @@ module _ (k : GivenKnown) (a : GivenAsked) (split : IsSplit a) (of_client : a.si
   item_joined : is_one_of joining m.letter ≡ true
       → item_by k.chains.now (took_in k a) (Some m.letter) ≡ joined a.number m
   item_joined join =
-      let item : ChainItem = item_of (took_in k a) m.letter m in
-      ap (λ (x : Result Message Fault). if_new k.chains.now
-      (result_ok x >>= (λ other. Some (item_of (took_in k a) m.letter other)))) is
+      let item : ChainItem = item_of a.number m in
+      ap (λ (x : ChainItem). if_new k.chains.now (Some x))
+      (sym (request_said a.body.now m is (sym split.msg_type ∙ typed_by) join a.number))
       ∙ ap (λ (b : Bool). if b then None else Some item)
       (is_new (is_one_of joining m.letter) (has_id k.chains.now (text_in m.cells 11)) new join)
       ∙ ap (λ (b : Bool). if b then Some item else None) (sym join)
@@ -222,8 +224,7 @@ module _ (k : GivenKnown) (a : GivenAsked) (split : IsSplit a) (of_client : a.si
     where
       by : (b : Bool) → is_one_of joining m.letter ≡ b → Joins k a answer
       by false fails = joins_other k a answer _ m.letter sent.words refl fails
-          (sent.item ∙ ap (λ (b : Bool).
-          if b then Some (item_of (took_in k a) m.letter m) else None) fails)
+          (sent.item ∙ ap (λ (b : Bool). if b then Some (item_of a.number m) else None) fails)
       by true join = joins_one k a answer _ (joined a.number m) sent.words sent.item
           (λ entry number. one_out k.chains.now entry (took_in k a)
           (out_of (other a.side) number resend

@@ -5,13 +5,11 @@ use Rattle.std.proofs.Common.{subst, option_map, option_and_then, if◌then◌el
 use Rattle.std.specs.Prelude.{find}
 use Rattle.std.specs.List.{AllByRecursion, list_all, list_any}
 use Rattle.std.specs.Option.{option_to_list}
-use Rattle.std.specs.Result.{result_ok}
 use Rattle.std.proofs.lemmas.Bool.{eqb-true}
-use Rattle.field_groups.specs.Field.{is_soh}
-use Rattle.message_tables.specs.Tables.{Message, Tag, ◌>>=◌, first_of, said_at}
+use Rattle.field_groups.specs.Field.{Field, is_soh}
+use Rattle.message_tables.specs.Tables.{◌>>=◌, first_of}
 use Rattle.order_meaning.specs.declared.Side.{Side}
 use Rattle.order_meaning.specs.declared.Side.TheVariants.{Client, Venue}
-use Rattle.order_meaning.specs.declared.fault.Fault.{Fault}
 use Rattle.order_meaning.specs.declared.refusal.Refusal.{Refusal}
 use Rattle.order_chains.specs.Chains.{has_id, item_with, number_of, orig_of}
 use Rattle.order_chains.specs.declared.item.ChainItem.{ChainItem}
@@ -22,20 +20,19 @@ use Rattle.pair_entries.specs.declared.entry.Entry.{Entry}
 use Rattle.pair_journal.specs.Given.{Given, given, has_letter, is_source, letter_of, letters_to}
 use Rattle.pair_journal.specs.Given.{numbered, source_in, source_of}
 use Rattle.pair_journal.specs.Numbers.{is_side, outs_to}
-use Rattle.row_values.specs.Kinds.{judge}
+use Rattle.value_kinds.specs.ValueKind.{Id}
+use Rattle.row_values.specs.Kinds.{Value, judge, said}
 use Rattle.sound_laws.proofs.Each.{each_joined, not_true}
 use Rattle.sound_laws.proofs.PlainFields.{clear_fields}
-use Rattle.event_decisions.specs.Body.{first_value, reading_of}
+use Rattle.event_decisions.specs.Body.{reading_of}
 use Rattle.event_decisions.proofs.Bodies.{bodies_are_read}
-use Rattle.message_answers.specs.Chains.{chains_after, chains_of, if_new, item_in, item_of, joining}
-use Rattle.message_answers.specs.Chains.{joining_letter, new_item}
+use Rattle.message_answers.specs.Chains.{chains_after, chains_of, if_new, item_in, item_said, joining}
+use Rattle.message_answers.specs.Chains.{joining_letter, new_item, original_said}
 use Rattle.message_answers.specs.Known.{known_of, named, named_by_id}
 use Rattle.message_answers.specs.Laws.{AreNumbered, IsNumbered}
-use Rattle.message_answers.specs.Message.{message_of}
-use Rattle.message_answers.proofs.Forwards.{first_is}
+use Rattle.message_answers.proofs.Forwards.{first_joins}
 use Rattle.message_answers.proofs.Letters.{among}
-use Rattle.message_answers.proofs.ReadShapes.{original_is, shape}
-use Rattle.message_answers.proofs.SaidTexts.{IsShortId}
+use Rattle.message_answers.proofs.SaidTexts.{IsShortId, id_at}
 
 -- a number that a message may have, and a letter that does not end a field
 pub record IsGoodSource (at : ℕ × ℕ) : Type 0 where
@@ -135,45 +132,40 @@ pub record IsGoodItem (item : ChainItem) : Type 0 where
   pub source : IsGoodSource (item.number, item.letter)
   pub original : IfSome item.orig IsShortId
 
-original_good : (raw : List ℕ) (m : Message) → message_of Client raw ≡ Ok m
-    → IfSome (said_at m.cells (Tag 41)) IsShortId
-original_good raw m reads =
-    let fields = (reading_of raw).fields in
-    let split = (reading_of raw).fault in
-    original_is Client fields split (message_of Client raw) m reads
-    (clear_fields judge None fields (bodies_are_read raw).good) refl
-    (shape (first_value fields) fields split Client)
+original_good : (letter : ℕ) (raw : List ℕ)
+    → IfSome (original_said letter (reading_of raw).fields) IsShortId
+original_good letter raw = by (letter == 68)
+  where
+    fields : List Field
+    fields = (reading_of raw).fields
+
+    by : (order : Bool)
+        → IfSome (if order then None else said fields 41 (Value Id)) IsShortId
+    by true = tt
+    by false = id_at fields (clear_fields judge None fields (bodies_are_read raw).good) 41 refl
 
 item_good : (entry : Entry) → IsNumbered entry → IfSome (item_in entry) IsGoodItem
-item_good entry are = by entry.took refl are
+item_good entry are = by entry.took are
   where
-    by_read : (took : Took) (letter : ℕ) (read : Result Message Fault)
-        → message_of Client took.raw ≡ read → is_soh letter ≡ false → took.number ≤ MAX_NUMBER
-        → IfSome (result_ok read >>= (λ m. Some (item_of took letter m))) IsGoodItem
-    by_read took letter (Ok m) reads clear few = record {
-      source = record { number = few; letter = clear };
-      original = original_good took.raw m reads;
-    }
-    by_read took letter (Err fault) reads clear few = tt
-
-    by_letter : (took : Took) → entry.took ≡ Some took → took.number ≤ MAX_NUMBER
+    by_letter : (took : Took) → took.number ≤ MAX_NUMBER
         → (letter : Option ℕ) → first_of (joining_letter entry) entry.outs ≡ letter
-        → IfSome (letter >>= (λ letter. result_ok (message_of Client took.raw)
-        >>= (λ m. Some (item_of took letter m)))) IsGoodItem
-    by_letter took is few None front = tt
-    by_letter took is few (Some letter) front =
-        let found = first_is entry took is entry.outs letter front in
-        by_read took letter (message_of Client took.raw) refl
-        (not_true (is_soh letter)
-        (among (λ l. not (is_soh l)) joining letter refl found.joins)) few
+        → IfSome (letter >>= (λ letter.
+        Some (item_said took.number letter (reading_of took.raw).fields))) IsGoodItem
+    by_letter took few None front = tt
+    by_letter took few (Some letter) front = record {
+      source = record {
+        number = few;
+        letter = not_true (is_soh letter) (among (λ l. not (is_soh l)) joining letter refl
+            (first_joins entry entry.outs letter front));
+      };
+      original = original_good letter took.raw;
+    }
 
-    by : (took : Option Took) → entry.took ≡ took → IfSome took (λ t. t.number ≤ MAX_NUMBER)
+    by : (took : Option Took) → IfSome took (λ t. t.number ≤ MAX_NUMBER)
         → IfSome (took >>= (λ took. first_of (joining_letter entry) entry.outs >>= (λ letter.
-        result_ok (message_of Client took.raw) >>= (λ m. Some (item_of took letter m)))))
-        IsGoodItem
-    by None is few = tt
-    by (Some took) is few =
-        by_letter took is few (first_of (joining_letter entry) entry.outs) refl
+        Some (item_said took.number letter (reading_of took.raw).fields)))) IsGoodItem
+    by None few = tt
+    by (Some took) few = by_letter took few (first_of (joining_letter entry) entry.outs) refl
 
 new_good : (items : List ChainItem) (item : Option ChainItem) → IfSome item IsGoodItem
     → AllByRecursion IsGoodItem (option_to_list (if_new items item))

@@ -10,7 +10,7 @@ use Rattle.field_groups.specs.declared.fault.SplitFault.{SplitFault}
 use Rattle.field_groups.specs.Data.{is_data_tag}
 use Rattle.field_groups.specs.Field.{Field, AreFields}
 use Rattle.message_tables.specs.declared.table_fault.TableFault.{TableFault}
-use Rattle.message_tables.specs.Tables.{Message, Table, Tag, is_one_of, said_at}
+use Rattle.message_tables.specs.Tables.{Message, Table, is_one_of}
 use Rattle.message_tables.specs.FirstFault.{first_fault, message_in, message_of, unless}
 use Rattle.order_meaning.specs.declared.Side.{Side}
 use Rattle.order_meaning.specs.declared.Side.TheVariants.{Client, Venue}
@@ -42,8 +42,6 @@ use Rattle.message_answers.proofs.SaidTexts.{told_well}
 pub record IsClientTable (t : Table Kind) : Type 0 where
   good : list_all has_good_tags t.items ≡ true
   pub letter : is_one_of (codes "DFGH89") t.letter ≡ true
-  original : (fields : List Field) → AreClear fields
-      → IfSome (said_at (message_in judge t fields).cells (Tag 41)) IsShortId
 
 pub record IsVenueTable (t : Table Kind) : Type 0 where
   good : list_all has_good_tags t.items ≡ true
@@ -52,7 +50,6 @@ pub record IsVenueTable (t : Table Kind) : Type 0 where
 pub record IsRefusalTable (t : Table Kind) : Type 0 where
   good : list_all has_good_tags t.items ≡ true
   pub letter : is_one_of (codes "3j") t.letter ≡ true
-  original : (fields : List Field) → said_at (message_in judge t fields).cells (Tag 41) ≡ None
   well : (fields : List Field) → AreClear fields
       → IsToldWell (refusal_in (message_in judge t fields))
 
@@ -71,38 +68,33 @@ pub data Shape (side : Side) (fields : List Field) (split : Option SplitFault)
 
 new_is : IsClientTable (table42 68 new_order)
 unfolding is_data_tag
-new_is = record { good = refl; letter = refl; original = λ fields clear. tt }
+new_is = record { good = refl; letter = refl }
 
 cancel_is : IsClientTable (table42 70 cancel_request)
 unfolding is_data_tag
-cancel_is =
-    record { good = refl; letter = refl; original = λ fields clear. id_at fields clear 41 refl }
+cancel_is = record { good = refl; letter = refl }
 
 replace_is : IsClientTable (table42 71 replace_request)
 unfolding is_data_tag
-replace_is =
-    record { good = refl; letter = refl; original = λ fields clear. id_at fields clear 41 refl }
+replace_is = record { good = refl; letter = refl }
 
 status_is : IsClientTable (table42 72 status_request)
 unfolding is_data_tag
-status_is = record { good = refl; letter = refl; original = λ fields clear. tt }
+status_is = record { good = refl; letter = refl }
 
 report_is : IsClientTable reports42.execution_report_table
 unfolding is_data_tag
-report_is =
-    record { good = refl; letter = refl; original = λ fields clear. id_at fields clear 41 refl }
+report_is = record { good = refl; letter = refl }
 
 reject_is : IsClientTable reports42.cancel_reject_table
 unfolding is_data_tag
-reject_is =
-    record { good = refl; letter = refl; original = λ fields clear. id_at fields clear 41 refl }
+reject_is = record { good = refl; letter = refl }
 
 session42_is : IsRefusalTable reports42.session_reject_table
 unfolding is_data_tag
 session42_is = record {
   good = refl;
   letter = refl;
-  original = λ fields. refl;
   well = λ fields clear. told_well (message_in judge reports42.session_reject_table fields) tt
       (text_at fields clear 58 refl);
 }
@@ -112,7 +104,6 @@ unfolding is_data_tag
 business42_is = record {
   good = refl;
   letter = refl;
-  original = λ fields. refl;
   well = λ fields clear. told_well (message_in judge reports42.business_reject_table fields)
       (id_at fields clear 379 refl) (text_at fields clear 58 refl);
 }
@@ -122,7 +113,6 @@ unfolding is_data_tag
 session50_is = record {
   good = refl;
   letter = refl;
-  original = λ fields. refl;
   well = λ fields clear. told_well (message_in judge reports50.session_reject_table fields) tt
       (text_at fields clear 58 refl);
 }
@@ -132,7 +122,6 @@ unfolding is_data_tag
 business50_is = record {
   good = refl;
   letter = refl;
-  original = λ fields. refl;
   well = λ fields clear. told_well (message_in judge reports50.business_reject_table fields)
       (id_at fields clear 379 refl) (text_at fields clear 58 refl);
 }
@@ -340,19 +329,6 @@ module _ (side : Side) (fields : List Field) (split : Option SplitFault) (r : Re
       refuses_well clear refuses (Refuses t table e) =
           subst (λ (x : Message). IsToldWell (refusal_in x)) (sym (once_read t e))
           (table.well fields clear)
-
-      -- THE ORIGINAL ORDER that a request names
-      pub original_is : AreClear fields → side ≡ Client → Shape side fields split r
-          → IfSome (said_at m.cells (Tag 41)) IsShortId
-      original_is clear of (Unknown none) = absurd cc
-      original_is clear of (OfClient t of_client table e) =
-          subst (λ (x : Message). IfSome (said_at x.cells (Tag 41)) IsShortId)
-          (sym (client_read t e).is) (table.original fields clear)
-      original_is clear of (OfVenue t of_venue table e) = absurd cc
-      original_is clear of (Refuses t table e) =
-          subst (λ (x : Message). IfSome (said_at x.cells (Tag 41)) IsShortId)
-          (sym (once_read t e))
-          (subst (λ (o : Option (List ℕ)). IfSome o IsShortId) (sym (table.original fields)) tt)
 
       -- A REPORT of the venue
       pub venue_report : AreClear fields → side ≡ Venue → is_refusal m ≡ false

@@ -2,7 +2,7 @@
 use Rattle.std.proofs.Common.{◌≡◌, ℕ, Bool, true, false, ◌&&◌, List, [], ◌∷◌, Option, Some, None}
 use Rattle.std.proofs.Common.{refl, sym, ap, ◌∙◌, unwrap_or, if◌then◌else◌}
 use Rattle.std.specs.Option.{option_map}
-use Rattle.message_tables.specs.Tables.{Tag, is_one_of, said_at, text_in}
+use Rattle.message_tables.specs.Tables.{is_one_of, text_in}
 use Rattle.order_chains.specs.declared.item.ChainItem.{ChainItem}
 use Rattle.order_chains.specs.Chains.{has_id}
 use Rattle.row_values.specs.Kinds as kinds
@@ -10,8 +10,8 @@ use Rattle.value_kinds.specs.ValueKind.{Id}
 use Rattle.request_rules.specs.declared.reading.Good.{Good}
 use Rattle.request_rules.specs.Good.{IsGood, said, table}
 use Rattle.request_rules.proofs.PutUp.{known}
-use Rattle.message_answers.specs.Chains.{joining}
-use Rattle.message_answers.specs.Seen.{item_said, joined}
+use Rattle.message_answers.specs.Chains.{item_said, joining}
+use Rattle.message_answers.specs.Seen.{item_of, joined}
 use Rattle.message_answers.proofs.Forwards.{joined_said}
 
 module _ (good : Good) (is : IsGood good) where
@@ -24,22 +24,13 @@ module _ (good : Good) (is : IsGood good) where
       joined_said number good.fields.now letter joins (table good) (known (table good) is.typed).own
 
   pub item_none : (number : ℕ) → is_one_of joining letter ≡ false → joined number (said good) ≡ None
-  item_none number fails = ap (λ (b : Bool). if b then Some (record {
-    id = text_in (said good).cells 11;
-    orig = said_at (said good).cells (Tag 41);
-    number = number;
-    letter = letter;
-  }) else None) fails
+  item_none number fails =
+      ap (λ (b : Bool). if b then Some (item_of number (said good)) else None) fails
 
   id_is : is_one_of joining letter ≡ true
       → text_in (said good).cells 11 ≡ unwrap_or (kinds.said good.fields.now 11 (kinds.Value Id)) []
   id_is joins =
-      let item : ChainItem = record {
-        id = text_in (said good).cells 11;
-        orig = said_at (said good).cells (Tag 41);
-        number = 0;
-        letter = letter;
-      } in
+      let item : ChainItem = item_of 0 (said good) in
       let same : Some item ≡ Some (item_said 0 letter good.fields.now) =
       ap (λ (b : Bool). if b then Some item else None) (sym joins) ∙ item_is 0 joins in
       ap (λ (o : Option ChainItem). unwrap_or (option_map (λ (i : ChainItem). i.id) o) []) same

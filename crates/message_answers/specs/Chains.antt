@@ -1,16 +1,17 @@
 -- Own: which requests a journal forwarded; docs/DECISIONS.md, "Order chains".
-use Rattle.std.specs.Prelude.{ℕ, List, [], ◌∷◌, ◌++◌, codes, Option, Some, None, if◌then◌else◌}
+use Rattle.std.specs.Prelude.{ℕ, ◌==◌, List, [], ◌∷◌, ◌++◌, codes, Option, Some, None, unwrap_or}
+use Rattle.std.specs.Prelude.{if◌then◌else◌}
 use Rattle.std.specs.Option.{option_to_list}
-use Rattle.std.specs.Result.{result_ok}
-use Rattle.message_tables.specs.Tables.{Tag, Message, ◌>>=◌, first_of, is_one_of, said_at, text_in}
-use Rattle.order_meaning.specs.declared.Side.TheVariants.{Client}
+use Rattle.field_groups.specs.Field.{Field}
+use Rattle.value_kinds.specs.ValueKind.{Id}
+use Rattle.row_values.specs.Kinds.{Value, said}
+use Rattle.message_tables.specs.Tables.{◌>>=◌, first_of, is_one_of}
 use Rattle.order_chains.specs.declared.item.ChainItem.{ChainItem}
 use Rattle.order_chains.specs.Chains.{has_id}
-use Rattle.pair_entries.specs.declared.entry.Took.{Took}
 use Rattle.pair_entries.specs.declared.entry.Out.{Out}
 use Rattle.pair_entries.specs.declared.entry.Entry.{Entry}
 use Rattle.pair_journal.specs.Given.{source_in}
-use Rattle.message_answers.specs.Message.{message_of}
+use Rattle.event_decisions.specs.Body.{reading_of}
 
 -- the requests whose ClOrdIDs are kept: New Order (D), Cancel (F), Cancel/Replace (G)
 abbrev pub joining : List ℕ
@@ -21,20 +22,25 @@ abbrev pub joining_letter : Entry → Out → Option ℕ
 joining_letter entry out = source_in (record { entry = entry; out = out }) >>=
     (λ source. if is_one_of joining source.1 then Some source.1 else None)
 
--- what a request says of an order: ClOrdID(11), OrigClOrdID(41)
-abbrev pub item_of : Took → ℕ → Message → ChainItem
-item_of took letter m = record {
-  id = text_in m.cells 11;
-  orig = said_at m.cells (Tag 41);
-  number = took.number;
+-- OrigClOrdID(41) that fields say of a request, which an order (D) does not have
+abbrev pub original_said : (letter : ℕ) → List Field → Option (List ℕ)
+original_said letter fields = if letter == 68 then None else said fields 41 (Value Id)
+
+-- what fields say of an order: ClOrdID(11), OrigClOrdID(41)
+abbrev pub item_said : (number letter : ℕ) → List Field → ChainItem
+item_said number letter fields = record {
+  id = unwrap_or (said fields 11 (Value Id)) [];
+  orig = original_said letter fields;
+  number = number;
   letter = letter;
 }
 
--- the request that an entry forwarded
+-- The request that an entry forwarded. That it was forwarded tells that it was at no fault, so its
+-- fields are read and not judged.
 abbrev pub item_in : Entry → Option ChainItem
 item_in entry = entry.took >>= (λ took.
     first_of (joining_letter entry) entry.outs >>= (λ letter.
-    result_ok (message_of Client took.raw) >>= (λ m. Some (item_of took letter m))))
+    Some (item_said took.number letter (reading_of took.raw).fields)))
 
 -- an id names one request for good
 abbrev pub if_new : List ChainItem → Option ChainItem → Option ChainItem

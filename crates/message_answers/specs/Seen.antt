@@ -2,7 +2,7 @@
 -- public call rests on it.
 use Rattle.std.specs.Prelude.{◌≡◌, ◌≤◌, ◌<◌, ℕ, Bool, true, false, List, [], ◌∷◌, codes}
 use Rattle.std.specs.Prelude.{length, Option, Some, None, Result, if◌then◌else◌}
-use Rattle.std.specs.Prelude.{IfSome, ◌==◌, unwrap_or}
+use Rattle.std.specs.Prelude.{IfSome}
 use Rattle.std.specs.Option.{option_map}
 use Rattle.frame_grammar.specs.Frame.{IsBody}
 use Rattle.field_groups.specs.Field.{Field, body_of}
@@ -18,8 +18,6 @@ use Rattle.session_core.specs.declared.said.Said.{Said}
 use Rattle.pair_entries.specs.declared.TheConstants.{MAX_CONTENT, MAX_TYPE}
 use Rattle.pair_entries.specs.declared.entry.Entry.{Entry}
 use Rattle.pair_journal.specs.Given.{source_of}
-use Rattle.row_values.specs.Kinds as kinds
-use Rattle.value_kinds.specs.ValueKind.{Id}
 use Rattle.refusal_parts.specs.Said.{business_reject_says, session_reject_says}
 use Rattle.reject_rules.specs.Refusals.{refusal_of}
 use Rattle.reject_rules.specs.Renumbered.{renumbered}
@@ -58,14 +56,18 @@ known_in k = record {
 abbrev pub words_in : GivenAnswer → Option Words
 words_in a = option_map (λ w. record { to = w.to; said = w.said; resend = w.resend }) a.words
 
--- the request of a message with this number, as it joins the chains
-abbrev pub joined : ℕ → Message → Option ChainItem
-joined number m = if is_one_of joining m.letter then Some (record {
+-- what a request with this number says of an order
+abbrev pub item_of : ℕ → Message → ChainItem
+item_of number m = record {
   id = text_in m.cells 11;
   orig = said_at m.cells (Tag 41);
   number = number;
   letter = m.letter;
-}) else None
+}
+
+-- the request of a message with this number, as it joins the chains
+abbrev pub joined : ℕ → Message → Option ChainItem
+joined number m = if is_one_of joining m.letter then Some (item_of number m) else None
 
 -- THE ANSWER to what is asked
 abbrev pub IsAnswer : GivenKnown → GivenAsked → GivenAnswer → Type 0
@@ -157,18 +159,3 @@ pub data IsSpelled (a : GivenAsked) (side : Side) (original : Option (List ℕ))
   Goes : (written : List Field) → lack ≡ None → GoesOn side original m written
       → IsForwarded a (m.letter ∷ []) m.resend (body_of written) item answer
       → IsSpelled a side original m lack item answer
-
--- ---- what joins
-
--- OrigClOrdID(41) that fields say of a request, which an order (D) does not have
-abbrev pub original_said : (letter : ℕ) → List Field → Option (List ℕ)
-original_said letter fields = if letter == 68 then None else kinds.said fields 41 (kinds.Value Id)
-
--- the request of this number and letter that fields say, as it joins the chains
-abbrev pub item_said : (number letter : ℕ) → List Field → ChainItem
-item_said number letter fields = record {
-  id = unwrap_or (kinds.said fields 11 (kinds.Value Id)) [];
-  orig = original_said letter fields;
-  number = number;
-  letter = letter;
-}

@@ -3,10 +3,9 @@
 ghost use Rattle.std.specs.Prelude.{◌≡◌, ◌++◌, [], IfOk, OnOk};
 ghost use Rattle.std.specs.Option.{option_map, option_to_list};
 ghost use Rattle.message_tables.specs.Tables.{first_of};
-ghost use Rattle.message_answers.specs.Chains.{joining_letter, item_in, new_item, chains_of};
-ghost use Rattle.message_answers.specs.Seen.{item_said, original_said};
+ghost use Rattle.message_answers.specs.Chains.{joining_letter, item_in, item_said, original_said};
+ghost use Rattle.message_answers.specs.Chains.{new_item, chains_of};
 
-use dict_fix42::good42;
 use field_groups::{Fields, split};
 use order_chains::{ChainItem, Chains};
 use order_meaning::Bytes;
@@ -14,7 +13,6 @@ use pair_entries::{Entry, Out};
 use pair_journal::{Reader, source_in};
 use row_values::{or_empty, text};
 use std::alloc::{AllocError, Global};
-use translation::msg_type;
 use value_kinds::ValueKind::Id;
 
 // The letter of a New Order (D), a Cancel (F) or a Cancel/Replace (G) that an out translates.
@@ -80,7 +78,7 @@ pub(crate) fn item_said(
     })
 }
 
-// The request that an entry forwarded. It is judged, and not filled into a struct.
+// The request that an entry forwarded. Its fields are read, and not judged again.
 fn item_in(alloc: Global, entry: &Entry) -> Result<Option<ChainItem>, AllocError>
     ensures { IfOk result (λ item. item ≡ item_in entry.now) }
 {
@@ -91,11 +89,8 @@ fn item_in(alloc: Global, entry: &Entry) -> Result<Option<ChainItem>, AllocError
         return Ok(None);
     };
     let split = split(alloc, took.raw.as_slice())?;
-    match good42(msg_type(&split.fields), &split) {
-        Ok(fields) => Ok(Some(item_said(alloc, took.number, letter, fields)?)),
-        // A faulty message joins nothing.
-        Err(_) => Ok(None),
-    }
+    let item = item_said(alloc, took.number, letter, &split.fields)?;
+    Ok(Some(item))
 }
 
 // Adds the request that an entry forwarded, unless one with its id is there.
