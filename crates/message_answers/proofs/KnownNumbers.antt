@@ -6,6 +6,7 @@ use Rattle.std.specs.Prelude.{find}
 use Rattle.std.specs.List.{AllByRecursion, list_all, list_any}
 use Rattle.std.specs.Option.{option_to_list}
 use Rattle.std.proofs.lemmas.Bool.{eqb-true}
+use Rattle.field_groups.specs.Data.{is_data_tag}
 use Rattle.field_groups.specs.Field.{Field, is_soh}
 use Rattle.message_tables.specs.Tables.{◌>>=◌, first_of}
 use Rattle.order_meaning.specs.declared.Side.{Side}
@@ -134,6 +135,7 @@ pub record IsGoodItem (item : ChainItem) : Type 0 where
 
 original_good : (letter : ℕ) (raw : List ℕ)
     → IfSome (original_said letter (reading_of raw).fields) IsShortId
+unfolding is_data_tag
 original_good letter raw = by (letter == 68)
   where
     fields : List Field
