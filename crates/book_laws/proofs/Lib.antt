@@ -14,3 +14,25 @@ mod Quiet
 pub mod EntryFollows
 mod Judged
 mod Followed
+mod Worked
+mod Lists
+mod Places
+mod Tests
+mod Shapes
+mod Agree
+mod Outs
+mod Tooks
+mod Silence
+mod Made
+mod Sources
+mod Chains
+mod New
+mod Does
+mod Lawful
+mod Peers
+mod Whole
+mod HeaderGroups
+mod Headers
+mod HeaderMessages
+mod Bodies
+mod Both
