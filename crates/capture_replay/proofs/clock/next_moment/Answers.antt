@@ -1,4 +1,4 @@
-use Rattle.std.proofs.Common.{◌≡◌, [], true, false, rules}
+use Rattle.std.proofs.Common.{◌≡◌, ◌∙◌, ℕ, [], true, false, rules, sym, ap}
 use Rattle.capture_text.specs.Kept.{event_of}
 use Rattle.capture_replay.specs.Rounds.{is_round, moments_from}
 use Rattle.capture_replay.proofs.EachLine.{no_round, round_first, round_rest, end_first, end_rest}
@@ -9,6 +9,7 @@ loop-line-preserved c =
     let passed : is_round (event_of c.in-Some.line) ≡ false = search rules in
     no_round (event_of c.in-Some.line) c.loop-line.lines c.next.new.self _ c.loop-line.moment passed
     c.in-Some.ensures.some c.loop-line.invariant
+    ∙ ap (λ (m : ℕ). moments_from m c.next.new.self) (sym c.now_after-moment.ensures)
 
 pub returns-then-is_round-clause-first : goal.returns-then-is_round-clause-first
 returns-then-is_round-clause-first c =
