@@ -2,7 +2,7 @@
 
 ghost use Rattle.std.specs.Prelude.{◌≡◌, refl, IfOk, Some};
 ghost use mathlib.Core.Logic.{inl};
-ghost use Rattle.outside.specs.MemDisk.{IsImageOf};
+ghost use Rattle.outside.specs.MemDisk.{IsImageOf, picked_image};
 
 use outside::{Disk, Failed, Image, MemDisk};
 use std::alloc::AllocError;
@@ -42,7 +42,8 @@ impl LifeDisk {
     /// # Errors
     /// `AllocError` for want of memory.
     pub(crate) fn into_image(self, pick: Image) -> Result<Vec<u8>, AllocError>
-        ensures { IfOk result (λ v. IsImageOf self v.items) }
+        ensures value { IfOk result (λ v. v.items ≡ picked_image pick self) }
+        ensures among { IfOk result (λ v. IsImageOf self v.items) }
     {
         self.disk.into_image(pick)
     }

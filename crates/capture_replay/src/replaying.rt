@@ -23,7 +23,7 @@ use std::alloc::Global;
 /// one. Each side's wire gives what the lines of that side say, round by round, and the clock says
 /// the moments of the `at` lines; it runs on from life to life, from 0 at the first. A life with a
 /// stop ends at it by a disk fault, and the next one begins with the image that it leaves. The
-/// lines of each life are one put, and then those of the journal that the last has left.
+/// lines of a life are put when it has ended, and at last those of the journal that is left.
 ///
 /// # Errors
 /// `OutputFault` only where the sink's count of faults rose in this call; `NoMemory` for want of
