@@ -11,7 +11,7 @@ mod Joins
 mod Requested
 mod Requesting
 mod Reported
-mod Forwards
+pub mod Forwards
 pub mod Carried
 mod Application
 mod FaultWords
