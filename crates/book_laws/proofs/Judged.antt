@@ -35,7 +35,7 @@ use Rattle.message_answers.proofs.Typed.{type_is}
 use Rattle.book_laws.specs.Heard.{is_among, request_types}
 use Rattle.book_laws.specs.Keeps.{In}
 use Rattle.book_laws.specs.Laws.{IsJudged, RequestsAreJudged}
-use Rattle.book_laws.proofs.Chains.{IsItemOf, item_of_entry, joins_client, type_read}
+use Rattle.book_laws.proofs.Chains.{item_of_entry, joins_client, type_read}
 use Rattle.book_laws.proofs.EntryFollows.{IsMadeOf, concluded_is}
 use Rattle.book_laws.proofs.Lists.{in-either}
 use Rattle.book_laws.proofs.Quiet.{AreQuiet, IsQuiet}

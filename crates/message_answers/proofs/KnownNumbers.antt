@@ -1,6 +1,6 @@
 -- The numbers, the letters and the original orders that are known of a journal.
 use Rattle.std.proofs.Common.{◌≡◌, ◌≤◌, ℕ, ◌==◌, ◌&&◌, ◌||◌, not, Bool, true, false, List, [], ◌∷◌}
-use Rattle.std.proofs.Common.{◌++◌, codes, Option, Some, None, Result, Ok, Err, IfSome, refl, sym}
+use Rattle.std.proofs.Common.{◌++◌, codes, Option, Some, None, IfSome, refl, sym}
 use Rattle.std.proofs.Common.{subst, option_map, option_and_then, if◌then◌else◌}
 use Rattle.std.specs.Prelude.{find}
 use Rattle.std.specs.List.{AllByRecursion, list_all, list_any}

@@ -3,7 +3,7 @@ use Rattle.std.proofs.Common.{◌≡◌, ℕ, ◌==◌, ◌||◌, not, Bool, tru
 use Rattle.std.proofs.Common.{codes}
 use Rattle.std.proofs.Common.{Option, Some, None, Result, Ok, Err, IfSome, refl, sym, ap, subst}
 use Rattle.std.proofs.Common.{◌∙◌}
-use Rattle.std.proofs.Common.{if◌then◌else◌, ◌⊎◌, inl, inr, arith}
+use Rattle.std.proofs.Common.{if◌then◌else◌, ◌⊎◌, inl, inr}
 use Rattle.std.specs.List.{list_all}
 use Rattle.std.specs.Str.{bytes_eq}
 use Rattle.field_groups.specs.declared.fault.SplitFault.{SplitFault}
@@ -35,7 +35,7 @@ use Rattle.reject_rules.specs.Laws.{HasWords}
 use Rattle.message_answers.specs.Message.{is_refusal, is_refusal_type, refusal_in, said_by}
 use Rattle.message_answers.proofs.FaultWords.{fault_words}
 use Rattle.message_answers.proofs.Letters.{among}
-use Rattle.message_answers.proofs.SaidTexts.{AreClear, IsShortId, IsToldWell, id_at, text_at}
+use Rattle.message_answers.proofs.SaidTexts.{AreClear, IsToldWell, id_at, text_at}
 use Rattle.message_answers.proofs.SaidTexts.{told_well}
 
 -- a table of the client: of a request, or of a report, which is not supported

@@ -1,6 +1,6 @@
 -- What joins of a request at no fault, by its fields.
-use Rattle.std.proofs.Common.{◌≡◌, ℕ, Bool, true, false, ◌&&◌, List, [], ◌∷◌, Option, Some, None}
-use Rattle.std.proofs.Common.{refl, sym, ap, ◌∙◌, unwrap_or, if◌then◌else◌}
+use Rattle.std.proofs.Common.{◌≡◌, ℕ, Bool, true, false, ◌&&◌, List, [], Option, Some, None}
+use Rattle.std.proofs.Common.{sym, ap, ◌∙◌, unwrap_or, if◌then◌else◌}
 use Rattle.std.specs.Option.{option_map}
 use Rattle.message_tables.specs.Tables.{is_one_of, text_in}
 use Rattle.order_chains.specs.declared.item.ChainItem.{ChainItem}
