@@ -115,40 +115,6 @@ at_first listed left asked moment is first before =
     let same : asked ≡ asked + 0 = omega arith in
     sym (ap (moment_at listed) same ∙ is before 0 ∙ first)
 
--- ---- how many rounds there are
-
--- with a line more, or at their end
-pub count_more : (line : Event) (left rest : List Event) (rounds all : ℕ) → is_round line ≡ true
-    → left ≡ line ∷ rest → rounds + length (filter is_round left) ≡ all
-    → (rounds + 1) + length (filter is_round rest) ≡ all
-count_more line left rest rounds all is there was =
-    let one : length (filter is_round left) ≡ length (filter is_round rest) + 1 =
-    ap (λ (l : List Event). length (filter is_round l)) there
-    ∙ ap (λ (b : Bool). length (if b then line ∷ filter is_round rest
-    else filter is_round rest)) is ∙ omega arith in
-    omega (arith, one, was)
-
-pub count_same : (line : Event) (left rest : List Event) (rounds all : ℕ)
-    → is_round line ≡ false → left ≡ line ∷ rest
-    → rounds + length (filter is_round left) ≡ all → rounds + length (filter is_round rest) ≡ all
-count_same line left rest rounds all is there was =
-    let same : length (filter is_round left) ≡ length (filter is_round rest) =
-    ap (λ (l : List Event). length (filter is_round l)) there
-    ∙ ap (λ (b : Bool). length (if b then line ∷ filter is_round rest
-    else filter is_round rest)) is in
-    omega (arith, same, was)
-
-pub none_left : (left : List Event) (rounds all : ℕ) → left ≡ []
-    → rounds + length (filter is_round left) ≡ all → rounds ≡ all
-none_left left rounds all none was =
-    let zero : length (filter is_round left) ≡ 0 =
-    ap (λ (l : List Event). length (filter is_round l)) none in
-    omega (arith, zero, was)
-
-pub one_fewer : (line : Event) (left rest : List Event) → left ≡ line ∷ rest
-    → length left ≡ length rest + 1
-one_fewer line left rest is = ap (λ (l : List Event). length l) is ∙ omega arith
-
 -- ---- the moment behind lines
 
 pub one_after : (line : Event) (left rest : List Event) (end now : ℕ) → left ≡ line ∷ rest

@@ -154,7 +154,8 @@ module _ {T : Type 0} (state : T → TapState) (seen now : List T) (config : Con
     (client_calls venue_calls : List WireCall) where
   -- over fresh forms
   says_fresh : disk0 ≡ fresh bytes fail fuse → client0 ≡ unplayed Client lines
-      → venue0 ≡ unplayed Venue lines → clock0 ≡ record { listed = moments_from from lines; asked = 0 }
+      → venue0 ≡ unplayed Venue lines
+      → clock0 ≡ record { listed = moments_from from lines; asked = 0 }
       → LiveSays state seen now config (fresh bytes fail fuse) disk
       (unplayed Client lines) client (unplayed Venue lines) venue
       (record { listed = moments_from from lines; asked = 0 }) clock end rounds
@@ -170,7 +171,8 @@ module _ {T : Type 0} (state : T → TapState) (seen now : List T) (config : Con
 
   pub lives_on : ((i : List ℕ) → HasOneReading i)
       → disk0 ≡ fresh bytes fail fuse → client0 ≡ unplayed Client lines
-      → venue0 ≡ unplayed Venue lines → clock0 ≡ record { listed = moments_from from lines; asked = 0 }
+      → venue0 ≡ unplayed Venue lines
+      → clock0 ≡ record { listed = moments_from from lines; asked = 0 }
       → rounds ≡ length (filter is_round lines) → IsImageOf disk image
       → client.recorded ≡ Some client_calls → venue.recorded ≡ Some venue_calls
       → is_some (moments_told clock) ≡ true → may_end (stop_of lines) end ≡ true

@@ -23,8 +23,8 @@ returns-clause-lived g c =
       venue_plays = live.ensures.venue_plays;
       follows = live.ensures.follows;
     })
-    c.args.from c.args.image.items [] c.in_ok-image.image.items (fuse_of c.stop-stop.result) c.in-Some.client c.in-Some-venue.venue
+    c.args.from c.args.image.items [] c.in_ok-image.image.items (fuse_of c.stop-stop.result)
+    c.in-Some.client c.in-Some-venue.venue
     c.an_image_has_one_reading.ensures c.disk_of-disk.ensures c.new-client.ensures
-    c.new-venue.ensures
-    c.new-clock.ensures c.rounds_of-rounds.ensures c.in_ok-image.ensures.among
-    client_told venue_told clock_told whole
+    c.new-venue.ensures c.new-clock.ensures
+    c.rounds_of-rounds.ensures c.in_ok-image.ensures.among client_told venue_told clock_told whole
