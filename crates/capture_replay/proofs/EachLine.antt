@@ -1,8 +1,7 @@
 -- The lines of a life, one more at a time.
-use Rattle.std.proofs.Common.{◌≡◌, ◌∙◌, ℕ, zero, suc, ◌+◌, ◌-◌, ◌^◌, ◌<◌, List, [], ◌∷◌}
-use Rattle.std.proofs.Common.{◌++◌, length, get_or, filter, All, Bool, true, false}
+use Rattle.std.proofs.Common.{◌≡◌, ◌∙◌, ℕ, zero, suc, ◌<◌, List, [], ◌∷◌}
+use Rattle.std.proofs.Common.{◌++◌, length, get_or, All, Bool, true, false}
 use Rattle.std.proofs.Common.{refl, sym, ap, arith, if◌then◌else◌}
-use Rattle.outside.specs.Causes.{next_count}
 use Rattle.wires.specs.Clock.{moment_at}
 use Rattle.capture_text.specs.declared.capture.Event.{Event}
 use Rattle.capture_text.specs.declared.capture.Event.TheVariants as event
@@ -11,7 +10,6 @@ use Rattle.capture_text.specs.Line.{IsBounded}
 use Rattle.capture_text.proofs.Standing.{is_bounded}
 use Rattle.capture_replay.specs.Rounds.{is_round, now_after, moment_after}
 use Rattle.capture_replay.specs.Rounds.{moments_from}
-use Rattle.capture_replay.specs.LifeClock.{IsAt}
 
 -- ---- bounds
 
@@ -96,24 +94,6 @@ module _ (left rest : List Event) (all : List ℕ) (now : ℕ) (none : left ≡ 
   end_rest after =
       ap (λ (l : List ℕ). moment_at l (suc after)) (was ∙ ap (moments_from now) none)
       ∙ ap (λ (l : List Event). moment_at (moments_from now l) after) (sym past)
-
--- ---- the clock
-
--- what is left after one ask more
-pub at_next : (listed left next : List ℕ) (asked later : ℕ) → IsAt listed asked left
-    → ((after : ℕ) → moment_at left (suc after) ≡ moment_at next after)
-    → later ≡ next_count asked → IsAt listed later next
-at_next listed left next asked later is goes counted = λ within after.
-    let before : asked < 2 ^ 64 - 1 = omega (arith, counted, within) in
-    let same : later + after ≡ asked + suc after = omega (arith, counted, within) in
-    ap (moment_at listed) same ∙ is before (suc after) ∙ goes after
-
--- the moment that was given
-pub at_first : (listed left : List ℕ) (asked moment : ℕ) → IsAt listed asked left
-    → moment_at left 0 ≡ moment → asked < 2 ^ 64 - 1 → moment ≡ moment_at listed asked
-at_first listed left asked moment is first before =
-    let same : asked ≡ asked + 0 = omega arith in
-    sym (ap (moment_at listed) same ∙ is before 0 ∙ first)
 
 -- ---- the moment behind lines
 
