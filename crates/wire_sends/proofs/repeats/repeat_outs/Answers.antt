@@ -19,7 +19,7 @@ loop-number-init g c = record {
   faults = refl;
   polls = refl;
   plays = λ script plays. plays;
-  walk = c.restart.ensures (g.D.Disk.bytes c.args.disk.now) c.args.journal.now.entries
+  walk = c.restart.ensures.walk (g.D.Disk.bytes c.args.disk.now) c.args.journal.now.entries
       c.args.again.side c.args.again.from c.requires.from;
   sent = λ b e. begin_repeat _ _ _ _;
 }
