@@ -2,10 +2,21 @@ use Rattle.std.proofs.Common.{rules, ◌≡◌, true, false}
 use Rattle.request_rules.specs.Good.{said}
 use Rattle.message_answers.specs.Answer.{is_used}
 use Rattle.message_answers.specs.Seen.{known_in}
-use Rattle.reject_rules.specs.Refusals.{away_refusal}
-use Rattle.message_answers.proofs.Joins.{near_joins}
+use Rattle.reject_rules.specs.Refusals.{away_refusal, used_refusal}
+use Rattle.message_answers.proofs.Joins.{joins_nothing, near_joins}
 use Rattle.message_answers.proofs.Requested.{tried_answers, tried_joins}
 use Rattle.message_answers.proofs.requests.request_good.Goals as goal
+
+pub returns-then-resend-clause-item : goal.returns-then-resend-clause-item
+returns-then-resend-clause-item c =
+    joins_nothing c.args.known.now c.args.asked.now c.nothing.result c.nothing.ensures.words
+    c.nothing.ensures.item
+
+pub returns-then-is_used-clause-item : goal.returns-then-is_used-clause-item
+returns-then-is_used-clause-item c =
+    let a = c.args.asked.now in
+    near_joins c.args.known.now a (used_refusal a.number a.msg_type.now) c.near_used.result
+    c.near_used.ensures.words c.near_used.ensures.item
 
 pub returns-then-not-known-clause-item : goal.returns-then-not-known-clause-item
 returns-then-not-known-clause-item c =
