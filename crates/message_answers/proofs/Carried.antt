@@ -1,13 +1,9 @@
 -- What goes on carries what came.
-use Rattle.std.proofs.Common.{◌≡◌, ℕ, List, Option, sym}
-use Rattle.field_groups.specs.Field.{Field}
-use Rattle.message_tables.specs.Tables.{Message}
-use Rattle.order_meaning.specs.declared.Side.{Side}
+use Rattle.std.proofs.Common.{sym}
 use Rattle.order_meaning.specs.declared.Side.TheVariants.{Client, Venue}
 use Rattle.request_rules.specs.Rules.{up_message}
 use Rattle.report_rules.proofs.SenseDown.{books_alike}
-use Rattle.message_answers.specs.Laws.{ForwardedMessagesCarry, IsCarried}
-use Rattle.message_answers.specs.Translated.{GoesOn}
+use Rattle.message_answers.specs.Laws.{ForwardedMessagesCarry}
 
 pub carried : ForwardedMessagesCarry
 carried Client original m text goes =

@@ -39,7 +39,7 @@ use Rattle.report_rules.proofs.PutDown.{good_eight, nine}
 use Rattle.report_rules.proofs.ReadDown.{read_is_report}
 use Rattle.report_rules.proofs.SenseDown.{not_lacking}
 use Rattle.translation.specs.Judged.{AreGood, AreGoodBy}
-use Rattle.translation.proofs.Judged.{clean_is, fault_by}
+use Rattle.translation.proofs.Judged.{fault_by}
 use Rattle.event_decisions.proofs.Bodies.{bodies_are_read}
 use Rattle.message_answers.specs.declared.answer.Answer.{Answer as GivenAnswer}
 use Rattle.message_answers.specs.declared.asking.Asked.{Asked as GivenAsked}

@@ -1,6 +1,6 @@
 -- The content of what goes on: fields that are no raw data, not too many, and none of them of the
 -- header.
-use Rattle.std.proofs.Common.{◌≡◌, ◌≤◌, ℕ, ◌==◌, ◌||◌, not, Bool, true, false, List, [], ◌∷◌}
+use Rattle.std.proofs.Common.{◌≡◌, ◌≤◌, ℕ, ◌||◌, not, Bool, true, false, List, [], ◌∷◌}
 use Rattle.std.proofs.Common.{length, Option, Some, None, IfSome, refl, sym, ap, subst, arith, lit≤}
 use Rattle.std.specs.List.{flat_map, list_all, list_any}
 use Rattle.field_groups.specs.Data.{is_data_tag}

@@ -1,4 +1,3 @@
-use Rattle.translation.proofs.Judged.{clean_is}
 use Rattle.message_answers.proofs.Answered.{faulty}
 use Rattle.message_answers.proofs.Joins.{refused_joins}
 use Rattle.message_answers.proofs.Reported.{tells}
