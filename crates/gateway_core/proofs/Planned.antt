@@ -5,7 +5,6 @@ use Rattle.std.proofs.Common.{Option, Some, None, refl, sym, ap, subst, ◌∙�
 use Rattle.std.proofs.Common.{if◌then◌else◌, Ok, Err, nat_lt, IfOk}
 use Rattle.std.specs.Prelude.{Result, ◌&&◌, ◌==◌, cond}
 use Rattle.std.specs.List.{list_any}
-use Rattle.std.specs.Result.{result_ok}
 use Rattle.std.proofs.lemmas.Bool.{ltb-false}
 use Rattle.std.proofs.lemmas.List.Sums.{sum_by-cons}
 use Rattle.order_meaning.specs.declared.Side.{Side}
@@ -46,8 +45,7 @@ use Rattle.gateway_core.specs.declared.plan.Plan.{Plan}
 use Rattle.gateway_core.specs.declared.plan.PlanError.{PlanError}
 use Rattle.gateway_core.specs.declared.plan.PlanError.TheVariants as errors
 use Rattle.message_answers.specs.Answer.{Answers}
-use Rattle.message_answers.specs.Chains.{joining, joining_letter, if_new, item_of}
-use Rattle.message_answers.specs.Message.{message_of}
+use Rattle.message_answers.specs.Chains.{joining, joining_letter, if_new, item_said}
 use Rattle.gateway_core.specs.Planning.{concluded_by, resolved, quiet_by, Comes, JoinsWith}
 use Rattle.gateway_core.specs.Planning.{with_entry, IsSayable}
 use Rattle.gateway_core.specs.Planning.{StepsAreSayable}
@@ -284,7 +282,7 @@ session_joins_nothing chains side body true (Some number) heart h n acts at next
     ap (first_of (joining_letter e)) outs
     ∙ no_joining e took side heart h n acts refl refl in
     sym (ap (λ (o : Option ℕ). if_new chains (o >>= (λ letter.
-    result_ok (message_of Client took.raw) >>= (λ m. Some (item_of took letter m))))) none)
+    Some (item_said took.number letter (reading_of took.raw).fields)))) none)
 
 -- ---- the item of a plan
 
