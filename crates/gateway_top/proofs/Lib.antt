@@ -2,5 +2,5 @@ pub mod Answered
 pub mod Catching
 pub mod Midway
 pub mod Numbers
-pub mod Serving
+pub mod ByNumbers
 mod Worked

@@ -1,5 +1,5 @@
 use Rattle.std.proofs.Common.{◌≡◌, ◌∙◌, ap, Some}
-use Rattle.gateway_top.proofs.Serving.{if_serve, if_replay, if_drill, within, on_err_all}
+use Rattle.gateway_top.proofs.ByNumbers.{if_serve, if_replay, if_drill, within, on_err_all}
 use Rattle.gateway_top.proofs.program.run.Goals as goal
 
 pub returns-in-Some-Serve-clause-serves : goal.returns-in-Some-Serve-clause-serves
