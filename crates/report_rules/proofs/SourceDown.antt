@@ -1,6 +1,6 @@
 -- What the code has read of the fields of a report at no fault.
-use Rattle.std.proofs.Common.{◌≡◌, ◌<◌, ◌^◌, ℕ, List, [], ◌∷◌, Bool, true, false, Option, Some}
-use Rattle.std.proofs.Common.{None, refl, sym, ap, ◌∙◌, map, option_map, lit<}
+use Rattle.std.proofs.Common.{◌≡◌, ◌<◌, ◌^◌, ℕ, List, [], ◌∷◌, true, false, Option, Some, None}
+use Rattle.std.proofs.Common.{refl, sym, ap, ◌∙◌, map, option_map, lit<}
 use Rattle.std.specs.Prelude.{IfSome, unwrap_or, ◌==◌, ◌&&◌, Result, Ok, Err}
 use Rattle.std.specs.Borrow.{Bor}
 use Rattle.std.specs.List.{AllByRecursion}
@@ -10,13 +10,11 @@ use Rattle.typed_fields.specs.declared.fault.FieldFault.{FieldFault}
 use Rattle.typed_fields.specs.declared.number.Number.{Number}
 use Rattle.typed_fields.specs.Dec.{dec_text, read_dec}
 use Rattle.typed_fields.specs.Number.{IsNumber, number_text, read_number}
-use Rattle.typed_fields.specs.Stamp.{cut_text}
 use Rattle.typed_fields.proofs.DecLaws.{dec_is_stable}
 use Rattle.typed_fields.proofs.NumberLaws.{number_in_bound}
 use Rattle.field_groups.specs.Field.{Field}
-use Rattle.message_tables.specs.Tables.{Item, Message, Need, Row, Said, Table, ◌>>=◌, all_rows}
-use Rattle.message_tables.specs.Tables.{code_of, group_says, is_one_of, party_in, row_at, says}
-use Rattle.message_tables.specs.Tables.{value_at}
+use Rattle.message_tables.specs.Tables.{Item, Message, Said, Table, ◌>>=◌, code_of, group_says}
+use Rattle.message_tables.specs.Tables.{is_one_of, party_in, value_at}
 use Rattle.message_tables.specs.FirstFault.{first_fault, message_in}
 use Rattle.value_kinds.specs.ValueKind.{Day, units_of_text}
 use Rattle.row_values.specs.Amounts.{amount_of}
@@ -31,20 +29,18 @@ use Rattle.rows_fix50.specs.Meaning.{id_of}
 use Rattle.rows_fix50.proofs.Roles.{of_role}
 use Rattle.reports_fix50.specs.Message.{cancel_reject_table, report_table}
 use Rattle.reports_fix50.specs.Reports.{cancel_reject, execution_report}
-use Rattle.sound_laws.proofs.Each.{◌&◌, both, one_of}
-use Rattle.sound_laws.proofs.RowsSaid.{row_of_tag, tag_is}
-use Rattle.rule_rows.specs.Texts.{decimal_of, decimal_text, is_amount, is_kept, is_moment}
-use Rattle.rule_rows.specs.Texts.{is_own_kind, is_reason, is_row, is_strict, is_unfixed, kept}
-use Rattle.rule_rows.specs.Texts.{number_of}
-use Rattle.rule_rows.proofs.FieldsSaid.{by_row, decimal_is, kept_is, moment_is, reason_is, row_says}
-use Rattle.rule_rows.proofs.FieldsSaid.{text_is, unfixed_says}
+use Rattle.sound_laws.proofs.Each.{◌&◌, each_by, one_of}
+use Rattle.sound_laws.proofs.RowsSaid.{row_of_tag}
+use Rattle.rule_rows.specs.Texts.{Facts, Has, OfKind, OfKinds, Own, Reading, decimal_of}
+use Rattle.rule_rows.specs.Texts.{decimal_text, is_amount, is_kept, is_reason, kept, number_of}
+use Rattle.rule_rows.proofs.FieldsSaid.{IsRead, decimal_said, each_read, kept_said, moment_said}
+use Rattle.rule_rows.proofs.FieldsSaid.{reason_said, row_says, text_said}
 use Rattle.report_rules.specs.declared.source.Groups.{Groups}
 use Rattle.report_rules.specs.declared.rules.Rule.{Rule as CodeRule}
 use Rattle.report_rules.specs.declared.rules.Rule.TheVariants as rules
 use Rattle.report_rules.specs.declared.source.Source.{Source}
-use Rattle.report_rules.specs.CodeRules.{AreRead, Facts, OfKept, OfKinds, found, if_row, known_of}
-use Rattle.report_rules.specs.CodeRules.{reading, reject_source, report_source, times, told, types}
-use Rattle.report_rules.specs.CodeRules.{wanted, zero}
+use Rattle.report_rules.specs.CodeRules.{AreRead, is_month, known_of, reading, reject_source}
+use Rattle.report_rules.specs.CodeRules.{report_source, times, types, zero}
 use Rattle.report_rules.specs.Rules.{at, is_fill, no_amount, party}
 use Rattle.report_rules.proofs.CodeDown.{IsReadAs, IsSaid, tells_is}
 use Rattle.report_rules.proofs.FieldsDown.{at_other, at_month}
@@ -89,67 +85,34 @@ module _ (letter : ℕ) (items : List (Item Kind)) (fields : List Field)
   abbrev pub m : Message
   m = completed (message_in judge table fields)
 
-  -- a row of a tag by which the code reads so
-  abbrev Has : (Kind → Bool) → ℕ → Type 0
-  Has test tag = found table (OfKinds test tag) ≡ wanted table (OfKinds test tag)
+  abbrev pub Is : Reading → Type 0
+  Is reading = Has is_month table reading
 
-  by_kinds : (test : Kind → Bool) (tag : ℕ) (reads : Said) → Has test tag
-      → ((kind : Kind) (need : Need)
-      → row_at tag (all_rows table) ≡ Some (record { tag = tag; kind = kind; need = need })
-      → is_row is_strict test (record { tag = tag; kind = kind; need = need }) ≡ true
-      → reads ≡ says need (judge fields kind) (value_at tag fields))
-      → reads ≡ at m tag
-  by_kinds test tag reads has each =
-      by_row table fields none tag (ap (λ (f : Facts). f.0) has) (if_row (is_row is_strict test))
-      (λ said. reads ≡ said) (ap (λ (f : Facts). f.2) has) (λ absent no. absurd cc) each
-      ∙ sym (at_other fields letter items tag (ap (λ (f : Facts). f.3) has))
+  at_row : (tag : ℕ) → is_month tag ≡ false → at m tag ≡ row_says fields (row_of_tag tag items)
+  at_row = at_other fields letter items
 
-  text_said : (tag : ℕ) → Has is_own_kind tag → value_at tag fields ≡ at m tag
-  text_said tag has = by_kinds is_own_kind tag (value_at tag fields) has
-      (λ kind need its t. text_is table fields none tag kind need its t)
+  text : (tag : ℕ) → Is (Own tag) → value_at tag fields ≡ at m tag
+  text = text_said is_month table fields none (at m) at_row
 
-  decimal_said : (tag : ℕ) → Has is_amount tag → decimal_text (value_at tag fields) ≡ at m tag
-  decimal_said tag has = by_kinds is_amount tag (decimal_text (value_at tag fields)) has
-      (λ kind need its t. decimal_is table fields none tag kind need its t)
+  decimal : (tag : ℕ) → Is (OfKinds is_amount tag) → decimal_text (value_at tag fields) ≡ at m tag
+  decimal = decimal_said is_month table fields none (at m) at_row
 
-  moment_said : (tag : ℕ) → Has is_moment tag
-      → option_map cut_text (value_at tag fields) ≡ at m tag
-  moment_said tag has = by_kinds is_moment tag (option_map cut_text (value_at tag fields)) has
-      (λ kind need its t. moment_is table fields none tag kind need its t)
-
-  number_said : (tag : ℕ) → Has is_reason tag
+  reason : (tag : ℕ) → Is (OfKinds is_reason tag)
       → at m tag ≡ option_map number_text (number_of (value_at tag fields))
-  number_said tag has =
-      sym (by_kinds is_reason tag (option_map number_text (number_of (value_at tag fields))) has
-      (λ kind need its t. reason_is table fields none tag kind need its t))
+  reason = reason_said is_month table fields none (at m) at_row
+
+  kept_at : (kind : Kind) (tag : ℕ) → Is (OfKind is_kept kind tag)
+      → kept fields tag kind ≡ at m tag
+  kept_at = kept_said is_month table fields none (at m) at_row
 
   number_good : (tag : ℕ) → IfSome (number_of (value_at tag fields)) IsNumber
   number_good tag = bounded (value_at tag fields)
 
-  amount_said : (tag : ℕ) → Has is_amount tag
+  amount : (tag : ℕ) → Is (OfKinds is_amount tag)
       → (unwrap_or (decimal_of (value_at tag fields)) zero).units
       ≡ (unwrap_or (at m tag >>= amount_of) no_amount).units
-  amount_said tag has = units_are (value_at tag fields)
-      ∙ ap (λ (t : Said). (unwrap_or (t >>= amount_of) no_amount).units) (decimal_said tag has)
-
-  kept_said : (tag : ℕ) (kind : Kind)
-      → found table (OfKept kind tag) ≡ wanted table (OfKept kind tag)
-      → kept fields tag kind ≡ at m tag
-  kept_said tag kind has =
-      by (row_of_tag tag items) refl (ap (λ (f : Facts). f.1) has) (ap (λ (f : Facts). f.2) has)
-      ∙ sym (at_other fields letter items tag (ap (λ (f : Facts). f.3) has))
-    where
-      by : (o : Option (Row Kind)) → row_of_tag tag items ≡ o
-          → option_map (λ row. row.kind) o ≡ Some kind → if_row (is_row is_unfixed is_kept) o ≡ true
-          → kept fields tag kind ≡ row_says fields o
-      by None e k t = absurd cc
-      by (Some row) e k t =
-          let same : row.kind ≡ kind = cc in
-          let tagged : row.tag ≡ tag = tag_is tag items row e in
-          let p = both (is_unfixed row.need) (is_kept row.kind) t in
-          kept_is fields tag kind (ap is_kept (sym same) ∙ p.1)
-          ∙ (λ i. said fields (sym tagged i) (sym same i))
-          ∙ sym (unfixed_says row.need (judge fields row.kind) (value_at row.tag fields) p.0)
+  amount tag has = units_are (value_at tag fields)
+      ∙ ap (λ (t : Said). (unwrap_or (t >>= amount_of) no_amount).units) (decimal tag has)
 
 -- WHAT THE CODE READS BY RULES that the table has rows for is what the message says
 module _ (letter : ℕ) (items : List (Item Kind)) (s : Source)
@@ -161,40 +124,37 @@ module _ (letter : ℕ) (items : List (Item Kind)) (s : Source)
   abbrev fs : List Field
   fs = s.fields.now
 
-  abbrev IsRead : CodeRule → Type 0
-  IsRead rule = found (table50 letter items) (reading (table50 letter items) rule)
-      ≡ wanted (table50 letter items) (reading (table50 letter items) rule)
-
-  rule_said : (rule : CodeRule) → IsRead rule → IsSaid (m letter items fs none) s rule
-  rule_said (rules.Same tag) has = text_said letter items fs none tag has
-  rule_said (rules.Decimal from to) has = decimal_said letter items fs none from has
-  rule_said (rules.Moment tag) has = moment_said letter items fs none tag has
-  rule_said (rules.Kept from to kind) has =
-      kept_said letter items fs none from (kind_of kind) has
-  rule_said rules.Original has = text_said letter items fs none 41 has
-  rule_said (rules.PartyOf role to) has = party_at role (ap (λ (f : Facts). f.2) has)
-  rule_said rules.ExecId has = text_said letter items fs none 17 has
-  rule_said rules.OrdStatus has = text_said letter items fs none 39 has
-  rule_said (rules.Another tag) has = text_said letter items fs none tag has
-  rule_said (rules.Traded tag) has = decimal_said letter items fs none tag has
+  rule_said : (rule : CodeRule)
+      → IsRead is_month (table50 letter items) (reading (table50 letter items)) rule
+      → IsSaid (m letter items fs none) s rule
+  rule_said (rules.Same tag) has = text letter items fs none tag has.0
+  rule_said (rules.Decimal from to) has = decimal letter items fs none from has.0
+  rule_said (rules.Moment tag) has = moment_said is_month (table50 letter items) fs none
+      (at (m letter items fs none)) (at_row letter items fs none) tag has.0
+  rule_said (rules.Kept from to kind) has = kept_at letter items fs none (kind_of kind) from has.0
+  rule_said rules.Original has = text letter items fs none 41 has.0
+  rule_said (rules.PartyOf role to) has = party_at role (ap (λ (f : Facts). f.2) has.0)
+  rule_said rules.ExecId has = text letter items fs none 17 has.0
+  rule_said rules.OrdStatus has = text letter items fs none 39 has.0
+  rule_said (rules.Another tag) has = text letter items fs none tag has.0
+  rule_said (rules.Traded tag) has = decimal letter items fs none tag has.0
   rule_said (rules.Within tag last other) has = (
-    number_said letter items fs none tag has,
+    reason letter items fs none tag has.0,
     number_good letter items fs none tag,
   )
-  rule_said rules.Told has = text_said letter items fs none 58 has
-  rule_said rules.Month has = month (ap (λ (f : Facts). f.2) has)
-  rule_said rules.DayOfDate has = text_said letter items fs none 541 has
-  rule_said rules.OrdType has = kept_said letter items fs none 40 types has
-  rule_said rules.Time has = kept_said letter items fs none 59 times has
+  rule_said rules.Told has = text letter items fs none 58 has.0
+  rule_said rules.Month has = month (ap (λ (f : Facts). f.2) has.0)
+  rule_said rules.DayOfDate has = text letter items fs none 541 has.0
+  rule_said rules.OrdType has = kept_at letter items fs none types 40 has.0
+  rule_said rules.Time has = kept_at letter items fs none times 59 has.0
   rule_said rule has = tt
 
   pub rules_said : (rules : List CodeRule) → AreRead (table50 letter items) rules
       → AllByRecursion (IsSaid (m letter items fs none) s) rules
-  rules_said [] has = tt
-  rules_said (rule ∷ rules) has =
-      let here : IsRead rule = cc in
-      let rest : AreRead (table50 letter items) rules = cc in
-      (rule_said rule here, rules_said rules rest)
+  rules_said rules has = each_by
+      (IsRead is_month (table50 letter items) (reading (table50 letter items)))
+      (IsSaid (m letter items fs none) s) rule_said rules
+      (each_read is_month (table50 letter items) (reading (table50 letter items)) rules has)
 
 -- ---- an execution report
 
@@ -208,31 +168,31 @@ module _ (fields : Bor (List Field)) (groups : Groups) (known : Option (Bor (Lis
   abbrev source : Source
   source = report_source fields groups known
 
-  code_said : (tag : ℕ) → Has 56 execution_report fields.now none is_own_kind tag
+  code_said : (tag : ℕ) → Is 56 execution_report fields.now none (Own tag)
       → (value_at tag fields.now >>= code_of) ≡ (at report tag >>= code_of)
   code_said tag has =
-      ap (λ (v : Said). v >>= code_of) (text_said 56 execution_report fields.now none tag has)
+      ap (λ (v : Said). v >>= code_of) (text 56 execution_report fields.now none tag has)
 
   type_said : kept fields.now 40 types ≡ at report 40
-  type_said = kept_said 56 execution_report fields.now none 40 types refl
+  type_said = kept_at 56 execution_report fields.now none types 40 refl
 
   time_said : kept fields.now 59 times ≡ at report 59
-  time_said = kept_said 56 execution_report fields.now none 59 times refl
+  time_said = kept_at 56 execution_report fields.now none times 59 refl
 
   pub report_read : IsReadAs (known_of source) report source
   report_read = record {
     exec_type = code_said 150 refl;
     ord_status = code_said 39 refl;
     filled = λ i. is_fill (unwrap_or (code_said 39 refl i) 0)
-        (amount_said 56 execution_report fields.now none 151 refl i);
+        (amount 56 execution_report fields.now none 151 refl i);
     ord_type = ap (λ (v : Said). v >>= code_of) type_said;
     time = ap (λ (v : Said). v >>= code_of) time_said;
     told = tells_is report (number_of (value_at 103 fields.now))
         (number_of (value_at 378 fields.now)) None
         (number_good 56 execution_report fields.now none 103)
         (number_good 56 execution_report fields.now none 378) tt
-        (number_said 56 execution_report fields.now none 103 refl)
-        (number_said 56 execution_report fields.now none 378 refl)
+        (reason 56 execution_report fields.now none 103 refl)
+        (reason 56 execution_report fields.now none 378 refl)
         (at_other fields.now 56 execution_report 102 refl);
     contras = says_contras report_table fields.now none 8 refl refl groups.contras contras;
     is_known = refl;
@@ -273,7 +233,7 @@ module _ (fields : Bor (List Field)) (groups : Groups) (known : Option (Bor (Lis
 
   status_said : (value_at 39 fields.now >>= code_of) ≡ (at reject 39 >>= code_of)
   status_said =
-      ap (λ (v : Said). v >>= code_of) (text_said 57 cancel_reject fields.now none 39 refl)
+      ap (λ (v : Said). v >>= code_of) (text 57 cancel_reject fields.now none 39 refl)
 
   pub reject_read : IsReadAs (known_of rejected) reject rejected
   reject_read = record {
@@ -285,7 +245,7 @@ module _ (fields : Bor (List Field)) (groups : Groups) (known : Option (Bor (Lis
     time = code_unsaid 59 refl refl;
     told = tells_is reject None None (number_of (value_at 102 fields.now)) tt tt
         (number_good 57 cancel_reject fields.now none 102) (unsaid 103 refl refl)
-        (unsaid 378 refl refl) (number_said 57 cancel_reject fields.now none 102 refl);
+        (unsaid 378 refl refl) (reason 57 cancel_reject fields.now none 102 refl);
     contras = ap (map contra_cells) contras;
     is_known = refl;
   }

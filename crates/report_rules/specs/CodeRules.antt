@@ -10,8 +10,7 @@ use Rattle.typed_fields.specs.declared.number.Number.{Number}
 use Rattle.typed_fields.specs.Stamp.{cut_text}
 use Rattle.field_groups.specs.Field.{Field}
 use Rattle.message_tables.specs.Content.{cell_fields, group_fields}
-use Rattle.message_tables.specs.Tables.{Item, Row, Said, Table, Tag, ◌>>=◌, all_rows, code_of}
-use Rattle.message_tables.specs.Tables.{is_one_of, row_at, value_at}
+use Rattle.message_tables.specs.Tables.{Item, Said, Table, Tag, ◌>>=◌, code_of, is_one_of, value_at}
 use Rattle.value_kinds.specs.ValueKind.{Code, Day, code_text}
 use Rattle.row_values.specs.CodeKinds.{kind_of}
 use Rattle.row_values.specs.Contras.{contra_cells}
@@ -22,12 +21,11 @@ use Rattle.order_meaning.specs.Report.{or_known}
 use Rattle.rows_fix50.specs.Header.{month_by}
 use Rattle.rows_fix50.specs.Meaning.{id_of}
 use Rattle.reports_fix50.specs.Sense.{reason_told, telling}
-use Rattle.sound_laws.proofs.RowsSaid.{row_of_tag}
 use Rattle.rule_rows.specs.ByRules.{lack_if, outline_of}
 use Rattle.rule_rows.specs.Rules.{By, Group, Moved}
+use Rattle.rule_rows.specs.Texts.{AreRead as AreReadBy, Besides, OfKind, OfKinds, Own, Reading}
 use Rattle.rule_rows.specs.Texts.{decimal_of, decimal_text, is_amount, is_kept, is_moment}
-use Rattle.rule_rows.specs.Texts.{is_own_kind, is_reason, is_row, is_strict, is_unfixed, kept}
-use Rattle.rule_rows.specs.Texts.{number_of as number_in}
+use Rattle.rule_rows.specs.Texts.{is_reason, kept, number_of as number_in}
 use Rattle.report_rules.specs.declared.rules.Rule.{Rule as CodeRule}
 use Rattle.report_rules.specs.declared.rules.Rule.TheVariants as rules
 use Rattle.report_rules.specs.declared.source.Codes.{Codes}
@@ -77,70 +75,35 @@ types = Value (Code (codes "1234"))
 abbrev pub times : Kind
 times = TimeBeside 40
 
--- ---- rows by which the code may read a field as it does
+-- ---- what the code reads by a rule
 
--- How the code reads the field of a tag: as the text of a strict row of such kinds, or as one that
--- is kept where it is of the profile; what it reads besides holds of this table or not.
-pub data Reading : Type 0 where
-  OfKinds : (test : Kind → Bool) (tag : ℕ) → Reading
-  OfKept : (kind : Kind) (tag : ℕ) → Reading
-  Besides : (good : Bool) → Reading
+-- the message says another month than its row where there is a date
+abbrev pub is_month : ℕ → Bool
+is_month tag = tag == 200
 
-abbrev pub if_row : (Row Kind → Bool) → Option (Row Kind) → Bool
-if_row test None = false
-if_row test (Some row) = test row
+abbrev pub reading : Table Kind → CodeRule → List Reading
+reading table (rules.Same tag) = Own tag ∷ []
+reading table (rules.Decimal from to) = OfKinds is_amount from ∷ []
+reading table (rules.Moment tag) = OfKinds is_moment tag ∷ []
+reading table (rules.Kept from to kind) = OfKind is_kept (kind_of kind) from ∷ []
+reading table rules.Original = Own 41 ∷ []
+reading table (rules.PartyOf role to) =
+    Besides ((table.letter == 56) && is_one_of (1 ∷ 3 ∷ 4 ∷ []) role) ∷ []
+reading table rules.ExecId = Own 17 ∷ []
+reading table rules.OrdStatus = Own 39 ∷ []
+reading table (rules.Another tag) = Own tag ∷ []
+reading table (rules.Traded tag) = OfKinds is_amount tag ∷ []
+reading table (rules.Within tag last other) = OfKinds is_reason tag ∷ []
+reading table rules.Told = Own 58 ∷ []
+reading table rules.Month = Besides (table.letter == 56) ∷ []
+reading table rules.DayOfDate = Own 541 ∷ []
+reading table rules.OrdType = OfKind is_kept types 40 ∷ []
+reading table rules.Time = OfKind is_kept times 59 ∷ []
+reading table rule = []
 
--- the row of a tag, its kind where that counts, whether it is of that sort, and whether it is that
--- of the month
-abbrev pub Facts : Type 0
-Facts = Option (Row Kind) × Option Kind × Bool × Bool
-
-module _ (table : Table Kind) where
-  abbrev pub reading : CodeRule → Reading
-  reading (rules.Same tag) = OfKinds is_own_kind tag
-  reading (rules.Decimal from to) = OfKinds is_amount from
-  reading (rules.Moment tag) = OfKinds is_moment tag
-  reading (rules.Kept from to kind) = OfKept (kind_of kind) from
-  reading rules.Original = OfKinds is_own_kind 41
-  reading (rules.PartyOf role to) =
-      Besides ((table.letter == 56) && is_one_of (1 ∷ 3 ∷ 4 ∷ []) role)
-  reading rules.ExecId = OfKinds is_own_kind 17
-  reading rules.OrdStatus = OfKinds is_own_kind 39
-  reading (rules.Another tag) = OfKinds is_own_kind tag
-  reading (rules.Traded tag) = OfKinds is_amount tag
-  reading (rules.Within tag last other) = OfKinds is_reason tag
-  reading rules.Told = OfKinds is_own_kind 58
-  reading rules.Month = Besides (table.letter == 56)
-  reading rules.DayOfDate = OfKinds is_own_kind 541
-  reading rules.OrdType = OfKept types 40
-  reading rules.Time = OfKept times 59
-  reading rule = Besides true
-
-  -- what a table has there, and what it has to have
-  abbrev pub found : Reading → Facts
-  found (OfKinds test tag) = (
-    row_at tag (all_rows table),
-    None,
-    if_row (is_row is_strict test) (row_of_tag tag table.items),
-    tag == 200,
-  )
-  found (OfKept kind tag) = (
-    row_at tag (all_rows table),
-    option_map (λ row. row.kind) (row_of_tag tag table.items),
-    if_row (is_row is_unfixed is_kept) (row_of_tag tag table.items),
-    tag == 200,
-  )
-  found (Besides good) = (None, None, good, false)
-
-  abbrev pub wanted : Reading → Facts
-  wanted (OfKinds test tag) = (row_of_tag tag table.items, None, true, false)
-  wanted (OfKept kind tag) = (row_of_tag tag table.items, Some kind, true, false)
-  wanted (Besides good) = (None, None, true, false)
-
-  -- THE TABLE HAS what the code reads by these rules
-  abbrev pub AreRead : List CodeRule → Type 0
-  AreRead rules =
-      map (λ rule. found (reading rule)) rules ≡ map (λ rule. wanted (reading rule)) rules
+-- THE TABLE HAS what the code reads by these rules
+abbrev pub AreRead : Table Kind → List CodeRule → Type 0
+AreRead table rules = AreReadBy is_month table (reading table) rules
 
 -- ---- what several rules go by
 

@@ -1,22 +1,21 @@
 -- Inside: what the code writes by a rule, straight from fields.
-use Rattle.std.specs.Prelude.{ℕ, Bool, true, false, not, List, [], Option, Some, None}
+use Rattle.std.specs.Prelude.{ℕ, Bool, false, List, [], ◌∷◌}
 use Rattle.std.specs.List.{flat_map}
 use Rattle.field_groups.specs.Field.{Field}
 use Rattle.message_tables.specs.Content.{cell_fields, group_fields, line_fields}
 use Rattle.message_tables.specs.FirstFault.{message_in}
-use Rattle.message_tables.specs.Tables.{Row, Said, Table, Tag, lines_of, row_at}
-use Rattle.message_tables.specs.Tables.{rows_of, value_at}
+use Rattle.message_tables.specs.Tables.{Said, Table, Tag, lines_of, value_at}
 use Rattle.party_translate.specs.Parties.{line_of}
 use Rattle.row_values.specs.Lines.{party_cells}
 use Rattle.row_values.specs.Kinds.{DayOf, Kind, Value, judge, said}
 use Rattle.value_kinds.specs.ValueKind.{MonthYear}
-use Rattle.dict_fix42.specs.Requests.{replace_request}
 use Rattle.request_rules.specs.declared.rules.Rule.{Rule as CodeRule}
 use Rattle.request_rules.specs.declared.rules.Rule.TheVariants as rules
 use Rattle.request_rules.specs.declared.reading.Good.{Good}
 use Rattle.request_rules.specs.Good.{table}
 use Rattle.rule_rows.specs.Rules.{By, Group, Moved, Same}
-use Rattle.rule_rows.specs.Texts.{decimal_text, is_amount}
+use Rattle.rule_rows.specs.Texts.{AreRead as AreReadBy, OfKind, OfKinds, Own, Reading}
+use Rattle.rule_rows.specs.Texts.{decimal_text, is_amount, is_any}
 use Rattle.request_rules.specs.Rules.{Rule, Listed, Parties, PartyOf, Month, Date, OrdType, Time}
 use Rattle.request_rules.specs.Rules.{Client, Broker, Firm, date_up, party_lines, time_up, type_up}
 
@@ -39,20 +38,26 @@ rule_of (rules.Lines count) = Group count
 abbrev pub party_fields : ℕ → Said → List Field
 party_fields role id = flat_map (λ line. line_fields (party_cells line)) (line_of role id)
 
--- the tags of decimal numbers, which may be spelled otherwise; G has each of them
-abbrev pub is_amount_row : Option (Row Kind) → Bool
-is_amount_row None = false
-is_amount_row (Some row) = is_amount row.kind
+-- what the code reads by a rule
+abbrev pub reading : CodeRule → List Reading
+reading (rules.Same tag) = Own tag ∷ []
+reading (rules.Decimal tag) = OfKinds is_amount tag ∷ []
+reading (rules.Moved from to) = OfKinds is_amount from ∷ []
+reading (rules.Listed from to listed) = Own from ∷ []
+reading rules.Parties = Own 109 ∷ Own 76 ∷ Own 439 ∷ []
+reading rules.Month = OfKind is_any (Value MonthYear) 200 ∷ []
+reading rules.Date = OfKind is_any (Value MonthYear) 200 ∷ OfKind is_any (DayOf 200) 205 ∷ []
+reading rules.OrdType = Own 40 ∷ []
+reading rules.Time = Own 40 ∷ Own 59 ∷ []
+reading rule = []
 
-abbrev pub is_decimal : ℕ → Bool
-is_decimal tag = is_amount_row (row_at tag (flat_map rows_of replace_request))
+-- what the message says is what its row says
+abbrev pub is_apart : ℕ → Bool
+is_apart tag = false
 
--- whether a rule of the code respells just the decimal numbers
-abbrev pub is_read : CodeRule → Bool
-is_read (rules.Same tag) = not (is_decimal tag)
-is_read (rules.Decimal tag) = is_decimal tag
-is_read (rules.Moved from to) = is_decimal from
-is_read rule = true
+-- THE TABLE HAS what the code reads by these rules
+abbrev pub AreRead : Table Kind → List CodeRule → Type 0
+AreRead table rules = AreReadBy is_apart table reading rules
 
 module _ (table : Table Kind) (fields : List Field) where
   -- the value of the first field of a tag, as it stands, and the decimal number that it spells

@@ -1,8 +1,10 @@
 //! The rules by which a request goes up, as the code has them.
 
-ghost use Rattle.std.specs.Prelude.{◌≡◌, map, true};
-ghost use Rattle.std.specs.List.{list_all};
-ghost use Rattle.request_rules.specs.CodeRules.{is_read, rule_of};
+ghost use Rattle.std.specs.Prelude.{◌≡◌, map};
+ghost use Rattle.rows_fix42.specs.Header.{table};
+ghost use Rattle.dict_fix42.specs.Requests.{cancel_request, new_order, replace_request};
+ghost use Rattle.dict_fix42.specs.Requests.{status_request};
+ghost use Rattle.request_rules.specs.CodeRules.{AreRead, rule_of};
 ghost use Rattle.request_rules.specs.Rules.{up_rules};
 
 /// How FIX 5.0 SP2 says one line of its table.
@@ -88,7 +90,10 @@ const UP_RULES: &[Rule] = &[
 /// The rules.
 pub(crate) fn up_rules() -> &'static [Rule]
     ensures rules { map rule_of result.now ≡ up_rules }
-    ensures read { list_all is_read result.now ≡ true }
+    ensures news { AreRead (table 68 new_order) result.now }
+    ensures cancels { AreRead (table 70 cancel_request) result.now }
+    ensures replaces { AreRead (table 71 replace_request) result.now }
+    ensures statuses { AreRead (table 72 status_request) result.now }
 {
     UP_RULES
 }

@@ -1,9 +1,9 @@
 -- What the fields of a message at no fault say by the rows of its table.
 use Rattle.std.proofs.Common.{◌≡◌, ℕ, List, [], ◌∷◌, Bool, true, false, Option, Some, None, Result}
-use Rattle.std.proofs.Common.{Ok, Err, refl, sym, ap, ◌∙◌, codes, subst}
+use Rattle.std.proofs.Common.{Ok, Err, refl, sym, ap, ◌∙◌, codes, map, subst}
 use Rattle.std.specs.Prelude.{IsSome, nat_le, not, ◌||◌, ◌==◌, if◌then◌else◌}
 use Rattle.std.specs.Int.{is_negative}
-use Rattle.std.specs.List.{flat_map}
+use Rattle.std.specs.List.{AllByRecursion, flat_map}
 use Rattle.std.specs.Option.{option_map}
 use Rattle.std.specs.Result.{result_ok}
 use Rattle.typed_fields.specs.declared.fault.FieldFault.{FieldFault}
@@ -16,22 +16,25 @@ use Rattle.field_groups.specs.Field.{Field}
 use Rattle.message_tables.specs.Tables.{Need, Lenient, Fixed, Row, Table, Item, One, Party, Lines}
 use Rattle.message_tables.specs.Tables.{Verdict, Spells, Said, Cell, Tag, ◌>>=◌, all_rows, cells_of}
 use Rattle.message_tables.specs.Tables.{is_listed, row_at, said_at, says, text_of, value_at}
-use Rattle.message_tables.specs.FirstFault.{first_fault, mark_of}
+use Rattle.message_tables.specs.FirstFault.{beyond, by_row as marked, first_fault, is_passed}
+use Rattle.message_tables.specs.FirstFault.{mark_of, without_row, wrong}
 use Rattle.message_tables.specs.Plain.{is_good}
+use Rattle.message_tables.specs.declared.table_fault.Mark.{Mark}
 use Rattle.message_tables.specs.TableLaws.{IsStrict}
 use Rattle.message_tables.proofs.Clean.{spells}
 use Rattle.value_kinds.specs.ValueKind.{ValueKind, Code, FineStamp, Price, Qty, Reason, if_in_range}
 use Rattle.value_kinds.specs.ValueKind.{most_reason, spelling, spelt}
 use Rattle.row_values.specs.Kinds.{Kind, TimeBeside, Value, is_at_close, judge, said, verdict_of}
-use Rattle.sound_laws.proofs.Each.{both}
+use Rattle.sound_laws.proofs.Each.{both, not_true}
 use Rattle.sound_laws.proofs.Good.{IsGood, all_good, held}
 use Rattle.sound_laws.proofs.Judged50.{counts}
 use Rattle.sound_laws.proofs.PlainRows.{spelled}
 use Rattle.sound_laws.proofs.RowsSaid.{row_of_tag, tag_is}
 use Rattle.sound_laws.proofs.SpelledAgain.{own_bytes}
-use Rattle.rule_rows.specs.Texts.{decimal_text, is_amount, is_kept, is_moment, is_own_kind}
+use Rattle.rule_rows.specs.Texts.{AreRead, Facts, Has, OfKind, OfKinds, Own, Reading, decimal_text}
+use Rattle.rule_rows.specs.Texts.{found, if_row, is_amount, is_any, is_kept, is_moment, is_own_kind}
 use Rattle.rule_rows.specs.Texts.{is_reason, is_row, is_strict, is_unfixed, kept, kept_by}
-use Rattle.rule_rows.specs.Texts.{number_of}
+use Rattle.rule_rows.specs.Texts.{number_of, wanted}
 
 -- what fields say by a row
 abbrev pub row_says : List Field → Option (Row Kind) → Said
@@ -300,3 +303,127 @@ pub unfixed_says : (need : Need) (j : List ℕ → Verdict) (value : Option (Lis
     → is_unfixed need ≡ true → says need j value ≡ (value >>= (λ bytes. text_of (j bytes)))
 unfixed_says (Fixed text) j value h = absurd cc
 unfixed_says need j value h = refl
+
+-- ---- WHAT THE CODE READS by the rows of a table is what a message says there
+
+module _ (table : Table Kind) (fields : List Field) (none : first_fault judge table fields ≡ None)
+  where
+    -- a tag that has no row, in a table where each field has one, has no field
+    none_there : (tag : ℕ) → row_at tag (all_rows table) ≡ None → is_passed table tag ≡ false
+        → value_at tag fields ≡ None
+    none_there tag absent out = by (value_at tag fields) refl
+      where
+        bad : (b : List ℕ) → wrong (tag, without_row false b) ≡ None
+            → beyond (tag, without_row false b) ≡ None → ⊥
+        bad [] w o = absurd cc
+        bad (byte ∷ bytes) w o = absurd cc
+
+        by : (o : Said) → value_at tag fields ≡ o → o ≡ None
+        by None there = refl
+        by (Some bytes) there =
+            let good = held (IsGood judge table fields) tag fields bytes there
+            (all_good judge table fields none) in
+            let mark : marked judge (is_passed table tag) fields bytes
+            (row_at tag (all_rows table)) ≡ without_row false bytes =
+            λ i. marked judge (out i) fields bytes (absent i) in
+            absurd (bad bytes (sym (ap (λ (m : Mark). wrong (tag, m)) mark) ∙ good.0)
+            (sym (ap (λ (m : Mark). beyond (tag, m)) mark) ∙ good.1))
+
+module _ (apart : ℕ → Bool) (table : Table Kind) (fields : List Field)
+    (none : first_fault judge table fields ≡ None) (at : ℕ → Said)
+    (at_row : (tag : ℕ) → apart tag ≡ false
+    → at tag ≡ row_says fields (row_of_tag tag table.items)) where
+  by_kinds : (test : Kind → Bool) (read : Said → Said) → read None ≡ None → (tag : ℕ)
+      → Has apart table (OfKinds test tag) → ((kind : Kind) (need : Need)
+      → row_at tag (all_rows table) ≡ Some (record { tag = tag; kind = kind; need = need })
+      → is_row is_strict test (record { tag = tag; kind = kind; need = need }) ≡ true
+      → read (value_at tag fields) ≡ says need (judge fields kind) (value_at tag fields))
+      → read (value_at tag fields) ≡ at tag
+  by_kinds test read nothing tag has each =
+      let own = ap (λ (f : Facts). f.0) has in
+      by_row table fields none tag own (if_row (not (is_passed table tag)) (is_row is_strict test))
+      (λ said. read (value_at tag fields) ≡ said) (ap (λ (f : Facts). f.2) has)
+      (λ absent out. ap read (none_there table fields none tag (own ∙ absent)
+      (not_true (is_passed table tag) out)) ∙ nothing) each
+      ∙ sym (at_row tag (ap (λ (f : Facts). f.3) has))
+
+  pub text_said : (tag : ℕ) → Has apart table (Own tag) → value_at tag fields ≡ at tag
+  text_said tag has = by_kinds is_own_kind (λ said. said) refl tag has
+      (λ kind need its t. text_is table fields none tag kind need its t)
+
+  pub decimal_said : (tag : ℕ) → Has apart table (OfKinds is_amount tag)
+      → decimal_text (value_at tag fields) ≡ at tag
+  decimal_said tag has = by_kinds is_amount decimal_text refl tag has
+      (λ kind need its t. decimal_is table fields none tag kind need its t)
+
+  pub moment_said : (tag : ℕ) → Has apart table (OfKinds is_moment tag)
+      → option_map cut_text (value_at tag fields) ≡ at tag
+  moment_said tag has = by_kinds is_moment (option_map cut_text) refl tag has
+      (λ kind need its t. moment_is table fields none tag kind need its t)
+
+  pub reason_said : (tag : ℕ) → Has apart table (OfKinds is_reason tag)
+      → at tag ≡ option_map number_text (number_of (value_at tag fields))
+  reason_said tag has =
+      sym (by_kinds is_reason (λ said. option_map number_text (number_of said)) refl tag has
+      (λ kind need its t. reason_is table fields none tag kind need its t))
+
+  -- a value by its very kind
+  record SaidBy (test : Kind → Bool) (kind : Kind) (tag : ℕ) : Type 0 where
+    says : said fields tag kind ≡ at tag
+    is : test kind ≡ true
+
+  by_kind : (test : Kind → Bool) (kind : Kind) (tag : ℕ) → Has apart table (OfKind test kind tag)
+      → SaidBy test kind tag
+  by_kind test kind tag has =
+      by (row_of_tag tag table.items) refl (ap (λ (f : Facts). f.1) has)
+      (ap (λ (f : Facts). f.2) has)
+    where
+      by : (o : Option (Row Kind)) → row_of_tag tag table.items ≡ o
+          → option_map (λ row. row.kind) o ≡ Some kind
+          → if_row false (is_row is_unfixed test) o ≡ true
+          → SaidBy test kind tag
+      by None e k t = absurd cc
+      by (Some row) e k t =
+          let same : row.kind ≡ kind = cc in
+          let tagged : row.tag ≡ tag = tag_is tag table.items row e in
+          let p = both (is_unfixed row.need) (test row.kind) t in
+          record {
+            says = (λ i. said fields (sym tagged i) (sym same i))
+                ∙ sym (unfixed_says row.need (judge fields row.kind) (value_at row.tag fields) p.0)
+                ∙ ap (row_says fields) (sym e) ∙ sym (at_row tag (ap (λ (f : Facts). f.3) has));
+            is = ap test (sym same) ∙ p.1;
+          }
+
+  pub kind_said : (kind : Kind) (tag : ℕ) → Has apart table (OfKind is_any kind tag)
+      → said fields tag kind ≡ at tag
+  kind_said kind tag has = (by_kind is_any kind tag has).says
+
+  pub kept_said : (kind : Kind) (tag : ℕ) → Has apart table (OfKind is_kept kind tag)
+      → kept fields tag kind ≡ at tag
+  kept_said kind tag has = let by = by_kind is_kept kind tag has in
+      kept_is fields tag kind by.is ∙ by.says
+
+-- ---- the readings of each rule
+
+module _ {Rule : Type 0} (apart : ℕ → Bool) (table : Table Kind) (reading : Rule → List Reading)
+  where
+    abbrev pub IsRead : Rule → Type 0
+    IsRead rule = AllByRecursion (Has apart table) (reading rule)
+
+    each_reading : (readings : List Reading)
+        → map (found apart table) readings ≡ map (wanted apart table) readings
+        → AllByRecursion (Has apart table) readings
+    each_reading [] has = tt
+    each_reading (r ∷ readings) has =
+        let here : Has apart table r = cc in
+        let rest : map (found apart table) readings ≡ map (wanted apart table) readings = cc in
+        (here, each_reading readings rest)
+
+    pub each_read : (rules : List Rule) → AreRead apart table reading rules
+        → AllByRecursion IsRead rules
+    each_read [] has = tt
+    each_read (rule ∷ rules) has =
+        let here : map (found apart table) (reading rule)
+        ≡ map (wanted apart table) (reading rule) = cc in
+        let rest : AreRead apart table reading rules = cc in
+        (each_reading (reading rule) here, each_read rules rest)
