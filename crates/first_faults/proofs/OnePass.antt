@@ -1,13 +1,12 @@
 -- One pass over the rows of a table of the code.
 use Rattle.std.proofs.Common.{◌≡◌, ℕ, zero, suc, ◌+◌, ◌<◌, ◌≤◌, Bool, true, false, List, [], ◌∷◌}
-use Rattle.std.proofs.Common.{◌++◌, length}
-use Rattle.std.proofs.Common.{get_or, take, map, replicate, refl, sym, ap, ◌∙◌, arith}
+use Rattle.std.proofs.Common.{◌++◌, length, get_or, take, map, replicate, refl, sym, ap, ◌∙◌, arith}
 use Rattle.std.proofs.lemmas.List.{append-nil}
+use Rattle.std.proofs.lemmas.List.{take_more, map-append}
 use Rattle.std.proofs.lemmas.Bool.Decides.{nat_tests}
 use Rattle.std.specs.Prelude.{◌&&◌, ◌==◌, None, Some, position}
 use Rattle.std.specs.List.{AllByRecursion, list_all, flat_map, slice_get}
 use Rattle.std.proofs.lemmas.Option.{get_or_from_slice_get}
-use Rattle.std.proofs.lemmas.List.{take_more, map-append}
 use Rattle.std.proofs.lemmas.List.Folds.{list_all-append}
 use Rattle.std.proofs.lemmas.Grind.{flat_map-append}
 use Rattle.field_groups.specs.Field.{Field}
@@ -37,20 +36,11 @@ use Rattle.first_faults.proofs.FirstFaults.{with_none, with_row}
 
 -- ---- a loop over rows, and one over items
 
-pub no_rows : (fields : List Field) (places : List Bool) → Fit fields [] places places
-no_rows fields places = record { all = refl; places = refl }
-
-pub no_items : (fields : List Field) (places : List Bool) → ItemsFit fields [] places places
-no_items fields places = record { all = tt; places = refl }
-
 -- one more of those of which something holds
 one_more : {A : Type 0} (P : A → Type 0) (xs : List A) (x : A) → AllByRecursion P xs → P x
     → AllByRecursion P (xs ++ x ∷ [])
 one_more P [] x all last = (last, tt)
 one_more P (y ∷ xs) x all last = (all.0, one_more P xs x all.1 last)
-
-pub no_members : (fields : List Field) (places : List Bool) → MembersFit fields [] places places
-no_members fields places = record { all = refl; places = refl }
 
 module _ (fields : List Field) (old mid new : List Bool) where
   more_row : (rows : List (Row Kind)) (row : Row Kind) → Fit fields rows old mid

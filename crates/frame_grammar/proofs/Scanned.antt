@@ -152,9 +152,6 @@ get_none (x ∷ xs) (suc k) past = get_none xs k (omega arith)
 module _ (before : List ℕ) (n : ℕ) (least : 5 ≤ n) (rest : List ℕ) where
   module _ (begun : (go : List ℕ → Found)
       → expect (codes "35=") TypeField go rest ≡ go (drop 3 rest)) where
-    pub body_short : length rest < 4 → found_body before n rest ≡ Short
-    body_short short = begun _ ∙ ap (found_type before n rest) (get_none rest 3 (omega arith))
-
     module _ (long : 4 ≤ length rest) where
       at_type : found_body before n rest ≡ found_type before n rest (Some (get_or rest 3 0))
       at_type = begun _ ∙ ap (found_type before n rest) (get_some rest 3 (omega arith))

@@ -3,6 +3,7 @@ use Rattle.std.proofs.Common.{◌≡◌, ℕ, ◌+◌, ◌-◌, ◌<◌, ◌≤�
 use Rattle.std.proofs.Common.{refl, sym, ◌∙◌, ap, subst, arith, append_assoc, append-nil}
 use Rattle.std.proofs.Common.{length-append, length-take, length-drop, Some, None, min}
 use Rattle.std.specs.Prelude.{slice_range, MatchOption}
+use Rattle.std.specs.Prelude.{Ok, Err}
 use Rattle.std.specs.List.{flat_map}
 use Rattle.std.specs.Option.{option_map}
 use Rattle.std.specs.declared.option.Option.{Option}
@@ -21,7 +22,6 @@ use Rattle.frame_grammar.specs.Held.{Held, past, lost_by, found_by}
 use Rattle.frame_grammar.specs.Places.{capped, place_after, EndsIn}
 use Rattle.frame_grammar.specs.Framer.{IsLost, KeepsPlaces, StandsFor, Answers}
 use Rattle.frame_grammar.proofs.Join.{come_later, joined}
-use Rattle.std.specs.Prelude.{Ok, Err}
 use Rattle.std.specs.declared.result.Result.{Result}
 use Rattle.frame_grammar.specs.declared.scan.Stop.{Stop}
 use Rattle.frame_grammar.specs.declared.scan.Stop.TheVariants as stop
@@ -356,17 +356,6 @@ broken_answers old new result cause rest none is ended after stream answered s =
       λ k e. omega arith,
     ))
     result new (start_in (drop 1 old.unread)) refl ended after
-
--- less than a frame is there
-pub short_answers : (old : Held) → old.lost ≡ None
-    → found old.kind old.unread ≡ Short → (stream : List ℕ) (answered : List Piece)
-    → StandsFor old stream answered → Answers next.More old stream answered
-short_answers old none is stream answered s =
-    let places : KeepsPlaces None old (length (flat_map bytes_of answered)) s.dropped = subst
-    (λ o. KeepsPlaces o old (length (flat_map bytes_of answered)) s.dropped) none s.places in
-    let come : ComeFirst old.kind stream answered old.unread =
-    subst (λ d. ComeFirst old.kind stream answered (d ++ old.unread)) places.0 s.come in
-    (s, (old.unread, (come, ap (λ f. piece_at f old.unread) is)))
 
 -- how the stream ends
 module _ (held : Held) (stream left : List ℕ) (answered : List Piece)

@@ -1,27 +1,17 @@
 -- Where fields are cut: at a tag, at the end of a group, at the next line.
-use Rattle.std.proofs.Common.{◌≡◌, ℕ, suc, ◌+◌, ◌-◌, ◌<◌, ◌≤◌, List, [], ◌∷◌, length}
-use Rattle.std.proofs.Common.{get_or, take, drop, map, take_while, Bool, true, false, not, cond}
-use Rattle.std.proofs.Common.{eqb, refl, sym, ap, ◌∙◌, arith, one-add, add-one, drop-drop}
+use Rattle.std.proofs.Common.{◌≡◌, ℕ, suc, ◌+◌, ◌-◌, ◌<◌, ◌≤◌, List, [], ◌∷◌, length, get_or, take}
+use Rattle.std.proofs.Common.{drop, map, Bool, true, false, not, cond, eqb, refl, sym, ap, ◌∙◌}
+use Rattle.std.proofs.Common.{arith, one-add, add-one, drop-drop}
 use Rattle.std.specs.Prelude.{◌==◌}
+use Rattle.std.specs.Prelude.{Some, None}
 use Rattle.std.specs.List.{prefix_len, take-map, drop-map}
 use Rattle.std.proofs.lemmas.List.{drop_more, drop_all}
-use Rattle.std.specs.Prelude.{Some, None}
 use Rattle.std.specs.declared.option.Option.{Option}
 use Rattle.field_groups.specs.Field.{Field}
 use Rattle.message_tables.specs.Tables.{or_else, first_of, after_tag, from_tag, with_member}
 use Rattle.message_tables.specs.Tables.{in_lines}
 
 module _ {X : Type 0} (view : X → Field) where
-  prefix_cut : (p : Field → Bool) (xs : List X)
-      → prefix_len p (map view xs) ≡ prefix_len (λ x. p (view x)) xs
-  prefix_cut p [] = refl
-  prefix_cut p (x ∷ xs) = ap (λ n. cond (p (view x)) (1 + n) 0) (prefix_cut p xs)
-
-  pub run_cut : (p : Field → Bool) (xs : List X)
-      → map view (take (prefix_len (λ x. p (view x)) xs) xs) ≡ take_while p (map view xs)
-  run_cut p xs = sym (ap (λ n. take n (map view xs)) (prefix_cut p xs)
-      ∙ take-map view (prefix_len (λ x. p (view x)) xs) xs)
-
   pub from_cut : (tag : ℕ) (xs : List X) → map
       view (drop (prefix_len (λ x. not ((view x).0 == tag)) xs) xs) ≡ from_tag tag (map view xs)
   from_cut tag [] = refl

@@ -1,17 +1,17 @@
 -- In a message at no fault a group has at most as many lines as it may, and what holds of each
 -- field holds of those that begin the lines.
-use Rattle.std.proofs.Common.{◌≡◌, ◌⊎◌, ℕ, suc, ◌+◌, ◌<◌, ◌≤◌, List, [], ◌∷◌, length, cond}
-use Rattle.std.proofs.Common.{Option, Some, None, Bool, true, false, refl, sym, ap, subst, inl}
-use Rattle.std.proofs.Common.{inr, ◌∙◌, arith, take_while, count_by, zero-add}
+use Rattle.std.proofs.Common.{◌≡◌, ◌⊎◌, ℕ, suc, ◌+◌, ◌<◌, ◌≤◌, List, [], ◌∷◌, length, cond, Option}
+use Rattle.std.proofs.Common.{Some, None, Bool, true, false, refl, sym, ap, inl, inr, ◌∙◌, arith}
+use Rattle.std.proofs.Common.{take_while, count_by, zero-add}
 use Rattle.std.specs.Prelude.{nat_le, ◌==◌}
-use Rattle.std.specs.List.{slice_get, AllByRecursion}
+use Rattle.std.specs.List.{slice_get}
 use Rattle.std.proofs.lemmas.Bool.Decides.{nat_tests}
 use Rattle.std.proofs.lemmas.List.Sums.{take_while-cons, sum_by-cons}
 use Rattle.message_tables.specs.declared.table_fault.TableFault.{TableFault}
 use Rattle.field_groups.specs.Field.{Field}
 use Rattle.message_tables.specs.Tables.{GroupTags, Table, Judge, or_else, first_of, is_one_of}
 use Rattle.message_tables.specs.Tables.{is_inside, run, after_tag, from_tag, with_member, in_lines}
-use Rattle.message_tables.specs.Tables.{lines_in, value_at}
+use Rattle.message_tables.specs.Tables.{lines_in}
 use Rattle.message_tables.specs.FirstFault.{placed_from, misplaced, misplaced_member}
 use Rattle.message_tables.specs.FirstFault.{in_groups, group_tags_in, lines_begun, is_opened}
 use Rattle.message_tables.specs.FirstFault.{fault_if, first_fault}
@@ -227,87 +227,3 @@ few judge table fs i g plain at h =
     let n : length (lines_in g fs) ≡ lines_begun g (after_tag g.count fs) =
     lines_counted g plain (run g (after_tag g.count fs)) in
     omega (arith, n, le)
-
--- ---- what holds of each field holds of those that begin the lines
-
-module _ (P : Field → Type 0) where
-  -- a line's first value of a tag is that of such a field
-  pub record Begins (tag : ℕ) (line : List Field) : Type 0 where
-    pub value : List ℕ
-    pub stands : value_at tag line ≡ Some value
-    pub holds : P (tag, value)
-
-  each_after : (tag : ℕ) (fs : List Field)
-      → AllByRecursion P fs → AllByRecursion P (after_tag tag fs)
-  each_after tag [] h = tt
-  each_after tag (f ∷ fs) h = here (bool_cases (f.0 == tag)) (each_after tag fs h.1)
-    where
-      here : ((f.0 == tag) ≡ true) ⊎ ((f.0 == tag) ≡ false)
-          → AllByRecursion P (after_tag tag fs) → AllByRecursion P (after_tag tag (f ∷ fs))
-      here (inl e) later = rw e h.1
-      here (inr e) later = rw e later
-
-  each_run : (q : Field → Bool) (fs : List Field)
-      → AllByRecursion P fs → AllByRecursion P (take_while q fs)
-  each_run q [] h = tt
-  each_run q (f ∷ fs) h = here (bool_cases (q f)) (each_run q fs h.1)
-    where
-      here : (q f ≡ true) ⊎ (q f ≡ false)
-          → AllByRecursion P (take_while q fs) → AllByRecursion P (take_while q (f ∷ fs))
-      here (inl e) later =
-          let cut : take_while q (f ∷ fs) ≡ f ∷ take_while q fs =
-          take_while-cons q f fs ∙ rw e refl in
-          rw cut (h.0, later)
-      here (inr e) later =
-          let cut : take_while q (f ∷ fs) ≡ [] = take_while-cons q f fs ∙ rw e refl in
-          rw cut tt
-
-  begun : (tag : ℕ) (f : Field) (line : List Field)
-      → (f.0 == tag) ≡ true → P f → Begins tag (f ∷ line)
-  begun tag f line first h =
-      let e : f.0 ≡ tag = grind (arith, nat_tests) in
-      let Q : ℕ → Type 0 = λ t. P (t, f.1) in
-      record { value = f.1; stands = rw first refl; holds = subst Q e h }
-
-  each_line : (tag : ℕ) (f : Field) (fs : List Field)
-      → AllByRecursion P (f ∷ fs) → (line : List Field) × (lines : List (List Field))
-      × (in_lines tag (f ∷ fs) ≡ (f ∷ line) ∷ lines) × AllByRecursion (Begins tag) lines
-  each_line tag f [] h = ([], [], refl, tt)
-  each_line tag f (g ∷ gs) h = here (bool_cases (g.0 == tag)) (each_line tag g gs h.1)
-    where
-      here : ((g.0 == tag) ≡ true) ⊎ ((g.0 == tag) ≡ false)
-          → (line : List Field) × (lines : List (List Field))
-          × (in_lines tag (g ∷ gs) ≡ (g ∷ line) ∷ lines) × AllByRecursion (Begins tag) lines
-          → (line : List Field) × (lines : List (List Field))
-          × (in_lines tag (f ∷ g ∷ gs) ≡ (f ∷ line) ∷ lines) × AllByRecursion (Begins tag) lines
-      here (inl first) (line, lines, e, b) = (
-        [],
-        (g ∷ line) ∷ lines,
-        ap (with_member tag f) e ∙ rw first refl,
-        (begun tag g line first h.1.0, b),
-      )
-      here (inr other) (line, lines, e, b) =
-          (g ∷ line, lines, ap (with_member tag f) e ∙ rw other refl, b)
-
-  whole : (tag : ℕ) (f : Field) (fs : List Field) → (f.0 == tag) ≡ true → P f
-      → (line : List Field) × (lines : List (List Field))
-      × (in_lines tag (f ∷ fs) ≡ (f ∷ line) ∷ lines) × AllByRecursion (Begins tag) lines
-      → AllByRecursion (Begins tag) (in_lines tag (f ∷ fs))
-  whole tag f fs first h (line, lines, e, b) = rw e (begun tag f line first h, b)
-
-  each_from : (tag : ℕ) (fs : List Field)
-      → AllByRecursion P fs → AllByRecursion (Begins tag) (in_lines tag (from_tag tag fs))
-  each_from tag [] h = tt
-  each_from tag (f ∷ fs) h = here (bool_cases (f.0 == tag)) (each_from tag fs h.1)
-    where
-      here : ((f.0 == tag) ≡ true) ⊎ ((f.0 == tag) ≡ false)
-          → AllByRecursion (Begins tag) (in_lines tag (from_tag tag fs))
-          → AllByRecursion (Begins tag) (in_lines tag (from_tag tag (f ∷ fs)))
-      here (inl first) later = rw first (whole tag f fs first h.0 (each_line tag f fs h))
-      here (inr other) later = rw other later
-
-  -- the lines of a group
-  pub each_begins : (g : GroupTags) (fs : List Field)
-      → AllByRecursion P fs → AllByRecursion (Begins g.first) (lines_in g fs)
-  each_begins g fs h = each_from g.first (run g (after_tag g.count fs))
-      (each_run (λ f. is_inside g f.0) (after_tag g.count fs) (each_after g.count fs h))

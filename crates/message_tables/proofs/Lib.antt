@@ -1,5 +1,4 @@
 pub mod Clean
-pub mod Again
 pub mod Seen
 pub mod Loops
 pub mod Cuts

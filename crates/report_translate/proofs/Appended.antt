@@ -1,6 +1,6 @@
 -- The content of the report that stands for fields, as it is appended.
-use Rattle.std.proofs.Common.{◌≡◌, ℕ, List, Option, None, Some, Bool, true, false, refl, sym, ap}
-use Rattle.std.proofs.Common.{◌∙◌, subst, codes, if◌then◌else◌}
+use Rattle.std.proofs.Common.{◌≡◌, ℕ, List, Option, None, Some, Bool, true, false, refl, sym, subst}
+use Rattle.std.proofs.Common.{codes, if◌then◌else◌}
 use Rattle.std.specs.Prelude.{IfErr, OnOk, Result, Ok, Err}
 use Rattle.std.specs.Str.{bytes_eq}
 use Rattle.field_groups.specs.declared.fault.SplitFault.{SplitFault}
@@ -20,11 +20,9 @@ use Rattle.translation.specs.Errors.{error_of_lack}
 use Rattle.translation.specs.Header.{type_of}
 use Rattle.translation.specs.Judged.{AreGood, AreGoodBy}
 use Rattle.translation.specs.declared.error.TranslateError.{TranslateError}
-use Rattle.translation.specs.declared.error.TranslateError.TheVariants as errors
 use Rattle.report_translate.specs.Reading.{is_report, report_message}
 use Rattle.translation.specs.Going.{Appends, StayBack}
 use Rattle.report_translate.specs.Translation.{down}
-use Rattle.report_translate.specs.Writing.{RefusesCheck}
 use Rattle.report_translate.proofs.GoodFields.{of_good, read_8, read_9}
 
 -- ---- a report at no fault
@@ -99,15 +97,6 @@ module _ (fields : List Field) (msg_type : List ℕ) (same : msg_type ≡ type_o
 pub ruleset of_put = (is_good, appended, refused)
 
 -- ---- fields that were judged
-
--- why they are no report is why there is none of FIX 4.2
-checked_by : (fields : List Field) (stopped : Option SplitFault) (error : TranslateError)
-    → RefusesCheck fields stopped error → StayBack down fields stopped error
-checked_by fields stopped errors.NoMemory h = tt
-checked_by fields stopped errors.TooLong h = absurd h
-checked_by fields stopped (errors.Faulty fault) h = h
-checked_by fields stopped (errors.Lacking tag) h =
-    (h.1, h.2, h.3 ∙ ap (λ (t : ℕ). Err t) (sym h.0))
 
 module _ (fields good : List Field) (stopped : Option SplitFault)
     (are : AreGood (report_table_of (type_of fields)) fields stopped good) where

@@ -5,13 +5,12 @@ use Rattle.std.specs.Str.{bytes_eq}
 use Rattle.std.proofs.lemmas.Slice.Eq.{bytes_eq-Decides}
 use Rattle.field_groups.specs.declared.fault.SplitFault.{SplitFault}
 use Rattle.field_groups.specs.Field.{Field}
-use Rattle.message_tables.specs.Tables.{Table, Message}
+use Rattle.message_tables.specs.Tables.{Message}
 use Rattle.order_meaning.specs.declared.Side.{Side}
 use Rattle.order_meaning.specs.declared.Side.TheVariants.{Client, Venue}
 use Rattle.order_meaning.specs.declared.fault.Fault.{Fault}
 use Rattle.order_meaning.specs.declared.fault.Fault.TheVariants as faults
 use Rattle.order_meaning.specs.declared.refusal.Refusal.{Refusal}
-use Rattle.row_values.specs.Kinds.{Kind}
 use Rattle.first_faults.specs.Faults.{of_split}
 use Rattle.first_faults.specs.Gives.{Gives}
 use Rattle.refusal_parts.specs.Once.{refusal_by}
@@ -44,24 +43,6 @@ module _ (msg_type : List ℕ) (fields : List Field) (stopped : Option SplitFaul
       → report_message msg_type fields stopped ≡ Err faults.NotSupported
   unfolding report_message
   no_report eight nine = rw (eight, nine) refl
-
-  by_table : (table : Table Kind) (x : Message) → report_by table fields stopped ≡ Ok x
-      → stopped ≡ None
-  by_table table x is = by stopped is
-    where
-      by : (s : Option SplitFault) → report_by table fields s ≡ Ok x → s ≡ None
-      by None is = refl
-      by (Some fault) is = absurd cc
-
-  -- fields that are a report are those of a whole body
-  pub whole : (x : Message) → report_message msg_type fields stopped ≡ Ok x → stopped ≡ None
-  whole x is = by (bytes_eq msg_type (codes "8")) (bytes_eq msg_type (codes "9")) refl refl
-    where
-      by : (a b : Bool) → bytes_eq msg_type (codes "8") ≡ a → bytes_eq msg_type (codes "9") ≡ b
-          → stopped ≡ None
-      by true b a' b' = by_table report_table x (sym (eight a') ∙ is)
-      by false true a' b' = by_table cancel_reject_table x (sym (nine b') ∙ is)
-      by false false a' b' = let no = no_report a' b' in absurd cc
 
   -- and have a type of one byte
   pub type_is : (x : Message) → report_message msg_type fields stopped ≡ Ok x → IsType msg_type

@@ -1,6 +1,6 @@
 -- The bytes of contents, a part and a line at a time.
-use Rattle.std.proofs.Common.{◌≡◌, ℕ, ◌+◌, List, [], ◌∷◌, ◌++◌, length, map, refl, sym}
-use Rattle.std.proofs.Common.{ap, ◌∙◌, append_assoc, arith, ◌≤◌, take}
+use Rattle.std.proofs.Common.{◌≡◌, ℕ, ◌+◌, List, [], ◌∷◌, ◌++◌, length, map, refl, sym, ap, ◌∙◌}
+use Rattle.std.proofs.Common.{append_assoc, arith, ◌≤◌, take}
 use Rattle.std.proofs.lemmas.List.{length-append, length-map, take-take, take_all}
 use Rattle.std.proofs.Math.Seq.{take-append_seam}
 use Rattle.std.specs.Prelude.{Result, Ok}
@@ -10,7 +10,7 @@ use Rattle.std.specs.Io.{StartsWith}
 use Rattle.typed_fields.specs.declared.dec.Dec.{Dec}
 use Rattle.typed_fields.specs.declared.fault.FieldFault.{FieldFault}
 use Rattle.typed_fields.specs.Dec.{dec_text, read_dec}
-use Rattle.std.specs.List.{AllByRecursion, flat_map}
+use Rattle.std.specs.List.{flat_map}
 use Rattle.std.specs.Fmt.{decimal}
 use Rattle.field_groups.specs.Field.{Field, body_of, field_bytes}
 use Rattle.field_groups.proofs.Front.{field_apart}
@@ -75,15 +75,6 @@ dec_appended tag value before tagged spelled out dec is begun done ended =
     ∙ ap (λ (l : List ℕ). before ++ l) (sym (field_apart (tag, text) []))
     ∙ ap (λ (r : Result Dec FieldFault).
     before ++ body_of (cell_fields (Tag tag, option_map dec_text (result_ok r)))) (sym is)
-
--- nothing is asked of the lines
-pub nothing_asked : {L : Type 0} (lines : List L) → AllByRecursion (λ _. Unit {0}) lines
-nothing_asked [] = tt
-nothing_asked (line ∷ lines) = (tt, nothing_asked lines)
-
--- one fact, and others
-pub also : {A B : Type 0} → A → B → A × B
-also a b = (a, b)
 
 -- what stood in front is kept where all that stood before a later step is
 pub still_kept : (old more new : List ℕ)

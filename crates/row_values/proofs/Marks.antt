@@ -6,15 +6,15 @@ use Rattle.std.specs.Option.{option_map}
 use Rattle.std.specs.List.{list_any}
 use Rattle.value_kinds.specs.CodeKinds.{judged}
 use Rattle.value_kinds.specs.ValueKind.{code_text, two_digit_text}
-use Rattle.row_values.specs.CodeKinds.{day_mark}
 use Rattle.value_kinds.specs.ValueKind.{Spelling, Code, MonthYear, is_code, listed_word, spelling}
 use Rattle.value_kinds.specs.ValueKind.{spelled, text_of as spelled_text, number_of_two}
+use Rattle.row_values.specs.CodeKinds.{day_mark}
+use Rattle.row_values.specs.CodeKinds.{counted_mark, judged_mark}
 use Rattle.message_tables.specs.declared.table_fault.Mark.{Mark}
 use Rattle.message_tables.specs.declared.table_fault.Mark.TheVariants as marks
 use Rattle.message_tables.specs.Tables.{Said, Verdict, Spells, Outside, Wrong}
 use Rattle.message_tables.specs.FirstFault.{mark_of}
 use Rattle.row_values.specs.Kinds.{counted, filled, if_spelled, in_month, month_beside, verdict_of}
-use Rattle.row_values.specs.CodeKinds.{counted_mark, judged_mark}
 use Rattle.row_values.proofs.Texts.{date_said}
 use Rattle.typed_fields.specs.declared.month_year.MonthYear.{MonthYear as MonthValue}
 use Rattle.typed_fields.specs.Day.{is_date}
@@ -87,11 +87,6 @@ month_marked None true mark b bs e h = absurd cc
 pub ruleset of_kind = (mark_judged, date_said)
 
 -- ---- a day beside its month
-
-pub without_month : (v : Verdict) → mark_of v ≡ mark_of (in_month None v)
-without_month (Spells text) = refl
-without_month Outside = refl
-without_month (Wrong reason) = refl
 
 -- what is no day is that beside each month
 pub no_day : (s : Spelling) (month : MonthValue) → None ≡ spelled_text s

@@ -1,10 +1,10 @@
 -- What fields say, by the spellings of their values.
-use Rattle.std.specs.Prelude.{◌≡◌, ℕ, Bool, true, false, List, [], ◌∷◌, refl, not, is_some}
-use Rattle.std.specs.Prelude.{Option, Some, None, Result, Ok, Err, ◌==◌, nat_le, if◌then◌else◌}
+use Rattle.std.specs.Prelude.{◌≡◌, ℕ, Bool, true, false, List, [], ◌∷◌, refl, not, is_some, Option}
+use Rattle.std.specs.Prelude.{Some, None, Result, Ok, Err, ◌==◌, nat_le, if◌then◌else◌}
+use Rattle.std.specs.Prelude.{option_and_then}
 use Rattle.std.proofs.Common.{sym, ap, ◌∙◌, lit<, lit≤, pos}
 use Rattle.std.specs.Int.{is_negative}
 use Rattle.std.specs.Option.{option_map}
-use Rattle.std.specs.Prelude.{option_and_then, IfSome}
 use Rattle.std.specs.Result.{result_ok}
 use Rattle.std.specs.List.{list_any}
 use Rattle.typed_fields.specs.declared.fault.FieldFault.{FieldFault}
@@ -19,7 +19,6 @@ use Rattle.typed_fields.specs.Number.{read_number, number_text}
 use Rattle.typed_fields.specs.MonthYear.{read_month_year, month_year_text}
 use Rattle.value_kinds.proofs.Spelled.{as_price, as_number, as_qty, as_reason, in_range}
 use Rattle.typed_fields.proofs.DayLaws.{day_is_plain}
-use Rattle.typed_fields.proofs.DecLaws.{dec_in_bound}
 use Rattle.typed_fields.proofs.StampLaws.{read_finer, read_whole, stamp_is_plain}
 use Rattle.typed_fields.proofs.NumberLaws.{flag_is_plain, month_year_is_plain}
 use Rattle.value_kinds.specs.ValueKind.{Stamp, FineStamp, Flag, MonthYear, Price, Qty, Number}
@@ -32,7 +31,6 @@ use Rattle.message_tables.specs.Tables.{is_listed, value_at}
 use Rattle.row_values.specs.Kinds.{Value, date_at, judge}
 use Rattle.row_values.specs.Kinds.{reason_of, verdict_of}
 use Rattle.row_values.specs.Kinds.{said}
-use Rattle.row_values.specs.Writing.{dec_at, not_negative, qty_at}
 
 pub text_is : (s : Spelling) → text_of (verdict_of s) ≡ spelled_text s
 text_is (Ok (Some text)) = refl
@@ -180,20 +178,6 @@ qty_said fields tag = here (value_at tag fields)
     here (Some bytes) = by_read (read_dec bytes) ∙ sym (as_qty bytes)
         ∙ sym (text_is (spelling Qty bytes))
 
-positive_text : (o : Option Dec)
-    → option_map dec_text (option_and_then not_negative o) ≡ if_positive o
-positive_text None = refl
-positive_text (Some d) = by (not (is_negative d.units))
-  where
-    by : (b : Bool) → option_map dec_text (if b then Some d else None)
-        ≡ (if b then Some (dec_text d) else None)
-    by true = refl
-    by false = refl
-
-pub qty_at_said : (fields : List Field) (tag : ℕ)
-    → option_map dec_text (qty_at tag fields) ≡ said fields tag (Value Qty)
-qty_at_said fields tag = positive_text (dec_at tag fields) ∙ qty_said fields tag
-
 -- a number that is not past the greatest reason
 abbrev pub if_reason : Option NumberValue → Said
 if_reason None = None
@@ -233,30 +217,6 @@ listed_is_said fields tag listed = here (value_at tag fields)
     here (Some []) = refl
     here (Some (b ∷ [])) = by_list (list_any (λ code. code == b) listed) b
     here (Some (b ∷ c ∷ bs)) = refl
-
--- a decimal number that is said can be written
-pub dec_readable : (fields : List Field) (tag : ℕ) → IfSome (dec_at tag fields) IsDec
-dec_readable fields tag = here (value_at tag fields)
-  where
-    by_read : (r : Result Dec FieldFault) → ((d : Dec) → r ≡ Ok d → IsDec d)
-        → IfSome (result_ok r) IsDec
-    by_read (Ok d) bound = bound d refl
-    by_read (Err e) bound = tt
-
-    here : (o : Option (List ℕ)) → IfSome (option_and_then (λ b. result_ok (read_dec b)) o) IsDec
-    here None = tt
-    here (Some bytes) = by_read (read_dec bytes) (dec_in_bound bytes)
-
-pub qty_readable : (fields : List Field) (tag : ℕ) → IfSome (qty_at tag fields) IsDec
-qty_readable fields tag = here (dec_at tag fields) (dec_readable fields tag)
-  where
-    by : (d : Dec) (b : Bool) → IsDec d → IfSome (if b then Some d else None) IsDec
-    by d true h = h
-    by d false h = tt
-
-    here : (o : Option Dec) → IfSome o IsDec → IfSome (option_and_then not_negative o) IsDec
-    here None h = tt
-    here (Some d) h = by d (not (is_negative d.units)) h
 
 -- zero can be read
 pub zero_is : IsDec (record { units = pos 0 })

@@ -1,7 +1,6 @@
 -- Inside: the parts in which a content is written.
 use Rattle.std.specs.Prelude.{ℕ, zero, suc, List, [], ◌∷◌, map, Option, Some, IfSome}
-use Rattle.std.specs.Prelude.{None, not, option_and_then, if◌then◌else◌}
-use Rattle.std.specs.Int.{is_negative}
+use Rattle.std.specs.Prelude.{option_and_then}
 use Rattle.std.specs.Option.{option_map}
 use Rattle.std.specs.Fmt.{decimal}
 use Rattle.std.specs.Result.{result_ok}
@@ -58,13 +57,6 @@ IsValue value = Unit {0}
 -- the decimal number that the first field with a tag spells, if it spells one
 abbrev pub dec_at : ℕ → List Field → Option Dec
 dec_at tag fields = option_and_then (λ bytes. result_ok (read_dec bytes)) (value_at tag fields)
-
--- and the quantity, which is a number that is not negative
-abbrev pub not_negative : Dec → Option Dec
-not_negative dec = if not (is_negative dec.units) then Some dec else None
-
-abbrev pub qty_at : ℕ → List Field → Option Dec
-qty_at tag fields = option_and_then not_negative (dec_at tag fields)
 
 abbrev pub part_fields : Part → List Field
 part_fields (parts.Row tag value) = cell_fields (Tag tag, value_text value)

@@ -1,17 +1,16 @@
 -- The laws of days.
 use Rattle.std.proofs.Common.{◌≡◌, ℕ, ◌+◌, ◌/◌, ◌%◌, ◌≤◌, true, List, [], ◌∷◌, ◌++◌, drop}
-use Rattle.std.proofs.Common.{slice_range, codes, Ok, refl, sym, ap, subst, ◌∙◌, arith, ℤ, pos}
+use Rattle.std.proofs.Common.{slice_range, codes, Ok, refl, sym, ap, ◌∙◌, arith, pos}
 use Rattle.std.specs.Char.{is_ascii_digit}
 use Rattle.std.proofs.lemmas.List.{drop_all, append-nil, append_assoc}
 use Rattle.jiff_core.proofs.CalendarLemmas.{days_in_month_bounds}
 use Rattle.typed_fields.specs.declared.day.Day.{Day}
 use Rattle.typed_fields.specs.Digits.{has_pattern}
 use Rattle.typed_fields.specs.Day.{year_in, month_in, day_in, spells_date, day_number, read_day}
-use Rattle.typed_fields.specs.Day.{IsDayNumber, IsDay, date_of, date_text, day_digits, day_text}
+use Rattle.typed_fields.specs.Day.{IsDay, date_of, date_text, day_digits, day_text}
 use Rattle.typed_fields.specs.Laws.{ReadsBack, IsPlain}
 use Rattle.typed_fields.proofs.DateLemmas.{IsDate, date_found, date_of-days_from_civil}
-use Rattle.typed_fields.proofs.DateLemmas.{is_date-IsDate, IsDate-is_date}
-use Rattle.typed_fields.proofs.DateLemmas.{IsDayNumber-days_from_civil, year_in-le}
+use Rattle.typed_fields.proofs.DateLemmas.{is_date-IsDate, IsDate-is_date, year_in-le}
 use Rattle.typed_fields.proofs.DigitsLemmas.{zero_padded_two, zero_padded_four, length-has_pattern}
 use Rattle.typed_fields.proofs.DigitsLemmas.{digits_of_pattern}
 use Rattle.typed_fields.proofs.SpellingLemmas.{judged_ok, judged_good, two_back, four_back}
@@ -79,12 +78,3 @@ day_is_plain v d e =
     let j = judged_ok
     v (has_pattern (codes "YYYYMMDD") v) (spells_date v) (record { day = day_number v }) d e in
     ap day_text (sym j.value) ∙ date_back v j.form j.bound
-
-pub day_in_bound : (v : List ℕ) (d : Day) → read_day v ≡ Ok d → IsDayNumber d.day
-day_in_bound v d e =
-    let j = judged_ok
-    v (has_pattern (codes "YYYYMMDD") v) (spells_date v) (record { day = day_number v }) d e in
-    let small = year_in-le v (digits_of_pattern (codes "YYYYMMDD") v 0 8 j.form refl) in
-    let P : ℤ → Type 0 = λ z. IsDayNumber z in
-    subst P (ap (λ (d : Day). d.day) j.value) (IsDayNumber-days_from_civil (year_in v)
-    (month_in v) (day_in v) (IsDate-is_date (year_in v) (month_in v) (day_in v) small j.bound))

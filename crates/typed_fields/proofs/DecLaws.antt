@@ -356,15 +356,6 @@ is_read v d e =
       value = j.value;
     }
 
--- a number that was read can be read
-pub dec_in_bound : (v : List ℕ) (d : Dec) → read_dec v ≡ Ok d → IsDec d
-dec_in_bound v d e =
-    let r = is_read v d e in
-    subst IsDec r.value
-    (IsDec-units_of (has_minus v) (whole_digits v) (fraction_digits v)
-    (are_digits-leading (whole_part v) r.whole) (are_digits-trailing (fraction_part v) r.fraction)
-    r.few r.places)
-
 pub dec_is_plain : IsPlain read_dec dec_text plain_dec
 dec_is_plain v d e =
     let r = is_read v d e in

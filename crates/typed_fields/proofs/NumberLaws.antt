@@ -4,8 +4,7 @@ use Rattle.std.proofs.Common.{nat_le, Bool, true, false, List, [], ◌∷◌, �
 use Rattle.std.proofs.Common.{slice_range, slice_index, codes, Ok, refl, sym, ap, ◌∙◌, arith}
 use Rattle.std.specs.Fmt.{decimal}
 use Rattle.std.specs.Char.{is_ascii_digit}
-use Rattle.std.proofs.lemmas.List.{length-take, drop_all, append-nil}
-use Rattle.typed_fields.proofs.DateLemmas.{in_range_true}
+use Rattle.std.proofs.lemmas.List.{drop_all, append-nil}
 use Rattle.std.specs.Int.{is_in_range}
 use Rattle.std.proofs.lemmas.Bool.Decides.{nat_tests}
 use Rattle.std.proofs.lemmas.Fmt.{digits_decimal, digits_value-decimal, decimal-digits_value}
@@ -21,9 +20,8 @@ use Rattle.typed_fields.specs.Flag.{is_flag_form, read_flag, flag_text}
 use Rattle.typed_fields.specs.MonthYear.{year_in, month_in, read_month_year, month_year_text}
 use Rattle.typed_fields.specs.MonthYear.{IsMonthYear}
 use Rattle.typed_fields.specs.Laws.{ReadsBack, IsPlain}
-use Rattle.typed_fields.proofs.DigitsLemmas.{both_true, numerals, number_of-lt, are_digits-leading}
+use Rattle.typed_fields.proofs.DigitsLemmas.{both_true, numerals, are_digits-leading}
 use Rattle.typed_fields.proofs.DigitsLemmas.{zero_padded_two, zero_padded_four, length-has_pattern}
-use Rattle.typed_fields.proofs.DigitsLemmas.{digits_of_pattern}
 use Rattle.typed_fields.proofs.SpellingLemmas.{judged_ok, judged_good, number_of_first, two_back}
 use Rattle.typed_fields.proofs.SpellingLemmas.{four_back, is_digit-last, slice_then, part_back}
 
@@ -176,17 +174,3 @@ month_year_is_plain v m e =
     (slice_then v 4 6 (omega arith) ∙ ap (λ xs. slice_range v 4 6 ++ xs) end) in
     ap month_year_text (sym j.value) ∙ (rw (year, month)
     (sym (whole ∙ ap (λ xs. slice_range v 0 4 ++ xs) (append-nil (slice_range v 4 6)))))
-
-pub month_year_in_bound : (v : List ℕ) (m : MonthYear) → read_month_year v ≡ Ok m → IsMonthYear m
-month_year_in_bound v m e =
-    let j = judged_ok v (has_pattern (codes "YYYYMM") v)
-    (is_in_range 1 12 (month_in v)) (record { year = year_in v; month = month_in v }) m e in
-    let year : year_in v < 10 ^ 4 =
-    number_of-lt (slice_range v 0 4) 4 (digits_of_pattern (codes "YYYYMM") v 0 4 j.form refl)
-    (omega (arith, length-take {A = ℕ})) in
-    let same_year : year_in v ≡ m.year = ap (λ (m : MonthYear). m.year) j.value in
-    let same_month : month_in v ≡ m.month = ap (λ (m : MonthYear). m.month) j.value in
-    let month = in_range_true 1 12 (month_in v) j.bound in (
-      omega (arith, year, same_year),
-      (omega (arith, month.0, same_month), omega (arith, month.1, same_month)),
-    )

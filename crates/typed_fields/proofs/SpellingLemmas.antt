@@ -118,12 +118,6 @@ last_more n ds =
 pub two_back : (n : ℕ) → n < 100 → number_of ((48 + n / 10 % 10) ∷ (48 + n % 10) ∷ []) ≡ n
 two_back n h = last_more (n / 10) ((48 + n % 10) ∷ []) ∙ (rw (last_one n) (omega arith))
 
-pub three_back : (n : ℕ)
-    → n < 1000 → number_of ((48 + n / 100 % 10) ∷ (48 + n / 10 % 10) ∷ (48 + n % 10) ∷ []) ≡ n
-three_back n h =
-    last_more (n / 100) ((48 + n / 10 % 10) ∷ (48 + n % 10) ∷ [])
-    ∙ (rw (last_more (n / 10) ((48 + n % 10) ∷ []), last_one n) (omega arith))
-
 pub four_back : (n : ℕ) → n < 10000 → number_of
     ((48 + n / 1000 % 10) ∷ (48 + n / 100 % 10) ∷ (48 + n / 10 % 10) ∷ (48 + n % 10) ∷ []) ≡ n
 four_back n h =

@@ -10,6 +10,11 @@ use Rattle.std.specs.List.{list_any, list_all, slice_get}
 use Rattle.std.specs.Str.{bytes_eq}
 use Rattle.value_kinds.specs.CodeKinds.{judged, is_good, is_verbatim, is_byte_kind}
 use Rattle.value_kinds.specs.ValueKind.{code_text, text_of, if_in_range, formed, known, listed_word}
+use Rattle.value_kinds.specs.ValueKind.{ValueKind, Filled, Id, Text, OneByte, Code, Known, Codes}
+use Rattle.value_kinds.specs.ValueKind.{Word, Currency, Flag, Number, Reason, Qty, Price, Stamp}
+use Rattle.value_kinds.specs.ValueKind.{FineStamp, Day, MonthYear, DayOfMonth, spelling, spelled}
+use Rattle.value_kinds.specs.ValueKind.{spelt}
+use Rattle.value_kinds.specs.ValueKind.{are_spaced, are_codes}
 use Rattle.std.specs.declared.option.Option.{Option}
 use Rattle.std.specs.Int.{is_negative}
 use Rattle.std.specs.Option.{option_map}
@@ -18,13 +23,7 @@ use Rattle.typed_fields.specs.declared.fault.FieldFault.{FieldFault}
 use Rattle.typed_fields.specs.declared.fault.FieldFault.TheVariants.{Form, Range}
 use Rattle.typed_fields.specs.declared.number.Number.{Number as NumberValue}
 use Rattle.typed_fields.specs.declared.dec.Dec.{Dec}
-use Rattle.value_kinds.specs.ValueKind.{ValueKind, Filled, Id, Text, OneByte, Code, Known, Codes}
-use Rattle.value_kinds.specs.ValueKind.{Word, Currency, Flag, Number, Reason, Qty, Price, Stamp}
-use Rattle.value_kinds.specs.ValueKind.{FineStamp, Day, MonthYear, DayOfMonth, spelling, spelled}
-use Rattle.value_kinds.specs.ValueKind.{spelt}
-use Rattle.value_kinds.specs.ValueKind.{are_spaced, are_codes}
 use Rattle.typed_fields.specs.Number.{read_number, number_text}
-use Rattle.typed_fields.specs.Flag.{read_flag, flag_text}
 use Rattle.typed_fields.specs.Dec.{read_dec, dec_text}
 use Rattle.typed_fields.specs.declared.stamp.Stamp.{Stamp as StampValue}
 use Rattle.typed_fields.specs.Stamp.{cut, cut_text, read_fine, stamp_text}
@@ -112,12 +111,6 @@ pub as_month_year : (bytes : List ℕ)
 unfolding spelled spelling
 as_month_year [] h = refl
 as_month_year (b ∷ bs) h = its_own month_year_text (b ∷ bs) (read_month_year (b ∷ bs)) h
-
-pub as_flag : (bytes : List ℕ) → ((x : _) → read_flag bytes ≡ Ok x → flag_text x ≡ bytes)
-    → option_map flag_text (result_ok (read_flag bytes)) ≡ spelled Flag bytes
-unfolding spelled spelling
-as_flag [] h = refl
-as_flag (b ∷ bs) h = its_own flag_text (b ∷ bs) (read_flag (b ∷ bs)) h
 
 pub words_seen : (bytes : List ℕ) (words : List (Bor (List ℕ))) → list_any (bytes_eq bytes)
     (map (λ word. word.now) words) ≡ list_any (λ word. bytes_eq bytes word.now) words
