@@ -1,59 +1,16 @@
 -- Messages and orders, one more at a time.
 use Rattle.std.proofs.Common.{◌≡◌, ℕ, ◌+◌, ◌*◌, ◌≤◌, ◌<◌, List, [], ◌∷◌, ◌++◌, length, refl, sym}
-use Rattle.std.proofs.Common.{◌∙◌, ap, subst, append_assoc, length-append, arith}
-use Rattle.std.proofs.Common.{suc, get_or, drop}
+use Rattle.std.proofs.Common.{◌∙◌, ap, subst, append_assoc, length-append, arith, suc, get_or, drop}
 use Rattle.std.proofs.lemmas.List.{drop_more}
-use Rattle.order_meaning.specs.declared.Side.{Side}
-use Rattle.order_meaning.specs.declared.Side.TheVariants.{Client, Venue}
-use Rattle.capture_text.specs.declared.capture.Event.{Event}
-use Rattle.capture_text.specs.declared.capture.Event.TheVariants.{Frame}
 use Rattle.drill_day.specs.declared.order.Drawn.{Drawn}
 use Rattle.drill_day.specs.declared.report.Report.{Report}
 use Rattle.drill_day.specs.declared.day.Day.{Day}
-use Rattle.drill_day.specs.declared.day.Numbers.{Numbers}
 use Rattle.drill_day.specs.declared.order.OrderKind.{OrderKind}
 use Rattle.drill_day.specs.declared.order.OrderKind.TheVariants.{Filled, Busted, Corrected}
 use Rattle.drill_day.specs.declared.order.OrderKind.TheVariants.{Rejected}
-use Rattle.drill_day.specs.Drill.{Message, number_of, past, body_of, numbered, order_message}
-use Rattle.drill_day.specs.Drill.{report_message, report_messages, reports_by, reports_of}
-use Rattle.drill_day.specs.Drill.{messages_from}
+use Rattle.drill_day.specs.Drill.{Message, order_message, report_message, report_messages}
+use Rattle.drill_day.specs.Drill.{reports_by, reports_of, messages_from}
 use Rattle.drill_day.specs.Day.{with_messages, with_orders, IsUpTo, Adds, Plays}
-
--- a day after one message of a side
-pub record Sends (side : Side) (body : List ℕ) (reports : ℕ) (old new : Day) : Type 0 where
-  pub life : new.life ≡ old.life ++ Frame side body ∷ []
-  pub numbers : new.numbers ≡ past side old.numbers
-  pub reports_now : new.reports ≡ old.reports + reports
-
-up_one : (side : Side) (old new : Day) (reports limit : ℕ) → reports ≤ 1
-    → new.numbers ≡ past side old.numbers → new.reports ≡ old.reports + reports
-    → IsUpTo limit old → IsUpTo (limit + 1) new
-up_one Client old new reports limit few numbers now up = record {
-  client = let e = ap (λ (n : Numbers). n.client) numbers in omega (arith, e, up.client);
-  venue = let e = ap (λ (n : Numbers). n.venue) numbers in omega (arith, e, up.venue);
-  reports = omega (arith, now, few, up.reports);
-}
-up_one Venue old new reports limit few numbers now up = record {
-  client = let e = ap (λ (n : Numbers). n.client) numbers in omega (arith, e, up.client);
-  venue = let e = ap (λ (n : Numbers). n.venue) numbers in omega (arith, e, up.venue);
-  reports = omega (arith, now, few, up.reports);
-}
-
-pub adds_one : (message : Message) (reports : ℕ) (old new : Day) → reports ≤ 1
-    → Sends message.side (body_of (number_of message.side old.numbers) message) reports old new
-    → Adds (message ∷ []) reports old new
-adds_one message reports old new few sends = record {
-  sent = λ rest. ap (λ (l : List Event). l ++ numbered new.numbers rest) sends.life
-      ∙ append_assoc old.life
-      (Frame message.side (body_of (number_of message.side old.numbers) message) ∷ [])
-      (numbered new.numbers rest)
-      ∙ ap (λ (n : Numbers). old.life
-      ++ Frame message.side (body_of (number_of message.side old.numbers) message)
-      ∷ numbered n rest) sends.numbers;
-  count = sends.reports_now;
-  up_to = λ limit up. up_one message.side old new reports limit few sends.numbers sends.reports_now
-      up;
-}
 
 pub adds_both : (xs ys : List Message) (m n : ℕ) (a b c : Day)
     → Adds xs m a b → Adds ys n b c → Adds (xs ++ ys) (m + n) a c

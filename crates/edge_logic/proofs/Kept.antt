@@ -1,13 +1,13 @@
 -- What went out and what waits, where a writer tells its bytes.
 use Rattle.std.proofs.Common.{◌≡◌, ◌⊎◌, ℕ, zero, suc, ◌+◌, ◌-◌, ◌≤◌, List, [], ◌∷◌, ◌++◌, length}
-use Rattle.std.proofs.Common.{take, drop, Option, Some, None, Bool, true, false, not, eqb, inl, inr}
-use Rattle.std.proofs.Common.{refl, sym, ap, subst, ◌∙◌, arith, ◌<◌, cond, eq-eqb, ne_eqb}
-use Rattle.std.proofs.Common.{length-append, IfErr, IfOk, append_assoc}
+use Rattle.std.proofs.Common.{take, drop, Option, Some, None, true, false, not, eqb, inl, inr, refl}
+use Rattle.std.proofs.Common.{sym, ap, subst, ◌∙◌, arith, ◌<◌, cond, eq-eqb, ne_eqb, length-append}
+use Rattle.std.proofs.Common.{IfErr, IfOk, append_assoc, append-nil, take-append-drop, length-drop}
+use Rattle.std.proofs.Common.{Result, Ok, Err, OnOk}
 use Rattle.std.specs.Io.{WritesAtMost}
 use Rattle.std.specs.Io.KnownBytes.{WriteAppends}
-use Rattle.std.proofs.Common.{append-nil, take-append-drop, length-drop, Result, Ok, Err, OnOk}
-use Rattle.std.proofs.lemmas.List.{drop-drop, take_all}
 use Rattle.std.specs.Io.KnownBytes.{Keeps, Appends, append_known}
+use Rattle.std.proofs.lemmas.List.{drop-drop, take_all}
 use Rattle.std.proofs.KnownBytes.{Appends-nil, Appends-trans, Appends-kept, Keeps-refl, Keeps-trans}
 use Rattle.std.proofs.KnownBytes.{append_known-kept, append_known-moved, append_known-grown}
 use Rattle.std.proofs.KnownBytes.{append_known-passed}
@@ -17,12 +17,6 @@ use Rattle.edge_logic.specs.Outbox.{StaysWhole, GrowsWhole, FrontWent, has_bytes
 pub rest_is : (bytes : List ℕ) (from : ℕ)
     → take (length bytes - from) (drop from bytes) ≡ drop from bytes
 rest_is bytes from = take_all _ _ (omega (arith, length-drop from bytes))
-
-drop_all : (n : ℕ) (bytes : List ℕ) → length bytes ≤ n → drop n bytes ≡ []
-drop_all zero [] h = refl
-drop_all (suc n) [] h = refl
-drop_all zero (byte ∷ bytes) h = absurd (omega (arith, h))
-drop_all (suc n) (byte ∷ bytes) h = drop_all n bytes (omega (arith, h))
 
 drop_in : (count : ℕ) (xs ys : List ℕ) → count ≤ length xs
     → drop count (xs ++ ys) ≡ drop count xs ++ ys

@@ -1,11 +1,11 @@
 -- One byte further in the search for a field.
 use Rattle.std.proofs.Common.{◌≡◌, ℕ, ◌+◌, ◌-◌, ◌<◌, ◌≤◌, List, [], ◌∷◌, ◌++◌, length, take, drop}
-use Rattle.std.proofs.Common.{slice_range, true, false, eqb, get_or, Some, None}
-use Rattle.std.proofs.Common.{refl, sym, ap, ◌∙◌, arith, length-drop, is_some}
+use Rattle.std.proofs.Common.{slice_range, false, eqb, get_or, Some, None, refl, sym, ap, ◌∙◌}
+use Rattle.std.proofs.Common.{arith, length-drop, is_some}
 use Rattle.std.specs.declared.option.Option.{Option}
 use Rattle.std.specs.Option.{option_map}
 use Rattle.std.proofs.lemmas.List.{drop_more, take_more, get_or-drop}
-use Rattle.edge_waits.specs.Fields.{value_at, value_behind, or_else}
+use Rattle.edge_waits.specs.Fields.{value_at, value_behind}
 
 -- what stands from a place on begins with the byte there
 here : (name front bytes : List ℕ) (at : ℕ) → at < length bytes
@@ -27,16 +27,6 @@ part_more bytes start at behind within =
 
 part_none : (bytes : List ℕ) (at : ℕ) → slice_range bytes at at ≡ []
 part_none bytes at = let none : at - at ≡ 0 = omega arith in rw none refl
-
--- the field that ends here has the name
-pub found_here : {X : Type 0} (f : X → List ℕ) (o : Option X) (name bytes : List ℕ)
-    (start at : ℕ) → at < length bytes → get_or bytes at 0 ≡ 1
-    → option_map f o ≡ value_at name (slice_range bytes start at) → is_some o ≡ true
-    → option_map f o ≡ value_behind name (slice_range bytes start at) (drop at bytes)
-found_here f None name bytes start at within is said some = absurd cc
-found_here f (Some x) name bytes start at within is said some =
-    said ∙ sym (here name (slice_range bytes start at) bytes at within
-    ∙ rw (is, sym said) refl)
 
 -- it has another
 pub next_field : {X : Type 0} (f : X → List ℕ) (o : Option X) (name bytes : List ℕ)

@@ -1,8 +1,7 @@
 -- How an unborn disk gets its birth record.
-use Rattle.std.proofs.Common.{◌≡◌, inl, inr, ℕ, ◌<◌, ◌≤◌, List, [], ◌∷◌, ◌++◌}
-use Rattle.std.proofs.Common.{length, drop, refl, sym, ◌∙◌, ap, subst, arith}
-use Rattle.std.proofs.Common.{length-drop, length-append, Some, None, is_some, IfSome}
-use Rattle.std.proofs.Common.{◌+◌, false, Ok, Err, IfOk, OnOk}
+use Rattle.std.proofs.Common.{◌≡◌, inl, inr, ℕ, ◌<◌, ◌≤◌, List, [], ◌∷◌, ◌++◌, length, drop, refl}
+use Rattle.std.proofs.Common.{sym, ◌∙◌, ap, subst, arith, length-drop, length-append, Some, None}
+use Rattle.std.proofs.Common.{is_some, IfSome, ◌+◌, false, Ok, Err, IfOk, OnOk}
 use Rattle.std.specs.Prelude.{Result}
 use Rattle.std.specs.declared.option.Option.{Option}
 use Rattle.std.specs.Option.{ForSome, option_map}
@@ -14,7 +13,7 @@ use Rattle.gate_log.specs.Steps.{EndsAt, Ends, IsTorn}
 use Rattle.gate_log.specs.declared.error.LogError.{LogError}
 use Rattle.gate_log.specs.declared.error.LogError.TheVariants as errors
 use Rattle.gate_log.specs.State.{LogState}
-use Rattle.gate_log.specs.Log.{StaysUnborn, BornOrNot, OnlyRead, Loads, StandsOver, IsOver}
+use Rattle.gate_log.specs.Log.{StaysUnborn, BornOrNot, Loads}
 use Rattle.gate_log.proofs.Blocks.{Stands-unique}
 use Rattle.gate_log.proofs.CommitSteps.{ends}
 use Rattle.gate_log.proofs.Told.{if_some, at_some, to_some}
@@ -49,19 +48,6 @@ module _ (told : Option (List ℕ))
           )
 
 -- ---- what a birth does to images
-
-pub born_same : (told : Option (List ℕ)) (before after : List ℕ → Type 0) (birth : List ℕ)
-    → AreAmong after before → BornOrNot told before after birth
-born_same told before after birth among = if_some told _ (λ b e only ps stands image left.
-    inl (subst (λ i. Stands i ps) (sym (only image (among image left))) stands))
-
--- behind calls that only read, a birth is one of the disk before them
-pub born_behind : (told read : Option (List ℕ)) (before between after : List ℕ → Type 0)
-    (birth : List ℕ) → OnlyRead told read before between → BornOrNot read between after birth
-    → BornOrNot told before after birth
-born_behind told read before between after birth only_read born = if_some told _ (λ b e only.
-    at_some read _ b (only_read.same ∙ e) born
-    (λ image left. only image (only_read.images image left)))
 
 module _ (told : Option (List ℕ))
     (len : ℕ) (unborn : ForSome told (λ b. IsUnborn b × (len ≡ length b))) (birth : List ℕ) where
@@ -131,12 +117,6 @@ module _ (told : Option (List ℕ))
             at_some told2 (λ z. Stands z (birth ∷ [])) x e answer
 
 -- ---- what a load answers
-
-pub looked : (told now : Option (List ℕ)) (birth : List ℕ) (log : LogState) → now ≡ told
-    → IfSome told (StandsOver log) → IfSome told (λ b. Loads birth b (Ok log) now)
-looked told now birth log same stands = if_some told _ (λ b e.
-    let over = at_some told (StandsOver log) b e stands in
-    (over.0, inl over.1.stands, to_some now (λ x. IsOver log x over.0) b (same ∙ e) over.1))
 
 pub begun : (told now : Option (List ℕ)) (birth : List ℕ) (answer : Result LogState LogError)
     → length birth ≡ BIRTH_LEN → IfSome told (λ b. Stands b [])

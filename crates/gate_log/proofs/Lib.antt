@@ -5,6 +5,5 @@ pub mod Told
 pub mod CommitSteps
 pub mod Scanning
 pub mod Born
-pub mod Appending
 pub mod Chunks
 pub mod Payloads

@@ -1,19 +1,18 @@
 -- The payload that stands at a place of a log.
-use Rattle.std.proofs.Common.{◌≡◌, ℕ, ◌+◌, ◌-◌, ◌^◌, ◌<◌, ◌≤◌, List, [], ◌∷◌, ◌++◌, length, take, drop}
-use Rattle.std.proofs.Common.{min, refl, sym, ◌∙◌, ap, subst, arith, append_assoc, length-append}
-use Rattle.std.proofs.Common.{length-take, length-drop, take-append-drop, inl, inr, Some, IfSome}
+use Rattle.std.proofs.Common.{◌≡◌, ℕ, ◌+◌, ◌-◌, ◌^◌, ◌<◌, ◌≤◌, List, [], ◌∷◌, ◌++◌, length, take}
+use Rattle.std.proofs.Common.{drop, sym, ◌∙◌, ap, subst, arith, append_assoc, length-append}
+use Rattle.std.proofs.Common.{length-take, length-drop, take-append-drop, IfSome}
 use Rattle.std.specs.declared.option.Option.{Option}
 use Rattle.std.specs.Int.{w32, to_be_bytes}
 use Rattle.std.proofs.Math.Seq.{take-append-add}
 use Rattle.std.proofs.lemmas.List.{drop_at, drop-drop}
 use Rattle.gate_log.specs.declared.TheConstants.{MAX_PAYLOAD}
-use Rattle.gate_log.specs.declared.head.Head.{Head}
 use Rattle.gate_log.specs.declared.head.Head.TheVariants as heads
 use Rattle.gate_log.specs.Records.{blocks, AllSized, AllFit, IsLog, Stands}
 use Rattle.gate_log.specs.Log.{IsAt, ReadsPayload, HasNoPayload}
 use Rattle.gate_log.specs.Scan.{IsHead}
 use Rattle.gate_log.specs.Chunk.{StandsAt, IsFront, BeginsWith}
-use Rattle.gate_log.proofs.Blocks.{same_front, one_record, blocks-append}
+use Rattle.gate_log.proofs.Blocks.{one_record, blocks-append}
 use Rattle.gate_log.proofs.Told.{if_some, at_some}
 
 -- ---- in bytes from a gate on
@@ -65,23 +64,6 @@ begins_open bytes len (small, rest, is) most long =
       is ∙ ap (λ (l : List ℕ). 1 ∷ to_be_bytes w32 len ++ l) (sym (take-append-drop len rest))
           ∙ ap (λ (n : ℕ). 1 ∷ to_be_bytes w32 n ++ (take len rest ++ drop len rest)) (sym size),
     )
-
--- the head of a record tells the length of its payload, which stands behind it
-pub head_begins : (bytes payload : List ℕ) → BeginsWith bytes payload → (head : Head)
-    → IsHead bytes head → head ≡ heads.Open (length payload)
-head_begins bytes payload (small, rest, there) heads.Shut (gate, after, is, shut) =
-    absurd (shut (let same : gate ≡ 1 = cc (sym is ∙ there) in same))
-head_begins bytes payload (small, rest, there) (heads.Open len) (short, behind, is) =
-    ap (λ k. heads.Open k) (same_front len (length payload) behind (payload ++ rest) short
-    (small_is payload small) (ap (drop 1) (sym is ∙ there))).0
-head_begins bytes payload (small, rest, there) heads.Cut (behind, short, inl none) =
-    absurd (cc (sym none ∙ there))
-head_begins bytes payload (small, rest, there) heads.Cut (behind, short, inr is) = absurd (omega (
-  arith,
-  short,
-  ap length (sym is ∙ there),
-  length-append (to_be_bytes w32 (length payload)) (payload ++ rest),
-))
 
 pub long_begins : (bytes payload : List ℕ) → BeginsWith bytes payload
     → 5 + length payload ≤ length bytes

@@ -1,10 +1,9 @@
 -- What one walk over a disk learns.
-use Rattle.std.proofs.Common.{◌≡◌, inl, inr, ℕ, ◌+◌, ◌<◌, ◌≤◌}
-use Rattle.std.proofs.Common.{Bool, true, false, Some, IfSome, ◌==◌, List, [], ◌∷◌, ◌++◌}
-use Rattle.std.proofs.Common.{length, take}
-use Rattle.std.proofs.Common.{drop, refl, sym, ◌∙◌, ap, subst, arith, append_assoc, length-append}
-use Rattle.std.proofs.Common.{length-take, length-drop, take-append-drop}
-use Rattle.std.specs.Prelude.{nat_le, ◌&&◌, if◌then◌else◌}
+use Rattle.std.proofs.Common.{◌≡◌, inl, inr, ℕ, ◌+◌, ◌<◌, ◌≤◌, true, Some, IfSome, ◌==◌, List, []}
+use Rattle.std.proofs.Common.{◌∷◌, ◌++◌, length, take, drop, sym, ◌∙◌, ap, subst, arith}
+use Rattle.std.proofs.Common.{append_assoc, length-append, length-take, length-drop}
+use Rattle.std.proofs.Common.{take-append-drop}
+use Rattle.std.specs.Prelude.{nat_le, ◌&&◌}
 use Rattle.std.specs.declared.option.Option.{Option}
 use Rattle.std.specs.Int.{w32, to_be_bytes}
 use Rattle.std.proofs.lemmas.List.{drop_at}
@@ -13,12 +12,9 @@ use Rattle.outside.specs.declared.disk.TheConstants.{MAX_DISK}
 use Rattle.gate_log.specs.declared.TheConstants.{BIRTH_LEN, MAX_PAYLOAD}
 use Rattle.gate_log.specs.declared.head.Head.{Head}
 use Rattle.gate_log.specs.declared.head.Head.TheVariants as heads
-use Rattle.gate_log.specs.Records.{blocks, Fits, AllFit, IsLog, IsShut, HoldsRecord}
-use Rattle.gate_log.specs.Records.{IsUnborn, IsRefused, Stands}
+use Rattle.gate_log.specs.Records.{blocks, Fits, AllFit, HoldsRecord, IsRefused}
 use Rattle.gate_log.specs.declared.scan.Step.TheVariants as steps
-use Rattle.gate_log.specs.declared.scan.Found.TheVariants as found
-use Rattle.gate_log.specs.Scan.{HasRecords, IsHead, IsStep, GoesOn, IsFound, IsWithin, fits_at}
-use Rattle.gate_log.specs.Scan.{found_at}
+use Rattle.gate_log.specs.Scan.{IsHead, IsStep, GoesOn, fits_at}
 use Rattle.gate_log.specs.Log.{OnlyRead}
 use Rattle.gate_log.proofs.Blocks.{blocks-push, length-blocks-push, AllFit-push, fits_told}
 use Rattle.gate_log.proofs.Blocks.{same_front}
@@ -75,47 +71,8 @@ pub record Walked (image : List ℕ) (count at : ℕ) : Type 0 where
   pub fit : AllFit payloads
   pub number : count ≡ length payloads
 
-pub none_walked : (image : List ℕ) → Walked image 0 0
-none_walked image = record { payloads = []; split = refl; place = refl; fit = tt; number = refl }
-
-stands_born : (image : List ℕ) (ps : List (List ℕ))
-    → 1 ≤ length ps → IsLog image ps → Stands image ps
-stands_born image [] born log = absurd (omega (arith, born))
-stands_born image (p ∷ ps) born log = log
-
-none_at : (ps : List (List ℕ)) → 0 ≡ length ps → length (blocks ps) ≡ 0
-none_at [] none = refl
-none_at (p ∷ ps) none = absurd (omega (arith, none))
-
 module _ (image : List ℕ) (count at : ℕ) (walked : Walked image count at) (within : at < MAX_DISK)
   where
-    -- the gate there is closed, behind records
-    pub records_end : 1 ≤ count → IsShut (drop at image) → HasRecords image count at
-    records_end some (gate, after, is, shut) = record {
-      payloads = walked.payloads;
-      stands = stands_born image walked.payloads (omega (arith, some, walked.number)) (record {
-        gate = gate;
-        after = after;
-        split = walked.split ∙ ap (λ l. blocks walked.payloads ++ l) is;
-        shut = shut;
-        fit = walked.fit;
-        within = omega (arith, within, walked.place);
-      });
-      number = walked.number;
-      end = walked.place;
-    }
-
-    -- the first gate is closed
-    first_shut : count ≡ 0 → IsShut (drop at image) → IsShut image
-    first_shut none shut = subst (λ n. IsShut (drop n image))
-        (walked.place ∙ none_at walked.payloads (sym none ∙ walked.number)) shut
-
-    pub unborn_end : count ≡ 0 → IsShut (drop at image) → length image ≤ 161 → IsUnborn image
-    unborn_end none shut short = inr (short, first_shut none shut)
-
-    pub refused_end : count ≡ 0 → IsShut (drop at image) → 161 < length image → IsRefused image 0
-    refused_end none shut long = inr (long, refl, first_shut none shut)
-
     -- the gate there is open, and no record stands behind it
     breaks : (behind : List ℕ) → 1 < length image → drop at image ≡ 1 ∷ behind
         → ((payload : List ℕ) → HoldsRecord walked.payloads behind payload → ⊥)
@@ -227,29 +184,11 @@ only_read_on a b c i j k one two = record {
   kept = λ x here. two.kept x (one.kept x here);
 }
 
-le_is : (m n : ℕ) → nat_le m n ≡ true → m ≤ n
-le_is m n test = grind (arith, nat_tests)
-
-le_not : (m n : ℕ) → nat_le m n ≡ false → n < m
-le_not m n test = grind (arith, nat_tests)
-
-none_counted : (count : ℕ) → nat_le 1 count ≡ false → count ≡ 0
-none_counted count test = omega (arith, le_not 1 count test)
-
 pub record SoFar (told : Option (List ℕ)) (size count at : ℕ) : Type 0 where
   pub counted : count ≤ at
   pub within : at < MAX_DISK
   pub more : at < size
   pub walked : IfSome told (λ b. (size ≡ length b) × Walked b count at)
-
-pub at_first : (told : Option (List ℕ)) (size : ℕ)
-    → 1 < size → IfSome told (λ b. size ≡ length b) → SoFar told size 0 0
-at_first told size long is = record {
-  counted = omega arith;
-  within = omega arith;
-  more = omega (arith, long);
-  walked = if_some told _ (λ b e. (at_some told (λ x. size ≡ length x) b e is, none_walked b));
-}
 
 -- the same, where the length was asked again
 pub longer : (told : Option (List ℕ)) (size now count at : ℕ) → size ≤ now
@@ -273,26 +212,6 @@ module _ (told : Option (List ℕ)) (size count at : ℕ) (long : 1 < size)
   heads_at : (one : Head) → head ≡ one → (b : List ℕ) → told ≡ Some b → IsHead (drop at b) one
   heads_at one is b e =
       subst (IsHead (drop at b)) is (at_some told (λ x. IsHead (drop at x) head) b e there)
-
-  ended_by : head ≡ heads.Shut → (some short : Bool) → nat_le 1 count ≡ some
-      → nat_le size 161 ≡ short → IfSome told (λ b. IsFound b (if some
-      then found.Records count at else (if short then found.Unborn else found.Refused 0)))
-  ended_by is true short some_is short_is = if_some told _ (λ b e.
-      records_end b count at (was b e).1 so_far.within (le_is 1 count some_is)
-      (heads_at heads.Shut is b e))
-  ended_by is false true some_is short_is = if_some told _ (λ b e.
-      let w = was b e in
-      let small : size ≤ 161 = le_is size 161 short_is in
-      unborn_end b count at w.1 so_far.within (none_counted count some_is)
-      (heads_at heads.Shut is b e) (omega (arith, w.0, small)))
-  ended_by is false false some_is short_is = if_some told _ (λ b e.
-      let w = was b e in
-      let large : 161 < size = le_not size 161 short_is in
-      refused_end b count at w.1 so_far.within (none_counted count some_is)
-      (heads_at heads.Shut is b e) (omega (arith, w.0, large)))
-
-  pub found_ended : head ≡ heads.Shut → IfSome told (λ b. IsFound b (found_at count at size))
-  found_ended is = ended_by is (nat_le 1 count) (nat_le size 161) refl refl
 
   pub found_broken : IsStep head at size steps.Break → IfSome told (λ b. IsRefused b at)
   found_broken (inl is) = if_some told _ (λ b e.
@@ -318,15 +237,3 @@ module _ (told : Option (List ℕ)) (size count at : ℕ) (long : 1 < size)
               (subst (GoesOn at len) w.0 goes),
         ));
   }
-
-within_by : (count at size : ℕ) (some short : Bool) → nat_le 1 count ≡ some → count ≤ at
-    → at < MAX_DISK → IsWithin (if some then found.Records count at
-    else (if short then found.Unborn else found.Refused 0))
-within_by count at size true short some_is counted within =
-    (le_is 1 count some_is, counted, within)
-within_by count at size false true some_is counted within = tt
-within_by count at size false false some_is counted within = tt
-
-pub ended_within : (count at size : ℕ)
-    → count ≤ at → at < MAX_DISK → IsWithin (found_at count at size)
-ended_within count at size = within_by count at size (nat_le 1 count) (nat_le size 161) refl

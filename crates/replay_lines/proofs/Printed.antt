@@ -1,6 +1,6 @@
 -- Lines that are printed one after another.
-use Rattle.std.proofs.Common.{◌≡◌, ◌∙◌, ℕ, List, [], ◌++◌, length}
-use Rattle.std.proofs.Common.{sym, ap, subst, append_assoc, append-nil, arith}
+use Rattle.std.proofs.Common.{◌≡◌, ◌∙◌, ℕ, List, [], ◌++◌, length, sym, ap, subst, append_assoc}
+use Rattle.std.proofs.Common.{arith}
 use Rattle.std.specs.Prelude.{Result, Ok, Err, IsErr}
 use Rattle.std.specs.declared.option.Option.{Option}
 use Rattle.std.specs.Io.KnownBytes.{Appends}
@@ -55,17 +55,6 @@ stopped old now text rest whole so_far = front_on old now so_far.put (text ++ re
       subst (λ (l : List ℕ). Appends old now l)
           (sym (take_all (length so_far.put) so_far.put (omega arith))) so_far.appends,
     )
-
--- all waits or was put
-pub whole_printed : (old now : Option (List ℕ)) (text rest whole : List ℕ)
-    → SoFar old now text rest whole → rest ≡ []
-    → (put : List ℕ) × Appends old now put × (put ++ text ≡ whole)
-whole_printed old now text rest whole so_far none = (
-  so_far.put,
-  so_far.appends,
-  sym (append-nil (so_far.put ++ text))
-      ∙ ap (λ (l : List ℕ). (so_far.put ++ text) ++ l) (sym none) ∙ so_far.is,
-)
 
 -- what waits is put, with the rest behind it
 pub last_put : {T E : Type 0} (old mid new : Option (List ℕ)) (before text rest whole : List ℕ)

@@ -1,7 +1,6 @@
 -- What one call more does to a record as it is kept, and to its connections.
-use Rattle.std.proofs.Common.{◌≡◌, ◌∙◌, ℕ, ◌-◌, ◌<◌, ◌==◌, zero, suc, Bool, true, false}
-use Rattle.std.proofs.Common.{List, [], ◌∷◌, ◌++◌}
-use Rattle.std.proofs.Common.{length, set, get_or, refl, sym, ap, arith}
+use Rattle.std.proofs.Common.{◌≡◌, ◌∙◌, ℕ, ◌-◌, ◌<◌, ◌==◌, zero, suc, Bool, true, false, List, []}
+use Rattle.std.proofs.Common.{◌∷◌, ◌++◌, length, set, get_or, refl, sym, ap, arith}
 use Rattle.std.specs.Prelude.{fold}
 use Rattle.wires.specs.Wire.{WireCall, Connection, change_last, connections_after, transcript}
 use Rattle.wires.specs.Wire.{within_after, is_within, HangUp}
@@ -40,10 +39,6 @@ fold_more f start (first ∷ xs) x = fold_more f (f start first) xs x
 pub transcript_more : (calls : List WireCall) (call : WireCall)
     → transcript (calls ++ call ∷ []) ≡ connections_after (transcript calls) call
 transcript_more calls call = fold_more connections_after [] calls call
-
-pub within_more : (calls : List WireCall) (call : WireCall)
-    → is_within (calls ++ call ∷ []) ≡ within_after (is_within calls) call
-within_more calls call = fold_more within_after false calls call
 
 marked_more : (hung_up : Bool) (calls more : List WireCall)
     → marked hung_up (calls ++ more) ≡ marked hung_up calls ++ more
