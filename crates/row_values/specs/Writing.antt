@@ -1,17 +1,15 @@
 -- Inside: the parts in which a content is written.
-use Rattle.std.specs.Prelude.{ℕ, zero, suc, List, [], ◌∷◌, map, Option, Some, IfSome}
-use Rattle.std.specs.Prelude.{option_and_then}
+use Rattle.std.specs.Prelude.{ℕ, zero, suc, List, [], ◌∷◌, map, Some, IfSome, option_and_then}
 use Rattle.std.specs.Option.{option_map}
 use Rattle.std.specs.Fmt.{decimal}
-use Rattle.std.specs.Result.{result_ok}
 use Rattle.typed_fields.specs.declared.dec.Dec.{Dec}
-use Rattle.typed_fields.specs.Dec.{dec_text, read_dec, IsDec}
+use Rattle.typed_fields.specs.Dec.{dec_text, IsDec}
 use Rattle.typed_fields.specs.Day.{day_text, IsDay}
 use Rattle.typed_fields.specs.Stamp.{stamp_text, IsStamp}
 use Rattle.typed_fields.specs.Flag.{flag_text}
 use Rattle.typed_fields.specs.Number.{number_text, IsNumber}
 use Rattle.field_groups.specs.Field.{Field}
-use Rattle.message_tables.specs.Tables.{Tag, Said, value_at}
+use Rattle.message_tables.specs.Tables.{Tag, Said}
 use Rattle.message_tables.specs.Content.{cell_fields, group_fields}
 use Rattle.row_values.specs.declared.writing.Value.{Value}
 use Rattle.row_values.specs.declared.writing.Value.TheVariants as values
@@ -54,15 +52,8 @@ IsValue (values.Month maturity) = IfSome maturity.now IsReadableMaturity
 IsValue (values.Date maturity) = IfSome maturity.now IsReadableMaturity
 IsValue value = Unit {0}
 
--- the decimal number that the first field with a tag spells, if it spells one
-abbrev pub dec_at : ℕ → List Field → Option Dec
-dec_at tag fields = option_and_then (λ bytes. result_ok (read_dec bytes)) (value_at tag fields)
-
 abbrev pub part_fields : Part → List Field
 part_fields (parts.Row tag value) = cell_fields (Tag tag, value_text value)
-part_fields (parts.Same fields tag) = cell_fields (Tag tag, value_at tag fields.now)
-part_fields (parts.Dec fields tag) =
-    cell_fields (Tag tag, option_map dec_text (dec_at tag fields.now))
 part_fields (parts.Parties lines) = group_fields 453 (map party_cells lines.now)
 part_fields (parts.Allocs lines) = group_fields 78 (map alloc_cells lines.now)
 part_fields (parts.Sessions lines) = group_fields 386 (map session_cells lines.now)
@@ -70,8 +61,6 @@ part_fields (parts.Contras lines) = group_fields 382 (map contra_cells lines.now
 
 abbrev pub IsPart : Part → Type 0
 IsPart (parts.Row tag value) = IsValue value
-IsPart (parts.Same fields tag) = Unit {0}
-IsPart (parts.Dec fields tag) = Unit {0}
 IsPart (parts.Parties lines) = AreReadableParties lines.now
 IsPart (parts.Allocs lines) = AreReadableAllocs lines.now
 IsPart (parts.Sessions lines) = Unit {0}

@@ -23,4 +23,4 @@ pub use values::{
     number_or_zero, or_empty, price, price_or_zero, qty, qty_or_zero, reason, resend, stamp,
     stamp_or_epoch, text,
 };
-pub use writing::{Part, Value, put_content};
+pub use writing::{Part, Value, put_content, put_dec};

@@ -1,7 +1,6 @@
 //! Writing contents: each row of a table is a part.
 
-ghost use Rattle.std.specs.Prelude.{◌≡◌, ◌≤◌, ◌++◌, ◌∷◌, [], map, IfSome, OnErr, OnOk};
-ghost use Rattle.std.specs.Prelude.{option_and_then};
+ghost use Rattle.std.specs.Prelude.{◌≡◌, ◌≤◌, ◌++◌, [], map, IfSome, OnErr, OnOk, option_and_then};
 ghost use Rattle.std.specs.List.{AllByRecursion, flat_map};
 ghost use Rattle.std.specs.Option.{option_map};
 ghost use Rattle.std.specs.Io.{StartsWith};
@@ -10,17 +9,16 @@ ghost use Rattle.typed_fields.specs.Dec.{dec_text, read_dec};
 ghost use Rattle.typed_fields.specs.Digits.{zero_padded};
 ghost use Rattle.typed_fields.specs.MonthYear.{IsMonthYear, month_year_text};
 ghost use Rattle.field_groups.specs.Field.{body_of, field_bytes};
-ghost use Rattle.message_tables.specs.Tables.{Tag, value_at};
+ghost use Rattle.message_tables.specs.Tables.{Tag};
 ghost use Rattle.message_tables.specs.Content.{cell_fields, group_fields};
 ghost use Rattle.value_kinds.specs.ValueKind.{two_digit_text};
 ghost use Rattle.row_values.specs.Lines.{IsReadableMaturity, month_text, date_text, month_day_text};
 ghost use Rattle.row_values.specs.Writing.{IsPart, IsValue, count_fields};
-ghost use Rattle.row_values.specs.Writing.{dec_at, part_fields, value_text};
+ghost use Rattle.row_values.specs.Writing.{part_fields, value_text};
 
 use crate::contras::Contras;
 use crate::lines::{Allocs, GroupLine, Maturity, Sessions};
-use field_groups::{AROUND, Fields, SOH, push_tag, put_byte, put_field, put_number, put_tag};
-use message_tables::Lookup;
+use field_groups::{AROUND, SOH, push_tag, put_byte, put_field, put_number, put_tag};
 use order_meaning::{Bytes, GroupLines, Lines};
 use std::alloc::AllocError;
 use typed_fields::{Day, Dec, FieldValue, Flag, MAX_SPELLING, MonthYear, Number, Stamp};
@@ -66,11 +64,6 @@ pub enum Value<'a> {
 pub enum Part<'a> {
     /// The row of a tag.
     Row(u32, Value<'a>),
-    /// The first of these fields with a tag, as it stands, if there is one.
-    Same(&'a Fields<'a>, u32),
-    /// The decimal number that the first of these fields with a tag spells, if it spells one, in its
-    /// canonical spelling.
-    Dec(&'a Fields<'a>, u32),
     /// Parties(453).
     Parties(&'a Lines),
     /// The accounts of an order, (78).
@@ -235,22 +228,13 @@ fn put_row(out: &mut Vec<u8>, tag: u32, value: &Value<'_>) -> Appended
     }
 }
 
-/// Appends the first of these fields with a tag, as it stands, if there is one.
-#[inline(always)]
-fn put_same(out: &mut Vec<u8>, fields: &Fields<'_>, tag: u32) -> Appended
-    ensures done { OnOk result (out.new.items
-        ≡ out.old.items ++ body_of (cell_fields (Tag tag, value_at tag fields.now))) }
-    ensures kept { StartsWith out.new.items out.old.items }
-{
-    match fields.value(tag) {
-        None => Ok(()),
-        Some(value) => put_field(out, tag, value),
-    }
-}
-
 /// Appends a field of the decimal number that a value spells, if it spells one.
+///
+/// # Errors
+///
+/// `AllocError` for want of memory; what stood in `out` stays, and a part may stand behind it.
 #[inline(never)]
-fn put_dec(out: &mut Vec<u8>, tag: u32, value: &[u8]) -> Appended
+pub fn put_dec(out: &mut Vec<u8>, tag: u32, value: &[u8]) -> Appended
     ensures done { OnOk result (out.new.items ≡ out.old.items
         ++ body_of (cell_fields (Tag tag, option_map dec_text (result_ok (read_dec value.now))))) }
     ensures kept { StartsWith out.new.items out.old.items }
@@ -263,19 +247,6 @@ fn put_dec(out: &mut Vec<u8>, tag: u32, value: &[u8]) -> Appended
         Err(_) => out.truncate(start),
     }
     Ok(())
-}
-
-/// Appends the decimal number that the first of these fields with a tag spells, if it spells one.
-#[inline(always)]
-fn put_respelled(out: &mut Vec<u8>, fields: &Fields<'_>, tag: u32) -> Appended
-    ensures done { OnOk result (out.new.items ≡ out.old.items
-        ++ body_of (cell_fields (Tag tag, option_map dec_text (dec_at tag fields.now)))) }
-    ensures kept { StartsWith out.new.items out.old.items }
-{
-    match fields.value(tag) {
-        None => Ok(()),
-        Some(value) => put_dec(out, tag, value),
-    }
 }
 
 /// Appends the count of a group that has lines.
@@ -332,8 +303,6 @@ fn put_part(out: &mut Vec<u8>, part: &Part<'_>) -> Appended
 {
     match part {
         Part::Row(tag, value) => put_row(out, *tag, value),
-        Part::Same(fields, tag) => put_same(out, fields, *tag),
-        Part::Dec(fields, tag) => put_respelled(out, fields, *tag),
         Part::Parties(lines) => put_group(out, 453, lines),
         Part::Allocs(lines) => put_group(out, 78, lines),
         Part::Sessions(lines) => put_group(out, 386, lines),

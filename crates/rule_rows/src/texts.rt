@@ -3,8 +3,6 @@
 ghost use Rattle.std.specs.Prelude.{◌≡◌, ◌++◌, IfSome, OnOk};
 ghost use Rattle.std.specs.Io.{StartsWith};
 ghost use Rattle.std.specs.Option.{option_map};
-ghost use Rattle.std.specs.Result.{result_ok};
-ghost use Rattle.typed_fields.specs.Dec.{dec_text, read_dec};
 ghost use Rattle.typed_fields.specs.Number.{IsNumber};
 ghost use Rattle.typed_fields.specs.Stamp.{cut_text};
 ghost use Rattle.field_groups.specs.Field.{body_of};
@@ -14,11 +12,11 @@ ghost use Rattle.row_values.specs.CodeKinds.{kind_of};
 ghost use Rattle.rule_rows.specs.Texts.{byte_of, decimal_of, decimal_text, kept, number_of};
 
 use crate::group_lines::put_text;
-use field_groups::{AROUND, Fields, SOH, push_tag};
+use field_groups::Fields;
 use message_tables::{Lookup, Mark};
-use row_values::Kind;
+use row_values::{Kind, put_dec};
 use std::alloc::AllocError;
-use typed_fields::{Dec, FieldValue, MAX_SPELLING, Number, cut_text};
+use typed_fields::{Dec, FieldValue, Number, cut_text};
 
 /// The code that a text is, if it is one byte.
 #[inline(always)]
@@ -65,23 +63,6 @@ pub fn kept<'f>(fields: &'f Fields<'_>, tag: u32, kind: &Kind) -> Option<&'f [u8
     }
 }
 
-/// Appends a field of the decimal number that a text spells, if it spells one.
-#[inline(never)]
-fn put_spelled(out: &mut Vec<u8>, tag: u32, text: &[u8]) -> Result<(), AllocError>
-    ensures done { OnOk result (out.new.items ≡ out.old.items
-        ++ body_of (cell_fields (Tag tag, option_map dec_text (result_ok (read_dec text.now))))) }
-    ensures kept { StartsWith out.new.items out.old.items }
-{
-    let start = out.len();
-    out.reserve(AROUND + MAX_SPELLING)?;
-    push_tag(out, tag);
-    match Dec::respell(text, out) {
-        Ok(()) => out.push_reserved(SOH),
-        Err(_) => out.truncate(start),
-    }
-    Ok(())
-}
-
 /// Appends the field of the decimal number that a text spells, if there is one.
 ///
 /// # Errors
@@ -95,7 +76,7 @@ pub fn put_decimal(out: &mut Vec<u8>, tag: u32, text: Option<&[u8]>) -> Result<(
 {
     match text {
         None => Ok(()),
-        Some(text) => put_spelled(out, tag, text),
+        Some(text) => put_dec(out, tag, text),
     }
 }
 
