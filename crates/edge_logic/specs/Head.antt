@@ -5,7 +5,7 @@ use Rattle.std.specs.List.{starts_with}
 
 -- what every journal has behind its first byte: the length of its birth record, and its name
 abbrev pub birth_head : List ℕ
-birth_head = 0 ∷ 0 ∷ 0 ∷ 155 ∷ codes "FIXGATEWAY1"
+birth_head = 0 ∷ 0 ∷ 0 ∷ 155 ∷ codes "FIXGATEWAY2"
 
 -- A file that begins so is a journal, or may be left of one that was being born: it has at most one
 -- byte, or begins with the byte of a gate, or the birth record stands behind that byte.

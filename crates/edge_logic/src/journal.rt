@@ -19,7 +19,7 @@ use std::{fmt, io};
 pub const HEAD: usize = 16;
 
 /// What every journal has behind its first byte: the length of its birth record, and its name.
-const BIRTH: &[u8] = b"\x00\x00\x00\x9bFIXGATEWAY1";
+const BIRTH: &[u8] = b"\x00\x00\x00\x9bFIXGATEWAY2";
 
 /// Whether a file that begins so may be a journal, or what a crash left of the birth of one. Such a
 /// birth writes byte 0 first, and byte 1 over it once the record behind it is stable; so a file of

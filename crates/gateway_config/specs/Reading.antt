@@ -15,6 +15,7 @@ use Rattle.gateway_config.specs.declared.config.ConfigKey.{ConfigKey}
 use Rattle.gateway_config.specs.declared.config.ConfigKey.TheVariants as key
 use Rattle.gateway_config.specs.declared.reading.TheConstants.{DEFAULT_HEART, DEFAULT_WINDOW}
 use Rattle.gateway_config.specs.declared.reading.TheConstants.{MAX_HEART, MAX_WINDOW}
+use Rattle.gateway_config.specs.declared.reading.TheConstants.{MAX_RESET}
 
 -- ---- what stands at a key of a table of the document
 
@@ -40,6 +41,13 @@ seconds_in default most (Some (integer (pos seconds))) =
     if nat_le seconds most then Some seconds else None
 seconds_in default most (Some other) = None
 
+-- a minute of the day, where one is said
+abbrev pub minute_in : Option Data → Option (Option ℕ)
+minute_in None = Some None
+minute_in (Some (integer (pos minute))) =
+    if nat_le minute MAX_RESET then Some (Some minute) else None
+minute_in (Some other) = None
+
 -- ---- the configuration
 
 abbrev pub client_our : Data → Option (List ℕ)
@@ -61,6 +69,9 @@ heart document =
 abbrev pub window : Data → Option ℕ
 window document =
     seconds_in DEFAULT_WINDOW MAX_WINDOW (value_of (codes "gate") (codes "window") document)
+
+abbrev pub reset : Data → Option (Option ℕ)
+reset document = minute_in (value_of (codes "gate") (codes "reset") document)
 
 -- ---- what else stands there
 
@@ -84,7 +95,7 @@ is_known document =
     && (is_table_of (codes "our" ∷ codes "peer" ∷ []) (get (codes "client") document)
     && (is_table_of (codes "our" ∷ codes "peer" ∷ codes "heart" ∷ [])
     (get (codes "venue") document)
-    && is_table_of (codes "window" ∷ []) (get (codes "gate") document)))
+    && is_table_of (codes "window" ∷ codes "reset" ∷ []) (get (codes "gate") document)))
 
 -- THE CONFIGURATION that a document says
 pub record Says (document : Data) (config : Config) : Type 0 where
@@ -94,6 +105,7 @@ pub record Says (document : Data) (config : Config) : Type 0 where
   pub venue_peer : venue_peer document ≡ Some config.names.venue_peer
   pub heart : heart document ≡ Some config.heart
   pub window : window document ≡ Some config.window
+  pub reset : reset document ≡ Some config.reset
   pub known : is_known document ≡ true
 
 -- ---- the first key that is wrong
@@ -107,12 +119,13 @@ is_wrong document key.VenueOur = is_none (venue_our document)
 is_wrong document key.VenuePeer = is_none (venue_peer document)
 is_wrong document key.VenueHeart = is_none (heart document)
 is_wrong document key.Window = is_none (window document)
+is_wrong document key.Reset = is_none (reset document)
 is_wrong document key.Unknown = not (is_known document)
 
 -- the keys in the order in which they are judged
 abbrev pub in_order : List ConfigKey
 in_order = key.ClientOur ∷ key.ClientPeer ∷ key.VenueOur ∷ key.VenuePeer
-    ∷ key.VenueHeart ∷ key.Window ∷ key.Unknown ∷ []
+    ∷ key.VenueHeart ∷ key.Window ∷ key.Reset ∷ key.Unknown ∷ []
 
 abbrev pub first_wrong : Data → List ConfigKey → Option ConfigKey
 first_wrong document [] = None

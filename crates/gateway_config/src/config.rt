@@ -12,6 +12,8 @@ pub struct Config {
     pub heart: u32,
     /// How far SendingTime(52) may be from the present moment, in seconds.
     pub window: u32,
+    /// The minute of the UTC day at which a session day begins; none where no day ends.
+    pub reset: Option<u32>,
 }
 
 /// What of a configuration is missing or wrong.
@@ -38,6 +40,9 @@ pub enum ConfigKey {
     /// `gate.window`, how far SendingTime(52) may be off.
     #[error("Window")]
     Window,
+    /// `gate.reset`, the minute of the UTC day at which a session day begins.
+    #[error("Reset")]
+    Reset,
     /// A table or a key that the configuration does not have.
     #[error("Unknown")]
     Unknown,

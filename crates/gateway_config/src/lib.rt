@@ -1,8 +1,9 @@
-//! The configuration of the gateway: a TOML text of four names and two numbers of seconds.
+//! The configuration of the gateway: a TOML text of four names, two numbers of seconds and a
+//! minute of the day.
 #![tactic(auto)]
 
 mod config;
 mod reading;
 
 pub use config::{Config, ConfigFault, ConfigKey};
-pub use reading::{DEFAULT_HEART, DEFAULT_WINDOW, MAX_HEART, MAX_WINDOW, read_config};
+pub use reading::{DEFAULT_HEART, DEFAULT_WINDOW, MAX_HEART, MAX_RESET, MAX_WINDOW, read_config};

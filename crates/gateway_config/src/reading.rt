@@ -6,6 +6,7 @@ ghost use Rattle.std.specs.List.{list_all, list_any};
 ghost use Rattle.std.specs.Str.{bytes_eq};
 ghost use Rattle.toml.specs.View.{table_view, view};
 ghost use Rattle.gateway_config.specs.Reading.{value_of, is_printable, is_name, name_in, seconds_in};
+ghost use Rattle.gateway_config.specs.Reading.{minute_in};
 ghost use Rattle.gateway_config.specs.Reading.{has_only, is_table_of, is_known, IsRead, Reads};
 
 use crate::{Config, ConfigFault, ConfigKey};
@@ -24,6 +25,9 @@ pub const DEFAULT_WINDOW: u32 = 120;
 
 /// The most seconds that SendingTime(52) may be off.
 pub const MAX_WINDOW: u32 = 86_400;
+
+/// The last minute of a day.
+pub const MAX_RESET: u32 = 1_439;
 
 // What stands at a key of a table of the document.
 fn value_of<'a>(document: &'a Value, table_name: &str, name: &str) -> Option<&'a Value>
@@ -82,6 +86,19 @@ fn seconds_at(
     }
 }
 
+// The minute of the day at a key, where one is said.
+fn minute_at(document: &Value, table_name: &str, name: &str) -> Option<Option<u32>>
+    ensures { result ≡ minute_in (value_of table_name.now name.now (view document.now)) }
+{
+    match value_of(document, table_name, name) {
+        None => Some(None),
+        Some(Value::Integer(minute)) if 0 <= *minute && *minute <= i64::from(MAX_RESET) => {
+            Some(Some(*minute as u32))
+        }
+        Some(_) => None,
+    }
+}
+
 // Whether a name is one of these.
 fn is_one_of(name: &str, known: &[&str]) -> bool
     ensures { result ≡ list_any (bytes_eq name.now) (map (λ key. key.now) known.now) }
@@ -123,7 +140,7 @@ fn is_known(document: &Value) -> bool
     is_table_of(Some(document), &["client", "venue", "gate"])
         && is_table_of(document.get("client"), &["our", "peer"])
         && is_table_of(document.get("venue"), &["our", "peer", "heart"])
-        && is_table_of(document.get("gate"), &["window"])
+        && is_table_of(document.get("gate"), &["window", "reset"])
 }
 
 // The configuration of a document, or its first wrong key.
@@ -143,6 +160,7 @@ fn config_of(document: &Value) -> Result<Config, ConfigKey>
     let window = seconds_at(document, "gate", "window", DEFAULT_WINDOW, MAX_WINDOW).ok_or(
         ConfigKey::Window,
     )?;
+    let reset = minute_at(document, "gate", "reset").ok_or(ConfigKey::Reset)?;
     if !is_known(document) {
         return Err(ConfigKey::Unknown);
     }
@@ -150,12 +168,15 @@ fn config_of(document: &Value) -> Result<Config, ConfigKey>
         names,
         heart,
         window,
+        reset,
     })
 }
 
 /// Reads a configuration, a TOML text: the names `client.our`, `client.peer`, `venue.our` and
 /// `venue.peer`, each of 1 to 35 bytes from 33 to 126, `venue.heart` of 0 to 3,600 seconds, 30
-/// where it is not said, and `gate.window` of 0 to 86,400 seconds, 120 where it is not said.
+/// where it is not said, `gate.window` of 0 to 86,400 seconds, 120 where it is not said, and
+/// `gate.reset`, the minute of the UTC day from 0 to 1,439 at which a session day begins, none
+/// where it is not said.
 ///
 /// # Errors
 ///

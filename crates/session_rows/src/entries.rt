@@ -100,7 +100,7 @@ pub(crate) fn put_entry(alloc: Global, image: &mut Vec<u8>, text: &str) -> Resul
 
 /// Appends the record with the names.
 pub(crate) fn put_birth(alloc: Global, image: &mut Vec<u8>) -> Result<(), AllocError> {
-    let mut birth = Vec::from_slice(alloc, b"FIXGATEWAY1")?;
+    let mut birth = Vec::from_slice(alloc, b"FIXGATEWAY2")?;
     for name in &NAMES {
         birth.push(4)?;
         birth.extend_from_slice(name)?;

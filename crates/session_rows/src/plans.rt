@@ -25,6 +25,7 @@ fn config() -> Option<Config> {
         names: names()?,
         heart: 30,
         window: 120,
+        reset: None,
     })
 }
 
