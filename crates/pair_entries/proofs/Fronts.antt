@@ -1,5 +1,6 @@
 -- What stands in front of some bytes is told by them.
-use Rattle.std.proofs.Common.{◌≡◌, ℕ, ◌*◌, ◌^◌, ◌<◌, ◌≤◌, List, [], ◌∷◌, ◌++◌, length, take}
+use Rattle.std.proofs.Common.{◌≡◌, ℕ, ◌*◌, ◌^◌, ◌<◌, ◌≤◌, Bool, true, false, List, [], ◌∷◌, ◌++◌}
+use Rattle.std.proofs.Common.{length, take}
 use Rattle.std.proofs.Common.{drop, refl, sym, ◌∙◌, ap, subst, arith, append_assoc, length-append}
 use Rattle.std.proofs.Common.{Some, None, IfSome, MatchOption}
 use Rattle.std.specs.Int.{w32, w64, to_be_bytes, from_be_bytes}
@@ -14,6 +15,7 @@ use Rattle.pair_entries.specs.declared.entry.Took.{Took}
 use Rattle.pair_entries.specs.declared.entry.Out.{Out}
 use Rattle.pair_entries.specs.declared.entry.Entry.{Entry}
 use Rattle.pair_entries.specs.Payload.{counted, side_byte, out_bytes, took_bytes, next_bytes, Next}
+use Rattle.pair_entries.specs.Payload.{taken_bytes}
 use Rattle.pair_entries.specs.Payload.{IsOut, AreOuts, IsTook, AreNext, IsEntry, entry_bytes}
 
 pub same_front_64 : (m n : ℕ) (a b : List ℕ)
@@ -137,6 +139,30 @@ behind_took (Some s) (Some t) a b hs ht is =
     (counted s.raw ++ a) (counted t.raw ++ b) (to_be_bytes w32 s.number ++ (counted s.raw ++ a))
     (omega (arith, hs.below)) (omega (arith, ht.below)) refl bodies)
 
+-- a message that was taken is no new day
+no_reset : (took : Option Took) (a b : List ℕ) → 3 ∷ a ≡ took_bytes took ++ b → ⊥
+no_reset None a b is = absurd (cc is)
+no_reset (Some took) a b is =
+    let side : 3 ≡ side_byte took.side = cc is in absurd (third_side took.side side)
+  where
+    third_side : (s : Side) → 3 ≡ side_byte s → ⊥
+    third_side Client is = absurd (cc is)
+    third_side Venue is = absurd (cc is)
+
+pub same_reset : (q r : Bool) (s t : Option Took) (a b : List ℕ)
+    → taken_bytes q s ++ a ≡ taken_bytes r t ++ b → q ≡ r
+same_reset true true s t a b is = refl
+same_reset false false s t a b is = refl
+same_reset true false s t a b is = absurd (no_reset t a b is)
+same_reset false true s t a b is = absurd (no_reset s b a (sym is))
+
+pub behind_taken : (q r : Bool) (s t : Option Took) (a b : List ℕ) → IfSome s IsTook
+    → IfSome t IsTook → taken_bytes q s ++ a ≡ taken_bytes r t ++ b → a ≡ b
+behind_taken true true s t a b hs ht is = ap (drop 1) is
+behind_taken false false s t a b hs ht is = behind_took s t a b hs ht is
+behind_taken true false s t a b hs ht is = absurd (no_reset t a b is)
+behind_taken false true s t a b hs ht is = absurd (no_reset s b a (sym is))
+
 pub behind_next : (m n : Next) (a b : List ℕ)
     → AreNext m → AreNext n → next_bytes m ++ a ≡ next_bytes n ++ b → a ≡ b
 behind_next m n a b hm hn is =
@@ -173,9 +199,10 @@ push_read (d ∷ outs) out after =
     ∙ sym (append_assoc (out_bytes d) (flat_map out_bytes (outs ++ out ∷ [])) after)
 
 -- the parts of an entry's payload, in the order in which they are read
-pub entry_split : (entry : Entry) → entry_bytes entry ≡ to_be_bytes w64 entry.at ++ (took_bytes
-    entry.took ++ (next_bytes entry.next ++ (length entry.outs ∷ flat_map out_bytes entry.outs)))
-entry_split entry = regroup (to_be_bytes w64 entry.at) (took_bytes entry.took)
+pub entry_split : (entry : Entry) → entry_bytes entry ≡ to_be_bytes w64 entry.at
+    ++ (taken_bytes entry.reset entry.took
+    ++ (next_bytes entry.next ++ (length entry.outs ∷ flat_map out_bytes entry.outs)))
+entry_split entry = regroup (to_be_bytes w64 entry.at) (taken_bytes entry.reset entry.took)
     (next_bytes entry.next) (length entry.outs ∷ flat_map out_bytes entry.outs)
   where
     regroup : (a b c d : List ℕ) → a ++ b ++ c ++ d ≡ a ++ (b ++ (c ++ d))
@@ -183,10 +210,11 @@ entry_split entry = regroup (to_be_bytes w64 entry.at) (took_bytes entry.took)
 
 -- what is behind the moment of an entry, and behind what was taken, and behind the next numbers
 pub behind_at : (entry : Entry) (at : ℕ) (rest bytes : List ℕ) → IsEntry entry → at < 2 ^ 64
-    → bytes ≡ to_be_bytes w64 at ++ rest → bytes ≡ entry_bytes entry → rest ≡ took_bytes entry.took
+    → bytes ≡ to_be_bytes w64 at ++ rest → bytes ≡ entry_bytes entry
+    → rest ≡ taken_bytes entry.reset entry.took
     ++ (next_bytes entry.next ++ (length entry.outs ∷ flat_map out_bytes entry.outs))
 behind_at entry at rest bytes is_entry small is other =
-    (same_front_64 at entry.at rest (took_bytes entry.took
+    (same_front_64 at entry.at rest (taken_bytes entry.reset entry.took
     ++ (next_bytes entry.next ++ (length entry.outs ∷ flat_map out_bytes entry.outs)))
     small (omega (arith, is_entry.at)) (sym is ∙ other ∙ entry_split entry)).1
 
@@ -211,14 +239,19 @@ took_short : (took : Option Took) → IfSome took IsTook → length (took_bytes 
 took_short None is = omega arith
 took_short (Some took) is = omega (arith, is.short)
 
-pub entry_short : (entry : Entry) → IsEntry entry → length (entry_bytes entry) ≤ 65536
+taken_short : (reset : Bool) (took : Option Took) → IfSome took IsTook
+    → length (taken_bytes reset took) ≤ 9000
+taken_short true took is = omega arith
+taken_short false took is = took_short took is
+
+pub entry_short : (entry : Entry) → IsEntry entry → length (entry_bytes entry) ≤ 65532
 entry_short entry is =
     omega (
       arith,
       ap length (entry_split entry),
-      length-append (took_bytes entry.took)
+      length-append (taken_bytes entry.reset entry.took)
           (next_bytes entry.next ++ (length entry.outs ∷ flat_map out_bytes entry.outs)),
-      took_short entry.took is.took,
+      taken_short entry.reset entry.took is.took,
       outs_short entry.outs is.outs,
       is.few,
     )

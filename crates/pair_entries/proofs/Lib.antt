@@ -1,4 +1,5 @@
 pub mod Worked
 pub mod Fronts
 pub mod Names
+pub mod Ones
 pub mod Same

@@ -16,12 +16,13 @@ use Rattle.pair_entries.specs.declared.entry.Out.{Out}
 use Rattle.pair_entries.specs.declared.entry.Entry.{Entry}
 use Rattle.pair_entries.specs.Payload.{counted, side_byte, flags_byte, out_bytes, took_bytes}
 use Rattle.pair_entries.specs.Payload.{next_bytes, entry_bytes, Next, IsOut, AreOuts, IsTook}
-use Rattle.pair_entries.specs.Payload.{AreNext, IsEntry}
+use Rattle.pair_entries.specs.Payload.{taken_bytes, AreNext, IsEntry}
 use Rattle.pair_entries.specs.Parts.{took_said, front_bytes, IsFront}
 use Rattle.pair_entries.specs.declared.reading.Front.{Front}
+use Rattle.pair_entries.specs.declared.reading.TookRef.{TookRef}
 use Rattle.std.specs.Option.{option_map}
-use Rattle.pair_entries.proofs.Fronts.{same_front_64, same_counted, entry_split, behind_took}
-use Rattle.pair_entries.proofs.Fronts.{behind_next}
+use Rattle.pair_entries.proofs.Fronts.{same_front_64, same_counted, entry_split, behind_taken}
+use Rattle.pair_entries.proofs.Fronts.{same_reset, behind_next}
 
 same_side : (s t : Side) → side_byte s ≡ side_byte t → s ≡ t
 same_side Client Client is = refl
@@ -156,34 +157,49 @@ same_next m n a b hm hn is =
 
 -- ---- entries
 
-entry_join : (a a' : ℕ) (t t' : Option Took) (n n' : Next) (o o' : List Out) → a ≡ a'
-    → t ≡ t' → n ≡ n' → o ≡ o' → ◌≡◌ {A = Entry} (record { at = a; took = t; next = n; outs = o })
-    (record { at = a'; took = t'; next = n'; outs = o' })
-entry_join a a' t t' n n' o o' ha ht hn ho = cc
+entry_join : (a a' : ℕ) (r r' : Bool) (t t' : Option Took) (n n' : Next) (o o' : List Out) → a ≡ a'
+    → r ≡ r' → t ≡ t' → n ≡ n' → o ≡ o' → ◌≡◌ {A = Entry}
+    (record { at = a; reset = r; took = t; next = n; outs = o })
+    (record { at = a'; reset = r'; took = t'; next = n'; outs = o' })
+entry_join a a' r r' t t' n n' o o' ha hr ht hn ho = cc
+
+-- of a new day nothing was taken
+same_taken : (q r : Bool) (s t : Option Took) (a b : List ℕ) → IfSome s IsTook → IfSome t IsTook
+    → (q ≡ true → s ≡ None) → (r ≡ true → t ≡ None) → taken_bytes q s ++ a ≡ taken_bytes r t ++ b
+    → s ≡ t
+same_taken true true s t a b hs ht x y is = x refl ∙ sym (y refl)
+same_taken false false s t a b hs ht x y is = same_took s t a b hs ht is
+same_taken true false s t a b hs ht x y is = absurd (cc (same_reset true false s t a b is))
+same_taken false true s t a b hs ht x y is = absurd (cc (same_reset false true s t a b is))
 
 pub same_entry : (d e : Entry) → IsEntry d → IsEntry e → entry_bytes d ≡ entry_bytes e → d ≡ e
 same_entry d e hd he is =
     let whole = sym (entry_split d) ∙ is ∙ entry_split e in
     let ends_d : List ℕ = length d.outs ∷ flat_map out_bytes d.outs in
     let ends_e : List ℕ = length e.outs ∷ flat_map out_bytes e.outs in
-    let at = same_front_64 d.at e.at (took_bytes d.took ++ (next_bytes d.next ++ ends_d))
-    (took_bytes e.took ++ (next_bytes e.next ++ ends_e))
+    let at = same_front_64 d.at e.at (taken_bytes d.reset d.took ++ (next_bytes d.next ++ ends_d))
+    (taken_bytes e.reset e.took ++ (next_bytes e.next ++ ends_e))
     (omega (arith, hd.at)) (omega (arith, he.at)) whole in
-    let took = same_took d.took
-    e.took (next_bytes d.next ++ ends_d) (next_bytes e.next ++ ends_e) hd.took he.took at.1 in
-    let rest = behind_took d.took
-    e.took (next_bytes d.next ++ ends_d) (next_bytes e.next ++ ends_e) hd.took he.took at.1 in
+    let reset = same_reset d.reset e.reset d.took e.took (next_bytes d.next ++ ends_d)
+    (next_bytes e.next ++ ends_e) at.1 in
+    let took = same_taken d.reset e.reset d.took e.took (next_bytes d.next ++ ends_d)
+    (next_bytes e.next ++ ends_e) hd.took he.took (λ r. (hd.reset r).took) (λ r. (he.reset r).took)
+    at.1 in
+    let rest = behind_taken d.reset e.reset d.took e.took (next_bytes d.next ++ ends_d)
+    (next_bytes e.next ++ ends_e) hd.took he.took at.1 in
     let next = same_next d.next e.next ends_d ends_e hd.next he.next rest in
     let ends = behind_next d.next e.next ends_d ends_e hd.next he.next rest in
     let size : length d.outs ≡ length e.outs = cc ends in
     let outs = same_outs d.outs e.outs hd.outs he.outs size (ap (drop 1) ends) in
-    entry_join d.at e.at d.took e.took d.next e.next d.outs e.outs at.0 took next outs
+    entry_join d.at e.at d.reset e.reset d.took e.took d.next e.next d.outs e.outs at.0 reset took next
+    outs
 
 -- ---- an entry before its outs
 
 -- what such a front says is what its entry says
 pub record SaysOf (front : Front) (entry : Entry) : Type 0 where
   pub at : front.at ≡ entry.at
+  pub reset : front.reset ≡ entry.reset
   pub next : front.next ≡ entry.next
   pub outs : front.outs.now ≡ length entry.outs ∷ flat_map out_bytes entry.outs
 
@@ -192,39 +208,54 @@ pub front_is : (front : Front) (entry : Entry) → IsFront front → IsEntry ent
 front_is front entry hf he is =
     let ends : List ℕ = length entry.outs ∷ flat_map out_bytes entry.outs in
     let said : Option Took = option_map took_said front.took in
-    let at = same_front_64 front.at entry.at (took_bytes said ++ (next_bytes front.next
-    ++ front.outs.now)) (took_bytes entry.took ++ (next_bytes entry.next ++ ends))
+    let at = same_front_64 front.at entry.at (taken_bytes front.reset said
+    ++ (next_bytes front.next ++ front.outs.now))
+    (taken_bytes entry.reset entry.took ++ (next_bytes entry.next ++ ends))
     (omega (arith, hf.at)) (omega (arith, he.at)) (is ∙ entry_split entry) in
-    let rest = behind_took said entry.took (next_bytes front.next ++ front.outs.now)
-    (next_bytes entry.next ++ ends) hf.took he.took at.1 in
+    let rest = behind_taken front.reset entry.reset said entry.took
+    (next_bytes front.next ++ front.outs.now) (next_bytes entry.next ++ ends) hf.took he.took at.1 in
     record {
       at = at.0;
+      reset = same_reset front.reset entry.reset said entry.took
+          (next_bytes front.next ++ front.outs.now) (next_bytes entry.next ++ ends) at.1;
       next = same_next front.next entry.next front.outs.now ends hf.next he.next rest;
       outs = behind_next front.next entry.next front.outs.now ends hf.next he.next rest;
     }
 
--- a front, and the outs that stand behind it, are an entry
+-- a front, and the outs that stand behind it, are an entry; of a new day there are none
+abbrev entry_in : Front → Option Took → List Out → Entry
+entry_in front took outs = record {
+  at = front.at;
+  reset = front.reset;
+  took = took;
+  next = front.next;
+  outs = outs;
+}
+
+nothing_said : (took : Option TookRef) → took ≡ None → option_map took_said took ≡ None
+nothing_said took is = ap (option_map took_said) is
+
 pub entry_of_front : (front : Front) (outs : List Out) (bytes : List ℕ) → IsFront front
     → front.outs.now ≡ length outs ∷ flat_map out_bytes outs → AreOuts outs → length outs ≤ 4
+    → (front.reset ≡ true → outs ≡ [])
     → (took : Option Took) → took ≡ option_map took_said front.took → bytes ≡ front_bytes front
-    → (bytes ≡ entry_bytes (record { at = front.at; took = took; next = front.next; outs = outs }))
-    × IsEntry (record { at = front.at; took = took; next = front.next; outs = outs })
-entry_of_front front outs bytes hf behind are few took copied is =
-    let entry : Entry = record {
-      at = front.at;
-      took = took;
-      next = front.next;
-      outs = outs;
-    } in (
-      is ∙ ap (λ (t : Option Took). to_be_bytes w64 front.at
-          ++ (took_bytes t ++ (next_bytes front.next ++ front.outs.now))) (sym copied)
-          ∙ ap (λ (l : List ℕ). to_be_bytes w64 front.at
-          ++ (took_bytes took ++ (next_bytes front.next ++ l))) behind ∙ sym (entry_split entry),
-      record {
-        at = hf.at;
-        took = subst (λ (t : Option Took). IfSome t IsTook) (sym copied) hf.took;
-        next = hf.next;
-        few = few;
-        outs = are;
-      },
-    )
+    → (bytes ≡ entry_bytes (entry_in front took outs)) × IsEntry (entry_in front took outs)
+entry_of_front front outs bytes hf behind are few none took copied is = (
+  is ∙ ap (λ (t : Option Took). to_be_bytes w64 front.at
+      ++ (taken_bytes front.reset t ++ (next_bytes front.next ++ front.outs.now))) (sym copied)
+      ∙ ap (λ (l : List ℕ). to_be_bytes w64 front.at
+      ++ (taken_bytes front.reset took ++ (next_bytes front.next ++ l))) behind
+      ∙ sym (entry_split (entry_in front took outs)),
+  record {
+    at = hf.at;
+    reset = λ new. record {
+      took = copied ∙ nothing_said front.took (hf.reset new).0;
+      next = (hf.reset new).1;
+      outs = none new;
+    };
+    took = subst (λ (t : Option Took). IfSome t IsTook) (sym copied) hf.took;
+    next = hf.next;
+    few = few;
+    outs = are;
+  },
+)

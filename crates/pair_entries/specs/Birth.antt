@@ -10,7 +10,7 @@ name_bytes name = length name ∷ name ++ replicate (35 - length name) 0
 
 -- the mark of the format
 abbrev pub mark : List ℕ
-mark = codes "FIXGATEWAY1"
+mark = codes "FIXGATEWAY2"
 
 abbrev pub birth_bytes : Names → List ℕ
 birth_bytes names = mark ++ name_bytes names.client_our ++ name_bytes names.client_peer ++

@@ -1,12 +1,12 @@
 -- Inside: the parts of a payload where they stand: the head of an out, an out, what was taken, and an
 -- entry before its outs.
-use Rattle.std.specs.Prelude.{ℕ, ◌≤◌, List, [], ◌∷◌, ◌++◌, IfSome}
+use Rattle.std.specs.Prelude.{◌≡◌, ℕ, ◌≤◌, true, None, List, [], ◌∷◌, ◌++◌, IfSome}
 use Rattle.std.specs.Int.{w32, w64, to_be_bytes}
 use Rattle.std.specs.Option.{option_map}
 use Rattle.pair_entries.specs.declared.TheConstants.{MAX_AT}
 use Rattle.pair_entries.specs.declared.entry.Took.{Took}
 use Rattle.pair_entries.specs.declared.entry.Out.{Out}
-use Rattle.pair_entries.specs.Payload.{side_byte, flags_byte, took_bytes, next_bytes, IsTook}
+use Rattle.pair_entries.specs.Payload.{side_byte, flags_byte, taken_bytes, next_bytes, IsTook}
 use Rattle.pair_entries.specs.Payload.{AreNext}
 use Rattle.pair_entries.specs.declared.reading.Head.{Head}
 use Rattle.pair_entries.specs.declared.reading.TookRef.{TookRef}
@@ -31,11 +31,12 @@ out_said out = record {
 }
 
 abbrev pub front_bytes : Front → List ℕ
-front_bytes front = to_be_bytes w64 front.at ++ (took_bytes (option_map took_said front.took)
+front_bytes front = to_be_bytes w64 front.at ++ (taken_bytes front.reset (option_map took_said front.took)
     ++ (next_bytes front.next ++ front.outs.now))
 
 -- the bounds of an entry before its outs
 pub record IsFront (front : Front) : Type 0 where
   pub at : front.at ≤ MAX_AT
   pub took : IfSome (option_map took_said front.took) IsTook
+  pub reset : front.reset ≡ true → (front.took ≡ None) × (front.next ≡ (1, 1, 1, 1))
   pub next : AreNext front.next

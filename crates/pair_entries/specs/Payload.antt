@@ -1,6 +1,6 @@
 -- Own: the payload of an entry as bytes, numbers with the highest byte first; docs/DEFINITIONS.md,
 -- "Disk and journal".
-use Rattle.std.specs.Prelude.{ℕ, ◌+◌, ◌≤◌, Bool, List, [], ◌∷◌, ◌++◌, length}
+use Rattle.std.specs.Prelude.{◌≡◌, ℕ, ◌+◌, ◌≤◌, Bool, true, false, List, [], ◌∷◌, ◌++◌, length}
 use Rattle.std.specs.Prelude.{Some, None}
 use Rattle.std.specs.Prelude.{if◌then◌else◌, IfSome}
 use Rattle.std.specs.List.{flat_map}
@@ -34,6 +34,11 @@ abbrev pub took_bytes : Option Took → List ℕ
 took_bytes None = 0 ∷ []
 took_bytes (Some took) = side_byte took.side ∷ to_be_bytes w32 took.number ++ counted took.raw
 
+-- a new day, or what was taken
+abbrev pub taken_bytes : Bool → Option Took → List ℕ
+taken_bytes true took = 3 ∷ []
+taken_bytes false took = took_bytes took
+
 abbrev pub next_bytes : Next → List ℕ
 next_bytes next =
     to_be_bytes w32 next.0
@@ -44,8 +49,13 @@ out_bytes out = side_byte out.side ∷ to_be_bytes w32 out.number ++ flags_byte 
     length out.msg_type ∷ out.msg_type ++ counted out.content
 
 abbrev pub entry_bytes : Entry → List ℕ
-entry_bytes entry = to_be_bytes w64 entry.at ++ took_bytes entry.took ++ next_bytes entry.next ++
+entry_bytes entry =
+    to_be_bytes w64 entry.at ++ taken_bytes entry.reset entry.took ++ next_bytes entry.next ++
     length entry.outs ∷ flat_map out_bytes entry.outs
+
+-- THE PAYLOAD of an entry on a day
+abbrev pub payload_on : (day : ℕ) → Entry → List ℕ
+payload_on day entry = to_be_bytes w32 day ++ entry_bytes entry
 
 -- the bounds of an entry
 pub record IsTook (took : Took) : Type 0 where
@@ -69,8 +79,15 @@ IsNextNumber next = (1 ≤ next) × (next ≤ MAX_NEXT)
 abbrev pub AreNext : Next → Type 0
 AreNext next = IsNextNumber next.0 × IsNextNumber next.1 × IsNextNumber next.2 × IsNextNumber next.3
 
+-- an entry with which a day begins takes nothing and gives nothing out, and both sides count from 1
+pub record IsReset (entry : Entry) : Type 0 where
+  pub took : entry.took ≡ None
+  pub next : entry.next ≡ (1, 1, 1, 1)
+  pub outs : entry.outs ≡ []
+
 pub record IsEntry (entry : Entry) : Type 0 where
   pub at : entry.at ≤ MAX_AT
+  pub reset : entry.reset ≡ true → IsReset entry
   pub took : IfSome entry.took IsTook
   pub next : AreNext entry.next
   pub few : length entry.outs ≤ MAX_OUTS

@@ -9,7 +9,7 @@ use order_meaning::{MAX_NAME, Name, Names};
 use std::alloc::{AllocError, Global};
 
 /// What a birth record begins with.
-const MARK: &[u8] = b"FIXGATEWAY1";
+const MARK: &[u8] = b"FIXGATEWAY2";
 
 /// Appends a name, with zeros up to 35 bytes.
 fn put_name(out: &mut Vec<u8>, name: &Name) -> Result<(), AllocError>

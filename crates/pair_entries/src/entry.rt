@@ -139,6 +139,9 @@ pub struct Entry {
     /// When it was, in milliseconds since 1970-01-01 00:00 UTC; the first moment of what was given
     /// out.
     pub at: u64,
+    /// Whether a session day begins with it: then nothing was taken and nothing given out, and each
+    /// next number is 1.
+    pub reset: bool,
     /// The message that was taken, if one was.
     pub took: Option<Took>,
     /// The next numbers after it: client in, client out, venue in, venue out, each from 1 to
@@ -163,6 +166,7 @@ impl Entry {
         let outs = self.outs.duplicate()?;
         Ok(Entry {
             at: self.at,
+            reset: self.reset,
             took,
             next: self.next,
             outs,

@@ -15,7 +15,7 @@ mod writing;
 
 pub use birth::{are_names, read_birth, same_names, write_birth};
 pub use entry::{Entry, Out, Outs, Took};
-pub use prepared::{Prepared, prepare};
+pub use prepared::{Dated, Prepared, prepare};
 pub use reading::{Front, OutRef, front_of, out_ref, read_entry, u8_front};
 
 /// The latest moment of an entry, in milliseconds since 1970-01-01 00:00 UTC: the end of 2099.

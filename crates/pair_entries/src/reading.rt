@@ -1,6 +1,7 @@
 //! The bytes of a payload as what they say; none exactly where they are of no right form.
 
-ghost use Rattle.std.specs.Prelude.{◌≡◌, ◌≤◌, ◌<◌, ◌^◌, [], ◌∷◌, ◌++◌, ℕ, List, Bool, length};
+ghost use Rattle.std.specs.Prelude.{◌≡◌, ◌≤◌, ◌<◌, ◌^◌, [], ◌∷◌, ◌++◌, ℕ, List, Bool, true, None};
+ghost use Rattle.std.specs.Prelude.{length};
 ghost use Rattle.std.specs.Prelude.{IfSome, IfOk};
 ghost use Rattle.std.specs.Prelude.{MatchOption};
 ghost use Rattle.std.specs.declared.option.Option.{Option};
@@ -16,7 +17,8 @@ ghost use Rattle.pair_entries.specs.Payload.{side_byte, flags_byte, counted};
 ghost use Rattle.pair_entries.specs.declared.reading.Head.{Head};
 ghost use Rattle.pair_entries.specs.Parts.{head_bytes, took_said, out_said, front_bytes, IsFront};
 ghost use Rattle.std.specs.Option.{option_map};
-ghost use Rattle.pair_entries.specs.Payload.{took_bytes, next_bytes, out_bytes, entry_bytes};
+ghost use Rattle.pair_entries.specs.Payload.{took_bytes, taken_bytes, next_bytes, out_bytes};
+ghost use Rattle.pair_entries.specs.Payload.{entry_bytes};
 
 use crate::{
     Entry, MAX_AT, MAX_CONTENT, MAX_NEXT, MAX_NUMBER, MAX_OUTS, MAX_RAW, MAX_TYPE, Out, Outs, Took,
@@ -143,6 +145,23 @@ fn took_front(bytes: &[u8]) -> Option<(Option<TookRef<'_>>, &[u8])>
     let side = side_of(*first)?;
     let (number, raw, rest) = message_front(rest)?;
     Some((Some(TookRef { side, number, raw }), rest))
+}
+
+/// A new day, or what was taken, in front, and what is behind it.
+fn taken_front(bytes: &[u8]) -> Option<(bool, Option<TookRef<'_>>, &[u8])>
+    ensures { MatchOption result
+        ((reset : Bool) (took : Option Took) (rest : List ℕ) → IfSome took IsTook →
+        bytes.now ≡ taken_bytes reset took ++ rest → ⊥)
+        (λ x. (bytes.now ≡ taken_bytes x.0 (option_map took_said x.1) ++ x.2.now) ×
+        IfSome (option_map took_said x.1) IsTook × (x.0 ≡ true → x.1 ≡ None)) }
+{
+    match bytes {
+        [3, rest @ ..] => Some((true, None, rest)),
+        _ => {
+            let (took, rest) = took_front(bytes)?;
+            Some((false, took, rest))
+        }
+    }
 }
 
 /// What was taken, copied.
@@ -362,6 +381,8 @@ fn outs_front(alloc: Global, count: u8, bytes: &[u8]) -> Result<Option<(Outs, &[
 pub struct Front<'b> {
     /// When it was, in milliseconds since 1970-01-01 00:00 UTC.
     pub at: u64,
+    /// Whether a session day begins with it.
+    pub reset: bool,
     took: Option<TookRef<'b>>,
     /// The next numbers after it: client in, client out, venue in, venue out.
     pub next: (u32, u32, u32, u32),
@@ -378,17 +399,18 @@ pub fn front_of(bytes: &[u8]) -> Option<Front<'_>>
     let Some((at, rest)) = u64_front(bytes) else {
         return None;
     };
-    let Some((took, rest)) = took_front(rest) else {
+    let Some((reset, took, rest)) = taken_front(rest) else {
         return None;
     };
     let Some((next, outs)) = nexts_front(rest) else {
         return None;
     };
-    if at > MAX_AT {
+    if at > MAX_AT || (reset && next != (1, 1, 1, 1)) {
         return None;
     }
     Some(Front {
         at,
+        reset,
         took,
         next,
         outs,
@@ -407,8 +429,12 @@ pub fn read_entry(alloc: Global, bytes: &[u8]) -> Result<Option<Entry>, AllocErr
     let Some(outs) = all_outs(alloc, front.outs)? else {
         return Ok(None);
     };
+    if front.reset && !outs.as_slice().is_empty() {
+        return Ok(None);
+    }
     Ok(Some(Entry {
         at: front.at,
+        reset: front.reset,
         took: took_copied(alloc, front.took)?,
         next: front.next,
         outs,

@@ -2,8 +2,8 @@
 
 ghost use Rattle.std.specs.Prelude.{◌≡◌, ◌<◌, ◌^◌, ◌++◌, length, IfSome, IfOk, OnOk};
 ghost use Rattle.pair_entries.specs.Payload.{IsEntry, IsOut, AreOuts, side_byte, flags_byte};
-ghost use Rattle.pair_entries.specs.Payload.{counted};
-ghost use Rattle.pair_entries.specs.Payload.{took_bytes, next_bytes, out_bytes, entry_bytes};
+ghost use Rattle.pair_entries.specs.Payload.{counted, payload_on};
+ghost use Rattle.pair_entries.specs.Payload.{took_bytes, taken_bytes, next_bytes, out_bytes};
 ghost use Rattle.std.specs.Int.{w32, to_be_bytes};
 ghost use Rattle.std.specs.List.{flat_map};
 
@@ -54,6 +54,18 @@ fn put_took(out: &mut Vec<u8>, took: &Option<Took>) -> Result<(), AllocError>
     Ok(())
 }
 
+/// Appends a new day, or what was taken.
+fn put_taken(out: &mut Vec<u8>, reset: bool, took: &Option<Took>) -> Result<(), AllocError>
+    requires { IfSome took.now (λ t. length t.raw < 2 ^ 32) }
+    ensures { OnOk result (out.new.items ≡ out.old.items ++ taken_bytes reset took.now) }
+{
+    if reset {
+        out.push(3)?;
+        return Ok(());
+    }
+    put_took(out, took)
+}
+
 /// Appends a number of four bytes.
 fn put_u32(out: &mut Vec<u8>, number: u32) -> Result<(), AllocError>
     ensures { OnOk result (out.new.items ≡ out.old.items ++ to_be_bytes w32 number) }
@@ -97,14 +109,15 @@ fn put_outs(bytes: &mut Vec<u8>, outs: &[Out]) -> Result<(), AllocError>
     Ok(())
 }
 
-/// The payload of an entry.
-pub(crate) fn write_entry(alloc: Global, entry: &Entry) -> Result<Vec<u8>, AllocError>
+/// The payload of an entry on this day.
+pub(crate) fn write_entry(alloc: Global, day: u32, entry: &Entry) -> Result<Vec<u8>, AllocError>
     requires { IsEntry entry.now }
-    ensures { IfOk result (λ v. v.items ≡ entry_bytes entry.now) }
+    ensures { IfOk result (λ v. v.items ≡ payload_on day entry.now) }
 {
     let mut out = Vec::new(alloc);
+    put_u32(&mut out, day)?;
     out.extend_from_slice(&entry.at.to_be_bytes())?;
-    put_took(&mut out, &entry.took)?;
+    put_taken(&mut out, entry.reset, &entry.took)?;
     put_next(&mut out, entry.next)?;
     out.push(entry.outs.as_slice().len() as u8)?;
     put_outs(&mut out, entry.outs.as_slice())?;

@@ -1,6 +1,6 @@
 use Rattle.std.proofs.Common.{length, ap, arith}
 use Rattle.pair_entries.proofs.Fronts.{entry_short, entry_some}
-use Rattle.pair_entries.proofs.prepared.Prepared.payload.Goals as goal
+use Rattle.pair_entries.proofs.prepared.Dated.payload.Goals as goal
 
 pub returns-clause-short : goal.returns-clause-short
 returns-clause-short c = omega (
