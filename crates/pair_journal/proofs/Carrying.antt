@@ -5,7 +5,6 @@ use Rattle.std.proofs.Common.{length-append, Some, None, is_some, IfSome}
 use Rattle.std.specs.List.{slice_get}
 use Rattle.std.specs.Option.{ForSome}
 use Rattle.std.specs.declared.option.Option.{Option}
-use Rattle.std.proofs.lemmas.List.{map-append}
 use Rattle.outside.specs.declared.disk.TheConstants.{MAX_DISK}
 use Rattle.outside.specs.Disk.{Only}
 use Rattle.order_meaning.specs.declared.names.Names.{Names}
@@ -16,47 +15,44 @@ use Rattle.gate_log.specs.State.{LogState}
 use Rattle.gate_log.proofs.Blocks.{length-blocks-push}
 use Rattle.gate_log.proofs.Told.{if_some, at_some}
 use Rattle.pair_entries.specs.declared.entry.Entry.{Entry}
-use Rattle.pair_entries.specs.Payload.{Next, IsEntry, entry_bytes}
+use Rattle.pair_entries.specs.Payload.{Next, IsEntry, payload_on}
+use Rattle.pair_entries.specs.Prepared.{OnDay}
 use Rattle.pair_entries.specs.Birth.{birth_bytes}
-use Rattle.pair_journal.specs.Numbers.{GoesOn, first_numbers, numbers_after}
-use Rattle.pair_journal.specs.Journal.{AreEntries, Spells, JournalOf, Born}
+use Rattle.pair_journal.specs.Numbers.{GoesOn, first_numbers, numbers_before, numbers_after}
+use Rattle.pair_journal.specs.Days.{last_day, day_after, day_number, payload_behind}
+use Rattle.pair_journal.specs.Journal.{DaysGoOn, Spells, JournalOf, Born}
 use Rattle.pair_journal.specs.State.{JournalState}
 use Rattle.pair_journal.specs.Calls.{payloads_of, KeepsJournal}
 use Rattle.pair_journal.specs.Loading.{HasExtent}
-
-pub AreEntries-push : (before : Next) (entries : List Entry) (entry : Entry)
-    → AreEntries before entries → IsEntry entry
-    → GoesOn (numbers_after before entries) entry → AreEntries before (entries ++ entry ∷ [])
-AreEntries-push before [] entry are is on = (is, on, tt)
-AreEntries-push before (e ∷ es) entry are is on =
-    (are.0, are.1, AreEntries-push e.next es entry are.2 is on)
-
-pub numbers_after-push : (before : Next) (entries : List Entry) (entry : Entry)
-    → numbers_after before (entries ++ entry ∷ []) ≡ entry.next
-numbers_after-push before [] entry = refl
-numbers_after-push before (e ∷ es) entry = numbers_after-push e.next es entry
+use Rattle.pair_journal.proofs.Dating.{dated-push, length-dated, DaysGoOn-push, last_numbers}
 
 pub payloads-push : (names : Names) (entries : List Entry) (entry : Entry) → payloads_of
-    names entries ++ entry_bytes entry ∷ [] ≡ payloads_of names (entries ++ entry ∷ [])
-payloads-push names entries entry = ap (λ (l : List (List ℕ)). birth_bytes names ∷ l)
-    (sym (map-append entry_bytes entries (entry ∷ [])))
+    names entries ++ payload_behind entries entry ∷ [] ≡ payloads_of names (entries ++ entry ∷ [])
+payloads-push names entries entry =
+    ap (λ (l : List (List ℕ)). birth_bytes names ∷ l) (sym (dated-push entries entry))
+
+-- the payload of an entry that was dated
+pub dated_behind : (entries : List Entry) (entry said : Entry) (before day : ℕ) (dated : OnDay)
+    (payload : List ℕ) → before ≡ day_number entries → said ≡ entry → day ≡ day_after before said
+    → dated ≡ record { day = day; entry = entry } → payload ≡ payload_on dated.day dated.entry
+    → payload ≡ payload_behind entries entry
+dated_behind entries entry said before day dated payload number same step is written =
+    written ∙ ap (λ (d : OnDay). payload_on d.day d.entry) is
+    ∙ ap (λ n. payload_on n entry) (step ∙ ap (day_after before) same
+    ∙ ap (λ n. day_after n entry) number)
 
 -- payloads of a journal with one entry more
 pub spells_more : (payloads : List (List ℕ)) (names : Names) (entries : List Entry) (entry : Entry)
-    (payload : List ℕ) → Spells payloads names entries → payload ≡ entry_bytes entry
-    → IsEntry entry → GoesOn (numbers_after first_numbers entries) entry
+    (payload : List ℕ) → Spells payloads names entries → payload ≡ payload_behind entries entry
+    → IsEntry entry → GoesOn (numbers_before (numbers_after first_numbers entries) entry) entry
     → Spells (payloads ++ payload ∷ []) names (entries ++ entry ∷ [])
 spells_more payloads names entries entry payload spelt written is on = record {
   written = ap (λ (l : List (List ℕ)). l ++ payload ∷ []) spelt.written
       ∙ ap (λ (p : List ℕ). payloads_of names entries ++ p ∷ []) written
       ∙ payloads-push names entries entry;
   named = spelt.named;
-  sound = AreEntries-push first_numbers entries entry spelt.sound is on;
+  sound = DaysGoOn-push first_numbers entries entry spelt.sound is on;
 }
-
-pub map_length : (entries : List Entry) → length (map entry_bytes entries) ≡ length entries
-map_length [] = refl
-map_length (e ∷ es) = omega (arith, map_length es)
 
 -- bytes of a journal are those of the log under it
 pub stands_log : (bytes : List ℕ) (log : LogState) (inside journal : JournalState)
@@ -71,19 +67,13 @@ stands_log bytes log inside journal seen has (payloads, stands, spelt) =
           arith,
           extent.number,
           ap length spelt.written,
-          map_length journal.entries,
+          length-dated 0 journal.entries,
         );
         end = extent.end ∙ ap (λ (l : List (List ℕ)). length (blocks l)) (sym spelt.written);
       },
     )
 
 -- ---- the last entry, and each
-
-pub entry_at : (before : Next) (entries : List Entry) (i : ℕ) (entry : Entry)
-    → AreEntries before entries → slice_get entries i ≡ Some entry → IsEntry entry
-entry_at before [] i entry are e = absurd (cc e)
-entry_at before (a ∷ es) zero entry are e = let same : a ≡ entry = cc e in subst IsEntry same are.0
-entry_at before (a ∷ es) (suc i) entry are e = entry_at a.next es i entry are.2 e
 
 pub last_next : (before : Next) (entries : List Entry) (i : ℕ) (entry : Entry) → i + 1
     ≡ length entries → slice_get entries i ≡ Some entry → entry.next ≡ numbers_after before entries
@@ -109,14 +99,13 @@ last_of before (a ∷ es) entry e =
 
 -- ---- what a commit leaves
 
-module _ (entry : Entry) (payload : List ℕ) (written : payload ≡ entry_bytes entry)
-    (is : IsEntry entry) where
+module _ (entry : Entry) (payload : List ℕ) (is : IsEntry entry) where
   -- in memory, once the log has the payload and the list of entries has the copy
   pub extent_more : (old new : LogState) (names : Names) (entries after : List Entry)
-      (copy : Entry) → HasExtent old names entries
+      (copy : Entry) → payload ≡ payload_behind entries entry → HasExtent old names entries
       → new.count ≡ old.count + 1 → new.end ≡ old.end + 5 + length payload
       → after ≡ entries ++ copy ∷ [] → copy ≡ entry → HasExtent new names after
-  extent_more old new names entries after copy has count end pushed same =
+  extent_more old new names entries after copy written has count end pushed same =
       let es : after ≡ entries ++ entry ∷ [] =
       pushed ∙ ap (λ (x : Entry). entries ++ x ∷ []) same in
       subst (HasExtent new names) (sym es) (record {
@@ -126,23 +115,15 @@ module _ (entry : Entry) (payload : List ℕ) (written : payload ≡ entry_bytes
           end,
           has.end,
           ap length written,
-          length-blocks-push (payloads_of names entries) (entry_bytes entry),
+          length-blocks-push (payloads_of names entries) (payload_behind entries entry),
           ap (λ (l : List (List ℕ)). length (blocks l)) (payloads-push names entries entry),
         );
       })
 
-  pub sound_more : (entries after : List Entry) (copy : Entry) → AreEntries first_numbers entries
-      → GoesOn (numbers_after first_numbers entries) entry
-      → after ≡ entries ++ copy ∷ [] → copy ≡ entry → AreEntries first_numbers after
-  sound_more entries after copy sound on pushed same =
-      let es : after ≡ entries ++ entry ∷ [] =
-      pushed ∙ ap (λ (x : Entry). entries ++ x ∷ []) same in
-      subst (AreEntries first_numbers) (sym es)
-      (AreEntries-push first_numbers entries entry sound is on)
-
   -- on the disk, whatever the log answered
   module _ (told : Option (List ℕ)) (journal : JournalState)
-      (on : GoesOn (numbers_after first_numbers journal.entries) entry)
+      (written : payload ≡ payload_behind journal.entries entry)
+      (on : GoesOn (numbers_before (numbers_after first_numbers journal.entries) entry) entry)
       (stands : ForSome told (λ b. JournalOf b (Born journal.names journal.entries))) where
     pub keeps_journal : (before after : List ℕ → Type 0)
         → CommitsOrNot told before after payload → KeepsJournal told before after journal entry
@@ -178,17 +159,22 @@ module _ (entry : Entry) (payload : List ℕ) (written : payload ≡ entry_bytes
 
 -- the room that a log has is that of its journal
 module _ (log : LogState) (names : Names) (entries : List Entry) (entry : Entry) (payload : List ℕ)
-    (has : HasExtent log names entries) (written : payload ≡ entry_bytes entry) where
+    (has : HasExtent log names entries) (written : payload ≡ payload_behind entries entry) where
   pub has_room : log.end + 5 + length payload < MAX_DISK
-      → HasRoom (payloads_of names entries) (entry_bytes entry)
+      → HasRoom (payloads_of names entries) (payload_behind entries entry)
   has_room room = omega (arith, room, has.end, ap length written)
 
   pub has_none : MAX_DISK ≤ log.end + 5 + length payload
-      → MAX_DISK ≤ length (blocks (payloads_of names entries)) + 5 + length (entry_bytes entry)
+      → MAX_DISK ≤ length (blocks (payloads_of names entries)) + 5
+      + length (payload_behind entries entry)
   has_none full = omega (arith, full, has.end, ap length written)
 
-pub goes_on_inside : (inside journal : JournalState) (entry : Entry)
-    → inside ≡ journal → GoesOn (numbers_after first_numbers journal.entries) entry
-    → GoesOn (numbers_after first_numbers inside.entries) entry
-goes_on_inside inside journal entry seen on =
-    subst (λ (s : JournalState). GoesOn (numbers_after first_numbers s.entries) entry) (sym seen) on
+pub goes_on_inside : (inside journal : JournalState) (entry : Entry) → inside ≡ journal
+    → DaysGoOn first_numbers inside.entries
+    → GoesOn (numbers_before (numbers_after first_numbers (last_day journal.entries)) entry) entry
+    → GoesOn (numbers_before (numbers_after first_numbers inside.entries) entry) entry
+goes_on_inside inside journal entry seen sound on =
+    subst (λ (n : Next). GoesOn (numbers_before n entry) entry)
+    (last_numbers inside.entries sound)
+    (subst (λ (s : JournalState). GoesOn (numbers_before
+    (numbers_after first_numbers (last_day s.entries)) entry) entry) (sym seen) on)

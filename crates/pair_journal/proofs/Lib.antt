@@ -1,3 +1,4 @@
+pub mod Worked
 pub mod Giving
 pub mod Carrying
 pub mod Walking
@@ -9,3 +10,4 @@ pub mod Noting
 pub mod Standing
 pub mod Finding
 pub mod Adding
+pub mod Dating

@@ -1,5 +1,5 @@
 -- What a load answers: of a disk that is only read, and of an unborn one.
-use Rattle.std.proofs.Common.{◌≡◌, inl, inr, ◌⊎◌, ℕ, List, [], ◌∷◌, map, refl, sym, ◌∙◌, ap}
+use Rattle.std.proofs.Common.{◌≡◌, inl, inr, ◌⊎◌, ℕ, List, [], ◌∷◌, refl, sym, ◌∙◌, ap}
 use Rattle.std.proofs.Common.{subst, Some, IfSome, IfOk, Ok, Err, arith, length-append}
 use Rattle.std.specs.Prelude.{Result, OnOk}
 use Rattle.std.specs.Option.{ForSome}
@@ -15,7 +15,7 @@ use Rattle.gate_log.proofs.Told.{if_some, at_some}
 use Rattle.pair_entries.specs.declared.entry.Entry.{Entry}
 use Rattle.pair_journal.specs.declared.error.JournalError.{JournalError}
 use Rattle.pair_journal.specs.declared.error.JournalError.TheVariants as errors
-use Rattle.pair_entries.specs.Payload.{entry_bytes}
+use Rattle.pair_journal.specs.Days.{dated}
 use Rattle.pair_entries.specs.Birth.{birth_bytes, AreNames}
 use Rattle.pair_journal.specs.Journal.{JournalOf, Unborn, Born, Refused}
 use Rattle.pair_journal.specs.State.{JournalState}
@@ -181,7 +181,7 @@ images_born names told before after named born = if_some told _ (λ b e only ima
       λ kept entries journal. elim (h journal.0 journal.1 image left) [
         | inl stands ↦ (journal.0, stands, journal.2)
         | inr now ↦ absurd
-            (some (birth_bytes kept) (map entry_bytes entries) (sym now.0 ∙ journal.2.written))
+            (some (birth_bytes kept) (dated 0 entries) (sym now.0 ∙ journal.2.written))
       ],
     ))
   where

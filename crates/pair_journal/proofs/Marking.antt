@@ -1,24 +1,26 @@
 -- Places among the entries of a journal, and the marks behind each 64th.
 use Rattle.std.proofs.Common.{◌≡◌, ℕ, zero, suc, ◌+◌, ◌-◌, ◌*◌, ◌<◌, ◌≤◌, Bool, true, false, List}
-use Rattle.std.proofs.Common.{[], ◌∷◌, ◌++◌, length, map, take, slice_index_or, refl, sym, ◌∙◌, ap}
+use Rattle.std.proofs.Common.{[], ◌∷◌, ◌++◌, length, take, drop, slice_index_or, refl, sym, ◌∙◌, ap}
 use Rattle.std.proofs.Common.{subst, arith, length-append, leb, leb-true, le-leb}
 use Rattle.std.specs.List.{AllWithin}
 use Rattle.std.specs.List.Sorted.{IsPartitionedBy}
 use Rattle.std.proofs.lemmas.Bool.Decides.{nat_tests}
-use Rattle.std.proofs.lemmas.List.{map-append, take_all, take-append-le, length-take-le}
+use Rattle.std.proofs.lemmas.List.{take_all, take_at, take-append-le, length-take-le, length-drop}
 use Rattle.order_meaning.specs.declared.Side.{Side}
 use Rattle.order_meaning.specs.declared.names.Names.{Names}
 use Rattle.gate_log.specs.Records.{blocks}
 use Rattle.gate_log.proofs.Blocks.{length-blocks-push}
 use Rattle.pair_entries.specs.declared.entry.Entry.{Entry}
-use Rattle.pair_entries.specs.Payload.{Next, entry_bytes}
+use Rattle.pair_entries.specs.Payload.{Next, payload_on}
+use Rattle.pair_journal.specs.Days.{last_day, past_of, dated, day_after, payload_behind}
 use Rattle.pair_entries.specs.Birth.{birth_bytes, AreNames}
 use Rattle.pair_journal.specs.Numbers.{next_out, numbers_after, first_numbers}
-use Rattle.pair_journal.specs.Journal.{AreEntries}
+use Rattle.pair_journal.specs.Journal.{AreEntries, DaysGoOn}
 use Rattle.pair_journal.specs.Calls.{payloads_of}
-use Rattle.pair_journal.specs.Spots.{end_of, behind, IsSpot, AreMarks, HoldsOut}
+use Rattle.pair_journal.specs.Spots.{end_of, behind, at_day, IsSpot, AreMarks, HoldsOut}
 use Rattle.pair_journal.specs.declared.spot.Spot.{Spot}
-use Rattle.pair_journal.proofs.Carrying.{numbers_after-push}
+use Rattle.pair_journal.proofs.Dating.{dated-push, numbers_after-push, numbers_at, past_numbers}
+use Rattle.pair_journal.proofs.Dating.{past_short, past-last, last_is_sound}
 use Rattle.pair_journal.proofs.Giving.{rises, not_past, first_is_1}
 use Rattle.pair_entries.proofs.Names.{birth_size}
 
@@ -29,24 +31,27 @@ pub place_is : (names : Names) (entries : List Entry)
 place_is names entries named = omega (
   arith,
   birth_size names named,
-  length-append (birth_bytes names) (blocks (map entry_bytes entries)),
+  length-append (birth_bytes names) (blocks (dated 0 entries)),
 )
 
 pub end_push : (entries : List Entry) (entry : Entry)
-    → end_of (entries ++ entry ∷ []) ≡ end_of entries + 5 + length (entry_bytes entry)
+    → end_of (entries ++ entry ∷ []) ≡ end_of entries + 5 + length (payload_behind entries entry)
 end_push entries entry = omega (
   arith,
-  ap (λ (l : List (List ℕ)). length (blocks l)) (map-append entry_bytes entries (entry ∷ [])),
-  length-blocks-push (map entry_bytes entries) (entry_bytes entry),
+  ap (λ (l : List (List ℕ)). length (blocks l)) (dated-push entries entry),
+  length-blocks-push (dated 0 entries) (payload_behind entries entry),
 )
 
-pub few_entries : (entries : List Entry) → length entries ≤ end_of entries
-few_entries entries = omega (arith, few entries)
+pub far_entries : (entries : List Entry) → length entries + 160 ≤ end_of entries
+far_entries entries = omega (arith, few 0 entries)
   where
-    few : (es : List Entry) → length es ≤ length (blocks (map entry_bytes es))
-    few [] = omega arith
-    few (e ∷ es) =
-        omega (arith, few es, length-append (entry_bytes e) (blocks (map entry_bytes es)))
+    few : (day : ℕ) (es : List Entry) → length es ≤ length (blocks (dated day es))
+    few day [] = omega arith
+    few day (e ∷ es) = omega (
+      arith,
+      few (day_after day e) es,
+      length-append (payload_on (day_after day e) e) (blocks (dated (day_after day e) es)),
+    )
 
 pub spot_join : (i i' p p' : ℕ) (n n' : Next) → i ≡ i' → p ≡ p' → n ≡ n' → ◌≡◌ {A = Spot}
     (record { index = i; place = p; next = n }) (record { index = i'; place = p'; next = n' })
@@ -54,7 +59,7 @@ spot_join i i' p p' n n' hi hp hn = cc
 
 -- the place behind one entry more
 pub behind_push : (entries : List Entry) (entry : Entry) (end : Spot) (len : ℕ)
-    → end ≡ behind entries → len ≡ length (entry_bytes entry)
+    → end ≡ behind entries → len ≡ length (payload_behind entries entry)
     → ◌≡◌ {A = Spot}
     (record { index = end.index + 1; place = end.place + 5 + len; next = entry.next })
     (behind (entries ++ entry ∷ []))
@@ -164,6 +169,25 @@ one_mark entries entry marks more end are is here pushed =
         let front : i < length marks = not_past (length marks) i past in
         index_front marks (end ∷ []) i d front ∙ still entries entry marks are i d front
 
+index_drop : (xs : List Spot) (n i : ℕ) (d : Spot)
+    → slice_index_or (drop n xs) i d ≡ slice_index_or xs (n + i) d
+index_drop [] zero i d = refl
+index_drop [] (suc n) i d = refl
+index_drop (x ∷ xs) zero i d =
+    let same : i ≡ zero + i = omega arith in ap (λ k. slice_index_or (x ∷ xs) k d) same
+index_drop (x ∷ xs) (suc n) i d =
+    let same : suc n + i ≡ suc (n + i) = omega arith in
+    index_drop xs n i d ∙ ap (λ k. slice_index_or (x ∷ xs) k d) (sym same)
+
+positive : (n : ℕ) → (n ≡ 0 → ⊥) → 1 ≤ n
+positive zero none = absurd (none refl)
+positive (suc n) none = omega arith
+
+past_take : (entries : List Entry) → DaysGoOn first_numbers entries
+    → past_of entries ≡ take (length (past_of entries)) entries
+past_take entries sound = sym (ap (take (length (past_of entries))) (sym (past-last entries sound))
+    ∙ take_at (past_of entries) (last_day entries) (length (past_of entries)) refl)
+
 -- ---- the mark where a walk begins
 
 -- that of this count
@@ -181,68 +205,123 @@ nth_mark entries marks count mark some most is are =
     positive (suc n) none = omega arith
 
 module _ (entries : List Entry) (marks : List Spot) (are : AreMarks entries marks) where
-  module _ (sound : AreEntries first_numbers entries) (side : Side) (number : ℕ) where
-    pub parted_marks : IsPartitionedBy (λ (m : Spot). leb (next_out side m.next) number) marks
-    parted_marks i j d order within test =
-        let at_i = ap (λ (s : Spot). next_out side s.next)
-        (are.each i d (omega (arith, order, within))) in
-        let at_j = ap (λ (s : Spot). next_out side s.next) (are.each j d within) in
-        le-leb (next_out side (slice_index_or marks i d).next) number (omega (
-          arith,
-          at_i,
-          at_j,
-          rise_take side first_numbers entries (64 * (i + 1)) (64 * (j + 1)) sound
-              (omega (arith, order)),
-          leb-true (next_out side (slice_index_or marks j d).next) number test,
-        ))
+  -- numbers rise along the last day
+  module _ (sound : DaysGoOn first_numbers entries) (side : Side) where
+    abbrev start : ℕ
+    start = length (past_of entries)
 
-    pub is_holding : (count : ℕ) (spot : Spot) → 1 ≤ number
-        → number < next_out side (numbers_after first_numbers entries) → count ≤ length marks
-        → AllWithin (λ (m : Spot). leb (next_out side m.next) number ≡ true) marks 0 count
-        → AllWithin (λ (m : Spot). leb (next_out side m.next) number ≡ false)
-        marks count (length marks) → spot ≡ behind (take (64 * count) entries)
-        → HoldsOut entries side number spot
-    is_holding count spot above below most low high is =
-        let at = spot_of_take (64 * count) entries spot is (omega (arith, most, are.most)) in
-        record {
-          at = at.1;
-          from = from count most low is;
-          to = subst (λ (n : ℕ). number < next_out side (numbers_after first_numbers
-              (take n entries))) (let e : 64 * count + 64 ≡ spot.index + 64 = omega
-              (arith, at.0) in e) (to (leb (length marks) count) refl);
-        }
-      where
-        from : (n : ℕ) → n ≤ length marks
-            → AllWithin (λ (m : Spot). leb (next_out side m.next) number ≡ true) marks 0 n
-            → spot ≡ behind (take (64 * n) entries) → next_out side spot.next ≤ number
-        from zero within all is_n =
-            omega (arith, ap (λ (s : Spot). next_out side s.next) is_n, first_is_1 side, above)
-        from (suc n) within all is_n =
-            let same : 64 * (n + 1) ≡ 64 * suc n = omega arith in
-            let here : slice_index_or marks n spot ≡ spot =
-            are.each n spot (omega (arith, within))
-            ∙ ap (λ (k : ℕ). behind (take k entries)) same ∙ sym is_n in
-            leb-true (next_out side spot.next) number
-            (subst (λ (s : Spot). leb (next_out side s.next) number ≡ true) here
-            (all n spot (omega arith) (omega arith)))
+    pub rise_day : (m n : ℕ) → start ≤ m → m ≤ n
+        → next_out side (numbers_after first_numbers (take m entries))
+        ≤ next_out side (numbers_after first_numbers (take n entries))
+    rise_day m n in_day most = omega (
+      arith,
+      ap (next_out side) (numbers_at entries sound m in_day),
+      ap (next_out side) (numbers_at entries sound n (omega (arith, in_day, most))),
+      rise_take side first_numbers (last_day entries) (m - start) (n - start)
+          (last_is_sound entries sound) (omega (arith, most)),
+    )
 
-        to : (b : Bool) → leb (length marks) count ≡ b → number
-            < next_out side (numbers_after first_numbers (take (64 * count + 64) entries))
-        to true past =
-            let size : length entries ≤ 64 * count + 64 = omega (
-              arith,
-              are.least,
-              leb-true (length marks) count past,
-            ) in
-            subst (λ (es : List Entry). number < next_out side (numbers_after first_numbers es))
-            (sym (take_all (64 * count + 64) entries size)) below
-        to false past =
-            let within = not_past (length marks) count past in
-            let here = high count spot (omega arith) within in
-            let same : 64 * (count + 1) ≡ 64 * count + 64 = omega arith in
-            subst (λ (n : ℕ). number < next_out side (numbers_after first_numbers
-            (take n entries))) same (omega (
-              arith,
-              not_past (next_out side (slice_index_or marks count spot).next) number here,
-              ap (λ (s : Spot). next_out side s.next) (are.each count spot within),
-            ))
+    -- the marks from this one on stand within the last day, and the one before does not
+    module _ (number before : ℕ) (low : 64 * before ≤ start) (high : start < 64 * before + 64)
+        (few : before ≤ length marks) (later : List Spot) (is : later ≡ drop before marks) where
+      size : length later ≡ length marks - before
+      size = ap length is ∙ length-drop before marks
+
+      later_at : (i : ℕ) (d : Spot) → i < length later → slice_index_or later i d
+          ≡ behind (take (64 * (before + i + 1)) entries)
+      later_at i d within =
+          ap (λ l. slice_index_or l i d) is ∙ index_drop marks before i d
+          ∙ are.each (before + i) d (omega (arith, within, size))
+
+      pub parted_marks : IsPartitionedBy (λ (m : Spot). leb (next_out side m.next) number) later
+      parted_marks i j d order within test =
+          let at_i = ap (λ (s : Spot). next_out side s.next)
+          (later_at i d (omega (arith, order, within))) in
+          let at_j = ap (λ (s : Spot). next_out side s.next) (later_at j d within) in
+          le-leb (next_out side (slice_index_or later i d).next) number (omega (
+            arith,
+            at_i,
+            at_j,
+            rise_day (64 * (before + i + 1)) (64 * (before + j + 1)) (omega (arith, high))
+                (omega (arith, order)),
+            leb-true (next_out side (slice_index_or later j d).next) number test,
+          ))
+
+      module _ (above : 1 ≤ number)
+          (below : number < next_out side (numbers_after first_numbers entries)) (count : ℕ)
+          (most : count ≤ length later)
+          (lower : AllWithin (λ (m : Spot). leb (next_out side m.next) number ≡ true)
+          later 0 count)
+          (higher : AllWithin (λ (m : Spot). leb (next_out side m.next) number ≡ false)
+          later count (length later)) where
+        -- the number is passed at the next mark, or at the end
+        passed_at : (spot : Spot) (n : ℕ) → start ≤ n → 64 * (before + count + 1) ≤ n + 64
+            → number < next_out side (numbers_after first_numbers (take (n + 64) entries))
+        passed_at spot n in_day near = by (leb (length later) count) refl
+          where
+            by : (b : Bool) → leb (length later) count ≡ b
+                → number < next_out side (numbers_after first_numbers (take (n + 64) entries))
+            by true past =
+                let size : length entries ≤ n + 64 = omega (
+                  arith,
+                  are.least,
+                  leb-true (length later) count past,
+                  size,
+                  few,
+                  near,
+                ) in
+                subst (λ (es : List Entry). number < next_out side
+                (numbers_after first_numbers es)) (sym (take_all (n + 64) entries size)) below
+            by false past =
+                let within = not_past (length later) count past in
+                let here = higher count spot (omega arith) within in
+                omega (
+                  arith,
+                  not_past (next_out side (slice_index_or later count spot).next)
+                      number here,
+                  ap (λ (s : Spot). next_out side s.next) (later_at count spot within),
+                  rise_day (64 * (before + count + 1)) (n + 64) (omega (arith, high)) near,
+                )
+
+        pub holding_day : (spot : Spot) → count ≡ 0 → spot ≡ at_day entries
+            → HoldsOut entries side number spot
+        holding_day spot none is =
+            let at = spot_of_take start entries spot (is ∙ ap behind (past_take entries sound))
+            (past_short entries sound) in
+            record {
+              at = at.1;
+              in_day = omega (arith, at.0);
+              from = omega (
+                arith,
+                ap (λ (s : Spot). next_out side s.next) is,
+                ap (next_out side) (past_numbers entries sound),
+                first_is_1 side,
+                above,
+              );
+              to = subst (λ n. number < next_out side (numbers_after first_numbers
+                  (take (n + 64) entries))) (sym at.0)
+                  (passed_at spot start (omega arith) (omega (arith, none, low)));
+            }
+
+        pub holding_mark : (spot : Spot) → (count ≡ 0 → ⊥)
+            → spot ≡ behind (take (64 * (before + count)) entries)
+            → HoldsOut entries side number spot
+        holding_mark spot some is =
+            let at = spot_of_take (64 * (before + count)) entries spot is
+            (omega (arith, most, size, are.most)) in
+            let one : 1 ≤ count = positive count some in
+            let here : slice_index_or later (count - 1) spot ≡ spot =
+            later_at (count - 1) spot (omega (arith, one, most))
+            ∙ ap (λ n. behind (take (64 * n) entries)) (let e : before + (count - 1) + 1
+            ≡ before + count = omega (arith, one) in e) ∙ sym is in
+            record {
+              at = at.1;
+              in_day = omega (arith, at.0, one, high);
+              from = leb-true (next_out side spot.next) number
+                  (subst (λ (s : Spot). leb (next_out side s.next) number ≡ true) here
+                  (lower (count - 1) spot (omega arith) (omega (arith, one))));
+              to = subst (λ n. number < next_out side (numbers_after first_numbers
+                  (take (n + 64) entries))) (sym at.0)
+                  (passed_at spot (64 * (before + count)) (omega (arith, one, high))
+                  (omega arith));
+            }

@@ -1,15 +1,17 @@
 -- Bytes have one reading.
-use Rattle.std.proofs.Common.{◌≡◌, inl, inr, ◌⊎◌, ℕ, List, [], ◌∷◌, ◌++◌, map, length, refl, sym}
+use Rattle.std.proofs.Common.{◌≡◌, inl, inr, ◌⊎◌, ℕ, List, [], ◌∷◌, ◌++◌, length, refl, sym}
 use Rattle.std.proofs.Common.{◌∙◌, ap, subst}
+use Rattle.std.specs.Prelude.{fold}
 use Rattle.order_meaning.specs.declared.names.Names.{Names}
 use Rattle.gate_log.specs.Records.{blocks, Stands}
 use Rattle.gate_log.proofs.Blocks.{Stands-unique}
 use Rattle.gate_log.proofs.Refused.{refused_stands, refused_once}
 use Rattle.pair_entries.specs.declared.entry.Entry.{Entry}
-use Rattle.pair_entries.specs.Payload.{Next, IsEntry, entry_bytes}
+use Rattle.pair_entries.specs.Payload.{Next, IsEntry, payload_on}
 use Rattle.pair_entries.specs.Birth.{birth_bytes}
-use Rattle.pair_journal.specs.Numbers.{GoesOn, first_numbers, numbers_after}
-use Rattle.pair_journal.specs.Journal.{AreEntries, Spells, IsMisspelt, Misspells, Reading}
+use Rattle.pair_journal.specs.Numbers.{GoesOn, first_numbers, numbers_before, numbers_after}
+use Rattle.pair_journal.specs.Days.{dated, day_after}
+use Rattle.pair_journal.specs.Journal.{DaysGoOn, Spells, IsMisspelt, Misspells, Reading}
 use Rattle.pair_journal.specs.Journal.{Unborn, Born, Refused, JournalOf}
 use Rattle.pair_entries.proofs.Names.{same_birth}
 use Rattle.pair_journal.proofs.Walking.{head_of, same_entries}
@@ -22,38 +24,40 @@ nothing_behind [] payload after is = absurd (cc is)
 nothing_behind (x ∷ before) payload after is = absurd (cc is)
 
 -- an entry among others, by the payloads before its own
-record Found (numbers : Next) (before : List (List ℕ)) (payload : List ℕ) : Type 0 where
+record Found (day : ℕ) (numbers : Next) (before : List (List ℕ)) (payload : List ℕ) : Type 0 where
   pub earlier : List Entry
   pub entry : Entry
-  pub front : before ≡ map entry_bytes earlier
-  pub written : payload ≡ entry_bytes entry
-  pub are : AreEntries numbers earlier
+  pub front : before ≡ dated day earlier
+  pub written : payload ≡ payload_on (day_after (fold day_after day earlier) entry) entry
+  pub are : DaysGoOn numbers earlier
   pub sound : IsEntry entry
-  pub goes_on : GoesOn (numbers_after numbers earlier) entry
+  pub goes_on : GoesOn (numbers_before (numbers_after numbers earlier) entry) entry
 
-found : (numbers : Next) (entries : List Entry)
+found : (day : ℕ) (numbers : Next) (entries : List Entry)
     (before : List (List ℕ)) (payload : List ℕ) (after : List (List ℕ))
-    → AreEntries numbers entries → map entry_bytes entries ≡ before ++ payload ∷ after
-    → Found numbers before payload
-found numbers [] before payload after are is = absurd (nothing_behind before payload after is)
-found numbers (e ∷ es) [] payload after are is = record {
+    → DaysGoOn numbers entries → dated day entries ≡ before ++ payload ∷ after
+    → Found day numbers before payload
+found day numbers [] before payload after are is =
+    absurd (nothing_behind before payload after is)
+found day numbers (e ∷ es) [] payload after are is = record {
   earlier = [];
   entry = e;
   front = refl;
-  written = sym (head_of (entry_bytes e) payload (map entry_bytes es) after is).0;
+  written = sym (head_of (payload_on (day_after day e) e) payload (dated (day_after day e) es) after
+      is).0;
   are = tt;
   sound = are.0;
   goes_on = are.1;
 }
-found numbers (e ∷ es) (x ∷ before) payload after are is =
-    let parts =
-    head_of (entry_bytes e) x (map entry_bytes es) (before ++ payload ∷ after) is in
-    let rest = found e.next es before payload after are.2 parts.1 in
+found day numbers (e ∷ es) (x ∷ before) payload after are is =
+    let parts = head_of (payload_on (day_after day e) e) x (dated (day_after day e) es)
+    (before ++ payload ∷ after) is in
+    let rest = found (day_after day e) e.next es before payload after are.2 parts.1 in
     record {
       earlier = e ∷ rest.earlier;
       entry = rest.entry;
       front = ap (λ (y : List ℕ). y ∷ before) (sym parts.0)
-          ∙ ap (λ (l : List (List ℕ)). entry_bytes e ∷ l) rest.front;
+          ∙ ap (λ (l : List (List ℕ)). payload_on (day_after day e) e ∷ l) rest.front;
       written = rest.written;
       are = (are.0, are.1, rest.are);
       sound = rest.sound;
@@ -63,16 +67,16 @@ found numbers (e ∷ es) (x ∷ before) payload after are is =
 module _ (payloads : List (List ℕ)) (names : Names) (entries : List Entry)
     (spelt : Spells payloads names entries) where
   none_here : (before : List (List ℕ)) (payload : List ℕ) (after : List (List ℕ))
-      → birth_bytes names ∷ map entry_bytes entries ≡ before ++ payload ∷ after
+      → birth_bytes names ∷ dated 0 entries ≡ before ++ payload ∷ after
       → IsMisspelt before payload → ⊥
   none_here [] payload after is none =
-      let parts = head_of (birth_bytes names) payload (map entry_bytes entries) after is in
+      let parts = head_of (birth_bytes names) payload (dated 0 entries) after is in
       none names spelt.named (sym parts.0)
   none_here (x ∷ before) payload after is none =
       let parts = head_of
-      (birth_bytes names) x (map entry_bytes entries) (before ++ payload ∷ after) is in
-      let there = found first_numbers entries before payload after spelt.sound parts.1 in
-      let front : x ∷ before ≡ birth_bytes names ∷ map entry_bytes there.earlier =
+      (birth_bytes names) x (dated 0 entries) (before ++ payload ∷ after) is in
+      let there = found 0 first_numbers entries before payload after spelt.sound parts.1 in
+      let front : x ∷ before ≡ birth_bytes names ∷ dated 0 there.earlier =
       ap (λ (y : List ℕ). y ∷ before) (sym parts.0)
       ∙ ap (λ (l : List (List ℕ)). birth_bytes names ∷ l) there.front in
       none names there.earlier there.entry front there.are there.sound there.goes_on there.written
@@ -83,10 +87,10 @@ module _ (payloads : List (List ℕ)) (names : Names) (entries : List Entry)
   pub spelt_once : (others : Names) (more : List Entry)
       → Spells payloads others more → (names ≡ others) × (entries ≡ more)
   spelt_once others more other =
-      let parts = head_of (birth_bytes names) (birth_bytes others) (map entry_bytes entries)
-      (map entry_bytes more) (sym spelt.written ∙ other.written) in (
+      let parts = head_of (birth_bytes names) (birth_bytes others) (dated 0 entries)
+      (dated 0 more) (sym spelt.written ∙ other.written) in (
         same_birth names others parts.0,
-        same_entries first_numbers first_numbers entries more spelt.sound other.sound parts.1,
+        same_entries first_numbers first_numbers 0 0 entries more spelt.sound other.sound parts.1,
       )
 
 -- ---- the first misspelt payload is one
@@ -147,7 +151,7 @@ module _ (image : List ℕ) where
   unborn_born : (names : Names) (entries : List Entry)
       → JournalOf image Unborn → JournalOf image (Born names entries) → ⊥
   unborn_born names entries unborn journal = nothing_behind
-      [] (birth_bytes names) (map entry_bytes entries)
+      [] (birth_bytes names) (dated 0 entries)
       (Stands-unique image [] journal.0 unborn journal.1 ∙ journal.2.written)
 
   stands_refused : (payloads : List (List ℕ)) (at : ℕ) → Stands image payloads

@@ -101,8 +101,8 @@ module _ (told : Option (List ℕ)) (log : LogState) (stands : ForSome told (Sta
 
   -- ---- the entries
 
-  module _ (names : Names) (named : AreNames names) (entries : List Entry) (index place : ℕ)
-      (numbers : Next) (walks : Walks names entries index place numbers)
+  module _ (names : Names) (named : AreNames names) (entries : List Entry) (index place day : ℕ)
+      (numbers : Next) (walks : Walks names entries index place day numbers)
       (front : TellsFront told names entries) where
     begins : (b : List ℕ) → told ≡ Some b
         → (payloads : List (List ℕ)) → Stands b payloads → Begins payloads names entries
@@ -112,7 +112,7 @@ module _ (told : Option (List ℕ)) (log : LogState) (stands : ForSome told (Sta
     module _ (within : index < log.count) where
       there : (payloads : List (List ℕ)) → log.count ≡ length payloads → (b : List ℕ)
           → told ≡ Some b → Stands b payloads → (p : List ℕ) × IsAt payloads place p
-      there payloads number b e is = next_at names entries index place numbers walks payloads
+      there payloads number b e is = next_at names entries index place day numbers walks payloads
           (begins b e payloads is) (omega (arith, within, number))
 
       -- a record stands before the end
@@ -131,7 +131,7 @@ module _ (told : Option (List ℕ)) (log : LogState) (stands : ForSome told (Sta
         reads b e payloads is p at = at_some told (λ x. (ps : List (List ℕ)) (q : List ℕ)
             → Stands x ps → IsAt ps place q → bytes ≡ q) b e read payloads p is at
 
-        pub entry_misread : ((entry : Entry) → Follows numbers bytes entry → ⊥)
+        pub entry_misread : ((entry : Entry) → Follows day numbers bytes entry → ⊥)
             → IsMisread told (errors.Refused place)
         entry_misread none = if_some told _ (λ b e.
             let over = stands b e in
@@ -139,17 +139,17 @@ module _ (told : Option (List ℕ)) (log : LogState) (stands : ForSome told (Sta
             inr (
               over.0,
               over.1.stands,
-              misread names entries index place numbers walks over.0 is
+              misread names entries index place day numbers walks over.0 is
                   bytes (omega (arith, within, over.1.number)) (reads b e over.0 over.1.stands)
                   named none,
             ))
 
-        pub more_told : (entry : Entry) (more : List Entry) → Follows numbers bytes entry
+        pub more_told : (entry : Entry) (more : List Entry) → Follows day numbers bytes entry
             → more ≡ entries ++ entry ∷ [] → TellsFront told names more
         more_told entry more follows pushed = if_some told _ (λ b e payloads is.
             let over = stands b e in
             let same : over.0 ≡ payloads = Stands-unique b over.0 payloads over.1.stands is in
-            more_begins names entries index place numbers walks payloads (begins b e payloads is)
+            more_begins names entries index place day numbers walks payloads (begins b e payloads is)
             bytes (omega (arith, within, over.1.number, ap length same)) (reads b e payloads is)
             entry more follows pushed)
 
@@ -157,7 +157,7 @@ module _ (told : Option (List ℕ)) (log : LogState) (stands : ForSome told (Sta
       whole : (b : List ℕ) → (e : told ≡ Some b) → (stands b e).0 ≡ payloads_of names entries
       whole b e =
           let over = stands b e in
-          all_read names entries index place numbers walks over.0
+          all_read names entries index place day numbers walks over.0
           (begins b e over.0 over.1.stands) (omega (arith, done, over.1.number))
 
       pub all_told : Tells told names entries

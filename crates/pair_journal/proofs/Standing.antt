@@ -1,13 +1,14 @@
 -- What a record that is read at a spot says, where the disk tells its bytes.
-use Rattle.std.proofs.Common.{◌≡◌, ℕ, zero, suc, ◌+◌, ◌<◌, ◌≤◌, Bool, true, false, List, [], ◌∷◌}
-use Rattle.std.proofs.Common.{◌++◌, length, map, take, drop, refl, sym, ◌∙◌, ap, subst, arith, Some}
+use Rattle.std.proofs.Common.{◌≡◌, ◌⊎◌, inl, inr, ℕ, zero, suc, ◌+◌, ◌-◌, ◌<◌, ◌≤◌, Bool, true, false, List, [], ◌∷◌}
+use Rattle.std.proofs.Common.{◌++◌, length, take, drop, refl, sym, ◌∙◌, ap, subst, arith, Some}
 use Rattle.std.proofs.Common.{None, leb, leb-true, Ok, Err}
 use Rattle.std.specs.List.{slice_get}
 use Rattle.std.specs.Prelude.{Result, IsErrAnd}
 use Rattle.std.specs.Option.{ForSome}
 use Rattle.std.specs.declared.option.Option.{Option}
-use Rattle.std.proofs.lemmas.List.{map-append, take_all}
+use Rattle.std.proofs.lemmas.List.{take_all}
 use Rattle.order_meaning.specs.declared.Side.{Side}
+use Rattle.order_meaning.specs.declared.Side.TheVariants.{Client, Venue}
 use Rattle.order_meaning.specs.declared.names.Names.{Names}
 use Rattle.gate_log.specs.Records.{Stands}
 use Rattle.gate_log.specs.Log.{IsAt, ReadsPayload, HasNoPayload}
@@ -17,21 +18,25 @@ use Rattle.pair_entries.specs.declared.entry.Out.{Out}
 use Rattle.pair_entries.specs.declared.entry.Entry.{Entry}
 use Rattle.pair_entries.specs.declared.reading.Front.{Front}
 use Rattle.pair_entries.specs.Payload.{Next, IsEntry, entry_bytes}
+use Rattle.std.specs.Int.{w32, to_be_bytes}
 use Rattle.pair_entries.specs.Parts.{front_bytes, IsFront}
 use Rattle.pair_entries.proofs.Same.{front_is}
 use Rattle.pair_entries.specs.Birth.{birth_bytes, AreNames}
-use Rattle.pair_journal.specs.Numbers.{GoesOn, next_out, numbers_after, first_numbers, outs_to}
-use Rattle.pair_journal.specs.Journal.{AreEntries, JournalOf, Born}
+use Rattle.pair_journal.specs.Numbers.{GoesOn, next_out, numbers_before, numbers_after, first_numbers}
+use Rattle.pair_journal.specs.Numbers.{outs_to}
+use Rattle.pair_journal.specs.Days.{last_day, past_of, day_after, day_number, dated, payload_behind}
+use Rattle.pair_journal.specs.Journal.{AreEntries, DaysGoOn, JournalOf, Born}
 use Rattle.pair_journal.specs.Given.{Given, numbered, given_in, given}
 use Rattle.pair_journal.specs.Calls.{payloads_of, OnlyReading, RefusedUntold}
-use Rattle.pair_journal.specs.Loading.{HasExtent, Unread}
+use Rattle.pair_journal.specs.Loading.{HasExtent, Unread, IsPayload}
 use Rattle.pair_journal.specs.declared.error.JournalError.{JournalError}
 use Rattle.pair_journal.specs.declared.error.JournalError.TheVariants as errors
 use Rattle.pair_journal.specs.OutBuf.{OutAt, IsGivenAs, TellsIf}
-use Rattle.pair_journal.specs.Spots.{behind, IsSpot, StandsAt, HoldsOut}
+use Rattle.pair_journal.specs.Spots.{behind, day_start, IsSpot, StandsAt, HoldsOut}
 use Rattle.pair_journal.specs.declared.spot.Spot.{Spot}
-use Rattle.pair_journal.proofs.Carrying.{entry_at}
-use Rattle.pair_journal.proofs.Giving.{not_past, above_entry, among, goes}
+use Rattle.pair_journal.proofs.Dating.{entry_at, dated-split, before_more, last_is_sound, entry_in}
+use Rattle.pair_journal.proofs.Dating.{numbers_at}
+use Rattle.pair_journal.proofs.Giving.{not_past, above_entry, among, goes, first_is_1}
 use Rattle.pair_journal.proofs.Giving.{behind as behind_is, here as here_is}
 use Rattle.pair_journal.proofs.Marking.{place_is, behind_push, rise_take}
 use Rattle.pair_journal.proofs.Reading.{at_within}
@@ -64,22 +69,27 @@ take_step (a ∷ es) (suc i) entry e = ap (λ (l : List Entry). a ∷ l) (take_s
 
 -- ---- its record
 
+-- the payload of an entry that stands at a spot
+abbrev pub payload_at : List Entry → Spot → Entry → List ℕ
+payload_at entries spot entry = payload_behind (take spot.index entries) entry
+
 pub at_place : (names : Names) (entries : List Entry) (spot : Spot) (entry : Entry)
     → AreNames names → StandsAt entries spot entry
-    → IsAt (payloads_of names entries) spot.place (entry_bytes entry)
+    → IsAt (payloads_of names entries) spot.place (payload_at entries spot entry)
 at_place names entries spot entry named at = record {
   before = payloads_of names (take spot.index entries);
-  after = map entry_bytes (drop (suc spot.index) entries);
+  after = dated (day_after (day_number (take spot.index entries)) entry)
+      (drop (suc spot.index) entries);
   split = ap (payloads_of names) (split_at entries spot.index entry at.is)
-      ∙ ap (λ (l : List (List ℕ)). birth_bytes names ∷ l) (map-append entry_bytes
-      (take spot.index entries) (entry ∷ drop (suc spot.index) entries));
+      ∙ ap (λ (l : List (List ℕ)). birth_bytes names ∷ l)
+      (dated-split (take spot.index entries) (entry ∷ drop (suc spot.index) entries));
   place = ap (λ (s : Spot). s.place) at.at
       ∙ sym (place_is names (take spot.index entries) named);
 }
 
 -- the spot behind it
 pub next_spot : (entries : List Entry) (spot next : Spot) (entry : Entry) (len : ℕ)
-    → StandsAt entries spot entry → len ≡ length (entry_bytes entry)
+    → StandsAt entries spot entry → len ≡ length (payload_at entries spot entry)
     → next ≡ record { index = spot.index + 1; place = spot.place + 5 + len; next = entry.next }
     → IsSpot entries next
 next_spot entries spot next entry len at size is =
@@ -90,31 +100,42 @@ next_spot entries spot next entry len at size is =
     ∙ ap (λ (n : ℕ). behind (take n entries)) step
 
 module _ (told : Option (List ℕ)) (names : Names) (named : AreNames names) (entries : List Entry)
-    (sound : AreEntries first_numbers entries)
+    (sound : DaysGoOn first_numbers entries)
     (stands : ForSome told (λ b. JournalOf b (Born names entries)))
     (spot : Spot) where
   -- what is read there is its payload
   pub read_is : (bytes : List ℕ) → ReadsPayload told spot.place bytes → (b : List ℕ)
       → told ≡ Some b → (entry : Entry) → StandsAt entries spot entry
-      → (bytes ≡ entry_bytes entry) × IsEntry entry
+      → (bytes ≡ payload_at entries spot entry) × IsEntry entry
   read_is bytes read b e entry at =
       let journal = stands b e in
-      let there = subst (λ (ps : List (List ℕ)). IsAt ps spot.place (entry_bytes entry))
+      let there = subst (λ (ps : List (List ℕ)). IsAt ps spot.place (payload_at entries spot entry))
       (sym journal.2.written) (at_place names entries spot entry named at) in (
         at_some told (λ x. (ps : List (List ℕ)) (q : List ℕ) → Stands x ps
-            → IsAt ps spot.place q → bytes ≡ q) b e read journal.0 (entry_bytes entry)
+            → IsAt ps spot.place q → bytes ≡ q) b e read journal.0 (payload_at entries spot entry)
             journal.1 there,
         entry_at first_numbers entries spot.index entry sound at.is,
+      )
+
+  -- which is one on some day
+  pub payload_is : (bytes : List ℕ) → ReadsPayload told spot.place bytes → (b : List ℕ)
+      → told ≡ Some b → (entry : Entry) → StandsAt entries spot entry
+      → IsPayload bytes entry × IsEntry entry
+  payload_is bytes read b e entry at =
+      let here = read_is bytes read b e entry at in (
+        (day_after (day_number (take spot.index entries)) entry, here.0),
+        here.1,
       )
 
   pub not_missing : HasNoPayload told spot.place → (b : List ℕ) → told ≡ Some b
       → (entry : Entry) → StandsAt entries spot entry → ⊥
   not_missing none b e entry at =
       let journal = stands b e in
-      let there = subst (λ (ps : List (List ℕ)). IsAt ps spot.place (entry_bytes entry))
+      let there = subst (λ (ps : List (List ℕ)). IsAt ps spot.place (payload_at entries spot entry))
       (sym journal.2.written) (at_place names entries spot entry named at) in
       at_some told (λ x. (ps : List (List ℕ)) (q : List ℕ) → Stands x ps
-      → IsAt ps spot.place q → ⊥) b e none journal.0 (entry_bytes entry) journal.1 there
+      → IsAt ps spot.place q → ⊥) b e none journal.0 (payload_at entries spot entry)
+      journal.1 there
 
   -- it stands before the end
   pub not_behind : (log : LogState) → HasExtent log names entries → log.end ≤ spot.place
@@ -125,20 +146,21 @@ module _ (told : Option (List ℕ)) (names : Names) (named : AreNames names) (en
         past,
         extent.end,
         at_within (payloads_of names entries) spot.place
-            (entry_bytes entry) (at_place names entries spot entry named at),
+            (payload_at entries spot entry) (at_place names entries spot entry named at),
       ))
 
   -- and the front of it has the next numbers
-  pub front_next : (bytes : List ℕ) (front : Front) (len : ℕ) (next : Spot)
-      → ReadsPayload told spot.place bytes → bytes ≡ front_bytes front → IsFront front
-      → len ≡ length bytes
+  pub front_next : (bytes rest : List ℕ) (day : ℕ) (front : Front) (len : ℕ) (next : Spot)
+      → ReadsPayload told spot.place bytes → bytes ≡ to_be_bytes w32 day ++ rest
+      → rest ≡ front_bytes front → IsFront front → len ≡ length bytes
       → next ≡ record { index = spot.index + 1; place = spot.place + 5 + len; next = front.next }
       → (b : List ℕ) → told ≡ Some b → (entry : Entry) → StandsAt entries spot entry
-      → (bytes ≡ entry_bytes entry) × IsEntry entry × IsSpot entries next
-  front_next bytes front len next read spelt sound_front size is b e entry at =
+      → IsPayload bytes entry × IsEntry entry × IsSpot entries next
+  front_next bytes rest day front len next read dated spelt sound_front size is b e entry at =
       let here = read_is bytes read b e entry at in
-      let says = front_is front entry sound_front here.1 (sym spelt ∙ here.0) in (
-        here.0,
+      let same : rest ≡ entry_bytes entry = ap (drop 4) (sym dated ∙ here.0) in
+      let says = front_is front entry sound_front here.1 (sym spelt ∙ same) in (
+        (day_after (day_number (take spot.index entries)) entry, here.0),
         here.1,
         next_spot entries spot next entry len at (size ∙ ap length here.0)
             (is ∙ ap (λ n. record {
@@ -147,6 +169,21 @@ module _ (told : Option (List ℕ)) (names : Names) (named : AreNames names) (en
               next = n;
             }) says.next),
       )
+
+  -- what stands behind the day is the entry
+  pub rest_is : (bytes rest : List ℕ) (day : ℕ) → ReadsPayload told spot.place bytes
+      → bytes ≡ to_be_bytes w32 day ++ rest → (b : List ℕ) → told ≡ Some b → (entry : Entry)
+      → StandsAt entries spot entry → (rest ≡ entry_bytes entry) × IsEntry entry
+  rest_is bytes rest day read dated b e entry at =
+      let here = read_is bytes read b e entry at in (ap (drop 4) (sym dated ∙ here.0), here.1)
+
+-- a payload has a day in front
+pub has_day : (bytes : List ℕ) (entry : Entry) → IsPayload bytes entry → length bytes < 4 → ⊥
+has_day bytes entry (day, is) short = absurd (omega (arith, ap length is, short))
+
+pub behind_day : (bytes rest : List ℕ) (day : ℕ) (entry : Entry) → IsPayload bytes entry
+    → bytes ≡ to_be_bytes w32 day ++ rest → rest ≡ entry_bytes entry
+behind_day bytes rest day entry (other, is) dated = ap (drop 4) (sym dated ∙ is)
 
 -- ---- the out of a number
 
@@ -160,13 +197,18 @@ in_one side number before entry on low high none =
     (omega (arith, has.next, high)) in
     absurd (cc (none, found.1))
 
+-- each next number is at least 1
+at_least_1 : (side : Side) (entry : Entry) → IsEntry entry → 1 ≤ next_out side entry.next
+at_least_1 Client entry is = is.next.1.0
+at_least_1 Venue entry is = is.next.3.0
+
 -- an entry between two next numbers has the out
 pub has_out : (side : Side) (number : ℕ) (entries : List Entry) (spot next : Spot) (entry : Entry)
-    → AreEntries first_numbers entries → StandsAt entries spot entry → IsSpot entries next
-    → next.index ≡ spot.index + 1 → next_out side spot.next ≤ number
+    → DaysGoOn first_numbers entries → StandsAt entries spot entry
+    → IsSpot entries next → next.index ≡ spot.index + 1 → next_out side spot.next ≤ number
     → number < next_out side next.next → numbered number (outs_to side entry.outs) ≡ None → ⊥
 has_out side number entries spot next entry sound at after index low high none =
-    go first_numbers entries spot.index sound at.is
+    go first_numbers entries spot.index (omega (arith, first_is_1 side)) sound at.is
     (omega (arith, ap (λ (s : Spot). next_out side s.next) at.at, low))
     (omega (arith, ap (λ (s : Spot). next_out side s.next) (after ∙ step), high))
   where
@@ -174,15 +216,32 @@ has_out side number entries spot next entry sound at after index low high none =
     step = let e : next.index ≡ suc spot.index = omega (arith, index) in
         ap (λ (n : ℕ). behind (take n entries)) e
 
-    go : (before : Next) (es : List Entry) (i : ℕ) → AreEntries before es
-        → slice_get es i ≡ Some entry → next_out side (numbers_after before (take i es)) ≤ number
+    -- with a new day no number is given out
+    at_entry : (b : Bool) (before : Next) (e : Entry) → 1 ≤ next_out side before → e.reset ≡ b
+        → IsEntry e → GoesOn (numbers_before before e) e → next_out side before ≤ number
+        → number < next_out side e.next → numbered number (outs_to side e.outs) ≡ None → ⊥
+    at_entry true before e one is sound on low high none = absurd (omega (
+      arith,
+      one,
+      low,
+      high,
+      ap (next_out side) (sound.reset is).next,
+      first_is_1 side,
+    ))
+    at_entry false before e one is sound on low high none = in_one side number before e
+        (subst (λ (n : Next). GoesOn n e) (before_more before e is) on) low high none
+
+    go : (before : Next) (es : List Entry) (i : ℕ) → 1 ≤ next_out side before
+        → DaysGoOn before es → slice_get es i ≡ Some entry
+        → next_out side (numbers_after before (take i es)) ≤ number
         → number < next_out side (numbers_after before (take (suc i) es)) → ⊥
-    go before [] i are e low high = absurd (cc e)
-    go before (a ∷ es) zero are e low high =
+    go before [] i one are e low high = absurd (cc e)
+    go before (a ∷ es) zero one are e low high =
         let is : a ≡ entry = cc e in
-        in_one side number before a are.1 low high
+        at_entry a.reset before a one refl are.0 are.1 low high
         (ap (λ (x : Entry). numbered number (outs_to side x.outs)) is ∙ none)
-    go before (a ∷ es) (suc i) are e low high = go a.next es i are.2 e low high
+    go before (a ∷ es) (suc i) one are e low high =
+        go a.next es i (at_least_1 side a are.0) are.2 e low high
 
 -- what is told of an entry is what the journal gives
 pub given_told : (side : Side) (number : ℕ) (entry : Entry) (what : OutAt)
@@ -234,6 +293,18 @@ given_is side number entries i entry what sound here low tells =
         subst (λ g. IsGivenAs g what) (sym (behind_is side number a es
         (above_entry side number before a are.1 past))) (go a.next es j are.2 e low)
 
+-- the same on the last day
+pub given_today : (side : Side) (number : ℕ) (entries : List Entry) (i : ℕ) (entry : Entry)
+    (what : OutAt) → DaysGoOn first_numbers entries → length (past_of entries) ≤ i
+    → slice_get entries i ≡ Some entry
+    → next_out side (numbers_after first_numbers (take i entries)) ≤ number
+    → IsGivenAs (given_in side number entry) what
+    → IsGivenAs (given side number (last_day entries)) what
+given_today side number entries i entry what sound in_day here low tells =
+    given_is side number (last_day entries) (i - length (past_of entries)) entry what
+    (last_is_sound entries sound) (sym (entry_in entries sound i in_day) ∙ here)
+    (omega (arith, low, ap (next_out side) (numbers_at entries sound i in_day))) tells
+
 -- ---- a walk to it
 
 module _ (entries : List Entry) (side : Side) (number : ℕ)
@@ -258,19 +329,31 @@ module _ (entries : List Entry) (side : Side) (number : ℕ)
           let here = get_some entries spot.index (not_past (length entries) spot.index within) in
           (here.0, record { at = at; is = here.1 })
 
+-- where a walk to it begins
+pub walk_begins : (entries : List Entry) (side : Side) (number : ℕ) (mark spot there : Spot)
+    → HoldsOut entries side number mark → IsSpot entries there
+    → (day_start entries ≤ there.index → next_out side there.next ≤ number)
+    → (spot ≡ mark) ⊎ (spot ≡ there) → mark.index ≤ spot.index
+    → IsSpot entries spot × (next_out side spot.next ≤ number)
+walk_begins entries side number mark spot there holds is passed (inl at) from =
+    subst (λ (s : Spot). IsSpot entries s × (next_out side s.next ≤ number)) (sym at)
+    (holds.at, holds.from)
+walk_begins entries side number mark spot there holds is passed (inr at) from =
+    let index : spot.index ≡ there.index = ap (λ (s : Spot). s.index) at in
+    subst (λ (s : Spot). IsSpot entries s × (next_out side s.next ≤ number)) (sym at)
+    (is, passed (omega (arith, holds.in_day, from, index)))
+
 -- as many records on it is passed
 pub walk_ends : (entries : List Entry) (side : Side) (number : ℕ) (first spot : Spot)
-    → AreEntries first_numbers entries → HoldsOut entries side number first
-    → IsSpot entries spot → spot.index ≡ first.index + 64 → next_out side spot.next ≤ number → ⊥
-walk_ends entries side number first spot sound holds at index low =
-    omega (
-      arith,
-      holds.to,
-      ap (λ (s : Spot). next_out side s.next) at,
-      rise_take side first_numbers entries (first.index + 64) spot.index sound
-          (omega (arith, index)),
-      low,
-    )
+    → HoldsOut entries side number first → IsSpot entries spot → spot.index ≡ first.index + 64
+    → next_out side spot.next ≤ number → ⊥
+walk_ends entries side number first spot holds at index low = omega (
+  arith,
+  holds.to,
+  ap (λ (s : Spot). next_out side s.next) at,
+  ap (λ n. next_out side (numbers_after first_numbers (take n entries))) index,
+  low,
+)
 
 -- a read that another call handed on was refused, so no payload stands there
 pub unread_refused : {T : Type 0} (r : Result T JournalError) (error : JournalError)

@@ -1,22 +1,23 @@
 -- What the payloads of a log, read one by one, say of a journal.
 use Rattle.std.proofs.Common.{◌≡◌, inl, inr, ℕ, ◌+◌, ◌<◌, ◌≤◌, List, [], ◌∷◌, ◌++◌}
-use Rattle.std.proofs.Common.{map, length, drop, refl, sym, ◌∙◌, ap, subst, arith, append_assoc}
+use Rattle.std.proofs.Common.{length, drop, refl, sym, ◌∙◌, ap, subst, arith, append_assoc}
 use Rattle.std.proofs.Common.{length-append}
 use Rattle.order_meaning.specs.declared.names.Names.{Names}
 use Rattle.std.specs.declared.option.Option.{Option}
 use Rattle.gate_log.specs.Records.{blocks}
 use Rattle.gate_log.specs.Log.{IsAt, OnlyRead}
 use Rattle.pair_entries.specs.declared.entry.Entry.{Entry}
-use Rattle.pair_entries.specs.Payload.{Next, entry_bytes}
+use Rattle.pair_entries.specs.Payload.{Next, entry_bytes, payload_on}
 use Rattle.pair_entries.specs.Birth.{birth_bytes, AreNames}
-use Rattle.pair_journal.specs.Numbers.{GoesOn, first_numbers, numbers_after}
-use Rattle.pair_journal.specs.Journal.{AreEntries, Misspells}
+use Rattle.pair_journal.specs.Numbers.{GoesOn, first_numbers, numbers_before, numbers_after}
+use Rattle.pair_journal.specs.Days.{dated, day_after, day_number}
+use Rattle.pair_journal.specs.Journal.{DaysGoOn, Misspells}
 use Rattle.pair_journal.specs.Calls.{payloads_of}
 use Rattle.pair_journal.specs.Loading.{IsBorn, Follows}
 use Rattle.pair_entries.proofs.Same.{same_entry}
 use Rattle.pair_entries.proofs.Fronts.{entry_short}
 use Rattle.pair_journal.proofs.Carrying.{payloads-push}
-use Rattle.pair_journal.proofs.Carrying.{map_length}
+use Rattle.pair_journal.proofs.Dating.{length-dated}
 use Rattle.pair_journal.proofs.Marking.{place_is}
 use Rattle.pair_journal.specs.Spots.{behind}
 use Rattle.pair_journal.specs.declared.spot.Spot.{Spot}
@@ -62,12 +63,13 @@ no_payloads (p ∷ after) none = absurd (omega (arith, none))
 -- ---- the payloads behind it
 
 -- these entries were read, and the next stands at this place
-pub record Walks (names : Names) (entries : List Entry) (index place : ℕ) (numbers : Next) : Type 0
-  where
-    pub stands : place ≡ length (blocks (payloads_of names entries))
-    pub sound : AreEntries first_numbers entries
-    pub reached : numbers ≡ numbers_after first_numbers entries
-    pub count : index ≡ length entries + 1
+pub record Walks (names : Names) (entries : List Entry) (index place day : ℕ) (numbers : Next)
+    : Type 0 where
+  pub stands : place ≡ length (blocks (payloads_of names entries))
+  pub sound : DaysGoOn first_numbers entries
+  pub on_day : day ≡ day_number entries
+  pub reached : numbers ≡ numbers_after first_numbers entries
+  pub count : index ≡ length entries + 1
 
 -- payloads begin with those of a journal
 pub record Begins (payloads : List (List ℕ)) (names : Names) (entries : List Entry) : Type 0 where
@@ -75,12 +77,14 @@ pub record Begins (payloads : List (List ℕ)) (names : Names) (entries : List E
   pub split : payloads ≡ payloads_of names entries ++ after
 
 -- what is kept of them says where the next stands
-pub walks_at : (names : Names) (entries : List Entry) (index : ℕ) (end : Spot) → AreNames names
-    → AreEntries first_numbers entries → index ≡ length entries + 1 → end ≡ behind entries
-    → Walks names entries index end.place end.next
-walks_at names entries index end named sound count is = record {
+pub walks_at : (names : Names) (entries : List Entry) (index day : ℕ) (end : Spot)
+    → AreNames names → DaysGoOn first_numbers entries → index ≡ length entries + 1
+    → day ≡ day_number entries → end ≡ behind entries
+    → Walks names entries index end.place day end.next
+walks_at names entries index day end named sound count on_day is = record {
   stands = ap (λ (s : Spot). s.place) is ∙ sym (place_is names entries named);
   sound = sound;
+  on_day = on_day;
   reached = ap (λ (s : Spot). s.next) is;
   count = count;
 }
@@ -91,19 +95,20 @@ head_of x y xs ys e = (let h : x ≡ y = cc e in h, ap (drop 1) e)
 list_join : (e f : Entry) (es fs : List Entry) → e ≡ f → es ≡ fs → e ∷ es ≡ f ∷ fs
 list_join e f es fs h hs = cc
 
-pub same_entries : (before other : Next) (es fs : List Entry)
-    → AreEntries before es → AreEntries other fs → map entry_bytes es ≡ map entry_bytes fs → es ≡ fs
-same_entries before other [] [] he hf is = refl
-same_entries before other [] (f ∷ fs) he hf is = absurd (cc is)
-same_entries before other (e ∷ es) [] he hf is = absurd (cc is)
-same_entries before other (e ∷ es) (f ∷ fs) he hf is =
-    let parts =
-    head_of (entry_bytes e) (entry_bytes f) (map entry_bytes es) (map entry_bytes fs) is in
-    list_join e f es
-    fs (same_entry e f he.0 hf.0 parts.0) (same_entries e.next f.next es fs he.2 hf.2 parts.1)
+pub same_entries : (before other : Next) (d c : ℕ) (es fs : List Entry)
+    → DaysGoOn before es → DaysGoOn other fs → dated d es ≡ dated c fs → es ≡ fs
+same_entries before other d c [] [] he hf is = refl
+same_entries before other d c [] (f ∷ fs) he hf is = absurd (cc is)
+same_entries before other d c (e ∷ es) [] he hf is = absurd (cc is)
+same_entries before other d c (e ∷ es) (f ∷ fs) he hf is =
+    let parts = head_of (payload_on (day_after d e) e) (payload_on (day_after c f) f)
+    (dated (day_after d e) es) (dated (day_after c f) fs) is in
+    let bytes : entry_bytes e ≡ entry_bytes f = ap (drop 4) parts.0 in
+    list_join e f es fs (same_entry e f he.0 hf.0 bytes)
+    (same_entries e.next f.next (day_after d e) (day_after c f) es fs he.2 hf.2 parts.1)
 
-module _ (names : Names) (entries : List Entry) (index place : ℕ) (numbers : Next)
-    (walks : Walks names entries index place numbers) (payloads : List (List ℕ))
+module _ (names : Names) (entries : List Entry) (index place day : ℕ)
+    (numbers : Next) (walks : Walks names entries index place day numbers) (payloads : List (List ℕ))
     (begins : Begins payloads names entries) where
   next_of : index < length payloads
       → (p : List ℕ) × (left : List (List ℕ)) × (begins.after ≡ p ∷ left)
@@ -116,7 +121,7 @@ module _ (names : Names) (entries : List Entry) (index place : ℕ) (numbers : N
         ap length begins.split,
         ap (λ (l : List (List ℕ)). length (payloads_of names entries ++ l)) none,
         length-append (payloads_of names entries) [],
-        map_length entries,
+        length-dated 0 entries,
         walks.count,
         within,
       ))
@@ -142,7 +147,7 @@ module _ (names : Names) (entries : List Entry) (index place : ℕ) (numbers : N
         arith,
         ap length begins.split,
         length-append (payloads_of names entries) begins.after,
-        map_length entries,
+        length-dated 0 entries,
         walks.count,
         done,
       ))) ∙ append_none (payloads_of names entries)
@@ -163,7 +168,7 @@ module _ (names : Names) (entries : List Entry) (index place : ℕ) (numbers : N
 
     -- the payload there is of no entry that goes on
     pub misread : AreNames names
-        → ((entry : Entry) → Follows numbers bytes entry → ⊥) → Misspells payloads place
+        → ((entry : Entry) → Follows day numbers bytes entry → ⊥) → Misspells payloads place
     misread named none = record {
       before = payloads_of names entries;
       payload = bytes;
@@ -173,25 +178,26 @@ module _ (names : Names) (entries : List Entry) (index place : ℕ) (numbers : N
       sound = inr (names, entries, record { written = refl; named = named; sound = walks.sound });
       none = λ other others entry whole sound is on written.
           let parts = head_of (birth_bytes names)
-          (birth_bytes other) (map entry_bytes entries) (map entry_bytes others) whole in
-          let same =
-          same_entries first_numbers first_numbers entries others walks.sound sound parts.1 in
+          (birth_bytes other) (dated 0 entries) (dated 0 others) whole in
+          let same : entries ≡ others =
+          same_entries first_numbers first_numbers 0 0 entries others walks.sound sound parts.1 in
           let at : numbers_after first_numbers others ≡ numbers =
           ap (numbers_after first_numbers) (sym same) ∙ sym walks.reached in
+          let today : day_number others ≡ day = ap day_number (sym same) ∙ sym walks.on_day in
           none entry (record {
-            written =
-                written;
+            written = written ∙ ap (λ n. payload_on (day_after n entry) entry) today;
             sound = is;
-            goes_on = subst (λ (n : Next). GoesOn n entry) at on;
+            goes_on = subst (λ (n : Next). GoesOn (numbers_before n entry) entry) at on;
           });
     }
 
-    pub more_begins : (entry : Entry) (more : List Entry) → Follows numbers bytes entry
+    pub more_begins : (entry : Entry) (more : List Entry) → Follows day numbers bytes entry
         → more ≡ entries ++ entry ∷ [] → Begins payloads names more
     more_begins entry more follows pushed =
         let written : payloads_of names entries
         ++ bytes ∷ [] ≡ payloads_of names (entries ++ entry ∷ []) =
-        ap (λ (p : List ℕ). payloads_of names entries ++ p ∷ []) follows.written
+        ap (λ (p : List ℕ). payloads_of names entries ++ p ∷ []) (follows.written
+        ∙ ap (λ n. payload_on (day_after n entry) entry) walks.on_day)
         ∙ payloads-push names entries entry in record {
           after = split_here.0;
           split = split_here.1
@@ -201,9 +207,9 @@ module _ (names : Names) (entries : List Entry) (index place : ℕ) (numbers : N
         }
 
 -- the payload of an entry is short
-pub fits : (numbers : Next) (bytes : List ℕ) (entry : Entry)
-    → Follows numbers bytes entry → length bytes ≤ 65536
-fits numbers bytes entry follows =
+pub fits : (day : ℕ) (numbers : Next) (bytes : List ℕ) (entry : Entry)
+    → Follows day numbers bytes entry → length bytes ≤ 65536
+fits day numbers bytes entry follows =
     omega (arith, ap length follows.written, entry_short entry follows.sound)
 
 -- ---- the disk, while it is read

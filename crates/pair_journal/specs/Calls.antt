@@ -1,5 +1,5 @@
 -- Own: what the calls of a journal answer, and what they do to the images of a disk.
-use Rattle.std.specs.Prelude.{◌≡◌, ◌≢◌, ◌⊎◌, ℕ, ◌+◌, ◌-◌, ◌≤◌, List, [], ◌∷◌, ◌++◌, map, length}
+use Rattle.std.specs.Prelude.{◌≡◌, ◌≢◌, ◌⊎◌, ℕ, ◌+◌, ◌-◌, ◌≤◌, List, [], ◌∷◌, ◌++◌, length}
 use Rattle.std.specs.Prelude.{true}
 use Rattle.std.specs.Prelude.{Some, None, IfSome, Result, Ok, Err}
 use Rattle.std.specs.declared.option.Option.{Option}
@@ -14,7 +14,7 @@ use Rattle.gate_log.specs.Log.{HasRoom}
 use Rattle.pair_journal.specs.declared.error.JournalError.{JournalError}
 use Rattle.pair_journal.specs.declared.error.JournalError.TheVariants as errors
 use Rattle.pair_entries.specs.declared.entry.Entry.{Entry}
-use Rattle.pair_entries.specs.Payload.{entry_bytes}
+use Rattle.pair_journal.specs.Days.{dated, payload_behind}
 use Rattle.pair_entries.specs.Birth.{birth_bytes}
 use Rattle.pair_journal.specs.Journal.{Unborn, Born, Refused, JournalOf}
 use Rattle.pair_journal.specs.State.{JournalState}
@@ -85,20 +85,20 @@ BornOrNot told before after names =
 
 -- the payloads of a journal
 abbrev pub payloads_of : Names → List Entry → List (List ℕ)
-payloads_of names entries = birth_bytes names ∷ map entry_bytes entries
+payloads_of names entries = birth_bytes names ∷ dated 0 entries
 
 -- What a commit answers: the entry, which is now the last; `Full` exactly where its record has no
 -- room, and then nothing changed; or a disk fault, after which the journal is broken.
 abbrev pub Commits : Entry → JournalState → JournalState → Result Entry JournalError → Type 0
 Commits entry old new (Ok answer) =
-    (answer ≡ entry) × HasRoom (payloads_of old.names old.entries) (entry_bytes entry)
+    (answer ≡ entry) × HasRoom (payloads_of old.names old.entries) (payload_behind old.entries entry)
     × (new ≡ record old { entries = old.entries ++ entry ∷ []; spare = old.spare - 1 })
 Commits entry old new (Err errors.DiskFault) =
-    HasRoom (payloads_of old.names old.entries) (entry_bytes entry)
+    HasRoom (payloads_of old.names old.entries) (payload_behind old.entries entry)
     × (new ≡ record old { broken = true })
 Commits entry old new (Err errors.Full) =
     (MAX_DISK ≤ length (blocks (payloads_of old.names old.entries))
-    + 5 + length (entry_bytes entry)) × (new ≡ old)
+    + 5 + length (payload_behind old.entries entry)) × (new ≡ old)
 Commits entry old new (Err other) = ⊥
 
 -- where the one image of a disk stands for a journal, each image then stands for it, or for it with

@@ -1,32 +1,39 @@
 -- Own: what the bytes of a journal stand for; docs/DEFINITIONS.md, "Disk and journal".
-use Rattle.std.specs.Prelude.{◌≡◌, ◌⊎◌, ℕ, List, [], ◌∷◌, ◌++◌, map, length}
+use Rattle.std.specs.Prelude.{◌≡◌, ◌⊎◌, ℕ, List, [], ◌∷◌, ◌++◌, length}
 use Rattle.order_meaning.specs.declared.names.Names.{Names}
 use Rattle.gate_log.specs.Records.{blocks, Stands, IsRefused}
 use Rattle.pair_entries.specs.declared.entry.Entry.{Entry}
-use Rattle.pair_entries.specs.Payload.{Next, IsEntry, entry_bytes}
+use Rattle.pair_entries.specs.Payload.{Next, IsEntry}
 use Rattle.pair_entries.specs.Birth.{birth_bytes, AreNames}
-use Rattle.pair_journal.specs.Numbers.{GoesOn, first_numbers, numbers_after}
+use Rattle.pair_journal.specs.Numbers.{GoesOn, first_numbers, numbers_before, numbers_after}
+use Rattle.pair_journal.specs.Days.{dated, payload_behind}
 
--- entries within their bounds, whose numbers go on
+-- entries within their bounds, whose numbers go on; of a day these are all
 abbrev pub AreEntries : Next → List Entry → Type 0
 AreEntries before [] = Unit {0}
 AreEntries before (entry ∷ entries) =
     IsEntry entry × GoesOn before entry × AreEntries entry.next entries
 
+-- the same of entries over days: with each day the numbers begin anew
+abbrev pub DaysGoOn : Next → List Entry → Type 0
+DaysGoOn before [] = Unit {0}
+DaysGoOn before (entry ∷ entries) =
+    IsEntry entry × GoesOn (numbers_before before entry) entry × DaysGoOn entry.next entries
+
 -- these payloads are those of a journal of these names and entries
 pub record Spells (payloads : List (List ℕ)) (names : Names) (entries : List Entry) : Type 0 where
-  pub written : payloads ≡ birth_bytes names ∷ map entry_bytes entries
+  pub written : payloads ≡ birth_bytes names ∷ dated 0 entries
   pub named : AreNames names
-  pub sound : AreEntries first_numbers entries
+  pub sound : DaysGoOn first_numbers entries
 
 -- a payload that is not of the right form behind the earlier ones, which are
 abbrev pub IsMisspelt : List (List ℕ) → List ℕ → Type 0
 IsMisspelt [] payload = (names : Names) → AreNames names → payload ≡ birth_bytes names → ⊥
 IsMisspelt (birth ∷ before) payload = (names : Names) (entries : List Entry) (entry : Entry) →
-    birth ∷ before ≡ birth_bytes names ∷ map entry_bytes entries
-    → AreEntries first_numbers entries →
-    IsEntry entry
-    → GoesOn (numbers_after first_numbers entries) entry → payload ≡ entry_bytes entry → ⊥
+    birth ∷ before ≡ birth_bytes names ∷ dated 0 entries
+    → DaysGoOn first_numbers entries → IsEntry entry
+    → GoesOn (numbers_before (numbers_after first_numbers entries) entry) entry
+    → payload ≡ payload_behind entries entry → ⊥
 
 -- the first payload that is not of the right form stands at this place
 pub record Misspells (payloads : List (List ℕ)) (at : ℕ) : Type 0 where

@@ -6,8 +6,9 @@ use Rattle.order_meaning.specs.declared.Side.TheVariants.{Client, Venue}
 use Rattle.pair_entries.specs.declared.TheConstants.{MAX_OUTS}
 use Rattle.pair_journal.specs.declared.kept.Kept.TheInside.{Inside}
 use Rattle.pair_journal.specs.Numbers.{first_numbers}
-use Rattle.pair_journal.specs.Journal.{AreEntries}
-use Rattle.pair_journal.specs.Spots.{AreMarks}
+use Rattle.pair_journal.specs.Journal.{DaysGoOn}
+use Rattle.pair_journal.specs.Days.{last_day, day_at}
+use Rattle.pair_journal.specs.Spots.{at_day, AreMarks}
 use Rattle.pair_journal.specs.Sources.{sources_to}
 use Rattle.pair_journal.specs.State.{KeptState}
 
@@ -24,8 +25,10 @@ pub record HasRoom (kept : Inside) : Type 0 where
   pub venue : vec_len kept.venue + MAX_OUTS ≤ vec_capacity kept.venue
 
 pub record IsKept (kept : Inside) : Type 0 where
-  pub sound : AreEntries first_numbers kept.reached
+  pub sound : DaysGoOn first_numbers kept.reached
+  pub begins : kept.begins ≡ at_day kept.reached
+  pub at : kept.at ≡ day_at kept.reached
   pub marks : AreMarks kept.reached kept.marks.items
-  pub client : kept.client.items ≡ sources_to Client kept.reached
-  pub venue : kept.venue.items ≡ sources_to Venue kept.reached
+  pub client : kept.client.items ≡ sources_to Client (last_day kept.reached)
+  pub venue : kept.venue.items ≡ sources_to Venue (last_day kept.reached)
   pub room : kept.spare ≡ true → HasRoom kept

@@ -1,3 +1,4 @@
+pub mod Days
 pub mod Numbers
 pub mod Journal
 pub mod Laws

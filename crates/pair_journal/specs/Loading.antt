@@ -8,8 +8,9 @@ use Rattle.gate_log.specs.State.{LogState}
 use Rattle.pair_journal.specs.declared.error.JournalError.{JournalError}
 use Rattle.pair_journal.specs.declared.error.JournalError.TheVariants as errors
 use Rattle.pair_entries.specs.declared.entry.Entry.{Entry}
-use Rattle.pair_entries.specs.Payload.{Next, IsEntry, entry_bytes}
-use Rattle.pair_journal.specs.Numbers.{GoesOn}
+use Rattle.pair_entries.specs.Payload.{Next, IsEntry, payload_on}
+use Rattle.pair_journal.specs.Numbers.{GoesOn, numbers_before}
+use Rattle.pair_journal.specs.Days.{day_after}
 use Rattle.pair_entries.specs.Birth.{birth_bytes, AreNames}
 use Rattle.pair_journal.specs.Journal.{JournalOf, Born}
 use Rattle.pair_journal.specs.Calls.{Looks, payloads_of}
@@ -21,11 +22,15 @@ pub record IsBorn (payloads : List (List ℕ)) (names : Names) : Type 0 where
   pub after : List (List ℕ)
   pub split : payloads ≡ birth_bytes names ∷ after
 
--- this payload is that of an entry whose numbers go on
-pub record Follows (numbers : Next) (payload : List ℕ) (entry : Entry) : Type 0 where
-  pub written : payload ≡ entry_bytes entry
+-- this payload is that of an entry on the day behind this one or on this one, whose numbers go on
+pub record Follows (day : ℕ) (numbers : Next) (payload : List ℕ) (entry : Entry) : Type 0 where
+  pub written : payload ≡ payload_on (day_after day entry) entry
   pub sound : IsEntry entry
-  pub goes_on : GoesOn numbers entry
+  pub goes_on : GoesOn (numbers_before numbers entry) entry
+
+-- this payload is that of an entry, on some day
+abbrev pub IsPayload : List ℕ → Entry → Type 0
+IsPayload payload entry = (day : ℕ) × (payload ≡ payload_on day entry)
 
 -- a read at a place gave up: no payload stands there, or it could not be read
 abbrev pub Unread : Option (List ℕ) → ℕ → JournalError → Type 0

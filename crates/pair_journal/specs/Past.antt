@@ -52,10 +52,17 @@ coded_next = code_by ((ℕ × ℕ) × (ℕ × ℕ)) (coded× (coded× coded_ℕ 
     (λ n. ((n.0, n.1), (n.2, n.3))) (λ p. (p.0.0, p.0.1, p.1.0, p.1.1)) (λ _. refl)
 
 abbrev coded_entry : Coded Entry
-coded_entry = code_by ((ℕ × Option Took) × (Next × List Out))
-    (coded× (coded× coded_ℕ (coded_option coded_took)) (coded× coded_next (coded_list coded_out)))
-    (λ e. ((e.at, e.took), (e.next, e.outs)))
-    (λ p. record { at = p.0.0; took = p.0.1; next = p.1.0; outs = p.1.1 }) (λ _. refl)
+coded_entry = code_by ((ℕ × (Bool × Option Took)) × (Next × List Out))
+    (coded× (coded× coded_ℕ (coded× coded_bool (coded_option coded_took)))
+    (coded× coded_next (coded_list coded_out)))
+    (λ e. ((e.at, (e.reset, e.took)), (e.next, e.outs)))
+    (λ p. record {
+      at = p.0.0;
+      reset = p.0.1.0;
+      took = p.0.1.1;
+      next = p.1.0;
+      outs = p.1.1;
+    }) (λ _. refl)
 
 abbrev pub coded_entries : Coded (List Entry)
 coded_entries = coded_list coded_entry

@@ -1,5 +1,5 @@
 -- Inside: what the outs to a side translate, as a journal keeps it.
-use Rattle.std.specs.Prelude.{ℕ, true, false, List, [], ◌∷◌, ◌++◌, None}
+use Rattle.std.specs.Prelude.{ℕ, true, false, List, [], ◌∷◌, ◌++◌, None, if◌then◌else◌}
 use Rattle.std.specs.Option.{option_map, option_to_list}
 use Rattle.std.specs.declared.option.Option.{Option}
 use Rattle.order_meaning.specs.declared.Side.{Side}
@@ -25,6 +25,11 @@ abbrev pub sources_in : Side → Entry → List Out → List Source
 sources_in side entry [] = []
 sources_in side entry (out ∷ outs) =
     option_to_list (source_to side entry out) ++ sources_in side entry outs
+
+-- what is kept behind an entry, where these are: with a new day nothing is
+abbrev pub noted : Side → Entry → List Source → List Source
+noted side entry list =
+    if entry.reset then [] else list ++ sources_in side entry entry.outs
 
 -- what the outs of these entries translate
 abbrev pub sources_to : Side → List Entry → List Source

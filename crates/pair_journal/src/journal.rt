@@ -12,11 +12,13 @@ ghost use Rattle.gate_log.specs.Chunk.{IsOf};
 ghost use Rattle.pair_journal.specs.declared.error.JournalError.TheVariants as errors;
 ghost use Rattle.pair_journal.specs.declared.spot.Spot.{Spot};
 ghost use Rattle.pair_entries.specs.declared.entry.Entry.{Entry};
-ghost use Rattle.pair_entries.specs.Payload.{AreNext, IsEntry, entry_bytes};
+ghost use Rattle.pair_entries.specs.Payload.{AreNext, IsEntry};
 ghost use Rattle.pair_entries.specs.Birth.{AreNames};
-ghost use Rattle.pair_journal.specs.Numbers.{GoesOn, first_numbers, numbers_after, next_out};
-ghost use Rattle.pair_journal.specs.Numbers.{outs_to};
-ghost use Rattle.pair_journal.specs.Journal.{JournalOf, Unborn, Born, AreEntries};
+ghost use Rattle.pair_journal.specs.Numbers.{GoesOn, first_numbers, numbers_before, numbers_after};
+ghost use Rattle.pair_journal.specs.Numbers.{next_out, outs_to};
+ghost use Rattle.pair_journal.specs.Journal.{JournalOf, Unborn, Born, DaysGoOn};
+ghost use Rattle.pair_journal.specs.Days.{last_day, day_at};
+ghost use Rattle.pair_entries.specs.declared.TheConstants.{MAX_AT};
 ghost use Rattle.pair_journal.specs.Given.{numbered, given_in, given, source_of};
 ghost use Rattle.pair_journal.specs.Spots.{IsSpot, StandsAt};
 ghost use Rattle.pair_journal.specs.Walks.{IsWalk};
@@ -24,17 +26,17 @@ ghost use Rattle.pair_journal.specs.OutBuf.{IsGivenAs, IsOutAt, TellsIf};
 ghost use Rattle.pair_journal.specs.Buffer.{out_told, IsRoomy};
 ghost use Rattle.pair_journal.specs.Calls.{HasDiskCause, ReadsOnly, Looks, Loads, BornOrNot};
 ghost use Rattle.pair_journal.specs.Calls.{Commits, KeepsJournal, OnlyReading, RefusedUntold};
-ghost use Rattle.pair_journal.specs.Loading.{HasNames, Tells, IsMisread};
+ghost use Rattle.pair_journal.specs.Loading.{HasNames, Tells, IsMisread, IsPayload};
 
 use crate::given::out_in;
 use crate::kept::Kept;
 use crate::loading::{read_log, read_record};
-use crate::numbers::next_out;
+use crate::numbers::{day_after, next_out};
 use crate::out_buf::OutTold;
 use crate::reached::Keeper;
 use crate::spot::{STRIDE, Spot, later};
 use crate::{JournalError, Look, OutBuf, Reader};
-use gate_log::{Chunk, Log};
+use gate_log::{Chunk, Log, u32_front};
 use order_meaning::{Names, Side};
 use outside::Disk;
 use pair_entries::{Entry, Prepared, are_names, front_of, same_names, write_birth};
@@ -64,12 +66,15 @@ impl Model for Journal {
 /// Tells the out of this side and number that a payload has; false, where it has none.
 fn tell_out(record: &[u8], side: Side, number: u32, told: &mut OutTold) -> bool
     requires room { IsRoomy told.old }
-    ensures gives { (entry : Entry) → IsEntry entry → record.now ≡ entry_bytes entry →
+    ensures gives { (entry : Entry) → IsEntry entry → IsPayload record.now entry →
         TellsIf result (numbered number (outs_to side entry.outs)) entry.at (out_told told.new) }
     ensures bounds { result ≡ true → IsOutAt (out_told told.new) }
     ensures room { IsRoomy told.new }
 {
-    let Some(front) = front_of(record) else {
+    let Some((_, bytes)) = u32_front(record) else {
+        return false;
+    };
+    let Some(front) = front_of(bytes) else {
         return false;
     };
     let Some(out) = out_in(side, number, &front) else {
@@ -239,11 +244,20 @@ impl Journal {
     /// The next numbers after its last entry: client in, client out, venue in, venue out, each from
     /// 1 to 1,000,000,000; all ones without an entry.
     pub fn next(&self) -> (u32, u32, u32, u32)
-        ensures next { result ≡ numbers_after first_numbers self.now.entries }
+        ensures next { result ≡ numbers_after first_numbers (last_day self.now.entries) }
         ensures bounds { AreNext result }
-        ensures sound { AreEntries first_numbers self.now.entries }
+        ensures sound { DaysGoOn first_numbers self.now.entries }
     {
         self.kept.end().next
+    }
+
+    /// When its last day began: with the entry that began it, or with the first one of all; none
+    /// without an entry. It takes no memory.
+    pub fn day_at(&self) -> Option<u64>
+        ensures at { result ≡ day_at self.now.entries }
+        ensures bounds { IfSome result (λ at. at ≤ MAX_AT) }
+    {
+        self.kept.day_at()
     }
 
     /// Finds the record at a spot, and answers the spot behind it.
@@ -258,9 +272,9 @@ impl Journal {
         requires of { IsOf (D.bytes disk.old) chunk.old }
         ensures of { IsOf (D.bytes disk.new) chunk.new }
         ensures reads { IfOk result (λ next. ForSome (D.bytes disk.old) (λ b. (entry : Entry) →
-            StandsAt self.now.entries spot entry → (chunk.new.payload ≡ entry_bytes entry)
+            StandsAt self.now.entries spot entry → IsPayload chunk.new.payload entry
             × IsEntry entry × IsSpot self.now.entries next)) }
-        ensures sound { AreEntries first_numbers self.now.entries }
+        ensures sound { DaysGoOn first_numbers self.now.entries }
         ensures index { IfOk result (λ next. next.index ≡ spot.index + 1) }
         ensures refuses { (at : ℕ) → result ≡ Err (errors.Refused at) →
             ForSome (D.bytes disk.old) (λ b. (entry : Entry) →
@@ -279,7 +293,10 @@ impl Journal {
         }
         read_record(chunk, disk, spot.place)?;
         let record = chunk.payload();
-        let Some(front) = front_of(record) else {
+        let Some((_, bytes)) = u32_front(record) else {
+            return Err(JournalError::Refused { at: spot.place });
+        };
+        let Some(front) = front_of(bytes) else {
             return Err(JournalError::Refused { at: spot.place });
         };
         Ok(Spot {
@@ -318,7 +335,8 @@ impl Journal {
     ) -> Result<Entry, JournalError>
         requires spare { 1 ≤ self.old.spare }
         requires whole { self.old.broken ≡ false }
-        requires goes_on { GoesOn (numbers_after first_numbers self.old.entries) prepared }
+        requires goes_on { GoesOn (numbers_before
+            (numbers_after first_numbers (last_day self.old.entries)) prepared) prepared }
         requires stands { ForSome (D.bytes disk.old) (λ b.
             JournalOf b (Born self.old.names self.old.entries)) }
         ensures commits { Commits prepared self.old self.new result }
@@ -332,10 +350,12 @@ impl Journal {
         ensures reads { D.reads disk.new ≡ D.reads disk.old }
         ensures cause { HasDiskCause (D.faults disk.old) (D.faults disk.new) result }
     {
-        let payload = prepared.payload();
+        let day = day_after(self.kept.day(), prepared.entry());
+        let dated = prepared.dated(day);
+        let payload = dated.payload();
         let len = payload.len() as u64;
         self.log.append(disk, payload)?;
-        let entry = prepared.into_entry();
+        let entry = dated.into_entry();
         self.kept.add(&entry, len);
         Ok(entry)
     }
@@ -383,10 +403,10 @@ impl Journal {
         Err(JournalError::Refused { at: spot.place })
     }
 
-    /// Reads the out of this side and number, which was given out, and walks on to it. It finds at
-    /// most 64 records, in as many calls of the disk where each of them has 65,541 bytes, and takes
-    /// no memory. Where the numbers rise it begins with the record of the out before, which may hold
-    /// this one too and is not read again.
+    /// Reads the out of this side and number of the last day, which was given out, and walks on to
+    /// it. It finds at most 64 records, in as many calls of the disk where each of them has 65,541
+    /// bytes, and takes no memory. Where the numbers rise it begins with the record of the out before,
+    /// which may hold this one too and is not read again.
     ///
     /// # Errors
     /// `Refused` only over a disk that does not tell its bytes, where a record that was read is no
@@ -400,12 +420,13 @@ impl Journal {
         into: &mut OutBuf,
     ) -> Result<(), JournalError>
         requires above { 1 ≤ number }
-        requires below { number < next_out side (numbers_after first_numbers self.now.entries) }
+        requires below { number
+            < next_out side (numbers_after first_numbers (last_day self.now.entries)) }
         requires stands { ForSome (D.bytes disk.old) (λ b.
             JournalOf b (Born self.now.names self.now.entries)) }
         requires walk { IsWalk (D.bytes disk.old) self.now.entries side number into.old.walk }
         ensures out { OnOk result (ForSome (D.bytes disk.old) (λ b.
-            IsGivenAs (given side number self.now.entries) into.new.told)) }
+            IsGivenAs (given side number (last_day self.now.entries)) into.new.told)) }
         ensures bounds { OnOk result (IsOutAt into.new.told) }
         ensures walk { (later : ℕ) → number ≤ later →
             IsWalk (D.bytes disk.new) self.now.entries side later into.new.walk }
@@ -438,7 +459,7 @@ impl Journal {
     /// with MsgType(35) and the out's type, which is D, F, G or H to the venue, and 8 or 9 to the
     /// client.
     pub fn source_of(&self, side: Side, number: u32) -> Option<(u32, u8)>
-        ensures { result ≡ source_of side number self.now.entries }
+        ensures { result ≡ source_of side number (last_day self.now.entries) }
     {
         self.kept.source_of(side, number)
     }

@@ -1,27 +1,34 @@
 //! What a journal keeps of its entries.
 
 ghost use Rattle.std.specs.Prelude.{◌≡◌, ◌+◌, ◌-◌, ◌^◌, ◌≤◌, ◌<◌, [], ◌∷◌, ◌++◌, length};
-ghost use Rattle.std.specs.Prelude.{OnOk, OnErr};
-ghost use Rattle.pair_entries.specs.Payload.{IsEntry, entry_bytes};
-ghost use Rattle.pair_journal.specs.Numbers.{GoesOn, first_numbers, numbers_after, next_out};
-ghost use Rattle.pair_journal.specs.Journal.{AreEntries};
+ghost use Rattle.std.specs.Prelude.{OnOk, OnErr, IfSome};
+ghost use Rattle.pair_entries.specs.declared.TheConstants.{MAX_AT};
+ghost use Rattle.pair_entries.specs.Payload.{IsEntry};
+ghost use Rattle.pair_journal.specs.Numbers.{GoesOn, first_numbers, numbers_before, numbers_after};
+ghost use Rattle.pair_journal.specs.Numbers.{next_out};
+ghost use Rattle.pair_journal.specs.Days.{last_day, day_at, payload_behind};
+ghost use Rattle.pair_journal.specs.Journal.{DaysGoOn};
 ghost use Rattle.pair_journal.specs.Given.{source_of};
 ghost use Rattle.pair_journal.specs.Spots.{end_of, HoldsOut};
 
-use crate::numbers::next_out;
+use crate::numbers::{begun_with, next_out};
 use crate::reached::{Keeper, Reached};
 use crate::sources::{Source, find, note};
-use crate::spot::{Spot, mark, mark_of};
+use crate::spot::{STRIDE, Spot, mark, mark_of, marks_behind, start};
 use order_meaning::Side;
 use pair_entries::{Entry, MAX_OUTS};
 use std::alloc::{AllocError, Global};
 use std::marker::Model;
 
-/// What a journal keeps of its entries, seen as their list: where they end, a mark behind each
-/// 64th, and what the outs to each side translate. It holds no entry.
+/// What a journal keeps of its entries, seen as their list: where they end and where the last day
+/// begins, a mark behind each 64th, and what the outs of the last day to each side translate. It holds
+/// no entry.
 #[derive(Drop)]
 pub(crate) struct Kept {
     reached: Reached,
+    // Where the last day begins, and when it began.
+    begins: Spot,
+    at: Option<u64>,
     marks: Vec<Spot>,
     client: Vec<Source>,
     venue: Vec<Source>,
@@ -47,11 +54,21 @@ impl Kept {
     {
         Kept {
             reached: Reached::new(),
+            begins: start(),
+            at: None,
             marks: Vec::new(alloc),
             client: Vec::new(alloc),
             venue: Vec::new(alloc),
             spare: false,
         }
+    }
+
+    /// When the last day began; none without an entry.
+    pub(crate) fn day_at(&self) -> Option<u64>
+        ensures at { result ≡ day_at self.now.entries }
+        ensures bounds { IfSome result (λ at. at ≤ MAX_AT) }
+    {
+        self.at
     }
 
     /// Makes room for one entry.
@@ -77,38 +94,45 @@ impl Kept {
     pub(crate) fn add(&mut self, entry: &Entry, len: u64)
         requires spare { 1 ≤ self.old.spare }
         requires sound { IsEntry entry.now }
-        requires goes_on { GoesOn (numbers_after first_numbers self.old.entries) entry.now }
-        requires len { len ≡ length (entry_bytes entry.now) }
-        requires limit { end_of self.old.entries + 5 + len < 2 ^ 64 }
+        requires goes_on { GoesOn (numbers_before
+            (numbers_after first_numbers self.old.entries) entry.now) entry.now }
+        requires len { len ≡ length (payload_behind self.old.entries entry.now) }
+        requires limit { end_of self.old.entries + 5 + len < 2 ^ 32 }
         ensures { self.new ≡ record {
           entries = self.old.entries ++ entry.now ∷ [];
           spare = self.old.spare - 1;
         } }
     {
-        let outs = entry.outs.as_slice();
-        note(&mut self.client, Side::Client, entry, outs);
-        note(&mut self.venue, Side::Venue, entry, outs);
+        note(&mut self.client, Side::Client, entry);
+        note(&mut self.venue, Side::Venue, entry);
         self.reached.add(entry, len);
-        mark(&mut self.marks, self.reached.end());
+        let end = self.reached.end();
+        mark(&mut self.marks, end);
+        self.begins = if entry.reset { end } else { self.begins };
+        self.at = begun_with(self.at, entry);
         self.spare = false;
     }
 
-    /// Where a walk to the entry that gave out this number begins.
+    /// Where a walk to the entry of the last day that gave out this number begins.
     pub(crate) fn holding(&self, side: Side, number: u32) -> Spot
         requires above { 1 ≤ number }
-        requires below { number < next_out side (numbers_after first_numbers self.now.entries) }
+        requires below { number
+            < next_out side (numbers_after first_numbers (last_day self.now.entries)) }
         ensures holds { HoldsOut self.now.entries side number result }
-        ensures sound { AreEntries first_numbers self.now.entries }
+        ensures sound { DaysGoOn first_numbers self.now.entries }
     {
-        let count = self
-            .marks
-            .partition_point(|mark| next_out(side, mark.next) <= number);
-        mark_of(&self.marks, count)
+        let before = (self.begins.index / STRIDE) as usize;
+        let marks = marks_behind(&self.marks, before);
+        let count = marks.partition_point(|mark| next_out(side, mark.next) <= number);
+        if count == 0 {
+            return self.begins;
+        }
+        mark_of(&self.marks, before + count)
     }
 
-    /// What the out of this side and number translates.
+    /// What the out of this side and number of the last day translates.
     pub(crate) fn source_of(&self, side: Side, number: u32) -> Option<(u32, u8)>
-        ensures { result ≡ source_of side number self.now.entries }
+        ensures { result ≡ source_of side number (last_day self.now.entries) }
     {
         match side {
             Side::Client => find(&self.client, number),
@@ -122,6 +146,10 @@ impl Keeper for Kept {
 
     fn end(&self) -> Spot {
         self.reached.end()
+    }
+
+    fn day(&self) -> u32 {
+        self.reached.day()
     }
 
     fn keep(&mut self, entry: &Entry, len: u64) -> Result<(), AllocError> {

@@ -25,6 +25,7 @@ mod walk;
 pub use error::JournalError;
 pub use given::source_in;
 pub use journal::Journal;
+pub use loading::payload_next;
 pub use look::Look;
 pub use out_buf::{OUT_ROOM, OutBuf};
 pub use reader::{NoReader, Reader};

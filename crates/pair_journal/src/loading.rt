@@ -1,6 +1,6 @@
 //! The payloads of a log as the names and the entries of a journal.
 
-ghost use Rattle.std.specs.Prelude.{◌≢◌, ◌+◌, Err};
+ghost use Rattle.std.specs.Prelude.{◌≢◌, ◌+◌, ◌<◌, ◌^◌, Err};
 ghost use Rattle.pair_journal.specs.declared.error.JournalError.TheVariants as errors;
 ghost use Rattle.std.specs.Prelude.{◌≡◌, ◌≤◌, [], MatchOption, IfOk, IfErr, OnOk};
 ghost use Rattle.std.specs.Option.{ForSome};
@@ -11,11 +11,12 @@ ghost use Rattle.pair_entries.specs.declared.entry.Entry.{Entry};
 ghost use Rattle.pair_journal.specs.Calls.{HasDiskCause};
 ghost use Rattle.pair_journal.specs.Loading.{Follows, Unread, IsMisread, TellsNames, Tells};
 ghost use Rattle.pair_journal.specs.Loading.{HasExtent};
+ghost use Rattle.pair_journal.specs.Days.{day_after};
 
-use crate::numbers::{Next, goes_on};
+use crate::numbers::{Next, day_after, goes_on, numbers_before};
 use crate::reached::Keeper;
 use crate::{JournalError, Reader};
-use gate_log::{Chunk, Log};
+use gate_log::{Chunk, Log, u32_front};
 use order_meaning::Names;
 use outside::{Disk, MAX_DISK};
 use pair_entries::{Entry, read_birth, read_entry};
@@ -60,19 +61,55 @@ fn read_names<D: Disk>(log: &Log, disk: &mut D, chunk: &mut Chunk) -> Result<Nam
     }
 }
 
-/// The entry that these bytes spell, where its numbers go on from these.
-fn entry_after(alloc: Global, numbers: Next, bytes: &[u8]) -> Result<Option<Entry>, AllocError>
+/// The entry that this payload spells behind this day, where its numbers go on from these.
+fn entry_after(
+    alloc: Global,
+    day: u32,
+    numbers: Next,
+    payload: &[u8],
+) -> Result<Option<Entry>, AllocError>
+    requires { day + 1 < 2 ^ 32 }
     ensures { IfOk result (λ r. MatchOption r
-        ((entry : Entry) → Follows numbers bytes.now entry → ⊥)
-        (λ entry. Follows numbers bytes.now entry)) }
+        ((entry : Entry) → Follows day numbers payload.now entry → ⊥)
+        (λ entry. Follows day numbers payload.now entry)) }
 {
+    // Its day stands in front of it.
+    let Some((on, bytes)) = u32_front(payload) else {
+        return Ok(None);
+    };
     let Some(entry) = read_entry(alloc, bytes)? else {
         return Ok(None);
     };
-    if !goes_on(numbers, &entry) {
+    if on != day_after(day, &entry) {
+        return Ok(None);
+    }
+    if !goes_on(numbers_before(numbers, &entry), &entry) {
         return Ok(None);
     }
     Ok(Some(entry))
+}
+
+/// The day and the next numbers behind the entry that this payload spells, where it goes on from
+/// these; none exactly where it spells none that does.
+///
+/// # Errors
+/// `AllocError` for want of memory.
+pub fn payload_next(
+    alloc: Global,
+    payload: &[u8],
+    day: u32,
+    numbers: Next,
+) -> Result<Option<(u32, Next)>, AllocError>
+    requires { day + 1 < 2 ^ 32 }
+    ensures { IfOk result (λ r. MatchOption r
+        ((entry : Entry) → Follows day numbers payload.now entry → ⊥)
+        (λ x. (entry : Entry) × Follows day numbers payload.now entry
+        × (x.0 ≡ day_after day entry) × (x.1 ≡ entry.next))) }
+{
+    match entry_after(alloc, day, numbers, payload)? {
+        Some(entry) => Ok(Some((day_after(day, &entry), entry.next))),
+        None => Ok(None),
+    }
 }
 
 /// What a keeper, which has none yet, keeps of the entries in the records of a log behind its birth
@@ -106,7 +143,7 @@ fn read_entries<D: Disk, R: Reader, K: Keeper + Drop>(
         }
         read_record(chunk, disk, end.place)?;
         let payload = chunk.payload();
-        let Some(entry) = entry_after(alloc, end.next, payload)? else {
+        let Some(entry) = entry_after(alloc, kept.day(), end.next, payload)? else {
             return Err(JournalError::Refused { at: end.place });
         };
         reader.saw(&entry)?;

@@ -10,6 +10,7 @@ ghost use Rattle.pair_entries.specs.declared.entry.Entry.{Entry};
 ghost use Rattle.pair_entries.specs.Payload.{IsEntry};
 ghost use Rattle.pair_journal.specs.declared.error.JournalError.TheVariants as errors;
 ghost use Rattle.pair_journal.specs.Numbers.{first_numbers, numbers_after};
+ghost use Rattle.pair_journal.specs.Days.{last_day};
 ghost use Rattle.pair_journal.specs.Journal.{JournalOf, Born};
 ghost use Rattle.pair_journal.specs.Spots.{IsSpot, StandsAt};
 ghost use Rattle.pair_journal.specs.Walks.{IsUpTo, BeginsEntries};
@@ -21,7 +22,7 @@ use crate::reached::{Keeper, Reached};
 use crate::spot::Spot;
 use crate::walk::Walk;
 use crate::{JournalError, NoReader};
-use gate_log::{Chunk, Log};
+use gate_log::{Chunk, Log, u32_front};
 use order_meaning::Names;
 use outside::Disk;
 use pair_entries::{Entry, read_entry};
@@ -81,7 +82,7 @@ impl Look {
     /// The next numbers after its last entry: client in, client out, venue in, venue out; all ones
     /// without an entry.
     pub fn next(&self) -> (u32, u32, u32, u32)
-        ensures { result ≡ numbers_after first_numbers self.now.entries }
+        ensures { result ≡ numbers_after first_numbers (last_day self.now.entries) }
     {
         self.reached.end().next
     }
@@ -128,7 +129,10 @@ impl Look {
         }
         read_record(chunk, disk, spot.place)?;
         let record = chunk.payload();
-        let Some(entry) = read_entry(self.alloc, record)? else {
+        let Some((_, bytes)) = u32_front(record) else {
+            return Err(JournalError::Refused { at: spot.place });
+        };
+        let Some(entry) = read_entry(self.alloc, bytes)? else {
             return Err(JournalError::Refused { at: spot.place });
         };
         let next = spot.behind(&entry, record.len() as u64);

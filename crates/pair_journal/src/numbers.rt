@@ -1,9 +1,10 @@
 //! Whether the numbers of an entry go on from those before it.
 
-ghost use Rattle.std.specs.Prelude.{◌≡◌, ◌+◌, ◌↔◌, length, IsTrue};
+ghost use Rattle.std.specs.Prelude.{◌≡◌, ◌+◌, ◌<◌, ◌^◌, ◌↔◌, length, IsTrue};
 ghost use Rattle.pair_entries.specs.Payload.{AreOuts, IsEntry};
 ghost use Rattle.pair_journal.specs.Numbers.{is_side, outs_to, next_in, next_out, Numbered};
-ghost use Rattle.pair_journal.specs.Numbers.{OutsGoOn, InStays, GoesOn};
+ghost use Rattle.pair_journal.specs.Numbers.{OutsGoOn, InStays, GoesOn, numbers_before};
+ghost use Rattle.pair_journal.specs.Days.{day_after, begun_with};
 
 use order_meaning::Side;
 use pair_entries::{Entry, MAX_NEXT, Out, Took};
@@ -13,6 +14,31 @@ pub(crate) type Next = (u32, u32, u32, u32);
 
 /// The next numbers before the first entry.
 pub(crate) const FIRST: Next = (1, 1, 1, 1);
+
+/// The number of an entry's day behind those of this day.
+pub(crate) fn day_after(day: u32, entry: &Entry) -> u32
+    requires { day + 1 < 2 ^ 32 }
+    ensures { result ≡ day_after day entry.now }
+{
+    if entry.reset { day + 1 } else { day }
+}
+
+/// When the last day began, with an entry behind those before it.
+pub(crate) fn begun_with(at: Option<u64>, entry: &Entry) -> Option<u64>
+    ensures { result ≡ begun_with at entry.now }
+{
+    match at {
+        Some(at) if !entry.reset => Some(at),
+        _ => Some(entry.at),
+    }
+}
+
+/// From which numbers those of an entry go on, where these stand behind those before it.
+pub(crate) fn numbers_before(before: Next, entry: &Entry) -> Next
+    ensures { result ≡ numbers_before before entry.now }
+{
+    if entry.reset { FIRST } else { before }
+}
 
 /// Whether two sides are one.
 pub(crate) fn is_side(side: Side, other: Side) -> bool

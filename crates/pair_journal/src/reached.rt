@@ -2,11 +2,13 @@
 
 ghost use Rattle.std.specs.Prelude.{◌≡◌, ◌+◌, ◌^◌, ◌<◌, [], ◌∷◌, ◌++◌, List, length, OnOk};
 ghost use Rattle.pair_entries.specs.declared.entry.Entry.{Entry};
-ghost use Rattle.pair_entries.specs.Payload.{IsEntry, entry_bytes};
-ghost use Rattle.pair_journal.specs.Numbers.{GoesOn, first_numbers, numbers_after};
-ghost use Rattle.pair_journal.specs.Journal.{AreEntries};
+ghost use Rattle.pair_entries.specs.Payload.{IsEntry};
+ghost use Rattle.pair_journal.specs.Numbers.{GoesOn, first_numbers, numbers_before, numbers_after};
+ghost use Rattle.pair_journal.specs.Days.{day_number, payload_behind};
+ghost use Rattle.pair_journal.specs.Journal.{DaysGoOn};
 ghost use Rattle.pair_journal.specs.Spots.{behind, end_of};
 
+use crate::numbers::day_after;
 use crate::past::{Past, joined, none};
 use crate::spot::{Spot, start};
 use pair_entries::Entry;
@@ -21,7 +23,13 @@ pub(crate) trait Keeper {
     /// The place behind the last of them.
     fn end(&self) -> Spot
         ensures end { result ≡ behind (entries self.now) }
-        ensures sound { AreEntries first_numbers (entries self.now) };
+        ensures sound { DaysGoOn first_numbers (entries self.now) };
+
+    /// The number of the last day.
+    fn day(&self) -> u32
+        ensures number { result ≡ day_number (entries self.now) }
+        ensures few { result + 1 < 2 ^ 32 }
+        ensures sound { DaysGoOn first_numbers (entries self.now) };
 
     /// Adds an entry, by the length of its payload.
     ///
@@ -29,18 +37,20 @@ pub(crate) trait Keeper {
     /// `AllocError` for want of memory.
     fn keep(&mut self, entry: &Entry, len: u64) -> Result<(), AllocError>
         requires sound { IsEntry entry.now }
-        requires goes_on { GoesOn (numbers_after first_numbers (entries self.old)) entry.now }
-        requires len { len ≡ length (entry_bytes entry.now) }
-        requires limit { end_of (entries self.old) + 5 + len < 2 ^ 64 }
+        requires goes_on { GoesOn (numbers_before
+            (numbers_after first_numbers (entries self.old)) entry.now) entry.now }
+        requires len { len ≡ length (payload_behind (entries self.old) entry.now) }
+        requires limit { end_of (entries self.old) + 5 + len < 2 ^ 32 }
         ensures { OnOk result (entries self.new ≡ entries self.old ++ entry.now ∷ []) };
 }
 
-/// Where the entries that were read end, seen as their list. It holds none of them, and its memory
-/// is the same however many they are.
+/// Where the entries that were read end, and the number of their last day, seen as their list. It
+/// holds none of them, and its memory is the same however many they are.
 #[derive(Drop)]
 pub(crate) struct Reached {
     past: Past,
     end: Spot,
+    day: u32,
 }
 
 impl Model for Reached {
@@ -64,19 +74,22 @@ impl Reached {
         Reached {
             past: none(),
             end: start(),
+            day: 0,
         }
     }
 
     /// Adds an entry, by the length of its payload.
     pub(crate) fn add(&mut self, entry: &Entry, len: u64)
         requires sound { IsEntry entry.now }
-        requires goes_on { GoesOn (numbers_after first_numbers self.old) entry.now }
-        requires len { len ≡ length (entry_bytes entry.now) }
-        requires limit { end_of self.old + 5 + len < 2 ^ 64 }
+        requires goes_on { GoesOn (numbers_before (numbers_after first_numbers self.old) entry.now)
+            entry.now }
+        requires len { len ≡ length (payload_behind self.old entry.now) }
+        requires limit { end_of self.old + 5 + len < 2 ^ 32 }
         ensures { self.new ≡ self.old ++ entry.now ∷ [] }
     {
         self.past = joined(&self.past, entry);
         self.end = self.end.behind(entry, len);
+        self.day = day_after(self.day, entry);
     }
 }
 
@@ -85,6 +98,10 @@ impl Keeper for Reached {
 
     fn end(&self) -> Spot {
         self.end
+    }
+
+    fn day(&self) -> u32 {
+        self.day
     }
 
     fn keep(&mut self, entry: &Entry, len: u64) -> Result<(), AllocError> {

@@ -6,7 +6,7 @@ ghost use Rattle.pair_entries.specs.declared.entry.Entry.{Entry};
 ghost use Rattle.pair_journal.specs.Numbers.{first_numbers};
 ghost use Rattle.pair_journal.specs.Journal.{AreEntries};
 ghost use Rattle.pair_journal.specs.Given.{source_of};
-ghost use Rattle.pair_journal.specs.Sources.{source_to, sources_in, sources_to};
+ghost use Rattle.pair_journal.specs.Sources.{source_to, sources_in, sources_to, noted};
 
 use crate::given::source_in;
 use crate::numbers::is_side;
@@ -36,8 +36,21 @@ fn source_to(side: Side, entry: &Entry, out: &Out) -> Option<Source>
     })
 }
 
+/// Notes what the outs of an entry translate, for which there is room; with a new day, nothing is
+/// kept.
+pub(crate) fn note(list: &mut Vec<Source>, side: Side, entry: &Entry)
+    requires room { vec_len list.old + length entry.now.outs ≤ vec_capacity list.old }
+    ensures items { list.new.items ≡ noted side entry.now list.old.items }
+{
+    if entry.reset {
+        list.clear();
+        return;
+    }
+    note_outs(list, side, entry, entry.outs.as_slice());
+}
+
 /// Adds what these outs of an entry translate, for which there is room.
-pub(crate) fn note(list: &mut Vec<Source>, side: Side, entry: &Entry, outs: &[Out])
+fn note_outs(list: &mut Vec<Source>, side: Side, entry: &Entry, outs: &[Out])
     requires room { vec_len list.old + length outs.now ≤ vec_capacity list.old }
     ensures items { list.new.items ≡ list.old.items ++ sources_in side entry.now outs.now }
     ensures capacity { vec_capacity list.new ≡ vec_capacity list.old }
@@ -48,7 +61,7 @@ pub(crate) fn note(list: &mut Vec<Source>, side: Side, entry: &Entry, outs: &[Ou
             if let Some(source) = source_to(side, entry, out) {
                 list.push_reserved(source);
             }
-            note(list, side, entry, rest);
+            note_outs(list, side, entry, rest);
         }
     }
 }

@@ -1,6 +1,7 @@
 //! Places among the entries of a journal, and the marks of every 64th.
 
 ghost use Rattle.std.specs.Prelude.{◌≡◌, ◌⊎◌, ◌+◌, ◌*◌, ◌<◌, ◌≤◌, ◌^◌, [], ◌∷◌, ◌++◌, List, length, take};
+ghost use Rattle.std.specs.Prelude.{drop};
 ghost use Rattle.std.specs.Prelude.{vec_len, vec_capacity};
 ghost use Rattle.pair_entries.specs.declared.entry.Entry.{Entry};
 ghost use Rattle.pair_journal.specs.Spots.{behind, AreMarks};
@@ -74,6 +75,14 @@ pub(crate) fn mark(marks: &mut Vec<Spot>, end: Spot)
     if end.index - STRIDE * marks.len() as u64 == STRIDE {
         marks.push_reserved(end);
     }
+}
+
+/// The marks behind so many.
+pub(crate) fn marks_behind(marks: &[Spot], count: usize) -> &[Spot]
+    requires { count ≤ length marks.now }
+    ensures { result.now ≡ drop count marks.now }
+{
+    &marks[count..]
 }
 
 /// The mark of this place, counted from 1 on; the start, where it is 0.

@@ -1,4 +1,4 @@
-use Rattle.std.proofs.Common.{◌≡◌, ◌∙◌, ap, subst, arith}
+use Rattle.std.proofs.Common.{◌≡◌, sym, ap, subst, arith}
 use Rattle.pair_journal.specs.Numbers.{next_out}
 use Rattle.pair_journal.specs.Spots.{IsSpot}
 use Rattle.pair_journal.specs.declared.spot.Spot.{Spot}
@@ -6,6 +6,7 @@ use Rattle.pair_journal.specs.OutBuf.{TellsIf}
 use Rattle.pair_journal.specs.Given.{numbered}
 use Rattle.pair_journal.specs.Numbers.{outs_to}
 use Rattle.pair_journal.specs.Buffer.{out_told}
+use Rattle.pair_journal.specs.Loading.{IsPayload}
 use Rattle.pair_journal.proofs.Standing.{has_out}
 use Rattle.pair_journal.proofs.journal.Journal.out_at.Goals as goal
 
@@ -25,7 +26,8 @@ returns-then-next_out-number-clause-goes_on g c = λ next is b e entry here.
 pub returns-clause-refuses : goal.returns-clause-refuses
 returns-clause-refuses g c = λ at is b e entry here low.
     let read = c.in_ok-next.ensures.reads b e entry here in
-    let tells = c.tell_out.ensures.gives entry read.1 (c.payload.ensures.payload ∙ read.0) in
+    let tells = c.tell_out.ensures.gives entry read.1
+    (subst (λ l. IsPayload l entry) (sym c.payload.ensures.payload) read.0) in
     has_out c.args.side c.args.number c.args.self.now.entries c.args.spot c.in_ok-next.next entry
     c.in_ok-next.ensures.sound here read.2 c.in_ok-next.ensures.index low
     (omega (arith, c.if-next_out-number.false, c.next_out.ensures))

@@ -1,11 +1,21 @@
-use Rattle.std.proofs.Common.{◌∙◌, ◌++◌, List, refl, sym, ap, subst}
+use Rattle.std.proofs.Common.{◌≡◌, ◌∙◌, ◌++◌, Bool, true, false, ap, sym, subst}
+use Rattle.std.specs.Prelude.{if◌then◌else◌}
 use Rattle.order_meaning.specs.declared.Side.TheVariants.{Client, Venue}
-use Rattle.pair_entries.specs.declared.entry.Entry.{Entry}
-use Rattle.pair_entries.specs.declared.entry.Out.{Out}
+use Rattle.pair_journal.specs.Numbers.{GoesOn, first_numbers, numbers_before, numbers_after}
 use Rattle.pair_journal.specs.Spots.{behind, AreMarks}
-use Rattle.pair_journal.specs.Sources.{sources_in}
-use Rattle.pair_journal.proofs.Adding.{sources_added, kept_added}
+use Rattle.pair_journal.specs.State.{KeptState}
+use Rattle.pair_journal.specs.declared.spot.Spot.{Spot}
+use Rattle.pair_journal.proofs.Adding.{at_added, begins_added, sources_added, kept_added}
 use Rattle.pair_journal.proofs.kept.Kept.add.Goals as goal
+
+-- where the last day begins, by whether one does with the entry
+new_begins : (b : Bool) (here end begins : Spot) → b ≡ true → here ≡ end
+    → here ≡ (if b then end else begins)
+new_begins b here end begins new is = is ∙ ap (λ (t : Bool). if t then end else begins) (sym new)
+
+old_begins : (b : Bool) (here end begins : Spot) → b ≡ false → here ≡ begins
+    → here ≡ (if b then end else begins)
+old_begins b here end begins old is = is ∙ ap (λ (t : Bool). if t then end else begins) (sym old)
 
 pub invariant_of-self : goal.invariant_of-self
 invariant_of-self c =
@@ -13,17 +23,25 @@ invariant_of-self c =
     let more = c.add.new.self in
     let entry = c.args.entry.now in
     let pushed = c.add.ensures in
+    let kept = c.self.invariant in
+    let sound = c.requires.sound in
+    let on = subst (λ (k : KeptState). GoesOn (numbers_before
+    (numbers_after first_numbers k.entries) entry) entry) (sym c.self.view_is) c.requires.goes_on in
     record {
-      sound = c.end.ensures.sound;
-      marks = subst (λ (es : List Entry). AreMarks es c.mark.new.marks.items) (sym pushed)
-          (c.mark.ensures.marked old entry (c.end.ensures.end ∙ ap behind pushed)
-          c.self.invariant.marks);
-      client = sources_added old more entry pushed Client _ _ c.self.invariant.client
-          (c.note.ensures.items ∙ ap (λ (os : List Out). c.self.inside.client.items
-          ++ sources_in Client entry os) c.as_slice-outs.ensures.outs);
-      venue = sources_added old more entry pushed Venue _ _ c.self.invariant.venue
-          (c.note-2.ensures.items ∙ ap (λ (os : List Out). c.self.inside.venue.items
-          ++ sources_in Venue entry os) c.as_slice-outs.ensures.outs);
+      sound = c.end-end.ensures.sound;
+      begins = begins_added old more entry pushed kept.sound sound on c.self.inside.begins _ _
+          kept.begins c.end-end.ensures.end (elim c.if-entry.branch [
+            | goal.then-entry w ↦ new_begins entry.reset _ _ _ w.if-entry.true w.self-is
+            | goal.else-entry w ↦ old_begins entry.reset _ _ _ w.if-entry.false w.self-is
+          ]);
+      at = at_added old more entry pushed kept.sound sound on _ _ kept.at
+          c.begun_with-self-inside.ensures;
+      marks = subst (λ es. AreMarks es c.mark.new.marks.items) (sym pushed)
+          (c.mark.ensures.marked old entry (c.end-end.ensures.end ∙ ap behind pushed) kept.marks);
+      client = sources_added old more entry pushed kept.sound sound on Client _ _ kept.client
+          c.note.ensures.items;
+      venue = sources_added old more entry pushed kept.sound sound on Venue _ _ kept.venue
+          c.note-2.ensures.items;
       room = λ no. absurd (cc no);
     }
 

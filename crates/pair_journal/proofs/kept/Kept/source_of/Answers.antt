@@ -2,19 +2,25 @@ use Rattle.std.proofs.Common.{◌∙◌, sym, ap}
 use Rattle.order_meaning.specs.declared.Side.{Side}
 use Rattle.order_meaning.specs.declared.Side.TheVariants.{Client, Venue}
 use Rattle.pair_journal.specs.Given.{source_of}
+use Rattle.pair_journal.specs.Days.{last_day}
+use Rattle.pair_journal.proofs.Dating.{last_is_sound}
 use Rattle.pair_journal.specs.State.{KeptState}
 use Rattle.pair_journal.proofs.kept.Kept.source_of.Goals as goal
 
 pub returns-in-Client : goal.returns-in-Client
 returns-in-Client c =
-    c.find.ensures Client c.self.inside.reached c.self.invariant.sound
+    c.find.ensures Client (last_day c.self.inside.reached)
+    (last_is_sound c.self.inside.reached c.self.invariant.sound)
     (c.deref.ensures.value ∙ c.self.invariant.client)
-    ∙ ap (λ (k : KeptState). source_of Client c.args.number k.entries) c.self.view_is
-    ∙ ap (λ (s : Side). source_of s c.args.number c.args.self.now.entries) (sym c.in-Client.is)
+    ∙ ap (λ (k : KeptState). source_of Client c.args.number (last_day k.entries)) c.self.view_is
+    ∙ ap (λ (s : Side). source_of s c.args.number
+    (last_day c.args.self.now.entries)) (sym c.in-Client.is)
 
 pub returns-in-Venue : goal.returns-in-Venue
 returns-in-Venue c =
-    c.find-in-Venue.ensures Venue c.self.inside.reached c.self.invariant.sound
+    c.find-in-Venue.ensures Venue (last_day c.self.inside.reached)
+    (last_is_sound c.self.inside.reached c.self.invariant.sound)
     (c.deref-in-Venue.ensures.value ∙ c.self.invariant.venue)
-    ∙ ap (λ (k : KeptState). source_of Venue c.args.number k.entries) c.self.view_is
-    ∙ ap (λ (s : Side). source_of s c.args.number c.args.self.now.entries) (sym c.in-Venue.is)
+    ∙ ap (λ (k : KeptState). source_of Venue c.args.number (last_day k.entries)) c.self.view_is
+    ∙ ap (λ (s : Side). source_of s c.args.number
+    (last_day c.args.self.now.entries)) (sym c.in-Venue.is)

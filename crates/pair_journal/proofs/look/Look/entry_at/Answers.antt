@@ -4,10 +4,11 @@ use Rattle.pair_entries.specs.declared.entry.Entry.{Entry}
 use Rattle.pair_entries.proofs.Fronts.{at_none, at_some}
 use Rattle.pair_entries.proofs.Same.{same_entry}
 use Rattle.pair_journal.specs.Journal.{JournalOf, Born}
+use Rattle.pair_journal.specs.Loading.{IsPayload}
 use Rattle.pair_journal.specs.Spots.{IsSpot, StandsAt}
 use Rattle.pair_journal.specs.State.{JournalState}
-use Rattle.pair_journal.proofs.Standing.{next_spot, not_behind, not_missing, read_is}
-use Rattle.pair_journal.proofs.Standing.{unread_refused}
+use Rattle.pair_journal.proofs.Standing.{next_spot, not_behind, not_missing, payload_is, read_is}
+use Rattle.pair_journal.proofs.Standing.{rest_is, has_day, unread_refused}
 use Rattle.pair_journal.proofs.look.Look.entry_at.Goals as goal
 
 pub returns-then-spot-end-2-clause-refuses : goal.returns-then-spot-end-2-clause-refuses
@@ -40,11 +41,24 @@ returns-in_default-clause-refuses g c = λ at is b e entry here.
     (λ x. JournalOf x (Born s.names s.entries))) (sym c.self.view_is) c.requires.stands in
     let there = subst (λ (s : JournalState). StandsAt s.entries c.args.spot entry)
     (sym c.self.view_is) here in
-    let read = read_is told c.self.inside.names c.self.invariant.named c.self.inside.reached
+    let read = payload_is told c.self.inside.names c.self.invariant.named c.self.inside.reached
     c.end.ensures.sound stands c.args.spot c.read_record.new.chunk.payload
     c.in_ok-read_record.ensures.payload b e entry there in
-    at_none _ _ _ c.in_default.is c.in_ok-entry.ensures entry read.1
-    (c.payload-record.ensures.payload ∙ read.0)
+    has_day c.payload-record.result.now entry (subst (λ l. IsPayload l entry)
+    (sym c.payload-record.ensures.payload) read.0) c.in_default.ensures
+
+pub returns-in_default-2-clause-refuses : goal.returns-in_default-2-clause-refuses
+returns-in_default-2-clause-refuses g c = λ at is b e entry here.
+    let told = g.D.Disk.bytes c.args.disk.now in
+    let stands = subst (λ (s : JournalState). ForSome told
+    (λ x. JournalOf x (Born s.names s.entries))) (sym c.self.view_is) c.requires.stands in
+    let there = subst (λ (s : JournalState). StandsAt s.entries c.args.spot entry)
+    (sym c.self.view_is) here in
+    let rest = rest_is told c.self.inside.names c.self.invariant.named c.self.inside.reached
+    c.end.ensures.sound stands c.args.spot c.read_record.new.chunk.payload c.in-Some.bytes.now _
+    c.in_ok-read_record.ensures.payload (sym c.payload-record.ensures.payload ∙ c.in-Some.ensures.0)
+    b e entry there in
+    at_none _ _ _ c.in_default-2.is c.in_ok-entry.ensures entry rest.1 rest.0
 
 pub returns-clause-entry : goal.returns-clause-entry
 returns-clause-entry g c = λ b e entry here.
@@ -56,9 +70,12 @@ returns-clause-entry g c = λ b e entry here.
     let read = read_is told c.self.inside.names c.self.invariant.named c.self.inside.reached
     c.end.ensures.sound stands c.args.spot c.read_record.new.chunk.payload
     c.in_ok-read_record.ensures.payload b e entry there in
-    let x = at_some _ _ _ _ c.in-Some.is c.in_ok-entry.ensures in
-    let same = same_entry c.in-Some.entry entry x.1 read.1
-    (sym x.0 ∙ c.payload-record.ensures.payload ∙ read.0) in
+    let rest = rest_is told c.self.inside.names c.self.invariant.named c.self.inside.reached
+    c.end.ensures.sound stands c.args.spot c.read_record.new.chunk.payload c.in-Some.bytes.now _
+    c.in_ok-read_record.ensures.payload (sym c.payload-record.ensures.payload ∙ c.in-Some.ensures.0)
+    b e entry there in
+    let x = at_some _ _ _ _ c.in-Some-2.is c.in_ok-entry.ensures in
+    let same = same_entry c.in-Some-2.entry entry x.1 rest.1 (sym x.0 ∙ rest.0) in
     let spot = c.args.spot in (
       same,
       subst (λ (s : JournalState). IsSpot s.entries c.behind-next.result) c.self.view_is
