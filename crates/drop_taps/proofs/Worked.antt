@@ -21,6 +21,7 @@ out side msg_type = record {
 abbrev entry : List ℕ → List Out → Entry
 entry msg_type outs = record {
   at = 258;
+  reset = false;
   took = Some (record {
     side = Client;
     number = 2;

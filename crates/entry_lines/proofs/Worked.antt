@@ -1,5 +1,5 @@
 -- Worked lines, by computation alone.
-use Rattle.std.proofs.Common.{◌≡◌, [], ◌∷◌, ◌++◌, refl, false, Some, None}
+use Rattle.std.proofs.Common.{◌≡◌, [], ◌∷◌, ◌++◌, refl, true, false, Some, None}
 use Rattle.std.specs.Prelude.{codes}
 use Rattle.std.specs.Fmt.{digits}
 use Rattle.order_meaning.specs.declared.Side.TheVariants.{Client, Venue}
@@ -16,6 +16,7 @@ type_of_another_field = refl
 abbrev entry : Entry
 entry = record {
   at = 258;
+  reset = false;
   took = Some (record { side = Client; number = 12; raw = codes "35=D" ++ 1 ∷ [] });
   next = (13, 1, 1, 5);
   outs = (record {
@@ -40,7 +41,23 @@ line_is : entry_line 7 entry
 unfolding digits entry_line
 line_is = refl
 
-nothing : entry_line 1 (record { at = 0; took = None; next = (1, 1, 1, 2); outs = [] })
-    ≡ codes "1 at=0 took=none outs=none next=1,1,1,2\n"
+nothing : entry_line 1 (record {
+  at = 0;
+  reset = false;
+  took = None;
+  next = (1, 1, 1, 2);
+  outs = [];
+}) ≡ codes "1 at=0 took=none outs=none next=1,1,1,2\n"
 unfolding digits entry_line
 nothing = refl
+
+-- a new day
+new_day : entry_line 2 (record {
+  at = 258;
+  reset = true;
+  took = None;
+  next = (1, 1, 1, 1);
+  outs = [];
+}) ≡ codes "2 at=258 took=day outs=none next=1,1,1,1\n"
+unfolding digits entry_line
+new_day = refl

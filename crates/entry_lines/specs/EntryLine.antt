@@ -1,5 +1,6 @@
 -- Own: the line of an entry, as the program prints it; docs/DEFINITIONS.md, "Taps and lines".
-use Rattle.std.specs.Prelude.{ℕ, ◌==◌, List, [], ◌∷◌, ◌++◌, take, drop, codes, not}
+use Rattle.std.specs.Prelude.{ℕ, ◌==◌, Bool, true, false, List, [], ◌∷◌, ◌++◌, take, drop, codes}
+use Rattle.std.specs.Prelude.{not}
 use Rattle.std.specs.Prelude.{Some, None, if◌then◌else◌, take_while, bytes_eq}
 use Rattle.std.specs.List.{join_by}
 use Rattle.std.specs.Fmt.{decimal}
@@ -31,6 +32,11 @@ abbrev pub took_words : Option Took → List ℕ
 took_words None = codes "none"
 took_words (Some took) = message_words took.side took.number (type_in took.raw)
 
+-- a new day, or what was taken
+abbrev pub taken_words : Bool → Option Took → List ℕ
+taken_words true took = codes "day"
+taken_words false took = took_words took
+
 abbrev pub out_words : Out → List ℕ
 out_words out = message_words out.side out.number out.msg_type
 
@@ -47,6 +53,7 @@ next_words next =
 
 unfoldable pub entry_line : ℕ → Entry → List ℕ
 entry_line number entry =
-    decimal number ++ codes " at=" ++ decimal entry.at ++ codes " took=" ++ took_words entry.took
+    decimal number ++ codes " at=" ++ decimal entry.at ++ codes " took="
+    ++ taken_words entry.reset entry.took
     ++ codes " outs=" ++ outs_words entry.outs ++ codes " next=" ++ next_words entry.next
     ++ codes "\n"

@@ -6,6 +6,7 @@ ghost use Rattle.std.specs.List.{flat_map, prefix_len};
 ghost use Rattle.arrayvec.specs.ArrayVec.{array_vec_len};
 ghost use Rattle.pair_entries.specs.Payload.{IsOut, IsTook, AreOuts, IsEntry};
 ghost use Rattle.entry_lines.specs.EntryLine.{side_name, type_in, message_words, took_words};
+ghost use Rattle.entry_lines.specs.EntryLine.{taken_words};
 ghost use Rattle.entry_lines.specs.EntryLine.{out_words, outs_words, next_words};
 ghost use Rattle.entry_lines.specs.EntryLine.{entry_line};
 
@@ -48,8 +49,8 @@ impl EntryLine {
         }
     }
 
-    /// Replaces the line by that of an entry with this number: when it was, what was taken, what
-    /// was given out, and the next numbers after it.
+    /// Replaces the line by that of an entry with this number: when it was, what was taken or
+    /// that a day began, what was given out, and the next numbers after it.
     #[tactic(auto, unfolding(crate::specs::EntryLine::entry_line))]
     pub fn write(&mut self, number: u64, entry: &Entry)
         requires { IsEntry entry.now }
@@ -61,7 +62,7 @@ impl EntryLine {
         put(words, b" at=");
         put_number(words, entry.at);
         put(words, b" took=");
-        put_took(words, &entry.took);
+        put_taken(words, entry.reset, &entry.took);
         put(words, b" outs=");
         put_outs(words, entry.outs.as_slice());
         put(words, b" next=");
@@ -149,6 +150,20 @@ fn put_took(line: &mut Words, took: &Option<Took>)
     match took {
         None => put(line, b"none"),
         Some(took) => put_message(line, took.side, took.number, type_in(took.raw.as_slice())),
+    }
+}
+
+/// Appends a new day, or what was taken.
+fn put_taken(line: &mut Words, reset: bool, took: &Option<Took>)
+    requires took { IfSome took.now IsTook }
+    requires room { array_vec_len line.old + 8220 ≤ MAX_LINE }
+    ensures items { line.new.items ≡ line.old.items ++ taken_words reset took.now }
+    ensures len { array_vec_len line.new ≤ array_vec_len line.old + 8220 }
+{
+    if reset {
+        put(line, b"day");
+    } else {
+        put_took(line, took);
     }
 }
 

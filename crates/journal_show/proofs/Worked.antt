@@ -17,10 +17,10 @@ names = record {
 }
 
 abbrev one : Entry
-one = record { at = 0; took = None; next = (1, 1, 1, 2); outs = [] }
+one = record { at = 0; reset = false; took = None; next = (1, 1, 1, 2); outs = [] }
 
 abbrev two : Entry
-two = record { at = 258; took = None; next = (1, 1, 1, 3); outs = [] }
+two = record { at = 258; reset = false; took = None; next = (1, 1, 1, 3); outs = [] }
 
 unborn : shown Unborn ≡ codes "unborn\n"
 unborn = refl

@@ -93,6 +93,13 @@ impl Chains {
         let _ = self.items.pop();
     }
 
+    /// Takes out all items; it takes no memory.
+    pub fn clear(&mut self)
+        ensures { self.new ≡ [] }
+    {
+        self.items.clear();
+    }
+
     /// The OrigClOrdID(41) of the item with this ClOrdID(11): none where no item has the id, and
     /// where the item has none, as that of a D. It takes no memory.
     pub fn orig_of(&self, id: &[u8]) -> Option<&[u8]>
