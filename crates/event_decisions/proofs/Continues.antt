@@ -60,6 +60,7 @@ own_outs names window s event now t =
 abbrev pub entry_by : Names → ℕ → Sessions → Event → ℕ → Step → Given → Entry
 entry_by names window s event now t g = record {
   at = now;
+  reset = false;
   took = took_of event (input_of names window event now) t.acts;
   next = numbers_of g.sessions;
   outs = own_outs names window s event now t ++ g.outs;
@@ -292,6 +293,7 @@ decisions_continue names window s event now words d are decided =
       goes_on = λ entry is.
           subst (GoesOn (numbers_of s)) (entry_is (numbers_of s) e entry is) whole;
       next = λ entry is. ap (λ (x : Entry). x.next) (sym (entry_is (numbers_of s) e entry is));
+      same_day = λ entry is. ap (λ (x : Entry). x.reset) (sym (entry_is (numbers_of s) e entry is));
       same = λ is. no_entry (numbers_of s) e is;
       took = λ entry is. subst (λ (x : Entry). IsTookOf event x.took)
           (entry_is (numbers_of s) e entry is)

@@ -171,6 +171,7 @@ frame_made : (names : Names) (window : ℕ) (s : Sessions) (now : ℕ) (words : 
     (took_if (takes t.acts) side body (head_in names window side body now).number)) words
     (record {
       at = now;
+      reset = false;
       took = took_if (takes t.acts) side body (head_in names window side body now).number;
       next = next;
       outs = own_outs names window s (Frame side body) now t ++ given;
@@ -187,6 +188,7 @@ frame_made names window s now words side body t given next f = by t.acts refl f.
     e : Entry
     e = record {
       at = now;
+      reset = false;
       took = took_if (takes t.acts) side body head.number;
       next = next;
       outs = own_outs names window s (Frame side body) now t ++ given;

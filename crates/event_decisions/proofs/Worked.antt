@@ -116,6 +116,7 @@ pub worked_logon :
     entry_of (decided (session_at Client Down 1 1) (session_at Venue Down 1 1) (Opened Venue))
     ≡ Some (record {
       at = moment;
+      reset = false;
       took = None;
       next = (1, 1, 1, 2);
       outs = admin_out Venue 1 (codes "A") (codes "98=0|108=30|1137=9|") ∷ [];
@@ -136,6 +137,7 @@ away = session_at Venue Down 1 1
 pub worked_heartbeat : entry_of (decided (logged_on 2 2) away (Frame Client heartbeat))
     ≡ Some (record {
       at = moment;
+      reset = false;
       took = Some (record { side = Client; number = 2; raw = heartbeat });
       next = (3, 2, 1, 1);
       outs = [];
@@ -178,6 +180,7 @@ worked_spent = refl
 pub worked_last_number :
     entry_of (decided (logged_on 2 999_999_999) away (Frame Client test_request)) ≡ Some (record {
       at = moment;
+      reset = false;
       took = Some (record { side = Client; number = 2; raw = test_request });
       next = (3, 1_000_000_000, 1, 1);
       outs = admin_out Client 999_999_999 (codes "0") (codes "112=x|") ∷ [];
@@ -201,6 +204,7 @@ worked_early_request = refl
 pub worked_gap : entry_of (decided (logged_on 5 4) away (Frame Client early_request))
     ≡ Some (record {
       at = moment;
+      reset = false;
       took = None;
       next = (5, 5, 1, 1);
       outs = admin_out Client 4 (codes "2") (codes "7=5|16=0|") ∷ [];

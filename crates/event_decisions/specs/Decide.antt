@@ -231,6 +231,7 @@ concluded names window s event now step (Ok given) =
     Ok (record {
       entry = entry_if (numbers_of s) (record {
         at = now;
+        reset = false;
         took = took_of event input step.acts;
         next = numbers_of given.sessions;
         outs = own ++ given.outs;
@@ -279,6 +280,6 @@ module _ (answers : List Entry → (active : Bool) → Option Asked → Option W
   LawfulAfter names before (entry ∷ entries) =
       IsDecided names before entry × LawfulAfter names (before ++ entry ∷ []) entries
 
-  -- A LAWFUL JOURNAL: each entry is what some event decides behind those before it
+  -- A LAWFUL DAY: each entry is what some event decides behind those before it
   abbrev pub IsLawful : Names → List Entry → Type 0
   IsLawful names entries = LawfulAfter names [] entries

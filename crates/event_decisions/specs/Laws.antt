@@ -37,6 +37,8 @@ pub record Continues (before : Sessions) (event : Event) (d : Decision) : Type 0
   -- its entry goes on from their numbers, and leads to those of the sessions after it
   pub goes_on : (entry : Entry) → d.entry ≡ Some entry → GoesOn (numbers_of before) entry
   pub next : (entry : Entry) → d.entry ≡ Some entry → entry.next ≡ numbers_of d.sessions
+  -- and begins no day
+  pub same_day : (entry : Entry) → d.entry ≡ Some entry → entry.reset ≡ false
   -- without an entry no number changes
   pub same : d.entry ≡ None → numbers_of d.sessions ≡ numbers_of before
   pub took : (entry : Entry) → d.entry ≡ Some entry → IsTookOf event entry.took

@@ -5,7 +5,9 @@
 //! the events of a life are stated by it.
 #![tactic(auto)]
 
+mod day;
 mod event;
 pub mod laws;
 
+pub use day::is_due;
 pub use event::Event;
