@@ -12,6 +12,8 @@ mod Polls
 mod OneTurn
 mod LastRead
 mod Lives
+pub mod ByDay
+pub mod OverDays
 mod Begun
 mod Failed
 mod Filled

@@ -95,6 +95,7 @@ pub worked_first_event : Happens silent names 120
     (record {
       entries = record {
         at = moment;
+        reset = false;
         took = None;
         next = (1, 1, 1, 2);
         outs = logon ∷ [];
@@ -143,7 +144,7 @@ heartbeat = out_to Client 3 true (codes "0") []
 
 abbrev entry_with : ℕ → ℕ → Out → Entry
 entry_with at next out =
-    record { at = at; took = None; next = (5, next, 1, 1); outs = out ∷ [] }
+    record { at = at; reset = false; took = None; next = (5, next, 1, 1); outs = out ∷ [] }
 
 abbrev journal : List Entry
 journal =
@@ -180,6 +181,7 @@ abbrev after_request : Bool → World
 after_request up = record {
   entries = journal ++ record {
     at = moment;
+    reset = false;
     took = None;
     next = (5, 5, 1, 1);
     outs = asks_for_gap ∷ [];

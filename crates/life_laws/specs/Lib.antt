@@ -10,3 +10,4 @@ pub mod Standing
 pub mod Turn
 pub mod Ends
 pub mod Laws
+pub mod Days

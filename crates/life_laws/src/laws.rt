@@ -5,6 +5,7 @@ ghost use Rattle.life_laws.specs.Laws.{RepeatsFillGaps, FramesFillGaps, WhatIsSe
 ghost use Rattle.life_laws.specs.Laws.{EventsKeep, HoldingLeaves, StopsLeave, ClientTurnsKeep};
 ghost use Rattle.life_laws.specs.Laws.{VenueTurnsKeep, LivesLeave, LivesThatFailLeave};
 ghost use Rattle.life_laws.specs.Laws.{LivesBegin, EventsFillGaps};
+ghost use Rattle.life_laws.specs.Days.{DaysLeave};
 
 use crate::Answering;
 
@@ -74,4 +75,10 @@ pub fn lives_that_fail_leave<A: Answering>()
 /// was written and read before: so lives follow one another.
 pub fn lives_begin<A: Answering>()
     ensures { LivesBegin A.answers }
+{}
+
+/// A life over session days leaves each day as a life leaves its journal: lawful, and justifying
+/// what was written and read on it.
+pub fn days_leave<A: Answering>()
+    ensures { DaysLeave A.answers }
 {}
