@@ -159,6 +159,7 @@ abbrev entry : Side → (number : ℕ) → List ℕ → (to : Side) (out : ℕ) 
     → Entry
 entry side number body to out msg_type text = record {
   at = 0;
+  reset = false;
   took = Some (record { side = side; number = number; raw = soh body });
   next = (0, 0, 0, 0);
   outs = record {

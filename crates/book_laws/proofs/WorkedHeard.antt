@@ -114,6 +114,7 @@ worked_outs = record { worked_order = refl; worked_refusal = refl; worked_faulty
 abbrev entry : Side → List ℕ → (to : Side) (number : ℕ) (msg_type : List ℕ) → Entry
 entry side body to number msg_type = record {
   at = 0;
+  reset = false;
   took = Some (record { side = side; number = 2; raw = soh body });
   next = (0, 0, 0, 0);
   outs = record {

@@ -161,6 +161,7 @@ module _ (a : GivenAsked) (head : Head) (acts : List Act)
       (sym (acts_are (sym so)))
       (λ at next added are. is.1 (record {
         at = at;
+        reset = false;
         took = Some (asked_took a);
         next = next;
         outs = added;

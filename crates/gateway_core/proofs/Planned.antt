@@ -271,6 +271,7 @@ session_joins_nothing chains side body true (Some number) heart h n acts at next
     let took : Took = record { side = side; number = number; raw = body } in
     let e : Entry = record {
       at = at;
+      reset = false;
       took = Some took;
       next = next;
       outs = says_of side heart h n acts ++ added;

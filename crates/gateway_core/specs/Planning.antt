@@ -105,6 +105,7 @@ repeat_by resend = option_map (λ r. record { side = r.0; from = r.1; to = r.2 }
 abbrev pub entry_by : Option Took → (own : List Out) → Given → ℕ → Entry
 entry_by took own given now = record {
   at = now;
+  reset = false;
   took = took;
   next = numbers_of given.sessions;
   outs = own ++ given.outs;
@@ -152,7 +153,13 @@ abbrev pub JoinsWith : List ChainItem → Option Took → (own : List Out) → O
     → Option ChainItem → Type 0
 JoinsWith chains took own words item =
     (at : ℕ) (next : Next) (added : List Out) → AreWords words added
-    → item ≡ new_item chains (record { at = at; took = took; next = next; outs = own ++ added })
+    → item ≡ new_item chains (record {
+      at = at;
+      reset = false;
+      took = took;
+      next = next;
+      outs = own ++ added;
+    })
 
 -- it joins where there is an entry
 abbrev pub with_entry : Option ChainItem → Option Entry → Option ChainItem

@@ -4,6 +4,7 @@ ghost use Rattle.std.specs.Prelude.{◌≡◌, ◌≤◌, ◌++◌, length, IfOk
 ghost use Rattle.std.specs.Option.{option_to_list};
 ghost use Rattle.pair_entries.specs.Payload.{IsTook, IsOut, AreOuts, AreNext, IsEntry};
 ghost use Rattle.event_decisions.specs.Decide.{same_numbers, entry_if};
+ghost use Rattle.event_decisions.specs.Days.{new_day};
 ghost use Rattle.gateway_core.specs.Planning.{with_entry};
 
 use crate::outs::push_if;
@@ -35,6 +36,7 @@ pub(crate) fn entry_of(
     requires next { AreNext next }
     ensures entry { IfOk result (λ entry. entry ≡ record {
       at = at;
+      reset = false;
       took = took;
       next = next;
       outs = own ++ option_to_list out;
@@ -45,10 +47,30 @@ pub(crate) fn entry_of(
     push_if(&mut outs, out)?;
     Ok(Entry {
         at,
+        reset: false,
         took,
         next,
         outs,
     })
+}
+
+/// The entry with which a session day begins, ready to be committed.
+///
+/// # Errors
+///
+/// `AllocError` for want of memory.
+pub fn new_day(alloc: Global, now: u64) -> Result<Prepared, AllocError>
+    requires { now ≤ MAX_AT }
+    ensures { IfOk result (λ prepared. prepared ≡ new_day now) }
+{
+    let entry = Entry {
+        at: now,
+        reset: true,
+        took: None,
+        next: (1, 1, 1, 1),
+        outs: Outs::new(alloc),
+    };
+    prepare(alloc, entry)
 }
 
 /// Whether no number changes.

@@ -14,7 +14,8 @@ mod plan;
 mod planning;
 mod sessions;
 
-pub use event_decisions::Event;
+pub use entries::new_day;
+pub use event_decisions::{Event, is_due};
 pub use gateway_config::Config;
 pub use plan::{Plan, PlanError};
 pub use planning::Core;

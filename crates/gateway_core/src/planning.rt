@@ -7,6 +7,7 @@ ghost use Rattle.message_tables.specs.Tables.{value_at};
 ghost use Rattle.frame_grammar.specs.Frame.{IsBody};
 ghost use Rattle.pair_entries.specs.declared.entry.Entry.{Entry};
 ghost use Rattle.pair_journal.specs.Numbers.{numbers_after, first_numbers};
+ghost use Rattle.pair_journal.specs.Days.{last_day};
 ghost use Rattle.pair_entries.specs.Payload.{IsTook, IsOut, AreOuts, AreNext};
 ghost use Rattle.session_core.specs.Numbers.{AreNextNumbers};
 ghost use Rattle.session_core.specs.Table.{Message, step, number_of};
@@ -86,8 +87,8 @@ impl Core {
     /// What is to be done at an event, at this moment, in milliseconds since 1970-01-01 00:00 UTC.
     /// Nothing is done yet.
     ///
-    /// Of the journal the core knows the chains and which message an out translates, and it
-    /// answers the same for all entries that have these.
+    /// Of the journal's last day the core knows the chains and which message an out translates, and
+    /// it answers the same for all entries that have these.
     ///
     /// # Errors
     ///
@@ -102,11 +103,13 @@ impl Core {
     ) -> Result<Plan, PlanError>
         requires moment { now ≤ MAX_AT }
         requires body { IsFramed (event_of event.now) }
-        ensures plans { (entries : List Entry) → Stand self.now journal.now.entries entries →
+        ensures plans { (entries : List Entry) →
+            Stand self.now (last_day journal.now.entries) entries →
             Plans self.now entries (event_of event.now) now result }
         ensures item { IfOk result (HasItem self.now) }
         ensures new { IfOk result (λ plan. IsNew self.now.chains plan.item) }
-        ensures grows { (entries : List Entry) → Stand self.now journal.now.entries entries →
+        ensures grows { (entries : List Entry) →
+            Stand self.now (last_day journal.now.entries) entries →
             IfOk result (Grows self.now entries) }
     {
         self.planned(alloc, journal, event, now)
@@ -184,6 +187,24 @@ impl Core {
             Side::Client => self.client = next,
             Side::Venue => self.venue = next,
         }
+    }
+
+    /// A session day begins: both sessions are down and count from 1, and no request was forwarded.
+    /// It takes no memory.
+    pub fn begin_day(&mut self)
+        ensures { self.new ≡ loaded self.old.config [] }
+    {
+        let heart = self.config.heart;
+        self.client = Session::new(Side::Client, numbers(1, 1), heart);
+        self.venue = Session::new(Side::Venue, numbers(1, 1), heart);
+        self.chains.clear();
+    }
+
+    /// The minute of the UTC day at which a session day begins; none where no day ends.
+    pub fn reset(&self) -> Option<u32>
+        ensures { result ≡ self.now.config.reset }
+    {
+        self.config.reset
     }
 
     /// Sets both sessions. It takes no memory.
@@ -290,7 +311,8 @@ impl Core {
     ) -> Result<Plan, PlanError>
         requires moment { now ≤ MAX_AT }
         requires body { IsFramed (event_of event.now) }
-        ensures plans { (entries : List Entry) → Stand self.now journal.now.entries entries →
+        ensures plans { (entries : List Entry) →
+            Stand self.now (last_day journal.now.entries) entries →
             Plans self.now entries (event_of event.now) now result }
         ensures item { IfOk result (HasItem self.now) }
     {
@@ -373,7 +395,8 @@ impl Core {
     ) -> Result<Plan, PlanError>
         requires moment { now ≤ MAX_AT }
         requires body { IsBody body.now }
-        ensures plans { (entries : List Entry) → Stand self.now journal.now.entries entries →
+        ensures plans { (entries : List Entry) →
+            Stand self.now (last_day journal.now.entries) entries →
             Plans self.now entries (Frame side body.now) now result }
         ensures item { IfOk result (HasItem self.now) }
     {
@@ -395,7 +418,8 @@ impl Core {
         requires body { IsBody body.now }
         requires split { reading_of body.now
             ≡ record { fields = split.now.fields; fault = split.now.fault } }
-        ensures plans { (entries : List Entry) → Stand self.now journal.now.entries entries →
+        ensures plans { (entries : List Entry) →
+            Stand self.now (last_day journal.now.entries) entries →
             Plans self.now entries (Frame side body.now) now result }
         ensures item { IfOk result (HasItem self.now) }
     {
@@ -435,7 +459,8 @@ impl Core {
         requires sayable { IsSayable
             (session_of asked.now.side (sessions_in self.now)).numbers.next_out reaction.step.acts
             (unwrap_or (value_at TEST_REQ_ID (fields_of asked.now.body.now)) []) }
-        ensures plans { (entries : List Entry) → Stand self.now journal.now.entries entries →
+        ensures plans { (entries : List Entry) →
+            Stand self.now (last_day journal.now.entries) entries →
             Plans self.now entries (Frame asked.now.side asked.now.body.now) now result }
         ensures item { IfOk result (HasItem self.now) }
     {
@@ -468,7 +493,7 @@ impl Core {
     ) -> Result<Answer, AllocError>
         requires { IsSplit asked.now }
         ensures answered { IfOk result
-            (IsAnswered self.now journal.now.entries asked.now is_asked) }
+            (IsAnswered self.now (last_day journal.now.entries) asked.now is_asked) }
         ensures fit { IfOk result (λ a. IfSome a.words (λ w. IsFit w.said)) }
     {
         if !is_asked {

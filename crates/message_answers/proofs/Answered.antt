@@ -15,6 +15,7 @@ use Rattle.session_core.specs.declared.said.Said.{Said}
 use Rattle.pair_entries.specs.declared.TheConstants.{MAX_CONTENT}
 use Rattle.pair_entries.specs.declared.entry.Entry.{Entry}
 use Rattle.pair_journal.specs.Given.{source_of}
+use Rattle.pair_journal.specs.Days.{last_day}
 use Rattle.first_faults.specs.Gives.{Tells}
 use Rattle.refusal_parts.specs.Said.{business_reject_says, session_reject_says}
 use Rattle.reject_rules.specs.Refusals.{refusal_of}
@@ -193,7 +194,7 @@ module _ (k : GivenKnown) (a : GivenAsked) (split : IsSplit a) where
 pub answers_behind : (k : GivenKnown) (a : GivenAsked) (answer : GivenAnswer)
     (entries : List Entry) → chains_of entries ≡ k.chains.now
     → ((side : Side) (number : ℕ)
-    → source_of side number entries ≡ source_of side number k.journal.now.entries)
+    → source_of side number entries ≡ source_of side number (last_day k.journal.now.entries))
     → IsAnswer k a answer
     → Answers entries k.active (Some (asked_in a)) (words_in answer)
 answers_behind k a answer entries chains sources is =

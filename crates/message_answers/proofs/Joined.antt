@@ -1,9 +1,11 @@
 -- The chains of a journal, entry by entry.
-use Rattle.std.proofs.Common.{◌≡◌, List, [], ◌∷◌, ◌++◌, refl, ap, ◌∙◌, sym, Ok, Err}
+use Rattle.std.proofs.Common.{◌≡◌, true, false, List, [], ◌∷◌, ◌++◌, refl, ap, ◌∙◌, sym, Ok, Err}
 use Rattle.std.specs.Prelude.{Result, OnOk}
 use Rattle.std.specs.Option.{option_to_list}
 use Rattle.order_chains.specs.declared.item.ChainItem.{ChainItem}
 use Rattle.pair_entries.specs.declared.entry.Entry.{Entry}
+use Rattle.pair_journal.specs.Days.{last_day}
+use Rattle.pair_journal.proofs.Dating.{last_day-push, last_day-reset}
 use Rattle.message_answers.specs.Chains.{chains_after, chains_of, new_item}
 
 -- one entry more
@@ -21,10 +23,17 @@ one_joined entries entry old new is so_far =
     is ∙ ap (λ (c : List ChainItem). c ++ option_to_list (new_item c entry)) so_far
     ∙ sym (after_push [] entries entry)
 
+-- the same of the last day, where no day begins with the entry
 pub joined_on : {T E : Type 0} (r : Result T E) (entry : Entry) (old new : List ChainItem)
-    → OnOk r (new ≡ old ++ option_to_list (new_item old entry))
-    → OnOk r ((before : List Entry) → old ≡ chains_of before
-    → new ≡ chains_of (before ++ entry ∷ []))
-joined_on (Ok value) entry old new is = λ before so_far.
-    one_joined before entry old new is so_far
-joined_on (Err error) entry old new is = tt
+    → entry.reset ≡ false → OnOk r (new ≡ old ++ option_to_list (new_item old entry))
+    → OnOk r ((before : List Entry) → old ≡ chains_of (last_day before)
+    → new ≡ chains_of (last_day (before ++ entry ∷ [])))
+joined_on (Ok value) entry old new same is = λ before so_far.
+    one_joined (last_day before) entry old new is so_far
+    ∙ ap chains_of (sym (last_day-push before entry same))
+joined_on (Err error) entry old new same is = tt
+
+-- a day begins with none
+pub none_joined : (entry : Entry) (new : List ChainItem) → entry.reset ≡ true → new ≡ []
+    → (before : List Entry) → new ≡ chains_of (last_day (before ++ entry ∷ []))
+none_joined entry new is none before = none ∙ ap chains_of (sym (last_day-reset before entry is))

@@ -40,12 +40,12 @@ use Rattle.message_answers.proofs.Typed.{typed}
 -- an entry that took this and gave out these
 abbrev as_entry : Entry → Took → List Out → Entry
 as_entry entry took outs =
-    record { at = entry.at; took = Some took; next = entry.next; outs = outs }
+    record { at = entry.at; reset = entry.reset; took = Some took; next = entry.next; outs = outs }
 
 entry_is : (entry : Entry) (took : Took) (outs : List Out) → entry.took ≡ Some took
     → entry.outs ≡ outs → entry ≡ as_entry entry took outs
 entry_is entry took outs is gives =
-    λ i. record { at = entry.at; took = is i; next = entry.next; outs = gives i }
+    λ i. record { at = entry.at; reset = entry.reset; took = is i; next = entry.next; outs = gives i }
 
 -- what joins by the letters of the outs
 abbrev item_by : List ChainItem → Took → Option ℕ → Option ChainItem

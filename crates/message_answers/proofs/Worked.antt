@@ -258,6 +258,7 @@ worked_reports = record {
 abbrev gave : ℕ → List ℕ → Side → List ℕ → Entry
 gave number text side msg_type = record {
   at = 0;
+  reset = false;
   took = Some (record { side = Client; number = number; raw = soh text });
   next = (1, 1, 1, 1);
   outs = record {

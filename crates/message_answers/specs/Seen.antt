@@ -18,6 +18,7 @@ use Rattle.session_core.specs.declared.said.Said.{Said}
 use Rattle.pair_entries.specs.declared.TheConstants.{MAX_CONTENT, MAX_TYPE}
 use Rattle.pair_entries.specs.declared.entry.Entry.{Entry}
 use Rattle.pair_journal.specs.Given.{source_of}
+use Rattle.pair_journal.specs.Days.{last_day}
 use Rattle.refusal_parts.specs.Said.{business_reject_says, session_reject_says}
 use Rattle.reject_rules.specs.Refusals.{refusal_of}
 use Rattle.reject_rules.specs.Renumbered.{renumbered}
@@ -50,7 +51,7 @@ message_in a = said_by a.side a.msg_type.now a.split.now.fields a.split.now.faul
 abbrev pub known_in : GivenKnown → Known
 known_in k = record {
   chains = k.chains.now;
-  source = λ side number. source_of side number k.journal.now.entries;
+  source = λ side number. source_of side number (last_day k.journal.now.entries);
 }
 
 abbrev pub words_in : GivenAnswer → Option Words

@@ -3,6 +3,7 @@
 ghost use Rattle.std.specs.Prelude.{◌≡◌, ◌++◌, [], IfOk, OnOk};
 ghost use Rattle.std.specs.Option.{option_map, option_to_list};
 ghost use Rattle.message_tables.specs.Tables.{first_of};
+ghost use Rattle.pair_journal.specs.Days.{last_day};
 ghost use Rattle.message_answers.specs.Chains.{joining_letter, item_in, item_said, original_said};
 ghost use Rattle.message_answers.specs.Chains.{new_item, chains_of};
 
@@ -107,7 +108,7 @@ fn join(alloc: Global, chains: &mut Chains, entry: &Entry) -> Result<(), AllocEr
     chains.add(item)
 }
 
-/// The requests that a journal forwarded, as its entries are read one by one.
+/// The requests that a journal forwarded on its last day, as its entries are read one by one.
 #[derive(Drop)]
 pub struct Joining {
     alloc: Global,
@@ -129,7 +130,7 @@ impl Joining {
         })
     }
 
-    /// The chains of the entries that were read.
+    /// The chains of the last day of the entries that were read.
     pub fn into_chains(self) -> Chains
         ensures { result ≡ self.chains }
     {
@@ -139,9 +140,13 @@ impl Joining {
 }
 
 impl Reader for Joining {
-    ghost shown = { λ joining entries. joining.chains ≡ chains_of entries };
+    ghost shown = { λ joining entries. joining.chains ≡ chains_of (last_day entries) };
 
     fn saw(&mut self, entry: &Entry) -> Result<(), AllocError> {
+        if entry.reset {
+            self.chains.clear();
+            return Ok(());
+        }
         join(self.alloc, &mut self.chains, entry)
     }
 }

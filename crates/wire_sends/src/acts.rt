@@ -6,7 +6,8 @@ ghost use Rattle.std.specs.Option.{ForSome};
 ghost use Rattle.gate_log.specs.Log.{OnlyReads};
 ghost use Rattle.pair_journal.specs.declared.error.JournalError.TheVariants as errors;
 ghost use Rattle.pair_journal.specs.Calls.{HasDiskCause, RefusedUntold};
-ghost use Rattle.pair_journal.specs.Journal.{JournalOf, Born, AreEntries};
+ghost use Rattle.pair_journal.specs.Days.{last_day};
+ghost use Rattle.pair_journal.specs.Journal.{JournalOf, Born, DaysGoOn};
 ghost use Rattle.pair_journal.specs.Numbers.{is_side, first_numbers};
 ghost use Rattle.life_laws.specs.Forms.{form_frame};
 ghost use Rattle.life_laws.specs.Repeats.{repeated_to};
@@ -46,16 +47,16 @@ pub fn repeat_on<D: Disk, W: Wire>(
     requires agrees { Agrees (W.recorded wire.old) up }
     requires stands { ForSome (D.bytes disk.old) (λ b.
         JournalOf b (Born journal.now.names journal.now.entries)) }
-    requires sound { AreEntries first_numbers journal.now.entries }
-    requires given { IsGiven journal.now.entries resend }
+    requires sound { DaysGoOn first_numbers journal.now.entries }
+    requires given { IsGiven (last_day journal.now.entries) resend }
     requires moment { now ≤ MAX_AT }
     ensures agrees { IfOk result (Agrees (W.recorded wire.new)) }
     ensures sent { IfOk result (λ still. ForSome (D.bytes disk.old) (λ b. Sent
         (W.recorded wire.old) (W.recorded wire.new) up (map (form_frame names.now side)
-        (repeated_to side journal.now.entries now (repeat_in resend))) still)) }
+        (repeated_to side (last_day journal.now.entries) now (repeat_in resend))) still)) }
     ensures part { OnErr result (ForSome (D.bytes disk.old) (λ b. FrontSent
         (W.recorded wire.old) (W.recorded wire.new) up (map (form_frame names.now side)
-        (repeated_to side journal.now.entries now (repeat_in resend))))) }
+        (repeated_to side (last_day journal.now.entries) now (repeat_in resend))))) }
     ensures only_read { OnlyReads D.bytes D.image disk.old disk.new }
     ensures cause { HasDiskCause (D.faults disk.old) (D.faults disk.new) result }
     ensures only { RefusedUntold (D.bytes disk.old) result }

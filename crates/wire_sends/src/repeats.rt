@@ -5,7 +5,8 @@ ghost use Rattle.std.specs.Option.{ForSome};
 ghost use Rattle.gate_log.specs.Log.{OnlyReads};
 ghost use Rattle.pair_journal.specs.declared.error.JournalError.TheVariants as errors;
 ghost use Rattle.pair_journal.specs.Calls.{HasDiskCause, RefusedUntold};
-ghost use Rattle.pair_journal.specs.Journal.{JournalOf, Born, AreEntries};
+ghost use Rattle.pair_journal.specs.Days.{last_day};
+ghost use Rattle.pair_journal.specs.Journal.{JournalOf, Born, DaysGoOn};
 ghost use Rattle.pair_journal.specs.Numbers.{numbers_after, first_numbers, next_out};
 ghost use Rattle.pair_journal.specs.OutBuf.{IsOutAt};
 ghost use Rattle.life_laws.specs.Forms.{form_frame};
@@ -157,19 +158,20 @@ pub(crate) fn repeat_outs<D: Disk, W: Wire>(
     requires agrees { Agrees (W.recorded wire.old) up }
     requires stands { ForSome (D.bytes disk.old) (λ b.
         JournalOf b (Born journal.now.names journal.now.entries)) }
-    requires sound { AreEntries first_numbers journal.now.entries }
+    requires sound { DaysGoOn first_numbers journal.now.entries }
     requires from { 1 ≤ again.from }
     requires to { again.to
-        ≤ next_out again.side (numbers_after first_numbers journal.now.entries) - 1 }
+        ≤ next_out again.side (numbers_after first_numbers (last_day journal.now.entries)) - 1 }
     requires limit { again.to ≤ MAX_NUMBER }
     requires moment { again.now ≤ MAX_AT }
     ensures agrees { IfOk result (Agrees (W.recorded wire.new)) }
     ensures sent { IfOk result (λ still. ForSome (D.bytes disk.old) (λ b. Sent
         (W.recorded wire.old) (W.recorded wire.new) up (map (form_frame names.now again.side)
-        (repeat_forms journal.now.entries again.side again.from again.to again.now)) still)) }
+        (repeat_forms (last_day journal.now.entries) again.side again.from again.to again.now))
+        still)) }
     ensures part { OnErr result (ForSome (D.bytes disk.old) (λ b. FrontSent
         (W.recorded wire.old) (W.recorded wire.new) up (map (form_frame names.now again.side)
-        (repeat_forms journal.now.entries again.side again.from again.to again.now)))) }
+        (repeat_forms (last_day journal.now.entries) again.side again.from again.to again.now)))) }
     ensures only_read { OnlyReads D.bytes D.image disk.old disk.new }
     ensures cause { HasDiskCause (D.faults disk.old) (D.faults disk.new) result }
     ensures only { RefusedUntold (D.bytes disk.old) result }

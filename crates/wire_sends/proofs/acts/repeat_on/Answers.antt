@@ -1,4 +1,5 @@
 use Rattle.std.proofs.Common.{◌≤◌, ◌-◌, ◌∙◌, sym, subst}
+use Rattle.pair_journal.specs.Days.{last_day}
 use Rattle.pair_journal.specs.Numbers.{next_out, numbers_after, first_numbers}
 use Rattle.wire_sends.specs.Again.{IsGiven}
 use Rattle.wire_sends.proofs.Sendings.{same_side}
@@ -6,7 +7,7 @@ use Rattle.wire_sends.proofs.acts.repeat_on.Goals as goal
 
 pub repeat_outs-requires-clause-to : goal.repeat_outs-requires-clause-to
 repeat_outs-requires-clause-to g c =
-    let entries = c.args.journal.now.entries in
+    let entries = last_day c.args.journal.now.entries in
     let given = subst (IsGiven entries) c.in-Some.is c.requires.given in
     let same = same_side c.args.side c.in-Some.of (sym c.is_side.ensures ∙ c.if-is_side.true) in
     subst (λ s. c.in-Some.to ≤ next_out s (numbers_after first_numbers entries) - 1) (sym same)

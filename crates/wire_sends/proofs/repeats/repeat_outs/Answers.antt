@@ -1,7 +1,9 @@
 use Rattle.std.proofs.Common.{◌≡◌, ◌≤◌, ◌+◌, ◌-◌, ◌∙◌, sym, subst, refl, arith, Some, inl}
 use Rattle.std.proofs.Common.{inr}
 use Rattle.std.specs.Option.{ForSome}
+use Rattle.pair_journal.specs.Days.{last_day}
 use Rattle.pair_journal.specs.Journal.{JournalOf, Born}
+use Rattle.pair_journal.proofs.Dating.{last_is_sound}
 use Rattle.life_laws.specs.Forms.{form_frame}
 use Rattle.life_laws.specs.Repeats.{repeats, run_after, repeat_forms}
 use Rattle.wire_sends.specs.Again.{Repeated, run_of, placed_by}
@@ -41,7 +43,7 @@ pub loop-number-preserved : goal.loop-number-preserved
 loop-number-preserved g c =
     let inv = c.loop-number.invariant in
     let side = c.args.again.side in
-    let entries = c.args.journal.now.entries in
+    let entries = last_day c.args.journal.now.entries in
     let number = c.loop-number.number in
     let told = c.out.new.into.told in
     let end = c.args.again.to + 1 in
@@ -66,7 +68,8 @@ loop-number-preserved g c =
           (repeat_step _ _ _ _ _ _ (form_frame c.args.names.now side) entries side
           (run_of c.loop-number.run) number c.args.again.now end (placed_by side number told) all
           c.loop-number-test.true
-          (told_is_placed side number entries told c.requires.sound
+          (told_is_placed side number entries told
+          (last_is_sound c.args.journal.now.entries c.requires.sound)
           (c.in_ok-out.ensures.out b (inv.only_read.same ∙ e)))
           (inv.sent b e) c.send_again-still.ensures.sent);
     }
@@ -83,9 +86,10 @@ returns-clause-sent g c = λ b e.
     let side = c.args.again.side in
     let end = c.args.again.to + 1 in
     let past : end ≤ c.loop-number.number = omega (arith, c.loop-number-test.false) in
-    end_repeat _ _ _ _ _ _ (form_frame c.args.names.now side) c.args.journal.now.entries side
+    end_repeat _ _ _ _ _ _ (form_frame c.args.names.now side)
+    (last_day c.args.journal.now.entries) side
     (run_of c.loop-number.run) c.loop-number.number c.args.again.now end
-    (repeat_forms c.args.journal.now.entries side c.args.again.from c.args.again.to
+    (repeat_forms (last_day c.args.journal.now.entries) side c.args.again.from c.args.again.to
     c.args.again.now) past
     (run_ends c.loop-number.run c.loop-number.number end inv.within past)
     (inv.sent b e) c.send_run.ensures.sent

@@ -1,6 +1,7 @@
 use Rattle.std.proofs.Common.{◌≡◌, ◌⊎◌, ◌≤◌, ◌+◌, ◌-◌, None}
 use Rattle.std.specs.Option.{ForSome}
 use Rattle.gate_log.specs.Log.{OnlyReads}
+use Rattle.pair_journal.specs.Days.{last_day}
 use Rattle.pair_journal.specs.Walks.{IsWalk}
 use Rattle.wires.specs.Told.{Keeps}
 use Rattle.life_laws.specs.Forms.{form_frame}
@@ -22,7 +23,8 @@ invariant-loop-number g l = record {
   sent : ForSome (g.D.Disk.bytes l.initial.disk) (λ b. Repeated
       (g.W.Wire.recorded l.initial.wire) (g.W.Wire.recorded l.wire) l.up
       (form_frame l.names l.again.side) l.still
-      (repeats l.journal.entries l.again.side (run_of l.run) l.number l.again.now
+      (repeats (last_day l.journal.entries) l.again.side (run_of l.run) l.number l.again.now
       (l.again.to + 1 - l.number))
-      (repeat_forms l.journal.entries l.again.side l.again.from l.again.to l.again.now));
+      (repeat_forms (last_day l.journal.entries) l.again.side l.again.from l.again.to
+      l.again.now));
 }

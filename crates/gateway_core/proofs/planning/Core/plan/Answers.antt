@@ -1,3 +1,4 @@
+use Rattle.pair_journal.specs.Days.{last_day}
 use Rattle.gateway_core.proofs.Grown.{plan_new, plan_grows}
 use Rattle.gateway_core.proofs.planning.Core.plan.Goals as goal
 
@@ -7,5 +8,5 @@ returns-clause-new c =
 
 pub returns-clause-grows : goal.returns-clause-grows
 returns-clause-grows c entries stand =
-    plan_grows c.args.self.now c.args.journal.now.entries entries c.planned.result
+    plan_grows c.args.self.now (last_day c.args.journal.now.entries) entries c.planned.result
     c.planned.ensures.item stand

@@ -1,6 +1,7 @@
 use Rattle.std.proofs.Common.{List, subst}
 use Rattle.session_core.specs.declared.act.Act.{Act}
 use Rattle.event_decisions.specs.Decide.{session_of, says_of}
+use Rattle.pair_journal.specs.Days.{last_day}
 use Rattle.gateway_core.specs.Planning.{JoinsWith, words_by}
 use Rattle.gateway_core.specs.State.{sessions_in}
 use Rattle.gateway_core.proofs.Reacted.{heard_as, heard_is, reacts_join, reacts_plan}
@@ -17,7 +18,7 @@ concluded-requires-clause-joins c =
     (says_of a.side step.next.heart heard first acts)
     (words_by c.in_ok-answer.answer.words) c.in_ok-answer.answer.item)
     c.as_slice-acts.ensures.items
-    (reacts_join core c.args.journal.now.entries a c.args.reaction.head
+    (reacts_join core (last_day c.args.journal.now.entries) a c.args.reaction.head
     c.as_slice-acts.result.now c.in_ok-took.took c.is_asked-is_asked.result
     c.in_ok-answer.answer (record {
       number = c.requires.number;
@@ -32,7 +33,7 @@ returns-clause-plans c entries stand =
     let a = c.args.asked.now in
     let head = c.args.reaction.head in
     let step = c.args.reaction.step in
-    reacts_plan core c.args.journal.now.entries a head c.as_slice-acts.result.now
+    reacts_plan core (last_day c.args.journal.now.entries) a head c.as_slice-acts.result.now
     c.in_ok-took.took c.is_asked-is_asked.result c.in_ok-answer.answer (record {
       number = c.requires.number;
       took_is = c.in_ok-took.ensures.took;
