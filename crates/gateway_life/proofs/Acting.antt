@@ -13,7 +13,8 @@ use Rattle.pair_journal.specs.declared.error.JournalError.{JournalError}
 use Rattle.pair_journal.specs.declared.error.JournalError.TheVariants as errors
 use Rattle.pair_entries.specs.declared.entry.Entry.{Entry}
 use Rattle.pair_journal.specs.Numbers.{numbers_after, first_numbers}
-use Rattle.pair_journal.specs.Journal.{JournalOf, Born, AreEntries}
+use Rattle.pair_journal.specs.Days.{last_day}
+use Rattle.pair_journal.specs.Journal.{JournalOf, Born, DaysGoOn}
 use Rattle.event_decisions.specs.Event.{Event}
 use Rattle.event_decisions.specs.Decide.{Sessions, AreSides, numbers_of, Decision, Decides}
 use Rattle.message_answers.specs.Answer.{Answers}
@@ -31,9 +32,10 @@ use Rattle.gateway_life.specs.Ended.{end_of}
 use Rattle.wire_sends.specs.Sent.{Agrees, Sent, FrontSent, Hung}
 use Rattle.gateway_life.specs.Acted.{Acted}
 use Rattle.gateway_life.specs.State.{EngineState}
-use Rattle.gateway_life.specs.Ready.{LeavesOf, IsReady, Ready}
+use Rattle.gateway_life.specs.Ready.{LeavesOf, IsReady, Ready, Behind}
 use Rattle.gateway_life.specs.Fails.{IsWhy, FailsBy}
 use Rattle.gateway_life.specs.Stepped.{Records, records, Grew, Stepped, MayStand, Broken}
+use Rattle.gateway_life.proofs.Today.{behind_map}
 use Rattle.wire_sends.proofs.Sendings.{sent_append, sent_none, grows_append, grows_none}
 use Rattle.wire_sends.proofs.Sendings.{sends_none}
 
@@ -158,10 +160,11 @@ stepped config before after event now d names entries cu vu c0 c1 v0 v1 sn sc sv
 grew_none : (r : Records) → Grew r r nothing
 grew_none r = record { client = grows_none r.client; venue = grows_none r.venue }
 
-pub broken_none : (end : LifeEnd) (config : Config) (before : World) (event : Event) (now : ℕ)
-    (r : Records) (found : List Entry) → IsWhy end config before event now
-    → MayStand end config before event now found → Broken end config before event now r r found
-broken_none end config before event now r found why may =
+pub broken_none : (end : LifeEnd) (config : Config) (past : List Entry) (before : World)
+    (event : Event) (now : ℕ) (r : Records) (found : List Entry)
+    → IsWhy end config past before event now → MayStand end config before event now found
+    → Broken end config past before event now r r found
+broken_none end config past before event now r found why may =
     record { why = why; added = nothing; grew = grew_none r; fails = at end may }
   where
     at : (e : LifeEnd) → MayStand e config before event now found
@@ -195,8 +198,8 @@ broken_none end config before event now r found why may =
 
 -- a part was sent, and the entry stands
 pub broken_parts : (told : Option (List ℕ)) (before' after' : List ℕ → Type 0) (config : Config)
-    (before : World) (event : Event) (now : ℕ) (d : Decision) (names : Names)
-    (entries : List Entry) (cu vu : Bool) (c0 c1 v0 v1 : Option (List WireCall))
+    (past : List Entry) (before : World) (event : Event) (now : ℕ) (d : Decision) (names : Names)
+    (entries whole : List Entry) → whole ≡ past ++ entries → (cu vu : Bool) (c0 c1 v0 v1 : Option (List WireCall))
     → names ≡ config.names → cu ≡ before.client_up → vu ≡ before.venue_up
     → entries ≡ before.entries ++ option_to_list d.entry
     → Decides Answers config.names config.window before.entries before.sessions event now (Ok d)
@@ -204,10 +207,10 @@ pub broken_parts : (told : Option (List ℕ)) (before' after' : List ℕ → Typ
     → FrontSent c0 c1 cu (pieces_to names Client entries event now d)
     → FrontSent v0 v1 vu (pieces_to names Venue entries event now d)
     → (image0 : List ℕ → Type 0)
-    → LeavesOf told image0 before' config.names (λ found. found ≡ entries)
-    → LeavesOf told image0 after' config.names
-    (Broken ends.DiskFault config before event now (records c0 v0) (records c1 v1))
-broken_parts told before' after' config before event now d names entries cu vu c0 c1 v0 v1 sn sc
+    → LeavesOf told image0 before' config.names (λ found. found ≡ whole)
+    → LeavesOf told image0 after' config.names (Behind past
+    (Broken ends.DiskFault config past before event now (records c0 v0) (records c1 v1)))
+broken_parts told before' after' config past before event now d names entries whole all cu vu c0 c1 v0 v1 sn sc
     sv se decides among client' venue' image0 only = at told only
   where
     client : FrontSent c0 c1 before.client_up (pieces_to config.names Client entries event now d)
@@ -220,35 +223,30 @@ broken_parts told before' after' config before event now d names entries cu vu c
         (pieces_to n Venue entries event now d)) sn
         (subst (λ u. FrontSent v0 v1 u (pieces_to names Venue entries event now d)) sv venue')
 
-    broken : (found : List Entry) → found ≡ entries
-        → Broken ends.DiskFault config before event now (records c0 v0) (records c1 v1) found
-    broken found is =
-        subst (Broken ends.DiskFault config before event now (records c0 v0) (records c1 v1))
-        (sym is) (record {
-          why = tt;
-          added = record { client = client.sent.calls; venue = venue.sent.calls };
-          grew = record { client = client.sent.grows; venue = venue.sent.grows };
-          fails = inr (record {
-            decision = d;
-            decides = decides;
-            is = se;
-            client = part_of c0 c1 before.client_up
-                (pieces_to config.names Client entries event now d) client;
-            venue = part_of v0 v1 before.venue_up
-                (pieces_to config.names Venue entries event now d) venue;
-          });
-        })
+    broken : Broken ends.DiskFault config past before event now (records c0 v0) (records c1 v1)
+        entries
+    broken = record {
+      why = tt;
+      added = record { client = client.sent.calls; venue = venue.sent.calls };
+      grew = record { client = client.sent.grows; venue = venue.sent.grows };
+      fails = inr (record {
+        decision = d;
+        decides = decides;
+        is = se;
+        client = part_of c0 c1 before.client_up
+            (pieces_to config.names Client entries event now d) client;
+        venue = part_of v0 v1 before.venue_up
+            (pieces_to config.names Venue entries event now d) venue;
+      });
+    }
 
-    at : (t : Option (List ℕ)) → LeavesOf t image0 before' config.names (λ found. found ≡ entries)
-        → LeavesOf t image0 after' config.names
-        (Broken ends.DiskFault config before event now (records c0 v0) (records c1 v1))
+    at : (t : Option (List ℕ)) → LeavesOf t image0 before' config.names (λ found. found ≡ whole)
+        → LeavesOf t image0 after' config.names (Behind past
+        (Broken ends.DiskFault config past before event now (records c0 v0) (records c1 v1)))
     at None h = tt
     at (Some b) h = λ left bytes here.
-        let found = h left bytes (among bytes here) in (
-          found.0,
-          found.1,
-          broken found.0 found.2,
-        )
+        let found = h left bytes (among bytes here) in
+        (found.0, found.1, (entries, found.2 ∙ all, broken))
 
 -- ---- an engine that has acted
 
@@ -262,8 +260,8 @@ ready_acted old new t0 t1 c1 v1 ready told journal config chains sessions client
   ready = record {
     names = ap (λ j. j.names) journal ∙ ready.names ∙ ap (λ k. k.names) (sym config);
     whole = ap (λ j. j.broken) journal ∙ ready.whole;
-    sound = subst (λ j. AreEntries first_numbers j.entries) (sym journal) ready.sound;
-    chains = chains ∙ ready.chains ∙ ap (λ j. chains_of j.entries) (sym journal);
+    sound = subst (λ j. DaysGoOn first_numbers j.entries) (sym journal) ready.sound;
+    chains = chains ∙ ready.chains ∙ ap (λ j. chains_of (last_day j.entries)) (sym journal);
     sides = subst AreSides (sym sessions)
         (both_sides new.client_up new.venue_up (sessions_in old.core) ready.sides);
     numbers = ap numbers_of sessions
@@ -278,34 +276,47 @@ ready_acted old new t0 t1 c1 v1 ready told journal config chains sessions client
 }
 
 pub all_broken : (told : Option (List ℕ)) (image0 image : List ℕ → Type 0) (end : LifeEnd)
-    (config : Config) (before : World) (event : Event) (now : ℕ) (r : Records)
-    → IsWhy end config before event now
-    → LeavesOf told image0 image config.names (MayStand end config before event now)
-    → LeavesOf told image0 image config.names (Broken end config before event now r r)
-all_broken None image0 image end config before event now r why may = tt
-all_broken (Some b) image0 image end config before event now r why may = λ only bytes left.
-    let found = may only bytes left in
-    (found.0, found.1, broken_none end config before event now r found.0 why found.2)
+    (config : Config) (past : List Entry) (before : World) (event : Event) (now : ℕ) (r : Records)
+    → IsWhy end config past before event now
+    → LeavesOf told image0 image config.names
+    (Behind past (MayStand end config before event now))
+    → LeavesOf told image0 image config.names
+    (Behind past (Broken end config past before event now r r))
+all_broken None image0 image end config past before event now r why may = tt
+all_broken (Some b) image0 image end config past before event now r why may = λ only bytes left.
+    let found = may only bytes left in (
+      found.0,
+      found.1,
+      behind_map past past (MayStand end config before event now)
+          (Broken end config past before event now r r) refl
+          (λ xs h. broken_none end config past before event now r xs why h) found.0 found.2,
+    )
 
 -- ---- an event that ended the life, by its answer
 
 pub made_ends : {T : Type 0} (r : Result T LifeEnd) (error : LifeEnd) (told : Option (List ℕ))
-    (i0 i1 : List ℕ → Type 0) (config : Config) (before : World) (event : Event) (now : ℕ)
-    (r0 : Records) → IsErrAnd r (λ e. e ≡ error) → IsWhy error config before event now
-    → LeavesOf told i0 i1 config.names (MayStand error config before event now)
-    → IfErr r (λ end. LeavesOf told i0 i1 config.names (Broken end config before event now r0 r0))
-made_ends (Ok value) error told i0 i1 config before event now r0 is why may = tt
-made_ends (Err end) error told i0 i1 config before event now r0 is why may =
+    (i0 i1 : List ℕ → Type 0) (config : Config) (past : List Entry) (before : World)
+    (event : Event) (now : ℕ) (r0 : Records) → IsErrAnd r (λ e. e ≡ error)
+    → IsWhy error config past before event now
+    → LeavesOf told i0 i1 config.names (Behind past (MayStand error config before event now))
+    → IfErr r (λ end. LeavesOf told i0 i1 config.names
+    (Behind past (Broken end config past before event now r0 r0)))
+made_ends (Ok value) error told i0 i1 config past before event now r0 is why may = tt
+made_ends (Err end) error told i0 i1 config past before event now r0 is why may =
     subst (λ (e : LifeEnd). LeavesOf told i0 i1 config.names
-    (Broken e config before event now r0 r0)) (sym is)
-    (all_broken told i0 i1 error config before event now r0 why may)
+    (Behind past (Broken e config past before event now r0 r0))) (sym is)
+    (all_broken told i0 i1 error config past before event now r0 why may)
 
 pub act_ends : {T : Type 0} (r : Result T LifeEnd) (error : JournalError) (told : Option (List ℕ))
-    (i0 i1 : List ℕ → Type 0) (config : Config) (before : World) (event : Event) (now : ℕ)
-    (r0 r1 : Records) → IsErrAnd r (λ e. e ≡ end_of error) → error ≡ errors.DiskFault
-    → LeavesOf told i0 i1 config.names (Broken ends.DiskFault config before event now r0 r1)
-    → IfErr r (λ end. LeavesOf told i0 i1 config.names (Broken end config before event now r0 r1))
-act_ends (Ok value) error told i0 i1 config before event now r0 r1 is fault left = tt
-act_ends (Err end) error told i0 i1 config before event now r0 r1 is fault left =
+    (i0 i1 : List ℕ → Type 0) (config : Config) (past : List Entry) (before : World)
+    (event : Event) (now : ℕ) (r0 r1 : Records) → IsErrAnd r (λ e. e ≡ end_of error)
+    → error ≡ errors.DiskFault
+    → LeavesOf told i0 i1 config.names
+    (Behind past (Broken ends.DiskFault config past before event now r0 r1))
+    → IfErr r (λ end. LeavesOf told i0 i1 config.names
+    (Behind past (Broken end config past before event now r0 r1)))
+act_ends (Ok value) error told i0 i1 config past before event now r0 r1 is fault left = tt
+act_ends (Err end) error told i0 i1 config past before event now r0 r1 is fault left =
     subst (λ (e : LifeEnd). LeavesOf told i0 i1 config.names
-    (Broken e config before event now r0 r1)) (sym (is ∙ ap end_of fault)) left
+    (Behind past (Broken e config past before event now r0 r1)))
+    (sym (is ∙ ap end_of fault)) left

@@ -11,7 +11,9 @@ use Rattle.pair_journal.specs.declared.error.JournalError.{JournalError}
 use Rattle.pair_journal.specs.declared.error.JournalError.TheVariants as errors
 use Rattle.pair_entries.specs.declared.entry.Entry.{Entry}
 use Rattle.pair_journal.specs.Calls.{Loads, BornOrNot}
-use Rattle.pair_journal.specs.Journal.{JournalOf, Unborn, Born, AreEntries}
+use Rattle.pair_journal.specs.Days.{last_day}
+use Rattle.pair_journal.proofs.Dating.{last_numbers}
+use Rattle.pair_journal.specs.Journal.{JournalOf, Unborn, Born, DaysGoOn}
 use Rattle.pair_journal.specs.Numbers.{first_numbers}
 use Rattle.pair_journal.specs.State.{JournalState}
 use Rattle.gateway_config.specs.declared.config.Config.{Config}
@@ -73,7 +75,7 @@ one_read t1 t2 i1 i2 same among one =
 -- a core that was loaded
 pub ready_loaded : (journal : JournalState) (core : CoreState) (config : Config)
     (told told' : Option (List ℕ)) → journal.names ≡ config.names → journal.broken ≡ false
-    → AreEntries first_numbers journal.entries → core ≡ loaded config journal.entries
+    → DaysGoOn first_numbers journal.entries → core ≡ loaded config (last_day journal.entries)
     → ForSome told (λ b. JournalOf b (Born journal.names journal.entries)) → told' ≡ told
     → IsReady (record { journal = journal; core = core; client_up = false; venue_up = false }) told'
 ready_loaded journal core config told told' names whole sound is stands same =
@@ -88,7 +90,7 @@ ready_loaded journal core config told told' names whole sound is stands same =
       sound = sound;
       chains = refl;
       sides = record { client = refl; venue = refl };
-      numbers = refl;
+      numbers = last_numbers journal.entries sound;
       stands = subst (λ t. ForSome t (λ b. JournalOf b (Born journal.names journal.entries)))
           (sym same) stands;
     })

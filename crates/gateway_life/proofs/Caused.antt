@@ -1,12 +1,10 @@
 -- Why a journal is full and numbers are spent, by the journal alone.
 use Rattle.std.proofs.Common.{◌≡◌, ℕ, ◌+◌, ◌≤◌, Bool, true, false, List, [], ◌∷◌, ◌++◌, refl, sym}
-use Rattle.std.proofs.Common.{◌∙◌, ap, subst, arith, append-nil, Some, None, Ok, Err, IfSome}
-use Rattle.std.specs.Prelude.{Result, OnOk, IfErr, IsErrAnd, IsOk, is_some, nat_le, nat_lt, ◌&&◌}
+use Rattle.std.proofs.Common.{◌∙◌, ap, subst, arith, Some, None, Ok, Err, inl, length}
+use Rattle.std.specs.Prelude.{Result, IfErr, IsErrAnd, IsOk, nat_le, nat_lt, ◌&&◌}
 use Rattle.std.specs.Prelude.{if◌then◌else◌, is_ok, IfOk}
 use Rattle.std.specs.declared.option.Option.{Option}
-use Rattle.std.specs.Option.{ForSome}
 use Rattle.std.proofs.lemmas.Bool.Decides.{nat_tests}
-use Rattle.outside.specs.Disk.{HasOneImage}
 use Rattle.order_meaning.specs.declared.Side.{Side}
 use Rattle.order_meaning.specs.declared.Side.TheVariants.{Client, Venue}
 use Rattle.order_meaning.specs.declared.names.Names.{Names}
@@ -19,17 +17,19 @@ use Rattle.session_core.specs.declared.act.Act.TheVariants.{Take, Skip, Say, Res
 use Rattle.session_core.specs.Laws.{Always}
 use Rattle.session_core.specs.Table as session
 use Rattle.session_core.specs.Table.{says}
+use Rattle.outside.specs.declared.disk.TheConstants.{MAX_DISK}
+use Rattle.gate_log.specs.Records.{blocks}
 use Rattle.pair_entries.specs.declared.TheConstants.{MAX_NUMBER}
 use Rattle.pair_entries.specs.declared.entry.Entry.{Entry}
 use Rattle.pair_entries.specs.declared.entry.Took.{Took}
 use Rattle.pair_journal.specs.Numbers.{numbers_after, first_numbers, next_out}
-use Rattle.pair_journal.specs.Calls.{BornOrNot, RefusedUntold}
-use Rattle.pair_journal.specs.Journal.{JournalOf, Born}
-use Rattle.pair_journal.specs.Laws.{HasOneReading}
+use Rattle.pair_journal.specs.Days.{last_day, past_of, payload_behind}
+use Rattle.pair_journal.proofs.Dating.{past-last, last_numbers}
+use Rattle.pair_journal.specs.Calls.{RefusedUntold, payloads_of}
 use Rattle.pair_journal.specs.declared.error.JournalError.{JournalError}
 use Rattle.pair_journal.specs.declared.error.JournalError.TheVariants as errors
 use Rattle.event_decisions.specs.Event.{Event, side_of}
-use Rattle.event_decisions.specs.Decide.{Sessions, AreSides, Words, Decision, Decides}
+use Rattle.event_decisions.specs.Decide.{Sessions, AreSides, Words, Decision, Decides, IsDecided}
 use Rattle.event_decisions.specs.Decide.{numbers_of, session_of, with_session, is_active, asked_of}
 use Rattle.event_decisions.specs.Decide.{asked_by, asked_if, asks, took_of, input_of, stepped}
 use Rattle.event_decisions.specs.Decide.{decide, decide_by, concluded, numbered, give}
@@ -37,19 +37,13 @@ use Rattle.event_decisions.proofs.Continues.{by, entry_by, entry_is}
 use Rattle.message_answers.specs.Answer.{Answers}
 use Rattle.gateway_config.specs.declared.config.Config.{Config}
 use Rattle.life_laws.specs.Happens.{World}
-use Rattle.drop_taps.specs.Shown.{TapState}
 use Rattle.gateway_life.specs.declared.end.LifeEnd.{LifeEnd}
 use Rattle.gateway_life.specs.declared.end.LifeEnd.TheVariants as ends
 use Rattle.gateway_life.specs.Ended.{end_of}
-use Rattle.gateway_life.specs.State.{LifeState}
-use Rattle.gateway_life.specs.Ready.{LeavesOf}
+use Rattle.gateway_life.specs.State.{EngineState}
+use Rattle.gateway_life.specs.Ready.{IsReady, world_of}
 use Rattle.gateway_life.specs.Fails.{IsWhy}
-use Rattle.gateway_life.specs.Rounds.{Begins}
-use Rattle.gateway_life.specs.Watched.{Watched, WereCommitted, end_in}
-use Rattle.gateway_life.specs.Causes.{IsCause, IsCauseIn, HasJournalCause}
-use Rattle.gateway_life.proofs.Living.{same_journal, unbegun_image}
-use Rattle.gateway_life.proofs.TapsShown.{left_whole}
-use Rattle.gateway_life.proofs.Watching.{were_same}
+use Rattle.gateway_life.specs.Causes.{IsCause}
 
 -- ---- a side whose numbers are spent
 
@@ -219,16 +213,19 @@ at_moment names window s event now words d entry decides is =
     sym (ap (λ (e : Entry). e.at) same)
 
 module _ (enough : IsEnough) (counted : IsCounted) where
-  cause_of : (end : LifeEnd) (config : Config) (before : World) (event : Event) (now : ℕ)
-      → AreSides before.sessions
+  cause_of : (end : LifeEnd) (config : Config) (past : List Entry) (before : World)
+      (event : Event) (now : ℕ) (entries : List Entry) → before.entries ≡ last_day entries
+      → past ++ before.entries ≡ entries → AreSides before.sessions
       → numbers_of before.sessions ≡ numbers_after first_numbers before.entries
-      → IsWhy end config before event now → IsCause end config.names before.entries
-  cause_of ends.JournalFull config before event now sides numbers why =
+      → numbers_of before.sessions ≡ numbers_after first_numbers entries
+      → IsWhy end config past before event now → IsCause end config.names entries
+  cause_of ends.JournalFull config past before event now entries today whole sides numbers all
+      why =
       let d = why.0 in
       let entry = why.1 in
       let decides = why.2 in record {
         entry = entry;
-        decided = record {
+        comes = inl (subst (λ l. IsDecided Answers config.names l entry) today (record {
           window = config.window;
           sessions = before.sessions;
           sides = sides;
@@ -239,41 +236,53 @@ module _ (enough : IsEnough) (counted : IsCounted) where
               before.sessions event n (Ok d)) (sym (at_moment config.names config.window
               before.sessions event now decides.words d entry decides.decided why.3)) decides;
           is = why.3;
-        };
+        }));
         bounded = why.4;
-        no_room = λ room. omega (arith, room, why.5);
+        no_room = λ room. omega (
+          arith,
+          room,
+          subst (λ l. MAX_DISK ≤ length (blocks (payloads_of config.names l)) + 5
+              + length (payload_behind l entry)) whole why.5,
+        );
       }
-  cause_of (ends.NumbersSpent side) config before event now sides numbers why = record {
-    window = config.window;
-    sessions = before.sessions;
-    sides = sides;
-    numbers = numbers;
-    event = event;
-    now = now;
-    decides = why;
-    last = subst (λ n. MAX_NUMBER ≤ next_out side n) numbers (spent_last enough counted
-        config.names config.window before.entries before.sessions event now side why);
-  }
-  cause_of ends.Done config before event now sides numbers why = tt
-  cause_of (ends.JournalRefused at) config before event now sides numbers why = tt
-  cause_of (ends.NamesDiffer kept given) config before event now sides numbers why = tt
-  cause_of ends.DiskFault config before event now sides numbers why = tt
-  cause_of ends.NoMemory config before event now sides numbers why = tt
+  cause_of (ends.NumbersSpent side) config past before event now entries today whole sides numbers
+      all why = record {
+        window = config.window;
+        sessions = before.sessions;
+        sides = sides;
+        numbers = all;
+        event = event;
+        now = now;
+        decides = subst (λ l. Decides Answers config.names config.window l before.sessions event
+            now (Err side)) today why;
+        last = subst (λ n. MAX_NUMBER ≤ next_out side n) all (spent_last enough counted
+            config.names config.window before.entries before.sessions event now side why);
+      }
+  cause_of ends.Done config past before event now entries today whole sides numbers all why = tt
+  cause_of (ends.JournalRefused at) config past before event now entries today whole sides numbers
+      all why = tt
+  cause_of (ends.NamesDiffer kept given) config past before event now entries today whole sides
+      numbers all why = tt
+  cause_of ends.DiskFault config past before event now entries today whole sides numbers all why =
+      tt
+  cause_of ends.NoMemory config past before event now entries today whole sides numbers all why = tt
 
   -- an event that was refused
   pub made_cause : {T : Type 0} (r : Result T LifeEnd) (error : LifeEnd) (config config' : Config)
-      (before after : World) (event : Event) (now : ℕ) → IsErrAnd r (λ e. e ≡ error)
-      → config' ≡ config → after ≡ before → AreSides before.sessions
-      → numbers_of before.sessions ≡ numbers_after first_numbers before.entries
-      → IsWhy error config before event now
-      → IfErr r (λ end. IsCause end config'.names after.entries)
-  made_cause (Ok value) error config config' before after event now is same world sides numbers
-      why = tt
-  made_cause (Err end) error config config' before after event now is same world sides numbers why =
-      subst (λ (e : LifeEnd). IsCause e config'.names after.entries) (sym is)
-      (subst (λ (k : Config). IsCause error k.names after.entries) (sym same)
-      (subst (λ (w : World). IsCause error config.names w.entries) (sym world)
-      (cause_of error config before event now sides numbers why)))
+      (old new : EngineState) (disk : Option (List ℕ)) (event : Event) (now : ℕ)
+      → IsErrAnd r (λ e. e ≡ error) → config' ≡ config
+      → new.journal.entries ≡ old.journal.entries → IsReady old disk
+      → IsWhy error config (past_of old.journal.entries) (world_of old) event now
+      → IfErr r (λ end. IsCause end config'.names new.journal.entries)
+  made_cause (Ok value) error config config' old new disk event now is same entries ready why = tt
+  made_cause (Err end) error config config' old new disk event now is same entries ready why =
+      let all = old.journal.entries in
+      subst (λ (e : LifeEnd). IsCause e config'.names new.journal.entries) (sym is)
+      (subst (λ (k : Config). IsCause error k.names new.journal.entries) (sym same)
+      (subst (λ l. IsCause error config.names l) (sym entries)
+      (cause_of error config (past_of all) (world_of old) event now all refl
+      (past-last all ready.sound) ready.sides
+      (ready.numbers ∙ sym (last_numbers all ready.sound)) ready.numbers why)))
 
 -- an event of which not all could be read fails by the disk
 pub act_cause : {T : Type 0} (r : Result T LifeEnd) (error : JournalError) (names : Names)
@@ -291,66 +300,3 @@ act_cause (Err end) error names entries told is only =
     at (errors.NamesDiffer kept given) only = tt
     at errors.Full only = absurd only
     at errors.NoMemory only = tt
-
--- ---- of a whole life
-
-module _ (one : (image : List ℕ) → HasOneReading image) where
-  -- of one that did not begin
-  pub cause_unbegun : {V : Type 0} (r : Result V LifeEnd) (error : LifeEnd) (names : Names)
-      (told : Option (List ℕ)) (i0 i1 : List ℕ → Type 0) → IsErrAnd r (λ e. e ≡ error)
-      → IfSome told (λ b. Begins {T = LifeState} (λ life. life.engine.journal.entries) names b
-      (Err error))
-      → BornOrNot told i0 i1 names → HasJournalCause (end_in r) names told i0 i1
-  cause_unbegun r error names None i0 i1 is begins images = tt
-  cause_unbegun (Ok value) error names (Some b) i0 i1 is begins images = absurd is
-  cause_unbegun (Err end) error names (Some b) i0 i1 is begins images =
-      λ only before journal. (
-        [],
-        at end (before ++ []) (subst (λ (e : LifeEnd). Begins {T = LifeState}
-            (λ life. life.engine.journal.entries) names b (Err e)) (sym is) begins),
-        λ image here. let found = images only image here in (
-          before,
-          unbegun_image one names b image before journal found.0 found.1,
-          were_same end (before ++ []) before (sym (append-nil before)),
-        ),
-      )
-    where
-      at : (e : LifeEnd) (xs : List Entry) → Begins {T = LifeState}
-          (λ life. life.engine.journal.entries) names b (Err e) → IsCause e names xs
-      at ends.JournalFull xs never = absurd never
-      at (ends.NumbersSpent side) xs never = absurd never
-      at ends.Done xs may = tt
-      at (ends.JournalRefused place) xs may = tt
-      at (ends.NamesDiffer kept given) xs may = tt
-      at ends.DiskFault xs may = tt
-      at ends.NoMemory xs may = tt
-
-  -- of one that did
-  pub cause_whole : {T V : Type 0} (state : T → TapState) (r : Result V LifeEnd)
-      (olds news : List T) (names names' : Names) (t0 t1 t2 : Option (List ℕ))
-      (i0 i1 i2 : List ℕ → Type 0) (old new : LifeState)
-      → names' ≡ names
-      → IfSome t0 (λ b. Begins {T = LifeState} (λ life. life.engine.journal.entries) names b
-      (Ok old)) → is_some t1 ≡ is_some t0 → (HasOneImage t0 i0 → HasOneImage t1 i1)
-      → is_some t2 ≡ is_some t1 → OnOk r (HasOneImage t1 i1 → HasOneImage t2 i2)
-      → OnOk r (ForSome t2 (λ b. JournalOf b (Born names' new.engine.journal.entries)))
-      → IfErr r (λ end. LeavesOf t1 i1 i2 names' (WereCommitted end new.engine.journal.entries))
-      → Watched state olds news old.engine.journal.entries new.engine.journal.entries
-      → new.engine.core.config.names ≡ names → IfErr r (λ end. IsCauseIn end new.engine)
-      → HasJournalCause (end_in r) names t0 i0 i2
-  cause_whole state r olds news names names' None t1 t2 i0 i1 i2 old new same begins told kept
-      told' kept' stands left watched named cause = tt
-  cause_whole {V = V} state r olds news names names' (Some b) t1 t2 i0 i1 i2 old new same begins
-      told kept told' kept' stands left watched named cause = λ only before journal. (
-        watched.more,
-        subst (IsCause (end_in r) names) (watched.goes_on ∙ ap (λ l. l ++ watched.more)
-            (same_journal one names b old.engine.journal.entries before begins journal))
-            (at r cause),
-        left_whole one r names names' b t1 t2 i0 i1 i2 old new watched.more same begins told kept
-            told' kept' stands left watched.goes_on only before journal,
-      )
-    where
-      at : (q : Result V LifeEnd) → IfErr q (λ end. IsCauseIn end new.engine)
-          → IsCause (end_in q) names new.engine.journal.entries
-      at (Ok value) found = tt
-      at (Err end) found = subst (λ n. IsCause end n new.engine.journal.entries) named found

@@ -1,7 +1,7 @@
 -- What an event decides and commits, and what a commit that fails leaves.
 use Rattle.std.proofs.Common.{◌≡◌, ℕ, ◌+◌, ◌-◌, ◌≤◌, Bool, true, false, List, [], ◌∷◌, ◌++◌}
 use Rattle.std.proofs.Common.{take, length-append, length, refl, sym, ◌∙◌, ap, subst, arith}
-use Rattle.std.proofs.Common.{append-nil, Some, None, inl}
+use Rattle.std.proofs.Common.{append_assoc, append-nil, Some, None, inl}
 use Rattle.std.proofs.Common.{inr, ◌⊎◌, IfSome, Ok, Err}
 use Rattle.std.specs.Prelude.{Result, IfErr, if◌then◌else◌, is_some}
 use Rattle.std.specs.declared.option.Option.{Option}
@@ -18,10 +18,12 @@ use Rattle.pair_journal.specs.declared.error.JournalError.{JournalError}
 use Rattle.pair_journal.specs.declared.error.JournalError.TheVariants as errors
 use Rattle.pair_entries.specs.declared.entry.Out.{Out}
 use Rattle.pair_entries.specs.declared.entry.Entry.{Entry}
-use Rattle.pair_entries.specs.Payload.{Next, AreNext, IsEntry, AreOuts, entry_bytes}
+use Rattle.pair_entries.specs.Payload.{Next, AreNext, IsEntry, AreOuts}
 use Rattle.pair_journal.specs.Numbers.{next_out, outs_to, Numbered, OutsGoOn, GoesOn, is_side}
 use Rattle.pair_journal.specs.Numbers.{numbers_after, first_numbers}
-use Rattle.pair_journal.specs.Journal.{JournalOf, Born, AreEntries}
+use Rattle.pair_journal.specs.Journal.{JournalOf, Born, AreEntries, DaysGoOn}
+use Rattle.pair_journal.specs.Days.{last_day, payload_behind}
+use Rattle.pair_journal.proofs.Dating.{last_numbers}
 use Rattle.pair_journal.specs.Given.{source_of}
 use Rattle.pair_journal.specs.State.{JournalState}
 use Rattle.pair_journal.specs.Calls.{Commits, KeepsJournal, payloads_of}
@@ -40,10 +42,11 @@ use Rattle.gateway_life.specs.Ended.{end_of}
 use Rattle.wire_sends.specs.Sent.{AreSendable}
 use Rattle.wire_sends.specs.Again.{IsGiven, repeat_in}
 use Rattle.gateway_life.specs.State.{EngineState}
-use Rattle.gateway_life.specs.Ready.{LeavesOf, IsReady, world_of}
+use Rattle.gateway_life.specs.Ready.{LeavesOf, IsReady, Behind, world_of}
 use Rattle.gateway_life.specs.Fails.{IsWhy}
 use Rattle.gateway_life.specs.Stepped.{MayStand}
 use Rattle.gateway_life.specs.Committed.{OldOrNew, IsFull}
+use Rattle.gateway_life.proofs.Today.{SameDay, sound_more, today_more}
 
 -- ---- an entry more
 
@@ -51,18 +54,6 @@ numbers_push : (before : Next) (xs : List Entry) (e : Entry)
     → numbers_after before (xs ++ e ∷ []) ≡ e.next
 numbers_push before [] e = refl
 numbers_push before (x ∷ xs) e = numbers_push x.next xs e
-
-are_push : (before : Next) (xs : List Entry) (e : Entry) → AreEntries before xs → IsEntry e
-    → GoesOn (numbers_after before xs) e → AreEntries before (xs ++ e ∷ [])
-are_push before [] e are is goes = (is, goes, tt)
-are_push before (x ∷ xs) e are is goes = (are.0, are.1, are_push x.next xs e are.2 is goes)
-
-pub entries_more : (xs : List Entry) (entry : Option Entry) → AreEntries first_numbers xs
-    → IfSome entry IsEntry → IfSome entry (GoesOn (numbers_after first_numbers xs))
-    → AreEntries first_numbers (xs ++ option_to_list entry)
-entries_more xs None are is goes =
-    subst (AreEntries first_numbers) (sym (append-nil xs)) are
-entries_more xs (Some e) are is goes = are_push first_numbers xs e are is goes
 
 next_bounded : (before : Next) (xs : List Entry) → AreNext before → AreEntries before xs
     → AreNext (numbers_after before xs)
@@ -85,6 +76,7 @@ numbers_bounded xs are = next_bounded first_numbers xs first_bounded are
 
 pub record Goes (xs : List Entry) (d : Decision) : Type 0 where
   pub goes_on : IfSome d.entry (GoesOn (numbers_after first_numbers xs))
+  pub same_day : SameDay d.entry
   pub sides : AreSides d.sessions
   pub numbers :
       numbers_of d.sessions ≡ numbers_after first_numbers (xs ++ option_to_list d.entry)
@@ -93,10 +85,15 @@ pub goes : (xs : List Entry) (s : Sessions) (event : Event) (d : Decision) → C
     → numbers_of s ≡ numbers_after first_numbers xs → Goes xs d
 goes xs s event d continues numbers = record {
   goes_on = at d.entry refl;
+  same_day = same d.entry refl;
   sides = continues.sides;
   numbers = next d.entry refl;
 }
   where
+    same : (o : Option Entry) → d.entry ≡ o → SameDay o
+    same None is = tt
+    same (Some e) is = continues.same_day e is
+
     at : (o : Option Entry) → d.entry ≡ o → IfSome o (GoesOn (numbers_after first_numbers xs))
     at None is = tt
     at (Some e) is = subst (λ n. GoesOn n e) numbers (continues.goes_on e is)
@@ -208,18 +205,29 @@ as_before ends.JournalFull config before event now = refl
 as_before (ends.NumbersSpent side) config before event now = refl
 as_before ends.NoMemory config before event now = refl
 
--- what a commit that failed left
-pub may_stand : (error : JournalError) (config : Config) (before : World) (event : Event) (now : ℕ)
-    (d : Decision) (xs : List Entry)
+-- what a commit that failed left, behind the days before
+pub may_behind : (error : JournalError) (config : Config) (past : List Entry) (before : World)
+    (event : Event) (now : ℕ) (d : Decision) (whole xs : List Entry)
+    → past ++ before.entries ≡ whole
     → Decides Answers config.names config.window before.entries before.sessions event now (Ok d)
-    → OldOrNew error before.entries d.entry xs
-    → MayStand (end_of error) config before event now xs
-may_stand errors.DiskFault config before event now d xs decides (inl same) = inl same
-may_stand errors.DiskFault config before event now d xs decides (inr is) = inr (d, decides, is)
-may_stand (errors.Refused at) config before event now d xs decides is = is
-may_stand (errors.NamesDiffer kept given) config before event now d xs decides is = is
-may_stand errors.Full config before event now d xs decides is = is
-may_stand errors.NoMemory config before event now d xs decides is = is
+    → OldOrNew error whole d.entry xs
+    → Behind past (MayStand (end_of error) config before event now) xs
+may_behind errors.DiskFault config past before event now d whole xs is decides (inl same) =
+    (before.entries, same ∙ sym is, inl refl)
+may_behind errors.DiskFault config past before event now d whole xs is decides (inr more) = (
+  before.entries ++ option_to_list d.entry,
+  more ∙ ap (λ l. l ++ option_to_list d.entry) (sym is)
+      ∙ append_assoc past before.entries (option_to_list d.entry),
+  inr (d, decides, refl),
+)
+may_behind (errors.Refused at) config past before event now d whole xs is decides same =
+    (before.entries, same ∙ sym is, refl)
+may_behind (errors.NamesDiffer kept given) config past before event now d whole xs is decides
+    same = (before.entries, same ∙ sym is, refl)
+may_behind errors.Full config past before event now d whole xs is decides same =
+    (before.entries, same ∙ sym is, refl)
+may_behind errors.NoMemory config past before event now d whole xs is decides same =
+    (before.entries, same ∙ sym is, refl)
 
 pub leaves_map : (told : Option (List ℕ)) (before after : List ℕ → Type 0) (names names' : Names)
     (P Q : List Entry → Type 0) → names ≡ names' → ((xs : List Entry) → P xs → Q xs)
@@ -332,28 +340,29 @@ pub held_some : (chains : List ChainItem) (item : Option ChainItem) → is_some 
 held_some chains None is = absurd (cc is)
 held_some chains (Some item) is = omega (arith, length-append chains (item ∷ []))
 
-pub why_of : (error : JournalError) (config : Config) (before : World) (event : Event) (now : ℕ)
-    (d : Decision) (journal : JournalState) → journal.names ≡ config.names
-    → journal.entries ≡ before.entries
+pub why_of : (error : JournalError) (config : Config) (past : List Entry) (before : World)
+    (event : Event) (now : ℕ) (d : Decision) (journal : JournalState)
+    → journal.names ≡ config.names → journal.entries ≡ past ++ before.entries
     → Decides Answers config.names config.window before.entries before.sessions event now (Ok d)
-    → IsFull journal d.entry error → IsWhy (end_of error) config before event now
-why_of errors.DiskFault config before event now d journal names entries decides why = tt
-why_of errors.Full config before event now d journal names entries decides why = (
+    → IsFull journal d.entry error → IsWhy (end_of error) config past before event now
+why_of errors.DiskFault config past before event now d journal names entries decides why = tt
+why_of errors.Full config past before event now d journal names entries decides why = (
   d,
   why.0,
   decides,
   why.1,
   why.2,
   subst (λ l. MAX_DISK ≤ length (blocks (payloads_of config.names l)) + 5
-      + length (entry_bytes why.0)) entries
+      + length (payload_behind l why.0)) entries
       (subst (λ n. MAX_DISK ≤ length (blocks (payloads_of n journal.entries)) + 5
-      + length (entry_bytes why.0)) names why.3),
+      + length (payload_behind journal.entries why.0)) names why.3),
 )
-why_of (errors.Refused at) config before event now d journal names entries decides why =
+why_of (errors.Refused at) config past before event now d journal names entries decides why =
     absurd why
-why_of (errors.NamesDiffer kept given) config before event now d journal names entries decides
-    why = absurd why
-why_of errors.NoMemory config before event now d journal names entries decides why = absurd why
+why_of (errors.NamesDiffer kept given) config past before event now d journal names entries
+    decides why = absurd why
+why_of errors.NoMemory config past before event now d journal names entries decides why =
+    absurd why
 
 -- the chains and the sessions after an event that was refused
 pub undone : (old held new : CoreState) (item : Option ChainItem) (flag : Bool)
@@ -377,7 +386,7 @@ pub world_same : (old new : EngineState) → new.journal.entries ≡ old.journal
     → sessions_in new.core ≡ sessions_in old.core → new.client_up ≡ old.client_up
     → new.venue_up ≡ old.venue_up → world_of new ≡ world_of old
 world_same old new entries sessions client venue = λ i. record {
-  entries = entries i;
+  entries = last_day (entries i);
   sessions = sessions i;
   client_up = client i;
   venue_up = venue i;
@@ -385,63 +394,70 @@ world_same old new entries sessions client venue = λ i. record {
 
 -- nothing was written
 pub alone_left : {T : Type 0} (r : Result T LifeEnd) (told : Option (List ℕ))
-    (image : List ℕ → Type 0) (names names' : Names) (config : Config) (before : World)
-    (event : Event) (now : ℕ) → names ≡ names'
-    → ForSome told (λ b. JournalOf b (Born names before.entries))
-    → IfErr r (λ end. LeavesOf told image image names' (MayStand end config before event now))
-alone_left (Ok value) told image names names' config before event now same stands = tt
-alone_left (Err end) told image names names' config before event now same stands =
-    left_alone told image names names' before.entries (MayStand end config before event now) same
-    stands (as_before end config before event now)
+    (image : List ℕ → Type 0) (names names' : Names) (config : Config) (past : List Entry)
+    (before : World) (whole : List Entry) (event : Event) (now : ℕ) → names ≡ names'
+    → past ++ before.entries ≡ whole → ForSome told (λ b. JournalOf b (Born names whole))
+    → IfErr r (λ end. LeavesOf told image image names'
+    (Behind past (MayStand end config before event now)))
+alone_left (Ok value) told image names names' config past before whole event now same is stands = tt
+alone_left (Err end) told image names names' config past before whole event now same is stands =
+    left_alone told image names names' whole
+    (Behind past (MayStand end config before event now)) same
+    stands (before.entries, sym is, as_before end config before event now)
 
 -- what a commit that was refused left, by what it answered
 pub refused_left : (told : Option (List ℕ)) (i0 i1 : List ℕ → Type 0) (names names' : Names)
-    (error : JournalError) (end : LifeEnd) (config : Config) (before : World) (event : Event)
-    (now : ℕ) (d : Decision) (xs : List Entry) → end ≡ end_of error → names ≡ names'
-    → xs ≡ before.entries
+    (error : JournalError) (end : LifeEnd) (config : Config) (past : List Entry) (before : World)
+    (event : Event) (now : ℕ) (d : Decision) (whole : List Entry) → end ≡ end_of error
+    → names ≡ names' → past ++ before.entries ≡ whole
     → Decides Answers config.names config.window before.entries before.sessions event now (Ok d)
-    → LeavesOf told i0 i1 names (OldOrNew error xs d.entry)
-    → LeavesOf told i0 i1 names' (MayStand end config before event now)
-refused_left told i0 i1 names names' error end config before event now d xs is same entries decides
-    left =
-    leaves_map told i0 i1 names names' (OldOrNew error xs d.entry)
-    (MayStand end config before event now) same
-    (λ found old. subst (λ e. MayStand e config before event now found) (sym is)
-    (may_stand error config before event now d found decides
-    (subst (λ l. OldOrNew error l d.entry found) entries old))) left
+    → LeavesOf told i0 i1 names (OldOrNew error whole d.entry)
+    → LeavesOf told i0 i1 names' (Behind past (MayStand end config before event now))
+refused_left told i0 i1 names names' error end config past before event now d whole is same
+    entries decides left =
+    leaves_map told i0 i1 names names' (OldOrNew error whole d.entry)
+    (Behind past (MayStand end config before event now)) same
+    (λ found old. subst (λ e. Behind past (MayStand e config before event now) found) (sym is)
+    (may_behind error config past before event now d whole found entries decides old)) left
 
-pub refused_why : (error : JournalError) (end : LifeEnd) (config : Config) (before : World)
-    (event : Event) (now : ℕ) (d : Decision) (journal : JournalState) → end ≡ end_of error
-    → journal.names ≡ config.names → journal.entries ≡ before.entries
+pub refused_why : (error : JournalError) (end : LifeEnd) (config : Config) (past : List Entry)
+    (before : World) (event : Event) (now : ℕ) (d : Decision) (journal : JournalState)
+    → end ≡ end_of error → journal.names ≡ config.names
+    → journal.entries ≡ past ++ before.entries
     → Decides Answers config.names config.window before.entries before.sessions event now (Ok d)
-    → IsFull journal d.entry error → IsWhy end config before event now
-refused_why error end config before event now d journal is names entries decides full =
-    subst (λ e. IsWhy e config before event now) (sym is)
-    (why_of error config before event now d journal names entries decides full)
+    → IsFull journal d.entry error → IsWhy end config past before event now
+refused_why error end config past before event now d journal is names entries decides full =
+    subst (λ e. IsWhy e config past before event now) (sym is)
+    (why_of error config past before event now d journal names entries decides full)
 
 -- an engine that has decided
 pub ready_decided : (old : EngineState) (t0 t1 : Option (List ℕ)) (journal : JournalState)
     (held core : CoreState) (plan : Plan) (cu vu : Bool) → IsReady old t0
     → journal.names ≡ old.journal.names → journal.broken ≡ false
     → journal.entries ≡ old.journal.entries ++ option_to_list plan.entry
-    → IfSome plan.entry IsEntry → Goes old.journal.entries (decision_of plan)
+    → IfSome plan.entry IsEntry → Goes (last_day old.journal.entries) (decision_of plan)
     → held ≡ record old.core { chains = old.core.chains ++ option_to_list plan.item }
     → core ≡ record held { client = plan.client; venue = plan.venue }
-    → chains_of (old.journal.entries ++ option_to_list plan.entry)
+    → chains_of (last_day old.journal.entries ++ option_to_list plan.entry)
     ≡ old.core.chains ++ option_to_list plan.item
     → ForSome t1 (λ b. JournalOf b (Born journal.names journal.entries))
     → IsReady (record { journal = journal; core = core; client_up = cu; venue_up = vu }) t1
 ready_decided old t0 t1 journal held core plan cu vu ready names whole entries bounds goes is_held
-    is_core grows stands = record {
+    is_core grows stands =
+    let today : last_day journal.entries ≡ last_day old.journal.entries ++ option_to_list plan.entry =
+    ap last_day entries ∙ today_more old.journal.entries plan.entry goes.same_day in
+    let sound : DaysGoOn first_numbers journal.entries =
+    subst (DaysGoOn first_numbers) (sym entries) (sound_more old.journal.entries plan.entry
+    ready.sound bounds goes.same_day goes.goes_on) in
+    record {
       names = names ∙ ready.names ∙ ap (λ (k : CoreState). k.config.names) (sym is_held)
           ∙ ap (λ (k : CoreState). k.config.names) (sym is_core);
       whole = whole;
-      sound = subst (AreEntries first_numbers) (sym entries)
-          (entries_more old.journal.entries plan.entry ready.sound bounds goes.goes_on);
+      sound = sound;
       chains = ap (λ (k : CoreState). k.chains) is_core ∙ ap (λ (k : CoreState). k.chains) is_held
-          ∙ sym grows ∙ ap chains_of (sym entries);
+          ∙ sym grows ∙ ap chains_of (sym today);
       sides = subst AreSides (sym (ap sessions_in is_core)) goes.sides;
       numbers = ap (λ (k : CoreState). numbers_of (sessions_in k)) is_core ∙ goes.numbers
-          ∙ ap (numbers_after first_numbers) (sym entries);
+          ∙ ap (numbers_after first_numbers) (sym today) ∙ last_numbers journal.entries sound;
       stands = stands;
     }

@@ -15,11 +15,11 @@ use Rattle.gateway_life.specs.Rounds.{BrokenAt}
 use Rattle.gateway_life.proofs.Turning.{grew_append}
 
 module _ (config : Config) where
-  pub failed_up_to : (end : LifeEnd) (w : World) (all events tail : List Event) (now : ℕ)
-      (r0 r1 : Records) (entries : List Entry) → all ≡ events ++ tail
-      → (f : Failed end config w events now r0 r1 entries)
+  pub failed_up_to : (end : LifeEnd) (past : List Entry) (w : World) (all events tail : List Event)
+      (now : ℕ) (r0 r1 : Records) (entries : List Entry) → all ≡ events ++ tail
+      → (f : Failed end config past w events now r0 r1 entries)
       → UpTo Answers config.names config.window w all now f.all.added f.mid f.last
-  failed_up_to end w all events tail now r0 r1 entries is f = record {
+  failed_up_to end past w all events tail now r0 r1 entries is f = record {
     first = f.first;
     rest = f.rest ++ tail;
     split = is ∙ ap (λ l. l ++ tail) f.split ∙ append_assoc f.first (f.last ∷ f.rest) tail;
@@ -28,10 +28,11 @@ module _ (config : Config) where
   }
 
   -- all that was done, with what stands of the event
-  pub broken_grew : (end : LifeEnd) (now : ℕ) (r0 r1 : Records) (entries : List Entry)
-      (leads : Added → World → Event → Type 0)
-      → (b : BrokenAt end config now r0 r1 entries leads) → Grew r0 r1 (both b.added b.broken.added)
-  broken_grew end now r0 r1 entries leads b =
+  pub broken_grew : (end : LifeEnd) (past : List Entry) (now : ℕ) (r0 r1 : Records)
+      (entries : List Entry) (leads : Added → World → Event → Type 0)
+      → (b : BrokenAt end config past now r0 r1 entries leads)
+      → Grew r0 r1 (both b.added b.broken.added)
+  broken_grew end past now r0 r1 entries leads b =
       grew_append r0 b.between r1 b.added b.broken.added b.grew b.broken.grew
 
   -- ---- what stands of it

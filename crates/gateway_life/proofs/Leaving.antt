@@ -1,10 +1,11 @@
 -- What a life leaves, by the laws of lives.
-use Rattle.std.proofs.Common.{◌≡◌, ℕ, Bool, true, false, List, [], ◌∷◌, ◌++◌, map, refl, sym}
-use Rattle.std.proofs.Common.{◌∙◌, ap, subst}
+use Rattle.std.proofs.Common.{◌≡◌, ℕ, List, [], ◌∷◌, ◌++◌, map, refl, sym, ◌∙◌, ap, subst}
+use Rattle.std.proofs.Common.{append-nil, None}
 use Rattle.order_meaning.specs.declared.Side.{Side}
 use Rattle.order_meaning.specs.declared.Side.TheVariants.{Client, Venue}
 use Rattle.order_meaning.specs.declared.names.Names.{Names}
 use Rattle.pair_entries.specs.declared.entry.Entry.{Entry}
+use Rattle.pair_journal.specs.Days.{days_of, last_day, past_of, day_at}
 use Rattle.pair_journal.specs.Journal.{AreEntries}
 use Rattle.pair_journal.specs.Numbers.{numbers_after, first_numbers}
 use Rattle.event_decisions.specs.Decide.{Sessions, AreSides, IsLawful, numbers_of}
@@ -13,17 +14,21 @@ use Rattle.message_answers.specs.Answer.{Answers}
 use Rattle.message_answers.specs.Laws.{AnswersAreGivenOut}
 use Rattle.gateway_config.specs.declared.config.Config.{Config}
 use Rattle.gateway_core.specs.State.{loaded, sessions_in}
-use Rattle.wires.specs.Wire.{WireCall, Connection, is_within}
-use Rattle.life_laws.specs.Sends.{hang_up_if}
+use Rattle.wires.specs.Wire.{Connection}
+use Rattle.life_laws.specs.Days.{DayEnded, DayLeft, Transcript, AllLeave, LeavesDays, DaysLeave}
+use Rattle.life_laws.specs.Days.{days_after, transcript_after}
+use Rattle.life_laws.specs.Happens.{World, Added, nothing}
 use Rattle.life_laws.specs.Justified.{IsJustified, transcript_from, Leaves}
 use Rattle.life_laws.specs.Receiver.{read_body, message_of_out, AreSent}
 use Rattle.life_laws.specs.Forms.{all_placed}
 use Rattle.life_laws.specs.Standing.{Holds, NumberedFrom}
-use Rattle.life_laws.specs.Turn.{Reads, last_read, both}
+use Rattle.life_laws.specs.Turn.{Reads, last_read}
 use Rattle.life_laws.specs.Laws as lives
 use Rattle.gateway_life.specs.declared.end.LifeEnd.{LifeEnd}
-use Rattle.gateway_life.specs.Life.{begun, hung_up, moment_of, Done, LivesToEnd, LifeFails}
-use Rattle.gateway_life.specs.Life.{Follows, ToItsEnd, ToAnEvent, NotBegun}
+use Rattle.life_laws.proofs.ByDay.{LastLeaves, ends-leave, held-leaves, over-leaves}
+use Rattle.gateway_life.specs.Life.{begun, rested, went_on, moment_of, Done, LivesToEnd, LifeFails}
+use Rattle.gateway_life.specs.Life.{LastFails, AtEvent, AtDay, BehindDay, Follows, ToItsEnd}
+use Rattle.gateway_life.specs.Life.{ToAFailure, NotBegun}
 use Rattle.book_laws.specs.HeardLaws.{SidesLearn}
 use Rattle.book_laws.specs.Learned.{learned_of_taken}
 use Rattle.book_laws.specs.Laws.{PeersAgree}
@@ -43,22 +48,6 @@ rest_numbers : (config : Config) (entries : List Entry)
 unfolding rest_of
 rest_numbers config entries = refl
 
--- a hang up changes no transcript
-from_append : (links : List Connection) (xs ys : List WireCall)
-    → transcript_from links (xs ++ ys) ≡ transcript_from (transcript_from links xs) ys
-from_append links [] ys = refl
-from_append links (x ∷ xs) ys = from_append (transcript_from links (x ∷ [])) xs ys
-
-hung_same : (links : List Connection) (calls : List WireCall)
-    → transcript_from links (hung_up calls) ≡ transcript_from links calls
-hung_same links calls = from_append links calls (hang_up_if (is_within calls))
-    ∙ at (is_within calls)
-  where
-    at : (b : Bool) → transcript_from (transcript_from links calls) (hang_up_if b)
-        ≡ transcript_from links calls
-    at true = refl
-    at false = refl
-
 module _ (begin : lives.LivesBegin Answers) where
   holds : (config : Config) (entries : List Entry) (client venue : List Connection)
       → Leaves Answers config.names entries client venue
@@ -70,57 +59,76 @@ module _ (begin : lives.LivesBegin Answers) where
 
   -- ---- what is left of a life
 
-  module _ (lives_leave : lives.LivesLeave Answers) (lives_fail : lives.LivesThatFailLeave Answers)
-      (config : Config) (before entries : List Entry) (client venue : List Connection)
-      (rounds : ℕ) (did : Done) (left : Leaves Answers config.names before client venue) where
-    abbrev LeavesBy : (client_did venue_did : List WireCall) → Type 0
-    LeavesBy client_did venue_did = Leaves Answers config.names entries
-        (transcript_from client client_did) (transcript_from venue venue_did)
-
+  module _ (days_leave : DaysLeave Answers) (fail : lives.LivesThatFailLeave Answers)
+      (config : Config) (before : List Entry) (client venue : Transcript)
+      (past : AllLeave Answers config.names (days_of before).ended client.ended venue.ended)
+      (present : Leaves Answers config.names (last_day before) client.present venue.present) where
     abbrev reads : Reads
-    reads = record { client = last_read client; venue = last_read venue }
+    reads = record { client = last_read client.present; venue = last_read venue.present }
 
-    by : (client_did venue_did : List WireCall) → did.client ≡ client_did → did.venue ≡ venue_did
-        → LeavesBy client_did venue_did → LeavesBy did.client did.venue
-    by client_did venue_did is_client is_venue leaves =
-        subst (λ l. LeavesBy l did.venue) (sym is_client)
-        (subst (λ l. LeavesBy client_did l) (sym is_venue) leaves)
+    abbrev LeavesBy : List DayEnded → DayLeft → Type 0
+    LeavesBy days left = LeavesDays Answers config.names
+        (days_after (days_of before) days left.entries) (transcript_after Client client days left)
+        (transcript_after Venue venue days left)
 
-    -- a hang up changes nothing of it
-    hung : (client_did venue_did : List WireCall) → LeavesBy client_did venue_did
-        → LeavesBy (hung_up client_did) (hung_up venue_did)
-    hung client_did venue_did leaves =
-        subst (λ l. Leaves Answers config.names entries l
-        (transcript_from venue (hung_up venue_did))) (sym (hung_same client client_did))
-        (subst (λ l. Leaves Answers config.names entries (transcript_from client client_did) l)
-        (sym (hung_same venue venue_did)) leaves)
+    ended : (rounds : ℕ) (did : Done) (days : List DayEnded) (left : DayLeft)
+        → LivesToEnd config before rounds did days left → LeavesBy days left
+    unfolding rest_sides rest_numbers rest_of
+    ended rounds did days left life = days_leave config.names config.window config.reset
+        (day_at (past_of before)) (rested config) reads (begun config (last_day before))
+        (map moment_of life.given) (moment_of life.last) (days_of before).ended days left client
+        venue (rest_sides config []) (rest_numbers config [])
+        (holds config (last_day before) client.present venue.present present) refl refl past
+        (life.lives reads)
 
-    ended : LivesToEnd config before rounds did entries → LeavesBy did.client did.venue
-    ended life = by life.added.client life.added.venue life.client life.venue
-        (subst (λ l. Leaves Answers config.names l (transcript_from client life.added.client)
-        (transcript_from venue life.added.venue)) (sym life.left)
-        (lives_leave config.names config.window reads (begun config before) life.after
-        (map moment_of life.given) (moment_of life.last) life.added client venue
-        (holds config before client venue left) refl refl (life.lives reads)).0)
+    -- the day on which a life failed
+    last_leaves : (end : LifeEnd) (days : List Entry) (last : ℕ) (left : DayLeft)
+        → LastLeaves Answers config.names config.window config.reset left
+        (LastFails end config days last left)
+    last_leaves end days last left began r w moments cl vl h rc rv (AtEvent e) =
+        (fail config.names config.window r w e.whole last e.added e.mid e.event e.part left.added
+        left.entries cl vl h rc rv e.up_to
+        (fails_by config end e.mid e.event last e.part left.entries e.fails) e.all).0
+    last_leaves end days last left began r w moments cl vl h rc rv (AtDay d) =
+        ends-leave Answers config.names config.window config.reset began r w d.whole
+        (record { left = left; at = last }) cl vl h rc rv d.ends
+    last_leaves end days last left began r w moments cl vl h rc rv (BehindDay d) =
+        let none : left.entries ≡ w.entries =
+        d.entries ∙ sym (ap (λ (x : World). x.entries) d.fresh) in
+        subst (λ (a : Added). Leaves Answers config.names left.entries
+        (transcript_from cl a.client) (transcript_from vl a.venue)) (sym d.added)
+        (subst (λ l. Leaves Answers config.names l cl vl) (sym none)
+        (held-leaves Answers config.names w cl vl h))
 
-    failed : (end : LifeEnd) → LifeFails end config before rounds did entries
-        → LeavesBy did.client did.venue
-    failed end life =
-        let added = both life.added life.part in
-        let now = moment_of life.last in
-        by (hung_up added.client) (hung_up added.venue) life.client life.venue
-        (hung added.client added.venue
-        (lives_fail config.names config.window reads (begun config before)
-        (map moment_of life.given) now life.added life.mid life.event life.part added entries client
-        venue (holds config before client venue left) refl refl (life.up_to reads)
-        (fails_by config end life.mid life.event now life.part entries life.fails) refl).0)
+    failed : (end : LifeEnd) (rounds : ℕ) (did : Done) (days : List DayEnded) (left : DayLeft)
+        → LifeFails end config before rounds did days left → LeavesBy days left
+    unfolding rest_sides rest_numbers rest_of
+    failed end rounds did days left life = over-leaves Answers config.names config.window
+        config.reset (rested config) (rest_sides config []) (rest_numbers config []) left
+        (LastFails end config (went_on before days []) (moment_of life.last) left)
+        (last_leaves end (went_on before days []) (moment_of life.last) left) days
+        (day_at (past_of before)) reads (begun config (last_day before))
+        (map moment_of (life.given ++ life.last ∷ [])) (days_of before).ended client venue
+        (holds config (last_day before) client.present venue.present present) refl refl past
+        (life.fails reads)
 
-    pub leaves_on : (end : LifeEnd) → Follows end config before rounds did entries
-        → LeavesBy did.client did.venue
-    leaves_on end (ToItsEnd done life) = ended life
-    leaves_on end (ToAnEvent life) = failed end life
-    leaves_on end (NotBegun may none same) = by [] [] none.client none.venue
-        (subst (λ l. Leaves Answers config.names l client venue) (sym same) left)
+    -- where none began, all is as it was
+    unbegun : LeavesBy [] (record { entries = last_day before; added = nothing })
+    unbegun = record {
+      ended = subst (λ l. AllLeave Answers config.names l client.ended venue.ended)
+          (sym (append-nil (days_of before).ended)) past;
+      present = present;
+    }
+
+    pub leaves_on : (end : LifeEnd) (rounds : ℕ) (did : Done) (days : List DayEnded)
+        (left : DayLeft) → Follows end config before rounds did days left → LeavesBy days left
+    leaves_on end rounds did days left (ToItsEnd done life) = ended rounds did days left life
+    leaves_on end rounds did days left (ToAFailure life) = failed end rounds did days left life
+    leaves_on end rounds did days left (NotBegun may none no_days same idle) =
+        subst (λ (ds : List DayEnded). LeavesBy ds left) (sym no_days)
+        (subst (λ (a : Added). LeavesBy [] (record { entries = left.entries; added = a })) (sym idle)
+        (subst (λ (es : List Entry). LeavesBy [] (record { entries = es; added = nothing }))
+        (sym same) unbegun))
 
 -- ---- what is taken of it
 
@@ -131,7 +139,7 @@ module _ (begin : lives.LivesBegin Answers) (in_order : lives.JustifiedIsTakenIn
   numbered : (names : Names) (entries : List Entry) (client venue : List Connection) (side : Side)
       → Leaves Answers names entries client venue → NumberedFrom 1 (all_placed side entries)
   numbered names entries client venue side left =
-      let config : Config = record { names = names; heart = 0; window = 0 } in
+      let config : Config = record { names = names; heart = 0; window = 0; reset = None } in
       (holds begin config entries client venue left).in_order side
 
   -- what is left is taken in order

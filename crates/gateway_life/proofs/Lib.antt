@@ -1,4 +1,5 @@
 mod Standing
+mod Today
 mod Deciding
 mod Acting
 mod Passing
@@ -7,6 +8,8 @@ mod Turning
 mod Failing
 mod Polling
 mod Rounding
+mod Rounded
+mod Accounting
 pub mod Living
 mod Joining
 mod Beginning
@@ -14,6 +17,9 @@ mod GivenOut
 mod Leaving
 mod Shown
 pub mod Watching
+mod NewDay
+mod Turnover
 mod TapsShown
 mod Caused
+mod CausedWhole
 pub mod Telling

@@ -15,32 +15,38 @@ use Rattle.pair_entries.specs.declared.entry.Entry.{Entry}
 use Rattle.pair_journal.specs.Calls.{BornOrNot}
 use Rattle.gate_log.specs.Log.{OnlyRead}
 use Rattle.pair_journal.specs.Numbers.{first_numbers}
-use Rattle.pair_journal.specs.Journal.{JournalOf, Unborn, Born, Refused, AreEntries}
+use Rattle.pair_journal.specs.Days.{last_day, past_of, day_at, days_of}
+use Rattle.pair_journal.specs.Journal.{JournalOf, Unborn, Born, Refused, DaysGoOn}
+use Rattle.pair_journal.proofs.Dating.{past-last}
+use Rattle.order_meaning.specs.declared.Side.TheVariants.{Client, Venue}
 use Rattle.pair_journal.specs.Laws.{HasOneReading}
 use Rattle.message_answers.specs.Answer.{Answers}
 use Rattle.gateway_config.specs.declared.config.Config.{Config}
 use Rattle.wires.specs.Told.{GrowsBy}
 use Rattle.wires.specs.Wire.{WireCall, HangUpGrows, is_within, within_after}
 use Rattle.life_laws.specs.Sends.{hang_up_if}
-use Rattle.life_laws.specs.Happens.{World}
-use Rattle.life_laws.specs.Turn.{Reads, Lives}
-use Rattle.life_laws.specs.Ends.{LifeUpTo}
+use Rattle.life_laws.specs.Happens.{World, nothing}
+use Rattle.life_laws.specs.Turn.{Reads}
+use Rattle.life_laws.specs.Days.{DayEnded, DayLeft, all_added, OverDays, LastDay, LeavesDays}
+use Rattle.life_laws.specs.Days.{days_after, transcript_after}
 use Rattle.gateway_life.specs.declared.end.LifeEnd.{LifeEnd}
 use Rattle.gateway_life.specs.declared.end.LifeEnd.TheVariants as ends
 use Rattle.gateway_life.specs.State.{LifeState}
 use Rattle.gateway_life.specs.Ready.{LeavesOf, IfTold, world_of}
 use Rattle.gateway_life.specs.Stepped.{Records, records, IsOfEvent, IsNotDone, EndsEvent}
 use Rattle.gateway_life.specs.Stepped.{HasCauseOf}
-use Rattle.gateway_life.specs.Life.{Done, begun, moment_of, LivesToEnd, LifeFails, hung_up}
-use Rattle.gateway_life.specs.Life.{MayNotBegin, Follows, ToItsEnd, ToAnEvent, NotBegun}
+use Rattle.gateway_life.specs.Life.{Done, begun, rested, went_on, moment_of, LivesToEnd, LifeFails}
+use Rattle.gateway_life.specs.Life.{LastFails, hung_up, MayNotBegin, Follows, ToItsEnd, ToAFailure}
+use Rattle.gateway_life.specs.Life.{NotBegun}
 use Rattle.gateway_life.specs.Life.{IsJournal, counted_on, IsAnswered, IfRefused, IsForeign}
 use Rattle.gateway_life.specs.Laws.{LivesLeave, MessagesAreTaken}
 use Rattle.gateway_life.specs.Lived.{Adds, told, Premises, IsLeft, IsIdle}
-use Rattle.gateway_life.specs.Rounds.{StoodFor, AreTold, LifeDone, LifeBroken, BeginsWith}
+use Rattle.gateway_life.specs.Rounds.{StoodFor, AreTold, DaysFrom, LifeDone, LifeBroken, BeginsWith}
 use Rattle.gateway_life.specs.Rounds.{Begins, IsUnbegun, IsUntouched, LifeWhole, LifeStopped}
 use Rattle.wire_sends.proofs.Sendings.{fold-append, grows_none}
+use Rattle.gateway_life.proofs.Telling.{leaves_from}
 use Rattle.gateway_life.proofs.Beginning.{read_foreign, refused_of}
-use Rattle.gateway_life.proofs.Failing.{broken_grew}
+use Rattle.gateway_life.proofs.Accounting.{days_on, accounted}
 
 -- ---- what is told
 
@@ -84,17 +90,6 @@ hung_told (Some m) b ys hung is = refl
 
 -- ---- parts one after another
 
--- what is left is said of the disk as it was before
-pub leaves_from : (t0 t1 : Option (List ℕ)) (i0 i1 i2 : List ℕ → Type 0) (names names' : Names)
-    (P Q : List Entry → Type 0) → is_some t1 ≡ is_some t0 → (HasOneImage t0 i0 → HasOneImage t1 i1)
-    → names' ≡ names → ((xs : List Entry) → P xs → Q xs) → LeavesOf t1 i1 i2 names' P
-    → LeavesOf t0 i0 i2 names Q
-leaves_from None t1 i0 i1 i2 names names' P Q told one same to h = tt
-leaves_from (Some b) None i0 i1 i2 names names' P Q told one same to h = absurd (cc told)
-leaves_from (Some b) (Some c) i0 i1 i2 names names' P Q told one same to h = λ only bytes left.
-    let found = h (one only) bytes left in
-    (found.0, subst (λ n. JournalOf bytes (Born n found.0)) same found.1, to found.0 found.2)
-
 pub cause_from : {T : Type 0} (r : Result T LifeEnd) (before mid now : ℕ) → mid ≡ before
     → HasCauseOf mid now r → HasCauseOf before now r
 cause_from r before mid now same h = subst (λ n. HasCauseOf n now r) same h
@@ -122,10 +117,17 @@ one_more given m left all is some = omega (arith, length-append given (m ∷ [])
 -- ---- what is found in an image
 
 abbrev pub Found : LifeEnd → Config → List Entry → (rounds : ℕ) → Done → List ℕ → Type 0
-Found end config before rounds did image = (entries : List Entry)
-    × IsJournal config.names entries image
+Found end config before rounds did image = (days : List DayEnded) × (left : DayLeft)
+    × (entries : List Entry) × IsJournal config.names entries image
     × (end ≡ ends.Done → JournalOf image (Born config.names entries))
-    × Follows end config before rounds did entries
+    × (entries ≡ went_on before days left.entries)
+    × Follows end config before rounds did days left
+
+-- the entries of an image are within their bounds, and their numbers go on day by day
+pub sound_of : (names : Names) (entries : List Entry) (image : List ℕ)
+    → IsJournal names entries image → DaysGoOn first_numbers entries
+sound_of names entries image (inl born) = born.2.sound
+sound_of names entries image (inr none) = subst (DaysGoOn first_numbers) (sym none.1) tt
 
 -- ---- how a life begins
 
@@ -182,34 +184,64 @@ module _ (one : (image : List ℕ) → HasOneReading image) where
     }
 
     world_is : (xs : List Entry) (old : LifeState) → BeginsWith config (Some bytes) xs old
-        → world_of old.engine ≡ begun config before
+        → world_of old.engine ≡ begun config (last_day before)
     world_is xs old begins = begins.world
-        ∙ ap (begun config) (same_journal config.names bytes xs before begins.journal journal)
+        ∙ ap (λ es. begun config (last_day es))
+        (same_journal config.names bytes xs before begins.journal journal)
+
+    entries_are : (xs : List Entry) (old : LifeState) → BeginsWith config (Some bytes) xs old
+        → old.engine.journal.entries ≡ before
+    entries_are xs old begins =
+        begins.entries ∙ same_journal config.names bytes xs before begins.journal journal
+
+    -- days from the beginning of the life
+    days_begun : (Last : List Entry → Option ℕ → Reads → World → List ℕ → Type 0) (xs : List Entry)
+        (old : LifeState) (reads : Reads) (moments : List ℕ) (days : List DayEnded)
+        → BeginsWith config (Some bytes) xs old
+        → DaysFrom (Last old.engine.journal.entries) config old reads moments days
+        → OverDays Answers config.names config.window config.reset (Last before) (rested config)
+        (day_at (past_of before)) reads (begun config (last_day before)) moments days
+    days_begun Last xs old reads moments days begins over =
+        subst (λ es. OverDays Answers config.names config.window config.reset (Last es)
+        (rested config) (day_at (past_of es)) reads (begun config (last_day before)) moments days)
+        (entries_are xs old begins)
+        (subst (λ (w : World). OverDays Answers config.names config.window config.reset
+        (Last old.engine.journal.entries) (rested config)
+        (day_at (past_of old.engine.journal.entries)) reads w moments days)
+        (world_is xs old begins) over)
+
+    went_from : (xs entries : List Entry) (old : LifeState) (days : List DayEnded)
+        (present : List Entry) → BeginsWith config (Some bytes) xs old
+        → entries ≡ went_on old.engine.journal.entries days present
+        → entries ≡ went_on before days present
+    went_from xs entries old days present begins is =
+        is ∙ ap (λ es. went_on es days present) (entries_are xs old begins)
 
     pub ends_done : (old : LifeState) (xs entries : List Entry) (given : List ℕ) (last : ℕ)
         → BeginsWith config (Some bytes) xs old → length given ≡ rounds
         → GrowsBy km0 km1 (given ++ last ∷ [])
-        → LifeDone config old given last (records rc0 rv0) (records rc1 rv1) entries
-        → LivesToEnd config before rounds did entries
+        → (life : LifeDone config old given last (records rc0 rv0) (records rc1 rv1) entries)
+        → (entries ≡ went_on before life.days life.left.entries)
+        × LivesToEnd config before rounds did life.days life.left
     ends_done old xs entries given last begins each moments life =
         let told : AreTold (records rc1 rv1) =
         record { client = ap is_some ec1; venue = ap is_some ev1 } in
-        record {
-          given = given;
-          last = last;
-          moments = told_added km0 km1 (given ++ last ∷ []) k0 k1 did.moments moments ek0 ek1 dk;
-          each = each;
-          added = life.added;
-          after = life.after;
-          lives = λ reads. subst (λ (w : World). Lives Answers config.names config.window reads w
-              (map moment_of given) (moment_of last) life.added life.after)
-              (world_is xs old begins)
-              (life.lives told reads (stood_none xs old reads begins));
-          client = told_added rc0 rc1 life.added.client c0 c1 did.client life.grew.client ec0 ec1
-              dc;
-          venue = told_added rv0 rv1 life.added.venue v0 v1 did.venue life.grew.venue ev0 ev1 dv;
-          left = life.left;
-        }
+        let all = all_added life.days life.left.added in (
+          went_from xs entries old life.days life.left.entries begins life.goes_on,
+          record {
+            given = given;
+            last = last;
+            moments =
+                told_added km0 km1 (given ++ last ∷ []) k0 k1 did.moments moments ek0 ek1 dk;
+            each = each;
+            lives = λ reads. days_begun (λ es. LastDay Answers config.names config.window
+                config.reset (moment_of last) life.left) xs old reads (map moment_of given)
+                life.days begins (life.lives told reads (stood_none xs old reads begins));
+            client =
+                told_added rc0 rc1 all.client c0 c1 did.client life.grew.client ec0 ec1 dc;
+            venue = told_added rv0 rv1 all.venue v0 v1 did.venue life.grew.venue ev0 ev1 dv;
+          },
+        )
 
     pub life_fails : (end : LifeEnd) (rcm rvm : Option (List WireCall)) (old : LifeState)
         (xs entries : List Entry) (given : List ℕ) (last : ℕ)
@@ -218,34 +250,29 @@ module _ (one : (image : List ℕ) → HasOneReading image) where
         → HangUpGrows rcm rc1 → HangUpGrows rvm rv1
         → BeginsWith config (Some bytes) xs old → length given ≤ rounds
         → GrowsBy km0 km1 (given ++ last ∷ [])
-        → LifeBroken end config old given last (records rc0 rv0) (records rcm rvm) entries
-        → LifeFails end config before rounds did entries
+        → (life : LifeBroken end config old given last (records rc0 rv0) (records rcm rvm) entries)
+        → (entries ≡ went_on before life.days life.left.entries)
+        × LifeFails end config before rounds did life.days life.left
     life_fails end rcm rvm old xs entries given last cd vd ch vh begins most moments life =
         let told : AreTold (records rcm rvm) =
         record { client = hung_told rcm rc1 c1 ch ec1; venue = hung_told rvm rv1 v1 vh ev1 } in
-        let part = life.broken.added in
-        let grew = broken_grew config end (moment_of last) (records rc0 rv0) (records rcm rvm)
-        entries _ life in
-        record {
-          given = given;
-          last = last;
-          moments = told_added km0 km1 (given ++ last ∷ []) k0 k1 did.moments moments ek0 ek1 dk;
-          most = most;
-          added = life.added;
-          mid = life.mid;
-          event = life.event;
-          up_to = λ reads. subst (λ (w : World). LifeUpTo Answers config.names config.window reads w
-              (map moment_of given) (moment_of last) life.added life.mid life.event)
-              (world_is xs old begins)
-              (life.up_to told reads (stood_none xs old reads begins));
-          why = life.broken.why;
-          part = part;
-          fails = life.broken.fails;
-          client = hung_added rc0 rcm rc1 (life.added.client ++ part.client) c0 c1 did.client
-              grew.client ch cd ec0 ec1 dc;
-          venue = hung_added rv0 rvm rv1 (life.added.venue ++ part.venue) v0 v1 did.venue
-              grew.venue vh vd ev0 ev1 dv;
-        }
+        let all = all_added life.days life.left.added in (
+          went_from xs entries old life.days life.left.entries begins life.goes_on,
+          record {
+            given = given;
+            last = last;
+            moments =
+                told_added km0 km1 (given ++ last ∷ []) k0 k1 did.moments moments ek0 ek1 dk;
+            most = most;
+            fails = λ reads. days_begun (λ es. LastFails end config (went_on es life.days [])
+                (moment_of last) life.left) xs old reads (map moment_of (given ++ last ∷ []))
+                life.days begins (life.fails told reads (stood_none xs old reads begins));
+            client = hung_added rc0 rcm rc1 all.client c0 c1 did.client life.grew.client ch cd ec0
+                ec1 dc;
+            venue = hung_added rv0 rvm rv1 all.venue v0 v1 did.venue life.grew.venue vh vd ev0 ev1
+                dv;
+          },
+        )
 
     unbegun_did : (rcm rvm : Option (List WireCall)) (kmm : Option (List ℕ))
         → ForSome rc0 (λ calls. is_within calls ≡ false)
@@ -284,14 +311,17 @@ module _ (one : (image : List ℕ) → HasOneReading image) where
         not_begun : (e : LifeEnd) → MayNotBegin e → (e ≡ ends.Done → ⊥)
             → Found e config before rounds did image
         not_begun e may not_done = (
+          [],
+          record { entries = last_day before; added = nothing },
           before,
           left,
           (λ done. absurd (not_done done)),
+          sym (past-last before (sound_of config.names before bytes journal)),
           NotBegun may (record {
             client = nothing_did.0;
             venue = nothing_did.1;
             moments = nothing_did.2;
-          }) refl,
+          }) refl refl refl,
         )
 
         at : (e : LifeEnd) → Begins {T = LifeState} (λ life. life.engine.journal.entries)
@@ -337,38 +367,42 @@ of_told : (told : Option (List ℕ)) (bytes : List ℕ) (P : List ℕ → Type 0
 of_told None bytes P is h = absurd (cc is)
 of_told (Some own) bytes P is h = let same : own ≡ bytes = cc is in subst P same h
 
--- the entries of an image are within their bounds
-sound_of : (names : Names) (entries : List Entry) (image : List ℕ)
-    → IsJournal names entries image → AreEntries first_numbers entries
-sound_of names entries image (inl born) = born.2.sound
-sound_of names entries image (inr none) = subst (AreEntries first_numbers) (sym none.1) tt
-
 pub images_by : LivesLeave → MessagesAreTaken → (end : LifeEnd) (config : Config) (rounds : ℕ)
     (b0 b1 : Option (List ℕ)) (i0 i1 : List ℕ → Type 0)
     (rc0 rc1 rv0 rv1 : Option (List WireCall)) (km0 km1 : Option (List ℕ)) (p0 p1 q0 q1 : ℕ)
     → EndsOf end config rounds b0 i0 i1 rc0 rc1 rv0 rv1 km0 km1
     → (given : Premises config.names i0 (told b0 rc0 rv0 km0 p0 q0) (told b1 rc1 rv1 km1 p1 q1))
     → (image : List ℕ) → i1 image
-    → (entries : List Entry) × IsLeft end config given.before rounds given.did image entries
-images_by leave take end config rounds b0 b1 i0 i1 rc0 rc1 rv0 rv1 km0 km1 p0 p1 q0 q1 ends given
-    image here =
+    → (days : List DayEnded) × (left : DayLeft) × (entries : List Entry)
+    × IsLeft end config given.before rounds given.did days left image entries
+images_by leave take end config rounds b0 b1 i0 i1 rc0 rc1 rv0 rv1 km0 km1 p0 p1 q0 q1
+    ends given image here =
     let did : Did rc0 rc1 rv0 rv1 km0 km1 given.did =
     record { client = given.client; venue = given.venue; clock = given.clock } in
     let found = of_told b0 given.bytes _ given.tells ends given.only given.before given.journal
-    given.did did image here in (
-      found.0,
+    given.did did image here in
+    let days = found.0 in
+    let left = found.1 in
+    let entries = found.2 in (
+      days,
+      left,
+      entries,
       record {
-        journal = found.1;
-        born = found.2;
-        follows = found.3;
+        journal = found.3;
+        born = found.4;
+        goes_on = found.5;
+        follows = found.6;
         accounts = λ client venue before.
-            let leaves = leave end config given.before found.0 client venue rounds given.did before
-            found.3 in
-            record {
-              leaves = leaves;
-              taken = λ shown. take config.names found.0 _ _ leaves shown
-                  (sound_of config.names found.0 image found.1);
-            };
+            let leaves = leave end config given.before days left client venue rounds given.did before
+            found.6 in
+            let over = days_on config.names given.before days left.entries _ _ (sound_of config.names given.before
+            given.bytes given.journal) leaves in
+            let is : days_of entries ≡ days_after (days_of given.before) days left.entries =
+            ap days_of found.5 ∙ over in
+            accounted take config.names entries _ _
+            (sound_of config.names entries image found.3)
+            (subst (λ ds. LeavesDays Answers config.names ds (transcript_after Client client days left)
+            (transcript_after Venue venue days left)) (sym is) leaves);
       },
     )
 
@@ -384,15 +418,19 @@ module _ (one : (image : List ℕ) → HasOneReading image) where
       λ only before journal did d image here.
       let life = whole refl in
       let born = image_of t1 i1 (λ c. JournalOf c (Born config.names life.entries)) image told
-      life.stands (same only) here in (
+      life.stands (same only) here in
+      let ends = ends_done one config rounds b image before journal did rc0 rc1 rv0 rv1 km0
+      km1 d.client.0 (d.client.0 ++ did.client) d.venue.0 (d.venue.0 ++ did.venue) d.clock.0
+      (d.clock.0 ++ did.moments) d.client.1 d.client.2 d.venue.1 d.venue.2 d.clock.1
+      d.clock.2 refl refl refl life.old life.before life.entries life.given life.last
+      life.begins life.each life.moments life.done in (
+        life.done.days,
+        life.done.left,
         life.entries,
         inl born,
         (λ done. born),
-        ToItsEnd refl (ends_done one config rounds b image before journal did rc0 rc1 rv0 rv1 km0
-            km1 d.client.0 (d.client.0 ++ did.client) d.venue.0 (d.venue.0 ++ did.venue) d.clock.0
-            (d.clock.0 ++ did.moments) d.client.1 d.client.2 d.venue.1 d.venue.2 d.clock.1
-            d.clock.2 refl refl refl life.old life.before life.entries life.given life.last
-            life.begins life.each life.moments life.done),
+        ends.0,
+        ToItsEnd refl ends.1,
       )
 
   pub live_ended : (end : LifeEnd) (config : Config) (rounds : ℕ) (told : Option (List ℕ))
@@ -415,15 +453,19 @@ module _ (one : (image : List ℕ) → HasOneReading image) where
       let found = stopped.left only image here in
       let c0 = d.client.0 in
       let v0 = d.venue.0 in
-      let k0 = d.clock.0 in (
+      let k0 = d.clock.0 in
+      let fails = life_fails one config rounds b image before journal did rc0 rc1 rv0 rv1 km0 km1
+      c0 (c0 ++ did.client) v0 (v0 ++ did.venue) k0 (k0 ++ did.moments) d.client.1 d.client.2
+      d.venue.1 d.venue.2 d.clock.1 d.clock.2 refl refl refl end rcm rvm stopped.old
+      stopped.entries found.0 stopped.given stopped.last cd vd ch vh stopped.begins
+      stopped.most stopped.moments found.2 in (
+        found.2.days,
+        found.2.left,
         found.0,
         inl found.1,
         (λ done. found.1),
-        ToAnEvent (life_fails one config rounds b image before journal did rc0 rc1 rv0 rv1 km0 km1
-            c0 (c0 ++ did.client) v0 (v0 ++ did.venue) k0 (k0 ++ did.moments) d.client.1 d.client.2
-            d.venue.1 d.venue.2 d.clock.1 d.clock.2 refl refl refl end rcm rvm stopped.old
-            stopped.entries found.0 stopped.given stopped.last cd vd ch vh stopped.begins
-            stopped.most stopped.moments found.2),
+        fails.0,
+        ToAFailure fails.1,
       )
 
 -- a life that did not begin
@@ -446,7 +488,7 @@ lived_unbegun (Err end) error names told i0 i1 r0 k0 Q is begins images = inl (r
 pub lived_whole : {T : Type 0} (r : Result T LifeEnd) (config config' : Config) (rounds : ℕ)
     (t0 t1 t2 : Option (List ℕ)) (old new : LifeState) (r0 r1 : Records)
     (k0 k1 : Option (List ℕ)) → config' ≡ config
-    → world_of old.engine ≡ begun config old.engine.journal.entries
+    → world_of old.engine ≡ begun config (last_day old.engine.journal.entries)
     → IfSome t0 (λ b. Begins {T = LifeState} (λ life. life.engine.journal.entries) config.names b
     (Ok old)) → is_some t1 ≡ is_some t0
     → OnOk r (ForSome t2 (λ b. JournalOf b (Born config'.names new.engine.journal.entries)))
@@ -460,7 +502,7 @@ lived_whole (Ok value) config config' rounds t0 t1 t2 old new r0 r1 k0 k1 same w
     stands done = λ t. record {
       before = old.engine.journal.entries;
       old = old;
-      begins = record { world = world; journal = begins };
+      begins = record { entries = refl; world = world; journal = begins };
       entries = new.engine.journal.entries;
       stands = subst (λ (k : Config).
           ForSome t2 (λ b. JournalOf b (Born k.names new.engine.journal.entries))) same stands;
@@ -475,7 +517,7 @@ lived_whole (Ok value) config config' rounds t0 t1 t2 old new r0 r1 k0 k1 same w
 pub lived_stopped : {T : Type 0} (r : Result T LifeEnd) (config config' : Config) (rounds : ℕ)
     (t0 t1 : Option (List ℕ)) (i0 i1 i2 : List ℕ → Type 0) (old : LifeState) (r0 r1 : Records)
     (k0 k1 : Option (List ℕ)) (Q : LifeEnd → Type 0) → config' ≡ config
-    → world_of old.engine ≡ begun config old.engine.journal.entries
+    → world_of old.engine ≡ begun config (last_day old.engine.journal.entries)
     → IfSome t0 (λ b. Begins {T = LifeState} (λ life. life.engine.journal.entries) config.names b
     (Ok old)) → is_some t1 ≡ is_some t0 → (HasOneImage t0 i0 → HasOneImage t1 i1)
     → IfErr r (EndsEvent t1) → IfErr r (λ end. (given : List ℕ) × (last : ℕ)
@@ -489,7 +531,7 @@ lived_stopped (Err end) config config' rounds t0 t1 i0 i1 i2 old r0 r1 k0 k1 Q s
       of_event = λ t. of_event.of_event (told ∙ t);
       entries = old.engine.journal.entries;
       old = old;
-      begins = record { world = world; journal = begins };
+      begins = record { entries = refl; world = world; journal = begins };
       given = ends.0;
       last = ends.1;
       most = ends.2;

@@ -6,6 +6,7 @@ use Rattle.std.specs.declared.option.Option.{Option}
 use Rattle.order_meaning.specs.declared.Side.{Side}
 use Rattle.order_meaning.specs.declared.Side.TheVariants.{Client, Venue}
 use Rattle.session_core.specs.declared.session.Session.{Session}
+use Rattle.pair_journal.specs.Days.{last_day}
 use Rattle.event_decisions.specs.Event.{Tick}
 use Rattle.event_decisions.specs.Decide.{Sessions, AreSides, numbers_of, Decides, session_of}
 use Rattle.event_decisions.specs.Decide.{with_session}
@@ -72,17 +73,17 @@ numbers_on s Venue next keeps = λ i. (
 pub passed : (old new : EngineState) (side : Side) (next : Session) (now : ℕ)
     (client venue : Option (List WireCall)) → new.journal ≡ old.journal
     → new.client_up ≡ old.client_up → new.venue_up ≡ old.venue_up
-    → Decides Answers old.core.config.names old.core.config.window old.journal.entries
-    (sessions_in old.core) (Tick side) now (Ok (going_on old.core side next))
+    → Decides Answers old.core.config.names old.core.config.window
+    (last_day old.journal.entries) (sessions_in old.core) (Tick side) now (Ok (going_on old.core side next))
     → sessions_in new.core ≡ both_standing old.client_up old.venue_up
     (with_session side next (sessions_in old.core))
     → Stepped old.core.config (world_of old) (Tick side) now (world_of new)
     (records client venue) (records client venue)
 passed old new side next now client venue journal cu vu decides sessions =
     stepped old.core.config (world_of old) (world_of new) (Tick side) now
-    (going_on old.core side next) old.core.config.names old.journal.entries old.client_up
-    old.venue_up client client venue venue refl refl refl (sym (append-nil old.journal.entries))
-    (ap (λ j. j.entries) journal) decides
+    (going_on old.core side next) old.core.config.names (last_day old.journal.entries)
+    old.client_up old.venue_up client client venue venue refl refl refl
+    (sym (append-nil (last_day old.journal.entries))) (ap (λ j. last_day j.entries) journal) decides
     (sessions ∙ (λ i. both_standing (sym cu i) (sym vu i)
     (with_session side next (sessions_in old.core))))
     (idle client old.client_up new.client_up cu) (idle venue old.venue_up new.venue_up vu)

@@ -20,14 +20,15 @@ use Rattle.wires.specs.Wire.{Came, may_come}
 use Rattle.life_laws.specs.Happens.{World, up_on}
 use Rattle.life_laws.specs.Turn.{on_side, with_up, up_after, AreNew, events_of}
 use Rattle.gateway_life.specs.declared.end.LifeEnd.{LifeEnd}
-use Rattle.gateway_life.specs.Ready.{LeavesOf}
+use Rattle.gateway_life.specs.Ready.{LeavesOf, Behind}
 use Rattle.gateway_life.specs.Stepped.{Records, Grew, Stepped, Broken}
 use Rattle.gateway_life.specs.Turned.{Arrived, ArrivedFront, Turned, TurnBroken, TakenAll}
 use Rattle.gateway_life.specs.Turned.{TakenFront, record_on}
 use Rattle.gateway_life.proofs.Turning.{grew_append, all_more, counted, failed_at, failed_one}
 use Rattle.gateway_life.proofs.Turning.{arrived_as, arrived_broken, arrived_closed, arrived_opened}
 use Rattle.gateway_life.proofs.Turning.{arrived_bytes, arrived_part}
-use Rattle.gateway_life.proofs.Living.{leaves_from}
+use Rattle.gateway_life.proofs.Telling.{leaves_from}
+use Rattle.gateway_life.proofs.Today.{behind_map}
 
 -- what an error left, behind what was done before
 pub err_leaves : {T : Type 0} (r : Result T LifeEnd) (error : LifeEnd)
@@ -51,6 +52,31 @@ pub last_leaves : {T : Type 0} (r : Result T LifeEnd) (t0 t1 : Option (List ℕ)
 last_leaves (Ok value) t0 t1 i0 i1 i2 names names' P Q told one same to left = tt
 last_leaves (Err end) t0 t1 i0 i1 i2 names names' P Q told one same to left =
     leaves_from t0 t1 i0 i1 i2 names names' (P end) (Q end) told one same (to end) left
+
+-- what an error left, behind what was done before on the same day
+pub err_behind : {T : Type 0} (r : Result T LifeEnd) (error : LifeEnd)
+    (t0 t1 : Option (List ℕ)) (i0 i1 i2 : List ℕ → Type 0) (names names' : Names)
+    (past past' : List Entry) (P : List Entry → Type 0) (Q : LifeEnd → List Entry → Type 0)
+    → IsErrAnd r (λ e. e ≡ error) → is_some t1 ≡ is_some t0
+    → (HasOneImage t0 i0 → HasOneImage t1 i1) → names' ≡ names → past' ≡ past
+    → ((xs : List Entry) → P xs → Q error xs) → LeavesOf t1 i1 i2 names' (Behind past' P)
+    → IfErr r (λ end. LeavesOf t0 i0 i2 names (Behind past (Q end)))
+err_behind r error t0 t1 i0 i1 i2 names names' past past' P Q is told one same day to left =
+    err_leaves r error t0 t1 i0 i1 i2 names names' (Behind past' P) (λ end. Behind past (Q end)) is
+    told one same (behind_map past past' P (Q error) day to) left
+
+-- the same of a last call
+pub last_behind : {T : Type 0} (r : Result T LifeEnd) (t0 t1 : Option (List ℕ))
+    (i0 i1 i2 : List ℕ → Type 0) (names names' : Names) (past past' : List Entry)
+    (P Q : LifeEnd → List Entry → Type 0) → is_some t1 ≡ is_some t0
+    → (HasOneImage t0 i0 → HasOneImage t1 i1) → names' ≡ names → past' ≡ past
+    → ((end : LifeEnd) (xs : List Entry) → P end xs → Q end xs)
+    → IfErr r (λ end. LeavesOf t1 i1 i2 names' (Behind past' (P end)))
+    → IfErr r (λ end. LeavesOf t0 i0 i2 names (Behind past (Q end)))
+last_behind r t0 t1 i0 i1 i2 names names' past past' P Q told one same day to left =
+    last_leaves r t0 t1 i0 i1 i2 names names' (λ end. Behind past' (P end))
+    (λ end. Behind past (Q end)) told one same
+    (λ end. behind_map past past' (P end) (Q end) day (to end)) left
 
 pub durable_on : {T E : Type 0} (r : Result T E) (A B C : Type 0) → (A → B) → OnOk r (B → C)
     → OnOk r (A → C)
@@ -104,13 +130,13 @@ module _ (config : Config) (side : Side) (came : Came) (w polled : World) (now :
         stands = arrived.stands;
       }
 
-  pub turn_part : (end : LifeEnd) (old : Held) (r2 : Records) (entries : List Entry)
-      → ArrivedFront end old came config polled side now r1 r2 entries
-      → TurnBroken end side old config w now r0 r2 entries
-  turn_part end old r2 entries found =
+  pub turn_part : (end : LifeEnd) (past : List Entry) (old : Held) (r2 : Records) (entries : List Entry)
+      → ArrivedFront end old came config past polled side now r1 r2 entries
+      → TurnBroken end side old config past w now r0 r2 entries
+  turn_part end past old r2 entries found =
       let after = with_up side (up_after (up_on side w) came) w in
-      let part : ArrivedFront end old came config after side now r1 r2 entries =
-      subst (λ (p : World). ArrivedFront end old came config p side now r1 r2 entries) is found in
+      let part : ArrivedFront end old came config past after side now r1 r2 entries =
+      subst (λ (p : World). ArrivedFront end old came config past p side now r1 r2 entries) is found in
       record {
         came = came;
         may = may;
@@ -124,11 +150,11 @@ module _ (config : Config) (side : Side) (came : Came) (w polled : World) (now :
             (part.first ++ more.0, tail.0, more.1, tail.1);
       }
 
-  pub turn_tick : (end : LifeEnd) (old next : Held) (x : World) (r2 r3 : Records)
+  pub turn_tick : (end : LifeEnd) (past : List Entry) (old next : Held) (x : World) (r2 r3 : Records)
       (entries : List Entry) → Arrived old next came config polled side now x r1 r2
-      → Broken end config x (Tick side) now r2 r3 entries
-      → TurnBroken end side old config w now r0 r3 entries
-  turn_tick end old next x r2 r3 entries found broken =
+      → Broken end config past x (Tick side) now r2 r3 entries
+      → TurnBroken end side old config past w now r0 r3 entries
+  turn_tick end past old next x r2 r3 entries found broken =
       let after = with_up side (up_after (up_on side w) came) w in
       let arrived : Arrived old next came config after side now x r1 r2 =
       subst (λ (p : World). Arrived old next came config p side now x r1 r2) is found in
@@ -138,7 +164,7 @@ module _ (config : Config) (side : Side) (came : Came) (w polled : World) (now :
         between = r1;
         polled = grew;
         first = events_of side came arrived.bodies ++ Tick side ∷ [];
-        failed = failed_at config end after x (events_of side came arrived.bodies) [] (Tick side)
+        failed = failed_at config end past after x (events_of side came arrived.bodies) [] (Tick side)
             now r1 r2 r3 entries arrived.all (record { counted = refl; broken = broken });
         new = λ read whole. (
           arrived.bodies,
@@ -175,36 +201,36 @@ module _ (config : Config) (side : Side) (held : Held) (w : World) (now : ℕ) (
   found_opened (Ok value) new x is fresh kind step = arrived_as came wire.Opened held new config w x
       side now r0 r1 is (arrived_opened config held new w x side now r0 r1 fresh kind step)
 
-  pub part_broken : (end : LifeEnd) (entries : List Entry) → came ≡ wire.Broken
-      → Broken end config w (Closed side) now r0 r1 entries
-      → ArrivedFront end held came config w side now r0 r1 entries
-  part_broken end entries is broken =
-      subst (λ (k : Came). ArrivedFront end held k config w side now r0 r1 entries) (sym is)
+  pub part_broken : (end : LifeEnd) (past entries : List Entry) → came ≡ wire.Broken
+      → Broken end config past w (Closed side) now r0 r1 entries
+      → ArrivedFront end held came config past w side now r0 r1 entries
+  part_broken end past entries is broken =
+      subst (λ (k : Came). ArrivedFront end held k config past w side now r0 r1 entries) (sym is)
       (record {
         first = [];
-        failed = failed_one config end w (Closed side) now r0 r1 entries refl broken;
+        failed = failed_one config end past w (Closed side) now r0 r1 entries refl broken;
         new = λ read h. ([], refl);
       })
 
-  pub part_closed : (end : LifeEnd) (entries : List Entry) → came ≡ wire.Closed
-      → Broken end config w (Closed side) now r0 r1 entries
-      → ArrivedFront end held came config w side now r0 r1 entries
-  part_closed end entries is broken =
-      subst (λ (k : Came). ArrivedFront end held k config w side now r0 r1 entries) (sym is)
+  pub part_closed : (end : LifeEnd) (past entries : List Entry) → came ≡ wire.Closed
+      → Broken end config past w (Closed side) now r0 r1 entries
+      → ArrivedFront end held came config past w side now r0 r1 entries
+  part_closed end past entries is broken =
+      subst (λ (k : Came). ArrivedFront end held k config past w side now r0 r1 entries) (sym is)
       (record {
         first = [];
-        failed = failed_one config end w (Closed side) now r0 r1 entries refl broken;
+        failed = failed_one config end past w (Closed side) now r0 r1 entries refl broken;
         new = λ read h. ([], refl);
       })
 
-  pub part_opened : (end : LifeEnd) (entries : List Entry) → came ≡ wire.Opened
-      → Broken end config w (Opened side) now r0 r1 entries
-      → ArrivedFront end held came config w side now r0 r1 entries
-  part_opened end entries is broken =
-      subst (λ (k : Came). ArrivedFront end held k config w side now r0 r1 entries) (sym is)
+  pub part_opened : (end : LifeEnd) (past entries : List Entry) → came ≡ wire.Opened
+      → Broken end config past w (Opened side) now r0 r1 entries
+      → ArrivedFront end held came config past w side now r0 r1 entries
+  part_opened end past entries is broken =
+      subst (λ (k : Came). ArrivedFront end held k config past w side now r0 r1 entries) (sym is)
       (record {
         first = [];
-        failed = failed_one config end w (Opened side) now r0 r1 entries refl broken;
+        failed = failed_one config end past w (Opened side) now r0 r1 entries refl broken;
         new = λ read h. ([], refl);
       })
 
@@ -231,9 +257,9 @@ module _ (config : Config) (side : Side) (old fed : Held) (w : World) (now : ℕ
       side now r0 r1 is
       (arrived_bytes config old fed new bytes w x side now r0 r1 kind after feed taken)
 
-  pub part_bytes : (end : LifeEnd) (entries : List Entry) → fed.kind ≡ kind_of side
-      → TakenFront end fed config w side now r0 r1 entries
-      → ArrivedFront end old came config w side now r0 r1 entries
-  part_bytes end entries after taken =
-      subst (λ (k : Came). ArrivedFront end old k config w side now r0 r1 entries) (sym is)
-      (arrived_part config end old fed bytes w side now r0 r1 entries kind after feed taken)
+  pub part_bytes : (end : LifeEnd) (past entries : List Entry) → fed.kind ≡ kind_of side
+      → TakenFront end fed config past w side now r0 r1 entries
+      → ArrivedFront end old came config past w side now r0 r1 entries
+  part_bytes end past entries after taken =
+      subst (λ (k : Came). ArrivedFront end old k config past w side now r0 r1 entries) (sym is)
+      (arrived_part config end past old fed bytes w side now r0 r1 entries kind after feed taken)

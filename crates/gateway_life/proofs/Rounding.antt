@@ -1,13 +1,13 @@
--- Turns, rounds and lives, from what each added to the records.
+-- Turns and rounds of a day, from what each added to the records.
 use Rattle.std.proofs.Common.{◌≡◌, ℕ, Bool, true, false, List, [], ◌∷◌, ◌++◌, refl, sym, ◌∙◌}
 use Rattle.std.proofs.Common.{ap, subst, inl, inr, Some, None}
-use Rattle.std.specs.Prelude.{map, is_some, if◌then◌else◌}
+use Rattle.std.specs.Prelude.{is_some, if◌then◌else◌}
 use Rattle.std.specs.declared.option.Option.{Option}
-use Rattle.std.proofs.lemmas.List.{map-append}
 use Rattle.frame_grammar.specs.Held.{Held}
 use Rattle.order_meaning.specs.declared.Side.{Side}
 use Rattle.order_meaning.specs.declared.Side.TheVariants.{Client, Venue}
 use Rattle.pair_entries.specs.declared.entry.Entry.{Entry}
+use Rattle.pair_journal.specs.Days.{past_of}
 use Rattle.event_decisions.specs.Event.{Event, Tick}
 use Rattle.message_answers.specs.Answer.{Answers}
 use Rattle.gateway_config.specs.declared.config.Config.{Config}
@@ -19,18 +19,17 @@ use Rattle.life_laws.specs.Happens.{World, Added, nothing, up_on}
 use Rattle.life_laws.specs.Turn.{both, on_side, with_up, up_after, read_after, events_of}
 use Rattle.life_laws.specs.Turn.{Reads, counts, HappensIf, HappensOrNot, AllHappen, Turn, Round}
 use Rattle.life_laws.specs.Turn.{Rounds}
+use Rattle.life_laws.specs.Days.{NoneDue, due_in}
 use Rattle.life_laws.specs.Ends.{TurnUpTo}
 use Rattle.gateway_life.specs.declared.end.LifeEnd.{LifeEnd}
 use Rattle.gateway_life.specs.State.{LifeState}
 use Rattle.gateway_life.specs.Ready.{world_of}
-use Rattle.gateway_life.specs.Stepped.{Records, Grew, AllStepped, Failed}
+use Rattle.gateway_life.specs.Stepped.{Records, Grew}
 use Rattle.gateway_life.specs.Turned.{StandsWhole, IfBytes, UnlessOpened, Turned, TurnBroken}
 use Rattle.gateway_life.specs.Turned.{record_on}
-use Rattle.gateway_life.specs.Life.{moment_of}
 use Rattle.gateway_life.specs.Rounds.{AreTold, RoundDone, RoundBroken}
-use Rattle.gateway_life.specs.Rounds.{RoundsDone, LifeDone, LifeBroken, ends_of}
-use Rattle.gateway_life.proofs.Turning.{grew_append, grew_none, both_end, both_three}
-use Rattle.gateway_life.proofs.Failing.{failed_up_to, broken_grew}
+use Rattle.gateway_life.proofs.Turning.{grew_append, both_end, both_three}
+use Rattle.gateway_life.proofs.Failing.{failed_up_to}
 
 -- ---- a connection that stands has stood
 
@@ -154,11 +153,13 @@ module _ (config : Config) where
   -- ---- a round
 
   pub round_done : (old new : LifeState) (mid : World) (now : ℕ) (r0 r1 r2 : Records)
+      → past_of new.engine.journal.entries ≡ past_of old.engine.journal.entries
       → Turned Client old.client new.client config (world_of old.engine) now mid r0 r1
       → Turned Venue old.venue new.venue config mid now (world_of new.engine) r1 r2
       → RoundDone config old new now r0 r2
   unfolding turn_of
-  round_done old new mid now r0 r1 r2 c v = record {
+  round_done old new mid now r0 r1 r2 same c v = record {
+    past = same;
     added = both (both (on_side Client (wire.Poll c.came ∷ [])) c.rest)
         (both (on_side Venue (wire.Poll v.came ∷ [])) v.rest);
     grew = grew_append r0 r1 r2 _ _ c.grew v.grew;
@@ -195,13 +196,14 @@ module _ (config : Config) where
   }
 
   -- a turn in which an event ended the life
-  turn_up_to : (end : LifeEnd) (side : Side) (old : Held) (w : World) (now : ℕ) (r0 r1 : Records)
-      (entries : List Entry) (t : TurnBroken end side old config w now r0 r1 entries)
+  turn_up_to : (end : LifeEnd) (side : Side) (old : Held) (past : List Entry) (w : World) (now : ℕ)
+      (r0 r1 : Records) (entries : List Entry)
+      (t : TurnBroken end side old config past w now r0 r1 entries)
       (read : List ℕ) → is_some (record_on side r0) ≡ true
       → (up_on side w ≡ true → StandsWhole old read)
       → TurnUpTo Answers config.names config.window side read w now
       (both (on_side side (wire.Poll t.came ∷ [])) t.failed.all.added) t.failed.mid t.failed.last
-  turn_up_to end side old w now r0 r1 entries t read told whole =
+  turn_up_to end side old past w now r0 r1 entries t read told whole =
       let found = t.new read
       (if_bytes t.came (up_on side w) (StandsWhole old read) (t.may told) whole) in
       record {
@@ -210,52 +212,60 @@ module _ (config : Config) where
         bodies = found.0;
         new = found.2;
         rest = t.failed.all.added;
-        events = failed_up_to config end (with_up side (up_after (up_on side w) t.came) w)
+        events = failed_up_to config end past (with_up side (up_after (up_on side w) t.came) w)
             (events_of side t.came found.0 ++ Tick side ∷ []) t.first found.1 now t.between r1
             entries found.3 t.failed;
         all = refl;
       }
 
-  turn_grew : (end : LifeEnd) (side : Side) (old : Held) (w : World) (now : ℕ) (r0 r1 : Records)
-      (entries : List Entry) (t : TurnBroken end side old config w now r0 r1 entries)
+  turn_grew : (end : LifeEnd) (side : Side) (old : Held) (past : List Entry) (w : World) (now : ℕ)
+      (r0 r1 : Records) (entries : List Entry)
+      (t : TurnBroken end side old config past w now r0 r1 entries)
       → Grew r0 t.failed.between
       (both (on_side side (wire.Poll t.came ∷ [])) t.failed.all.added)
-  turn_grew end side old w now r0 r1 entries t =
+  turn_grew end side old past w now r0 r1 entries t =
       grew_append r0 t.between t.failed.between (on_side side (wire.Poll t.came ∷ []))
       t.failed.all.added t.polled t.failed.all.grew
 
   -- both wires told their records when it began
-  turn_told : (end : LifeEnd) (side : Side) (old : Held) (w : World) (now : ℕ) (r0 r1 : Records)
-      (entries : List Entry) (t : TurnBroken end side old config w now r0 r1 entries)
+  turn_told : (end : LifeEnd) (side : Side) (old : Held) (past : List Entry) (w : World) (now : ℕ)
+      (r0 r1 : Records) (entries : List Entry)
+      (t : TurnBroken end side old config past w now r0 r1 entries)
       → AreTold r1 → AreTold r0
-  turn_told end side old w now r0 r1 entries t told =
-      are_told_back r0 t.failed.between _ (turn_grew end side old w now r0 r1 entries t)
+  turn_told end side old past w now r0 r1 entries t told =
+      are_told_back r0 t.failed.between _ (turn_grew end side old past w now r0 r1 entries t)
       (are_told_back t.failed.between r1 t.failed.broken.added t.failed.broken.grew told)
 
   pub round_client : (end : LifeEnd) (old : LifeState) (now : ℕ) (r0 r1 : Records)
       (entries : List Entry)
-      → TurnBroken end Client old.client config (world_of old.engine) now r0 r1 entries
+      → TurnBroken end Client old.client config (past_of old.engine.journal.entries)
+      (world_of old.engine) now r0 r1 entries
       → RoundBroken end config old now r0 r1 entries
   round_client end old now r0 r1 entries t = record {
     added = both (on_side Client (wire.Poll t.came ∷ [])) t.failed.all.added;
     mid = t.failed.mid;
     event = t.failed.last;
     between = t.failed.between;
-    grew = turn_grew end Client old.client (world_of old.engine) now r0 r1 entries t;
+    grew = turn_grew end Client old.client (past_of old.engine.journal.entries)
+        (world_of old.engine) now r0 r1 entries t;
     up_to = λ told reads whole.
-        let told0 = turn_told end Client old.client (world_of old.engine) now r0 r1 entries t told in
-        inl (turn_up_to end Client old.client (world_of old.engine) now r0 r1 entries t reads.client
-        told0.client whole.client);
+        let past = past_of old.engine.journal.entries in
+        let told0 = turn_told end Client old.client past (world_of old.engine) now r0 r1 entries t
+        told in
+        inl (turn_up_to end Client old.client past (world_of old.engine) now r0 r1 entries t
+        reads.client told0.client whole.client);
     broken = t.failed.broken;
   }
 
   pub round_venue : (end : LifeEnd) (old : LifeState) (next : Held) (mid : World) (now : ℕ)
       (r0 r1 r2 : Records) (entries : List Entry)
       → Turned Client old.client next config (world_of old.engine) now mid r0 r1
-      → TurnBroken end Venue old.venue config mid now r1 r2 entries
+      → TurnBroken end Venue old.venue config (past_of old.engine.journal.entries) mid now r1 r2
+      entries
       → RoundBroken end config old now r0 r2 entries
   unfolding turn_of
   round_venue end old next mid now r0 r1 r2 entries c t =
+      let past = past_of old.engine.journal.entries in
       let client_added = both (on_side Client (wire.Poll c.came ∷ [])) c.rest in
       let venue_added = both (on_side Venue (wire.Poll t.came ∷ [])) t.failed.all.added in
       record {
@@ -264,9 +274,9 @@ module _ (config : Config) where
         event = t.failed.last;
         between = t.failed.between;
         grew = grew_append r0 r1 t.failed.between client_added venue_added c.grew
-            (turn_grew end Venue old.venue mid now r1 r2 entries t);
+            (turn_grew end Venue old.venue past mid now r1 r2 entries t);
         up_to = λ told reads whole.
-            let told1 = turn_told end Venue old.venue mid now r1 r2 entries t told in
+            let told1 = turn_told end Venue old.venue past mid now r1 r2 entries t told in
             let told0 = are_told_back r0 r1 client_added c.grew told1 in
             let venue_whole : mid.venue_up ≡ true → StandsWhole old.venue reads.venue =
             λ up. whole.venue (other_client _ _ _ _ _ _ _ c up) in
@@ -277,8 +287,8 @@ module _ (config : Config) where
               client = turn_of Client old.client next (world_of old.engine) mid now r0 r1 c
                   reads.client told0.client whole.client;
               client_may = c.may told0.client;
-              venue = turn_up_to end Venue old.venue mid now r1 r2 entries t reads.venue told1.venue
-                  venue_whole;
+              venue = turn_up_to end Venue old.venue past mid now r1 r2 entries t reads.venue
+                  told1.venue venue_whole;
               all = refl;
             });
         broken = t.failed.broken;
@@ -286,7 +296,7 @@ module _ (config : Config) where
 
   -- ---- rounds one after another
 
-  rounds_push : (moments : List ℕ) (now : ℕ) (reads mid_reads reads' : Reads) (w m x : World)
+  pub rounds_push : (moments : List ℕ) (now : ℕ) (reads mid_reads reads' : Reads) (w m x : World)
       (a b : Added) → Rounds Answers config.names config.window reads w moments a mid_reads m
       → Round Answers config.names config.window mid_reads m now b reads' x
       → Rounds Answers config.names config.window reads w (moments ++ now ∷ []) (both a b) reads' x
@@ -313,108 +323,20 @@ module _ (config : Config) where
     ap (λ (y : Added). both y b) all.6 ∙ both_three all.0 all.3 b,
   )
 
-  pub rounds_none : (life : LifeState) (r : Records) → RoundsDone config life life [] r r
-  rounds_none life r = record {
-    added = nothing;
-    grew = grew_none r;
-    rounds = λ told reads whole. (reads, (refl, refl, refl), whole);
-  }
-
-  pub rounds_more : (old mid new : LifeState) (given : List ℕ) (m : ℕ) (r0 r1 r2 : Records)
-      → RoundsDone config old mid given r0 r1 → RoundDone config mid new (moment_of m) r1 r2
-      → RoundsDone config old new (given ++ m ∷ []) r0 r2
-  rounds_more old mid new given m r0 r1 r2 first one = record {
-    added = both first.added one.added;
-    grew = grew_append r0 r1 r2 first.added one.added first.grew one.grew;
-    rounds = λ told reads whole.
-        let before = first.rounds (are_told_back r1 r2 one.added one.grew told) reads whole in
-        let here = one.round told before.0 before.2 in (
-          here.0,
-          subst (λ (l : List ℕ). Rounds Answers config.names config.window reads (world_of old.engine)
-              l (both first.added one.added) here.0 (world_of new.engine))
-              (sym (map-append moment_of given (m ∷ [])))
-              (rounds_push (map moment_of given) (moment_of m) reads before.0 here.0
-              (world_of old.engine) (world_of mid.engine) (world_of new.engine) first.added one.added
-              before.1 here.1),
-          here.2,
-        );
-  }
-
-  -- ---- a life
-
-  pub life_done : (old mid : LifeState) (given : List ℕ) (last : ℕ) (x : World)
-      (r0 r1 r2 : Records) → RoundsDone config old mid given r0 r1
-      → AllStepped config (world_of mid.engine) ends_of (moment_of last) x r1 r2
-      → LifeDone config old given last r0 r2 x.entries
-  life_done old mid given last x r0 r1 r2 first ends = record {
-    added = both first.added ends.added;
-    grew = grew_append r0 r1 r2 first.added ends.added first.grew ends.grew;
-    after = x;
-    left = refl;
-    lives = λ told reads whole.
-        let before = first.rounds (are_told_back r1 r2 ends.added ends.grew told) reads whole in
-        record {
-          mid = world_of mid.engine;
-          read = before.0;
-          first = first.added;
-          rest = ends.added;
-          rounds = before.1;
-          ends = ends.happen;
-          all = refl;
-        };
-  }
-
-  pub life_round : (end : LifeEnd) (old mid : LifeState) (given : List ℕ) (last : ℕ)
-      (r0 r1 r2 : Records) (entries : List Entry) → RoundsDone config old mid given r0 r1
-      → RoundBroken end config mid (moment_of last) r1 r2 entries
-      → LifeBroken end config old given last r0 r2 entries
-  life_round end old mid given last r0 r1 r2 entries first round = record {
-    added = both first.added round.added;
-    mid = round.mid;
-    event = round.event;
-    between = round.between;
-    grew = grew_append r0 r1 round.between first.added round.added first.grew round.grew;
-    up_to = λ told reads whole.
-        let told1 = are_told_back r1 r2 (both round.added round.broken.added)
-        (broken_grew config end (moment_of last) r1 r2 entries _ round) told in
-        let before = first.rounds told1 reads whole in
-        record {
-          between = world_of mid.engine;
-          read = before.0;
-          first = first.added;
-          rest = round.added;
-          rounds = before.1;
-          last = inl (round.up_to told before.0 before.2);
-          all = refl;
-        };
-    broken = round.broken;
-  }
-
-  pub life_end : (end : LifeEnd) (old mid : LifeState) (given : List ℕ) (last : ℕ)
-      (r0 r1 r2 : Records) (entries : List Entry) → RoundsDone config old mid given r0 r1
-      → Failed end config (world_of mid.engine) ends_of (moment_of last) r1 r2 entries
-      → LifeBroken end config old given last r0 r2 entries
-  life_end end old mid given last r0 r1 r2 entries first failed =
-      let grew = grew_append r1 failed.between r2 failed.all.added failed.broken.added
-      failed.all.grew failed.broken.grew in
-      record {
-        added = both first.added failed.all.added;
-        mid = failed.mid;
-        event = failed.last;
-        between = failed.between;
-        grew = grew_append r0 r1 failed.between first.added failed.all.added first.grew
-            failed.all.grew;
-        up_to = λ told reads whole.
-            let before = first.rounds (are_told_back r1 r2 _ grew told) reads whole in
-            record {
-              between = world_of mid.engine;
-              read = before.0;
-              first = first.added;
-              rest = failed.all.added;
-              rounds = before.1;
-              last = inr (failed_up_to config end (world_of mid.engine) ends_of ends_of []
-                  (moment_of last) r1 r2 entries refl failed);
-              all = refl;
-            };
-        broken = failed.broken;
-      }
+  -- no new day was due at any of them
+  pub none_push : (minute began : Option ℕ) (moments : List ℕ) (now : ℕ)
+      (reads mid_reads reads' : Reads) (w m x : World) (a b : Added)
+      (all : Rounds Answers config.names config.window reads w moments a mid_reads m)
+      (one : Round Answers config.names config.window mid_reads m now b reads' x)
+      → NoneDue Answers config.names config.window minute began reads w moments a mid_reads m all
+      → due_in minute began m.entries now ≡ false
+      → NoneDue Answers config.names config.window minute began reads w (moments ++ now ∷ [])
+      (both a b) reads' x (rounds_push moments now reads mid_reads reads' w m x a b all one)
+  unfolding rounds_push
+  none_push minute began [] now reads mid_reads reads' w m x a b all one none due =
+      (ap (λ (y : World). due_in minute began y.entries now) (sym all.2) ∙ due, tt)
+  none_push minute began (moment ∷ moments) now reads mid_reads reads' w m x a b
+      (first, y, between, rest, round, more, is) one none due = (
+        none.0,
+        none_push minute began moments now between mid_reads reads' y m x rest b more one none.1 due,
+      )

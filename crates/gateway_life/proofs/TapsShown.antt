@@ -21,7 +21,8 @@ use Rattle.gateway_life.specs.Watched.{Watched, WereCommitted, end_in}
 use Rattle.gateway_life.specs.Watched.{TapsSaw}
 use Rattle.drop_taps.proofs.Showing.{seen_none}
 use Rattle.gateway_life.proofs.Watching.{were_same}
-use Rattle.gateway_life.proofs.Living.{unbegun_image, same_journal, image_of, leaves_from}
+use Rattle.gateway_life.proofs.Telling.{leaves_from}
+use Rattle.gateway_life.proofs.Living.{unbegun_image, same_journal, image_of}
 use Rattle.gateway_life.proofs.Living.{refused_if, refused_not}
 
 abbrev no_entries : List Entry

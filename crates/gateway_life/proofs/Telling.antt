@@ -3,11 +3,13 @@ use Rattle.std.proofs.Common.{◌≡◌, true, List, ℕ, refl, sym, ◌∙◌, 
 use Rattle.std.specs.Prelude.{Result, OnOk, OnErr, IfErr, IfSome, IsErrAnd, is_some}
 use Rattle.std.specs.declared.option.Option.{Option}
 use Rattle.std.specs.Option.{ForSome}
+use Rattle.outside.specs.Disk.{HasOneImage}
 use Rattle.order_meaning.specs.declared.names.Names.{Names}
 use Rattle.pair_entries.specs.declared.entry.Entry.{Entry}
 use Rattle.pair_journal.specs.declared.error.JournalError.{JournalError}
 use Rattle.pair_journal.specs.declared.error.JournalError.TheVariants as errors
 use Rattle.pair_journal.specs.Calls.{RefusedUntold}
+use Rattle.pair_journal.specs.Journal.{JournalOf, Born}
 use Rattle.event_decisions.specs.Event.{Event}
 use Rattle.gateway_config.specs.declared.config.Config.{Config}
 use Rattle.life_laws.specs.Happens.{World}
@@ -51,6 +53,17 @@ pub if_told : (told : Option (List ℕ)) (Q : List ℕ → Type 0)
 if_told None Q h = tt
 if_told (Some b) Q h = h refl
 
+-- what is left is said of the disk as it was before
+pub leaves_from : (t0 t1 : Option (List ℕ)) (i0 i1 i2 : List ℕ → Type 0) (names names' : Names)
+    (P Q : List Entry → Type 0) → is_some t1 ≡ is_some t0 → (HasOneImage t0 i0 → HasOneImage t1 i1)
+    → names' ≡ names → ((xs : List Entry) → P xs → Q xs) → LeavesOf t1 i1 i2 names' P
+    → LeavesOf t0 i0 i2 names Q
+leaves_from None t1 i0 i1 i2 names names' P Q told one same to h = tt
+leaves_from (Some b) None i0 i1 i2 names names' P Q told one same to h = absurd (cc told)
+leaves_from (Some b) (Some c) i0 i1 i2 names names' P Q told one same to h = λ only bytes left.
+    let found = h (one only) bytes left in
+    (found.0, subst (λ n. JournalOf bytes (Born n found.0)) same found.1, to found.0 found.2)
+
 -- ---- how an event ends a life
 
 no_bytes : (told : Option (List ℕ)) → is_some told ≡ true → told ≡ None → ⊥
@@ -85,14 +98,14 @@ act_event (Err end) told error is only = subst (EndsEvent told) (sym is) (at err
 
 -- by what was decided
 pub made_event : {T : Type 0} (r : Result T LifeEnd) (told : Option (List ℕ)) (error : LifeEnd)
-    (config : Config) (before : World) (event : Event) (now : ℕ)
-    → IsErrAnd r (λ e. e ≡ error) → IsWhy error config before event now
+    (config : Config) (past : List Entry) (before : World) (event : Event) (now : ℕ)
+    → IsErrAnd r (λ e. e ≡ error) → IsWhy error config past before event now
     → IfErr r (EndsEvent told)
-made_event (Ok value) told error config before event now is why = tt
-made_event (Err end) told error config before event now is why =
+made_event (Ok value) told error config past before event now is why = tt
+made_event (Err end) told error config past before event now is why =
     subst (EndsEvent told) (sym is) (at error why)
   where
-    at : (e : LifeEnd) → IsWhy e config before event now → EndsEvent told e
+    at : (e : LifeEnd) → IsWhy e config past before event now → EndsEvent told e
     at ends.Done why = absurd why
     at (ends.JournalRefused place) why = absurd why
     at (ends.NamesDiffer kept given) why = absurd why

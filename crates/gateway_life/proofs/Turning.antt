@@ -113,11 +113,11 @@ module _ (config : Config) where
       (counted w x event now r0 r1 is_so step)
 
   -- an event that ended the life, behind others
-  pub failed_at : (end : LifeEnd) (w m : World) (first rest : List Event) (last : Event) (now : ℕ)
+  pub failed_at : (end : LifeEnd) (past : List Entry) (w m : World) (first rest : List Event) (last : Event) (now : ℕ)
       (r0 r1 r2 : Records) (entries : List Entry) → AllStepped config w first now m r0 r1
-      → BrokenIf end config m last now r1 r2 entries
-      → Failed end config w (first ++ last ∷ rest) now r0 r2 entries
-  failed_at end w m first rest last now r0 r1 r2 entries all broken = record {
+      → BrokenIf end config past m last now r1 r2 entries
+      → Failed end config past w (first ++ last ∷ rest) now r0 r2 entries
+  failed_at end past w m first rest last now r0 r1 r2 entries all broken = record {
     first = first;
     last = last;
     rest = rest;
@@ -129,11 +129,11 @@ module _ (config : Config) where
     broken = broken.broken;
   }
 
-  pub failed_one : (end : LifeEnd) (w : World) (event : Event) (now : ℕ) (r0 r1 : Records)
-      (entries : List Entry) → counts w event ≡ true → Broken end config w event now r0 r1 entries
-      → Failed end config w (event ∷ []) now r0 r1 entries
-  failed_one end w event now r0 r1 entries is_so broken =
-      failed_at end w w [] [] event now r0 r0 r1 entries (all_none w now r0)
+  pub failed_one : (end : LifeEnd) (past : List Entry) (w : World) (event : Event) (now : ℕ) (r0 r1 : Records)
+      (entries : List Entry) → counts w event ≡ true → Broken end config past w event now r0 r1 entries
+      → Failed end config past w (event ∷ []) now r0 r1 entries
+  failed_one end past w event now r0 r1 entries is_so broken =
+      failed_at end past w w [] [] event now r0 r0 r1 entries (all_none w now r0)
       (record { counted = is_so; broken = broken })
 
   -- ---- the frames of a side
@@ -209,18 +209,18 @@ module _ (config : Config) where
   }
 
   -- a frame ended the life
-  pub taken_part : (end : LifeEnd) (old mid new : Held) (w m : World) (side : Side)
+  pub taken_part : (end : LifeEnd) (past : List Entry) (old mid new : Held) (w m : World) (side : Side)
       (body : List ℕ) (now : ℕ) (r0 r1 r2 : Records) (entries : List Entry)
       → Taken old mid config w side now m r0 r1
       → ((stream : List ℕ) (answered : List Piece) → StandsFor mid stream answered
       → (bytes : List ℕ) × StandsFor new stream (answered ++ Good body bytes ∷ []))
-      → new.kind ≡ old.kind → BrokenIf end config m (Frame side body) now r1 r2 entries
-      → TakenFront end old config w side now r0 r2 entries
-  taken_part end old mid new w m side body now r0 r1 r2 entries taken found kind broken = record {
+      → new.kind ≡ old.kind → BrokenIf end config past m (Frame side body) now r1 r2 entries
+      → TakenFront end old config past w side now r0 r2 entries
+  taken_part end past old mid new w m side body now r0 r1 r2 entries taken found kind broken = record {
     first = taken.bodies ++ body ∷ [];
-    failed = subst (λ es. Failed end config w es now r0 r2 entries)
+    failed = subst (λ es. Failed end config past w es now r0 r2 entries)
         (sym (map-append (Frame side) taken.bodies (body ∷ [])))
-        (failed_at end w m (map (Frame side) taken.bodies) [] (Frame side body) now r0 r1 r2
+        (failed_at end past w m (map (Frame side) taken.bodies) [] (Frame side body) now r0 r1 r2
         entries taken.all broken);
     answered = λ stream answered stands.
         let before = taken.answered stream answered stands in
@@ -315,14 +315,14 @@ module _ (config : Config) where
         };
   }
 
-  pub arrived_part : (end : LifeEnd) (old fed : Held) (bytes : List ℕ) (w : World) (side : Side)
+  pub arrived_part : (end : LifeEnd) (past : List Entry) (old fed : Held) (bytes : List ℕ) (w : World) (side : Side)
       (now : ℕ) (r0 r1 : Records) (entries : List Entry) → old.kind ≡ kind_of side
       → fed.kind ≡ kind_of side
       → ((stream : List ℕ) (answered : List Piece) → StandsFor old stream answered
       → StandsFor fed (stream ++ bytes) answered)
-      → TakenFront end fed config w side now r0 r1 entries
-      → ArrivedFront end old (wire.Bytes bytes) config w side now r0 r1 entries
-  arrived_part end old fed bytes w side now r0 r1 entries kind kind' feed taken = record {
+      → TakenFront end fed config past w side now r0 r1 entries
+      → ArrivedFront end old (wire.Bytes bytes) config past w side now r0 r1 entries
+  arrived_part end past old fed bytes w side now r0 r1 entries kind kind' feed taken = record {
     first = taken.first;
     failed = taken.failed;
     new = λ read whole.

@@ -14,7 +14,7 @@ use Rattle.gateway_config.specs.declared.config.Config.{Config}
 use Rattle.life_laws.specs.Happens.{World}
 use Rattle.gateway_life.specs.declared.end.LifeEnd.{LifeEnd}
 use Rattle.gateway_life.specs.declared.end.LifeEnd.TheVariants as ends
-use Rattle.gateway_life.specs.Ready.{LeavesOf}
+use Rattle.gateway_life.specs.Ready.{LeavesOf, Behind}
 use Rattle.gateway_life.specs.Stepped.{MayStand}
 use Rattle.gateway_life.specs.Watched.{Watched, WereCommitted}
 use Rattle.gateway_life.proofs.Polling.{err_leaves, last_leaves}
@@ -53,30 +53,46 @@ were_same ends.JournalFull kept found is = is
 were_same (ends.NumbersSpent side) kept found is = is
 were_same ends.NoMemory kept found is = is
 
+-- of the last day
 may_were : (end : LifeEnd) (config : Config) (before : World) (event : Event) (now : ℕ)
-    (found kept : List Entry) → kept ≡ before.entries → MayStand end config before event now found
-    → WereCommitted end kept found
-may_were ends.DiskFault config before event now found kept is (inl same) =
-    (None, same ∙ sym is ∙ sym (append-nil kept))
-may_were ends.DiskFault config before event now found kept is (inr made) =
-    (made.0.entry, made.2 ∙ ap (λ l. l ++ option_to_list made.0.entry) (sym is))
-may_were ends.Done config before event now found kept is same = same ∙ sym is
-may_were (ends.JournalRefused at) config before event now found kept is same = same ∙ sym is
-may_were (ends.NamesDiffer kept' given) config before event now found kept is same = same ∙ sym is
-may_were ends.JournalFull config before event now found kept is same = same ∙ sym is
-may_were (ends.NumbersSpent side) config before event now found kept is same = same ∙ sym is
-may_were ends.NoMemory config before event now found kept is same = same ∙ sym is
+    (found : List Entry) → MayStand end config before event now found
+    → WereCommitted end before.entries found
+may_were ends.DiskFault config before event now found (inl same) =
+    (None, same ∙ sym (append-nil before.entries))
+may_were ends.DiskFault config before event now found (inr made) = (made.0.entry, made.2)
+may_were ends.Done config before event now found same = same
+may_were (ends.JournalRefused at) config before event now found same = same
+may_were (ends.NamesDiffer kept given) config before event now found same = same
+may_were ends.JournalFull config before event now found same = same
+may_were (ends.NumbersSpent side) config before event now found same = same
+may_were ends.NoMemory config before event now found same = same
+
+-- and of all
+were_behind : (end : LifeEnd) (past today found : List Entry) → WereCommitted end today found
+    → WereCommitted end (past ++ today) (past ++ found)
+were_behind ends.DiskFault past today found were =
+    (were.0, ap (λ l. past ++ l) were.1 ∙ sym (append_assoc past today (option_to_list were.0)))
+were_behind ends.Done past today found were = ap (λ l. past ++ l) were
+were_behind (ends.JournalRefused at) past today found were = ap (λ l. past ++ l) were
+were_behind (ends.NamesDiffer kept given) past today found were = ap (λ l. past ++ l) were
+were_behind ends.JournalFull past today found were = ap (λ l. past ++ l) were
+were_behind (ends.NumbersSpent side) past today found were = ap (λ l. past ++ l) were
+were_behind ends.NoMemory past today found were = ap (λ l. past ++ l) were
 
 -- an event that was refused
 pub made_kept : {V : Type 0} (r : Result V LifeEnd) (error : LifeEnd) (told : Option (List ℕ))
-    (i0 i1 : List ℕ → Type 0) (config : Config) (before : World) (event : Event) (now : ℕ)
-    (kept : List Entry) → IsErrAnd r (λ e. e ≡ error) → kept ≡ before.entries
-    → LeavesOf told i0 i1 config.names (MayStand error config before event now)
+    (i0 i1 : List ℕ → Type 0) (config : Config) (past : List Entry) (before : World)
+    (event : Event) (now : ℕ) (kept : List Entry) → IsErrAnd r (λ e. e ≡ error)
+    → past ++ before.entries ≡ kept
+    → LeavesOf told i0 i1 config.names (Behind past (MayStand error config before event now))
     → IfErr r (λ end. LeavesOf told i0 i1 config.names (WereCommitted end kept))
-made_kept r error told i0 i1 config before event now kept is same may =
+made_kept r error told i0 i1 config past before event now kept is same may =
     err_leaves r error told told i0 i0 i1 config.names config.names
-    (MayStand error config before event now) (λ end. WereCommitted end kept) is refl (λ one. one)
-    refl (λ xs h. may_were error config before event now xs kept same h) may
+    (Behind past (MayStand error config before event now)) (λ end. WereCommitted end kept) is refl
+    (λ one. one) refl (λ xs h. subst (λ l. WereCommitted error kept l) (sym h.1)
+    (subst (λ l. WereCommitted error l (past ++ h.0)) same
+    (were_behind error past before.entries h.0
+    (may_were error config before event now h.0 h.2)))) may
 
 -- one whose messages could not all be read
 pub act_kept : {V : Type 0} (r : Result V LifeEnd) (told : Option (List ℕ))

@@ -1,6 +1,6 @@
 -- Own: why a journal is full and numbers are spent, by the journal alone; docs/DEFINITIONS.md, "One
 -- life over its records".
-use Rattle.std.specs.Prelude.{◌≡◌, ℕ, ◌≤◌, List, ◌++◌, Err, IfSome}
+use Rattle.std.specs.Prelude.{◌≡◌, ◌⊎◌, ℕ, ◌≤◌, List, ◌++◌, Err, IfSome}
 use Rattle.std.specs.declared.option.Option.{Option}
 use Rattle.outside.specs.Disk.{Only}
 use Rattle.gate_log.specs.Log.{HasRoom}
@@ -8,7 +8,9 @@ use Rattle.order_meaning.specs.declared.Side.{Side}
 use Rattle.order_meaning.specs.declared.names.Names.{Names}
 use Rattle.pair_entries.specs.declared.TheConstants.{MAX_NUMBER}
 use Rattle.pair_entries.specs.declared.entry.Entry.{Entry}
-use Rattle.pair_entries.specs.Payload.{IsEntry, entry_bytes}
+use Rattle.pair_entries.specs.Payload.{IsEntry}
+use Rattle.pair_journal.specs.Days.{last_day, payload_behind}
+use Rattle.event_decisions.specs.Days.{new_day}
 use Rattle.pair_journal.specs.Calls.{payloads_of}
 use Rattle.pair_journal.specs.Numbers.{numbers_after, first_numbers, next_out}
 use Rattle.event_decisions.specs.Event.{Event}
@@ -20,13 +22,18 @@ use Rattle.gateway_life.specs.State.{EngineState}
 use Rattle.gateway_life.specs.Life.{IsJournal}
 use Rattle.gateway_life.specs.Watched.{WereCommitted}
 
--- A JOURNAL OF THESE ENTRIES IS FULL: some event decides an entry of which the record has no room
--- behind theirs.
+-- an entry that may come behind these: some event decides it on the last day, or a new day begins
+abbrev pub MayCome : Names → List Entry → Entry → Type 0
+MayCome names entries entry =
+    IsDecided Answers names (last_day entries) entry ⊎ ((now : ℕ) × (entry ≡ new_day now))
+
+-- A JOURNAL OF THESE ENTRIES IS FULL: an entry may come of which the record has no room behind
+-- theirs.
 pub record IsJournalFull (names : Names) (entries : List Entry) : Type 0 where
   pub entry : Entry
-  pub decided : IsDecided Answers names entries entry
+  pub comes : MayCome names entries entry
   pub bounded : IsEntry entry
-  pub no_room : HasRoom (payloads_of names entries) (entry_bytes entry) → ⊥
+  pub no_room : HasRoom (payloads_of names entries) (payload_behind entries entry) → ⊥
 
 -- THE NUMBERS OF A SIDE ARE SPENT behind these entries: some event would take one past the last,
 -- and the next number is the last, or past it.
@@ -37,7 +44,7 @@ pub record AreNumbersSpent (names : Names) (entries : List Entry) (side : Side) 
   pub numbers : numbers_of sessions ≡ numbers_after first_numbers entries
   pub event : Event
   pub now : ℕ
-  pub decides : Decides Answers names window entries sessions event now (Err side)
+  pub decides : Decides Answers names window (last_day entries) sessions event now (Err side)
   pub last : MAX_NUMBER ≤ next_out side (numbers_after first_numbers entries)
 
 -- the cause of an end that a journal shows; of other ends nothing is said here

@@ -7,7 +7,8 @@ use Rattle.gate_log.specs.Records.{blocks}
 use Rattle.pair_journal.specs.declared.error.JournalError.{JournalError}
 use Rattle.pair_journal.specs.declared.error.JournalError.TheVariants as errors
 use Rattle.pair_entries.specs.declared.entry.Entry.{Entry}
-use Rattle.pair_entries.specs.Payload.{IsEntry, entry_bytes}
+use Rattle.pair_entries.specs.Payload.{IsEntry}
+use Rattle.pair_journal.specs.Days.{payload_behind}
 use Rattle.pair_journal.specs.State.{JournalState}
 use Rattle.pair_journal.specs.Calls.{payloads_of}
 
@@ -22,5 +23,5 @@ abbrev pub IsFull : JournalState → Option Entry → JournalError → Type 0
 IsFull journal entry errors.DiskFault = Unit {0}
 IsFull journal entry errors.Full = (e : Entry) × (entry ≡ Some e) × IsEntry e
     × (MAX_DISK ≤ length (blocks (payloads_of journal.names journal.entries)) + 5
-    + length (entry_bytes e))
+    + length (payload_behind journal.entries e))
 IsFull journal entry error = ⊥

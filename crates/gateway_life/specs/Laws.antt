@@ -1,5 +1,5 @@
 -- Own: what every life leaves; docs/DEFINITIONS.md, "A life".
-use Rattle.std.specs.Prelude.{◌≡◌, ℕ, ◌+◌, ◌≤◌, List, [], map, length, Ok}
+use Rattle.std.specs.Prelude.{◌≡◌, ℕ, ◌+◌, ◌≤◌, List, [], ◌∷◌, map, length, Ok}
 use Rattle.std.specs.List.{flat_map}
 use Rattle.order_meaning.specs.declared.Side.{Side}
 use Rattle.order_meaning.specs.declared.Side.TheVariants.{Client, Venue}
@@ -16,7 +16,10 @@ use Rattle.session_frames.specs.Frames.{kind_of}
 use Rattle.life_laws.specs.Bodies.{bodies_of}
 use Rattle.life_laws.specs.Forms.{all_placed, form_frame}
 use Rattle.life_laws.specs.Repeats.{repeat_forms}
-use Rattle.life_laws.specs.Justified.{transcript_from, Leaves}
+use Rattle.pair_journal.specs.Days.{Days, days_of}
+use Rattle.life_laws.specs.Justified.{Leaves}
+use Rattle.life_laws.specs.Days.{DayEnded, DayLeft, Transcript, LeavesDays, transcript_after}
+use Rattle.life_laws.specs.Days.{days_after}
 use Rattle.life_laws.specs.Receiver.{read_body, message_of_out}
 use Rattle.life_laws.specs.Taken.{TakesInOrder, take_more, AreReadAsForms}
 use Rattle.book_laws.specs.HeardLaws.{LearnsWhatWasSaid}
@@ -65,6 +68,17 @@ pub record AreTaken (names : Names) (entries : List Entry)
   pub venue : IsTaken names Venue entries venue_side
   pub books : BooksAreEqual entries client_side venue_side
 
+abbrev pub AllTaken : Names → List (List Entry) → (client venue : List (List Connection)) → Type 0
+AllTaken names [] [] [] = Unit {0}
+AllTaken names (day ∷ days) (client ∷ clients) (venue ∷ venues) =
+    AreTaken names day client venue × AllTaken names days clients venues
+AllTaken names days clients venues = ⊥
+
+-- the same on each day, of the messages of that day
+pub record AreTakenDays (names : Names) (days : Days) (client venue : Transcript) : Type 0 where
+  pub ended : AllTaken names days.ended client.ended venue.ended
+  pub present : AreTaken names days.present client.present venue.present
+
 -- ---- what a life leaves
 
 -- Of a journal that is lawful and justifies what was written and read, the messages are taken,
@@ -75,17 +89,21 @@ MessagesAreTaken =
     Leaves Answers names entries client venue → AreShown names →
     AreEntries first_numbers entries → AreTaken names entries client venue
 
--- HOWEVER A LIFE ENDED over a journal that is lawful and justifies what was written and read
--- before, what is left is such a journal, with what was written and read in this life: so lives
--- follow one another.
+-- HOWEVER A LIFE ENDED over a journal of which each day is lawful and justifies what was written
+-- and read on it, what is left is such a journal, with what was written and read in this life: so
+-- lives follow one another.
 abbrev pub LivesLeave : Type 0
 LivesLeave =
-    (end : LifeEnd) (config : Config) (before entries : List Entry) (client venue : List Connection)
-    (rounds : ℕ) (did : Done) → Leaves Answers config.names before client venue →
-    Follows end config before rounds did entries →
-    Leaves Answers config.names entries
-    (transcript_from client did.client) (transcript_from venue did.venue)
+    (end : LifeEnd) (config : Config) (before : List Entry) (days : List DayEnded) (left : DayLeft)
+    (client venue : Transcript) (rounds : ℕ) (did : Done) →
+    LeavesDays Answers config.names (days_of before) client venue →
+    Follows end config before rounds did days left →
+    LeavesDays Answers config.names (days_after (days_of before) days left.entries)
+    (transcript_after Client client days left) (transcript_after Venue venue days left)
+
+abbrev nothing_yet : Transcript
+nothing_yet = record { ended = []; present = [] }
 
 -- The first of them begins with a journal without entries, where nothing was written or read.
 abbrev pub FirstLivesBegin : Type 0
-FirstLivesBegin = (names : Names) → Leaves Answers names [] [] []
+FirstLivesBegin = (names : Names) → LeavesDays Answers names (days_of []) nothing_yet nothing_yet

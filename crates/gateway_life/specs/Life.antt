@@ -4,22 +4,28 @@ use Rattle.std.specs.Prelude.{length, min, Result, Ok, Err, ⊤}
 use Rattle.order_meaning.specs.declared.names.Names.{Names}
 use Rattle.pair_entries.specs.declared.TheConstants.{MAX_AT}
 use Rattle.pair_entries.specs.declared.entry.Entry.{Entry}
+use Rattle.pair_journal.specs.Days.{last_day, past_of, day_at}
 use Rattle.pair_journal.specs.Journal.{JournalOf, Unborn, Born, Refused}
 use Rattle.outside.specs.Causes.{next_count}
+use Rattle.std.specs.declared.option.Option.{Option}
 use Rattle.event_decisions.specs.Event.{Event}
+use Rattle.event_decisions.specs.Decide.{Sessions}
 use Rattle.message_answers.specs.Answer.{Answers}
 use Rattle.gateway_config.specs.declared.config.Config.{Config}
 use Rattle.gateway_core.specs.State.{loaded, sessions_in}
 use Rattle.wires.specs.Wire.{WireCall, is_within}
 use Rattle.life_laws.specs.Sends.{hang_up_if}
-use Rattle.life_laws.specs.Happens.{World, Added}
-use Rattle.life_laws.specs.Turn.{Reads, Lives}
+use Rattle.life_laws.specs.Happens.{World, Added, nothing}
+use Rattle.life_laws.specs.Turn.{Reads, both}
+use Rattle.life_laws.specs.Days.{DayLeft, DayEnded, written, all_added, NoneDue, EndsDay}
+use Rattle.life_laws.specs.Days.{OverDays, LivesDays}
 use Rattle.life_laws.specs.Ends.{LifeUpTo}
 use Rattle.gateway_life.specs.declared.end.LifeEnd.{LifeEnd}
 use Rattle.gateway_life.specs.declared.end.LifeEnd.TheVariants as ends
-use Rattle.gateway_life.specs.Fails.{IsWhy, FailsBy}
+use Rattle.gateway_life.specs.Fails.{IsWhy, FailsBy, IsWhyOfDay}
 
--- a life begins with both sessions down, with the numbers of its journal, and no connection
+-- a life begins with both sessions down, with the numbers of its journal, and no connection; the
+-- entries are those of the last day
 abbrev pub begun : Config → List Entry → World
 begun config entries = record {
   entries = entries;
@@ -38,46 +44,97 @@ pub record Done : Type 0 where
   pub venue : List WireCall
   pub moments : List ℕ
 
--- A LIFE THAT CAME TO ITS END, after so many rounds: what was done is what its events call for, and
--- these entries are left.
+-- both sessions as a day begins
+abbrev pub rested : Config → Sessions
+rested config = sessions_in (loaded config [])
+
+-- the entries of a journal from which a life went on: days that ended in it, and the one that was
+-- left
+abbrev pub went_on : (before : List Entry) → List DayEnded → (present : List Entry) → List Entry
+went_on before days present = past_of before ++ written days present
+
+-- A LIFE THAT CAME TO ITS END, after so many rounds: what was done is what its events call for, day
+-- by day, and these days ended in it and this one was left.
 pub record LivesToEnd (config : Config) (before : List Entry) (rounds : ℕ) (did : Done)
-    (entries : List Entry) : Type 0 where
+    (days : List DayEnded) (left : DayLeft) : Type 0 where
   pub given : List ℕ
   pub last : ℕ
   pub moments : did.moments ≡ given ++ last ∷ []
   pub each : length given ≡ rounds
-  pub added : Added
-  pub after : World
   -- whatever was read on connections before
-  pub lives : (reads : Reads) → Lives Answers config.names config.window reads (begun config before)
-      (map moment_of given) (moment_of last) added after
-  pub client : did.client ≡ added.client
-  pub venue : did.venue ≡ added.venue
-  pub left : entries ≡ after.entries
+  pub lives : (reads : Reads) → LivesDays Answers config.names config.window config.reset
+      (rested config) (day_at (past_of before)) reads (begun config (last_day before))
+      (map moment_of given) (moment_of last) days left
+  pub client : did.client ≡ (all_added days left.added).client
+  pub venue : did.venue ≡ (all_added days left.added).venue
 
 -- hung up, where the connection still stands
 abbrev pub hung_up : List WireCall → List WireCall
 hung_up calls = calls ++ hang_up_if (is_within calls)
 
--- A LIFE THAT AN EVENT ENDED: all that it did before, the event, why that ended the life, and what
--- stands of it; then both wires are hung up.
+-- AN EVENT THAT ENDED A LIFE on a day, behind the entries of the days before: all that the day did
+-- before it, the event, why that ended the life, and what stands of it.
+pub record EventFails (end : LifeEnd) (config : Config) (past : List Entry) (last : ℕ)
+    (left : DayLeft) (began : Option ℕ) (reads : Reads) (before : World) (moments : List ℕ)
+    : Type 0 where
+  pub whole : List ℕ
+  pub split : moments ≡ whole ++ last ∷ []
+  pub added : Added
+  pub mid : World
+  pub event : Event
+  pub up_to : LifeUpTo Answers config.names config.window reads before whole last added mid event
+  pub none_due : NoneDue Answers config.names config.window config.reset began reads before whole
+      up_to.first up_to.read up_to.between up_to.rounds
+  pub why : IsWhy end config past mid event last
+  pub part : Added
+  pub fails : FailsBy end config mid event last part left.entries
+  pub all : left.added ≡ both added part
+
+-- A NEW DAY THAT ENDED A LIFE: the day before it ended whole, and its entry was not committed.
+pub record DayFails (end : LifeEnd) (config : Config) (past : List Entry) (last : ℕ)
+    (left : DayLeft) (began : Option ℕ) (reads : Reads) (before : World) (moments : List ℕ)
+    : Type 0 where
+  pub whole : List ℕ
+  pub split : moments ≡ whole ++ last ∷ []
+  pub ends : EndsDay Answers config.names config.window config.reset began reads before whole
+      (record { left = left; at = last })
+  pub why : IsWhyOfDay end config.names (past ++ left.entries) last
+
+-- The disk failed, but the entry of the new day stands: nothing was done on that day.
+pub record DayStands (end : LifeEnd) (config : Config) (last : ℕ) (left : DayLeft)
+    (before : World) (moments : List ℕ) : Type 0 where
+  pub failed : end ≡ ends.DiskFault
+  pub fresh : before ≡ begun config []
+  pub only : moments ≡ last ∷ []
+  pub entries : left.entries ≡ []
+  pub added : left.added ≡ nothing
+
+-- the day on which a life failed
+pub data LastFails (end : LifeEnd) (config : Config) (past : List Entry) (last : ℕ)
+    (left : DayLeft) (began : Option ℕ) (reads : Reads) (before : World) (moments : List ℕ)
+    : Type 0 where
+  AtEvent : EventFails end config past last left began reads before moments
+      → LastFails end config past last left began reads before moments
+  AtDay : DayFails end config past last left began reads before moments
+      → LastFails end config past last left began reads before moments
+  BehindDay : DayStands end config last left before moments
+      → LastFails end config past last left began reads before moments
+
+-- A LIFE THAT FAILED: the days that ended in it, and the one on which it did; then both wires are
+-- hung up.
 pub record LifeFails (end : LifeEnd) (config : Config) (before : List Entry) (rounds : ℕ)
-    (did : Done) (entries : List Entry) : Type 0 where
+    (did : Done) (days : List DayEnded) (left : DayLeft) : Type 0 where
   pub given : List ℕ
   pub last : ℕ
   pub moments : did.moments ≡ given ++ last ∷ []
   pub most : length given ≤ rounds
-  pub added : Added
-  pub mid : World
-  pub event : Event
   -- whatever was read on connections before
-  pub up_to : (reads : Reads) → LifeUpTo Answers config.names config.window reads
-      (begun config before) (map moment_of given) (moment_of last) added mid event
-  pub why : IsWhy end config mid event (moment_of last)
-  pub part : Added
-  pub fails : FailsBy end config mid event (moment_of last) part entries
-  pub client : did.client ≡ hung_up (added.client ++ part.client)
-  pub venue : did.venue ≡ hung_up (added.venue ++ part.venue)
+  pub fails : (reads : Reads) → OverDays Answers config.names config.window config.reset
+      (LastFails end config (went_on before days []) (moment_of last) left) (rested config)
+      (day_at (past_of before)) reads (begun config (last_day before))
+      (map moment_of (given ++ last ∷ [])) days
+  pub client : did.client ≡ hung_up (all_added days left.added).client
+  pub venue : did.venue ≡ hung_up (all_added days left.added).venue
 
 -- a life that did not begin: nothing was done
 pub record DoesNotBegin (did : Done) : Type 0 where
@@ -96,16 +153,16 @@ MayNotBegin ends.DiskFault = Unit {0}
 MayNotBegin ends.NoMemory = Unit {0}
 MayNotBegin end = ⊥
 
--- HOW A LIFE GOES ON FROM A JOURNAL WITH ENTRIES BEFORE, by how it ended, so that these entries are
--- left: to its end, up to an event, or not at all.
+-- HOW A LIFE GOES ON FROM A JOURNAL WITH ENTRIES BEFORE, by how it ended, so that these days ended
+-- in it and this one was left: to its end, up to where it failed, or not at all.
 pub data Follows (end : LifeEnd) (config : Config) (before : List Entry) (rounds : ℕ) (did : Done)
-    (entries : List Entry) : Type 0 where
-  ToItsEnd : end ≡ ends.Done → LivesToEnd config before rounds did entries
-      → Follows end config before rounds did entries
-  ToAnEvent : LifeFails end config before rounds did entries
-      → Follows end config before rounds did entries
-  NotBegun : MayNotBegin end → DoesNotBegin did → entries ≡ before
-      → Follows end config before rounds did entries
+    (days : List DayEnded) (left : DayLeft) : Type 0 where
+  ToItsEnd : end ≡ ends.Done → LivesToEnd config before rounds did days left
+      → Follows end config before rounds did days left
+  ToAFailure : LifeFails end config before rounds did days left
+      → Follows end config before rounds did days left
+  NotBegun : MayNotBegin end → DoesNotBegin did → days ≡ [] → left.entries ≡ last_day before
+      → left.added ≡ nothing → Follows end config before rounds did days left
 
 -- WHAT IS ANSWERED OF A DISK by its bytes: refused where they are no journal, or one of other
 -- names; else a life began over a journal of these names, or over an unborn disk. A disk fault and

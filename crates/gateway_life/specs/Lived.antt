@@ -5,18 +5,20 @@ use Rattle.outside.specs.Disk.{Only, HasOneImage}
 use Rattle.gate_log.specs.Log.{OnlyRead}
 use Rattle.order_meaning.specs.declared.names.Names.{Names}
 use Rattle.pair_entries.specs.declared.entry.Entry.{Entry}
+use Rattle.pair_journal.specs.Days.{Days, days_of}
 use Rattle.pair_journal.specs.Journal.{JournalOf, Born}
+use Rattle.order_meaning.specs.declared.Side.TheVariants.{Client, Venue}
 use Rattle.message_answers.specs.Answer.{Answers}
 use Rattle.gateway_config.specs.declared.config.Config.{Config}
 use Rattle.wires.specs.Told.{GrowsBy}
-use Rattle.wires.specs.Wire.{WireCall, Connection}
-use Rattle.life_laws.specs.Justified.{transcript_from, Leaves}
+use Rattle.wires.specs.Wire.{WireCall}
+use Rattle.life_laws.specs.Days.{DayEnded, DayLeft, Transcript, LeavesDays, transcript_after}
 use Rattle.gateway_life.specs.declared.end.LifeEnd.{LifeEnd}
 use Rattle.gateway_life.specs.declared.end.LifeEnd.TheVariants as ends
 use Rattle.gateway_life.specs.Life.{Done, Follows, IsJournal, IsAnswered, IfRefused, IsForeign}
-use Rattle.gateway_life.specs.Life.{counted_on}
+use Rattle.gateway_life.specs.Life.{counted_on, went_on}
 use Rattle.gateway_life.specs.Causes.{HasJournalCause}
-use Rattle.gateway_life.specs.Laws.{AreShown, AreTaken}
+use Rattle.gateway_life.specs.Laws.{AreShown, AreTakenDays}
 
 -- what the disk, the wires and the clock tell, and how often the wires were polled
 pub record Told : Type 0 where
@@ -56,27 +58,29 @@ pub record Premises (names : Names) (images : List ℕ → Type 0) (old new : To
   pub venue : Adds old.venue new.venue did.venue
   pub clock : Adds old.moments new.moments did.moments
 
--- What is left accounts for what was written and read: the journal is lawful and justifies it, and
--- whatever of it arrives, each side takes the beginning of what was committed to it, each message
--- once and in order, and learns of it what the other side said; and where both peers keep their
--- numbers and no gap is left, the books that they rebuild are equal.
-pub record Accounts (names : Names) (entries : List Entry) (client venue : List Connection)
-    : Type 0 where
-  pub leaves : Leaves Answers names entries client venue
-  pub taken : AreShown names → AreTaken names entries client venue
+-- WHAT IS LEFT ACCOUNTS, day by day, for what was written and read: the day is lawful and justifies
+-- it, and whatever of it arrives, each side takes the beginning of what was committed to it on that
+-- day, each message once and in order, and learns of it what the other side said; and where both
+-- peers keep their numbers and no gap is left, the books that they rebuild are equal.
+pub record Accounts (names : Names) (days : Days) (client venue : Transcript) : Type 0 where
+  pub leaves : LeavesDays Answers names days client venue
+  pub taken : AreShown names → AreTakenDays names days client venue
 
 -- WHAT AN IMAGE OF THE DISK IS after a life, by how it ended: the journal of these entries, which
--- goes on from the one at entry by the events of this life, as what was done on the wires is what
--- these events call for. Where the one at entry was lawful and justified what was written and read
--- before, this one accounts for that and for what was written and read in this life.
+-- goes on from the one at entry by the events of this life, day by day, as what was done on the
+-- wires is what these events call for: these days ended in it, and this one was left. Where each
+-- day of the one at entry was lawful and justified what was written and read on it, each day of
+-- this one accounts for that, and for what was written and read in this life.
 pub record IsLeft (end : LifeEnd) (config : Config) (before : List Entry) (rounds : ℕ) (did : Done)
-    (image : List ℕ) (entries : List Entry) : Type 0 where
+    (days : List DayEnded) (left : DayLeft) (image : List ℕ) (entries : List Entry) : Type 0 where
   pub journal : IsJournal config.names entries image
   pub born : end ≡ ends.Done → JournalOf image (Born config.names entries)
-  pub follows : Follows end config before rounds did entries
-  pub accounts : (client venue : List Connection) → Leaves Answers config.names before client venue
-      → Accounts config.names entries
-      (transcript_from client did.client) (transcript_from venue did.venue)
+  pub goes_on : entries ≡ went_on before days left.entries
+  pub follows : Follows end config before rounds did days left
+  pub accounts : (client venue : Transcript)
+      → LeavesDays Answers config.names (days_of before) client venue
+      → Accounts config.names (days_of entries)
+      (transcript_after Client client days left) (transcript_after Venue venue days left)
 
 -- nothing was done on either wire, the clock was not read, and the disk was only read
 pub record IsIdle (before after : List ℕ → Type 0) (old new : Told) : Type 0 where
@@ -90,7 +94,8 @@ pub record IsIdle (before after : List ℕ → Type 0) (old new : Told) : Type 0
 pub record Lived (end : LifeEnd) (config : Config) (rounds : ℕ) (before after : List ℕ → Type 0)
     (old new : Told) : Type 0 where
   pub images : (given : Premises config.names before old new) → (image : List ℕ) → after image
-      → (entries : List Entry) × IsLeft end config given.before rounds given.did image entries
+      → (days : List DayEnded) × (left : DayLeft) × (entries : List Entry)
+      × IsLeft end config given.before rounds given.did days left image entries
   -- What is no journal, or one of other names, is refused. It is only read, and nothing is done,
   -- also where a disk fault or want of memory comes first.
   pub begins : IfSome old.bytes (IsAnswered end config.names)

@@ -1,12 +1,13 @@
 -- Inside: what holds of an engine between events, and what of a disk.
-use Rattle.std.specs.Prelude.{◌≡◌, ℕ, true, false, List, IfSome, is_some}
+use Rattle.std.specs.Prelude.{◌≡◌, ℕ, true, false, List, ◌++◌, IfSome, is_some}
 use Rattle.std.specs.declared.option.Option.{Option}
 use Rattle.std.specs.Option.{ForSome}
 use Rattle.outside.specs.Disk.{Only}
 use Rattle.order_meaning.specs.declared.names.Names.{Names}
 use Rattle.pair_entries.specs.declared.entry.Entry.{Entry}
 use Rattle.pair_journal.specs.Numbers.{numbers_after, first_numbers}
-use Rattle.pair_journal.specs.Journal.{JournalOf, Born, AreEntries}
+use Rattle.pair_journal.specs.Journal.{JournalOf, Born, DaysGoOn}
+use Rattle.pair_journal.specs.Days.{last_day}
 use Rattle.event_decisions.specs.Decide.{AreSides, numbers_of, Decision}
 use Rattle.message_answers.specs.Chains.{chains_of}
 use Rattle.gateway_core.specs.State.{CoreState, sessions_in}
@@ -17,10 +18,10 @@ use Rattle.gateway_life.specs.State.{EngineState}
 use Rattle.wire_sends.specs.Again.{repeat_in}
 use Rattle.wire_sends.specs.Sent.{Agrees}
 
--- the world of a life, as the engine has it
+-- the world of a life, as the engine has it, with the entries of the last day
 abbrev pub world_of : EngineState → World
 world_of engine = record {
-  entries = engine.journal.entries;
+  entries = last_day engine.journal.entries;
   sessions = sessions_in engine.core;
   client_up = engine.client_up;
   venue_up = engine.venue_up;
@@ -40,8 +41,8 @@ made_of made core = record {
 pub record IsReady (engine : EngineState) (disk : Option (List ℕ)) : Type 0 where
   pub names : engine.journal.names ≡ engine.core.config.names
   pub whole : engine.journal.broken ≡ false
-  pub sound : AreEntries first_numbers engine.journal.entries
-  pub chains : engine.core.chains ≡ chains_of engine.journal.entries
+  pub sound : DaysGoOn first_numbers engine.journal.entries
+  pub chains : engine.core.chains ≡ chains_of (last_day engine.journal.entries)
   pub sides : AreSides (sessions_in engine.core)
   pub numbers :
       numbers_of (sessions_in engine.core) ≡ numbers_after first_numbers engine.journal.entries
@@ -70,3 +71,7 @@ LeavesOf told before after names P =
 -- it holds of a disk that tells its bytes
 abbrev pub IfTold : Option (List ℕ) → Type 0 → Type 0
 IfTold told P = is_some told ≡ true → P
+
+-- entries of the days before, and behind them some of the last day, of which this holds
+abbrev pub Behind : (past : List Entry) → (List Entry → Type 0) → List Entry → Type 0
+Behind past P entries = (today : List Entry) × (entries ≡ past ++ today) × P today

@@ -79,22 +79,23 @@ pub record EndsEvent (told : Option (List ℕ)) (end : LifeEnd) : Type 0 where
   pub not_done : IsNotDone end
   pub of_event : IfTold told (IsOfEvent end)
 
-pub record Broken (end : LifeEnd) (config : Config) (before : World) (event : Event) (now : ℕ)
-    (old new : Records) (entries : List Entry) : Type 0 where
-  pub why : IsWhy end config before event now
+-- behind entries of days before
+pub record Broken (end : LifeEnd) (config : Config) (past : List Entry) (before : World)
+    (event : Event) (now : ℕ) (old new : Records) (entries : List Entry) : Type 0 where
+  pub why : IsWhy end config past before event now
   pub added : Added
   pub grew : Grew old new added
   pub fails : FailsBy end config before event now added entries
 
 -- the same of an event that counted
-pub record BrokenIf (end : LifeEnd) (config : Config) (before : World) (event : Event) (now : ℕ)
-    (old new : Records) (entries : List Entry) : Type 0 where
+pub record BrokenIf (end : LifeEnd) (config : Config) (past : List Entry) (before : World)
+    (event : Event) (now : ℕ) (old new : Records) (entries : List Entry) : Type 0 where
   pub counted : counts before event ≡ true
-  pub broken : Broken end config before event now old new entries
+  pub broken : Broken end config past before event now old new entries
 
 -- of these events the first happened, one counted and ended the life, and no more did
-pub record Failed (end : LifeEnd) (config : Config) (before : World) (events : List Event) (now : ℕ)
-    (old new : Records) (entries : List Entry) : Type 0 where
+pub record Failed (end : LifeEnd) (config : Config) (past : List Entry) (before : World)
+    (events : List Event) (now : ℕ) (old new : Records) (entries : List Entry) : Type 0 where
   pub first : List Event
   pub last : Event
   pub rest : List Event
@@ -103,7 +104,7 @@ pub record Failed (end : LifeEnd) (config : Config) (before : World) (events : L
   pub between : Records
   pub all : AllStepped config before first now mid old between
   pub counted : counts mid last ≡ true
-  pub broken : Broken end config mid last now between new entries
+  pub broken : Broken end config past mid last now between new entries
 
 -- a disk fault comes only where the count of faults rose, and else the count stands still
 abbrev pub HasCauseOf : {T : Type 0} → ℕ → ℕ → Result T LifeEnd → Type 0

@@ -59,10 +59,11 @@ pub record TakenAll (old new : Held) (config : Config) (before : World) (side : 
   pub answered : AnsweredAll old new bodies
 
 -- a frame ended the life: behind it there may have been more
-pub record TakenFront (end : LifeEnd) (old : Held) (config : Config) (before : World) (side : Side)
-    (now : ℕ) (r0 r1 : Records) (entries : List Entry) : Type 0 where
+pub record TakenFront (end : LifeEnd) (old : Held) (config : Config) (past : List Entry)
+    (before : World) (side : Side) (now : ℕ) (r0 r1 : Records) (entries : List Entry)
+    : Type 0 where
   pub first : List (List ℕ)
-  pub failed : Failed end config before (map (Frame side) first) now r0 r1 entries
+  pub failed : Failed end config past before (map (Frame side) first) now r0 r1 entries
   pub answered : (stream : List ℕ) (answered : List Piece) → StandsFor old stream answered
       → (more : List Piece) × (left : List ℕ) × ComeFirst old.kind stream (answered ++ more) left
       × (filter_map body_of more ≡ first)
@@ -88,10 +89,10 @@ pub record Arrived (old next : Held) (came : Came) (config : Config) (before : W
 
 -- One of its events ended the life.
 pub record ArrivedFront (end : LifeEnd) (old : Held) (came : Came) (config : Config)
-    (before : World) (side : Side) (now : ℕ) (r0 r1 : Records) (entries : List Entry)
-    : Type 0 where
+    (past : List Entry) (before : World) (side : Side) (now : ℕ) (r0 r1 : Records)
+    (entries : List Entry) : Type 0 where
   pub first : List (List ℕ)
-  pub failed : Failed end config before (events_of side came first) now r0 r1 entries
+  pub failed : Failed end config past before (events_of side came first) now r0 r1 entries
   pub new : (read : List ℕ) → IfBytes came (StandsWhole old read)
       → (more : List (List ℕ)) × AreNew side read came (first ++ more)
 
@@ -130,13 +131,14 @@ pub record Turned (side : Side) (old next : Held) (config : Config) (before : Wo
 
 -- a side's turn in which one of these first events ended the life
 pub record TurnBroken (end : LifeEnd) (side : Side) (old : Held) (config : Config)
-    (before : World) (now : ℕ) (r0 r1 : Records) (entries : List Entry) : Type 0 where
+    (past : List Entry) (before : World) (now : ℕ) (r0 r1 : Records) (entries : List Entry)
+    : Type 0 where
   pub came : Came
   pub may : is_some (record_on side r0) ≡ true → may_come (up_on side before) came ≡ true
   pub between : Records
   pub polled : Grew r0 between (on_side side (Poll came ∷ []))
   pub first : List Event
-  pub failed : Failed end config (with_up side (up_after (up_on side before) came) before)
+  pub failed : Failed end config past (with_up side (up_after (up_on side before) came) before)
       first now between r1 entries
   pub new : (read : List ℕ) → IfBytes came (StandsWhole old read)
       → (bodies : List (List ℕ)) × (rest : List Event) × AreNew side read came bodies

@@ -6,13 +6,16 @@ ghost use Rattle.std.specs.Prelude.{[], ◌∷◌, true, ◌<◌, ◌-◌, lengt
 ghost use Rattle.std.specs.Prelude.{if◌then◌else◌};
 ghost use Rattle.std.specs.Option.{ForSome, option_to_list};
 ghost use Rattle.outside.specs.Disk.{HasOneImage};
-ghost use Rattle.wires.specs.Told.{Keeps};
+ghost use Rattle.wires.specs.Told.{GrowsBy, Keeps};
 ghost use Rattle.gate_log.specs.Log.{OnlyReads};
 ghost use Rattle.pair_journal.specs.declared.error.JournalError.TheVariants as errors;
 ghost use Rattle.pair_journal.specs.Calls.{HasDiskCause, BornOrNot, RefusedUntold};
 ghost use Rattle.pair_journal.specs.Journal.{JournalOf, Unborn, Born};
-ghost use Rattle.pair_journal.specs.Numbers.{GoesOn, numbers_after, first_numbers};
+ghost use Rattle.pair_journal.specs.Numbers.{GoesOn, numbers_before, numbers_after, first_numbers};
 ghost use Rattle.pair_entries.specs.Payload.{IsEntry};
+ghost use Rattle.pair_journal.specs.Days.{last_day, past_of};
+ghost use Rattle.event_decisions.specs.Days.{new_day};
+ghost use Rattle.life_laws.specs.Sends.{hang_up_if};
 ghost use Rattle.event_decisions.specs.Event.{event_of, IsFramed, Tick};
 ghost use Rattle.event_decisions.specs.Decide.{Decides, with_session};
 ghost use Rattle.message_answers.specs.Answer.{Answers};
@@ -23,11 +26,12 @@ ghost use Rattle.gateway_life.specs.Acted.{Acted};
 ghost use Rattle.wire_sends.specs.Again.{IsGiven};
 ghost use Rattle.gateway_life.specs.State.{seen};
 ghost use Rattle.gateway_life.specs.Ready.{IsReady, Ready, world_of, made_of, LeavesOf, IfTold};
-ghost use Rattle.gateway_life.specs.Fails.{IsWhy};
+ghost use Rattle.gateway_life.specs.Ready.{Behind};
+ghost use Rattle.gateway_life.specs.Fails.{IsWhy, IsWhyOfDay};
 ghost use Rattle.gateway_life.specs.Stepped.{Stepped, MayStand, Broken, HasCauseOf, records};
 ghost use Rattle.gateway_life.specs.Committed.{OldOrNew, IsFull};
-ghost use Rattle.gateway_life.specs.Life.{IfRefused};
-ghost use Rattle.gateway_life.specs.Rounds.{Begins};
+ghost use Rattle.gateway_life.specs.Life.{IfRefused, begun};
+ghost use Rattle.gateway_life.specs.Rounds.{Begins, MayTurn, DayDone, DayBroken};
 ghost use Rattle.drop_taps.specs.Shown.{state_by};
 ghost use Rattle.gateway_life.specs.Watched.{Watched, WereCommitted};
 ghost use Rattle.gateway_life.specs.Causes.{IsCauseIn};
@@ -38,7 +42,7 @@ use crate::acts::{is_sent, standing};
 use drop_taps::{Tap, show};
 use event_decisions::Event;
 use event_decisions::laws::decisions_continue;
-use gateway_core::{Config, Core};
+use gateway_core::{Config, Core, is_due, new_day};
 use message_answers::Joining;
 use order_meaning::{Names, Side};
 use outside::Disk;
@@ -79,7 +83,8 @@ fn commit_one<D: Disk>(
 ) -> Result<Entry, JournalError>
     requires spare { 1 ≤ journal.old.spare }
     requires whole { journal.old.broken ≡ false }
-    requires goes_on { GoesOn (numbers_after first_numbers journal.old.entries) prepared }
+    requires goes_on { GoesOn (numbers_before
+        (numbers_after first_numbers (last_day journal.old.entries)) prepared) prepared }
     requires stands { ForSome (D.bytes disk.old) (λ b.
         JournalOf b (Born journal.old.names journal.old.entries)) }
     ensures names { journal.new.names ≡ journal.old.names }
@@ -100,7 +105,7 @@ fn commit_one<D: Disk>(
     ensures told { is_some (D.bytes disk.new) ≡ is_some (D.bytes disk.old) }
     ensures cause { HasDiskCause (D.faults disk.old) (D.faults disk.new) result }
 {
-    let _ = prepared.payload(); // Its bounds.
+    let _ = prepared.entry(); // Its bounds.
     journal.commit(disk, prepared)
 }
 
@@ -112,8 +117,8 @@ fn commit<D: Disk>(
 ) -> Result<Option<Entry>, JournalError>
     requires spare { 1 ≤ journal.old.spare }
     requires whole { journal.old.broken ≡ false }
-    requires goes_on { IfSome prepared
-        (GoesOn (numbers_after first_numbers journal.old.entries)) }
+    requires goes_on { IfSome prepared (λ e. GoesOn (numbers_before
+        (numbers_after first_numbers (last_day journal.old.entries)) e) e) }
     requires stands { ForSome (D.bytes disk.old) (λ b.
         JournalOf b (Born journal.old.names journal.old.entries)) }
     ensures names { journal.new.names ≡ journal.old.names }
@@ -147,7 +152,7 @@ fn load<D: Disk>(alloc: Global, config: &Config, disk: &mut D) -> Result<(Journa
       client_up = false;
       venue_up = false;
     }) (D.bytes disk.new)) }
-    ensures core { IfOk result (λ made. made.1 ≡ loaded config.now made.0.entries) }
+    ensures core { IfOk result (λ made. made.1 ≡ loaded config.now (last_day made.0.entries)) }
     ensures durable { OnOk result (HasOneImage (D.bytes disk.old) (D.image disk.old) →
         HasOneImage (D.bytes disk.new) (D.image disk.new)) }
     ensures begins { IfSome (D.bytes disk.old) (λ b.
@@ -192,7 +197,7 @@ impl Engine {
         ensures down { IfOk result (λ engine.
             (engine.client_up ≡ false) × (engine.venue_up ≡ false)) }
         ensures core { IfOk result (λ engine.
-            engine.core ≡ loaded config.now engine.journal.entries) }
+            engine.core ≡ loaded config.now (last_day engine.journal.entries)) }
         ensures durable { OnOk result (HasOneImage (D.bytes disk.old) (D.image disk.old) →
             HasOneImage (D.bytes disk.new) (D.image disk.new)) }
         ensures begins { IfSome (D.bytes disk.old) (λ b.
@@ -236,23 +241,31 @@ impl Engine {
         ensures config { self.new.core.config ≡ self.old.core.config }
         ensures ready { OnOk result (IsReady (seen self.new) (D.bytes disk.new)) }
         ensures decides { IfOk result (λ made. Decides Answers
-            self.old.core.config.names self.old.core.config.window self.old.journal.entries
-            (sessions_in self.old.core) (event_of event.now) now
+            self.old.core.config.names self.old.core.config.window
+            (last_day self.old.journal.entries) (sessions_in self.old.core) (event_of event.now) now
             (Ok (made_of made self.new.core))) }
         ensures entries { IfOk result (λ made. self.new.journal.entries
             ≡ self.old.journal.entries ++ option_to_list made.entry) }
+        ensures today { IfOk result (λ made. last_day self.new.journal.entries
+            ≡ last_day self.old.journal.entries ++ option_to_list made.entry) }
+        ensures past { OnOk result
+            (past_of self.new.journal.entries ≡ past_of self.old.journal.entries) }
         ensures bounds { IfOk result (λ made. IfSome made.entry IsEntry) }
         ensures sendable { IfOk result (λ made. IfSome made.entry (λ e. AreSendable e.outs)) }
-        ensures given { IfOk result (λ made. IsGiven self.new.journal.entries made.resend) }
+        ensures given { IfOk result (λ made.
+            IsGiven (last_day self.new.journal.entries) made.resend) }
         ensures durable { OnOk result (HasOneImage (D.bytes disk.old) (D.image disk.old) →
             HasOneImage (D.bytes disk.new) (D.image disk.new)) }
         // A refused event changes nothing but the room that was reserved.
         ensures refused { OnErr result ((world_of (seen self.new) ≡ world_of (seen self.old))
-            × (self.new.core.chains ≡ self.old.core.chains)) }
+            × (self.new.core.chains ≡ self.old.core.chains)
+            × (self.new.journal.entries ≡ self.old.journal.entries)) }
         ensures images { IfErr result (λ end. LeavesOf (D.bytes disk.old) (D.image disk.old)
-            (D.image disk.new) self.old.core.config.names (MayStand end self.old.core.config
-            (world_of (seen self.old)) (event_of event.now) now)) }
-        ensures why { IfErr result (λ end. IsWhy end self.old.core.config (world_of (seen self.old))
+            (D.image disk.new) self.old.core.config.names
+            (Behind (past_of self.old.journal.entries) (MayStand end self.old.core.config
+            (world_of (seen self.old)) (event_of event.now) now))) }
+        ensures why { IfErr result (λ end. IsWhy end self.old.core.config
+            (past_of self.old.journal.entries) (world_of (seen self.old))
             (event_of event.now) now) }
         ensures told { is_some (D.bytes disk.new) ≡ is_some (D.bytes disk.old) }
         ensures cause { HasCauseOf (D.faults disk.old) (D.faults disk.new) result }
@@ -294,30 +307,34 @@ impl Engine {
         requires moment { now ≤ MAX_AT }
         requires bounds { IfSome made.now.entry IsEntry }
         requires sendable { IfSome made.now.entry (λ e. AreSendable e.outs) }
-        requires given { IsGiven self.old.journal.entries made.now.resend }
+        requires given { IsGiven (last_day self.old.journal.entries) made.now.resend }
         ensures journal { self.new.journal ≡ self.old.journal }
         ensures config { self.new.core.config ≡ self.old.core.config }
         ensures ready { OnOk result (Ready (seen self.new) (D.bytes disk.new)
             (C.recorded client.new) (V.recorded venue.new)) }
         ensures client_acts { OnOk result (IfTold (D.bytes disk.old)
             (Acted (C.recorded client.old) (C.recorded client.new) self.old.client_up
-            (pieces_to names.now Side.Client self.old.journal.entries (event_of event.now) now
+            (pieces_to names.now Side.Client
+            (last_day self.old.journal.entries) (event_of event.now) now
             (made_of made.now self.old.core)) (hung_side Side.Client made.now.hang_up)
             self.new.client_up)) }
         ensures venue_acts { OnOk result (IfTold (D.bytes disk.old)
             (Acted (V.recorded venue.old) (V.recorded venue.new) self.old.venue_up
-            (pieces_to names.now Side.Venue self.old.journal.entries (event_of event.now) now
+            (pieces_to names.now Side.Venue
+            (last_day self.old.journal.entries) (event_of event.now) now
             (made_of made.now self.old.core)) (hung_side Side.Venue made.now.hang_up)
             self.new.venue_up)) }
         ensures sessions { OnOk result (sessions_in self.new.core ≡ both_standing
             self.new.client_up self.new.venue_up (sessions_in self.old.core)) }
         ensures client_part { OnErr result (IfTold (D.bytes disk.old)
             (FrontSent (C.recorded client.old) (C.recorded client.new) self.old.client_up
-            (pieces_to names.now Side.Client self.old.journal.entries (event_of event.now) now
+            (pieces_to names.now Side.Client
+            (last_day self.old.journal.entries) (event_of event.now) now
             (made_of made.now self.old.core)))) }
         ensures venue_part { OnErr result (IfTold (D.bytes disk.old)
             (FrontSent (V.recorded venue.old) (V.recorded venue.new) self.old.venue_up
-            (pieces_to names.now Side.Venue self.old.journal.entries (event_of event.now) now
+            (pieces_to names.now Side.Venue
+            (last_day self.old.journal.entries) (event_of event.now) now
             (made_of made.now self.old.core)))) }
         ensures only_read { OnlyReads D.bytes D.image disk.old disk.new }
         ensures cause { HasDiskCause (D.faults disk.old) (D.faults disk.new) result }
@@ -402,15 +419,18 @@ impl Engine {
             (event_of event.now) now (world_of (seen self.new))
             (records (C.recorded client.old) (V.recorded venue.old))
             (records (C.recorded client.new) (V.recorded venue.new)))) }
+        ensures past { OnOk result
+            (past_of self.new.journal.entries ≡ past_of self.old.journal.entries) }
         ensures durable { OnOk result (HasOneImage (D.bytes disk.old) (D.image disk.old) →
             HasOneImage (D.bytes disk.new) (D.image disk.new)) }
         ensures ends { IfErr result (λ end. LeavesOf (D.bytes disk.old) (D.image disk.old)
-            (D.image disk.new) self.old.core.config.names (Broken end self.old.core.config
+            (D.image disk.new) self.old.core.config.names (Behind (past_of self.old.journal.entries)
+            (Broken end self.old.core.config (past_of self.old.journal.entries)
             (world_of (seen self.old)) (event_of event.now) now
             (records (C.recorded client.old) (V.recorded venue.old))
-            (records (C.recorded client.new) (V.recorded venue.new)))) }
-        ensures why { IfErr result (λ end. IfTold (D.bytes disk.old)
-            (IsWhy end self.old.core.config (world_of (seen self.old))
+            (records (C.recorded client.new) (V.recorded venue.new))))) }
+        ensures why { IfErr result (λ end. IfTold (D.bytes disk.old) (IsWhy end self.old.core.config
+            (past_of self.old.journal.entries) (world_of (seen self.old))
             (event_of event.now) now)) }
         ensures taps { Watched (state_by has_failed entries tally counts_all refused)
             taps.old.items taps.new.items self.old.journal.entries
@@ -434,6 +454,111 @@ impl Engine {
         let names = self.journal.names();
         self.act(disk, client, venue, &names, event, &made, now)?;
         Ok(())
+    }
+
+    // A session day begins, behind the end of both sides: its entry is committed and shown to the
+    // taps; both sessions are down, and the chains are empty.
+    fn new_day<D: Disk, C: Wire, V: Wire>(
+        &mut self,
+        disk: &mut D,
+        client: &mut C,
+        venue: &mut V,
+        taps: &mut Vec<Box<dyn Tap>>,
+        now: u64,
+    ) -> Result<(), LifeEnd>
+        requires ready { Ready (seen self.old) (D.bytes disk.old)
+            (C.recorded client.old) (V.recorded venue.old) }
+        requires moment { now ≤ MAX_AT }
+        ensures config { self.new.core.config ≡ self.old.core.config }
+        ensures ready { OnOk result (Ready (seen self.new) (D.bytes disk.new)
+            (C.recorded client.new) (V.recorded venue.new)) }
+        ensures entries { OnOk result (self.new.journal.entries
+            ≡ self.old.journal.entries ++ new_day now ∷ []) }
+        ensures fresh { OnOk result (world_of (seen self.new) ≡ begun self.old.core.config []) }
+        ensures client_hung { GrowsBy (C.recorded client.old) (C.recorded client.new)
+            (hang_up_if self.old.client_up) }
+        ensures venue_hung { GrowsBy (V.recorded venue.old) (V.recorded venue.new)
+            (hang_up_if self.old.venue_up) }
+        ensures durable { OnOk result (HasOneImage (D.bytes disk.old) (D.image disk.old) →
+            HasOneImage (D.bytes disk.new) (D.image disk.new)) }
+        ensures refused { OnErr result (self.new.journal.entries ≡ self.old.journal.entries) }
+        ensures images { IfErr result (λ end. LeavesOf (D.bytes disk.old) (D.image disk.old)
+            (D.image disk.new) self.old.core.config.names
+            (MayTurn end self.old.journal.entries now)) }
+        ensures why { IfErr result (λ end. IsWhyOfDay end self.old.core.config.names
+            self.old.journal.entries now) }
+        ensures kept { IfErr result (λ end. LeavesOf (D.bytes disk.old) (D.image disk.old)
+            (D.image disk.new) self.old.core.config.names
+            (WereCommitted end self.new.journal.entries)) }
+        ensures only { IfErr result (EndsEvent (D.bytes disk.old)) }
+        ensures journal_cause { IfErr result (λ end. IsCauseIn end (seen self.new)) }
+        ensures taps { Watched (state_by has_failed entries tally counts_all refused)
+            taps.old.items taps.new.items self.old.journal.entries
+            self.new.journal.entries }
+        ensures told { is_some (D.bytes disk.new) ≡ is_some (D.bytes disk.old) }
+        ensures cause { HasCauseOf (D.faults disk.old) (D.faults disk.new) result }
+        ensures client_polls { C.polls client.new ≡ C.polls client.old }
+        ensures venue_polls { V.polls venue.new ≡ V.polls venue.old }
+        ensures client_plays { Keeps (C.plays client.old) (C.plays client.new) }
+        ensures venue_plays { Keeps (V.plays venue.old) (V.plays venue.new) }
+    {
+        // No connection stands behind the end of both sides.
+        self.client_up = hang_up_on(client, self.client_up, Side::Client, Some(Side::Client));
+        self.venue_up = hang_up_on(venue, self.venue_up, Side::Venue, Some(Side::Venue));
+        self.journal.reserve()?;
+        let prepared = new_day(self.alloc, now)?;
+        let entry = commit_one(&mut self.journal, disk, prepared)?;
+        self.core.begin_day();
+        show(taps, &Some(entry));
+        Ok(())
+    }
+
+    /// Where a new session day is due, both sides end, and it begins.
+    pub(crate) fn end_day<D: Disk, C: Wire, V: Wire>(
+        &mut self,
+        disk: &mut D,
+        client: &mut C,
+        venue: &mut V,
+        taps: &mut Vec<Box<dyn Tap>>,
+        now: u64,
+    ) -> Result<(), LifeEnd>
+        requires ready { Ready (seen self.old) (D.bytes disk.old)
+            (C.recorded client.old) (V.recorded venue.old) }
+        requires moment { now ≤ MAX_AT }
+        ensures config { self.new.core.config ≡ self.old.core.config }
+        ensures ready { OnOk result (Ready (seen self.new) (D.bytes disk.new)
+            (C.recorded client.new) (V.recorded venue.new)) }
+        ensures turned { OnOk result (IfTold (D.bytes disk.old) (DayDone self.old.core.config
+            (seen self.old) (seen self.new) now
+            (records (C.recorded client.old) (V.recorded venue.old))
+            (records (C.recorded client.new) (V.recorded venue.new)))) }
+        ensures durable { OnOk result (HasOneImage (D.bytes disk.old) (D.image disk.old) →
+            HasOneImage (D.bytes disk.new) (D.image disk.new)) }
+        ensures ends { IfErr result (λ end. LeavesOf (D.bytes disk.old) (D.image disk.old)
+            (D.image disk.new) self.old.core.config.names (DayBroken end self.old.core.config
+            (seen self.old) now (records (C.recorded client.old) (V.recorded venue.old))
+            (records (C.recorded client.new) (V.recorded venue.new)))) }
+        ensures taps { Watched (state_by has_failed entries tally counts_all refused)
+            taps.old.items taps.new.items self.old.journal.entries
+            self.new.journal.entries }
+        ensures kept { IfErr result (λ end. LeavesOf (D.bytes disk.old) (D.image disk.old)
+            (D.image disk.new) self.old.core.config.names
+            (WereCommitted end self.new.journal.entries)) }
+        ensures only { IfErr result (EndsEvent (D.bytes disk.old)) }
+        ensures journal_cause { IfErr result (λ end. IsCauseIn end (seen self.new)) }
+        ensures told { is_some (D.bytes disk.new) ≡ is_some (D.bytes disk.old) }
+        ensures cause { HasCauseOf (D.faults disk.old) (D.faults disk.new) result }
+        ensures client_polls { C.polls client.new ≡ C.polls client.old }
+        ensures venue_polls { V.polls venue.new ≡ V.polls venue.old }
+        ensures client_plays { Keeps (C.plays client.old) (C.plays client.new) }
+        ensures venue_plays { Keeps (V.plays venue.old) (V.plays venue.new) }
+    {
+        if !is_due(self.core.reset(), self.journal.day_at(), now) {
+            return Ok(());
+        }
+        self.event(disk, client, venue, taps, &Event::End(Side::Client), now)?;
+        self.event(disk, client, venue, taps, &Event::End(Side::Venue), now)?;
+        self.new_day(disk, client, venue, taps, now)
     }
 
     // The session of a side goes on so, and those without a connection are down.
@@ -473,13 +598,16 @@ impl Engine {
             (Tick side) now (world_of (seen self.new))
             (records (C.recorded client.old) (V.recorded venue.old))
             (records (C.recorded client.new) (V.recorded venue.new)))) }
+        ensures past { OnOk result
+            (past_of self.new.journal.entries ≡ past_of self.old.journal.entries) }
         ensures durable { OnOk result (HasOneImage (D.bytes disk.old) (D.image disk.old) →
             HasOneImage (D.bytes disk.new) (D.image disk.new)) }
         ensures ends { IfErr result (λ end. LeavesOf (D.bytes disk.old) (D.image disk.old)
-            (D.image disk.new) self.old.core.config.names (Broken end self.old.core.config
+            (D.image disk.new) self.old.core.config.names (Behind (past_of self.old.journal.entries)
+            (Broken end self.old.core.config (past_of self.old.journal.entries)
             (world_of (seen self.old)) (Tick side) now
             (records (C.recorded client.old) (V.recorded venue.old))
-            (records (C.recorded client.new) (V.recorded venue.new)))) }
+            (records (C.recorded client.new) (V.recorded venue.new))))) }
         ensures taps { Watched (state_by has_failed entries tally counts_all refused)
             taps.old.items taps.new.items self.old.journal.entries
             self.new.journal.entries }

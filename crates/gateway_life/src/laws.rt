@@ -36,7 +36,7 @@ pub fn lives_leave()
     lives::justified_transcripts_are_taken_in_order();
     lives::repeats_fill_gaps();
     lives::what_is_sent_is_read();
-    lives::lives_leave::<Messages>();
+    lives::days_leave::<Messages>();
     lives::lives_that_fail_leave::<Messages>();
 }
 

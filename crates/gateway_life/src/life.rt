@@ -8,6 +8,7 @@ ghost use Rattle.outside.specs.Disk.{HasOneImage};
 ghost use Rattle.wires.specs.Told.{GrowsBy, Keeps};
 ghost use Rattle.wires.specs.Wire.{is_within};
 ghost use Rattle.pair_journal.specs.Calls.{BornOrNot};
+ghost use Rattle.pair_journal.specs.Days.{last_day, past_of};
 ghost use Rattle.pair_journal.specs.Journal.{JournalOf, Unborn, Born};
 ghost use Rattle.wire_sends.specs.Sent.{Agrees};
 ghost use Rattle.gateway_life.specs.Stepped.{HasCauseOf, AllStepped, Failed, records};
@@ -15,8 +16,8 @@ ghost use Rattle.gateway_life.specs.Life.{ended, counted_on, begun, moment_of, I
 ghost use Rattle.gateway_life.specs.Life.{IsForeign};
 ghost use Rattle.gateway_life.specs.Lived.{Lived, told};
 ghost use Rattle.gate_log.specs.Log.{OnlyReads};
-ghost use Rattle.gateway_life.specs.Ready.{LeavesOf, IfTold, world_of};
-ghost use Rattle.gateway_life.specs.Rounds.{IsLive, RoundDone, RoundBroken, ends_of, Begins};
+ghost use Rattle.gateway_life.specs.Ready.{Behind, LeavesOf, IfTold, world_of};
+ghost use Rattle.gateway_life.specs.Rounds.{IsLive, RoundOver, RoundFails, ends_of, Begins};
 ghost use Rattle.gateway_life.specs.Rounds.{RoundsDone, LifeDone, LifeBroken, LifeWhole};
 ghost use Rattle.gateway_life.specs.Rounds.{LifeStopped};
 ghost use Rattle.gateway_life.specs.Stepped.{EndsEvent, IsNotDone};
@@ -81,7 +82,8 @@ impl Life {
     pub fn begin<D: Disk>(alloc: Global, config: &Config, disk: &mut D) -> Result<Life, LifeEnd>
         ensures live { IfOk result (λ life. IsLive life (D.bytes disk.new) None None) }
         ensures begun { IfOk result (λ life.
-            world_of life.engine ≡ begun config.now life.engine.journal.entries) }
+            world_of life.engine
+            ≡ begun config.now (last_day life.engine.journal.entries)) }
         ensures config { IfOk result (λ life. life.engine.core.config ≡ config.now) }
         ensures begins { IfSome (D.bytes disk.old) (λ b.
             Begins (λ life. life.engine.journal.entries) config.now.names b result) }
@@ -108,8 +110,9 @@ impl Life {
         })
     }
 
-    /// A round: the clock is read once, the client is polled, what came is dealt with, and then its
-    /// tick; and the same of the venue.
+    /// A round: the clock is read once; where a new session day is due, both sides end and it
+    /// begins; the client is polled, what came is dealt with, and then its tick; and the same of
+    /// the venue.
     ///
     /// # Errors
     ///
@@ -134,13 +137,13 @@ impl Life {
         ensures round { OnOk result ((m : ℕ)
             × GrowsBy (K.moments clock.old) (K.moments clock.new) (m ∷ [])
             × IfTold (D.bytes disk.old)
-            (RoundDone self.old.engine.core.config self.old self.new (moment_of m)
+            (RoundOver self.old.engine.core.config self.old self.new (moment_of m)
             (records (C.recorded client.old) (V.recorded venue.old))
             (records (C.recorded client.new) (V.recorded venue.new)))) }
         ensures ends { IfErr result (λ end. (m : ℕ)
             × GrowsBy (K.moments clock.old) (K.moments clock.new) (m ∷ [])
             × LeavesOf (D.bytes disk.old) (D.image disk.old) (D.image disk.new)
-            self.old.engine.core.config.names (RoundBroken end self.old.engine.core.config self.old
+            self.old.engine.core.config.names (RoundFails end self.old.engine.core.config self.old
             (moment_of m) (records (C.recorded client.old) (V.recorded venue.old))
             (records (C.recorded client.new) (V.recorded venue.new)))) }
         ensures client_polls { OnOk result
@@ -163,6 +166,7 @@ impl Life {
         ensures cause { HasCauseOf (D.faults disk.old) (D.faults disk.new) result }
     {
         let now = moment(clock);
+        self.engine.end_day(disk, client, venue, taps, now)?;
         turn(
             &mut self.engine,
             disk,
@@ -215,10 +219,13 @@ impl Life {
         ensures ends { IfErr result (λ end. (m : ℕ)
             × GrowsBy (K.moments clock.old) (K.moments clock.new) (m ∷ [])
             × LeavesOf (D.bytes disk.old) (D.image disk.old) (D.image disk.new)
-            self.old.engine.core.config.names (Failed end self.old.engine.core.config
+            self.old.engine.core.config.names (Behind (past_of self.old.engine.journal.entries)
+            (Failed end self.old.engine.core.config (past_of self.old.engine.journal.entries)
             (world_of self.old.engine) ends_of (moment_of m)
             (records (C.recorded client.old) (V.recorded venue.old))
-            (records (C.recorded client.new) (V.recorded venue.new)))) }
+            (records (C.recorded client.new) (V.recorded venue.new))))) }
+        ensures past { OnOk result (past_of self.new.engine.journal.entries
+            ≡ past_of self.old.engine.journal.entries) }
         ensures client_polls { C.polls client.new ≡ C.polls client.old }
         ensures venue_polls { V.polls venue.new ≡ V.polls venue.old }
         ensures client_plays { Keeps (C.plays client.old) (C.plays client.new) }

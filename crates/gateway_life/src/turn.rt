@@ -16,7 +16,8 @@ ghost use Rattle.wires.specs.Wire.{Poll, Fits, came_of, may_come};
 ghost use Rattle.life_laws.specs.Happens.{up_on};
 ghost use Rattle.life_laws.specs.Turn.{on_side, with_up, up_after};
 ghost use Rattle.wire_sends.specs.Sent.{Agrees};
-ghost use Rattle.gateway_life.specs.Ready.{Ready, world_of, LeavesOf, IfTold};
+ghost use Rattle.pair_journal.specs.Days.{past_of};
+ghost use Rattle.gateway_life.specs.Ready.{Ready, world_of, LeavesOf, IfTold, Behind};
 ghost use Rattle.gateway_life.specs.State.{seen};
 ghost use Rattle.gateway_life.specs.Stepped.{SteppedOrNot, BrokenIf, HasCauseOf, Grew, records};
 ghost use Rattle.gateway_life.specs.Turned.{IsDrained, TakenAll, TakenFront, Arrived, ArrivedFront};
@@ -62,6 +63,8 @@ fn frame_event<D: Disk, C: Wire, V: Wire>(
     requires moment { now ≤ MAX_AT }
     requires body { IsBody body.now }
     ensures config { engine.new.core.config ≡ engine.old.core.config }
+    ensures past { OnOk result
+        (past_of engine.new.journal.entries ≡ past_of engine.old.journal.entries) }
     ensures ready { OnOk result (Ready (seen engine.new) (D.bytes disk.new)
         (C.recorded client.new) (V.recorded venue.new)) }
     ensures happens { OnOk result (IfTold (D.bytes disk.old)
@@ -72,10 +75,11 @@ fn frame_event<D: Disk, C: Wire, V: Wire>(
     ensures durable { OnOk result (HasOneImage (D.bytes disk.old) (D.image disk.old) →
         HasOneImage (D.bytes disk.new) (D.image disk.new)) }
     ensures ends { IfErr result (λ end. LeavesOf (D.bytes disk.old) (D.image disk.old)
-        (D.image disk.new) engine.old.core.config.names (BrokenIf end engine.old.core.config
+        (D.image disk.new) engine.old.core.config.names (Behind (past_of engine.old.journal.entries)
+        (BrokenIf end engine.old.core.config (past_of engine.old.journal.entries)
         (world_of (seen engine.old)) (Frame side body.now) now
         (records (C.recorded client.old) (V.recorded venue.old))
-        (records (C.recorded client.new) (V.recorded venue.new)))) }
+        (records (C.recorded client.new) (V.recorded venue.new))))) }
     ensures taps { Watched (state_by has_failed entries tally counts_all refused)
         taps.old.items taps.new.items engine.old.journal.entries
         engine.new.journal.entries }
@@ -114,6 +118,8 @@ fn take_frames<D: Disk, C: Wire, V: Wire>(
     requires stands { (stream : List ℕ) × (answered : List Piece)
         × StandsFor framer.old stream answered }
     ensures config { engine.new.core.config ≡ engine.old.core.config }
+    ensures past { OnOk result
+        (past_of engine.new.journal.entries ≡ past_of engine.old.journal.entries) }
     ensures ready { OnOk result (Ready (seen engine.new) (D.bytes disk.new)
         (C.recorded client.new) (V.recorded venue.new)) }
     ensures kind { framer.new.kind ≡ framer.old.kind }
@@ -128,10 +134,11 @@ fn take_frames<D: Disk, C: Wire, V: Wire>(
     ensures durable { OnOk result (HasOneImage (D.bytes disk.old) (D.image disk.old) →
         HasOneImage (D.bytes disk.new) (D.image disk.new)) }
     ensures ends { IfErr result (λ end. LeavesOf (D.bytes disk.old) (D.image disk.old)
-        (D.image disk.new) engine.old.core.config.names (TakenFront end framer.old
-        engine.old.core.config (world_of (seen engine.old)) side now
+        (D.image disk.new) engine.old.core.config.names (Behind (past_of engine.old.journal.entries)
+        (TakenFront end framer.old engine.old.core.config (past_of engine.old.journal.entries)
+        (world_of (seen engine.old)) side now
         (records (C.recorded client.old) (V.recorded venue.old))
-        (records (C.recorded client.new) (V.recorded venue.new)))) }
+        (records (C.recorded client.new) (V.recorded venue.new))))) }
     ensures taps { Watched (state_by has_failed entries tally counts_all refused)
         taps.old.items taps.new.items engine.old.journal.entries
         engine.new.journal.entries }
@@ -185,6 +192,8 @@ fn arrived<D: Disk, C: Wire, V: Wire>(
     requires short { length buf.now ≤ LEAST_ROOM }
     requires drained { IsDrained side framer.old }
     ensures config { engine.new.core.config ≡ engine.old.core.config }
+    ensures past { OnOk result
+        (past_of engine.new.journal.entries ≡ past_of engine.old.journal.entries) }
     ensures ready { OnOk result (Ready (seen engine.new) (D.bytes disk.new)
         (C.recorded client.new) (V.recorded venue.new)) }
     ensures drained { OnOk result (IsDrained side framer.new) }
@@ -196,10 +205,11 @@ fn arrived<D: Disk, C: Wire, V: Wire>(
     ensures durable { OnOk result (HasOneImage (D.bytes disk.old) (D.image disk.old) →
         HasOneImage (D.bytes disk.new) (D.image disk.new)) }
     ensures ends { IfErr result (λ end. LeavesOf (D.bytes disk.old) (D.image disk.old)
-        (D.image disk.new) engine.old.core.config.names (ArrivedFront end framer.old
-        (came_of found buf.now) engine.old.core.config (world_of (seen engine.old)) side now
+        (D.image disk.new) engine.old.core.config.names (Behind (past_of engine.old.journal.entries)
+        (ArrivedFront end framer.old (came_of found buf.now) engine.old.core.config
+        (past_of engine.old.journal.entries) (world_of (seen engine.old)) side now
         (records (C.recorded client.old) (V.recorded venue.old))
-        (records (C.recorded client.new) (V.recorded venue.new)))) }
+        (records (C.recorded client.new) (V.recorded venue.new))))) }
     ensures taps { Watched (state_by has_failed entries tally counts_all refused)
         taps.old.items taps.new.items engine.old.journal.entries
         engine.new.journal.entries }
@@ -309,6 +319,8 @@ pub(crate) fn turn<D: Disk, C: Wire, V: Wire>(
     requires drained { IsDrained side framer.old }
     requires room { length buf.old ≡ POLL_LEN }
     ensures config { engine.new.core.config ≡ engine.old.core.config }
+    ensures past { OnOk result
+        (past_of engine.new.journal.entries ≡ past_of engine.old.journal.entries) }
     ensures ready { OnOk result (Ready (seen engine.new) (D.bytes disk.new)
         (C.recorded client.new) (V.recorded venue.new)) }
     ensures drained { OnOk result (IsDrained side framer.new) }
@@ -320,10 +332,11 @@ pub(crate) fn turn<D: Disk, C: Wire, V: Wire>(
     ensures durable { OnOk result (HasOneImage (D.bytes disk.old) (D.image disk.old) →
         HasOneImage (D.bytes disk.new) (D.image disk.new)) }
     ensures ends { IfErr result (λ end. LeavesOf (D.bytes disk.old) (D.image disk.old)
-        (D.image disk.new) engine.old.core.config.names (TurnBroken end side
-        framer.old engine.old.core.config (world_of (seen engine.old)) now
+        (D.image disk.new) engine.old.core.config.names (Behind (past_of engine.old.journal.entries)
+        (TurnBroken end side framer.old engine.old.core.config
+        (past_of engine.old.journal.entries) (world_of (seen engine.old)) now
         (records (C.recorded client.old) (V.recorded venue.old))
-        (records (C.recorded client.new) (V.recorded venue.new)))) }
+        (records (C.recorded client.new) (V.recorded venue.new))))) }
     ensures taps { Watched (state_by has_failed entries tally counts_all refused)
         taps.old.items taps.new.items engine.old.journal.entries
         engine.new.journal.entries }

@@ -15,5 +15,5 @@ returns-clause-images g c =
 
 pub returns-clause-why : goal.returns-clause-why
 returns-clause-why g c =
-    commit_why c.args.journal.now _ c.args.prepared c.commit.result c.payload.ensures.sound
+    commit_why c.args.journal.now _ c.args.prepared c.commit.result c.entry.ensures.sound
     c.commit.ensures.commits

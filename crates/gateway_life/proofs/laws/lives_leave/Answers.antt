@@ -3,9 +3,9 @@ use Rattle.gateway_life.proofs.Leaving.{leaves_on, are_taken}
 use Rattle.gateway_life.proofs.laws.lives_leave.Goals as goal
 
 pub returns-clause-lives : goal.returns-clause-lives
-returns-clause-lives c = λ end config before entries client venue rounds did left follows.
-    leaves_on c.lives_begin.ensures c.lives_leave.ensures c.lives_that_fail_leave.ensures config
-    before entries client venue rounds did left end follows
+returns-clause-lives c = λ end config before days left client venue rounds did leaves follows.
+    leaves_on c.lives_begin.ensures c.days_leave.ensures c.lives_that_fail_leave.ensures config
+    before client venue leaves.ended leaves.present end rounds did days left follows
 
 pub returns-clause-taken : goal.returns-clause-taken
 returns-clause-taken c = are_taken c.lives_begin.ensures

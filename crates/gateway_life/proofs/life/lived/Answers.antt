@@ -6,7 +6,7 @@ use Rattle.gateway_life.proofs.Living.{unbegun_refused, refused_events}
 use Rattle.gateway_life.proofs.Polling.{durable_on}
 use Rattle.gateway_life.proofs.Telling.{told_err, ended_event}
 use Rattle.gateway_life.proofs.TapsShown.{taps_unbegun, taps_whole}
-use Rattle.gateway_life.proofs.Caused.{cause_unbegun, cause_whole}
+use Rattle.gateway_life.proofs.CausedWhole.{cause_unbegun, cause_whole}
 use Rattle.gateway_life.proofs.life.lived.Goals as goal
 
 pub returns-in_err-life-clause-ends : goal.returns-in_err-life-clause-ends

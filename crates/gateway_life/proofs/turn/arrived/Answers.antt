@@ -3,11 +3,12 @@ use Rattle.std.proofs.lemmas.List.{length-take}
 use Rattle.frame_grammar.specs.Held.{Held, room}
 use Rattle.event_decisions.specs.Event.{Opened, Closed}
 use Rattle.wires.specs.Wire.{came_of, came_by, Nothing}
+use Rattle.pair_journal.specs.Days.{past_of}
 use Rattle.gateway_life.specs.State.{seen}
 use Rattle.gateway_life.specs.Ready.{world_of}
 use Rattle.gateway_life.specs.Stepped.{records, Broken}
 use Rattle.gateway_life.specs.Turned.{ArrivedFront, TakenFront}
-use Rattle.gateway_life.proofs.Polling.{last_leaves, found_broken, found_closed, found_opened}
+use Rattle.gateway_life.proofs.Polling.{last_behind, found_broken, found_closed, found_opened}
 use Rattle.gateway_life.proofs.Polling.{part_broken, part_closed, part_opened, feed_all}
 use Rattle.gateway_life.proofs.Polling.{found_bytes}
 use Rattle.gateway_life.proofs.Polling.{part_bytes}
@@ -26,15 +27,16 @@ returns-in-Err-clause-arrived g c =
 pub returns-in-Err-clause-ends : goal.returns-in-Err-clause-ends
 returns-in-Err-clause-ends g c =
     let config = c.args.engine.now.core.config in
+    let past = past_of c.args.engine.now.journal.entries in
     let w = world_of (seen c.args.engine.now) in
     let r0 = records (g.C.Wire.recorded c.args.client.now) (g.V.Wire.recorded c.args.venue.now) in
     let r1 = records (g.C.Wire.recorded c.event.new.client) (g.V.Wire.recorded c.event.new.venue) in
     let came = came_of c.args.found c.args.buf.now in
-    last_leaves c.event.result _ (g.D.Disk.bytes c.args.disk.now) _ _ _ _ _
-    (λ end. Broken end config w (Closed c.args.side) c.args.now r0 r1)
-    (λ end. ArrivedFront end c.args.framer.now came config w c.args.side c.args.now r0 r1)
-    refl (λ one. one) refl
-    (λ end xs. part_broken config c.args.side c.args.framer.now w c.args.now r0 r1 came end xs
+    last_behind c.event.result _ (g.D.Disk.bytes c.args.disk.now) _ _ _ _ _ past past
+    (λ end. Broken end config past w (Closed c.args.side) c.args.now r0 r1)
+    (λ end. ArrivedFront end c.args.framer.now came config past w c.args.side c.args.now r0 r1)
+    refl (λ one. one) refl refl
+    (λ end xs. part_broken config c.args.side c.args.framer.now w c.args.now r0 r1 came end past xs
     (ap (λ f. came_of f c.args.buf.now) c.in-Err.is)) c.event.ensures.ends
 
 pub take_frames-requires-clause-stands : goal.take_frames-requires-clause-stands
@@ -69,6 +71,7 @@ returns-in-Opened-clause-arrived g c =
 pub returns-in-Opened-clause-ends : goal.returns-in-Opened-clause-ends
 returns-in-Opened-clause-ends g c =
     let config = c.args.engine.now.core.config in
+    let past = past_of c.args.engine.now.journal.entries in
     let w = world_of (seen c.args.engine.now) in
     let r0 = records (g.C.Wire.recorded c.args.client.now) (g.V.Wire.recorded c.args.venue.now) in
     let came = came_of c.args.found c.args.buf.now in
@@ -76,11 +79,11 @@ returns-in-Opened-clause-ends g c =
     ∙ ap (λ a. came_by a c.args.buf.now) c.in-Opened.is in
     let r1 = records (g.C.Wire.recorded c.event-in-Opened.new.client)
     (g.V.Wire.recorded c.event-in-Opened.new.venue) in
-    last_leaves c.event-in-Opened.result _ (g.D.Disk.bytes c.args.disk.now) _ _ _ _ _
-    (λ end. Broken end config w (Opened c.args.side) c.args.now r0 r1)
-    (λ end. ArrivedFront end c.args.framer.now came config w c.args.side c.args.now r0 r1)
-    refl (λ one. one) refl
-    (λ end xs. part_opened config c.args.side c.args.framer.now w c.args.now r0 r1 came end xs is)
+    last_behind c.event-in-Opened.result _ (g.D.Disk.bytes c.args.disk.now) _ _ _ _ _ past past
+    (λ end. Broken end config past w (Opened c.args.side) c.args.now r0 r1)
+    (λ end. ArrivedFront end c.args.framer.now came config past w c.args.side c.args.now r0 r1)
+    refl (λ one. one) refl refl
+    (λ end xs. part_opened config c.args.side c.args.framer.now w c.args.now r0 r1 came end past xs is)
     c.event-in-Opened.ensures.ends
 
 pub returns-in-Closed-clause-arrived : goal.returns-in-Closed-clause-arrived
@@ -98,6 +101,7 @@ returns-in-Closed-clause-arrived g c =
 pub returns-in-Closed-clause-ends : goal.returns-in-Closed-clause-ends
 returns-in-Closed-clause-ends g c =
     let config = c.args.engine.now.core.config in
+    let past = past_of c.args.engine.now.journal.entries in
     let w = world_of (seen c.args.engine.now) in
     let r0 = records (g.C.Wire.recorded c.args.client.now) (g.V.Wire.recorded c.args.venue.now) in
     let came = came_of c.args.found c.args.buf.now in
@@ -105,11 +109,11 @@ returns-in-Closed-clause-ends g c =
     ∙ ap (λ a. came_by a c.args.buf.now) c.in-Closed.is in
     let r1 = records (g.C.Wire.recorded c.event-in-Closed.new.client)
     (g.V.Wire.recorded c.event-in-Closed.new.venue) in
-    last_leaves c.event-in-Closed.result _ (g.D.Disk.bytes c.args.disk.now) _ _ _ _ _
-    (λ end. Broken end config w (Closed c.args.side) c.args.now r0 r1)
-    (λ end. ArrivedFront end c.args.framer.now came config w c.args.side c.args.now r0 r1)
-    refl (λ one. one) refl
-    (λ end xs. part_closed config c.args.side c.args.framer.now w c.args.now r0 r1 came end xs is)
+    last_behind c.event-in-Closed.result _ (g.D.Disk.bytes c.args.disk.now) _ _ _ _ _ past past
+    (λ end. Broken end config past w (Closed c.args.side) c.args.now r0 r1)
+    (λ end. ArrivedFront end c.args.framer.now came config past w c.args.side c.args.now r0 r1)
+    refl (λ one. one) refl refl
+    (λ end xs. part_closed config c.args.side c.args.framer.now w c.args.now r0 r1 came end past xs is)
     c.event-in-Closed.ensures.ends
 
 pub returns-in-Bytes-clause-arrived : goal.returns-in-Bytes-clause-arrived
@@ -140,6 +144,7 @@ returns-in-Bytes-clause-arrived g c =
 pub returns-in-Bytes-clause-ends : goal.returns-in-Bytes-clause-ends
 returns-in-Bytes-clause-ends g c =
     let config = c.args.engine.now.core.config in
+    let past = past_of c.args.engine.now.journal.entries in
     let w = world_of (seen c.args.engine.now) in
     let r0 = records (g.C.Wire.recorded c.args.client.now) (g.V.Wire.recorded c.args.venue.now) in
     let came = came_of c.args.found c.args.buf.now in
@@ -157,12 +162,12 @@ returns-in-Bytes-clause-ends g c =
     let kind = ap (λ (h : Held). h.kind) c.feed.ensures.same ∙ c.requires.drained.kind in
     let r1 = records (g.C.Wire.recorded c.take_frames.new.client)
     (g.V.Wire.recorded c.take_frames.new.venue) in
-    last_leaves c.take_frames.result _ (g.D.Disk.bytes c.args.disk.now) _ _ _ _ _
-    (λ end. TakenFront end c.feed.new.self config w c.args.side c.args.now r0 r1)
-    (λ end. ArrivedFront end c.args.framer.now came config w c.args.side c.args.now r0 r1)
-    refl (λ one. one) refl
+    last_behind c.take_frames.result _ (g.D.Disk.bytes c.args.disk.now) _ _ _ _ _ past past
+    (λ end. TakenFront end c.feed.new.self config past w c.args.side c.args.now r0 r1)
+    (λ end. ArrivedFront end c.args.framer.now came config past w c.args.side c.args.now r0 r1)
+    refl (λ one. one) refl refl
     (λ end xs. part_bytes config c.args.side c.args.framer.now c.feed.new.self w c.args.now r0 r1
-    came bytes is c.requires.drained.kind feed end xs kind) c.take_frames.ensures.ends
+    came bytes is c.requires.drained.kind feed end past xs kind) c.take_frames.ensures.ends
 
 pub returns-in-Nothing-clause-taps : goal.returns-in-Nothing-clause-taps
 returns-in-Nothing-clause-taps g c = watched_none _ c.args.taps.now.items

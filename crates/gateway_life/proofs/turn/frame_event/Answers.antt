@@ -1,10 +1,11 @@
 use Rattle.std.proofs.Common.{refl, ◌∙◌, sym}
+use Rattle.pair_journal.specs.Days.{past_of}
 use Rattle.gateway_life.specs.State.{seen}
 use Rattle.gateway_life.specs.Ready.{world_of}
 use Rattle.event_decisions.specs.Event.{Frame}
 use Rattle.gateway_life.specs.Stepped.{records, Broken, BrokenIf}
 use Rattle.gateway_life.proofs.Turning.{not_counted}
-use Rattle.gateway_life.proofs.Polling.{last_leaves}
+use Rattle.gateway_life.proofs.Polling.{last_behind}
 use Rattle.gateway_life.proofs.Watching.{watched_none}
 use Rattle.gateway_life.proofs.turn.frame_event.Goals as goal
 
@@ -16,13 +17,14 @@ returns-then-not-is_up-clause-happens g c = λ t.
 pub returns-clause-ends : goal.returns-clause-ends
 returns-clause-ends g c =
     let config = c.args.engine.now.core.config in
+    let past = past_of c.args.engine.now.journal.entries in
     let w = world_of (seen c.args.engine.now) in
     let r0 = records (g.C.Wire.recorded c.args.client.now) (g.V.Wire.recorded c.args.venue.now) in
     let r1 = records (g.C.Wire.recorded c.event.new.client) (g.V.Wire.recorded c.event.new.venue) in
-    last_leaves c.event.result _ (g.D.Disk.bytes c.args.disk.now) _ _ _ _ _
-    (λ end. Broken end config w (Frame c.args.side c.args.body.now) c.args.now r0 r1)
-    (λ end. BrokenIf end config w (Frame c.args.side c.args.body.now) c.args.now r0 r1)
-    refl (λ one. one) refl (λ end xs broken. record {
+    last_behind c.event.result _ (g.D.Disk.bytes c.args.disk.now) _ _ _ _ _ past past
+    (λ end. Broken end config past w (Frame c.args.side c.args.body.now) c.args.now r0 r1)
+    (λ end. BrokenIf end config past w (Frame c.args.side c.args.body.now) c.args.now r0 r1)
+    refl (λ one. one) refl refl (λ end xs broken. record {
       counted = sym c.is_up.ensures ∙ c.if-not-is_up.false;
       broken = broken;
     }) c.event.ensures.ends

@@ -4,13 +4,14 @@ use Rattle.frame_grammar.specs.Frame.{IsBody}
 use Rattle.frame_grammar.specs.Framer.{StandsFor}
 use Rattle.event_decisions.specs.Event.{Frame}
 use Rattle.gateway_config.specs.declared.config.Config.{Config}
+use Rattle.pair_journal.specs.Days.{past_of}
 use Rattle.gateway_life.specs.State.{seen}
-use Rattle.gateway_life.specs.Ready.{world_of}
+use Rattle.gateway_life.specs.Ready.{world_of, Behind}
 use Rattle.gateway_life.specs.Stepped.{records, SteppedOrNot, BrokenIf}
 use Rattle.gateway_life.specs.Turned.{TakenFront}
 use Rattle.gateway_life.proofs.Cutting.{framed}
 use Rattle.gateway_life.proofs.Turning.{taken_none, taken_more, taken_same, taken_all, taken_part}
-use Rattle.gateway_life.proofs.Polling.{err_leaves}
+use Rattle.gateway_life.proofs.Polling.{err_behind}
 use Rattle.gateway_life.proofs.Telling.{err_told}
 use Rattle.gateway_life.proofs.Watching.{watched_none, watched_append, kept_err}
 use Rattle.gateway_life.proofs.turn.take_frames.Goals as goal
@@ -18,6 +19,7 @@ use Rattle.gateway_life.proofs.turn.take_frames.Goals as goal
 pub frames-init : goal.frames-init
 frames-init g c = record {
   config = refl;
+  past = refl;
   ready = c.requires.ready;
   kind = refl;
   stands = c.requires.stands;
@@ -49,6 +51,7 @@ frames-preserved-in-Garbled g c =
     let here = c.in-Garbled.ensures.answers s.0 s.1 s.2 in
     record {
       config = inv.config;
+      past = inv.past;
       ready = inv.ready;
       kind = c.next.ensures.kind ∙ inv.kind;
       stands = (s.0, s.1 ++ Bad c.in-Garbled.cause here.0 ∷ [], here.1);
@@ -80,6 +83,7 @@ frames-preserved g c =
     let dealt = c.in_ok-frame_event-in-Frame.ensures in
     record {
       config = dealt.config ∙ inv.config;
+      past = dealt.past ∙ inv.past;
       ready = dealt.ready;
       kind = c.next.ensures.kind ∙ inv.kind;
       stands = (s.0, s.1 ++ Good here.0 here.1 ∷ [], here.2);
@@ -113,6 +117,8 @@ returns-in_err-frame_event-in-Frame-clause-ends g c =
     let inv = c.frames.invariant in
     let config = c.args.engine.now.core.config in
     let config' = c.frames.engine.core.config in
+    let past = past_of c.args.engine.now.journal.entries in
+    let past' = past_of c.frames.engine.journal.entries in
     let error = c.in_err-frame_event-in-Frame.field-0.0 in
     let body = c.part.result.now in
     let w = world_of (seen c.args.engine.now) in
@@ -122,12 +128,13 @@ returns-in_err-frame_event-in-Frame-clause-ends g c =
     let r2 = records (g.C.Wire.recorded c.frame_event.new.client)
     (g.V.Wire.recorded c.frame_event.new.venue) in
     err_told c.from_residual.result (g.D.Disk.bytes c.args.disk.now) _ _ config.names
-    (λ end. TakenFront end c.args.framer.now config w c.args.side c.args.now r0 r2) (λ t.
-    err_leaves c.from_residual.result error _ _ _ _ _ _ _
-    (BrokenIf error config' m (Frame c.args.side body) c.args.now r1 r2)
-    (λ end. TakenFront end c.args.framer.now config w c.args.side c.args.now r0 r2)
+    (λ end. Behind past (TakenFront end c.args.framer.now config past w c.args.side c.args.now r0
+    r2)) (λ t.
+    err_behind c.from_residual.result error _ _ _ _ _ _ _ past past'
+    (BrokenIf error config' past' m (Frame c.args.side body) c.args.now r1 r2)
+    (λ end. TakenFront end c.args.framer.now config past w c.args.side c.args.now r0 r2)
     c.from_residual.ensures.1 inv.told inv.durable (ap (λ (k : Config). k.names) inv.config)
-    (λ xs broken. taken_part config error c.args.framer.now c.frames.framer c.next.new.self w m
+    inv.past (λ xs broken. taken_part config error past c.args.framer.now c.frames.framer c.next.new.self w m
     c.args.side body c.args.now r0 r1 r2 xs (inv.taken t)
     (λ stream answered stands.
     let found = c.in-Frame.ensures.answers stream answered stands in (
@@ -135,8 +142,9 @@ returns-in_err-frame_event-in-Frame-clause-ends g c =
       subst (λ b. StandsFor c.next.new.self stream (answered ++ Good b found.1 ∷ []))
           (sym (c.part.ensures ∙ found.5)) found.2,
     )) (c.next.ensures.kind ∙ inv.kind)
-    (subst (λ (k : Config). BrokenIf error k m (Frame c.args.side body) c.args.now r1 r2 xs)
-    inv.config broken)) c.in_err-frame_event-in-Frame.ensures.ends)
+    (subst (λ (k : Config). BrokenIf error k past m (Frame c.args.side body) c.args.now r1 r2 xs)
+    inv.config (subst (λ l. BrokenIf error config' l m (Frame c.args.side body) c.args.now r1 r2
+    xs) inv.past broken))) c.in_err-frame_event-in-Frame.ensures.ends)
 
 pub returns-in_err-frame_event-in-Frame-clause-taps :
     goal.returns-in_err-frame_event-in-Frame-clause-taps

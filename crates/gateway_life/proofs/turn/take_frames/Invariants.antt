@@ -5,6 +5,7 @@ use Rattle.wires.specs.Told.{Keeps}
 use Rattle.frame_grammar.specs.Cut.{Piece}
 use Rattle.frame_grammar.specs.Framer.{StandsFor}
 use Rattle.frame_grammar.specs.Held.{pending}
+use Rattle.pair_journal.specs.Days.{past_of}
 use Rattle.gateway_life.specs.State.{seen}
 use Rattle.gateway_life.specs.Ready.{Ready, world_of}
 use Rattle.gateway_life.specs.Stepped.{records}
@@ -19,6 +20,7 @@ decreases-frames g l = pending l.framer
 abbrev pub invariant-frames : goal.invariant-frames
 invariant-frames g l = record {
   config : l.engine.core.config ≡ l.initial.engine.core.config;
+  past : past_of l.engine.journal.entries ≡ past_of l.initial.engine.journal.entries;
   ready : Ready (seen l.engine) (g.D.Disk.bytes l.disk) (g.C.Wire.recorded l.client)
       (g.V.Wire.recorded l.venue);
   kind : l.framer.kind ≡ l.initial.framer.kind;

@@ -3,12 +3,13 @@ use Rattle.event_decisions.specs.Event.{Tick}
 use Rattle.gateway_config.specs.declared.config.Config.{Config}
 use Rattle.gateway_core.specs.State.{CoreState}
 use Rattle.wires.specs.Wire.{came_of}
+use Rattle.pair_journal.specs.Days.{past_of}
 use Rattle.gateway_life.specs.State.{seen}
-use Rattle.gateway_life.specs.Ready.{world_of, IfTold}
+use Rattle.gateway_life.specs.Ready.{world_of, IfTold, Behind}
 use Rattle.gateway_life.proofs.Telling.{err_told, error_event, same_event}
 use Rattle.gateway_life.specs.Stepped.{records, Stepped, Broken}
 use Rattle.gateway_life.specs.Turned.{Arrived, ArrivedFront, Turned, TurnBroken}
-use Rattle.gateway_life.proofs.Polling.{err_leaves, last_leaves, ok_map, turned}
+use Rattle.gateway_life.proofs.Polling.{err_behind, last_behind, ok_map, turned}
 use Rattle.gateway_life.proofs.Polling.{turn_part, durable_on}
 use Rattle.pair_journal.specs.State.{JournalState}
 use Rattle.gateway_life.proofs.Polling.{turn_tick}
@@ -32,15 +33,19 @@ returns-in_err-arrived-clause-ends g c =
     let r2 = records (g.C.Wire.recorded c.arrived.new.client)
     (g.V.Wire.recorded c.arrived.new.venue) in
     let error = c.in_err-arrived.field-0.0 in
-    err_leaves c.from_residual.result error _ (g.D.Disk.bytes c.args.disk.now) _ _ _ _ _
-    (ArrivedFront error c.args.framer.now came poll.new.engine.core.config polled side
+    let past = past_of c.args.engine.now.journal.entries in
+    let past' = past_of poll.new.engine.journal.entries in
+    let day = ap (λ (j : JournalState). past_of j.entries) same.0 in
+    err_behind c.from_residual.result error _ (g.D.Disk.bytes c.args.disk.now) _ _ _ _ _ past past'
+    (ArrivedFront error c.args.framer.now came poll.new.engine.core.config past' polled side
     c.args.now r1 r2)
-    (λ end. TurnBroken end side c.args.framer.now config w c.args.now r0 r2)
-    c.from_residual.ensures.1 refl (λ one. one) (ap (λ (k : Config). k.names) at)
+    (λ end. TurnBroken end side c.args.framer.now config past w c.args.now r0 r2)
+    c.from_residual.ensures.1 refl (λ one. one) (ap (λ (k : Config). k.names) at) day
     (λ xs part. turn_part config side came w polled c.args.now r0 r1 poll.ensures.may
-    grew is error c.args.framer.now r2 xs
-    (subst (λ (k : Config). ArrivedFront error c.args.framer.now came k polled side c.args.now r1
-    r2 xs) at part)) c.in_err-arrived.ensures.ends
+    grew is error past c.args.framer.now r2 xs
+    (subst (λ (k : Config). ArrivedFront error c.args.framer.now came k past polled side c.args.now
+    r1 r2 xs) at (subst (λ l. ArrivedFront error c.args.framer.now came poll.new.engine.core.config
+    l polled side c.args.now r1 r2 xs) day part))) c.in_err-arrived.ensures.ends
 
 pub returns-clause-turn : goal.returns-clause-turn
 returns-clause-turn g c =
@@ -91,20 +96,32 @@ returns-clause-ends g c =
     let r2 = records (g.C.Wire.recorded c.arrived.new.client)
     (g.V.Wire.recorded c.arrived.new.venue) in
     let r3 = records (g.C.Wire.recorded c.tick.new.client) (g.V.Wire.recorded c.tick.new.venue) in
+    let past = past_of c.args.engine.now.journal.entries in
+    let past' = past_of c.arrived.new.engine.journal.entries in
+    let day = c.in_ok-arrived.ensures.past
+    ∙ ap (λ (j : JournalState). past_of j.entries) same.0 in
     err_told c.tick.result (g.D.Disk.bytes c.args.disk.now) _ _ config.names
-    (λ end. TurnBroken end side c.args.framer.now config w c.args.now r0 r3) (λ t.
+    (λ end. Behind past (TurnBroken end side c.args.framer.now config past w c.args.now r0 r3)) (λ t.
     let found = subst (λ (k : Config). Arrived c.args.framer.now c.arrived.new.framer came k polled
     side c.args.now x r1 r2) at (c.in_ok-arrived.ensures.arrived t) in
-    last_leaves c.tick.result (g.D.Disk.bytes c.args.disk.now) (g.D.Disk.bytes c.arrived.new.disk)
-    _ _ _ _ _
-    (λ end. Broken end c.arrived.new.engine.core.config x (Tick side) c.args.now r2 r3)
-    (λ end. TurnBroken end side c.args.framer.now config w c.args.now r0 r3)
+    last_behind c.tick.result (g.D.Disk.bytes c.args.disk.now) (g.D.Disk.bytes c.arrived.new.disk)
+    _ _ _ _ _ past past'
+    (λ end. Broken end c.arrived.new.engine.core.config past' x (Tick side) c.args.now r2 r3)
+    (λ end. TurnBroken end side c.args.framer.now config past w c.args.now r0 r3)
     c.arrived.ensures.told c.in_ok-arrived.ensures.durable
-    (ap (λ (k : Config). k.names) (c.arrived.ensures.config ∙ at))
+    (ap (λ (k : Config). k.names) (c.arrived.ensures.config ∙ at)) day
     (λ end xs broken. turn_tick config side came w polled c.args.now r0 r1
-    poll.ensures.may grew is end c.args.framer.now c.arrived.new.framer x r2 r3 xs found
-    (subst (λ (k : Config). Broken end k x (Tick side) c.args.now r2 r3 xs)
-    (c.arrived.ensures.config ∙ at) broken)) c.tick.ensures.ends)
+    poll.ensures.may grew is end past c.args.framer.now c.arrived.new.framer x r2 r3 xs found
+    (subst (λ (k : Config). Broken end k past x (Tick side) c.args.now r2 r3 xs)
+    (c.arrived.ensures.config ∙ at)
+    (subst (λ l. Broken end c.arrived.new.engine.core.config l x (Tick side) c.args.now r2 r3 xs)
+    day broken))) c.tick.ensures.ends)
+
+pub returns-clause-past : goal.returns-clause-past
+returns-clause-past g c =
+    ok_map c.tick.result _ _ (λ same. same ∙ c.in_ok-arrived.ensures.past
+    ∙ ap (λ (j : JournalState). past_of j.entries) c.poll-found.ensures.same.0)
+    c.tick.ensures.past
 
 pub returns-in_err-arrived-clause-only : goal.returns-in_err-arrived-clause-only
 returns-in_err-arrived-clause-only g c =

@@ -2,6 +2,7 @@ use Rattle.std.proofs.Common.{subst, ap, refl, ◌∙◌}
 use Rattle.gateway_core.specs.State.{sessions_in}
 use Rattle.std.specs.Prelude.{map, is_some}
 use Rattle.order_meaning.specs.declared.Side.TheVariants.{Client, Venue}
+use Rattle.pair_journal.specs.Days.{last_day}
 use Rattle.event_decisions.specs.Event.{event_of}
 use Rattle.life_laws.specs.Forms.{form_frame}
 use Rattle.life_laws.specs.Repeats.{repeated_to}
@@ -18,7 +19,7 @@ pub returns-in_err-client_up-clause-client_part : goal.returns-in_err-client_up-
 returns-in_err-client_up-clause-client_part g c =
     on_err_told c.from_residual.result (g.D.Disk.bytes c.args.disk.now) _
     (λ t. part_front _ _ _ (form_frame c.args.names.now Client)
-    (repeated_to Client c.args.self.now.journal.entries c.args.now
+    (repeated_to Client (last_day c.args.self.now.journal.entries) c.args.now
     (repeat_in c.args.made.now.resend))
     (firsts_to Client (event_of c.args.event.now) (made_of c.args.made.now c.args.self.now.core))
     (some_told (g.D.Disk.bytes c.args.disk.now) _ c.in_err-client_up.ensures.part t))
@@ -31,7 +32,7 @@ pub returns-in_err-venue_up-clause-client_part : goal.returns-in_err-venue_up-cl
 returns-in_err-venue_up-clause-client_part g c =
     on_err_told c.from_residual-in_err-venue_up.result (g.D.Disk.bytes c.args.disk.now) _
     (λ t. part_whole _ _ _ _ (form_frame c.args.names.now Client)
-    (repeated_to Client c.args.self.now.journal.entries c.args.now
+    (repeated_to Client (last_day c.args.self.now.journal.entries) c.args.now
     (repeat_in c.args.made.now.resend))
     (firsts_to Client (event_of c.args.event.now) (made_of c.args.made.now c.args.self.now.core))
     (some_told (g.D.Disk.bytes c.args.disk.now) _ c.in_ok-client_up.ensures.sent t))
@@ -40,7 +41,7 @@ pub returns-in_err-venue_up-clause-venue_part : goal.returns-in_err-venue_up-cla
 returns-in_err-venue_up-clause-venue_part g c =
     on_err_told c.from_residual-in_err-venue_up.result (g.D.Disk.bytes c.args.disk.now) _
     (λ t. part_front _ _ _ (form_frame c.args.names.now Venue)
-    (repeated_to Venue c.args.self.now.journal.entries c.args.now
+    (repeated_to Venue (last_day c.args.self.now.journal.entries) c.args.now
     (repeat_in c.args.made.now.resend))
     (firsts_to Venue (event_of c.args.event.now) (made_of c.args.made.now c.args.self.now.core))
     (some_told (g.D.Disk.bytes c.repeat_on.new.disk) _ c.in_err-venue_up.ensures.part
@@ -49,7 +50,7 @@ returns-in_err-venue_up-clause-venue_part g c =
 pub returns-clause-client_acts : goal.returns-clause-client_acts
 returns-clause-client_acts g c = λ t.
     acted _ _ _ _ _ _ _ _ _ (form_frame c.args.names.now Client)
-    (repeated_to Client c.args.self.now.journal.entries c.args.now
+    (repeated_to Client (last_day c.args.self.now.journal.entries) c.args.now
     (repeat_in c.args.made.now.resend))
     (firsts_to Client (event_of c.args.event.now) (made_of c.args.made.now c.args.self.now.core))
     (some_told (g.D.Disk.bytes c.args.disk.now) _ c.in_ok-client_up.ensures.sent t)
@@ -63,7 +64,7 @@ returns-clause-client_acts g c = λ t.
 pub returns-clause-venue_acts : goal.returns-clause-venue_acts
 returns-clause-venue_acts g c = λ t.
     acted _ _ _ _ _ _ _ _ _ (form_frame c.args.names.now Venue)
-    (repeated_to Venue c.args.self.now.journal.entries c.args.now
+    (repeated_to Venue (last_day c.args.self.now.journal.entries) c.args.now
     (repeat_in c.args.made.now.resend))
     (firsts_to Venue (event_of c.args.event.now) (made_of c.args.made.now c.args.self.now.core))
     (some_told (g.D.Disk.bytes c.repeat_on.new.disk) _ c.in_ok-venue_up.ensures.sent

@@ -1,15 +1,18 @@
-use Rattle.std.proofs.Common.{◌∙◌, ◌++◌, ap, sym, refl, subst}
+use Rattle.std.proofs.Common.{◌≡◌, ◌∙◌, ◌++◌, ap, sym, refl, subst}
 use Rattle.std.specs.Prelude.{IfSome}
 use Rattle.std.specs.Option.{option_to_list}
 use Rattle.event_decisions.specs.Event.{event_of}
 use Rattle.gateway_core.specs.State.{sessions_in, decision_of}
-use Rattle.pair_journal.specs.Numbers.{numbers_after, first_numbers, GoesOn}
+use Rattle.pair_journal.specs.Days.{last_day, past_of}
+use Rattle.pair_journal.specs.Numbers.{numbers_after, numbers_before, first_numbers, GoesOn}
+use Rattle.pair_journal.proofs.Dating.{last_is_sound, last_numbers, past-last}
 use Rattle.pair_entries.specs.Payload.{IsEntry}
 use Rattle.pair_journal.specs.State.{JournalState}
 use Rattle.gateway_life.specs.State.{seen}
 use Rattle.gateway_life.specs.Ready.{world_of}
 use Rattle.wire_sends.specs.Sent.{AreSendable}
 use Rattle.wire_sends.specs.Again.{IsGiven}
+use Rattle.gateway_life.proofs.Today.{goes_today, sound_more, today_more, past_same}
 use Rattle.gateway_life.proofs.Deciding.{goes_by, continues_by, entry_sendable, given_more}
 use Rattle.gateway_life.proofs.Deciding.{stand_of, alone_left, ready_decided, refused_left}
 use Rattle.gateway_life.proofs.Deciding.{refused_why, undone, world_same}
@@ -17,74 +20,117 @@ use Rattle.gateway_life.proofs.engine.Engine.decide.Goals as goal
 
 pub commit-requires-clause-goes_on : goal.commit-requires-clause-goes_on
 commit-requires-clause-goes_on g c =
-    let xs = c.args.self.now.journal.entries in
+    let all = c.args.self.now.journal.entries in
     let core = c.args.self.now.core in
+    let ready = c.requires.ready in
     let same = ap (λ (j : JournalState). j.entries) c.in_ok-reserve.ensures.ok in
-    let decides = c.in_ok-plan.ensures.plans xs
-    (stand_of core xs c.reserve.new.self.entries c.requires.ready.chains same) in
-    let goes = goes_by c.decisions_continue.ensures core xs (event_of c.args.event.now) c.args.now
-    c.in_ok-plan.plan c.requires.ready.sides c.requires.ready.numbers decides in
-    subst (λ l. IfSome c.in_ok-plan.plan.entry (GoesOn (numbers_after first_numbers l))) (sym same)
-    goes.goes_on
+    let decides = c.in_ok-plan.ensures.plans (last_day all) (stand_of core (last_day all)
+    (last_day c.reserve.new.self.entries) ready.chains (ap last_day same)) in
+    let goes = goes_by c.decisions_continue.ensures core (last_day all)
+    (event_of c.args.event.now) c.args.now c.in_ok-plan.plan ready.sides
+    (ready.numbers ∙ sym (last_numbers all ready.sound)) decides in
+    subst (λ l. IfSome c.in_ok-plan.plan.entry (λ e. GoesOn (numbers_before
+    (numbers_after first_numbers (last_day l)) e) e)) (sym same)
+    (goes_today all c.in_ok-plan.plan.entry goes.same_day goes.goes_on)
 
 pub returns-in_err-hold-clause-images : goal.returns-in_err-hold-clause-images
 returns-in_err-hold-clause-images g c =
+    let all = c.args.self.now.journal.entries in
     alone_left c.from_residual-in_err-hold.result (g.D.Disk.bytes c.args.disk.now) _
     c.args.self.now.journal.names c.args.self.now.core.config.names c.args.self.now.core.config
-    (world_of (seen c.args.self.now)) (event_of c.args.event.now) c.args.now c.requires.ready.names
-    c.requires.ready.stands
+    (past_of all) (world_of (seen c.args.self.now)) all (event_of c.args.event.now) c.args.now
+    c.requires.ready.names (past-last all c.requires.ready.sound) c.requires.ready.stands
+
+pub returns-in-Ok-clause-today : goal.returns-in-Ok-clause-today
+returns-in-Ok-clause-today g c =
+    let all = c.args.self.now.journal.entries in
+    let core = c.args.self.now.core in
+    let plan = c.in_ok-plan.plan in
+    let ready = c.requires.ready in
+    let same = ap (λ (j : JournalState). j.entries) c.in_ok-reserve.ensures.ok in
+    let decides = c.in_ok-plan.ensures.plans (last_day all) (stand_of core (last_day all)
+    (last_day c.reserve.new.self.entries) ready.chains (ap last_day same)) in
+    let goes = goes_by c.decisions_continue.ensures core (last_day all)
+    (event_of c.args.event.now) c.args.now plan ready.sides
+    (ready.numbers ∙ sym (last_numbers all ready.sound)) decides in
+    let more = c.in-Ok.ensures.entries ∙ ap (λ l. l ++ option_to_list plan.entry) same in
+    ap last_day more ∙ today_more all plan.entry goes.same_day
+    ∙ ap (λ o. last_day all ++ option_to_list o) (sym c.in-Ok.ensures.entry)
+
+pub returns-in-Ok-clause-past : goal.returns-in-Ok-clause-past
+returns-in-Ok-clause-past g c =
+    let all = c.args.self.now.journal.entries in
+    let core = c.args.self.now.core in
+    let plan = c.in_ok-plan.plan in
+    let ready = c.requires.ready in
+    let same = ap (λ (j : JournalState). j.entries) c.in_ok-reserve.ensures.ok in
+    let decides = c.in_ok-plan.ensures.plans (last_day all) (stand_of core (last_day all)
+    (last_day c.reserve.new.self.entries) ready.chains (ap last_day same)) in
+    let goes = goes_by c.decisions_continue.ensures core (last_day all)
+    (event_of c.args.event.now) c.args.now plan ready.sides
+    (ready.numbers ∙ sym (last_numbers all ready.sound)) decides in
+    let bounds = subst (λ e. IfSome e IsEntry) c.in-Ok.ensures.entry c.in-Ok.ensures.bounds in
+    let more = c.in-Ok.ensures.entries ∙ ap (λ l. l ++ option_to_list plan.entry) same in
+    ap past_of more ∙ past_same all plan.entry ready.sound
+    (sound_more all plan.entry ready.sound bounds goes.same_day goes.goes_on) goes.same_day
 
 pub returns-in-Ok-clause-ready : goal.returns-in-Ok-clause-ready
 returns-in-Ok-clause-ready g c =
     let old = c.args.self.now in
+    let all = old.journal.entries in
     let plan = c.in_ok-plan.plan in
-    let xs = old.journal.entries in
+    let ready = c.requires.ready in
     let same = ap (λ (j : JournalState). j.entries) c.in_ok-reserve.ensures.ok in
     let names = ap (λ (j : JournalState). j.names) c.in_ok-reserve.ensures.ok in
-    let stand = stand_of old.core xs c.reserve.new.self.entries c.requires.ready.chains same in
-    let decides = c.in_ok-plan.ensures.plans xs stand in
-    let goes = goes_by c.decisions_continue.ensures old.core xs (event_of c.args.event.now)
-    c.args.now plan c.requires.ready.sides c.requires.ready.numbers decides in
+    let stand = stand_of old.core (last_day all) (last_day c.reserve.new.self.entries)
+    ready.chains (ap last_day same) in
+    let decides = c.in_ok-plan.ensures.plans (last_day all) stand in
+    let goes = goes_by c.decisions_continue.ensures old.core (last_day all)
+    (event_of c.args.event.now) c.args.now plan ready.sides
+    (ready.numbers ∙ sym (last_numbers all ready.sound)) decides in
     let bounds = subst (λ e. IfSome e IsEntry) c.in-Ok.ensures.entry c.in-Ok.ensures.bounds in
     let more = c.in-Ok.ensures.entries ∙ ap (λ l. l ++ option_to_list plan.entry) same in
     ready_decided (seen old) (g.D.Disk.bytes c.args.disk.now) (g.D.Disk.bytes c.commit.new.disk)
     c.commit.new.journal c.hold.new.self c.apply.new.self plan old.client_up old.venue_up
-    c.requires.ready (c.commit.ensures.names ∙ names) c.in-Ok.ensures.whole more bounds goes
-    c.in_ok-hold.ensures.ok c.apply.ensures (c.in_ok-plan.ensures.grows xs stand)
+    ready (c.commit.ensures.names ∙ names) c.in-Ok.ensures.whole more bounds goes
+    c.in_ok-hold.ensures.ok c.apply.ensures (c.in_ok-plan.ensures.grows (last_day all) stand)
     c.in-Ok.ensures.stands
 
 pub returns-in-Ok-clause-sendable : goal.returns-in-Ok-clause-sendable
 returns-in-Ok-clause-sendable g c =
-    let old = c.args.self.now in
+    let all = c.args.self.now.journal.entries in
+    let core = c.args.self.now.core in
     let plan = c.in_ok-plan.plan in
-    let xs = old.journal.entries in
+    let ready = c.requires.ready in
     let same = ap (λ (j : JournalState). j.entries) c.in_ok-reserve.ensures.ok in
-    let names = ap (λ (j : JournalState). j.names) c.in_ok-reserve.ensures.ok in
-    let stand = stand_of old.core xs c.reserve.new.self.entries c.requires.ready.chains same in
-    let decides = c.in_ok-plan.ensures.plans xs stand in
-    let goes = goes_by c.decisions_continue.ensures old.core xs (event_of c.args.event.now)
-    c.args.now plan c.requires.ready.sides c.requires.ready.numbers decides in
+    let decides = c.in_ok-plan.ensures.plans (last_day all) (stand_of core (last_day all)
+    (last_day c.reserve.new.self.entries) ready.chains (ap last_day same)) in
+    let goes = goes_by c.decisions_continue.ensures core (last_day all)
+    (event_of c.args.event.now) c.args.now plan ready.sides
+    (ready.numbers ∙ sym (last_numbers all ready.sound)) decides in
     let bounds = subst (λ e. IfSome e IsEntry) c.in-Ok.ensures.entry c.in-Ok.ensures.bounds in
     subst (λ e. IfSome e (λ x. AreSendable x.outs)) (sym c.in-Ok.ensures.entry)
-    (entry_sendable xs plan.entry c.requires.ready.sound bounds goes.goes_on)
+    (entry_sendable (last_day all) plan.entry (last_is_sound all ready.sound) bounds goes.goes_on)
 
 pub returns-in-Ok-clause-given : goal.returns-in-Ok-clause-given
 returns-in-Ok-clause-given g c =
-    let old = c.args.self.now in
+    let all = c.args.self.now.journal.entries in
+    let core = c.args.self.now.core in
     let plan = c.in_ok-plan.plan in
-    let xs = old.journal.entries in
+    let ready = c.requires.ready in
     let same = ap (λ (j : JournalState). j.entries) c.in_ok-reserve.ensures.ok in
-    let names = ap (λ (j : JournalState). j.names) c.in_ok-reserve.ensures.ok in
-    let stand = stand_of old.core xs c.reserve.new.self.entries c.requires.ready.chains same in
-    let decides = c.in_ok-plan.ensures.plans xs stand in
-    let goes = goes_by c.decisions_continue.ensures old.core xs (event_of c.args.event.now)
-    c.args.now plan c.requires.ready.sides c.requires.ready.numbers decides in
+    let numbers = ready.numbers ∙ sym (last_numbers all ready.sound) in
+    let decides = c.in_ok-plan.ensures.plans (last_day all) (stand_of core (last_day all)
+    (last_day c.reserve.new.self.entries) ready.chains (ap last_day same)) in
+    let goes = goes_by c.decisions_continue.ensures core (last_day all)
+    (event_of c.args.event.now) c.args.now plan ready.sides numbers decides in
     let more = c.in-Ok.ensures.entries ∙ ap (λ l. l ++ option_to_list plan.entry) same in
-    subst (λ l. IsGiven l plan.resend) (sym more)
-    (given_more xs (sessions_in old.core) (event_of c.args.event.now) (decision_of plan) plan.resend
-    (continues_by c.decisions_continue.ensures old.core xs (event_of c.args.event.now) c.args.now
-    plan c.requires.ready.sides decides) refl c.requires.ready.numbers c.requires.ready.sound
-    goes.goes_on)
+    subst (λ l. IsGiven l plan.resend)
+    (sym (ap last_day more ∙ today_more all plan.entry goes.same_day))
+    (given_more (last_day all) (sessions_in core) (event_of c.args.event.now) (decision_of plan)
+    plan.resend (continues_by c.decisions_continue.ensures core (last_day all)
+    (event_of c.args.event.now) c.args.now plan ready.sides decides) refl numbers
+    (last_is_sound all ready.sound) goes.goes_on)
 
 pub returns-in-Err-clause-refused : goal.returns-in-Err-clause-refused
 returns-in-Err-clause-refused g c =
@@ -99,31 +145,35 @@ returns-in-Err-clause-refused g c =
         venue_up = old.venue_up;
       }) (c.in-Err.ensures.refused ∙ same) back.0 refl refl,
       back.1,
+      c.in-Err.ensures.refused ∙ same,
     )
 
 pub returns-in-Err-clause-images : goal.returns-in-Err-clause-images
 returns-in-Err-clause-images g c =
     let old = c.args.self.now in
+    let all = old.journal.entries in
     let plan = c.in_ok-plan.plan in
-    let xs = old.journal.entries in
+    let ready = c.requires.ready in
     let same = ap (λ (j : JournalState). j.entries) c.in_ok-reserve.ensures.ok in
     let names = ap (λ (j : JournalState). j.names) c.in_ok-reserve.ensures.ok in
-    let stand = stand_of old.core xs c.reserve.new.self.entries c.requires.ready.chains same in
-    let decides = c.in_ok-plan.ensures.plans xs stand in
+    let decides = c.in_ok-plan.ensures.plans (last_day all) (stand_of old.core (last_day all)
+    (last_day c.reserve.new.self.entries) ready.chains (ap last_day same)) in
     refused_left (g.D.Disk.bytes c.args.disk.now) _ _ c.reserve.new.self.names
-    old.core.config.names c.in-Err.error c.into.result old.core.config (world_of (seen old))
-    (event_of c.args.event.now) c.args.now (decision_of plan) c.reserve.new.self.entries
-    c.into.ensures (names ∙ c.requires.ready.names) same decides c.in-Err.ensures.images
+    old.core.config.names c.in-Err.error c.into.result old.core.config (past_of all)
+    (world_of (seen old)) (event_of c.args.event.now) c.args.now (decision_of plan)
+    c.reserve.new.self.entries c.into.ensures (names ∙ ready.names)
+    (past-last all ready.sound ∙ sym same) decides c.in-Err.ensures.images
 
 pub returns-in-Err-clause-why : goal.returns-in-Err-clause-why
 returns-in-Err-clause-why g c =
     let old = c.args.self.now in
+    let all = old.journal.entries in
     let plan = c.in_ok-plan.plan in
-    let xs = old.journal.entries in
+    let ready = c.requires.ready in
     let same = ap (λ (j : JournalState). j.entries) c.in_ok-reserve.ensures.ok in
     let names = ap (λ (j : JournalState). j.names) c.in_ok-reserve.ensures.ok in
-    let stand = stand_of old.core xs c.reserve.new.self.entries c.requires.ready.chains same in
-    let decides = c.in_ok-plan.ensures.plans xs stand in
-    refused_why c.in-Err.error c.into.result old.core.config (world_of (seen old))
+    let decides = c.in_ok-plan.ensures.plans (last_day all) (stand_of old.core (last_day all)
+    (last_day c.reserve.new.self.entries) ready.chains (ap last_day same)) in
+    refused_why c.in-Err.error c.into.result old.core.config (past_of all) (world_of (seen old))
     (event_of c.args.event.now) c.args.now (decision_of plan) c.reserve.new.self c.into.ensures
-    (names ∙ c.requires.ready.names) same decides c.in-Err.ensures.why
+    (names ∙ ready.names) (same ∙ sym (past-last all ready.sound)) decides c.in-Err.ensures.why

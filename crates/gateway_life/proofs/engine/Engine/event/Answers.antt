@@ -1,10 +1,11 @@
-use Rattle.std.proofs.Common.{◌∙◌, ap, Err}
+use Rattle.std.proofs.Common.{◌∙◌, ◌++◌, ap, sym, Err}
 use Rattle.std.specs.Option.{option_to_list}
+use Rattle.pair_journal.specs.Days.{last_day, past_of}
+use Rattle.pair_journal.proofs.Dating.{past-last}
 use Rattle.event_decisions.specs.Event.{event_of}
 use Rattle.pair_journal.specs.State.{JournalState}
-use Rattle.life_laws.specs.Happens.{World}
 use Rattle.gateway_life.specs.State.{seen}
-use Rattle.gateway_life.specs.Ready.{world_of, made_of}
+use Rattle.gateway_life.specs.Ready.{world_of, made_of, Behind}
 use Rattle.gateway_life.specs.Stepped.{records, Broken}
 use Rattle.gateway_life.proofs.Telling.{err_told, only_fault, act_event, made_event, same_event}
 use Rattle.gateway_life.proofs.Acting.{stepped, broken_parts, made_ends}
@@ -21,16 +22,17 @@ returns-clause-happens g c = λ t.
     stepped c.args.self.now.core.config (world_of (seen c.args.self.now))
     (world_of (seen c.act.new.self)) (event_of c.args.event.now) c.args.now
     (made_of c.in_ok-made.made c.decide.new.self.core) c.names-names.result
-    c.decide.new.self.journal.entries _ _ _ _ _ _
+    (last_day c.decide.new.self.journal.entries) _ _ _ _ _ _
     (c.names-names.ensures.names ∙ made.ready.names ∙ ap (λ k. k.names) made.config)
-    made.up.0 made.up.1 made.entries
-    (ap (λ (j : JournalState). j.entries) acts.journal) made.decides acts.sessions
+    made.up.0 made.up.1 made.today
+    (ap (λ (j : JournalState). last_day j.entries) acts.journal) made.decides acts.sessions
     (acts.client_acts (made.told ∙ t)) (acts.venue_acts (made.told ∙ t))
 
 pub returns-in_err-made-clause-ends : goal.returns-in_err-made-clause-ends
 returns-in_err-made-clause-ends g c =
     made_ends c.from_residual.result c.in_err-made.field-0.0 (g.D.Disk.bytes c.args.disk.now) _ _
-    c.args.self.now.core.config (world_of (seen c.args.self.now)) (event_of c.args.event.now)
+    c.args.self.now.core.config (past_of c.args.self.now.journal.entries)
+    (world_of (seen c.args.self.now)) (event_of c.args.event.now)
     c.args.now _ c.from_residual.ensures.1 c.in_err-made.ensures.why c.in_err-made.ensures.images
 
 pub returns-in_err-act-clause-ends : goal.returns-in_err-act-clause-ends
@@ -41,21 +43,26 @@ returns-in_err-act-clause-ends g c =
     let r0 = records (g.C.Wire.recorded c.args.client.now) (g.V.Wire.recorded c.args.venue.now) in
     let r1 = records (g.C.Wire.recorded c.act.new.client) (g.V.Wire.recorded c.act.new.venue) in
     let named = made.ready.names ∙ ap (λ k. k.names) made.config in
+    let past = past_of c.args.self.now.journal.entries in
+    let entries = c.decide.new.self.journal.entries in
     err_told c.from_residual-in_err-act.result (g.D.Disk.bytes c.args.disk.now)
     (g.D.Disk.image c.args.disk.now) (g.D.Disk.image c.act.new.disk) config.names
-    (λ end. Broken end config w (event_of c.args.event.now) c.args.now r0 r1) (λ t.
+    (λ end. Behind past (Broken end config past w (event_of c.args.event.now) c.args.now r0 r1))
+    (λ t.
     let t1 = made.told ∙ t in
     act_ends c.from_residual-in_err-act.result c.in_err-act.field-0.0
     (g.D.Disk.bytes c.args.disk.now) (g.D.Disk.image c.args.disk.now)
-    (g.D.Disk.image c.act.new.disk) config w (event_of c.args.event.now) c.args.now r0 r1
+    (g.D.Disk.image c.act.new.disk) config past w (event_of c.args.event.now) c.args.now r0 r1
     c.from_residual-in_err-act.ensures.1
     (only_fault (g.D.Disk.bytes c.decide.new.disk) c.in_err-act.field-0.0 t1
     c.in_err-act.ensures.only (λ same. c.in_err-act.ensures.no_memory (λ i. Err (same i))))
     (broken_parts (g.D.Disk.bytes c.args.disk.now) (g.D.Disk.image c.decide.new.disk)
-    (g.D.Disk.image c.act.new.disk) config w (event_of c.args.event.now) c.args.now
+    (g.D.Disk.image c.act.new.disk) config past w (event_of c.args.event.now) c.args.now
     (made_of c.in_ok-made.made c.decide.new.self.core) c.names-names.result
-    c.decide.new.self.journal.entries c.decide.new.self.client_up c.decide.new.self.venue_up
-    _ _ _ _ (c.names-names.ensures.names ∙ named) made.up.0 made.up.1 made.entries made.decides
+    (last_day entries) entries
+    (sym (past-last entries made.ready.sound) ∙ ap (λ l. l ++ last_day entries) made.past)
+    c.decide.new.self.client_up c.decide.new.self.venue_up
+    _ _ _ _ (c.names-names.ensures.names ∙ named) made.up.0 made.up.1 made.today made.decides
     c.act.ensures.only_read.images (c.in_err-act.ensures.client_part t1)
     (c.in_err-act.ensures.venue_part t1) (g.D.Disk.image c.args.disk.now)
     (left_after (g.D.Disk.bytes c.args.disk.now) (g.D.Disk.bytes c.decide.new.disk) _ _
@@ -65,7 +72,8 @@ returns-in_err-act-clause-ends g c =
 pub returns-in_err-made-clause-only : goal.returns-in_err-made-clause-only
 returns-in_err-made-clause-only g c =
     made_event c.from_residual.result (g.D.Disk.bytes c.args.disk.now) c.in_err-made.field-0.0
-    c.args.self.now.core.config (world_of (seen c.args.self.now)) (event_of c.args.event.now)
+    c.args.self.now.core.config (past_of c.args.self.now.journal.entries)
+    (world_of (seen c.args.self.now)) (event_of c.args.event.now)
     c.args.now c.from_residual.ensures.1 c.in_err-made.ensures.why
 
 pub returns-in_err-act-clause-only : goal.returns-in_err-act-clause-only
@@ -94,14 +102,16 @@ returns-in_err-act-clause-taps g c = record {
 pub returns-in_err-made-clause-taps : goal.returns-in_err-made-clause-taps
 returns-in_err-made-clause-taps g c = watched_none _ c.args.taps.now.items
     c.args.self.now.journal.entries c.decide.new.self.journal.entries
-    (ap (λ (w : World). w.entries) c.in_err-made.ensures.refused.0)
+    c.in_err-made.ensures.refused.2
 
 pub returns-in_err-made-clause-kept : goal.returns-in_err-made-clause-kept
 returns-in_err-made-clause-kept g c =
     made_kept c.from_residual.result c.in_err-made.field-0.0 (g.D.Disk.bytes c.args.disk.now) _ _
-    c.args.self.now.core.config (world_of (seen c.args.self.now)) (event_of c.args.event.now)
+    c.args.self.now.core.config (past_of c.args.self.now.journal.entries)
+    (world_of (seen c.args.self.now)) (event_of c.args.event.now)
     c.args.now c.decide.new.self.journal.entries c.from_residual.ensures.1
-    (ap (λ (w : World). w.entries) c.in_err-made.ensures.refused.0) c.in_err-made.ensures.images
+    (past-last c.args.self.now.journal.entries c.requires.ready.ready.sound
+    ∙ sym c.in_err-made.ensures.refused.2) c.in_err-made.ensures.images
 
 pub returns-in_err-act-clause-kept : goal.returns-in_err-act-clause-kept
 returns-in_err-act-clause-kept g c =
@@ -120,13 +130,17 @@ pub returns-in_err-made-clause-journal_cause : goal.returns-in_err-made-clause-j
 returns-in_err-made-clause-journal_cause g c =
     made_cause c.two_numbers_are_enough.ensures c.each_message_takes_a_number.ensures
     c.from_residual.result c.in_err-made.field-0.0
-    c.args.self.now.core.config c.decide.new.self.core.config (world_of (seen c.args.self.now))
-    (world_of (seen c.decide.new.self)) (event_of c.args.event.now) c.args.now
-    c.from_residual.ensures.1 c.decide.ensures.config c.in_err-made.ensures.refused.0
-    c.requires.ready.ready.sides c.requires.ready.ready.numbers c.in_err-made.ensures.why
+    c.args.self.now.core.config c.decide.new.self.core.config (seen c.args.self.now)
+    (seen c.decide.new.self) (g.D.Disk.bytes c.args.disk.now) (event_of c.args.event.now)
+    c.args.now c.from_residual.ensures.1 c.decide.ensures.config
+    c.in_err-made.ensures.refused.2 c.requires.ready.ready c.in_err-made.ensures.why
 
 pub returns-in_err-act-clause-journal_cause : goal.returns-in_err-act-clause-journal_cause
 returns-in_err-act-clause-journal_cause g c =
     act_cause c.from_residual-in_err-act.result c.in_err-act.field-0.0 _ _
     (g.D.Disk.bytes c.decide.new.disk) c.from_residual-in_err-act.ensures.1
     c.in_err-act.ensures.only
+
+pub returns-clause-past : goal.returns-clause-past
+returns-clause-past g c =
+    ap (λ (j : JournalState). past_of j.entries) c.act.ensures.journal ∙ c.in_ok-made.ensures.past

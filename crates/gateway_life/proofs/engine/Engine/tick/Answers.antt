@@ -1,4 +1,5 @@
 use Rattle.std.proofs.Common.{ap}
+use Rattle.pair_journal.specs.Days.{last_day, past_of}
 use Rattle.pair_journal.specs.State.{JournalState}
 use Rattle.gateway_life.specs.State.{seen}
 use Rattle.gateway_life.proofs.Passing.{passed, ready_passed}
@@ -11,7 +12,7 @@ returns-in-Some-clause-happens g c =
     passed (seen c.args.self.now) (seen c.pass.new.self) c.args.side c.in-Some.next c.args.now
     (g.C.Wire.recorded c.args.client.now) (g.V.Wire.recorded c.args.venue.now)
     pass.journal pass.up.0 pass.up.1
-    (c.in-Some.ensures.decides c.args.self.now.journal.entries) pass.sessions
+    (c.in-Some.ensures.decides (last_day c.args.self.now.journal.entries)) pass.sessions
 
 pub returns-in-Some-clause-ready : goal.returns-in-Some-clause-ready
 returns-in-Some-clause-ready g c =
@@ -27,3 +28,7 @@ pub returns-in-Some-clause-taps : goal.returns-in-Some-clause-taps
 returns-in-Some-clause-taps g c =
     watched_none _ c.args.taps.now.items c.args.self.now.journal.entries
     c.pass.new.self.journal.entries (ap (λ (j : JournalState). j.entries) c.pass.ensures.journal)
+
+pub returns-in-Some-clause-past : goal.returns-in-Some-clause-past
+returns-in-Some-clause-past g c =
+    ap (λ (j : JournalState). past_of j.entries) c.pass.ensures.journal

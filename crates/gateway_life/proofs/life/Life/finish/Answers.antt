@@ -1,8 +1,9 @@
 use Rattle.std.proofs.Common.{ap, refl}
+use Rattle.pair_journal.specs.Days.{past_of}
 use Rattle.gateway_config.specs.declared.config.Config.{Config}
 use Rattle.gateway_life.specs.State.{seen}
 use Rattle.gateway_life.specs.Ready.{world_of}
-use Rattle.gateway_life.proofs.Joining.{finish_ok, finish_client, finish_venue}
+use Rattle.gateway_life.proofs.Joining.{finish_ok, finish_client, finish_venue, past_on}
 use Rattle.gateway_life.proofs.Polling.{durable_on}
 use Rattle.gateway_life.proofs.Telling.{error_event, same_event}
 use Rattle.gateway_life.proofs.Watching.{watched_append, kept_err, kept_last}
@@ -12,7 +13,8 @@ pub returns-in_err-event-clause-ends : goal.returns-in_err-event-clause-ends
 returns-in_err-event-clause-ends g c =
     let at = c.moment-now.ensures.given in
     rw (← c.self.view_is) (finish_client c.from_residual.result c.in_err-event.field-0.0
-    c.self.inside.engine.core.config (world_of (seen c.self.inside.engine)) c.moment-now.result at.0
+    c.self.inside.engine.core.config (past_of c.self.inside.engine.journal.entries)
+    (world_of (seen c.self.inside.engine)) c.moment-now.result at.0
     _ _ (g.D.Disk.bytes c.args.disk.now) _ _ _ _ c.from_residual.ensures.1 at.1 at.2
     c.in_err-event.ensures.ends)
 
@@ -41,11 +43,17 @@ pub returns-clause-ends : goal.returns-clause-ends
 returns-clause-ends g c =
     let at = c.moment-now.ensures.given in
     rw (← c.self.view_is) (finish_venue c.event-2.result c.self.inside.engine.core.config
-    c.event.new.self.core.config
-    (world_of (seen c.self.inside.engine)) (world_of (seen c.event.new.self)) c.moment-now.result
-    at.0 _ _ (g.D.Disk.bytes c.args.disk.now) (g.D.Disk.bytes c.event.new.disk) _ _ _ _ _ _
-    c.event.ensures.config at.1 at.2 c.event.ensures.told c.in_ok-event.ensures.durable
-    c.in_ok-event.ensures.happens c.event-2.ensures.ends)
+    c.event.new.self.core.config (past_of c.self.inside.engine.journal.entries)
+    (past_of c.event.new.self.journal.entries) (world_of (seen c.self.inside.engine))
+    (world_of (seen c.event.new.self)) c.moment-now.result at.0 _ _
+    (g.D.Disk.bytes c.args.disk.now) (g.D.Disk.bytes c.event.new.disk) _ _ _ _ _ _
+    c.event.ensures.config c.in_ok-event.ensures.past at.1 at.2 c.event.ensures.told
+    c.in_ok-event.ensures.durable c.in_ok-event.ensures.happens c.event-2.ensures.ends)
+
+pub returns-clause-past : goal.returns-clause-past
+returns-clause-past g c = rw (← c.self.view_is) (past_on c.event-2.result
+    c.self.inside.engine.journal.entries c.event.new.self.journal.entries
+    c.event-2.new.self.journal.entries c.in_ok-event.ensures.past c.event-2.ensures.past)
 
 pub returns-in_err-event-clause-taps : goal.returns-in_err-event-clause-taps
 returns-in_err-event-clause-taps g c = rw (← c.self.view_is) c.in_err-event.ensures.taps

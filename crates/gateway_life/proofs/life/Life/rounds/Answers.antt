@@ -3,10 +3,10 @@ use Rattle.std.proofs.Common.{arith}
 use Rattle.gateway_config.specs.declared.config.Config.{Config}
 use Rattle.gateway_life.specs.Stepped.{records}
 use Rattle.gateway_life.specs.Life.{moment_of}
-use Rattle.gateway_life.specs.Rounds.{RoundDone}
+use Rattle.gateway_life.specs.Rounds.{RoundOver}
 use Rattle.wire_sends.proofs.Sendings.{grows_none, grows_append}
 use Rattle.gateway_life.proofs.Joining.{rounds_end}
-use Rattle.gateway_life.proofs.Rounding.{rounds_none, rounds_more}
+use Rattle.gateway_life.proofs.Rounded.{rounds_none, rounds_more}
 use Rattle.gateway_life.proofs.Living.{one_more, counted_more, counted_none}
 use Rattle.gateway_life.proofs.Telling.{error_event}
 use Rattle.gateway_life.proofs.Watching.{watched_none, watched_append, kept_err}
@@ -44,9 +44,9 @@ rounds-preserved g c =
         done.0 ++ m ∷ [],
         one_more done.0 m c.rounds.left c.args.rounds done.1 (omega arith),
         grows_append _ _ _ done.0 (m ∷ []) done.2 one.round.1,
-        λ t. rounds_more config c.args.self.now c.rounds.self c.round.new.self done.0 m _ r1 r2
-            (done.3 t)
-            (subst (λ (k : Config). RoundDone k c.rounds.self c.round.new.self (moment_of m) r1 r2)
+        λ t. rounds_more config c.args.self.now c.rounds.self done.0 m _ r1 (done.3 t)
+            inv.live.ready.ready.sound c.round.new.self r2
+            (subst (λ (k : Config). RoundOver k c.rounds.self c.round.new.self (moment_of m) r1 r2)
             inv.config (one.round.2 (inv.told ∙ t))),
       );
       told = one.told ∙ inv.told;
@@ -70,7 +70,7 @@ returns-in_err-round-clause-ends g c =
     rounds_end c.from_residual.result c.in_err-round.field-0.0 c.args.self.now.engine.core.config
     c.rounds.self.engine.core.config c.args.self.now c.rounds.self done.0 broken.0 c.rounds.left
     c.args.rounds _ _ _ _ _ _ _ _ _ _ _ c.from_residual.ensures.1 inv.config done.1 done.2 done.3
-    inv.told inv.durable broken.1 broken.2
+    inv.live.ready.ready.sound inv.told inv.durable broken.1 broken.2
 
 pub returns-clause-done : goal.returns-clause-done
 returns-clause-done g c =

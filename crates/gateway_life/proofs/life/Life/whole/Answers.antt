@@ -12,7 +12,9 @@ returns-clause-done g c =
     end_done c.finish.result c.args.self.now.engine.core.config c.rounds.new.self.engine.core.config
     c.args.self.now c.rounds.new.self c.finish.new.self done.0 c.args.rounds _ _ _ _ _ _
     (g.D.Disk.bytes c.args.disk.now) (g.D.Disk.bytes c.rounds.new.disk)
-    c.rounds.ensures.config done.1 done.2 done.3 c.rounds.ensures.told c.finish.ensures.finish
+    (g.D.Disk.bytes c.finish.new.disk) _ _ c.rounds.ensures.config done.1 done.2 done.3
+    c.in_ok-rounds.ensures.live.ready.ready.sound c.rounds.ensures.told c.finish.ensures.past
+    c.finish.ensures.live c.finish.ensures.finish
 
 pub returns-in_err-rounds-clause-only : goal.returns-in_err-rounds-clause-only
 returns-in_err-rounds-clause-only g c =
@@ -29,8 +31,8 @@ returns-clause-ends g c =
     let done = c.in_ok-rounds.ensures.done in
     end_ends c.finish.result c.args.self.now.engine.core.config c.rounds.new.self.engine.core.config
     c.args.self.now c.rounds.new.self done.0 c.args.rounds _ _ _ _ _ _ _ _ _ _ _
-    c.rounds.ensures.config done.1 done.2 done.3 c.in_ok-rounds.ensures.told
-    c.in_ok-rounds.ensures.durable c.finish.ensures.ends
+    c.rounds.ensures.config done.1 done.2 done.3 c.in_ok-rounds.ensures.live.ready.ready.sound
+    c.in_ok-rounds.ensures.told c.in_ok-rounds.ensures.durable c.finish.ensures.ends
 
 pub returns-in_err-rounds-clause-taps : goal.returns-in_err-rounds-clause-taps
 returns-in_err-rounds-clause-taps g c = c.in_err-rounds.ensures.taps
