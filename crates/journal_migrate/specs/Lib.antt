@@ -1,0 +1,2 @@
+pub mod Format1
+pub mod Migrating
