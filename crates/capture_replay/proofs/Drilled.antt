@@ -48,19 +48,19 @@ undrilled state first count taps old (Err error) is = subst
 module _ {T : Type 0} (state : T → TapState) (first count : ℕ) (seen now : List T)
     (client venue : Option (List WireCall)) (end : LifeEnd) (image : List ℕ) (config : Config)
     (names : Names) (heart : ℕ) (lines : List Event) (bytes : List ℕ) (none : bytes ≡ [])
-    (is : config ≡ config_with names heart) (of_names : names ≡ drill_names)
+    (is : config ≡ config_with names heart None) (of_names : names ≡ drill_names)
     (of_heart : heart ≡ drill_heart) (of_lines : lines ≡ drill_events first count)
     (begin : FirstLivesBegin) (sound : IsCapture (drill_capture first count))
     (lives : LivesOn state config lines 0 bytes seen now client venue end image) where
-  same : config ≡ config_with drill_names drill_heart
-  same = is ∙ ap (λ (n : Names). config_with n heart) of_names
-      ∙ ap (λ (h : ℕ). config_with drill_names h) of_heart
+  same : config ≡ config_with drill_names drill_heart None
+  same = is ∙ ap (λ (n : Names). config_with n heart None) of_names
+      ∙ ap (λ (h : ℕ). config_with drill_names h None) of_heart
 
   -- its day is lived as that of a capture
-  pub day_lived : IsLived state (config_with drill_names drill_heart) (drill_events first count)
+  pub day_lived : IsLived state (config_with drill_names drill_heart None) (drill_events first count)
       nothing seen now client venue end image
   day_lived =
-      subst (λ (l : List Event). LivesOn state (config_with drill_names drill_heart) l 0 [] seen now
+      subst (λ (l : List Event). LivesOn state (config_with drill_names drill_heart None) l 0 [] seen now
       client venue end image) of_lines
       (subst (λ (k : Config). LivesOn state k lines 0 [] seen now client venue end image) same
       (subst (λ (b : List ℕ). LivesOn state config lines 0 b seen now client venue end image) none
@@ -92,7 +92,7 @@ day_bounded first count lines is sound = subst (λ (l : List Event). All IsBound
 
 module _ {T : Type 0} (state : T → TapState) (first count : ℕ) (seen now : List T)
     (client venue : Option (List WireCall)) (end : LifeEnd) (image : List ℕ)
-    (lived : IsLived state (config_with drill_names drill_heart) (drill_events first count) nothing
+    (lived : IsLived state (config_with drill_names drill_heart None) (drill_events first count) nothing
     seen now client venue end image) where
   abbrev life : Played
   life = record {

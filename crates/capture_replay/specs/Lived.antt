@@ -5,7 +5,8 @@ use Rattle.std.specs.declared.option.Option.{Option}
 use Rattle.pair_entries.specs.declared.entry.Entry.{Entry}
 use Rattle.wires.specs.Wire.{WireCall}
 use Rattle.message_answers.specs.Answer.{Answers}
-use Rattle.life_laws.specs.Justified.{Leaves}
+use Rattle.pair_journal.specs.Days.{days_of}
+use Rattle.life_laws.specs.Days.{DayEnded, DayLeft, LeavesDays}
 use Rattle.gateway_config.specs.declared.config.Config.{Config}
 use Rattle.gateway_life.specs.declared.end.LifeEnd.{LifeEnd}
 use Rattle.gateway_life.specs.Life.{Done, IsJournal}
@@ -23,11 +24,15 @@ pub record IsLived {T : Type 0} (state : T → TapState) (config : Config) (line
     (before : Left) (seen now : List T) (client venue : Option (List WireCall)) (end : LifeEnd)
     (image : List ℕ) : Type 0 where
   pub did : Done
+  pub days : List DayEnded
+  pub left : DayLeft
   pub entries : List Entry
   pub client_told : client ≡ Some did.client
   pub venue_told : venue ≡ Some did.venue
   pub played : IsPlayed config lines before (record {
     did = did;
+    days = days;
+    left = left;
     end = end;
     image = image;
     entries = entries;
@@ -44,7 +49,7 @@ abbrev pub LivesOn : {T : Type 0} → (T → TapState) → Config → List Event
 LivesOn state config lines from bytes seen now client venue end image = (before : Left)
     → before.moment ≡ from → IsJournal config.names before.entries bytes
     → AreShown config.names
-    → Leaves Answers config.names before.entries before.client before.venue
+    → LeavesDays Answers config.names (days_of before.entries) before.client before.venue
     → IsLived state config lines before seen now client venue end image
 
 -- what is left after lives
@@ -60,7 +65,7 @@ pub record SoFar {T : Type 0} (state : T → TapState) (capture : Capture) (coun
   pub all : length played ≡ count
   pub are : ArePlayed state (config_of capture) nothing seen capture.lives played now
   pub journal : IsJournal capture.names (left_after nothing played).entries image
-  pub leaves : Leaves Answers capture.names (left_after nothing played).entries
+  pub leaves : LeavesDays Answers capture.names (days_of (left_after nothing played).entries)
       (left_after nothing played).client (left_after nothing played).venue
   pub moment : (left_after nothing played).moment ≡ clock
   pub put : Appends old new (lives_lines 1 played)

@@ -8,16 +8,17 @@ use Rattle.order_meaning.specs.declared.Side.TheVariants.{Client, Venue}
 use Rattle.order_meaning.specs.declared.names.Names.{Names}
 use Rattle.pair_entries.specs.declared.entry.Entry.{Entry}
 use Rattle.pair_journal.specs.Numbers.{first_numbers, numbers_after}
-use Rattle.wires.specs.Wire.{Came, Connection}
+use Rattle.wires.specs.Wire.{Came}
 use Rattle.wires.specs.Script.{Plays}
 use Rattle.wires.specs.Clock.{moments_given}
 use Rattle.message_answers.specs.Answer.{Answers}
-use Rattle.life_laws.specs.Justified.{transcript_from, Leaves}
+use Rattle.pair_journal.specs.Days.{days_of}
+use Rattle.life_laws.specs.Days.{DayEnded, DayLeft, Transcript, LeavesDays, transcript_after}
 use Rattle.gateway_config.specs.declared.config.Config.{Config}
 use Rattle.gateway_life.specs.declared.end.LifeEnd.{LifeEnd}
 use Rattle.gateway_life.specs.declared.end.LifeEnd.TheVariants as ends
 use Rattle.gateway_life.specs.Life.{Done}
-use Rattle.gateway_life.specs.Laws.{AreTaken}
+use Rattle.gateway_life.specs.Laws.{AreTakenDays}
 use Rattle.gateway_life.specs.Lived.{IsLeft}
 use Rattle.gateway_life.specs.Watched.{WereCommitted}
 use Rattle.drop_taps.specs.Shown.{TapState, HaveSeen}
@@ -31,28 +32,36 @@ use Rattle.capture_replay.specs.Rounds.{is_round, script_of, moment_after, momen
 use Rattle.capture_replay.specs.Stops.{may_end}
 
 -- how the gateway of a capture is set up: SendingTime may be 120 seconds from the present moment
-abbrev pub config_with : Names → (heart : ℕ) → Config
-config_with names heart = record { names = names; heart = heart; window = 120 }
+abbrev pub config_with : Names → (heart : ℕ) → (reset : Option ℕ) → Config
+config_with names heart reset =
+    record { names = names; heart = heart; window = 120; reset = reset }
 
 abbrev pub config_of : Capture → Config
-config_of capture = config_with capture.names capture.heart
+config_of capture = config_with capture.names capture.heart capture.reset
 
 -- what lives have left: the entries of the journal, what was read and written on each connection of
--- both sides, and the moment that the clock says
+-- both sides by days, and the moment that the clock says
 pub record Left : Type 0 where
   pub entries : List Entry
-  pub client : List Connection
-  pub venue : List Connection
+  pub client : Transcript
+  pub venue : Transcript
   pub moment : ℕ
 
 -- before the first life
 abbrev pub nothing : Left
-nothing = record { entries = []; client = []; venue = []; moment = 0 }
+nothing = record {
+  entries = [];
+  client = record { ended = []; present = [] };
+  venue = record { ended = []; present = [] };
+  moment = 0;
+}
 
--- a life: what was done in it, how it ended, the bytes that it left on the disk, their entries, and
--- the moment that the clock says behind it
+-- a life: what was done in it, the days that ended in it and the one that it left, how it ended,
+-- the bytes that it left on the disk, their entries, and the moment that the clock says behind it
 pub record Played : Type 0 where
   pub did : Done
+  pub days : List DayEnded
+  pub left : DayLeft
   pub end : LifeEnd
   pub image : List ℕ
   pub entries : List Entry
@@ -62,16 +71,16 @@ pub record Played : Type 0 where
 abbrev pub after : Left → Played → Left
 after left life = record {
   entries = life.entries;
-  client = transcript_from left.client life.did.client;
-  venue = transcript_from left.venue life.did.venue;
+  client = transcript_after Client left.client life.days life.left;
+  venue = transcript_after Venue left.venue life.days life.left;
   moment = life.moment;
 }
 
 -- A LIFE OF A CAPTURE, over what lives before it have left. Its wires play what its lines let come,
 -- and its clock, which runs on from the lives before, gives their moments. What it leaves goes on
--- from what was there, and accounts for all that was read and written, in it and before: whatever
--- of it arrives, each side takes the beginning of what was committed to it, each message once and
--- in order.
+-- from what was there, and accounts, day by day, for all that was read and written, in it and
+-- before: whatever of it arrives, each side takes the beginning of what was committed to it on that
+-- day, each message once and in order.
 pub record IsPlayed (config : Config) (lines : List Event) (before : Left) (life : Played)
     : Type 0 where
   pub client : (left : List Came) × Plays false (script_of Client lines) life.did.client left
@@ -79,10 +88,10 @@ pub record IsPlayed (config : Config) (lines : List Event) (before : Left) (life
   pub moments : (asked : ℕ)
       × (life.did.moments ≡ moments_given (moments_from before.moment lines) asked)
   pub is_left : IsLeft life.end config before.entries (length (filter is_round lines)) life.did
-      life.image life.entries
-  pub leaves : Leaves Answers config.names life.entries
+      life.days life.left life.image life.entries
+  pub leaves : LeavesDays Answers config.names (days_of life.entries)
       (after before life).client (after before life).venue
-  pub taken : AreTaken config.names life.entries
+  pub taken : AreTakenDays config.names (days_of life.entries)
       (after before life).client (after before life).venue
   pub moment : life.moment ≡ moment_after before.moment lines
   pub whole : may_end (stop_of lines) life.end ≡ true

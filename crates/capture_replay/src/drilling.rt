@@ -41,7 +41,7 @@ pub fn drill<O: Sink>(
 {
     lives_follow();
     let day = drill_day(alloc, first, count)?;
-    let config = config_of(day.names, day.heart);
+    let config = config_of(day.names, day.heart, None);
     let lived = live_lines(alloc, &config, &day.life, 0, Vec::new(alloc), taps)?;
     let end = end_name(&lived.end);
     let (entries, next) = left_by(alloc, lived.image)?;

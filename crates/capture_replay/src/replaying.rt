@@ -42,7 +42,7 @@ pub fn replay<O: Sink>(
     ensures still { result ≢ Err errors.OutputFault → O.faults out.new ≡ O.faults out.old }
 {
     lives_follow();
-    let config = config_of(capture.names, capture.heart);
+    let config = config_of(capture.names, capture.heart, capture.reset);
     let mut image = Vec::new(alloc);
     let mut moment = 0;
     for (index, lines) in capture.lives.as_slice().iter().enumerate() {

@@ -1,6 +1,7 @@
 -- From the header and the lives of a text to the whole of it.
 use Rattle.std.proofs.Common.{◌≡◌, ◌≢◌, ℕ, ◌≤◌, List, [], ◌∷◌, ◌++◌, length, All, refl, sym}
 use Rattle.std.proofs.Common.{◌∙◌, ap, Err, Some, None, arith}
+use Rattle.std.specs.declared.option.Option.{Option}
 use Rattle.std.specs.List.{flat_map}
 use Rattle.std.proofs.lemmas.List.Elements.{All-cons, All-nil}
 use Rattle.order_meaning.specs.declared.names.Names.{Names}
@@ -11,33 +12,35 @@ use Rattle.capture_text.specs.declared.reading.CaptureFault.TheVariants.{Line, N
 use Rattle.capture_text.specs.Capture.{title, names_line, lines_of, life_lines, AreEvents}
 use Rattle.capture_text.specs.Capture.{IsCapture, IsName}
 use Rattle.capture_text.specs.Reading.{parts, IsTextOf, Begins, IsOutside, FirstOutside, Reads}
-use Rattle.capture_text.specs.Header.{AreNames, IsHeader, NamesLine, Faults}
+use Rattle.capture_text.specs.Header.{AreNames, AreTimes, IsHeader, NamesLine, Faults}
 use Rattle.capture_text.proofs.Grammar.{Texts}
 use Rattle.capture_text.specs.Life.{Begun, IsNoLine, AreLives, AreNone, LivesSay}
 
 same_tail : (x y : List ℕ) (xs ys : Texts) → x ∷ xs ≡ y ∷ ys → (x ≡ y) × (xs ≡ ys)
 same_tail x y xs ys is = (cc is, cc is)
 
-abbrev pub capture_of : Names → ℕ → List (List Event) → Capture
-capture_of names heart lives = record { names = names; heart = heart; lives = lives }
+abbrev pub capture_of : Names → ℕ → Option ℕ → List (List Event) → Capture
+capture_of names heart reset lives =
+    record { names = names; heart = heart; reset = reset; lives = lives }
 
-is_capture : (names : Names) (heart : ℕ) (lives : List (List Event))
-    → AreNames names → heart ≤ 3600 → 1 ≤ length lives → All (AreEvents []) lives
-    → IsCapture (capture_of names heart lives)
-is_capture names heart lives named short some sound = record {
+is_capture : (names : Names) (heart : ℕ) (reset : Option ℕ) (lives : List (List Event))
+    → AreNames names → AreTimes heart reset → 1 ≤ length lives → All (AreEvents []) lives
+    → IsCapture (capture_of names heart reset lives)
+is_capture names heart reset lives named bounded some sound = record {
   client_our = named.client_our;
   client_peer = named.client_peer;
   venue_our = named.venue_our;
   venue_peer = named.venue_peer;
-  heart = short;
+  heart = bounded.0;
+  reset = bounded.1;
   some = some;
   lives = sound;
 }
 
 -- a capture of these lines has these lives
-begun_in : (names : Names) (heart : ℕ) (lines : Texts)
-    → Begins (title ∷ names_line names heart ∷ lines) → Begun lines
-begun_in names heart lines (capture, rest, sound, split) = record {
+begun_in : (names : Names) (heart : ℕ) (reset : Option ℕ) (lines : Texts)
+    → Begins (title ∷ names_line names heart reset ∷ lines) → Begun lines
+begun_in names heart reset lines (capture, rest, sound, split) = record {
   lives = capture.lives;
   rest = rest;
   sound = sound.lives;
@@ -45,48 +48,48 @@ begun_in names heart lines (capture, rest, sound, split) = record {
   split = (same_tail _ _ _ _ (same_tail _ _ _ _ split).1).1;
 }
 
-outside_in : (names : Names) (heart : ℕ) (before : Texts) (part : List ℕ) (after : Texts)
+outside_in : (names : Names) (heart : ℕ) (reset : Option ℕ) (before : Texts) (part : List ℕ) (after : Texts)
     → IsNoLine before part after
-    → IsOutside (title ∷ names_line names heart ∷ before) part after
-outside_in names heart before part (next ∷ after) outside =
-    λ begins. outside (begun_in names heart (before ++ part ∷ []) begins)
-outside_in names heart before part [] outside =
+    → IsOutside (title ∷ names_line names heart reset ∷ before) part after
+outside_in names heart reset before part (next ∷ after) outside =
+    λ begins. outside (begun_in names heart reset (before ++ part ∷ []) begins)
+outside_in names heart reset before part [] outside =
     λ capture sound is. outside capture.lives sound.lives sound.some
     (same_tail _ _ _ _ (same_tail _ _ _ _ is).1).1
 
 -- the text is this capture
-pub is_text : (text rest : List ℕ) (names : Names) (heart : ℕ) (lives : List (List Event))
-    → IsHeader text names heart rest → AreLives rest lives
-    → IsTextOf text (capture_of names heart lives)
-is_text text rest names heart lives header are = record {
-  sound = is_capture names heart lives header.named header.short are.some are.sound;
-  lines = header.lines ∙ ap (λ (ls : Texts). title ∷ names_line names heart ∷ ls) are.lines;
+pub is_text : (text rest : List ℕ) (names : Names) (heart : ℕ) (reset : Option ℕ) (lives : List (List Event))
+    → IsHeader text names heart reset rest → AreLives rest lives
+    → IsTextOf text (capture_of names heart reset lives)
+is_text text rest names heart reset lives header are = record {
+  sound = is_capture names heart reset lives header.named header.bounded are.some are.sound;
+  lines = header.lines ∙ ap (λ (ls : Texts). title ∷ names_line names heart reset ∷ ls) are.lines;
 }
 
 -- the first line outside of the lives is that of the text
-pub is_outside : (text rest : List ℕ) (names : Names) (heart number : ℕ)
-    → IsHeader text names heart rest → AreNone rest number → FirstOutside text number
-is_outside text rest names heart number header none = record {
-  before = title ∷ names_line names heart ∷ none.before;
+pub is_outside : (text rest : List ℕ) (names : Names) (heart number : ℕ) (reset : Option ℕ)
+    → IsHeader text names heart reset rest → AreNone rest number → FirstOutside text number
+is_outside text rest names heart number reset header none = record {
+  before = title ∷ names_line names heart reset ∷ none.before;
   part = none.part;
   after = none.after;
-  split = header.lines ∙ ap (λ (ls : Texts). title ∷ names_line names heart ∷ ls) none.split;
+  split = header.lines ∙ ap (λ (ls : Texts). title ∷ names_line names heart reset ∷ ls) none.split;
   place = none.place ∙ omega arith;
   begins = (
-    capture_of names heart none.begins.lives,
+    capture_of names heart reset none.begins.lives,
     none.begins.rest,
-    is_capture names heart none.begins.lives header.named header.short none.begins.some
+    is_capture names heart reset none.begins.lives header.named header.bounded none.begins.some
         none.begins.sound,
-    ap (λ (ls : Texts). title ∷ names_line names heart ∷ ls) none.begins.split,
+    ap (λ (ls : Texts). title ∷ names_line names heart reset ∷ ls) none.begins.split,
   );
-  outside = outside_in names heart none.before none.part none.after none.outside;
+  outside = outside_in names heart reset none.before none.part none.after none.outside;
 }
 
-pub lives_fault : (text rest : List ℕ) (names : Names) (heart : ℕ) (fault : CaptureFault)
-    → IsHeader text names heart rest → LivesSay rest (Err fault) → Reads text (Err fault)
-lives_fault text rest names heart (Line number) header none =
-    is_outside text rest names heart number header none
-lives_fault text rest names heart NoMemory header none = tt
+pub lives_fault : (text rest : List ℕ) (names : Names) (heart : ℕ) (reset : Option ℕ) (fault : CaptureFault)
+    → IsHeader text names heart reset rest → LivesSay rest (Err fault) → Reads text (Err fault)
+lives_fault text rest names heart reset (Line number) header none =
+    is_outside text rest names heart number reset header none
+lives_fault text rest names heart reset NoMemory header none = tt
 
 pub reads_fault : (text : List ℕ) (fault : CaptureFault) → Faults text fault
     → Reads text (Err fault)
@@ -111,27 +114,27 @@ some_names = record {
   venue_peer = 65 ∷ [];
 }
 
-some_capture : IsCapture (capture_of some_names 0 ([] ∷ []))
-some_capture = is_capture some_names 0 ([] ∷ []) (record {
+some_capture : IsCapture (capture_of some_names 0 None ([] ∷ []))
+some_capture = is_capture some_names 0 None ([] ∷ []) (record {
   client_our = short_name 65 (omega arith) (omega arith);
   client_peer = short_name 65 (omega arith) (omega arith);
   venue_our = short_name 65 (omega arith) (omega arith);
   venue_peer = short_name 65 (omega arith) (omega arith);
-}) (omega arith) (omega arith)
+}) (omega arith, tt) (omega arith)
     (All-cons (AreEvents []) [] [] tt (All-nil (AreEvents [])))
 
 begins_nothing : Begins []
 begins_nothing = (
-  capture_of some_names 0 ([] ∷ []),
-  lines_of (capture_of some_names 0 ([] ∷ [])),
+  capture_of some_names 0 None ([] ∷ []),
+  lines_of (capture_of some_names 0 None ([] ∷ [])),
   some_capture,
   refl,
 )
 
 begins_title : Begins (title ∷ [])
 begins_title = (
-  capture_of some_names 0 ([] ∷ []),
-  names_line some_names 0 ∷ flat_map life_lines ([] ∷ []),
+  capture_of some_names 0 None ([] ∷ []),
+  names_line some_names 0 None ∷ flat_map life_lines ([] ∷ []),
   some_capture,
   refl,
 )
@@ -177,7 +180,8 @@ names_in capture sound = record {
 outside_second : (part : List ℕ) (after : Texts) → NamesLine part None
     → IsOutside (title ∷ []) part after
 outside_second part (next ∷ after) other = λ (capture, rest, sound, is).
-    other capture.names capture.heart (names_in capture sound) sound.heart
+    other capture.names capture.heart capture.reset (names_in capture sound)
+    (sound.heart, sound.reset)
     (sym (same_tail _ _ _ _ (same_tail _ _ _ _ is).1).0)
 outside_second part [] other = λ capture sound is. absurd (cc (same_tail _ _ _ _ is).1)
 
@@ -207,12 +211,12 @@ no_second text line behind split is end = record {
   outside = λ capture sound is. absurd (cc (same_tail _ _ _ _ is).1);
 }
 
-pub is_header : (text line rest : List ℕ) (names : Names) (heart : ℕ)
-    → parts text ≡ title ∷ line ∷ parts rest → NamesLine line (Some (names, heart))
-    → IsHeader text names heart rest
-is_header text line rest names heart split (named, short, is) = record {
+pub is_header : (text line rest : List ℕ) (names : Names) (heart : ℕ) (reset : Option ℕ)
+    → parts text ≡ title ∷ line ∷ parts rest → NamesLine line (Some (names, heart, reset))
+    → IsHeader text names heart reset rest
+is_header text line rest names heart reset split (named, bounded, is) = record {
   named = named;
-  short = short;
+  bounded = bounded;
   lines = split ∙ ap (λ (l : List ℕ). title ∷ l ∷ parts rest) is;
 }
 

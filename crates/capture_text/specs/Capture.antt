@@ -1,7 +1,7 @@
 -- Own: a capture, and the lines in which it is written; docs/DEFINITIONS.md, "Captures".
 use Rattle.std.specs.Prelude.{◌≡◌, ◌≢◌, ℕ, ◌≤◌, ◌<◌, ◌^◌, ◌==◌, ◌⊎◌, Bool, true, false}
 use Rattle.std.specs.Prelude.{List, [], ◌∷◌, ◌++◌, map, length, All, codes}
-use Rattle.std.specs.Prelude.{if◌then◌else◌, Some, None}
+use Rattle.std.specs.Prelude.{if◌then◌else◌, Some, None, IfSome}
 use Rattle.std.specs.declared.option.Option.{Option}
 use Rattle.std.specs.List.{flat_map, join_with_byte}
 use Rattle.std.specs.Fmt.{decimal}
@@ -49,16 +49,22 @@ life_lines events = codes "life" ∷ map line_of events ++ codes "end" ∷ []
 abbrev pub title : List ℕ
 title = codes "fixgate capture 1"
 
--- `names A B C D H`
-abbrev pub names_line : Names → ℕ → List ℕ
-names_line names heart = join_with_byte 32 (codes "names"
+-- HeartBtInt(108), and the minute of the day at which a session day begins, where one does
+abbrev pub times : ℕ → Option ℕ → List (List ℕ)
+times heart None = decimal heart ∷ []
+times heart (Some minute) = decimal heart ∷ decimal minute ∷ []
+
+-- `names A B C D H`, or `names A B C D H M`
+abbrev pub names_line : Names → ℕ → Option ℕ → List ℕ
+names_line names heart reset = join_with_byte 32 (codes "names"
     ∷ names.client_our ∷ names.client_peer ∷ names.venue_our ∷ names.venue_peer
-    ∷ decimal heart ∷ [])
+    ∷ times heart reset)
 
 -- the lines of a capture
 abbrev pub lines_of : Capture → List (List ℕ)
 lines_of capture =
-    title ∷ names_line capture.names capture.heart ∷ flat_map life_lines capture.lives
+    title ∷ names_line capture.names capture.heart capture.reset
+    ∷ flat_map life_lines capture.lives
 
 -- ---- its bounds
 
@@ -129,5 +135,6 @@ pub record IsCapture (capture : Capture) : Type 0 where
   pub venue_our : IsName capture.names.venue_our
   pub venue_peer : IsName capture.names.venue_peer
   pub heart : capture.heart ≤ 3600
+  pub reset : IfSome capture.reset (λ minute. minute ≤ 1439)
   pub some : 1 ≤ length capture.lives
   pub lives : All (AreEvents []) capture.lives

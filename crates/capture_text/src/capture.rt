@@ -298,6 +298,9 @@ pub struct Capture {
     pub names: Names,
     /// HeartBtInt(108) to the venue, from 0 to 3,600 seconds.
     pub heart: u32,
+    /// The minute of the UTC day at which a session day begins, from 0 to 1,439; none where no day
+    /// ends.
+    pub reset: Option<u32>,
     /// At least one life.
     pub lives: Lives,
 }

@@ -1,10 +1,10 @@
 //! The first two lines of a capture.
 
-ghost use Rattle.std.specs.Prelude.{◌≡◌, ◌∷◌, codes, IfSome, IsNone};
+ghost use Rattle.std.specs.Prelude.{◌≡◌, ◌<◌, ◌^◌, ◌∷◌, codes, IfSome, IsNone};
 ghost use Rattle.order_meaning.specs.declared.names.Names.{Names};
 ghost use Rattle.capture_text.specs.Capture.{IsName};
-ghost use Rattle.capture_text.specs.Header.{cuts, IsShort, HeartSays, AreNames, NamesLine};
-ghost use Rattle.capture_text.specs.Header.{written_names};
+ghost use Rattle.capture_text.specs.Header.{cuts, IsShort, AreNames, NamesLine};
+ghost use Rattle.capture_text.specs.Header.{written_names, NumberSays, TimesSay};
 
 use crate::lines::{BLANK, cut_at};
 use crate::number::number;
@@ -15,6 +15,9 @@ pub(crate) const TITLE: &[u8] = b"fixgate capture 1";
 
 /// The most seconds of HeartBtInt(108).
 const MAX_HEART: u64 = 3600;
+
+/// The last minute of a day.
+const MAX_RESET: u64 = 1439;
 
 /// A name of 1 to 35 bytes from 33 to 126.
 fn name_of(text: &[u8]) -> Option<Name>
@@ -28,13 +31,33 @@ fn name_of(text: &[u8]) -> Option<Name>
     }
 }
 
-/// HeartBtInt(108), from 0 to 3,600 seconds.
-fn heart_of(digits: &[u8]) -> Option<u32>
-    ensures { HeartSays digits.now result }
+/// A number up to a bound.
+fn number_to(digits: &[u8], most: u64) -> Option<u32>
+    requires { most < 2 ^ 32 }
+    ensures { NumberSays most digits.now result }
 {
     match number(digits) {
-        Some(heart) if heart <= MAX_HEART => Some(heart as u32),
+        Some(number) if number <= most => Some(number as u32),
         _ => None,
+    }
+}
+
+/// HeartBtInt(108), from 0 to 3,600 seconds, and a minute of the day behind it, from 0 to 1,439,
+/// where there is one.
+#[tactic(auto, using(crate::proofs::NamesLine::read_times))]
+fn times_of(text: &[u8]) -> Option<(u32, Option<u32>)>
+    ensures { TimesSay text.now result }
+{
+    match cut_at(text, BLANK) {
+        Some((heart, minute)) => {
+            let heart = number_to(heart, MAX_HEART)?;
+            let minute = number_to(minute, MAX_RESET)?;
+            Some((heart, Some(minute)))
+        }
+        None => {
+            let heart = number_to(text, MAX_HEART)?;
+            Some((heart, None))
+        }
     }
 }
 
@@ -45,14 +68,14 @@ struct Words<'a> {
     client_peer: &'a [u8],
     venue_our: &'a [u8],
     venue_peer: &'a [u8],
-    heart: &'a [u8],
+    times: &'a [u8],
 }
 
 /// The words of the second line: `names`, and five of which the last may have blanks.
 fn words_of(line: &[u8]) -> Option<Words<'_>>
     ensures some { IfSome result (λ w. cuts 32 line.now ≡ codes "names"
         ∷ w.client_our.now ∷ w.client_peer.now ∷ w.venue_our.now ∷ w.venue_peer.now
-        ∷ cuts 32 w.heart.now) }
+        ∷ cuts 32 w.times.now) }
     ensures none { IsNone result → IsShort (cuts 32 line.now) }
 {
     let (word, rest) = cut_at(line, BLANK)?;
@@ -62,13 +85,13 @@ fn words_of(line: &[u8]) -> Option<Words<'_>>
     let (client_our, rest) = cut_at(rest, BLANK)?;
     let (client_peer, rest) = cut_at(rest, BLANK)?;
     let (venue_our, rest) = cut_at(rest, BLANK)?;
-    let (venue_peer, heart) = cut_at(rest, BLANK)?;
+    let (venue_peer, times) = cut_at(rest, BLANK)?;
     Some(Words {
         client_our,
         client_peer,
         venue_our,
         venue_peer,
-        heart,
+        times,
     })
 }
 
@@ -88,12 +111,13 @@ fn names_of(words: &Words<'_>) -> Option<Names>
     })
 }
 
-/// The names and HeartBtInt(108) of the second line, `names A B C D H`.
-pub(crate) fn read_names(line: &[u8]) -> Option<(Names, u32)>
+/// The names, HeartBtInt(108) and the minute of the second line, `names A B C D H` or
+/// `names A B C D H M`.
+pub(crate) fn read_names(line: &[u8]) -> Option<(Names, u32, Option<u32>)>
     ensures { NamesLine line.now result }
 {
     let words = words_of(line)?;
     let names = names_of(&words)?;
-    let heart = heart_of(words.heart)?;
-    Some((names, heart))
+    let (heart, reset) = times_of(words.times)?;
+    Some((names, heart, reset))
 }

@@ -80,10 +80,12 @@ fn read_lives(alloc: Global, text: &[u8]) -> Result<Lives, CaptureFault>
 }
 
 /// Reads a capture: the line `fixgate capture 1`; `names A B C D H` with the four CompIDs, each of
-/// 1 to 35 bytes from 33 to 126, and HeartBtInt(108) of 0 to 3,600 seconds; and at least one life,
-/// which is a line `life`, a line for each [`Event`](crate::Event) and a line `end`. LF ends each
-/// line. A stop stands first in its life. Bytes may come of a side that is open, and a side closes
-/// where it is open and opens where it is not. Numbers have no zero in front.
+/// 1 to 35 bytes from 33 to 126, and HeartBtInt(108) of 0 to 3,600 seconds, or `names A B C D H M`
+/// with the minute of the UTC day besides, from 0 to 1,439, at which a session day begins; and at
+/// least one life, which is a line `life`, a line for each [`Event`](crate::Event) and a line
+/// `end`. LF ends each line. A stop stands first in its life. Bytes may come of a side that is
+/// open, and a side closes where it is open and opens where it is not. Numbers have no zero in
+/// front.
 ///
 /// # Errors
 /// `Line` exactly where this is the first line with which no capture goes on; a text that ends too
@@ -93,13 +95,14 @@ pub fn read_capture(alloc: Global, text: &[u8]) -> Result<Capture, CaptureFault>
     ensures { Reads text.now result }
 {
     let (line, rest) = read_title(text)?;
-    let Some((names, heart)) = read_names(line) else {
+    let Some((names, heart, reset)) = read_names(line) else {
         return Err(CaptureFault::Line(2));
     };
     let lives = read_lives(alloc, rest)?;
     Ok(Capture {
         names,
         heart,
+        reset,
         lives,
     })
 }

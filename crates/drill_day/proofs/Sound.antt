@@ -589,6 +589,7 @@ drill_is orders few small = record {
   venue_our = name_is (codes "GATE") refl (omega arith);
   venue_peer = name_is (codes "VENU") refl (omega arith);
   heart = omega arith;
+  reset = tt;
   some = omega arith;
   lives = All-cons (AreEvents []) (life_with orders) [] (life_stands orders few small)
       (All-nil (AreEvents []));

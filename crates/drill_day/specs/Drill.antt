@@ -326,7 +326,8 @@ abbrev pub drill_events : (first count : ℕ) → List Event
 drill_events first count = life_with (orders_from first count)
 
 abbrev pub capture_of : List Event → Capture
-capture_of life = record { names = drill_names; heart = drill_heart; lives = life ∷ [] }
+capture_of life =
+    record { names = drill_names; heart = drill_heart; reset = None; lives = life ∷ [] }
 
 abbrev pub drill_capture : (first count : ℕ) → Capture
 drill_capture first count = capture_of (drill_events first count)
