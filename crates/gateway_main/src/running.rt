@@ -165,8 +165,8 @@ fn stop_lies<R: Files, W: Write + Copy>(rt: &R, lines: W, path: &str) -> bool {
 }
 
 // Whether these words only read the journal.
-fn is_show(words: &[String]) -> bool {
-    matches!(words, [word] if word.as_str() == "show")
+fn only_read(words: &[String]) -> bool {
+    matches!(words, [word] if matches!(word.as_str(), "show" | "migrate"))
 }
 
 // Says how long an end by the stop file takes, where a gateway is to live for so many rounds that it
@@ -205,7 +205,7 @@ fn run_with_journal<
     let (Ok(path), Ok(stop)) = (String::from_str(alloc, journal), stop_path(alloc, journal)) else {
         return Status::NoMemory;
     };
-    let mut disk = if is_show(options.words) {
+    let mut disk = if only_read(options.words) {
         JournalFile::to_read(&rt, &path)
     } else {
         JournalFile::new(&rt, &path)

@@ -41,7 +41,7 @@ pub(crate) fn fault_of(words: &[String]) -> WordsFault<'_> {
     };
     let word = word.as_str();
     match word {
-        "show" | "replay" | "--help" | "--version" => WordsFault::NotAlone(word),
+        "show" | "migrate" | "replay" | "--help" | "--version" => WordsFault::NotAlone(word),
         "serve" => WordsFault::Form(
             word,
             "ROUNDS alone, from 1 to 1000000000, in digits without a leading zero",

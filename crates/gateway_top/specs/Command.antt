@@ -9,7 +9,8 @@ use Rattle.std.specs.declared.option.Option.{Option}
 use Rattle.gateway_top.specs.declared.command.TheConstants.{MAX_ROUNDS, MAX_FIRST, MAX_COUNT}
 use Rattle.gateway_top.specs.declared.command.Command.{Command}
 use Rattle.gateway_top.specs.declared.command.Command.TheVariants.{Help, Version, Stream}
-use Rattle.gateway_top.specs.declared.command.Command.TheVariants.{Serve, Show, Replay, Drill}
+use Rattle.gateway_top.specs.declared.command.Command.TheVariants.{Serve, Show, Migrate, Replay}
+use Rattle.gateway_top.specs.declared.command.Command.TheVariants.{Drill}
 use Rattle.gateway_top.specs.declared.task.Task.TheVariants.{TranslateUp, TranslateDown}
 use Rattle.gateway_top.specs.declared.task.Task.TheVariants.{CheckClient, CheckVenue}
 
@@ -41,6 +42,7 @@ command_of (word ∷ []) =
     if bytes_eq word (codes "--help") then Some Help
     else if bytes_eq word (codes "--version") then Some Version
     else if bytes_eq word (codes "show") then Some Show
+    else if bytes_eq word (codes "migrate") then Some Migrate
     else if bytes_eq word (codes "replay") then Some Replay
     else None
 command_of (first ∷ second ∷ []) =
@@ -75,6 +77,7 @@ calls_output command = true
 abbrev pub calls_disk : Option Command → Bool
 calls_disk (Some (Serve rounds)) = true
 calls_disk (Some Show) = true
+calls_disk (Some Migrate) = true
 calls_disk command = false
 
 abbrev pub calls_taps : Option Command → Bool

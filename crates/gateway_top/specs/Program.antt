@@ -15,14 +15,18 @@ use Rattle.gateway_config.specs.declared.config.Config.{Config}
 use Rattle.gateway_life.specs.declared.end.LifeEnd.{LifeEnd}
 use Rattle.gateway_top.specs.declared.serve_error.ServeError.{ServeError}
 use Rattle.gateway_top.specs.Serve.{Served}
+use Rattle.journal_migrate.specs.declared.migrating.MigrateError.{MigrateError}
+use Rattle.journal_migrate.specs.Migrating.{Migrates}
 use Rattle.journal_show.specs.declared.journal_lines.ShowError.{ShowError}
 use Rattle.journal_show.specs.JournalLines.{Shows}
 use Rattle.capture_replay.specs.declared.error.ReplayError.{ReplayError}
 use Rattle.replay_lines.specs.declared.printing.PrintError.{PrintError}
 use Rattle.gateway_top.specs.declared.command.Command.{Command}
 use Rattle.gateway_top.specs.declared.command.Command.TheVariants.{Help, Version, Stream}
-use Rattle.gateway_top.specs.declared.command.Command.TheVariants.{Serve, Show, Replay, Drill}
-use Rattle.gateway_top.specs.Status.{served_status, shown_status, replayed_status}
+use Rattle.gateway_top.specs.declared.command.Command.TheVariants.{Serve, Show, Migrate, Replay}
+use Rattle.gateway_top.specs.declared.command.Command.TheVariants.{Drill}
+use Rattle.gateway_top.specs.Status.{served_status, shown_status, migrated_status}
+use Rattle.gateway_top.specs.Status.{replayed_status}
 use Rattle.gateway_top.specs.Status.{drilled_status}
 use Rattle.gateway_top.specs.declared.task.Task.{Task}
 use Rattle.gateway_top.specs.declared.status.Status.{Status}
@@ -150,6 +154,17 @@ IfShow command holds = Unit {0}
 abbrev pub ShownBy : Status → Option (List ℕ) → Option (List ℕ) → Option (List ℕ) → Type 0
 ShownBy status told old new = (answer : Result ⊤ ShowError)
     × (status ≡ shown_status answer) × IfSome told (λ bytes. Shows bytes answer old new)
+
+-- ---- migrate
+
+abbrev pub IfMigrate : Option Command → Type 0 → Type 0
+IfMigrate (Some Migrate) holds = holds
+IfMigrate command holds = Unit {0}
+
+-- THE JOURNAL WAS MIGRATED, by the status, where its disk tells what it holds.
+abbrev pub MigratedBy : Status → Option (List ℕ) → Option (List ℕ) → Option (List ℕ) → Type 0
+MigratedBy status told old new = (answer : Result ⊤ MigrateError)
+    × (status ≡ migrated_status answer) × IfSome told (λ bytes. Migrates bytes answer old new)
 
 -- ---- replay and drill
 

@@ -8,6 +8,8 @@ use Rattle.gateway_life.specs.declared.end.LifeEnd.{LifeEnd}
 use Rattle.gateway_life.specs.declared.end.LifeEnd.TheVariants as lives
 use Rattle.gateway_top.specs.declared.serve_error.ServeError.{ServeError}
 use Rattle.gateway_top.specs.declared.serve_error.ServeError.TheVariants as serves
+use Rattle.journal_migrate.specs.declared.migrating.MigrateError.{MigrateError}
+use Rattle.journal_migrate.specs.declared.migrating.MigrateError.TheVariants as migrates
 use Rattle.journal_show.specs.declared.journal_lines.ShowError.{ShowError}
 use Rattle.journal_show.specs.declared.journal_lines.ShowError.TheVariants as shows
 use Rattle.capture_replay.specs.declared.error.ReplayError.{ReplayError}
@@ -48,6 +50,7 @@ key_name keys.VenueOur = codes "VenueOur"
 key_name keys.VenuePeer = codes "VenuePeer"
 key_name keys.VenueHeart = codes "VenueHeart"
 key_name keys.Window = codes "Window"
+key_name keys.Reset = codes "Reset"
 key_name keys.Unknown = codes "Unknown"
 
 abbrev pub status_line : Status → List ℕ
@@ -104,6 +107,13 @@ status_of_show (shows.JournalRefused at) = JournalRefused at
 status_of_show shows.OutputFault = OutputFault
 status_of_show shows.NoMemory = NoMemory
 
+abbrev pub status_of_migrate : MigrateError → Status
+status_of_migrate migrates.DiskFault = DiskFault
+status_of_migrate migrates.OutputFault = OutputFault
+status_of_migrate (migrates.JournalRefused at) = JournalRefused at
+status_of_migrate migrates.Full = JournalFull
+status_of_migrate migrates.NoMemory = NoMemory
+
 abbrev pub status_of_replay : ReplayError → Status
 status_of_replay replays.InputFault = InputFault
 status_of_replay replays.InputTooLong = InputTooLong
@@ -124,6 +134,11 @@ served_status (Err error) = status_of_error error
 abbrev pub shown_status : Result ⊤ ShowError → Status
 shown_status (Ok done) = Done
 shown_status (Err error) = status_of_show error
+
+-- of `migrate`
+abbrev pub migrated_status : Result ⊤ MigrateError → Status
+migrated_status (Ok done) = Done
+migrated_status (Err error) = status_of_migrate error
 
 -- of `replay`
 abbrev pub replayed_status : Result ⊤ ReplayError → Status

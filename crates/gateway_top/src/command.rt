@@ -30,6 +30,8 @@ pub enum Command {
     Serve(u64),
     /// `show`: the entries of the journal as lines.
     Show,
+    /// `migrate`: the journal of format 1 as one of format 2.
+    Migrate,
     /// `replay`: the lives of a capture.
     Replay,
     /// `drill FIRST COUNT`: a day of so many orders, made from that number.
@@ -82,6 +84,7 @@ fn of_one(word: &str) -> Option<Command>
         "--help" => Some(Command::Help),
         "--version" => Some(Command::Version),
         "show" => Some(Command::Show),
+        "migrate" => Some(Command::Migrate),
         "replay" => Some(Command::Replay),
         _ => None,
     }

@@ -15,8 +15,10 @@ ghost use Rattle.capture_replay.specs.Drills.{Drills};
 ghost use Rattle.gateway_top.specs.Command.{command_of, calls_input, calls_output, calls_disk};
 ghost use Rattle.gateway_top.specs.Command.{calls_taps, calls_wires};
 ghost use Rattle.gateway_top.specs.Program.{Wrote, Does, ReadsToEnd, IfServe, ServedBy, IfShow};
-ghost use Rattle.gateway_top.specs.Program.{ShownBy, IfReplay, ReplayedBy, IfDrill, DrilledBy};
-ghost use Rattle.gateway_top.specs.Status.{served_status, shown_status, replayed_status};
+ghost use Rattle.gateway_top.specs.Program.{ShownBy, IfMigrate, MigratedBy, IfReplay, ReplayedBy};
+ghost use Rattle.gateway_top.specs.Program.{IfDrill, DrilledBy};
+ghost use Rattle.gateway_top.specs.Status.{served_status, shown_status, migrated_status};
+ghost use Rattle.gateway_top.specs.Status.{replayed_status};
 ghost use Rattle.gateway_top.specs.Status.{drilled_status};
 
 use crate::Status;
@@ -28,6 +30,7 @@ use crate::stream::run_stream;
 use capture_replay::{ReplayError, drill, replay_input};
 use drop_taps::Tap;
 use gateway_life::LifeEnd;
+use journal_migrate::{MigrateError, migrate_journal};
 use journal_show::{ShowError, show};
 use outside::{Disk, Sink, Source};
 use replay_lines::PrintError;
@@ -47,6 +50,8 @@ Usage: fixgate [OPTIONS] COMMAND
                   which nothing comes has 72,000, and behind a stop file
                   2,000,000 or more go by in a second
   show            prints a line for each entry of the journal
+  migrate         writes the journal of format 1, as fixgate 0.12 kept it, to
+                  standard output as one of format 2; the file is only read
   translate up    reads FIX 4.2 order requests from standard input and writes
                   them to standard output as the venue takes them; ends at the
                   first piece of the input that it refuses
@@ -130,6 +135,16 @@ fn of_show(answer: Result<(), ShowError>) -> Status
     }
 }
 
+/// The status of what `migrate` answers.
+fn of_migrate(answer: Result<(), MigrateError>) -> Status
+    ensures { result ≡ migrated_status answer }
+{
+    match answer {
+        Ok(()) => Status::Done,
+        Err(error) => Status::from(error),
+    }
+}
+
 /// The status of what `replay` answers.
 fn of_replay(answer: Result<(), ReplayError>) -> Status
     ensures { result ≡ replayed_status answer }
@@ -206,6 +221,12 @@ pub fn run<I: Source, O: Sink, D: Disk, C: Wire, V: Wire, K: Clock>(
     ensures only_reads { IfShow (command_of (map string_bytes words.now))
         (OnlyReads D.bytes D.image disk.old disk.new) }
 
+    // What `migrate` put of the journal of format 1, which it only read.
+    ensures migrates { IfMigrate (command_of (map string_bytes words.now))
+        (MigratedBy result (D.bytes disk.old) (O.bytes out.old) (O.bytes out.new)) }
+    ensures only_migrates { IfMigrate (command_of (map string_bytes words.now))
+        (OnlyReads D.bytes D.image disk.old disk.new) }
+
     // What `replay` read as its capture, and the lives of that.
     ensures replays { IfReplay (command_of (map string_bytes words.now))
         ((taken : List ℕ) × Consumes (I.left input.old) (I.left input.new) taken
@@ -251,6 +272,7 @@ pub fn run<I: Source, O: Sink, D: Disk, C: Wire, V: Wire, K: Clock>(
             alloc, rounds, input, disk, client, venue, clock, taps,
         )),
         Some(Command::Show) => of_show(show(alloc, disk, out)),
+        Some(Command::Migrate) => of_migrate(migrate_journal(alloc, disk, out)),
         Some(Command::Replay) => of_replay(replay_input(alloc, input, out, taps)),
         Some(Command::Drill { first, count }) => of_drill(drill(alloc, first, count, out, taps)),
         Some(Command::Help) => write_text(out, HELP),

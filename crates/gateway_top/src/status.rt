@@ -3,12 +3,14 @@
 ghost use Rattle.std.specs.Prelude.{◌≡◌};
 ghost use Rattle.gateway_top.specs.Status.{code_of, end_of, status_of_life, status_of_error};
 ghost use Rattle.gateway_top.specs.Status.{status_of_show, status_of_replay, status_of_print};
+ghost use Rattle.gateway_top.specs.Status.{status_of_migrate};
 ghost use Rattle.gateway_top.specs.Status.{key_name};
 
 use crate::serve_error::ServeError;
 use capture_replay::ReplayError;
 use gateway_config::ConfigKey;
 use gateway_life::LifeEnd;
+use journal_migrate::MigrateError;
 use journal_show::ShowError;
 use order_meaning::{Names, Side};
 use replay_lines::PrintError;
@@ -60,6 +62,7 @@ fn key_name(key: ConfigKey) -> &'static str
         ConfigKey::VenuePeer => "VenuePeer",
         ConfigKey::VenueHeart => "VenueHeart",
         ConfigKey::Window => "Window",
+        ConfigKey::Reset => "Reset",
         ConfigKey::Unknown => "Unknown",
     }
 }
@@ -129,6 +132,20 @@ impl From<ShowError> for Status {
             ShowError::JournalRefused { at } => Status::JournalRefused { at },
             ShowError::OutputFault => Status::OutputFault,
             ShowError::NoMemory => Status::NoMemory,
+        }
+    }
+}
+
+impl From<MigrateError> for Status {
+    ghost from_gives = { λ error status. status ≡ status_of_migrate error };
+
+    fn from(error: MigrateError) -> Status {
+        match error {
+            MigrateError::DiskFault => Status::DiskFault,
+            MigrateError::OutputFault => Status::OutputFault,
+            MigrateError::JournalRefused { at } => Status::JournalRefused { at },
+            MigrateError::Full => Status::JournalFull,
+            MigrateError::NoMemory => Status::NoMemory,
         }
     }
 }

@@ -13,11 +13,14 @@ use wires::{ListClock, QuietWire};
 /// A disk on which a journal was born, of GATE and CLNT, and of GATE and VENU: so many zeros stand
 /// behind each text.
 const BORN: [(&[u8], usize); 4] = [
-    (b"\x01\0\0\0\x9bFIXGATEWAY1\x04GATE", 31),
+    (b"\x01\0\0\0\x9bFIXGATEWAY2\x04GATE", 31),
     (b"\x04CLNT", 31),
     (b"\x04GATE", 31),
     (b"\x04VENU", 32),
 ];
+
+/// Where the digit of its format stands.
+const FORMAT_AT: usize = 15;
 
 /// The words of a command line behind the program's name.
 fn words_of(alloc: Global, command: &str) -> Result<Vec<String>, AllocError> {
@@ -37,16 +40,21 @@ fn failing(alloc: Global, fault: &str, kind: &str) -> Result<Vec<u64>, AllocErro
     Ok(calls)
 }
 
-/// What stands on the disk before the run: nothing, so many zeros, or a journal that was born.
+/// What stands on the disk before the run: nothing, so many zeros, or a journal that was born, of
+/// format 2 or, where it is old, of format 1.
 fn content(alloc: Global, fault: &str) -> Result<Vec<u8>, AllocError> {
     let mut bytes = Vec::new(alloc);
     let zeros = number_behind(fault, "over").unwrap_or(0);
     bytes.extend_from_slice(&vec![in alloc; 0; zeros as usize]?)?;
-    if fault.split(' ').any(|word| word == "born") {
+    let is_old = fault.split(' ').any(|word| word == "old");
+    if is_old || fault.split(' ').any(|word| word == "born") {
         for (text, zeros) in &BORN {
             bytes.extend_from_slice(text)?;
             bytes.extend_from_slice(&vec![in alloc; 0; *zeros]?)?;
         }
+    }
+    if let (true, Some(digit)) = (is_old, bytes.get_mut(FORMAT_AT)) {
+        *digit = b'1';
     }
     Ok(bytes)
 }

@@ -66,6 +66,7 @@ pub(crate) fn entry_of(
     let outs = outs_of(alloc, outs)?;
     Ok(Entry {
         at,
+        reset: false,
         took,
         next,
         outs,
@@ -120,6 +121,7 @@ pub(crate) fn is_entry(entry: &Entry) -> bool
     ensures { IsTrue result → IsEntry entry.now }
 {
     entry.at <= MAX_AT
+        && !entry.reset
         && is_took(&entry.took)
         && are_next(entry.next)
         && are_outs(entry.outs.as_slice())

@@ -1,6 +1,6 @@
 //! Journals by hand, from the layout alone.
 
-ghost use Rattle.std.specs.Prelude.{◌≡◌, ◌<◌, [], ◌∷◌, IfOk, IfSome};
+ghost use Rattle.std.specs.Prelude.{◌≡◌, ◌<◌, [], ◌∷◌, false, IfOk, IfSome};
 ghost use Rattle.order_meaning.specs.declared.Side.TheVariants as sides;
 ghost use Rattle.pair_journal.specs.Numbers.{GoesOn};
 ghost use Rattle.pair_entries.specs.Payload.{IsEntry};
@@ -43,7 +43,7 @@ fn bytes_of(alloc: Global, parts: &[(&[u8], usize)]) -> Result<Vec<u8>, AllocErr
 }
 
 /// What a journal of these names begins with, up to its closing gate.
-const OPEN: (&[u8], usize) = (b"\x01\0\0\0\x9bFIXGATEWAY1\x04GATE", 31);
+const OPEN: (&[u8], usize) = (b"\x01\0\0\0\x9bFIXGATEWAY2\x04GATE", 31);
 
 const CLIENT: (&[u8], usize) = (b"\x04CLNT", 31);
 
@@ -52,11 +52,20 @@ const GATE: (&[u8], usize) = (b"\x04GATE", 31);
 const VENUE: (&[u8], usize) = (b"\x04VENU", 31);
 
 /// A record of the order that gives out number 1 to the venue, behind its open gate.
-const FIRST_ORDER: &[u8] = b"\x01\0\0\0\x36\0\0\0\0\0\0\x01\x02\x01\0\0\0\x02\0\0\0\x0435=D\
+const FIRST_ORDER: &[u8] = b"\x01\0\0\0\x3a\0\0\0\0\0\0\0\0\0\0\x01\x02\x01\0\0\0\x02\0\0\0\x0435=D\
     \0\0\0\x03\0\0\0\x01\0\0\0\x01\0\0\0\x02\x01\x02\0\0\0\x01\x02\x01D\0\0\0\x0411=A";
 
+/// A record with which day 1 begins.
+const SECOND_DAY: &[u8] = b"\x01\0\0\0\x1e\0\0\0\x01\0\0\0\0\0\0\x01\x02\x03\0\0\0\x01\0\0\0\x01\
+    \0\0\0\x01\0\0\0\x01\0";
+
+/// The client's first message of that day, an order: numbers begin anew.
+const NEXT_ORDER: &[u8] =
+    b"\x01\0\0\0\x3a\0\0\0\x01\0\0\0\0\0\0\x01\x03\x01\0\0\0\x01\0\0\0\x0435=D\
+    \0\0\0\x02\0\0\0\x01\0\0\0\x01\0\0\0\x02\x01\x02\0\0\0\x01\x02\x01D\0\0\0\x0411=A";
+
 #[rattlefmt::skip]
-const IMAGES: [(&str, Parts, Result<Option<u64>, u64>); 18] = [
+const IMAGES: [(&str, Parts, Result<Option<u64>, u64>); 20] = [
     ("no byte", &[], Ok(None)),
     ("161 bytes behind a closed gate", &[(b"", 161)], Ok(None)),
     ("162 bytes behind a closed gate", &[(b"", 162)], Err(0)),
@@ -64,10 +73,10 @@ const IMAGES: [(&str, Parts, Result<Option<u64>, u64>); 18] = [
     ("names without the next gate", &[OPEN, CLIENT, GATE, VENUE], Err(0)),
     ("a gate of 255 behind the names", &[OPEN, CLIENT, GATE, VENUE, (b"\xff", 0)], Ok(Some(0))),
     ("a torn length", &[OPEN, CLIENT, GATE, VENUE, (b"\0\xff\xff", 0)], Ok(Some(0))),
-    ("another mark",
-        &[(b"\x01\0\0\0\x9bFIXGATEWAY2\x04GATE", 31), CLIENT, GATE, VENUE, (b"", 1)], Err(0)),
+    ("another mark, of format 1",
+        &[(b"\x01\0\0\0\x9bFIXGATEWAY1\x04GATE", 31), CLIENT, GATE, VENUE, (b"", 1)], Err(0)),
     ("a birth of another length",
-        &[(b"\x01\0\0\0\x9aFIXGATEWAY1\x04GATE", 31), CLIENT, GATE, VENUE, (b"", 1)], Err(0)),
+        &[(b"\x01\0\0\0\x9aFIXGATEWAY2\x04GATE", 31), CLIENT, GATE, VENUE, (b"", 1)], Err(0)),
     ("a name of no byte", &[OPEN, (b"\0", 35), GATE, VENUE, (b"", 1)], Err(0)),
     ("a name of 36 bytes", &[OPEN, (b"\x24CLNT", 31), GATE, VENUE, (b"", 1)], Err(0)),
     ("a byte behind a name", &[OPEN, (b"\x04CLNT_", 30), GATE, VENUE, (b"", 1)], Err(0)),
@@ -77,7 +86,11 @@ const IMAGES: [(&str, Parts, Result<Option<u64>, u64>); 18] = [
     ("a length of 0", &[OPEN, CLIENT, GATE, VENUE, (b"\x01", 9)], Err(160)),
     ("a length of 65,537", &[OPEN, CLIENT, GATE, VENUE, (b"\x01\0\x01\0\x01", 65_538)], Err(160)),
     ("numbers that do not go on",
-        &[OPEN, CLIENT, GATE, VENUE, (FIRST_ORDER, 0), (FIRST_ORDER, 1)], Err(219)),
+        &[OPEN, CLIENT, GATE, VENUE, (FIRST_ORDER, 0), (FIRST_ORDER, 1)], Err(223)),
+    ("an order, a new day, and an order with number 1 again",
+        &[OPEN, CLIENT, GATE, VENUE, (FIRST_ORDER, 0), (SECOND_DAY, 0), (NEXT_ORDER, 1)], Ok(Some(3))),
+    ("an order of the day before",
+        &[OPEN, CLIENT, GATE, VENUE, (SECOND_DAY, 0), (FIRST_ORDER, 1)], Err(195)),
 ];
 
 /// How many entries the journal on a disk has; none where it is unborn.
@@ -106,7 +119,8 @@ fn an_image_is_read_record_by_record(rt: HostRuntime) -> Result<(), Fail> {
 
 /// An entry that took the client's message 2 and gives out number 1 to the venue.
 #[rattlefmt::skip]
-const ORDER: [u8; 54] = [
+const ORDER: [u8; 58] = [
+    0, 0, 0, 0, // on the first day
     0, 0, 0, 0, 0, 0, 1, 2, // at 258
     1, 0, 0, 0, 2, 0, 0, 0, 4, b'3', b'5', b'=', b'D', // took
     0, 0, 0, 3, 0, 0, 0, 1, 0, 0, 0, 1, 0, 0, 0, 2, // next
@@ -116,26 +130,48 @@ const ORDER: [u8; 54] = [
 
 /// A byte of the order, what it becomes, and what that shows.
 #[rattlefmt::skip]
-const BROKEN: [(usize, u8, &str); 14] = [
-    (2, 4, "a moment past 2099"),
-    (8, 3, "a third side took"),
-    (12, 0, "a number 0 taken"),
-    (9, 60, "a number past 999,999,999 taken"),
-    (15, 33, "a raw body past 8,192 bytes"),
-    (24, 0, "a next number 0"),
-    (21, 60, "a next number past 1,000,000,000"),
-    (37, 5, "five outs"),
-    (37, 0, "bytes behind the last out"),
-    (38, 0, "an out to no side"),
-    (43, 4, "a fifth mark"),
-    (44, 0, "an empty type"),
-    (44, 9, "a type of nine bytes"),
-    (49, 5, "a content cut short"),
+const BROKEN: [(usize, u8, &str); 15] = [
+    (3, 1, "a day that did not begin"),
+    (6, 4, "a moment past 2099"),
+    (12, 4, "a third side took"),
+    (16, 0, "a number 0 taken"),
+    (13, 60, "a number past 999,999,999 taken"),
+    (19, 33, "a raw body past 8,192 bytes"),
+    (28, 0, "a next number 0"),
+    (25, 60, "a next number past 1,000,000,000"),
+    (41, 5, "five outs"),
+    (41, 0, "bytes behind the last out"),
+    (42, 0, "an out to no side"),
+    (47, 4, "a fifth mark"),
+    (48, 0, "an empty type"),
+    (48, 9, "a type of nine bytes"),
+    (53, 5, "a content cut short"),
 ];
 
-/// The order with one byte changed.
-fn broken(alloc: Global, place: usize, byte: u8) -> Result<Vec<u8>, AllocError> {
-    let mut bytes = Vec::from_slice(alloc, &ORDER)?;
+/// An entry with which a day begins.
+#[rattlefmt::skip]
+const NEW_DAY: [u8; 30] = [
+    0, 0, 0, 1, // day 1
+    0, 0, 0, 0, 0, 0, 1, 2, // at 258
+    3, // it begins
+    0, 0, 0, 1, 0, 0, 0, 1, 0, 0, 0, 1, 0, 0, 0, 1, // next
+    0, // no out
+];
+
+/// A byte of it, what it becomes, and what that shows.
+#[rattlefmt::skip]
+const NO_DAY: [(usize, u8, &str); 6] = [
+    (3, 0, "the day before"),
+    (3, 2, "a day was left out"),
+    (12, 0, "no day begins"),
+    (12, 1, "what the client said is missing"),
+    (16, 2, "a number was taken on it"),
+    (29, 1, "an out is missing"),
+];
+
+/// A payload with one byte changed.
+fn broken(alloc: Global, payload: &[u8], place: usize, byte: u8) -> Result<Vec<u8>, AllocError> {
+    let mut bytes = Vec::from_slice(alloc, payload)?;
     if let Some(old) = bytes.get_mut(place) {
         *old = byte;
     }
@@ -171,33 +207,48 @@ pub(crate) fn entry_on(
     Ok(Some(entry))
 }
 
-/// Whether the entry of a record of this payload is written as this payload again.
-fn is_kept(alloc: Global, payload: &[u8]) -> Result<bool, JournalError> {
+/// Whether the entry of a record of this payload is written as this payload again, on this day.
+fn is_kept(alloc: Global, payload: &[u8], day: u32) -> Result<bool, JournalError> {
     let mut disk = MemDisk::new(alloc, image_of(alloc, payload)?, Vec::new(alloc));
     match entry_on(alloc, &mut disk, 0)? {
-        Some(entry) => Ok(prepare(alloc, entry)?.payload() == payload),
+        Some(entry) => Ok(prepare(alloc, entry)?.dated(day).payload() == payload),
         None => Ok(false),
     }
 }
 
-/// The same, with one byte of the order changed.
-fn is_broken_kept(alloc: Global, place: usize, byte: u8) -> Result<bool, JournalError> {
-    let payload = broken(alloc, place, byte)?;
-    is_kept(alloc, &payload)
+/// The same, with one byte of a payload changed.
+fn is_broken_kept(
+    alloc: Global,
+    payload: &[u8],
+    place: usize,
+    byte: u8,
+) -> Result<bool, JournalError> {
+    let payload = broken(alloc, payload, place, byte)?;
+    is_kept(alloc, &payload, 0)
 }
 
 #[test]
 fn a_payload_is_read_and_written_or_has_a_broken_field(rt: HostRuntime) -> Result<(), Fail> {
-    assert_eq!(rt; is_kept(rt.alloc(), &ORDER), Ok(true));
+    assert_eq!(rt; is_kept(rt.alloc(), &ORDER, 0), Ok(true));
     for (place, byte, shows) in &BROKEN {
-        let kept = is_broken_kept(rt.alloc(), *place, *byte);
+        let kept = is_broken_kept(rt.alloc(), &ORDER, *place, *byte);
+        assert_eq!(rt; kept, Err(JournalError::Refused { at: 160 }), "{shows}");
+    }
+    Ok(())
+}
+
+#[test]
+fn a_new_day_is_read_and_written_or_is_none(rt: HostRuntime) -> Result<(), Fail> {
+    assert_eq!(rt; is_kept(rt.alloc(), &NEW_DAY, 1), Ok(true));
+    for (place, byte, shows) in &NO_DAY {
+        let kept = is_broken_kept(rt.alloc(), &NEW_DAY, *place, *byte);
         assert_eq!(rt; kept, Err(JournalError::Refused { at: 160 }), "{shows}");
     }
     Ok(())
 }
 
 /// The longest payload up to its raw body, and behind that up to its outs.
-const LONG_HEAD: &[u8] = b"\0\0\x03\xbb\x2c\xc3\xd7\xff\x02\x3b\x9a\xc9\xff\0\0\x20\0";
+const LONG_HEAD: &[u8] = b"\0\0\0\0\0\0\x03\xbb\x2c\xc3\xd7\xff\x02\x3b\x9a\xc9\xff\0\0\x20\0";
 
 const LONG_NEXT: &[u8] = b"\0\0\0\x01\0\0\0\x03\x3b\x9a\xca\0\0\0\0\x03\x04";
 
@@ -225,7 +276,7 @@ fn longest(alloc: Global) -> Result<Vec<u8>, AllocError> {
 #[test]
 fn the_longest_entry_is_read_and_written(rt: HostRuntime) -> Result<(), Fail> {
     let payload = longest(rt.alloc())?;
-    assert_eq!(rt; is_kept(rt.alloc(), &payload), Ok(true));
+    assert_eq!(rt; is_kept(rt.alloc(), &payload, 0), Ok(true));
     Ok(())
 }
 
@@ -271,13 +322,15 @@ fn one(alloc: Global, out: Out) -> Result<Outs, AllocError>
 fn order(alloc: Global, next: Next, content: &[u8]) -> Result<Entry, AllocError>
     requires client { next.0 < MAX_NEXT }
     requires venue { next.3 < MAX_NEXT }
-    ensures { IfOk result (λ entry. GoesOn next entry) }
+    ensures goes_on { IfOk result (λ entry. GoesOn next entry) }
+    ensures same_day { IfOk result (λ entry. entry.reset ≡ false) }
 {
     let out = order_out(alloc, next.3, content)?;
     let outs = one(alloc, out)?;
     let took = order_took(alloc)?;
     Ok(Entry {
         at: 258,
+        reset: false,
         took: Some(took),
         next: (next.0 + 1, next.1, next.2, next.3 + 1),
         outs,

@@ -13,6 +13,8 @@ mod lines;
 #[cfg(test)]
 mod logs;
 #[cfg(test)]
+mod migrating;
+#[cfg(test)]
 mod outs;
 #[cfg(test)]
 mod taps;

@@ -95,6 +95,7 @@ fn longest(alloc: Global, raw: Bytes) -> Result<Entry, AllocError> {
     let outs = outs_of(alloc, &LONGEST_OUTS)?;
     Ok(Entry {
         at: MAX_AT,
+        reset: false,
         took: Some(Took {
             side: Side::Client,
             number: MAX_NUMBER,
