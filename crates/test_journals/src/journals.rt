@@ -410,7 +410,7 @@ fn a_stop_leaves_the_old_journal_or_the_new(rt: HostRuntime) -> Result<(), Fail>
 }
 
 /// The next of numbers that look drawn, as a byte.
-fn draw(seed: &mut u32) -> u8 {
+pub(crate) fn draw(seed: &mut u32) -> u8 {
     *seed = seed.wrapping_mul(1_664_525).wrapping_add(1_013_904_223);
     seed.to_be_bytes()[0]
 }
@@ -436,7 +436,7 @@ fn tear(left: &mut [u8], (at, len): (u64, usize), seed: &mut u32) {
 }
 
 /// What a crash may leave of a disk whose last write is pending: any bytes there, any length.
-fn torn(disk: &MemDisk, seed: &mut u32) -> Result<Vec<u8>, AllocError> {
+pub(crate) fn torn(disk: &MemDisk, seed: &mut u32) -> Result<Vec<u8>, AllocError> {
     let shortest = disk.image(Image::Old)?.len();
     let mut left = disk.image(Image::New)?;
     if let Some(write) = last_write(disk.calls()) {
@@ -458,7 +458,7 @@ fn may_leave(born: bool, passes: u8) -> [Option<u64>; 2] {
 }
 
 /// The bytes of an empty disk, or of one of one entry.
-fn begun(alloc: Global, names: &Names, born: bool) -> Result<Vec<u8>, JournalError> {
+pub(crate) fn begun(alloc: Global, names: &Names, born: bool) -> Result<Vec<u8>, JournalError> {
     let mut disk = MemDisk::new(alloc, Vec::new(alloc), Vec::new(alloc));
     if born {
         live(alloc, &mut disk, names, b"11=A")?;

@@ -3,6 +3,8 @@
 #![tactic(auto)]
 
 #[cfg(test)]
+mod days;
+#[cfg(test)]
 mod disks;
 #[cfg(test)]
 mod entries;
