@@ -3,6 +3,7 @@
 
 mod disks;
 mod lives;
+mod outs;
 mod peers;
 mod scripts;
 mod wire_calls;

@@ -2,6 +2,7 @@
 
 use crate::disks::{disk, pick};
 use crate::lives::{Given, Input, input_of, quiet, shows, tapped};
+use crate::outs::outs;
 use crate::peers::Peer;
 use crate::scripts::{Plan, Poll, stream, written};
 use crate::wire_calls::{clock_text, quiet_text, wire_answer, wire_of};
@@ -256,6 +257,12 @@ impl World {
         shows(alloc, &mut disk, given)
     }
 
+    // What the journal of the present bytes gives out to a side.
+    fn outs(&self, alloc: Global, given: &str) -> Result<String, AllocError> {
+        let mut disk = disk(alloc, &self.image, "-")?;
+        outs(alloc, &mut disk, given)
+    }
+
     // The answer to a row of one life.
     fn life_answer(
         &mut self,
@@ -270,6 +277,7 @@ impl World {
             "told" => self.told(alloc, given),
             "connections" => self.connections(alloc),
             "show" => self.show(alloc, given),
+            "outs" => self.outs(alloc, given),
             _ => self.wire_answer(alloc, call, given),
         }
     }
