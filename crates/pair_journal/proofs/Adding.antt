@@ -1,7 +1,8 @@
 -- What a journal keeps of its entries, with one more.
-use Rattle.std.proofs.Common.{◌≡◌, ℕ, ◌+◌, ◌<◌, ◌≤◌, ◌^◌, Bool, true, false, List, [], ◌∷◌, ◌++◌, length}
-use Rattle.std.proofs.Common.{refl, sym, ◌∙◌, ap, subst, arith, ◌-◌, min, leb, leb-true, Ok, Err}
-use Rattle.std.specs.Prelude.{Result, OnErr, IsErrAnd}
+use Rattle.std.proofs.Common.{◌≡◌, ℕ, ◌+◌, ◌<◌, ◌≤◌, ◌^◌, Bool, true, false, List, [], ◌∷◌, ◌++◌}
+use Rattle.std.proofs.Common.{length, refl, sym, ◌∙◌, ap, subst, arith, ◌-◌, min, leb, leb-true, Ok}
+use Rattle.std.proofs.Common.{Err}
+use Rattle.std.specs.Prelude.{Result, OnErr, IsErrAnd, if◌then◌else◌}
 use Rattle.std.proofs.Math.Nat.{min-zero, min-eq_left, min-eq_right}
 use Rattle.order_meaning.specs.declared.names.Names.{Names}
 use Rattle.outside.specs.declared.disk.TheConstants.{MAX_DISK}
@@ -14,15 +15,12 @@ use Rattle.pair_journal.specs.declared.error.JournalError.{JournalError}
 use Rattle.pair_journal.specs.Calls.{Commits, journal_error, payloads_of}
 use Rattle.pair_journal.specs.Loading.{HasExtent}
 use Rattle.pair_journal.proofs.Carrying.{has_room, has_none}
-use Rattle.pair_entries.specs.Payload.{Next}
-use Rattle.pair_entries.specs.Payload.{AreNext}
+use Rattle.pair_entries.specs.Payload.{Next, AreNext, IsEntry}
 use Rattle.pair_journal.specs.State.{JournalState, KeptState}
 use Rattle.pair_journal.proofs.Giving.{not_past}
-use Rattle.std.specs.Prelude.{if◌then◌else◌}
 use Rattle.order_meaning.specs.declared.Side.{Side}
 use Rattle.pair_entries.specs.declared.entry.Entry.{Entry}
 use Rattle.std.specs.declared.option.Option.{Option}
-use Rattle.pair_entries.specs.Payload.{IsEntry}
 use Rattle.pair_journal.specs.Numbers.{GoesOn, first_numbers, numbers_before, numbers_after}
 use Rattle.pair_journal.specs.Journal.{DaysGoOn}
 use Rattle.pair_journal.specs.Days.{last_day, past_of, begun_with, day_at, day_after, day_number}
@@ -35,10 +33,6 @@ use Rattle.pair_journal.proofs.Dating.{DaysGoOn-push, day_number-push, day_at-pu
 use Rattle.pair_journal.proofs.Dating.{past_reset, last_day-push, last_day-reset, few_days}
 use Rattle.pair_journal.proofs.Marking.{behind_push, end_push, far_entries}
 use Rattle.pair_journal.proofs.Noting.{sources_push}
-
-pub spare_true : (b : Bool) → 1 ≤ (if b then 1 else 0) → b ≡ true
-spare_true true some = refl
-spare_true false some = absurd (omega (arith, some))
 
 -- by whether a day begins
 by_reset : {A : Type 0} (b c : Bool) (x y z : A) → b ≡ c → (c ≡ true → x ≡ z) → (c ≡ false → y ≡ z)
@@ -108,8 +102,8 @@ spent : (b : Bool) → 0 ≡ (if b then 1 else 0) - 1
 spent true = refl
 spent false = refl
 
-kept_join : (es es' : List Entry) (s s' : ℕ) → es ≡ es' → s ≡ s'
-    → ◌≡◌ {A = KeptState} (record { entries = es; spare = s }) (record { entries = es'; spare = s' })
+kept_join : (es es' : List Entry) (s s' : ℕ) → es ≡ es' → s ≡ s' → ◌≡◌ {A = KeptState}
+    (record { entries = es; spare = s }) (record { entries = es'; spare = s' })
 kept_join es es' s s' he hs = cc
 
 state_join : (n n' : Names) (es es' : List Entry) (b b' : Bool) (s s' : ℕ) → n ≡ n' → es ≡ es'

@@ -1,8 +1,7 @@
 -- A journal with one entry more, on the disk and in memory.
-use Rattle.std.proofs.Common.{◌≡◌, inl, inr, ℕ, zero, suc, ◌+◌, ◌-◌, ◌<◌, ◌≤◌, List, [], ◌∷◌}
-use Rattle.std.proofs.Common.{◌++◌, length, map, slice_index_or, refl, sym, ◌∙◌, ap, subst, arith}
-use Rattle.std.proofs.Common.{length-append, Some, None, is_some, IfSome}
-use Rattle.std.specs.List.{slice_get}
+use Rattle.std.proofs.Common.{◌≡◌, inl, inr, ℕ, ◌+◌, ◌-◌, ◌<◌, ◌≤◌, List, [], ◌∷◌, ◌++◌, length}
+use Rattle.std.proofs.Common.{refl, sym, ◌∙◌, ap, subst, arith, length-append, Some, None, is_some}
+use Rattle.std.proofs.Common.{IfSome}
 use Rattle.std.specs.Option.{ForSome}
 use Rattle.std.specs.declared.option.Option.{Option}
 use Rattle.outside.specs.declared.disk.TheConstants.{MAX_DISK}
@@ -72,30 +71,6 @@ stands_log bytes log inside journal seen has (payloads, stands, spelt) =
         end = extent.end ∙ ap (λ (l : List (List ℕ)). length (blocks l)) (sym spelt.written);
       },
     )
-
--- ---- the last entry, and each
-
-pub last_next : (before : Next) (entries : List Entry) (i : ℕ) (entry : Entry) → i + 1
-    ≡ length entries → slice_get entries i ≡ Some entry → entry.next ≡ numbers_after before entries
-last_next before [] i entry last e = absurd (cc e)
-last_next before (a ∷ []) zero entry last e =
-    let same : a ≡ entry = cc e in ap (λ (x : Entry). x.next) (sym same)
-last_next before (a ∷ b ∷ es) zero entry last e = absurd (omega (arith, last))
-last_next before (a ∷ es) (suc i) entry last e = last_next a.next es i entry (omega (arith, last)) e
-
-pub get_is : (entries : List Entry) (i : ℕ) (entry : Entry)
-    → i < length entries → entry ≡ slice_index_or entries i entry → slice_get entries i ≡ Some entry
-get_is [] i entry within e = absurd (omega (arith, within))
-get_is (a ∷ es) zero entry within e = ap (λ (x : Entry). Some x) (sym e)
-get_is (a ∷ es) (suc i) entry within e = get_is es i entry (omega (arith, within)) e
-
-pub last_of : (before : Next) (entries : List Entry) (entry : Entry) → slice_get
-    entries (length entries - 1) ≡ Some entry → entry.next ≡ numbers_after before entries
-last_of before [] entry e = absurd (cc e)
-last_of before (a ∷ es) entry e =
-    let i : length (a ∷ es) - 1 ≡ length es = omega arith in
-    last_next before (a ∷ es)
-    (length es) entry (omega arith) (subst (λ n. slice_get (a ∷ es) n ≡ Some entry) i e)
 
 -- ---- what a commit leaves
 

@@ -10,7 +10,7 @@ use Rattle.std.proofs.lemmas.List.{take_at, take_all}
 use Rattle.std.proofs.lemmas.List.Sums.{fold-append}
 use Rattle.pair_entries.specs.declared.TheConstants.{MAX_AT}
 use Rattle.pair_entries.specs.declared.entry.Entry.{Entry}
-use Rattle.pair_entries.specs.Payload.{Next, IsEntry, IsReset, payload_on}
+use Rattle.pair_entries.specs.Payload.{Next, IsEntry, payload_on}
 use Rattle.pair_journal.specs.Numbers.{GoesOn, first_numbers, numbers_before, numbers_after}
 use Rattle.pair_journal.specs.Journal.{AreEntries, DaysGoOn}
 use Rattle.pair_journal.specs.Days.{Days, day_ended, day_longer, day_with, no_days, days_of}
@@ -57,7 +57,8 @@ pub with_more : (days : Days) (e : Entry) → e.reset ≡ false → day_with day
 with_more days e is = ap (λ (b : Bool). if b then day_ended days else day_longer days e) is
 
 pub last_day-reset : (es : List Entry) (e : Entry) → e.reset ≡ true → last_day (es ++ e ∷ []) ≡ []
-last_day-reset es e is = ap (λ (d : Days). d.present) (days-push es e ∙ with_reset (days_of es) e is)
+last_day-reset es e is =
+    ap (λ (d : Days). d.present) (days-push es e ∙ with_reset (days_of es) e is)
 
 pub last_day-push : (es : List Entry) (e : Entry) → e.reset ≡ false
     → last_day (es ++ e ∷ []) ≡ last_day es ++ e ∷ []
@@ -120,10 +121,6 @@ moment_from at before (e ∷ es) h on =
 pub is_moment : (es : List Entry) → DaysGoOn first_numbers es
     → IfSome (day_at es) (λ a. a ≤ MAX_AT)
 is_moment es on = moment_from None first_numbers es tt on
-
-pub before_reset : (before : Next) (e : Entry) → e.reset ≡ true
-    → numbers_before before e ≡ first_numbers
-before_reset before e is = ap (λ (b : Bool). if b then first_numbers else before) is
 
 pub before_more : (before : Next) (e : Entry) → e.reset ≡ false → numbers_before before e ≡ before
 before_more before e is = ap (λ (b : Bool). if b then first_numbers else before) is

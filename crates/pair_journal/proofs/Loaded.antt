@@ -1,16 +1,14 @@
 -- What a load answers: of a disk that is only read, and of an unborn one.
-use Rattle.std.proofs.Common.{◌≡◌, inl, inr, ◌⊎◌, ℕ, List, [], ◌∷◌, refl, sym, ◌∙◌, ap}
-use Rattle.std.proofs.Common.{subst, Some, IfSome, IfOk, Ok, Err, arith, length-append}
+use Rattle.std.proofs.Common.{◌≡◌, inl, inr, ◌⊎◌, ℕ, List, [], ◌∷◌, refl, sym, ◌∙◌, ap, subst, Some}
+use Rattle.std.proofs.Common.{IfSome, IfOk, Ok, Err, arith, length-append}
 use Rattle.std.specs.Prelude.{Result, OnOk}
 use Rattle.std.specs.Option.{ForSome}
 use Rattle.std.specs.declared.option.Option.{Option}
 use Rattle.outside.specs.Disk.{Only, AreAmong}
 use Rattle.order_meaning.specs.declared.names.Names.{Names}
-use Rattle.gate_log.specs.Records.{Stands, IsRefused}
+use Rattle.gate_log.specs.Records.{Stands}
 use Rattle.gate_log.specs.Log as log
 use Rattle.gate_log.specs.State.{LogState}
-use Rattle.gate_log.specs.declared.error.LogError.{LogError}
-use Rattle.gate_log.specs.declared.error.LogError.TheVariants as log_errors
 use Rattle.gate_log.proofs.Told.{if_some, at_some}
 use Rattle.pair_entries.specs.declared.entry.Entry.{Entry}
 use Rattle.pair_journal.specs.declared.error.JournalError.{JournalError}
@@ -19,8 +17,8 @@ use Rattle.pair_journal.specs.Days.{dated}
 use Rattle.pair_entries.specs.Birth.{birth_bytes, AreNames}
 use Rattle.pair_journal.specs.Journal.{JournalOf, Unborn, Born, Refused}
 use Rattle.pair_journal.specs.State.{JournalState}
-use Rattle.pair_journal.specs.Calls.{Loads, BornOrNot, ReadsOnly, journal_error}
-use Rattle.pair_journal.specs.Loading.{IsMisread, Tells, HasNames, HasExtent}
+use Rattle.pair_journal.specs.Calls.{Loads, BornOrNot, ReadsOnly}
+use Rattle.pair_journal.specs.Loading.{Tells, HasNames, HasExtent}
 use Rattle.pair_entries.proofs.Names.{birth_size}
 
 -- ---- a disk that is only read
@@ -29,17 +27,6 @@ module _ (names : Names) (told now : Option (List ℕ)) (same : now ≡ told) wh
   after : (Q : List ℕ → Type 0) (b : List ℕ) → told ≡ Some b → Q b → IfSome now Q
   after Q b e holds = if_some now Q (λ x is.
       let one : b ≡ x = cc (sym e ∙ sym same ∙ is) in subst Q one holds)
-
-  pub misread : (e : JournalError)
-      → IsMisread told e → IfSome told (λ b. Loads names b (Err e) now)
-  misread (errors.Refused at) m = if_some told _ (λ b e.
-      let is = at_some told (λ x. JournalOf x (Refused at)) b e m in
-      (is, after (λ x. JournalOf x (Refused at)) b e is))
-  misread (errors.NamesDiffer kept given) m =
-      if_some told _ (λ b e. absurd (at_some told (λ x. ⊥) b e m))
-  misread errors.Full m = if_some told _ (λ b e. absurd (at_some told (λ x. ⊥) b e m))
-  misread errors.DiskFault m = if_some told _ (λ b e. tt)
-  misread errors.NoMemory m = if_some told _ (λ b e. tt)
 
   pub judged : (journal : JournalState) (answer : Result JournalState JournalError)
       → Tells told journal.names journal.entries
@@ -74,16 +61,6 @@ module _ (names : Names) (told now : Option (List ℕ)) (same : now ≡ told) wh
       (sym has.0) (λ x e. at_some told (λ b. JournalOf b (Born journal.names journal.entries))
       x (sym same ∙ e) tells)
   stands_loaded journal (Err error) tells has = tt
-
--- what a look at the log refuses is no journal
-pub refused : (told : Option (List ℕ)) (e : LogError)
-    → IfSome told (λ b. log.Looks b (Err e)) → IsMisread told (journal_error e)
-refused told (log_errors.Foreign at) looks = if_some told _ (λ b e. inl
-    (at_some told (λ x. IsRefused x at) b e looks))
-refused told log_errors.Full looks =
-    if_some told _ (λ b e. absurd (at_some told (λ x. ⊥) b e looks))
-refused told log_errors.DiskFault looks = if_some told _ (λ b e. tt)
-refused told log_errors.NoMemory looks = if_some told _ (λ b e. tt)
 
 -- a journal that was loaded has the names that were asked for
 pub named_so : (names : Names) (journal : JournalState) (answer : Result JournalState JournalError)

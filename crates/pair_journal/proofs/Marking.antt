@@ -4,8 +4,7 @@ use Rattle.std.proofs.Common.{[], ◌∷◌, ◌++◌, length, take, drop, slice
 use Rattle.std.proofs.Common.{subst, arith, length-append, leb, leb-true, le-leb}
 use Rattle.std.specs.List.{AllWithin}
 use Rattle.std.specs.List.Sorted.{IsPartitionedBy}
-use Rattle.std.proofs.lemmas.Bool.Decides.{nat_tests}
-use Rattle.std.proofs.lemmas.List.{take_all, take_at, take-append-le, length-take-le, length-drop}
+use Rattle.std.proofs.lemmas.List.{take_all, take_at, length-take-le, length-drop}
 use Rattle.order_meaning.specs.declared.Side.{Side}
 use Rattle.order_meaning.specs.declared.names.Names.{Names}
 use Rattle.gate_log.specs.Records.{blocks}
@@ -101,74 +100,6 @@ rise_take side before (e ∷ es) (suc m) (suc n) are most =
 
 -- ---- one mark more
 
-index_front : (xs ys : List Spot) (i : ℕ) (d : Spot)
-    → i < length xs → slice_index_or (xs ++ ys) i d ≡ slice_index_or xs i d
-index_front [] ys i d within = absurd (omega (arith, within))
-index_front (x ∷ xs) ys zero d within = refl
-index_front (x ∷ xs) ys (suc i) d within = index_front xs ys i d (omega (arith, within))
-
-index_last : (xs : List Spot) (x : Spot) (i : ℕ) (d : Spot)
-    → i ≡ length xs → slice_index_or (xs ++ x ∷ []) i d ≡ x
-index_last [] x zero d is = refl
-index_last [] x (suc i) d is = absurd (omega (arith, is))
-index_last (y ∷ xs) x zero d is = absurd (omega (arith, is))
-index_last (y ∷ xs) x (suc i) d is = index_last xs x i d (omega (arith, is))
-
--- those of the entries before
-still : (entries : List Entry) (entry : Entry) (marks : List Spot) → AreMarks entries marks
-    → (i : ℕ) (d : Spot) → i < length marks
-    → slice_index_or marks i d ≡ behind (take (64 * (i + 1)) (entries ++ entry ∷ []))
-still entries entry marks are i d within =
-    are.each i d within ∙ ap behind (sym (take-append-le (64 * (i + 1)) entries (entry ∷ [])
-    (omega (arith, are.most, within))))
-
-pub no_mark : (entries : List Entry) (entry : Entry) (marks : List Spot) (end : Spot)
-    → AreMarks entries marks → end ≡ behind (entries ++ entry ∷ [])
-    → (end.index ≡ 64 * (length marks + 1) → ⊥) → AreMarks (entries ++ entry ∷ []) marks
-no_mark entries entry marks end are is other =
-    let size = length-append entries (entry ∷ []) in
-    let index = ap (λ (s : Spot). s.index) is in
-    record {
-      most = omega (arith, are.most, size);
-      least = below (length entries) (length marks) are.least (λ same. other
-          (omega (arith, same, index, size))) size;
-      each = still entries entry marks are;
-    }
-  where
-    below : (n k : ℕ) → n < 64 * (k + 1) → (n + 1 ≡ 64 * (k + 1) → ⊥)
-        → length (entries ++ entry ∷ []) ≡ n + 1 → length (entries ++ entry ∷ []) < 64 * (k + 1)
-    below n k low differ size = grind (arith, nat_tests)
-
-pub one_mark : (entries : List Entry) (entry : Entry) (marks more : List Spot) (end : Spot)
-    → AreMarks entries marks → end ≡ behind (entries ++ entry ∷ [])
-    → end.index ≡ 64 * (length marks + 1) → more ≡ marks ++ end ∷ []
-    → AreMarks (entries ++ entry ∷ []) more
-one_mark entries entry marks more end are is here pushed =
-    subst (AreMarks (entries ++ entry ∷ [])) (sym pushed) (record {
-      most = omega (arith, index, here, length-append marks (end ∷ []));
-      least = omega (arith, index, here, length-append marks (end ∷ []));
-      each = λ i d within. each i d within (leb (length marks) i) refl;
-    })
-  where
-    index : end.index ≡ length (entries ++ entry ∷ [])
-    index = ap (λ (s : Spot). s.index) is
-
-    each : (i : ℕ) (d : Spot) → i < length (marks ++ end ∷ []) → (b : Bool)
-        → leb (length marks) i ≡ b → slice_index_or (marks ++ end ∷ []) i d
-        ≡ behind (take (64 * (i + 1)) (entries ++ entry ∷ []))
-    each i d within true past =
-        let last : i ≡ length marks = omega (
-          arith,
-          within,
-          length-append marks (end ∷ []),
-          leb-true (length marks) i past,
-        ) in
-        index_last marks end i d last ∙ is ∙ ap behind (sym (take_all (64 * (i + 1))
-        (entries ++ entry ∷ []) (omega (arith, last, here, index))))
-    each i d within false past =
-        let front : i < length marks = not_past (length marks) i past in
-        index_front marks (end ∷ []) i d front ∙ still entries entry marks are i d front
-
 index_drop : (xs : List Spot) (n i : ℕ) (d : Spot)
     → slice_index_or (drop n xs) i d ≡ slice_index_or xs (n + i) d
 index_drop [] zero i d = refl
@@ -189,20 +120,6 @@ past_take entries sound = sym (ap (take (length (past_of entries))) (sym (past-l
     ∙ take_at (past_of entries) (last_day entries) (length (past_of entries)) refl)
 
 -- ---- the mark where a walk begins
-
--- that of this count
-pub nth_mark : (entries : List Entry) (marks : List Spot) (count : ℕ) (mark : Spot)
-    → (count ≡ 0 → ⊥) → count ≤ length marks → mark ≡ slice_index_or marks (count - 1) mark
-    → AreMarks entries marks → mark ≡ behind (take (64 * count) entries)
-nth_mark entries marks count mark some most is are =
-    let one : 1 ≤ count = positive count some in
-    let same : 64 * ((count - 1) + 1) ≡ 64 * count = omega (arith, one) in
-    is ∙ are.each (count - 1) mark (omega (arith, one, most))
-    ∙ ap (λ (n : ℕ). behind (take n entries)) same
-  where
-    positive : (n : ℕ) → (n ≡ 0 → ⊥) → 1 ≤ n
-    positive zero none = absurd (none refl)
-    positive (suc n) none = omega arith
 
 module _ (entries : List Entry) (marks : List Spot) (are : AreMarks entries marks) where
   -- numbers rise along the last day

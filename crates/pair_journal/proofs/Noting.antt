@@ -1,7 +1,7 @@
 -- What the outs to a side translate is found by their numbers, which rise.
 use Rattle.std.proofs.Common.{◌≡◌, ℕ, zero, suc, ◌+◌, ◌-◌, ◌<◌, ◌≤◌, ◌==◌, Bool, true, false, List}
-use Rattle.std.proofs.Common.{[], ◌∷◌, ◌++◌, length, slice_index_or, refl, sym, ◌∙◌, ap, subst, arith}
-use Rattle.std.proofs.Common.{append_assoc, Some, None, leb, leb-true, le-leb}
+use Rattle.std.proofs.Common.{[], ◌∷◌, ◌++◌, length, slice_index_or, refl, sym, ◌∙◌, ap, subst}
+use Rattle.std.proofs.Common.{arith, append_assoc, Some, None, leb, leb-true, le-leb}
 use Rattle.std.specs.List.{AllWithin}
 use Rattle.std.specs.List.Sorted.{IsPartitionedBy}
 use Rattle.std.specs.Option.{option_map, option_to_list}
@@ -16,8 +16,7 @@ use Rattle.pair_journal.specs.Journal.{AreEntries}
 use Rattle.pair_journal.specs.Given.{Given, numbered, given_in, source_in, source_of}
 use Rattle.pair_journal.specs.Sources.{source_at, source_to, sources_in, sources_to}
 use Rattle.pair_journal.specs.declared.sources.Source.{Source}
-use Rattle.pair_journal.proofs.Giving.{goes, not_past, none_in, behind, here, passed}
-use Rattle.pair_journal.proofs.Giving.{apart}
+use Rattle.pair_journal.proofs.Giving.{goes, not_past, none_in, behind, here, passed, apart}
 
 -- numbers that rise, the first at least this one
 abbrev pub Rising : ℕ → List Source → Type 0
@@ -131,7 +130,8 @@ module _ (side : Side) (entry : Entry) (rest : List Source) where
   look_none n [] none = refl
   look_none n (o ∷ outs) none = cases (look_none n outs) (is_side side o.side) refl
     where
-      test : (numbered n (outs_to side outs) ≡ None → look n (Of side entry outs rest) ≡ look n rest)
+      test : (numbered n (outs_to side outs) ≡ None
+          → look n (Of side entry outs rest) ≡ look n rest)
           → (b : Bool) → is_side side o.side ≡ true → (o.number == n) ≡ b
           → look n (Of side entry (o ∷ outs) rest) ≡ look n rest
       test more true e here =
@@ -148,7 +148,8 @@ module _ (side : Side) (entry : Entry) (rest : List Source) where
           ∙ look_one_past n o.number (source_in (record { entry = entry; out = o }))
           (sources_in side entry outs) (apart o.number n past) ∙ more on
 
-      cases : (numbered n (outs_to side outs) ≡ None → look n (Of side entry outs rest) ≡ look n rest)
+      cases : (numbered n (outs_to side outs) ≡ None
+          → look n (Of side entry outs rest) ≡ look n rest)
           → (b : Bool) → is_side side o.side ≡ b
           → look n (Of side entry (o ∷ outs) rest) ≡ look n rest
       cases more false e =
@@ -337,8 +338,8 @@ look_last n low (s ∷ ss) (suc i) last d rise within is at_most past =
 module _ (side : Side) (n : ℕ) (entries : List Entry) (are : AreEntries first_numbers entries)
     (list : List Source) (is : list ≡ sources_to side entries) where
   rise : Rising (next_out side first_numbers) list
-  rise = subst (Rising (next_out side first_numbers)) (sym is) (rising_all side first_numbers entries
-      are)
+  rise = subst (Rising (next_out side first_numbers)) (sym is)
+      (rising_all side first_numbers entries are)
 
   told : look n list ≡ source_of side n entries
   told = ap (look n) is ∙ look_is side n first_numbers entries are

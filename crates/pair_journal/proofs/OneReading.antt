@@ -1,6 +1,6 @@
 -- Bytes have one reading.
-use Rattle.std.proofs.Common.{◌≡◌, inl, inr, ◌⊎◌, ℕ, List, [], ◌∷◌, ◌++◌, length, refl, sym}
-use Rattle.std.proofs.Common.{◌∙◌, ap, subst}
+use Rattle.std.proofs.Common.{◌≡◌, inl, inr, ◌⊎◌, ℕ, List, [], ◌∷◌, ◌++◌, length, refl, sym, ◌∙◌}
+use Rattle.std.proofs.Common.{ap, subst}
 use Rattle.std.specs.Prelude.{fold}
 use Rattle.order_meaning.specs.declared.names.Names.{Names}
 use Rattle.gate_log.specs.Records.{blocks, Stands}
@@ -11,8 +11,8 @@ use Rattle.pair_entries.specs.Payload.{Next, IsEntry, payload_on}
 use Rattle.pair_entries.specs.Birth.{birth_bytes}
 use Rattle.pair_journal.specs.Numbers.{GoesOn, first_numbers, numbers_before, numbers_after}
 use Rattle.pair_journal.specs.Days.{dated, day_after}
-use Rattle.pair_journal.specs.Journal.{DaysGoOn, Spells, IsMisspelt, Misspells, Reading}
-use Rattle.pair_journal.specs.Journal.{Unborn, Born, Refused, JournalOf}
+use Rattle.pair_journal.specs.Journal.{DaysGoOn, Spells, IsMisspelt, Misspells, Reading, Unborn}
+use Rattle.pair_journal.specs.Journal.{Born, Refused, JournalOf}
 use Rattle.pair_entries.proofs.Names.{same_birth}
 use Rattle.pair_journal.proofs.Walking.{head_of, same_entries}
 

@@ -1,6 +1,6 @@
 -- What a walk over the records of a log, on a disk that may tell its bytes, says of a journal.
-use Rattle.std.proofs.Common.{◌≡◌, inr, ℕ, ◌<◌, ◌≤◌, List, ◌∷◌, ◌++◌, length, [], sym}
-use Rattle.std.proofs.Common.{◌∙◌, ap, subst, arith, length-append, IfSome, IfErr, Some, Ok, Err}
+use Rattle.std.proofs.Common.{◌≡◌, inr, ℕ, ◌<◌, ◌≤◌, List, ◌∷◌, ◌++◌, length, [], sym, ◌∙◌, ap}
+use Rattle.std.proofs.Common.{subst, arith, length-append, IfSome, IfErr, Some, Ok, Err}
 use Rattle.std.specs.Prelude.{Result, IsErrAnd}
 use Rattle.std.specs.Option.{ForSome}
 use Rattle.std.specs.declared.option.Option.{Option}
@@ -149,9 +149,9 @@ module _ (told : Option (List ℕ)) (log : LogState) (stands : ForSome told (Sta
         more_told entry more follows pushed = if_some told _ (λ b e payloads is.
             let over = stands b e in
             let same : over.0 ≡ payloads = Stands-unique b over.0 payloads over.1.stands is in
-            more_begins names entries index place day numbers walks payloads (begins b e payloads is)
-            bytes (omega (arith, within, over.1.number, ap length same)) (reads b e payloads is)
-            entry more follows pushed)
+            more_begins names entries index place day numbers walks payloads
+            (begins b e payloads is) bytes (omega (arith, within, over.1.number, ap length same))
+            (reads b e payloads is) entry more follows pushed)
 
     module _ (done : log.count ≤ index) where
       whole : (b : List ℕ) → (e : told ≡ Some b) → (stands b e).0 ≡ payloads_of names entries

@@ -1,7 +1,7 @@
 -- What a record that is read at a spot says, where the disk tells its bytes.
-use Rattle.std.proofs.Common.{◌≡◌, ◌⊎◌, inl, inr, ℕ, zero, suc, ◌+◌, ◌-◌, ◌<◌, ◌≤◌, Bool, true, false, List, [], ◌∷◌}
-use Rattle.std.proofs.Common.{◌++◌, length, take, drop, refl, sym, ◌∙◌, ap, subst, arith, Some}
-use Rattle.std.proofs.Common.{None, leb, leb-true, Ok, Err}
+use Rattle.std.proofs.Common.{◌≡◌, ◌⊎◌, inl, inr, ℕ, zero, suc, ◌+◌, ◌-◌, ◌<◌, ◌≤◌, Bool, true}
+use Rattle.std.proofs.Common.{false, List, [], ◌∷◌, ◌++◌, length, take, drop, refl, sym, ◌∙◌, ap}
+use Rattle.std.proofs.Common.{subst, arith, Some, None, leb, leb-true, Ok, Err}
 use Rattle.std.specs.List.{slice_get}
 use Rattle.std.specs.Prelude.{Result, IsErrAnd}
 use Rattle.std.specs.Option.{ForSome}
@@ -14,7 +14,6 @@ use Rattle.gate_log.specs.Records.{Stands}
 use Rattle.gate_log.specs.Log.{IsAt, ReadsPayload, HasNoPayload}
 use Rattle.gate_log.specs.State.{LogState}
 use Rattle.gate_log.proofs.Told.{at_some}
-use Rattle.pair_entries.specs.declared.entry.Out.{Out}
 use Rattle.pair_entries.specs.declared.entry.Entry.{Entry}
 use Rattle.pair_entries.specs.declared.reading.Front.{Front}
 use Rattle.pair_entries.specs.Payload.{Next, IsEntry, entry_bytes}
@@ -22,8 +21,8 @@ use Rattle.std.specs.Int.{w32, to_be_bytes}
 use Rattle.pair_entries.specs.Parts.{front_bytes, IsFront}
 use Rattle.pair_entries.proofs.Same.{front_is}
 use Rattle.pair_entries.specs.Birth.{birth_bytes, AreNames}
-use Rattle.pair_journal.specs.Numbers.{GoesOn, next_out, numbers_before, numbers_after, first_numbers}
-use Rattle.pair_journal.specs.Numbers.{outs_to}
+use Rattle.pair_journal.specs.Numbers.{GoesOn, next_out, numbers_before, numbers_after}
+use Rattle.pair_journal.specs.Numbers.{first_numbers, outs_to}
 use Rattle.pair_journal.specs.Days.{last_day, past_of, day_after, day_number, dated, payload_behind}
 use Rattle.pair_journal.specs.Journal.{AreEntries, DaysGoOn, JournalOf, Born}
 use Rattle.pair_journal.specs.Given.{Given, numbered, given_in, given}
@@ -31,7 +30,7 @@ use Rattle.pair_journal.specs.Calls.{payloads_of, OnlyReading, RefusedUntold}
 use Rattle.pair_journal.specs.Loading.{HasExtent, Unread, IsPayload}
 use Rattle.pair_journal.specs.declared.error.JournalError.{JournalError}
 use Rattle.pair_journal.specs.declared.error.JournalError.TheVariants as errors
-use Rattle.pair_journal.specs.OutBuf.{OutAt, IsGivenAs, TellsIf}
+use Rattle.pair_journal.specs.OutBuf.{OutAt, IsGivenAs}
 use Rattle.pair_journal.specs.Spots.{behind, day_start, IsSpot, StandsAt, HoldsOut}
 use Rattle.pair_journal.specs.declared.spot.Spot.{Spot}
 use Rattle.pair_journal.proofs.Dating.{entry_at, dated-split, before_more, last_is_sound, entry_in}
@@ -42,12 +41,6 @@ use Rattle.pair_journal.proofs.Marking.{place_is, behind_push, rise_take}
 use Rattle.pair_journal.proofs.Reading.{at_within}
 
 -- ---- the entry of an index, among them
-
-pub get_within : (entries : List Entry) (i : ℕ) (entry : Entry)
-    → slice_get entries i ≡ Some entry → i < length entries
-get_within [] i entry e = absurd (cc e)
-get_within (a ∷ es) zero entry e = omega arith
-get_within (a ∷ es) (suc i) entry e = omega (arith, get_within es i entry e)
 
 pub get_some : (entries : List Entry) (i : ℕ) → i < length entries
     → (entry : Entry) × (slice_get entries i ≡ Some entry)
@@ -243,24 +236,6 @@ has_out side number entries spot next entry sound at after index low high none =
     go before (a ∷ es) (suc i) one are e low high =
         go a.next es i (at_least_1 side a are.0) are.2 e low high
 
--- what is told of an entry is what the journal gives
-pub given_told : (side : Side) (number : ℕ) (entry : Entry) (what : OutAt)
-    → TellsIf true (numbered number (outs_to side entry.outs)) entry.at what
-    → IsGivenAs (given_in side number entry) what
-given_told side number entry what tells = by (numbered number (outs_to side entry.outs)) tells
-  where
-    by : (o : Option Out) → TellsIf true o entry.at what → IsGivenAs (elim o [
-      | None ↦ None
-      | Some out ↦ Some (record { entry = entry; out = out })
-    ]) what
-    by None tells = absurd tells
-    by (Some out) tells = tells
-
-pub none_told : (side : Side) (number : ℕ) (entry : Entry) (what : OutAt)
-    → TellsIf false (numbered number (outs_to side entry.outs)) entry.at what
-    → numbered number (outs_to side entry.outs) ≡ None
-none_told side number entry what tells = tells
-
 -- an entry of the journal that has it is the one that gave it out
 pub given_is : (side : Side) (number : ℕ) (entries : List Entry) (i : ℕ) (entry : Entry)
     (what : OutAt) → AreEntries first_numbers entries → slice_get entries i ≡ Some entry
@@ -342,18 +317,6 @@ walk_begins entries side number mark spot there holds is passed (inr at) from =
     let index : spot.index ≡ there.index = ap (λ (s : Spot). s.index) at in
     subst (λ (s : Spot). IsSpot entries s × (next_out side s.next ≤ number)) (sym at)
     (is, passed (omega (arith, holds.in_day, from, index)))
-
--- as many records on it is passed
-pub walk_ends : (entries : List Entry) (side : Side) (number : ℕ) (first spot : Spot)
-    → HoldsOut entries side number first → IsSpot entries spot → spot.index ≡ first.index + 64
-    → next_out side spot.next ≤ number → ⊥
-walk_ends entries side number first spot holds at index low = omega (
-  arith,
-  holds.to,
-  ap (λ (s : Spot). next_out side s.next) at,
-  ap (λ n. next_out side (numbers_after first_numbers (take n entries))) index,
-  low,
-)
 
 -- a read that another call handed on was refused, so no payload stands there
 pub unread_refused : {T : Type 0} (r : Result T JournalError) (error : JournalError)

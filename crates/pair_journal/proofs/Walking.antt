@@ -1,7 +1,6 @@
 -- What the payloads of a log, read one by one, say of a journal.
-use Rattle.std.proofs.Common.{◌≡◌, inl, inr, ℕ, ◌+◌, ◌<◌, ◌≤◌, List, [], ◌∷◌, ◌++◌}
-use Rattle.std.proofs.Common.{length, drop, refl, sym, ◌∙◌, ap, subst, arith, append_assoc}
-use Rattle.std.proofs.Common.{length-append}
+use Rattle.std.proofs.Common.{◌≡◌, inl, inr, ℕ, ◌+◌, ◌<◌, ◌≤◌, List, [], ◌∷◌, ◌++◌, length, drop}
+use Rattle.std.proofs.Common.{refl, sym, ◌∙◌, ap, subst, arith, append_assoc, length-append}
 use Rattle.order_meaning.specs.declared.names.Names.{Names}
 use Rattle.std.specs.declared.option.Option.{Option}
 use Rattle.gate_log.specs.Records.{blocks}
@@ -15,7 +14,6 @@ use Rattle.pair_journal.specs.Journal.{DaysGoOn, Misspells}
 use Rattle.pair_journal.specs.Calls.{payloads_of}
 use Rattle.pair_journal.specs.Loading.{IsBorn, Follows}
 use Rattle.pair_entries.proofs.Same.{same_entry}
-use Rattle.pair_entries.proofs.Fronts.{entry_short}
 use Rattle.pair_journal.proofs.Carrying.{payloads-push}
 use Rattle.pair_journal.proofs.Dating.{length-dated}
 use Rattle.pair_journal.proofs.Marking.{place_is}
@@ -108,8 +106,8 @@ same_entries before other d c (e ∷ es) (f ∷ fs) he hf is =
     (same_entries e.next f.next (day_after d e) (day_after c f) es fs he.2 hf.2 parts.1)
 
 module _ (names : Names) (entries : List Entry) (index place day : ℕ)
-    (numbers : Next) (walks : Walks names entries index place day numbers) (payloads : List (List ℕ))
-    (begins : Begins payloads names entries) where
+    (numbers : Next) (walks : Walks names entries index place day numbers)
+    (payloads : List (List ℕ)) (begins : Begins payloads names entries) where
   next_of : index < length payloads
       → (p : List ℕ) × (left : List (List ℕ)) × (begins.after ≡ p ∷ left)
   next_of within = by begins.after refl
@@ -205,12 +203,6 @@ module _ (names : Names) (entries : List Entry) (index place day : ℕ)
               ∙ ap (λ (l : List (List ℕ)). l ++ split_here.0) written
               ∙ ap (λ (es : List Entry). payloads_of names es ++ split_here.0) (sym pushed);
         }
-
--- the payload of an entry is short
-pub fits : (day : ℕ) (numbers : Next) (bytes : List ℕ) (entry : Entry)
-    → Follows day numbers bytes entry → length bytes ≤ 65536
-fits day numbers bytes entry follows =
-    omega (arith, ap length follows.written, entry_short entry follows.sound)
 
 -- ---- the disk, while it is read
 

@@ -1,11 +1,9 @@
 -- The days of a journal, worked by computation alone.
-use Rattle.std.proofs.Common.{◌≡◌, [], ◌∷◌, List, ℕ, true, false, Some, None, take, map}
-use Rattle.std.proofs.Common.{length, refl}
+use Rattle.std.proofs.Common.{◌≡◌, [], ◌∷◌, List, ℕ, true, false, Some, None, take, map, refl}
 use Rattle.std.specs.Prelude.{codes}
-use Rattle.order_meaning.specs.declared.Side.TheVariants.{Client, Venue}
+use Rattle.order_meaning.specs.declared.Side.TheVariants.{Venue}
 use Rattle.pair_entries.specs.declared.entry.Entry.{Entry}
-use Rattle.pair_entries.specs.Payload.{Next}
-use Rattle.pair_journal.specs.Days.{Days, days_of, last_day, day_at, day_number, dated}
+use Rattle.pair_journal.specs.Days.{days_of, last_day, day_at, dated}
 use Rattle.pair_journal.specs.Given.{given}
 use Rattle.pair_journal.specs.Numbers.{first_numbers, numbers_before, numbers_after}
 

@@ -91,7 +91,8 @@ payloads_of names entries = birth_bytes names ∷ dated 0 entries
 -- room, and then nothing changed; or a disk fault, after which the journal is broken.
 abbrev pub Commits : Entry → JournalState → JournalState → Result Entry JournalError → Type 0
 Commits entry old new (Ok answer) =
-    (answer ≡ entry) × HasRoom (payloads_of old.names old.entries) (payload_behind old.entries entry)
+    (answer ≡ entry)
+    × HasRoom (payloads_of old.names old.entries) (payload_behind old.entries entry)
     × (new ≡ record old { entries = old.entries ++ entry ∷ []; spare = old.spare - 1 })
 Commits entry old new (Err errors.DiskFault) =
     HasRoom (payloads_of old.names old.entries) (payload_behind old.entries entry)

@@ -7,8 +7,8 @@ use Rattle.std.specs.declared.option.Option.{Option}
 use Rattle.pair_entries.specs.declared.entry.Entry.{Entry}
 use Rattle.pair_entries.specs.Payload.{payload_on}
 
--- the entries of the days that have ended, and of the present one; that with which a day begins is of
--- none
+-- the entries of the days that have ended, and of the present one; that with which a day begins is
+-- of none
 pub record Days : Type 0 where
   pub ended : List (List Entry)
   pub present : List Entry

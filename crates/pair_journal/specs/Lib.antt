@@ -2,7 +2,6 @@ pub mod Days
 pub mod Numbers
 pub mod Journal
 pub mod Laws
-pub mod Parts
 pub mod State
 pub mod Past
 pub mod Given
