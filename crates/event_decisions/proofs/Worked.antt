@@ -1,7 +1,7 @@
 -- Bodies and events that are worked through from the definitions alone, with `|` for SOH. The names
 -- are GATE to the client CLNT and GATE to the venue VENU; it is 2 January 2024, 10:00:00.
-use Rattle.std.proofs.Common.{◌≡◌, ℕ, true, false, List, [], ◌∷◌, map, codes, Some, None, refl}
-use Rattle.std.proofs.Common.{Option, if◌then◌else◌}
+use Rattle.std.proofs.Common.{◌≡◌, ℕ, ◌+◌, ◌-◌, ◌*◌, true, false, List, [], ◌∷◌, map, codes, Some}
+use Rattle.std.proofs.Common.{None, Option, refl, if◌then◌else◌}
 use Rattle.std.specs.Prelude.{◌==◌, Result, Ok, Err}
 use Rattle.std.specs.Fmt.{digits}
 use Rattle.jiff_core.specs.Calendar.{days_from_civil, day_count, days_of_years, days_of_months}
@@ -25,6 +25,7 @@ use Rattle.order_meaning.specs.declared.names.Names.{Names}
 use Rattle.event_decisions.specs.Body.{reading_of}
 use Rattle.event_decisions.specs.Event.{Event, Opened, Frame}
 use Rattle.event_decisions.specs.Decide.{Decision, Repeat, decide}
+use Rattle.event_decisions.specs.Days.{day_ms, is_due}
 
 -- a text with SOH for `|`
 abbrev pub soh : List ℕ → List ℕ
@@ -212,3 +213,27 @@ pub worked_gap : entry_of (decided (logged_on 5 4) away (Frame Client early_requ
 unfolding reading_of is_data_pair has_tag is_tag_good are_digits number_of has_pattern
     days_from_civil day_count days_of_years days_of_months field_bytes digits
 worked_gap = refl
+
+-- ---- when a day begins, where days do at minute 600, which is 10:00:00
+
+pub record DaysBegin : Type 0 where
+  pub worked_at_its_minute : is_due (Some 600) (Some (moment - day_ms)) moment ≡ true
+  pub worked_not_before : is_due (Some 600) (Some (moment - day_ms)) (moment - 1) ≡ false
+  pub worked_once : is_due (Some 600) (Some moment) (moment + day_ms - 1) ≡ false
+  -- a gateway that was down at the minute begins the day later
+  pub worked_later : is_due (Some 600) (Some (moment - 1)) (moment + 3 * day_ms + 1) ≡ true
+  -- a clock that falls behind the minute ends no day
+  pub worked_set_back : is_due (Some 600) (Some moment) (moment - 1) ≡ false
+  pub worked_unborn : is_due (Some 600) None moment ≡ false
+  pub worked_never : is_due None (Some (moment - day_ms)) moment ≡ false
+
+pub worked_days : DaysBegin
+worked_days = record {
+  worked_at_its_minute = refl;
+  worked_not_before = refl;
+  worked_once = refl;
+  worked_later = refl;
+  worked_set_back = refl;
+  worked_unborn = refl;
+  worked_never = refl;
+}

@@ -1,12 +1,8 @@
 -- Own: when a session day begins, and its entry; docs/DECISIONS.md, "Session days".
-use Rattle.std.specs.Prelude.{ℕ, ◌+◌, ◌-◌, ◌*◌, ◌/◌, nat_lt, Bool, true, false, List, [], ◌∷◌}
-use Rattle.std.specs.Prelude.{Some, None}
+use Rattle.std.specs.Prelude.{ℕ, ◌+◌, ◌-◌, ◌*◌, ◌/◌, nat_lt, Bool, true, false, [], Some, None}
 use Rattle.std.specs.declared.option.Option.{Option}
-use Rattle.order_meaning.specs.declared.names.Names.{Names}
 use Rattle.pair_entries.specs.declared.entry.Entry.{Entry}
 use Rattle.pair_journal.specs.Numbers.{first_numbers}
-use Rattle.pair_journal.specs.Days.{Days, days_of}
-use Rattle.event_decisions.specs.Decide.{Asked, Words, IsLawful}
 
 -- the milliseconds of a minute and of a day
 abbrev pub minute_ms : ℕ
@@ -30,13 +26,3 @@ is_due (Some minute) (Some began) now =
 -- the entry with which a day begins
 abbrev pub new_day : (now : ℕ) → Entry
 new_day now = record { at = now; reset = true; took = None; next = first_numbers; outs = [] }
-
-module _ (answers : List Entry → (active : Bool) → Option Asked → Option Words → Type 0) where
-  abbrev AreLawful : Names → List (List Entry) → Type 0
-  AreLawful names [] = Unit {0}
-  AreLawful names (day ∷ days) = IsLawful answers names day × AreLawful names days
-
-  -- A LAWFUL JOURNAL OVER DAYS: each day is lawful by itself
-  pub record IsLawfulByDay (names : Names) (entries : List Entry) : Type 0 where
-    pub ended : AreLawful names (days_of entries).ended
-    pub present : IsLawful answers names (days_of entries).present
