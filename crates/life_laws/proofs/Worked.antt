@@ -21,12 +21,14 @@ use Rattle.pair_entries.specs.declared.entry.Entry.{Entry}
 use Rattle.event_decisions.specs.Body.{reading_of}
 use Rattle.event_decisions.specs.Event.{Opened, Frame, Tick}
 use Rattle.event_decisions.specs.Decide.{Asked, Words, Sessions, Decision, decide}
-use Rattle.wires.specs.Wire.{WireCall, Send}
+use Rattle.wires.specs.Wire.{WireCall, Send, Poll, HangUp, Bytes, Connection}
+use Rattle.wires.specs.Wire as wire
 use Rattle.life_laws.specs.Forms.{Form, First, Again, Fill, placed_at, form_frame}
 use Rattle.life_laws.specs.Taken.{Message, GapFill, Reset, Other, take_more}
 use Rattle.life_laws.specs.Repeats.{repeat_forms}
 use Rattle.life_laws.specs.Happens.{World, both_standing, firsts_to, Happens}
 use Rattle.life_laws.specs.Turn.{counts}
+use Rattle.life_laws.specs.Days.{after_days}
 
 -- a text with SOH for `|`
 abbrev soh : List ℕ → List ℕ
@@ -316,3 +318,19 @@ pub worked_taken :
     ∷ Other (message 4) true ∷ [])
     ≡ record { next = 5; taken = message 3 ∷ [] }
 worked_taken = refl
+
+-- ---- connections by days
+
+abbrev read_on : List ℕ → Connection
+read_on bytes = record { read = bytes; written = [] }
+
+-- a connection of the day before is of that day, and what comes on the next one of the next
+pub worked_days :
+    after_days (record { ended = []; present = read_on (codes "8=") ∷ [] })
+    ((Poll (Bytes (codes "FIX")) ∷ HangUp ∷ []) ∷ (Poll wire.Opened ∷ HangUp ∷ []) ∷ [])
+    (Poll wire.Opened ∷ Poll (Bytes (codes "8")) ∷ [])
+    ≡ record {
+      ended = (read_on (codes "8=FIX") ∷ []) ∷ (read_on [] ∷ []) ∷ [];
+      present = read_on (codes "8") ∷ [];
+    }
+worked_days = refl
