@@ -1,4 +1,4 @@
--- Own: that both peers rebuild the same books.
+-- Own: that both peers rebuild the same books on a session day.
 use Rattle.std.specs.Prelude.{◌≡◌, ℕ, false, List, IfSome, Some, None, Ok}
 use Rattle.std.specs.List.{AllByRecursion}
 use Rattle.order_meaning.specs.declared.Side.{Side}

@@ -6,3 +6,4 @@ mod Still
 mod Asked
 mod Reacted
 mod Grown
+mod NewDay

@@ -44,8 +44,13 @@ as_entry entry took outs =
 
 entry_is : (entry : Entry) (took : Took) (outs : List Out) → entry.took ≡ Some took
     → entry.outs ≡ outs → entry ≡ as_entry entry took outs
-entry_is entry took outs is gives =
-    λ i. record { at = entry.at; reset = entry.reset; took = is i; next = entry.next; outs = gives i }
+entry_is entry took outs is gives = λ i. record {
+  at = entry.at;
+  reset = entry.reset;
+  took = is i;
+  next = entry.next;
+  outs = gives i;
+}
 
 -- what joins by the letters of the outs
 abbrev item_by : List ChainItem → Took → Option ℕ → Option ChainItem

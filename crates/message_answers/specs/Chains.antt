@@ -1,4 +1,4 @@
--- Own: which requests a journal forwarded; docs/DECISIONS.md, "Order chains".
+-- Own: which requests were forwarded on a day; docs/DECISIONS.md, "Order chains".
 use Rattle.std.specs.Prelude.{ℕ, ◌==◌, List, [], ◌∷◌, ◌++◌, codes, Option, Some, None, unwrap_or}
 use Rattle.std.specs.Prelude.{if◌then◌else◌}
 use Rattle.std.specs.Option.{option_to_list}
@@ -42,7 +42,7 @@ item_in entry = entry.took >>= (λ took.
     first_of (joining_letter entry) entry.outs >>= (λ letter.
     Some (item_said took.number letter (reading_of took.raw).fields)))
 
--- an id names one request for good
+-- an id names one request of its day
 abbrev pub if_new : List ChainItem → Option ChainItem → Option ChainItem
 if_new items None = None
 if_new items (Some item) = if has_id items item.id then None else Some item
@@ -55,6 +55,6 @@ chains_after items [] = items
 chains_after items (entry ∷ entries) =
     chains_after (items ++ option_to_list (new_item items entry)) entries
 
--- THE CHAINS OF A JOURNAL: the requests that it forwarded, in order
+-- THE CHAINS OF A DAY: the requests that its entries forwarded, in order
 abbrev pub chains_of : List Entry → List ChainItem
 chains_of entries = chains_after [] entries

@@ -49,7 +49,7 @@ impl<'a> Asked<'a> {
 /// What is known of the journal, and whether the venue's session is active.
 #[derive(Drop)]
 pub struct Known<'a> {
-    /// The requests that it forwarded.
+    /// The requests that it forwarded on its last day.
     pub chains: &'a Chains,
     /// The journal, which tells the message that an out translates.
     pub journal: &'a Journal,
