@@ -1,6 +1,6 @@
 //! The entry of an event, where there is one.
 
-ghost use Rattle.std.specs.Prelude.{◌≡◌, ◌≤◌, ◌++◌, length, IfOk, IfSome};
+ghost use Rattle.std.specs.Prelude.{◌≡◌, ◌≤◌, ◌++◌, false, length, IfOk, IfSome};
 ghost use Rattle.std.specs.Option.{option_to_list};
 ghost use Rattle.pair_entries.specs.Payload.{IsTook, IsOut, AreOuts, AreNext, IsEntry};
 ghost use Rattle.event_decisions.specs.Decide.{same_numbers, entry_if};
