@@ -82,6 +82,10 @@ RoundBroken end config old now r0 r1 entries =
 
 -- ---- the turn of a day
 
+-- the end of both sides
+abbrev pub ends_of : List Event
+ends_of = End Client ∷ End Venue ∷ []
+
 -- A NEW DAY BEGAN: it was due, both sides ended, and its entry was committed behind those of the
 -- day before; the gateway is as at the beginning of a life over no entries.
 pub record DayTurned (config : Config) (old new : EngineState) (now : ℕ) (r0 r1 : Records) : Type 0
@@ -215,10 +219,6 @@ pub record BeginsWith (config : Config) (told : Option (List ℕ)) (before : Lis
   pub entries : old.engine.journal.entries ≡ before
   pub world : world_of old.engine ≡ begun config (last_day before)
   pub journal : IfSome told (IsJournal config.names before)
-
--- the end of both sides
-abbrev pub ends_of : List Event
-ends_of = End Client ∷ End Venue ∷ []
 
 -- How a life begins over these bytes: over the entries of a journal of these names, and over none
 -- where the disk is unborn; refused exactly where they are no journal, or one of other names.
