@@ -32,7 +32,7 @@ use Rattle.gateway_life.specs.Ready.{Behind, world_of}
 use Rattle.gateway_life.specs.Fails.{IsWhy, FailsBy, IsWhyOfDay}
 use Rattle.gateway_life.specs.Stepped.{Records, Grew, AllStepped, Failed}
 use Rattle.gateway_life.specs.Life.{begun, rested, went_on, moment_of, LastFails, AtEvent, AtDay}
-use Rattle.gateway_life.specs.Life.{BehindDay}
+use Rattle.gateway_life.specs.Life.{BehindDay, IfInRound}
 use Rattle.gateway_life.specs.Rounds.{AreTold, StoodFor, RoundDone, RoundOver, RoundBroken}
 use Rattle.gateway_life.specs.Rounds.{RoundFails}
 use Rattle.gateway_life.specs.Rounds.{AtTurn, InRound, DayTurned, DayStays, AtEnd, AtEntry}
@@ -348,9 +348,11 @@ module _ (config : Config) where
         → IsWhy end config (past_of mid.engine.journal.entries) w event now
         → FailsBy end config w event now part today
         → entries ≡ past_of mid.engine.journal.entries ++ today
-        → ((reads' : Reads) → AreTold r2 → StoodFor mid reads'
-        → RoundUpTo Answers config.names config.window reads' (world_of mid.engine) now added w event
+        → ((reads' : Reads) → AreTold r2 → StoodFor mid reads' → (last :
+        RoundUpTo Answers config.names config.window reads' (world_of mid.engine) now added w event
         ⊎ UpTo Answers config.names config.window (world_of mid.engine) ends_of now added w event)
+        × IfInRound last (due_in config.reset (began_after before first.days)
+        (last_day mid.engine.journal.entries) now ≡ false))
         → LifeBroken end config old given m r0 r2 entries
     event_fails end added part w event r2 between entries today grew rest why fails is last =
         let left : DayLeft =
@@ -384,10 +386,11 @@ module _ (config : Config) where
                   first = first.added;
                   rest = added;
                   rounds = day.rounds;
-                  last = last so.0 told so.2;
+                  last = (last so.0 told so.2).0;
                   all = refl;
                 };
                 none_due = day.none_due;
+                not_due = (last so.0 told so.2).1;
                 why = subst (λ l. IsWhy end config l w event now) first.past why;
                 part = part;
                 fails = fails;
@@ -404,19 +407,25 @@ module _ (config : Config) where
         let failed = h.2 in
         event_fails end failed.all.added failed.broken.added failed.mid failed.last r2 failed.between
         entries h.0 failed.all.grew failed.broken.grew failed.broken.why failed.broken.fails h.1
-        (λ reads' told stood. inr (failed_up_to config end (past_of mid.engine.journal.entries)
-        (world_of mid.engine) ends_of ends_of [] now r1 r2 h.0 refl failed))
+        (λ reads' told stood. (
+          inr (failed_up_to config end (past_of mid.engine.journal.entries) (world_of mid.engine)
+              ends_of ends_of [] now r1 r2 h.0 refl failed),
+          tt,
+        ))
 
     round_fails : (end : LifeEnd) (r2 : Records) (entries : List Entry)
+        → is_due config.reset (day_at mid.engine.journal.entries) now ≡ false
         → Behind (past_of mid.engine.journal.entries)
         (RoundBroken end config (on_engine mid mid.engine) now r1 r2) entries
         → LifeBroken end config old given m r0 r2 entries
-    round_fails end r2 entries h =
+    round_fails end r2 entries due h =
         let round = h.2 in
         event_fails end round.added round.broken.added round.mid round.event r2 round.between entries
         h.0 round.grew round.broken.grew round.broken.why round.broken.fails h.1
-        (λ reads' told stood. inl (round.up_to told reads'
-        (record { client = stood.client; venue = stood.venue })))
+        (λ reads' told stood. (
+          inl (round.up_to told reads' (record { client = stood.client; venue = stood.venue })),
+          due_here false due,
+        ))
 
     -- the new day was not committed
     day_fails : (end : LifeEnd) (r2 : Records) (entries : List Entry)
@@ -532,6 +541,7 @@ module _ (config : Config) where
                   all = refl;
                 };
                 none_due = tt;
+                not_due = not_due config.reset now;
                 why = subst (λ l. IsWhy end config l round.mid round.event now) past round.broken.why;
                 part = round.broken.added;
                 fails = round.broken.fails;
@@ -551,7 +561,7 @@ module _ (config : Config) where
     life_fails end r2 entries (InRound engine between goes (inl turned) h) =
         next_fails end engine between r2 entries goes turned h
     life_fails end r2 entries (InRound engine between goes (inr stays) h) =
-        round_fails end r2 entries
+        round_fails end r2 entries stays.due
         (subst (λ (r : Records). Behind (past_of mid.engine.journal.entries)
         (RoundBroken end config (on_engine mid mid.engine) now r r2) entries) stays.records
         (subst (λ (e : EngineState). Behind (past_of e.journal.entries)

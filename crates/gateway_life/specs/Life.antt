@@ -1,6 +1,6 @@
 -- Own: one life over the records of its wires and of its clock; docs/DEFINITIONS.md, "A life".
 use Rattle.std.specs.Prelude.{◌≡◌, ◌≢◌, ◌⊎◌, ℕ, zero, suc, ◌≤◌, false, List, [], ◌∷◌, ◌++◌, map}
-use Rattle.std.specs.Prelude.{length, min, Result, Ok, Err, ⊤}
+use Rattle.std.specs.Prelude.{length, min, Result, Ok, Err, ⊤, inl, inr}
 use Rattle.order_meaning.specs.declared.names.Names.{Names}
 use Rattle.pair_entries.specs.declared.TheConstants.{MAX_AT}
 use Rattle.pair_entries.specs.declared.entry.Entry.{Entry}
@@ -17,7 +17,7 @@ use Rattle.wires.specs.Wire.{WireCall, is_within}
 use Rattle.life_laws.specs.Sends.{hang_up_if}
 use Rattle.life_laws.specs.Happens.{World, Added, nothing}
 use Rattle.life_laws.specs.Turn.{Reads, both}
-use Rattle.life_laws.specs.Days.{DayLeft, DayEnded, written, all_added, NoneDue, EndsDay}
+use Rattle.life_laws.specs.Days.{DayLeft, DayEnded, written, all_added, due_in, NoneDue, EndsDay}
 use Rattle.life_laws.specs.Days.{OverDays, LivesDays}
 use Rattle.life_laws.specs.Ends.{LifeUpTo}
 use Rattle.gateway_life.specs.declared.end.LifeEnd.{LifeEnd}
@@ -72,6 +72,11 @@ pub record LivesToEnd (config : Config) (before : List Entry) (rounds : ℕ) (di
 abbrev pub hung_up : List WireCall → List WireCall
 hung_up calls = calls ++ hang_up_if (is_within calls)
 
+-- it matters where an event ended the life within a round, and not at the end of both sides
+abbrev pub IfInRound : {A B : Type 0} → A ⊎ B → Type 0 → Type 0
+IfInRound (inl round) P = P
+IfInRound (inr ends) P = Unit {0}
+
 -- AN EVENT THAT ENDED A LIFE on a day, behind the entries of the days before: all that the day did
 -- before it, the event, why that ended the life, and what stands of it.
 pub record EventFails (end : LifeEnd) (config : Config) (past : List Entry) (last : ℕ)
@@ -85,6 +90,9 @@ pub record EventFails (end : LifeEnd) (config : Config) (past : List Entry) (las
   pub up_to : LifeUpTo Answers config.names config.window reads before whole last added mid event
   pub none_due : NoneDue Answers config.names config.window config.reset began reads before whole
       up_to.first up_to.read up_to.between up_to.rounds
+  -- a new day that is due comes before its round
+  pub not_due : IfInRound up_to.last
+      (due_in config.reset began up_to.between.entries last ≡ false)
   pub why : IsWhy end config past mid event last
   pub part : Added
   pub fails : FailsBy end config mid event last part left.entries
