@@ -5,14 +5,11 @@ use Rattle.event_decisions.specs.Event.{Event}
 use Rattle.message_answers.specs.Answer.{Answers}
 use Rattle.gateway_config.specs.declared.config.Config.{Config}
 use Rattle.life_laws.specs.Happens.{World, Added, Fails}
-use Rattle.life_laws.specs.Turn.{both}
 use Rattle.life_laws.specs.Ends.{UpTo}
 use Rattle.gateway_life.specs.declared.end.LifeEnd.{LifeEnd}
 use Rattle.gateway_life.specs.declared.end.LifeEnd.TheVariants as ends
 use Rattle.gateway_life.specs.Fails.{FailsBy}
-use Rattle.gateway_life.specs.Stepped.{Records, Grew, Failed}
-use Rattle.gateway_life.specs.Rounds.{BrokenAt}
-use Rattle.gateway_life.proofs.Turning.{grew_append}
+use Rattle.gateway_life.specs.Stepped.{Records, Failed}
 
 module _ (config : Config) where
   pub failed_up_to : (end : LifeEnd) (past : List Entry) (w : World) (all events tail : List Event)
@@ -26,14 +23,6 @@ module _ (config : Config) where
     happen = f.all.happen;
     counted = f.counted;
   }
-
-  -- all that was done, with what stands of the event
-  pub broken_grew : (end : LifeEnd) (past : List Entry) (now : ℕ) (r0 r1 : Records)
-      (entries : List Entry) (leads : Added → World → Event → Type 0)
-      → (b : BrokenAt end config past now r0 r1 entries leads)
-      → Grew r0 r1 (both b.added b.broken.added)
-  broken_grew end past now r0 r1 entries leads b =
-      grew_append r0 b.between r1 b.added b.broken.added b.grew b.broken.grew
 
   -- ---- what stands of it
 

@@ -145,7 +145,8 @@ pub round_ok : {T : Type 0} (r : Result T LifeEnd) (config dconfig mconfig : Con
     → GrowsBy k0 k1 (m ∷ []) → is_some t1 ≡ is_some t0 → is_some t2 ≡ is_some t1
     → DaysGoOn first_numbers day.journal.entries
     → IfTold t0 (DayDone config old.engine day now r0 r1)
-    → IfTold t1 (Turned Client old.client new.client dconfig (world_of day) now (world_of mid) r1 r2)
+    → IfTold t1
+    (Turned Client old.client new.client dconfig (world_of day) now (world_of mid) r1 r2)
     → past_of mid.journal.entries ≡ past_of day.journal.entries
     → OnOk r (IfTold t2
     (Turned Venue old.venue new.venue mconfig (world_of mid) now (world_of new.engine) r2 r3))
@@ -239,7 +240,8 @@ pub venue_ends : {T : Type 0} (r : Result T LifeEnd) (config dconfig mconfig : C
     → IfTold t1 (Turned Client old.client next dconfig (world_of day) now (world_of mid) r1 r2)
     → past_of mid.journal.entries ≡ past_of day.journal.entries
     → IfErr r (λ end. LeavesOf t2 i2 i3 mconfig.names (Behind (past_of mid.journal.entries)
-    (TurnBroken end Venue old.venue mconfig (past_of mid.journal.entries) (world_of mid) now r2 r3)))
+    (TurnBroken end Venue old.venue mconfig (past_of mid.journal.entries) (world_of mid) now r2
+    r3)))
     → RoundEndsWith r config old k0 k1 t0 i0 i3 r0 r3
 venue_ends (Ok value) config dconfig mconfig old next day mid now m k0 k1 t0 t1 t2 i0 i1 i2 i3 r0
     r1 r2 r3 dsame msame at grows told1 told2 one1 one2 sound turned client past ends = tt

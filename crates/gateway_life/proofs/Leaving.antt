@@ -126,7 +126,8 @@ module _ (begin : lives.LivesBegin Answers) where
     leaves_on end rounds did days left (ToAFailure life) = failed end rounds did days left life
     leaves_on end rounds did days left (NotBegun may none no_days same idle) =
         subst (λ (ds : List DayEnded). LeavesBy ds left) (sym no_days)
-        (subst (λ (a : Added). LeavesBy [] (record { entries = left.entries; added = a })) (sym idle)
+        (subst (λ (a : Added). LeavesBy [] (record { entries = left.entries; added = a }))
+        (sym idle)
         (subst (λ (es : List Entry). LeavesBy [] (record { entries = es; added = nothing }))
         (sym same) unbegun))
 
@@ -181,7 +182,8 @@ module _ (begin : lives.LivesBegin Answers) (in_order : lives.JustifiedIsTakenIn
       at : (side : Side) (connections : List Connection)
           → IsJustified names entries side connections → IsTaken names side entries connections
       at side connections justified =
-          taken names side entries connections (sent side) (of_side side) justified left.lawful sound
+          taken names side entries connections (sent side) (of_side side) justified left.lawful
+          sound
 
       client_takes : IsTaken names Client entries client
       client_takes = at Client client left.client

@@ -34,7 +34,6 @@ use Rattle.gateway_life.specs.declared.end.LifeEnd.TheVariants as ends
 use Rattle.gateway_life.specs.State.{LifeState}
 use Rattle.gateway_life.specs.Ready.{LeavesOf, IfTold, world_of}
 use Rattle.gateway_life.specs.Stepped.{Records, records, IsOfEvent, IsNotDone, EndsEvent}
-use Rattle.gateway_life.specs.Stepped.{HasCauseOf}
 use Rattle.gateway_life.specs.Life.{Done, begun, rested, went_on, moment_of, LivesToEnd, LifeFails}
 use Rattle.gateway_life.specs.Life.{LastFails, hung_up, MayNotBegin, Follows, ToItsEnd, ToAFailure}
 use Rattle.gateway_life.specs.Life.{NotBegun}
@@ -89,10 +88,6 @@ hung_told None b ys hung is = absurd (cc (hung, is))
 hung_told (Some m) b ys hung is = refl
 
 -- ---- parts one after another
-
-pub cause_from : {T : Type 0} (r : Result T LifeEnd) (before mid now : ℕ) → mid ≡ before
-    → HasCauseOf mid now r → HasCauseOf before now r
-cause_from r before mid now same h = subst (λ n. HasCauseOf n now r) same h
 
 pub counted_step : (left count : ℕ) → 1 ≤ left
     → counted_on left count ≡ counted_on (left - 1) (next_count count)
@@ -393,16 +388,17 @@ images_by leave take end config rounds b0 b1 i0 i1 rc0 rc1 rv0 rv1 km0 km1 p0 p1
         goes_on = found.5;
         follows = found.6;
         accounts = λ client venue before.
-            let leaves = leave end config given.before days left client venue rounds given.did before
-            found.6 in
-            let over = days_on config.names given.before days left.entries _ _ (sound_of config.names given.before
-            given.bytes given.journal) leaves in
+            let leaves = leave end config given.before days left client venue rounds given.did
+            before found.6 in
+            let over = days_on config.names given.before days left.entries _ _
+            (sound_of config.names given.before given.bytes given.journal) leaves in
             let is : days_of entries ≡ days_after (days_of given.before) days left.entries =
             ap days_of found.5 ∙ over in
             accounted take config.names entries _ _
             (sound_of config.names entries image found.3)
-            (subst (λ ds. LeavesDays Answers config.names ds (transcript_after Client client days left)
-            (transcript_after Venue venue days left)) (sym is) leaves);
+            (subst (λ ds. LeavesDays Answers config.names ds
+            (transcript_after Client client days left) (transcript_after Venue venue days left))
+            (sym is) leaves);
       },
     )
 

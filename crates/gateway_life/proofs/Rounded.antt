@@ -18,7 +18,7 @@ use Rattle.event_decisions.specs.Event.{Event}
 use Rattle.message_answers.specs.Answer.{Answers}
 use Rattle.gateway_config.specs.declared.config.Config.{Config}
 use Rattle.life_laws.specs.Happens.{World, Added, nothing}
-use Rattle.life_laws.specs.Turn.{Reads, both, AllHappen, Round, Rounds}
+use Rattle.life_laws.specs.Turn.{Reads, both, AllHappen, Round}
 use Rattle.life_laws.specs.Days.{DayLeft, DayEnded, EndsDay, LastDay, written, all_added, hung}
 use Rattle.life_laws.specs.Days.{nothing_read, fresh, due_in, began_after}
 use Rattle.life_laws.specs.Ends.{UpTo, RoundUpTo}
@@ -179,7 +179,8 @@ module _ (config : Config) where
       end_days : (Next : Option ℕ → Reads → World → List ℕ → Type 0) (reads reads' : Reads)
           → DaysFrom (So reads') config old reads (map moment_of given) first.days
           → Next (Some now) nothing_read (fresh (rested config)) (now ∷ [])
-          → DaysFrom Next config old reads (map moment_of (given ++ m ∷ [])) (first.days ++ the_day ∷ [])
+          → DaysFrom Next config old reads (map moment_of (given ++ m ∷ []))
+          (first.days ++ the_day ∷ [])
       end_days Next reads reads' over next =
           subst (λ l. DaysFrom Next config old reads l (first.days ++ the_day ∷ [])) moments_more
           (over-end Answers config.names config.window config.reset (rested config) (So reads') Next
@@ -204,8 +205,10 @@ module _ (config : Config) where
           → entries ≡ went_on old.engine.journal.entries (first.days ++ the_day ∷ []) []
       ended_past entries is =
           is ∙ ap (λ l. l ++ after.entries ++ new_day now ∷ []) first.past
-          ∙ sym (went_more old.engine.journal.entries first.days (after.entries ++ new_day now ∷ []))
-          ∙ ap (λ l. past_of old.engine.journal.entries ++ l) (sym (written-push first.days the_day []))
+          ∙ sym (went_more old.engine.journal.entries first.days
+          (after.entries ++ new_day now ∷ []))
+          ∙ ap (λ l. past_of old.engine.journal.entries ++ l)
+          (sym (written-push first.days the_day []))
 
     -- ---- one round more
 
@@ -229,8 +232,8 @@ module _ (config : Config) where
                   rounds = rounds_push config ms now r so.0 here.0 w (world_of mid.engine)
                       (world_of new.engine) first.added one.added day.rounds here.1;
                   none_due = none_push config config.reset (began_after before first.days) ms now r
-                      so.0 here.0 w (world_of mid.engine) (world_of new.engine) first.added one.added
-                      day.rounds here.1 day.none_due (due_here false due);
+                      so.0 here.0 w (world_of mid.engine) (world_of new.engine) first.added
+                      one.added day.rounds here.1 day.none_due (due_here false due);
                 }),
             here.2,
           );
@@ -257,15 +260,16 @@ module _ (config : Config) where
               ∙ sym (ap day_at (one.past ∙ all ∙ turned.entries
               ∙ sym (append_assoc (past_of mid.engine.journal.entries) turned.mid.entries
               (new_day now ∷ [])))
-              ∙ day_at-push (past_of mid.engine.journal.entries ++ turned.mid.entries) (new_day now));
+              ∙ day_at-push (past_of mid.engine.journal.entries ++ turned.mid.entries)
+              (new_day now));
           rounds = λ told reads whole.
               let told1 = are_told_back between r2 one.added one.grew told in
               let so = first.rounds (are_told_back r1 between (hung turned.added turned.mid)
               turned.grew told1) reads whole in
               let here = one.round told nothing_read
               (begun_stands config (on_engine mid engine) turned.fresh) in
-              let round : Round Answers config.names config.window nothing_read (fresh (rested config))
-              now one.added here.0 (world_of new.engine) =
+              let round : Round Answers config.names config.window nothing_read
+              (fresh (rested config)) now one.added here.0 (world_of new.engine) =
               subst (λ (w : World). Round Answers config.names config.window nothing_read w now
               one.added here.0 (world_of new.engine)) turned.fresh here.1 in (
                 here.0,
@@ -370,8 +374,8 @@ module _ (config : Config) where
           goes_on = is ∙ ap (λ l. l ++ today) first.past
               ∙ sym (went_more old.engine.journal.entries first.days today);
           fails = λ told reads stood.
-              let told1 = are_told_back r1 between added grew (are_told_back between r2 part rest told)
-              in
+              let told1 = are_told_back r1 between added grew
+              (are_told_back between r2 part rest told) in
               let so = first.rounds told1 reads stood in
               more_days (LastFails end config (went_on old.engine.journal.entries first.days []) now
               left) reads so.0 so.1 (λ r v ms day. AtEvent (record {
@@ -405,8 +409,9 @@ module _ (config : Config) where
         → LifeBroken end config old given m r0 r2 entries
     ends_fail end r2 entries h =
         let failed = h.2 in
-        event_fails end failed.all.added failed.broken.added failed.mid failed.last r2 failed.between
-        entries h.0 failed.all.grew failed.broken.grew failed.broken.why failed.broken.fails h.1
+        event_fails end failed.all.added failed.broken.added failed.mid failed.last r2
+        failed.between entries h.0 failed.all.grew failed.broken.grew failed.broken.why
+        failed.broken.fails h.1
         (λ reads' told stood. (
           inr (failed_up_to config end (past_of mid.engine.journal.entries) (world_of mid.engine)
               ends_of ends_of [] now r1 r2 h.0 refl failed),
@@ -420,8 +425,8 @@ module _ (config : Config) where
         → LifeBroken end config old given m r0 r2 entries
     round_fails end r2 entries due h =
         let round = h.2 in
-        event_fails end round.added round.broken.added round.mid round.event r2 round.between entries
-        h.0 round.grew round.broken.grew round.broken.why round.broken.fails h.1
+        event_fails end round.added round.broken.added round.mid round.event r2 round.between
+        entries h.0 round.grew round.broken.grew round.broken.why round.broken.fails h.1
         (λ reads' told stood. (
           inl (round.up_to told reads' (record { client = stood.client; venue = stood.venue })),
           due_here false due,
@@ -450,13 +455,15 @@ module _ (config : Config) where
           goes_on = is ∙ ap (λ l. l ++ after.entries) first.past
               ∙ sym (went_more old.engine.journal.entries first.days after.entries);
           fails = λ told reads stood.
-              let so = first.rounds (are_told_back r1 r2 (hung added after) grew told) reads stood in
+              let so = first.rounds (are_told_back r1 r2 (hung added after) grew told) reads stood
+              in
               more_days (LastFails end config (went_on old.engine.journal.entries first.days []) now
               day.left) reads so.0 so.1 (λ r v ms so_far. AtDay (record {
                 whole = ms;
                 split = refl;
                 ends = ends_day due added after ends so.0 r v ms so_far;
-                why = subst (λ l. IsWhyOfDay end config.names (l ++ after.entries) now) first.past why;
+                why = subst (λ l. IsWhyOfDay end config.names (l ++ after.entries) now) first.past
+                    why;
               }));
         }
 
@@ -476,9 +483,11 @@ module _ (config : Config) where
           grew = ended_grew due added after happen r2 r2 nothing grew (grew_none r2);
           goes_on = ended_past due added after happen entries is;
           fails = λ told reads stood.
-              let so = first.rounds (are_told_back r1 r2 (hung added after) grew told) reads stood in
+              let so = first.rounds (are_told_back r1 r2 (hung added after) grew told) reads stood
+              in
               end_days due added after happen
-              (LastFails end config (went_on old.engine.journal.entries (first.days ++ day ∷ []) [])
+              (LastFails end config
+              (went_on old.engine.journal.entries (first.days ++ day ∷ []) [])
               now (record { entries = []; added = nothing })) reads so.0 so.1
               (BehindDay (record {
                 failed = failed;
@@ -524,7 +533,8 @@ module _ (config : Config) where
               round.added round.mid round.event) turned.fresh (round.up_to told nothing_read
               (begun_stands config (on_engine mid engine) turned.fresh)) in
               end_days turned.due turned.added turned.mid turned.ends
-              (LastFails end config (went_on old.engine.journal.entries (first.days ++ day ∷ []) [])
+              (LastFails end config
+              (went_on old.engine.journal.entries (first.days ++ day ∷ []) [])
               now left) reads so.0 so.1 (AtEvent (record {
                 whole = [];
                 split = refl;
@@ -542,7 +552,8 @@ module _ (config : Config) where
                 };
                 none_due = tt;
                 not_due = not_due config.reset now;
-                why = subst (λ l. IsWhy end config l round.mid round.event now) past round.broken.why;
+                why = subst (λ l. IsWhy end config l round.mid round.event now) past
+                    round.broken.why;
                 part = round.broken.added;
                 fails = round.broken.fails;
                 all = refl;

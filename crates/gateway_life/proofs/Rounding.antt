@@ -187,8 +187,8 @@ module _ (config : Config) where
             venue_may = v.may told1.venue;
           },
           record {
-            client = λ up. turn_stood Client old.client new.client (world_of old.engine) mid now r0 r1
-                c reads.client whole.client (other_venue _ _ _ _ _ _ _ v up);
+            client = λ up. turn_stood Client old.client new.client (world_of old.engine) mid now
+                r0 r1 c reads.client whole.client (other_venue _ _ _ _ _ _ _ v up);
             venue = λ up. turn_stood Venue old.venue new.venue mid (world_of new.engine) now r1 r2 v
                 reads.venue venue_whole up;
           },
@@ -338,5 +338,6 @@ module _ (config : Config) where
   none_push minute began (moment ∷ moments) now reads mid_reads reads' w m x a b
       (first, y, between, rest, round, more, is) one none due = (
         none.0,
-        none_push minute began moments now between mid_reads reads' y m x rest b more one none.1 due,
+        none_push minute began moments now between mid_reads reads' y m x rest b more one none.1
+            due,
       )

@@ -51,8 +51,8 @@ FillsGaps names side entries =
     taking.next ≡ to + 1
 
 -- What is written is read as what it shows; whatever of it arrives, a receiver takes the beginning
--- of what was committed to the side, each message once and in order, and learns of it what the other
--- side said; and its gaps are filled.
+-- of what was committed to the side, each message once and in order, and learns of it what the
+-- other side said; and its gaps are filled.
 pub record IsTaken (names : Names) (side : Side) (entries : List Entry)
     (connections : List Connection) : Type 0 where
   pub read : AreReadAsForms read_body message_of_out names entries side
@@ -60,8 +60,8 @@ pub record IsTaken (names : Names) (side : Side) (entries : List Entry)
   pub learned : LearnsWhatWasSaid side entries connections
   pub gaps : FillsGaps names side entries
 
--- the same on both sides; and where both peers keep their numbers and no gap is left, the books that
--- they rebuild are equal
+-- the same on both sides; and where both peers keep their numbers and no gap is left, the books
+-- that they rebuild are equal
 pub record AreTaken (names : Names) (entries : List Entry)
     (client_side venue_side : List Connection) : Type 0 where
   pub client : IsTaken names Client entries client_side

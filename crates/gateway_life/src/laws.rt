@@ -18,11 +18,12 @@ impl Answering for Messages {
     ghost answers = { Answers };
 }
 
-/// However it ended, a life leaves a lawful journal, which justifies all that was written and read,
-/// and on each side a receiver that took the beginning of what was committed to it, each message
-/// once and in order, that learned of it what the other side said, and whose gaps are filled by what
-/// is sent again. Where both peers keep their numbers and no gap is left, the books that they rebuild
-/// are equal. Each message of such a journal can be sent: what a session says, and each answer.
+/// However it ended, a life leaves a journal of which each day is lawful and justifies all that was
+/// written and read on it; and, of each day, on each side a receiver that took the beginning of
+/// what was committed to it, each message once and in order, that learned of it what the other side
+/// said, and whose gaps are filled by what is sent again. Where both peers keep their numbers and
+/// no gap is left, the books that they rebuild are equal. Each message of such a journal can be
+/// sent: what a session says, and each answer.
 pub fn lives_leave()
     ensures lives { LivesLeave }
     ensures taken { MessagesAreTaken }

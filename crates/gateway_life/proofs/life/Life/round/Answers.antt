@@ -23,7 +23,8 @@ pub returns-in_err-turn-clause-ends : goal.returns-in_err-turn-clause-ends
 returns-in_err-turn-clause-ends g c =
     let at = c.moment-now.ensures.given in
     rw (← c.self.view_is) (client_ends c.from_residual-in_err-turn.result
-    c.in_err-turn.field-0.0 c.self.inside.engine.core.config c.end_day.new.self.core.config (record {
+    c.in_err-turn.field-0.0 c.self.inside.engine.core.config c.end_day.new.self.core.config
+    (record {
       engine = seen c.self.inside.engine;
       client = c.self.inside.client;
       venue = c.self.inside.venue;
