@@ -205,6 +205,8 @@ module _ (config : Config) where
           → entries ≡ went_on old.engine.journal.entries (first.days ++ the_day ∷ []) []
       ended_past entries is =
           is ∙ ap (λ l. l ++ after.entries ++ new_day now ∷ []) first.past
+          ∙ append_assoc (went_on old.engine.journal.entries first.days []) after.entries
+          (new_day now ∷ [])
           ∙ sym (went_more old.engine.journal.entries first.days
           (after.entries ++ new_day now ∷ []))
           ∙ ap (λ l. past_of old.engine.journal.entries ++ l)
@@ -257,9 +259,7 @@ module _ (config : Config) where
           past = one.past ∙ all ∙ ended_past turned.due turned.added turned.mid turned.ends
               engine.journal.entries turned.entries;
           began = began-push before first.days day
-              ∙ sym (ap day_at (one.past ∙ all ∙ turned.entries
-              ∙ sym (append_assoc (past_of mid.engine.journal.entries) turned.mid.entries
-              (new_day now ∷ [])))
+              ∙ sym (ap day_at (one.past ∙ all ∙ turned.entries)
               ∙ day_at-push (past_of mid.engine.journal.entries ++ turned.mid.entries)
               (new_day now));
           rounds = λ told reads whole.
@@ -567,8 +567,7 @@ module _ (config : Config) where
     life_fails end r2 entries (AtTurn (AtEntry due added after happen grew why (inl is))) =
         day_fails end r2 entries due added after happen grew why is
     life_fails end r2 entries (AtTurn (AtEntry due added after happen grew why (inr fault))) =
-        day_stands end r2 entries due added after happen grew fault.0 (fault.1
-        ∙ append_assoc (past_of mid.engine.journal.entries) after.entries (new_day now ∷ []))
+        day_stands end r2 entries due added after happen grew fault.0 fault.1
     life_fails end r2 entries (InRound engine between goes (inl turned) h) =
         next_fails end engine between r2 entries goes turned h
     life_fails end r2 entries (InRound engine between goes (inr stays) h) =

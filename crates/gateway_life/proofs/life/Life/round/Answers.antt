@@ -105,8 +105,9 @@ returns-in_err-turn-clause-taps g c =
 
 pub returns-in_err-turn-clause-kept : goal.returns-in_err-turn-clause-kept
 returns-in_err-turn-clause-kept g c =
-    rw (← c.self.view_is) (kept_err c.from_residual-in_err-turn.result c.in_err-turn.field-0.0 _
-    (g.D.Disk.bytes c.args.disk.now) _ _ _ _ _ _ c.from_residual-in_err-turn.ensures.1
+    rw (← c.self.view_is) (kept_err c.from_residual-in_err-turn.result c.in_err-turn.field-0.0
+    (g.D.Disk.bytes c.args.disk.now) (g.D.Disk.bytes c.end_day.new.disk) _ _ _ _ _ _
+    c.from_residual-in_err-turn.ensures.1
     c.end_day.ensures.told c.in_ok-end_day.ensures.durable
     (ap (λ (k : Config). k.names) c.end_day.ensures.config) c.in_err-turn.ensures.kept)
 
