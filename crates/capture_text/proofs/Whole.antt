@@ -48,8 +48,8 @@ begun_in names heart reset lines (capture, rest, sound, split) = record {
   split = (same_tail _ _ _ _ (same_tail _ _ _ _ split).1).1;
 }
 
-outside_in : (names : Names) (heart : ℕ) (reset : Option ℕ) (before : Texts) (part : List ℕ) (after : Texts)
-    → IsNoLine before part after
+outside_in : (names : Names) (heart : ℕ) (reset : Option ℕ) (before : Texts) (part : List ℕ)
+    (after : Texts) → IsNoLine before part after
     → IsOutside (title ∷ names_line names heart reset ∷ before) part after
 outside_in names heart reset before part (next ∷ after) outside =
     λ begins. outside (begun_in names heart reset (before ++ part ∷ []) begins)
@@ -58,8 +58,8 @@ outside_in names heart reset before part [] outside =
     (same_tail _ _ _ _ (same_tail _ _ _ _ is).1).1
 
 -- the text is this capture
-pub is_text : (text rest : List ℕ) (names : Names) (heart : ℕ) (reset : Option ℕ) (lives : List (List Event))
-    → IsHeader text names heart reset rest → AreLives rest lives
+pub is_text : (text rest : List ℕ) (names : Names) (heart : ℕ) (reset : Option ℕ)
+    (lives : List (List Event)) → IsHeader text names heart reset rest → AreLives rest lives
     → IsTextOf text (capture_of names heart reset lives)
 is_text text rest names heart reset lives header are = record {
   sound = is_capture names heart reset lives header.named header.bounded are.some are.sound;
@@ -85,8 +85,9 @@ is_outside text rest names heart number reset header none = record {
   outside = outside_in names heart reset none.before none.part none.after none.outside;
 }
 
-pub lives_fault : (text rest : List ℕ) (names : Names) (heart : ℕ) (reset : Option ℕ) (fault : CaptureFault)
-    → IsHeader text names heart reset rest → LivesSay rest (Err fault) → Reads text (Err fault)
+pub lives_fault : (text rest : List ℕ) (names : Names) (heart : ℕ) (reset : Option ℕ)
+    (fault : CaptureFault) → IsHeader text names heart reset rest → LivesSay rest (Err fault)
+    → Reads text (Err fault)
 lives_fault text rest names heart reset (Line number) header none =
     is_outside text rest names heart number reset header none
 lives_fault text rest names heart reset NoMemory header none = tt
