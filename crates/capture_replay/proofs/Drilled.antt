@@ -57,11 +57,11 @@ module _ {T : Type 0} (state : T → TapState) (first count : ℕ) (seen now : L
       ∙ ap (λ (h : ℕ). config_with drill_names h None) of_heart
 
   -- its day is lived as that of a capture
-  pub day_lived : IsLived state (config_with drill_names drill_heart None) (drill_events first count)
-      nothing seen now client venue end image
+  pub day_lived : IsLived state (config_with drill_names drill_heart None)
+      (drill_events first count) nothing seen now client venue end image
   day_lived =
-      subst (λ (l : List Event). LivesOn state (config_with drill_names drill_heart None) l 0 [] seen now
-      client venue end image) of_lines
+      subst (λ (l : List Event). LivesOn state (config_with drill_names drill_heart None) l 0 []
+      seen now client venue end image) of_lines
       (subst (λ (k : Config). LivesOn state k lines 0 [] seen now client venue end image) same
       (subst (λ (b : List ℕ). LivesOn state config lines 0 b seen now client venue end image) none
       lives))
@@ -92,11 +92,13 @@ day_bounded first count lines is sound = subst (λ (l : List Event). All IsBound
 
 module _ {T : Type 0} (state : T → TapState) (first count : ℕ) (seen now : List T)
     (client venue : Option (List WireCall)) (end : LifeEnd) (image : List ℕ)
-    (lived : IsLived state (config_with drill_names drill_heart None) (drill_events first count) nothing
-    seen now client venue end image) where
+    (lived : IsLived state (config_with drill_names drill_heart None) (drill_events first count)
+    nothing seen now client venue end image) where
   abbrev life : Played
   life = record {
     did = lived.did;
+    days = lived.days;
+    left = lived.left;
     end = end;
     image = image;
     entries = lived.entries;

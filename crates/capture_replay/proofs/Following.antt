@@ -18,7 +18,8 @@ use Rattle.gateway_life.specs.declared.end.LifeEnd.{LifeEnd}
 use Rattle.gateway_life.specs.Life.{IsJournal}
 use Rattle.gateway_life.specs.Watched.{WereCommitted}
 use Rattle.message_answers.specs.Answer.{Answers}
-use Rattle.life_laws.specs.Justified.{Leaves}
+use Rattle.pair_journal.specs.Days.{days_of}
+use Rattle.life_laws.specs.Days.{LeavesDays}
 use Rattle.gateway_life.specs.Laws.{AreShown, FirstLivesBegin}
 use Rattle.drop_taps.specs.Shown.{TapState, HaveSeen}
 use Rattle.order_meaning.specs.declared.names.Names.{Names}
@@ -153,7 +154,8 @@ module _ {T : Type 0} (state : T → TapState) (capture : Capture)
     are = are_longer;
     journal = subst (λ (l : Left). IsJournal capture.names l.entries life.image)
         (sym (left_more nothing so_far.played life)) is.is_left.journal;
-    leaves = subst (λ (l : Left). Leaves Answers capture.names l.entries l.client l.venue)
+    leaves = subst (λ (l : Left).
+        LeavesDays Answers capture.names (days_of l.entries) l.client l.venue)
         (sym (left_more nothing so_far.played life)) is.leaves;
     moment = ap (λ (l : Left). l.moment) (left_more nothing so_far.played life);
     put = subst (λ (l : List ℕ). Appends old next l) (sym text_longer)
@@ -226,6 +228,8 @@ module _ {T : Type 0} (state : T → TapState) (capture : Capture) where
       abbrev life : Played
       life = record {
         did = lived.did;
+        days = lived.days;
+        left = lived.left;
         end = end;
         image = left;
         entries = lived.entries;

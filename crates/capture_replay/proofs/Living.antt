@@ -14,7 +14,8 @@ use Rattle.wires.specs.Script.{Plays}
 use Rattle.wires.specs.Clock.{ClockState, moments_given, moments_told}
 use Rattle.wires.specs.MemWire.{WireState, plays}
 use Rattle.message_answers.specs.Answer.{Answers}
-use Rattle.life_laws.specs.Justified.{Leaves}
+use Rattle.pair_journal.specs.Days.{days_of}
+use Rattle.life_laws.specs.Days.{DayEnded, DayLeft, LeavesDays}
 use Rattle.gateway_config.specs.declared.config.Config.{Config}
 use Rattle.gateway_life.specs.declared.end.LifeEnd.{LifeEnd}
 use Rattle.gateway_life.specs.Life.{Done, IsJournal}
@@ -78,7 +79,8 @@ pub record LiveSays {T : Type 0} (state : T → TapState) (seen now : List T) (c
   pub images : (given : Premises config.names (IsImageOf disk0)
       (told_of disk0 client0 venue0 clock0) (told_of disk client venue clock))
       → (image : List ℕ) → IsImageOf disk image
-      → (entries : List Entry) × IsLeft end config given.before rounds given.did image entries
+      → (days : List DayEnded) × (left : DayLeft) × (entries : List Entry)
+      × IsLeft end config given.before rounds given.did days left image entries
   pub client_plays : (script : List Came) → plays client0 script → plays client script
   pub venue_plays : (script : List Came) → plays venue0 script → plays venue script
   pub follows : (listed : List ℕ) → clock0.listed ≡ listed → clock.listed ≡ listed
@@ -114,16 +116,18 @@ module _ {T : Type 0} (state : T → TapState) (seen now : List T) (config : Con
       → clock.listed ≡ moments_from before.moment lines → rounds ≡ length (filter is_round lines)
       → IsImageOf disk image → may_end (stop_of lines) end ≡ true
       → IsJournal config.names before.entries bytes → AreShown config.names
-      → Leaves Answers config.names before.entries before.client before.venue
+      → LeavesDays Answers config.names (days_of before.entries) before.client before.venue
       → IsLived state config lines before seen now (Some client_calls) (Some venue_calls) end
       image
   unfolding premises
   lived one client_plays venue_plays follows count among whole journal shown leaves =
-      let (entries, left) = says.images (premises journal) image among in
+      let (days, day, entries, left) = says.images (premises journal) image among in
       let accounts = left.accounts before.client before.venue leaves in
       let saw = says.taps in
       record {
         did = done client_calls venue_calls clock;
+        days = days;
+        left = day;
         entries = entries;
         client_told = refl;
         venue_told = refl;
@@ -132,7 +136,7 @@ module _ {T : Type 0} (state : T → TapState) (seen now : List T) (config : Con
           venue = played venue venue_calls (script_of Venue lines) venue_told venue_plays;
           moments = (clock.asked, ap (λ l. moments_given l clock.asked) follows);
           is_left = subst (λ n. IsLeft end config before.entries n
-              (done client_calls venue_calls clock) image entries) count left;
+              (done client_calls venue_calls clock) days day image entries) count left;
           leaves = accounts.leaves;
           taken = accounts.taken shown;
           moment = refl;

@@ -16,7 +16,8 @@ use Rattle.capture_replay.specs.Replay.{Played, IsPlayed, config_with, nothing, 
 -- what was committed in it.
 pub record IsDrilled {T : Type 0} (state : T → TapState) (first count : ℕ) (seen now : List T)
     (life : Played) : Type 0 where
-  pub played : IsPlayed (config_with drill_names drill_heart None) (drill_events first count) nothing life
+  pub played : IsPlayed (config_with drill_names drill_heart None) (drill_events first count)
+      nothing life
   pub saw : HaveSeen state seen now life.entries
 
 -- what is printed of it
