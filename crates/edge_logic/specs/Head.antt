@@ -7,6 +7,11 @@ use Rattle.std.specs.List.{starts_with}
 abbrev pub birth_head : List ℕ
 birth_head = 0 ∷ 0 ∷ 0 ∷ 155 ∷ codes "FIXGATEWAY2"
 
+-- A file that begins so is a journal of format 1, which fixgate wrote up to 0.12.
+abbrev pub is_of_format_1 : List ℕ → Bool
+is_of_format_1 head =
+    starts_with nat_eq head (1 ∷ 0 ∷ 0 ∷ 0 ∷ 155 ∷ codes "FIXGATEWAY1")
+
 -- A file that begins so is a journal, or may be left of one that was being born: it has at most one
 -- byte, or begins with the byte of a gate, or the birth record stands behind that byte.
 abbrev pub may_be_journal : List ℕ → Bool

@@ -103,3 +103,5 @@ refusal_text (refusal.Failed path reason) =
     codes "fixgate: journal " ++ path.now ++ codes ": " ++ reason.now
 refusal_text (refusal.StopLies path) =
     codes "fixgate: stop file " ++ path.now ++ codes " is there already"
+refusal_text (refusal.OldFormat path) =
+    codes "fixgate: journal " ++ path.now ++ codes " is of format 1: migrate makes it format 2"

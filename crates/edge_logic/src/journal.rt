@@ -4,7 +4,7 @@
 ghost use Rattle.std.specs.Prelude.{◌≡◌, ◌++◌, IfOk, MatchResult, IsErr, codes, string_bytes};
 ghost use Rattle.std.specs.Io.{ReadsAtMost};
 ghost use Rattle.outside.specs.Causes.{HasCause, next_count, faults_after};
-ghost use Rattle.edge_logic.specs.Head.{may_be_journal};
+ghost use Rattle.edge_logic.specs.Head.{may_be_journal, is_of_format_1};
 ghost use Rattle.edge_logic.specs.declared.journal.Denial.TheVariants as denial;
 
 use outside::Failed;
@@ -15,7 +15,7 @@ use std::os::unix::fs::FileExt;
 use std::path::Path;
 use std::{fmt, io};
 
-/// How many bytes of a file [`may_be_journal`] looks at.
+/// How many bytes of a file [`may_be_journal`] and [`is_of_format_1`] look at.
 pub const HEAD: usize = 16;
 
 /// What every journal has behind its first byte: the length of its birth record, and its name.
@@ -30,6 +30,13 @@ pub fn may_be_journal(head: &[u8]) -> bool
     head.len() <= 1 || head[0] <= 1 || head[1..].starts_with(BIRTH)
 }
 
+/// Whether a file that begins so is a journal of format 1, which fixgate wrote up to 0.12.
+pub fn is_of_format_1(head: &[u8]) -> bool
+    ensures { result ≡ is_of_format_1 head.now }
+{
+    head.starts_with(b"\x01\x00\x00\x00\x9bFIXGATEWAY1")
+}
+
 /// Why a gateway cannot have its journal. Its `Display` is the line, without its LF.
 #[derive(Clone, Copy, Debug)]
 pub enum Refusal<'a> {
@@ -39,6 +46,8 @@ pub enum Refusal<'a> {
     Failed(&'a str, &'a str),
     /// A stop file lies at this path before the start.
     StopLies(&'a str),
+    /// The journal at this path is of format 1.
+    OldFormat(&'a str),
 }
 
 impl fmt::Display for Refusal<'_> {
@@ -52,6 +61,12 @@ impl fmt::Display for Refusal<'_> {
             Refusal::InUse(path) => write!(f, "fixgate: journal {path} is in use"),
             Refusal::Failed(path, reason) => write!(f, "fixgate: journal {path}: {reason}"),
             Refusal::StopLies(path) => write!(f, "fixgate: stop file {path} is there already"),
+            Refusal::OldFormat(path) => {
+                write!(
+                    f,
+                    "fixgate: journal {path} is of format 1: migrate makes it format 2"
+                )
+            }
         }
     }
 }

@@ -28,7 +28,9 @@ pub use clocks::{moment, ticks};
 pub use counted::{Counted, Peer};
 pub use end_time::{LONG_END, ROUNDS_A_SECOND, long_end};
 pub use fault::Fault;
-pub use journal::{Denial, HEAD, Refusal, Tally, fill, folder, may_be_journal, stop_path};
+pub use journal::{
+    Denial, HEAD, Refusal, Tally, fill, folder, is_of_format_1, may_be_journal, stop_path,
+};
 pub use logon_mark::LogonMark;
 pub use notice::{
     ClosedNth, Ending, Lost, Missed, NextTry, Notice, PeerName, RefusedNth, TooLow, line, put_stamp,
