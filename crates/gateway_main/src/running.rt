@@ -6,7 +6,7 @@ ghost use Rattle.wires.specs.Wire.{is_within};
 
 use crate::options::Options;
 use drop_taps::Tap;
-use edge_logic::{Notice, Shared, long_end, stop_path};
+use edge_logic::{HEAD, Notice, Refusal, Shared, is_of_format_1, long_end, stop_path};
 use edge_system::{Addresses, Edge, JournalFile, StopFile, System, Teller};
 use gateway_top::{Status, run};
 use outside::{Disk, MemDisk, Sink, Source};
@@ -169,6 +169,12 @@ fn only_read(words: &[String]) -> bool {
     matches!(words, [word] if matches!(word.as_str(), "show" | "migrate"))
 }
 
+// Whether the disk holds a journal of format 1.
+fn is_old<D: Disk>(disk: &mut D) -> bool {
+    let mut head = [0u8; HEAD];
+    matches!(disk.read_at(0, &mut head), Ok(HEAD)) && is_of_format_1(&head)
+}
+
 // Says how long an end by the stop file takes, where a gateway is to live for so many rounds that it
 // is long.
 fn tell_long_end<R: System, W: Write + Copy + Drop>(rt: &R, lines: W, words: &[String]) {
@@ -237,6 +243,9 @@ fn run_with_journal<
         if disk.is_no_journal() {
             return Status::JournalRefused { at: 0 };
         }
+    }
+    if matches!(status, Status::JournalRefused { at: 0 }) && is_old(&mut disk) {
+        tell(lines, Refusal::OldFormat(path.as_str()));
     }
     status
 }

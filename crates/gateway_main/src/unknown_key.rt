@@ -8,7 +8,7 @@ const KNOWN: [(&str, &[&str]); 4] = [
     ("", &["client", "venue", "gate"]),
     ("client", &["our", "peer"]),
     ("venue", &["our", "peer", "heart"]),
-    ("gate", &["window"]),
+    ("gate", &["window", "reset"]),
 ];
 
 // Whether a name is one of these.
