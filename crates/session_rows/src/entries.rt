@@ -21,6 +21,9 @@ pub(crate) fn names() -> Option<Names> {
     })
 }
 
+// What stands in place of a side in the entry with which a day begins.
+const NEW_DAY: u8 = 3;
+
 // Appends a number, its highest byte first.
 fn put_number(out: &mut Vec<u8>, number: u32) -> Result<(), AllocError> {
     out.extend_from_slice(&number.to_be_bytes())
@@ -80,21 +83,44 @@ fn put_out(payload: &mut Vec<u8>, text: &str) -> Result<(), AllocError> {
     put_counted(payload, b"")
 }
 
-// Appends the payload of an entry.
-fn put_payload(alloc: Global, payload: &mut Vec<u8>, text: &str) -> Result<(), AllocError> {
+// The payload of an entry up to its moment: the number of its day, and the moment.
+fn begun(alloc: Global, day: u32, text: &str) -> Result<Vec<u8>, AllocError> {
+    let mut payload = Vec::new(alloc);
+    put_number(&mut payload, day)?;
     let moment = word(text, 0).parse::<u64>().unwrap_or(0);
     payload.extend_from_slice(&moment.to_be_bytes())?;
-    put_took(alloc, payload, text)?;
-    for place in 7..11 {
-        put_number_word(payload, word(text, place))?;
-    }
-    put_out(payload, text)
+    Ok(payload)
 }
 
-/// Appends the record of an entry.
-pub(crate) fn put_entry(alloc: Global, image: &mut Vec<u8>, text: &str) -> Result<(), AllocError> {
-    let mut payload = Vec::new(alloc);
-    put_payload(alloc, &mut payload, text)?;
+/// Appends the record of an entry on a day.
+pub(crate) fn put_entry(
+    alloc: Global,
+    image: &mut Vec<u8>,
+    day: u32,
+    text: &str,
+) -> Result<(), AllocError> {
+    let mut payload = begun(alloc, day, text)?;
+    put_took(alloc, &mut payload, text)?;
+    for place in 7..11 {
+        put_number_word(&mut payload, word(text, place))?;
+    }
+    put_out(&mut payload, text)?;
+    put_record(image, &payload)
+}
+
+/// Appends the record with which a day begins, at the moment of the text.
+pub(crate) fn put_new_day(
+    alloc: Global,
+    image: &mut Vec<u8>,
+    day: u32,
+    text: &str,
+) -> Result<(), AllocError> {
+    let mut payload = begun(alloc, day, text)?;
+    payload.push(NEW_DAY)?;
+    for _ in 0..4 {
+        put_number(&mut payload, 1)?;
+    }
+    payload.push(0)?;
     put_record(image, &payload)
 }
 

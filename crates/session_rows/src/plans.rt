@@ -218,6 +218,12 @@ pub(crate) fn active(alloc: Global, core: &mut Core, given: &str) -> Result<Stri
     }
 }
 
+/// Begins a session day, and answers the same.
+pub(crate) fn begun(alloc: Global, core: &mut Core) -> Result<String, AllocError> {
+    core.begin_day();
+    numbers(alloc, core)
+}
+
 /// The next numbers of both sessions: in and out of the client's, in and out of the venue's.
 pub(crate) fn numbers(alloc: Global, core: &Core) -> Result<String, AllocError> {
     let client = core.session(Client).numbers;

@@ -1,8 +1,8 @@
 //! The calls of rows, and what the rows before have made: a journal, and a core behind it.
 
 use crate::answers::{answer, chained};
-use crate::entries::{put_birth, put_entry};
-use crate::plans::{active, closed, frame, held, numbers, opened, restarted};
+use crate::entries::{put_birth, put_entry, put_new_day};
+use crate::plans::{active, begun, closed, frame, held, numbers, opened, restarted};
 use crate::{frames, logons, sessions};
 use gateway_core::Core;
 use order_meaning::Side;
@@ -10,10 +10,12 @@ use pair_journal::Journal;
 use row_words::{Answers, SOH, behind, bytes_of, side_of, word};
 use std::alloc::{AllocError, Global};
 
-/// The records of a journal, and the journal and the core that were loaded from them.
+/// The records of a journal and the number of its last day, and the journal and the core that were
+/// loaded from them.
 #[derive(Drop)]
 pub(crate) struct World {
     image: Vec<u8>,
+    day: u32,
     loaded: Option<(Journal, Core)>,
 }
 
@@ -46,6 +48,9 @@ fn core_answer(
     if call == "active" {
         return active(alloc, core, given);
     }
+    if call == "begin-day" {
+        return begun(alloc, core);
+    }
     match side_of(word(given, 0)) {
         Some(side) => side_answer(alloc, core, journal, call, side, behind(given, 1)),
         None => numbers(alloc, core),
@@ -67,6 +72,7 @@ impl World {
     pub(crate) fn new(alloc: Global) -> World {
         World {
             image: Vec::new(alloc),
+            day: 0,
             loaded: None,
         }
     }
@@ -74,13 +80,21 @@ impl World {
     // Begins a journal.
     fn begin(&mut self, alloc: Global) -> Result<String, AllocError> {
         self.image.clear();
+        self.day = 0;
         put_birth(alloc, &mut self.image)?;
         Ok(String::new(alloc))
     }
 
     // Puts an entry behind the journal.
     fn put(&mut self, alloc: Global, given: &str) -> Result<String, AllocError> {
-        put_entry(alloc, &mut self.image, given)?;
+        put_entry(alloc, &mut self.image, self.day, given)?;
+        Ok(String::new(alloc))
+    }
+
+    // Puts the entry with which a day begins behind it.
+    fn turn(&mut self, alloc: Global, given: &str) -> Result<String, AllocError> {
+        self.day = self.day.saturating_add(1);
+        put_new_day(alloc, &mut self.image, self.day, given)?;
         Ok(String::new(alloc))
     }
 
@@ -106,10 +120,11 @@ impl World {
         match call {
             "journal" => self.begin(alloc),
             "entry" => self.put(alloc, given),
+            "day" => self.turn(alloc, given),
             "answer" => answer(alloc, &self.image, given),
             "number-of" | "orig-of" => chained(alloc, &self.image, call, given),
             "restart" => self.restart(alloc),
-            "active" | "opened" | "closed" | "frame" | "held" | "numbers" => {
+            "active" | "begin-day" | "opened" | "closed" | "frame" | "held" | "numbers" => {
                 self.planned(alloc, call, given)
             }
             _ => session_answer(alloc, call, given),
