@@ -43,7 +43,7 @@ fn status_lines(alloc: Global, status: Status) -> Result<String, AllocError> {
 }
 
 fn main(rt: HostRuntime) -> io::Result<()> {
-    try_rows(&rt, &SIGNS, &mut Runs)?;
+    try_rows(&rt, &SIGNS, &mut Runs::new(rt.alloc()))?;
     let help = help(rt.alloc())?;
     print!(rt; "{help}")?;
     for status in STATUSES {

@@ -22,6 +22,14 @@ const BORN: [(&[u8], usize); 4] = [
 /// Where the digit of its format stands.
 const FORMAT_AT: usize = 15;
 
+/// What stands behind the names of a journal of format 1 in which the venue was told a Logon, at
+/// 2024-01-02 10:00:00: an entry that took nothing, with the next numbers 1, 1, 1 and 2.
+const LOGON: &[u8] = b"\x01\0\0\0\x39\0\0\x01\x8c\xc9\x9d\xa1\0\0\0\0\0\x01\0\0\0\x01\0\0\0\x01\
+    \0\0\0\x02\x01\x02\0\0\0\x01\x01\x01A\0\0\0\x1398=0\x01108=30\x011137=9\x01\0";
+
+/// The gate of a record that stands.
+const OPEN: u8 = 1;
+
 /// The words of a command line behind the program's name.
 fn words_of(alloc: Global, command: &str) -> Result<Vec<String>, AllocError> {
     let mut words = Vec::new(alloc);
@@ -40,23 +48,48 @@ fn failing(alloc: Global, fault: &str, kind: &str) -> Result<Vec<u64>, AllocErro
     Ok(calls)
 }
 
-/// What stands on the disk before the run: nothing, so many zeros, or a journal that was born, of
-/// format 2 or, where it is old, of format 1.
-fn content(alloc: Global, fault: &str) -> Result<Vec<u8>, AllocError> {
+/// Whether this word stands in a text.
+fn has(text: &str, word: &str) -> bool {
+    text.split(' ').any(|other| other == word)
+}
+
+/// A journal that was born.
+fn born(alloc: Global) -> Result<Vec<u8>, AllocError> {
     let mut bytes = Vec::new(alloc);
-    let zeros = number_behind(fault, "over").unwrap_or(0);
-    bytes.extend_from_slice(&vec![in alloc; 0; zeros as usize]?)?;
-    let is_old = fault.split(' ').any(|word| word == "old");
-    if is_old || fault.split(' ').any(|word| word == "born") {
-        for (text, zeros) in &BORN {
-            bytes.extend_from_slice(text)?;
-            bytes.extend_from_slice(&vec![in alloc; 0; *zeros]?)?;
-        }
-    }
-    if let (true, Some(digit)) = (is_old, bytes.get_mut(FORMAT_AT)) {
-        *digit = b'1';
+    for (text, zeros) in &BORN {
+        bytes.extend_from_slice(text)?;
+        bytes.extend_from_slice(&vec![in alloc; 0; *zeros]?)?;
     }
     Ok(bytes)
+}
+
+/// The same of format 1, with the Logon where it is asked for.
+fn old(alloc: Global, has_logon: bool) -> Result<Vec<u8>, AllocError> {
+    let mut bytes = born(alloc)?;
+    if let Some(digit) = bytes.get_mut(FORMAT_AT) {
+        *digit = b'1';
+    }
+    if has_logon {
+        bytes.pop(); // its closed gate
+        bytes.extend_from_slice(LOGON)?;
+    }
+    Ok(bytes)
+}
+
+/// What stands on the disk before the run: nothing, so many zeros, a journal that was born, one of
+/// format 1, which is old, or what the run before put.
+fn content(alloc: Global, fault: &str, put: &[u8]) -> Result<Vec<u8>, AllocError> {
+    if has(fault, "born") {
+        return born(alloc);
+    }
+    if has(fault, "old") {
+        return old(alloc, has(fault, "logon"));
+    }
+    if has(fault, "put") {
+        return Vec::from_slice(alloc, put);
+    }
+    let zeros = number_behind(fault, "over").unwrap_or(0);
+    vec![in alloc; 0; zeros as usize]
 }
 
 /// A run over an input and a disk whose calls fail as listed, with wires on which nothing comes.
@@ -86,40 +119,65 @@ fn ran(
     )
 }
 
-/// A status, and ` : ` and what was put where something was.
+/// A status, and ` : ` and what was put where something was: how many bytes, where it is a journal.
 fn ended(alloc: Global, status: &Status, put: &[u8]) -> Result<Vec<u8>, AllocError> {
-    let words = format!(in alloc; "{status}")?;
+    let words = if put.first() == Some(&OPEN) {
+        format!(in alloc; "{status} : {} bytes", put.len())?
+    } else {
+        format!(in alloc; "{status}")?
+    };
     let mut answer = Vec::from_slice(alloc, words.as_bytes())?;
-    if !put.is_empty() {
+    if !put.is_empty() && put.first() != Some(&OPEN) {
         answer.extend_from_slice(b" : ")?;
         answer.extend_from_slice(put)?;
     }
     Ok(answer)
 }
 
-/// How the run of a command ends where these calls fail, and what it puts.
-fn answer(alloc: Global, command: &str, fault: &str, input: &str) -> Result<Vec<u8>, AllocError> {
+/// How the run of a command ends where these calls fail. What it puts stands in `put` then, where
+/// what the run before put stood.
+fn answer(
+    alloc: Global,
+    command: &str,
+    fault: &str,
+    input: &str,
+    put: &mut Vec<u8>,
+) -> Result<Status, AllocError> {
     let words = words_of(alloc, command)?;
     let input = bytes_of(alloc, &SIGNS, input)?;
     let mut source = MemSource::new(input, failing(alloc, fault, "read")?);
     let mut sink = MemSink::new(alloc, failing(alloc, fault, "write")?);
-    let on_disk = content(alloc, fault)?;
+    let on_disk = content(alloc, fault, put)?;
     let mut disk = MemDisk::new(alloc, on_disk, failing(alloc, fault, "disk")?);
     let status = ran(alloc, &words, &mut source, &mut sink, &mut disk);
-    ended(alloc, &status, sink.bytes())
+    put.clear();
+    put.extend_from_slice(sink.bytes())?;
+    Ok(status)
 }
 
 /// The runs of the program, each a call `fixgate` of which are given the other words of the command
 /// line, what fails and stands on the disk behind a `, `, and the input behind a ` : `.
 #[derive(Drop)]
-pub(crate) struct Runs;
+pub(crate) struct Runs {
+    /// What the last one put.
+    put: Vec<u8>,
+}
+
+impl Runs {
+    pub(crate) fn new(alloc: Global) -> Runs {
+        Runs {
+            put: Vec::new(alloc),
+        }
+    }
+}
 
 impl Answers for Runs {
     fn answer(&mut self, alloc: Global, call: &str, given: &str) -> Result<Vec<u8>, AllocError> {
         let line = format!(in alloc; "{call} {given}")?;
         let (command, input) = line.split_once(" : ").unwrap_or((line.as_str(), ""));
         let (command, fault) = command.split_once(", ").unwrap_or((command, ""));
-        answer(alloc, command, fault, input)
+        let status = answer(alloc, command, fault, input, &mut self.put)?;
+        ended(alloc, &status, &self.put)
     }
 }
 
