@@ -35,12 +35,17 @@ class Peer:
         self.name = name
         self.logon = logon
         self.answers = answers
+        self.wrong = []
+        self.day = -1
+        self.begin_day()
+
+    def begin_day(self):
+        """Begins a session day: it knows nothing of the one before."""
+        self.day += 1
         self.next_in = self.next_out = 1
         self.said = {}  # by number: type, content, moment
-        self.waiting = []  # bodies that are not on their way yet
-        self.asked = 0  # the highest number that it has seen early
         self.answered = set()  # the keys of what it has answered
-        self.wrong = []
+        self.lose()
 
     def copy(self):
         """The same peer, to go on otherwise."""
@@ -127,8 +132,8 @@ class Peer:
 
     def lose(self):
         """The connection has ended, with what was on its way."""
-        self.waiting = []
-        self.asked = 0
+        self.waiting = []  # bodies that are not on their way yet
+        self.asked = 0  # the highest number that it has seen early
 
 
 def key(said):
