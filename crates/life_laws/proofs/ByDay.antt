@@ -72,7 +72,8 @@ module _ (answers : List Entry → (active : Bool) → Option Asked → Option W
     ends-leave began reads before moments day cl vl h rc rv ends =
         let leaf = day-leaves began reads before ends.after moments day.at ends.added cl vl
         day.left.entries h rc rv ends.lived ends.entries in
-        let calls : transcript_from cl day.left.added.client ≡ transcript_from cl ends.added.client =
+        let calls : transcript_from cl day.left.added.client
+        ≡ transcript_from cl ends.added.client =
         ap (λ (a : Added). transcript_from cl a.client) ends.all
         ∙ hung-links cl ends.added.client ends.after.client_up in
         let others : transcript_from vl day.left.added.venue ≡ transcript_from vl ends.added.venue =
