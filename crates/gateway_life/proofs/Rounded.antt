@@ -32,7 +32,7 @@ use Rattle.gateway_life.specs.Ready.{Behind, world_of}
 use Rattle.gateway_life.specs.Fails.{IsWhy, FailsBy, IsWhyOfDay}
 use Rattle.gateway_life.specs.Stepped.{Records, Grew, AllStepped, Failed}
 use Rattle.gateway_life.specs.Life.{begun, rested, went_on, moment_of, LastFails, AtEvent, AtDay}
-use Rattle.gateway_life.specs.Life.{BehindDay, IfInRound}
+use Rattle.gateway_life.specs.Life.{BehindDay}
 use Rattle.gateway_life.specs.Rounds.{AreTold, StoodFor, RoundDone, RoundOver, RoundBroken}
 use Rattle.gateway_life.specs.Rounds.{RoundFails}
 use Rattle.gateway_life.specs.Rounds.{AtTurn, InRound, DayTurned, DayStays, AtEnd, AtEntry}
@@ -85,15 +85,15 @@ went_more : (before : List Entry) (days : List DayEnded) (xs : List Entry)
 went_more before days xs = ap (λ l. past_of before ++ l) (written-more days [] xs)
     ∙ sym (append_assoc (past_of before) (written days []) xs)
 
--- no connection stands as a day begins
-none_stands : (b : Bool) (P : Type 0) → b ≡ false → b ≡ true → P
-none_stands b P down up = absurd (cc (sym down ∙ up))
+-- a test tells one of two
+not_both : (b : Bool) (P : Type 0) → b ≡ false → b ≡ true → P
+not_both b P down up = absurd (cc (sym down ∙ up))
 
 begun_stands : (config : Config) (life : LifeState) → world_of life.engine ≡ begun config []
     → StoodFor life nothing_read
 begun_stands config life fresh_is = record {
-  client = λ up. none_stands life.engine.client_up _ (ap (λ (w : World). w.client_up) fresh_is) up;
-  venue = λ up. none_stands life.engine.venue_up _ (ap (λ (w : World). w.venue_up) fresh_is) up;
+  client = λ up. not_both life.engine.client_up _ (ap (λ (w : World). w.client_up) fresh_is) up;
+  venue = λ up. not_both life.engine.venue_up _ (ap (λ (w : World). w.venue_up) fresh_is) up;
 }
 
 module _ (config : Config) where
@@ -352,13 +352,15 @@ module _ (config : Config) where
         → IsWhy end config (past_of mid.engine.journal.entries) w event now
         → FailsBy end config w event now part today
         → entries ≡ past_of mid.engine.journal.entries ++ today
-        → ((reads' : Reads) → AreTold r2 → StoodFor mid reads' → (last :
-        RoundUpTo Answers config.names config.window reads' (world_of mid.engine) now added w event
+        → (due_in config.reset (began_after before first.days) (last_day mid.engine.journal.entries)
+        now ≡ true
+        → UpTo Answers config.names config.window (world_of mid.engine) ends_of now added w event)
+        → ((reads' : Reads) → AreTold r2 → StoodFor mid reads'
+        → RoundUpTo Answers config.names config.window reads' (world_of mid.engine) now added w
+        event
         ⊎ UpTo Answers config.names config.window (world_of mid.engine) ends_of now added w event)
-        × IfInRound last (due_in config.reset (began_after before first.days)
-        (last_day mid.engine.journal.entries) now ≡ false))
         → LifeBroken end config old given m r0 r2 entries
-    event_fails end added part w event r2 between entries today grew rest why fails is last =
+    event_fails end added part w event r2 between entries today grew rest why fails is due last =
         let left : DayLeft =
         record { entries = today; added = both (both first.added added) part } in
         let whole : both (both (all_added first.days first.added) added) part
@@ -390,11 +392,11 @@ module _ (config : Config) where
                   first = first.added;
                   rest = added;
                   rounds = day.rounds;
-                  last = (last so.0 told so.2).0;
+                  last = last so.0 told so.2;
                   all = refl;
                 };
                 none_due = day.none_due;
-                not_due = (last so.0 told so.2).1;
+                due = due;
                 why = subst (λ l. IsWhy end config l w event now) first.past why;
                 part = part;
                 fails = fails;
@@ -409,14 +411,11 @@ module _ (config : Config) where
         → LifeBroken end config old given m r0 r2 entries
     ends_fail end r2 entries h =
         let failed = h.2 in
+        let up_to = failed_up_to config end (past_of mid.engine.journal.entries)
+        (world_of mid.engine) ends_of ends_of [] now r1 r2 h.0 refl failed in
         event_fails end failed.all.added failed.broken.added failed.mid failed.last r2
         failed.between entries h.0 failed.all.grew failed.broken.grew failed.broken.why
-        failed.broken.fails h.1
-        (λ reads' told stood. (
-          inr (failed_up_to config end (past_of mid.engine.journal.entries) (world_of mid.engine)
-              ends_of ends_of [] now r1 r2 h.0 refl failed),
-          tt,
-        ))
+        failed.broken.fails h.1 (λ due. up_to) (λ reads' told stood. inr up_to)
 
     round_fails : (end : LifeEnd) (r2 : Records) (entries : List Entry)
         → is_due config.reset (day_at mid.engine.journal.entries) now ≡ false
@@ -427,10 +426,8 @@ module _ (config : Config) where
         let round = h.2 in
         event_fails end round.added round.broken.added round.mid round.event r2 round.between
         entries h.0 round.grew round.broken.grew round.broken.why round.broken.fails h.1
-        (λ reads' told stood. (
-          inl (round.up_to told reads' (record { client = stood.client; venue = stood.venue })),
-          due_here false due,
-        ))
+        (λ is. not_both _ _ (due_here false due) is) (λ reads' told stood. inl
+        (round.up_to told reads' (record { client = stood.client; venue = stood.venue })))
 
     -- the new day was not committed
     day_fails : (end : LifeEnd) (r2 : Records) (entries : List Entry)
@@ -551,7 +548,7 @@ module _ (config : Config) where
                   all = refl;
                 };
                 none_due = tt;
-                not_due = not_due config.reset now;
+                due = λ is. not_both _ _ (not_due config.reset now) is;
                 why = subst (λ l. IsWhy end config l round.mid round.event now) past
                     round.broken.why;
                 part = round.broken.added;

@@ -1,6 +1,7 @@
 -- Own: one life over the records of its wires and of its clock; docs/DEFINITIONS.md, "A life".
 use Rattle.std.specs.Prelude.{◌≡◌, ◌≢◌, ◌⊎◌, ℕ, zero, suc, ◌≤◌, false, List, [], ◌∷◌, ◌++◌, map}
-use Rattle.std.specs.Prelude.{length, min, Result, Ok, Err, ⊤, inl, inr}
+use Rattle.std.specs.Prelude.{true, length, min, Result, Ok, Err, ⊤}
+use Rattle.order_meaning.specs.declared.Side.TheVariants.{Client, Venue}
 use Rattle.order_meaning.specs.declared.names.Names.{Names}
 use Rattle.pair_entries.specs.declared.TheConstants.{MAX_AT}
 use Rattle.pair_entries.specs.declared.entry.Entry.{Entry}
@@ -8,7 +9,7 @@ use Rattle.pair_journal.specs.Days.{last_day, past_of, day_at}
 use Rattle.pair_journal.specs.Journal.{JournalOf, Unborn, Born, Refused}
 use Rattle.outside.specs.Causes.{next_count}
 use Rattle.std.specs.declared.option.Option.{Option}
-use Rattle.event_decisions.specs.Event.{Event}
+use Rattle.event_decisions.specs.Event.{Event, End}
 use Rattle.event_decisions.specs.Decide.{Sessions}
 use Rattle.message_answers.specs.Answer.{Answers}
 use Rattle.gateway_config.specs.declared.config.Config.{Config}
@@ -19,7 +20,7 @@ use Rattle.life_laws.specs.Happens.{World, Added, nothing}
 use Rattle.life_laws.specs.Turn.{Reads, both}
 use Rattle.life_laws.specs.Days.{DayLeft, DayEnded, written, all_added, due_in, NoneDue, EndsDay}
 use Rattle.life_laws.specs.Days.{OverDays, LivesDays}
-use Rattle.life_laws.specs.Ends.{LifeUpTo}
+use Rattle.life_laws.specs.Ends.{UpTo, LifeUpTo}
 use Rattle.gateway_life.specs.declared.end.LifeEnd.{LifeEnd}
 use Rattle.gateway_life.specs.declared.end.LifeEnd.TheVariants as ends
 use Rattle.gateway_life.specs.Fails.{IsWhy, FailsBy, IsWhyOfDay}
@@ -72,11 +73,6 @@ pub record LivesToEnd (config : Config) (before : List Entry) (rounds : ℕ) (di
 abbrev pub hung_up : List WireCall → List WireCall
 hung_up calls = calls ++ hang_up_if (is_within calls)
 
--- it matters where an event ended the life within a round, and not at the end of both sides
-abbrev pub IfInRound : {A B : Type 0} → A ⊎ B → Type 0 → Type 0
-IfInRound (inl round) P = P
-IfInRound (inr ends) P = Unit {0}
-
 -- AN EVENT THAT ENDED A LIFE on a day, behind the entries of the days before: all that the day did
 -- before it, the event, why that ended the life, and what stands of it.
 pub record EventFails (end : LifeEnd) (config : Config) (past : List Entry) (last : ℕ)
@@ -90,9 +86,10 @@ pub record EventFails (end : LifeEnd) (config : Config) (past : List Entry) (las
   pub up_to : LifeUpTo Answers config.names config.window reads before whole last added mid event
   pub none_due : NoneDue Answers config.names config.window config.reset began reads before whole
       up_to.first up_to.read up_to.between up_to.rounds
-  -- a new day that is due comes before its round
-  pub not_due : IfInRound up_to.last
-      (due_in config.reset began up_to.between.entries last ≡ false)
+  -- where a new day was due, the event is of the end of both sides
+  pub due : due_in config.reset began up_to.between.entries last ≡ true
+      → UpTo Answers config.names config.window up_to.between (End Client ∷ End Venue ∷ []) last
+      up_to.rest mid event
   pub why : IsWhy end config past mid event last
   pub part : Added
   pub fails : FailsBy end config mid event last part left.entries
