@@ -41,6 +41,7 @@ use Rattle.gateway_life.specs.Stepped.{EndsEvent}
 use Rattle.gateway_life.specs.Watched.{WereCommitted}
 use Rattle.gateway_life.specs.Causes.{IsCause}
 use Rattle.gateway_life.proofs.Deciding.{left_alone, leaves_map}
+use Rattle.gateway_life.proofs.Telling.{err_is}
 use Rattle.gateway_life.proofs.Watching.{were_same}
 
 -- ---- its entry
@@ -127,12 +128,12 @@ hung_whole old new false after hung = hung.grows
 
 -- nothing was written
 pub day_alone : {T : Type 0} (r : Result T LifeEnd) (told : Option (List ℕ))
-    (image : List ℕ → Type 0) (names names' : Names) (whole : List Entry) (now : ℕ)
-    → names ≡ names' → ForSome told (λ b. JournalOf b (Born names whole))
-    → IfErr r (λ end. LeavesOf told image image names' (MayTurn end whole now))
-day_alone (Ok value) told image names names' whole now same stands = tt
-day_alone (Err end) told image names names' whole now same stands =
-    left_alone told image names names' whole (MayTurn end whole now) same stands (inl refl)
+    (image : List ℕ → Type 0) (names : Names) (whole : List Entry) (now : ℕ)
+    → ForSome told (λ b. JournalOf b (Born names whole))
+    → IfErr r (λ end. LeavesOf told image image names (MayTurn end whole now))
+day_alone (Ok value) told image names whole now stands = tt
+day_alone (Err end) told image names whole now stands =
+    left_alone told image names names whole (MayTurn end whole now) refl stands (inl refl)
 
 may_turn : (error : JournalError) (before : List Entry) (now : ℕ) (entry : Entry)
     (found : List Entry) → entry ≡ new_day now → OldOrNew error before (Some entry) found
@@ -150,9 +151,8 @@ pub day_left : {T : Type 0} (r : Result T LifeEnd) (error : JournalError) (told 
     (entry : Entry) → IsErrAnd r (λ e. e ≡ end_of error) → names ≡ names' → before ≡ whole
     → entry ≡ new_day now → LeavesOf told i0 i1 names (OldOrNew error before (Some entry))
     → IfErr r (λ end. LeavesOf told i0 i1 names' (MayTurn end whole now))
-day_left (Ok value) error told i0 i1 names names' before whole now entry is same all new left = tt
-day_left (Err end) error told i0 i1 names names' before whole now entry is same all new left =
-    subst (λ (e : LifeEnd). LeavesOf told i0 i1 names' (MayTurn e whole now)) (sym is)
+day_left r error told i0 i1 names names' before whole now entry is same all new left =
+    err_is r (end_of error) (λ end. LeavesOf told i0 i1 names' (MayTurn end whole now)) is
     (leaves_map told i0 i1 names names' (OldOrNew error before (Some entry))
     (MayTurn (end_of error) whole now) same (λ found old. subst (λ l. MayTurn (end_of error) l now
     found) all (may_turn error before now entry found new old)) left)
@@ -180,27 +180,28 @@ pub day_why : {T : Type 0} (r : Result T LifeEnd) (error : JournalError) (names 
     → IsErrAnd r (λ e. e ≡ end_of error) → journal.names ≡ names → journal.entries ≡ whole
     → entry ≡ new_day now → IsFull journal (Some entry) error
     → IfErr r (λ end. IsWhyOfDay end names whole now)
-day_why (Ok value) error names whole now journal entry is same all new full = tt
-day_why (Err end) error names whole now journal entry is same all new full =
-    subst (λ (e : LifeEnd). IsWhyOfDay e names whole now) (sym is)
+day_why r error names whole now journal entry is same all new full =
+    err_is r (end_of error) (λ end. IsWhyOfDay end names whole now) is
     (why_day error names whole now journal entry same all new full)
 
--- what it says of the journal that is left
-pub day_kept : {T : Type 0} (r : Result T LifeEnd) (told : Option (List ℕ))
-    (i0 i1 : List ℕ → Type 0) (names : Names) (whole kept : List Entry) (now : ℕ) → kept ≡ whole
-    → IfErr r (λ end. LeavesOf told i0 i1 names (MayTurn end whole now))
-    → IfErr r (λ end. LeavesOf told i0 i1 names (WereCommitted end kept))
-day_kept (Ok value) told i0 i1 names whole kept now same left = tt
-day_kept (Err end) told i0 i1 names whole kept now same left =
-    leaves_map told i0 i1 names names (MayTurn end whole now) (WereCommitted end kept) refl
-    (λ found. were found) left
-  where
-    were : (found : List Entry) → MayTurn end whole now found → WereCommitted end kept found
-    were found (inl is) = were_same end kept found (is ∙ sym same)
-    were found (inr more) = subst (λ (e : LifeEnd). WereCommitted e kept found) (sym more.0)
-        (Some (new_day now), more.1 ∙ ap (λ l. l ++ new_day now ∷ []) (sym same))
+-- for want of memory
+pub want_why : {T : Type 0} (r : Result T LifeEnd) (end : LifeEnd) (names : Names)
+    (whole : List Entry) (now : ℕ) → IsErrAnd r (λ e. e ≡ end) → end ≡ ends.NoMemory
+    → IfErr r (λ e. IsWhyOfDay e names whole now)
+want_why r end names whole now is want =
+    err_is r end (λ e. IsWhyOfDay e names whole now) is
+    (subst (λ (e : LifeEnd). IsWhyOfDay e names whole now) (sym want) tt)
 
-why_event : (end : LifeEnd) (told : Option (List ℕ)) (names : Names) (whole : List Entry)
+-- ---- what it says of the journal that is left
+
+pub were_turned : (end : LifeEnd) (whole kept : List Entry) (now : ℕ) (found : List Entry)
+    → kept ≡ whole → MayTurn end whole now found → WereCommitted end kept found
+were_turned end whole kept now found same (inl is) = were_same end kept found (is ∙ sym same)
+were_turned end whole kept now found same (inr more) =
+    subst (λ (e : LifeEnd). WereCommitted e kept found) (sym more.0)
+    (Some (new_day now), more.1 ∙ ap (λ l. l ++ new_day now ∷ []) (sym same))
+
+pub why_event : (end : LifeEnd) (told : Option (List ℕ)) (names : Names) (whole : List Entry)
     (now : ℕ) → IsWhyOfDay end names whole now → EndsEvent told end
 why_event ends.JournalFull told names whole now why =
     record { not_done = tt; of_event = λ t. tt }
@@ -211,31 +212,24 @@ why_event (ends.JournalRefused at) told names whole now why = absurd why
 why_event (ends.NamesDiffer kept given) told names whole now why = absurd why
 why_event (ends.NumbersSpent side) told names whole now why = absurd why
 
-pub day_event : {T : Type 0} (r : Result T LifeEnd) (told : Option (List ℕ)) (names : Names)
-    (whole : List Entry) (now : ℕ) → IfErr r (λ end. IsWhyOfDay end names whole now)
-    → IfErr r (EndsEvent told)
-day_event (Ok value) told names whole now why = tt
-day_event (Err end) told names whole now why = why_event end told names whole now why
-
-why_cause : (end : LifeEnd) (names : Names) (whole : List Entry) (now : ℕ) → now ≤ MAX_AT
+cause_by : (end : LifeEnd) (names : Names) (whole : List Entry) (now : ℕ) → now ≤ MAX_AT
     → IsWhyOfDay end names whole now → IsCause end names whole
-why_cause ends.JournalFull names whole now bound why = record {
+cause_by ends.JournalFull names whole now bound why = record {
   entry = new_day now;
   comes = inr (now, refl);
   bounded = is_new_day now bound;
   no_room = λ room. omega (arith, room, why);
 }
-why_cause ends.DiskFault names whole now bound why = tt
-why_cause ends.NoMemory names whole now bound why = tt
-why_cause ends.Done names whole now bound why = absurd why
-why_cause (ends.JournalRefused at) names whole now bound why = absurd why
-why_cause (ends.NamesDiffer kept given) names whole now bound why = absurd why
-why_cause (ends.NumbersSpent side) names whole now bound why = absurd why
+cause_by ends.DiskFault names whole now bound why = tt
+cause_by ends.NoMemory names whole now bound why = tt
+cause_by ends.Done names whole now bound why = absurd why
+cause_by (ends.JournalRefused at) names whole now bound why = absurd why
+cause_by (ends.NamesDiffer kept given) names whole now bound why = absurd why
+cause_by (ends.NumbersSpent side) names whole now bound why = absurd why
 
-pub day_cause : {T : Type 0} (r : Result T LifeEnd) (names names' : Names)
-    (whole entries : List Entry) (now : ℕ) → now ≤ MAX_AT → names' ≡ names → entries ≡ whole
-    → IfErr r (λ end. IsWhyOfDay end names whole now) → IfErr r (λ end. IsCause end names' entries)
-day_cause (Ok value) names names' whole entries now bound same all why = tt
-day_cause (Err end) names names' whole entries now bound same all why =
-    subst (λ (n : Names). IsCause end n entries) (sym same)
-    (subst (λ l. IsCause end names l) (sym all) (why_cause end names whole now bound why))
+pub why_cause : (end : LifeEnd) (names names' : Names) (whole kept : List Entry) (now : ℕ)
+    → now ≤ MAX_AT → names ≡ names' → kept ≡ whole → IsWhyOfDay end names whole now
+    → IsCause end names' kept
+why_cause end names names' whole kept now bound same all why =
+    subst (λ (n : Names). IsCause end n kept) same
+    (subst (λ l. IsCause end names l) (sym all) (cause_by end names whole now bound why))

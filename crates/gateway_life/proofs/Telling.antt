@@ -21,6 +21,12 @@ use Rattle.gateway_life.specs.Life.{IfRefused}
 use Rattle.gateway_life.specs.Ready.{IfTold, LeavesOf}
 use Rattle.gateway_life.specs.Stepped.{IsNotDone, EndsEvent}
 
+-- of an error that `?` handed on
+pub err_is : {T : Type 0} (r : Result T LifeEnd) (error : LifeEnd) (P : LifeEnd → Type 0)
+    → IsErrAnd r (λ e. e ≡ error) → P error → IfErr r P
+err_is (Ok value) error P is p = tt
+err_is (Err end) error P is p = subst P (sym is) p
+
 pub some_told : (told : Option (List ℕ)) (P : Type 0) → ForSome told (λ b. P) → IfTold told P
 some_told None P h t = absurd (cc t)
 some_told (Some b) P h t = h b refl

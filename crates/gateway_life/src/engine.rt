@@ -144,6 +144,40 @@ fn commit<D: Disk>(
     }
 }
 
+// Commits the entry with which a session day begins.
+fn commit_day<D: Disk>(
+    alloc: Global,
+    journal: &mut Journal,
+    disk: &mut D,
+    now: u64,
+) -> Result<Entry, LifeEnd>
+    requires whole { journal.old.broken ≡ false }
+    requires moment { now ≤ MAX_AT }
+    requires stands { ForSome (D.bytes disk.old) (λ b.
+        JournalOf b (Born journal.old.names journal.old.entries)) }
+    ensures names { journal.new.names ≡ journal.old.names }
+    ensures entry { IfOk result (λ entry. entry ≡ new_day now) }
+    ensures bounds { IfOk result IsEntry }
+    ensures entries { OnOk result
+        (journal.new.entries ≡ journal.old.entries ++ new_day now ∷ []) }
+    ensures whole { OnOk result (journal.new.broken ≡ false) }
+    ensures refused { OnErr result (journal.new.entries ≡ journal.old.entries) }
+    ensures stands { OnOk result (ForSome (D.bytes disk.new) (λ b.
+        JournalOf b (Born journal.new.names journal.new.entries))) }
+    ensures durable { OnOk result (HasOneImage (D.bytes disk.old) (D.image disk.old) →
+        HasOneImage (D.bytes disk.new) (D.image disk.new)) }
+    ensures images { IfErr result (λ end. LeavesOf (D.bytes disk.old) (D.image disk.old)
+        (D.image disk.new) journal.old.names (MayTurn end journal.old.entries now)) }
+    ensures why { IfErr result (λ end. IsWhyOfDay end journal.old.names journal.old.entries now) }
+    ensures told { is_some (D.bytes disk.new) ≡ is_some (D.bytes disk.old) }
+    ensures cause { HasCauseOf (D.faults disk.old) (D.faults disk.new) result }
+{
+    journal.reserve()?;
+    let prepared = new_day(alloc, now)?;
+    let entry = commit_one(journal, disk, prepared)?;
+    Ok(entry)
+}
+
 // The journal on a disk, and its core.
 fn load<D: Disk>(alloc: Global, config: &Config, disk: &mut D) -> Result<(Journal, Core), LifeEnd>
     ensures ready { IfOk result (λ loaded. IsReady (record {
@@ -505,9 +539,7 @@ impl Engine {
         // No connection stands behind the end of both sides.
         self.client_up = hang_up_on(client, self.client_up, Side::Client, Some(Side::Client));
         self.venue_up = hang_up_on(venue, self.venue_up, Side::Venue, Some(Side::Venue));
-        self.journal.reserve()?;
-        let prepared = new_day(self.alloc, now)?;
-        let entry = commit_one(&mut self.journal, disk, prepared)?;
+        let entry = commit_day(self.alloc, &mut self.journal, disk, now)?;
         self.core.begin_day();
         show(taps, &Some(entry));
         Ok(())
