@@ -199,7 +199,8 @@ broken_none end config past before event now r found why may =
 -- a part was sent, and the entry stands
 pub broken_parts : (told : Option (List ℕ)) (before' after' : List ℕ → Type 0) (config : Config)
     (past : List Entry) (before : World) (event : Event) (now : ℕ) (d : Decision) (names : Names)
-    (entries whole : List Entry) → whole ≡ past ++ entries → (cu vu : Bool) (c0 c1 v0 v1 : Option (List WireCall))
+    (entries whole : List Entry) → whole ≡ past ++ entries → (cu vu : Bool)
+    (c0 c1 v0 v1 : Option (List WireCall))
     → names ≡ config.names → cu ≡ before.client_up → vu ≡ before.venue_up
     → entries ≡ before.entries ++ option_to_list d.entry
     → Decides Answers config.names config.window before.entries before.sessions event now (Ok d)
@@ -210,8 +211,8 @@ pub broken_parts : (told : Option (List ℕ)) (before' after' : List ℕ → Typ
     → LeavesOf told image0 before' config.names (λ found. found ≡ whole)
     → LeavesOf told image0 after' config.names (Behind past
     (Broken ends.DiskFault config past before event now (records c0 v0) (records c1 v1)))
-broken_parts told before' after' config past before event now d names entries whole all cu vu c0 c1 v0 v1 sn sc
-    sv se decides among client' venue' image0 only = at told only
+broken_parts told before' after' config past before event now d names entries whole all cu vu c0 c1
+    v0 v1 sn sc sv se decides among client' venue' image0 only = at told only
   where
     client : FrontSent c0 c1 before.client_up (pieces_to config.names Client entries event now d)
     client = subst (λ n. FrontSent c0 c1 before.client_up

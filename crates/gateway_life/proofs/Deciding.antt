@@ -22,8 +22,8 @@ use Rattle.pair_entries.specs.Payload.{Next, AreNext, IsEntry, AreOuts}
 use Rattle.pair_journal.specs.Numbers.{next_out, outs_to, Numbered, OutsGoOn, GoesOn, is_side}
 use Rattle.pair_journal.specs.Numbers.{numbers_after, first_numbers}
 use Rattle.pair_journal.specs.Journal.{JournalOf, Born, AreEntries, DaysGoOn}
-use Rattle.pair_journal.specs.Days.{last_day, payload_behind}
-use Rattle.pair_journal.proofs.Dating.{last_numbers}
+use Rattle.pair_journal.specs.Days.{last_day, past_of, payload_behind}
+use Rattle.pair_journal.proofs.Dating.{last_numbers, past-last}
 use Rattle.pair_journal.specs.Given.{source_of}
 use Rattle.pair_journal.specs.State.{JournalState}
 use Rattle.pair_journal.specs.Calls.{Commits, KeepsJournal, payloads_of}
@@ -394,16 +394,19 @@ world_same old new entries sessions client venue = λ i. record {
 
 -- nothing was written
 pub alone_left : {T : Type 0} (r : Result T LifeEnd) (told : Option (List ℕ))
-    (image : List ℕ → Type 0) (names names' : Names) (config : Config) (past : List Entry)
-    (before : World) (whole : List Entry) (event : Event) (now : ℕ) → names ≡ names'
-    → past ++ before.entries ≡ whole → ForSome told (λ b. JournalOf b (Born names whole))
-    → IfErr r (λ end. LeavesOf told image image names'
-    (Behind past (MayStand end config before event now)))
-alone_left (Ok value) told image names names' config past before whole event now same is stands = tt
-alone_left (Err end) told image names names' config past before whole event now same is stands =
-    left_alone told image names names' whole
-    (Behind past (MayStand end config before event now)) same
-    stands (before.entries, sym is, as_before end config before event now)
+    (image : List ℕ → Type 0) (old : EngineState) (event : Event) (now : ℕ) → IsReady old told
+    → IfErr r (λ end. LeavesOf told image image old.core.config.names
+    (Behind (past_of old.journal.entries) (MayStand end old.core.config (world_of old) event now)))
+alone_left (Ok value) told image old event now ready = tt
+alone_left (Err end) told image old event now ready =
+    let all = old.journal.entries in
+    left_alone told image old.journal.names old.core.config.names all
+    (Behind (past_of all) (MayStand end old.core.config (world_of old) event now)) ready.names
+    ready.stands (
+      last_day all,
+      sym (past-last all ready.sound),
+      as_before end old.core.config (world_of old) event now,
+    )
 
 -- what a commit that was refused left, by what it answered
 pub refused_left : (told : Option (List ℕ)) (i0 i1 : List ℕ → Type 0) (names names' : Names)
@@ -444,7 +447,8 @@ pub ready_decided : (old : EngineState) (t0 t1 : Option (List ℕ)) (journal : J
     → IsReady (record { journal = journal; core = core; client_up = cu; venue_up = vu }) t1
 ready_decided old t0 t1 journal held core plan cu vu ready names whole entries bounds goes is_held
     is_core grows stands =
-    let today : last_day journal.entries ≡ last_day old.journal.entries ++ option_to_list plan.entry =
+    let today : last_day journal.entries
+    ≡ last_day old.journal.entries ++ option_to_list plan.entry =
     ap last_day entries ∙ today_more old.journal.entries plan.entry goes.same_day in
     let sound : DaysGoOn first_numbers journal.entries =
     subst (DaysGoOn first_numbers) (sym entries) (sound_more old.journal.entries plan.entry

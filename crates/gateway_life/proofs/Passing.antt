@@ -74,7 +74,8 @@ pub passed : (old new : EngineState) (side : Side) (next : Session) (now : ℕ)
     (client venue : Option (List WireCall)) → new.journal ≡ old.journal
     → new.client_up ≡ old.client_up → new.venue_up ≡ old.venue_up
     → Decides Answers old.core.config.names old.core.config.window
-    (last_day old.journal.entries) (sessions_in old.core) (Tick side) now (Ok (going_on old.core side next))
+    (last_day old.journal.entries) (sessions_in old.core) (Tick side) now
+    (Ok (going_on old.core side next))
     → sessions_in new.core ≡ both_standing old.client_up old.venue_up
     (with_session side next (sessions_in old.core))
     → Stepped old.core.config (world_of old) (Tick side) now (world_of new)

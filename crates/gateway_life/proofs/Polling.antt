@@ -130,13 +130,15 @@ module _ (config : Config) (side : Side) (came : Came) (w polled : World) (now :
         stands = arrived.stands;
       }
 
-  pub turn_part : (end : LifeEnd) (past : List Entry) (old : Held) (r2 : Records) (entries : List Entry)
+  pub turn_part : (end : LifeEnd) (past : List Entry) (old : Held) (r2 : Records)
+      (entries : List Entry)
       → ArrivedFront end old came config past polled side now r1 r2 entries
       → TurnBroken end side old config past w now r0 r2 entries
   turn_part end past old r2 entries found =
       let after = with_up side (up_after (up_on side w) came) w in
       let part : ArrivedFront end old came config past after side now r1 r2 entries =
-      subst (λ (p : World). ArrivedFront end old came config past p side now r1 r2 entries) is found in
+      subst (λ (p : World). ArrivedFront end old came config past p side now r1 r2 entries) is found
+      in
       record {
         came = came;
         may = may;
@@ -150,8 +152,9 @@ module _ (config : Config) (side : Side) (came : Came) (w polled : World) (now :
             (part.first ++ more.0, tail.0, more.1, tail.1);
       }
 
-  pub turn_tick : (end : LifeEnd) (past : List Entry) (old next : Held) (x : World) (r2 r3 : Records)
-      (entries : List Entry) → Arrived old next came config polled side now x r1 r2
+  pub turn_tick : (end : LifeEnd) (past : List Entry) (old next : Held) (x : World)
+      (r2 r3 : Records) (entries : List Entry)
+      → Arrived old next came config polled side now x r1 r2
       → Broken end config past x (Tick side) now r2 r3 entries
       → TurnBroken end side old config past w now r0 r3 entries
   turn_tick end past old next x r2 r3 entries found broken =
@@ -164,8 +167,9 @@ module _ (config : Config) (side : Side) (came : Came) (w polled : World) (now :
         between = r1;
         polled = grew;
         first = events_of side came arrived.bodies ++ Tick side ∷ [];
-        failed = failed_at config end past after x (events_of side came arrived.bodies) [] (Tick side)
-            now r1 r2 r3 entries arrived.all (record { counted = refl; broken = broken });
+        failed = failed_at config end past after x (events_of side came arrived.bodies) []
+            (Tick side) now r1 r2 r3 entries arrived.all
+            (record { counted = refl; broken = broken });
         new = λ read whole. (
           arrived.bodies,
           [],

@@ -113,8 +113,9 @@ module _ (config : Config) where
       (counted w x event now r0 r1 is_so step)
 
   -- an event that ended the life, behind others
-  pub failed_at : (end : LifeEnd) (past : List Entry) (w m : World) (first rest : List Event) (last : Event) (now : ℕ)
-      (r0 r1 r2 : Records) (entries : List Entry) → AllStepped config w first now m r0 r1
+  pub failed_at : (end : LifeEnd) (past : List Entry) (w m : World) (first rest : List Event)
+      (last : Event) (now : ℕ) (r0 r1 r2 : Records) (entries : List Entry)
+      → AllStepped config w first now m r0 r1
       → BrokenIf end config past m last now r1 r2 entries
       → Failed end config past w (first ++ last ∷ rest) now r0 r2 entries
   failed_at end past w m first rest last now r0 r1 r2 entries all broken = record {
@@ -129,8 +130,9 @@ module _ (config : Config) where
     broken = broken.broken;
   }
 
-  pub failed_one : (end : LifeEnd) (past : List Entry) (w : World) (event : Event) (now : ℕ) (r0 r1 : Records)
-      (entries : List Entry) → counts w event ≡ true → Broken end config past w event now r0 r1 entries
+  pub failed_one : (end : LifeEnd) (past : List Entry) (w : World) (event : Event) (now : ℕ)
+      (r0 r1 : Records) (entries : List Entry) → counts w event ≡ true
+      → Broken end config past w event now r0 r1 entries
       → Failed end config past w (event ∷ []) now r0 r1 entries
   failed_one end past w event now r0 r1 entries is_so broken =
       failed_at end past w w [] [] event now r0 r0 r1 entries (all_none w now r0)
@@ -209,19 +211,19 @@ module _ (config : Config) where
   }
 
   -- a frame ended the life
-  pub taken_part : (end : LifeEnd) (past : List Entry) (old mid new : Held) (w m : World) (side : Side)
-      (body : List ℕ) (now : ℕ) (r0 r1 r2 : Records) (entries : List Entry)
+  pub taken_part : (end : LifeEnd) (past : List Entry) (old mid new : Held) (w m : World)
+      (side : Side) (body : List ℕ) (now : ℕ) (r0 r1 r2 : Records) (entries : List Entry)
       → Taken old mid config w side now m r0 r1
       → ((stream : List ℕ) (answered : List Piece) → StandsFor mid stream answered
       → (bytes : List ℕ) × StandsFor new stream (answered ++ Good body bytes ∷ []))
       → new.kind ≡ old.kind → BrokenIf end config past m (Frame side body) now r1 r2 entries
       → TakenFront end old config past w side now r0 r2 entries
-  taken_part end past old mid new w m side body now r0 r1 r2 entries taken found kind broken = record {
+  taken_part end past old mid new w m side body now r0 r1 r2 entries taken found kind by = record {
     first = taken.bodies ++ body ∷ [];
     failed = subst (λ es. Failed end config past w es now r0 r2 entries)
         (sym (map-append (Frame side) taken.bodies (body ∷ [])))
         (failed_at end past w m (map (Frame side) taken.bodies) [] (Frame side body) now r0 r1 r2
-        entries taken.all broken);
+        entries taken.all by);
     answered = λ stream answered stands.
         let before = taken.answered stream answered stands in
         let here = found stream (answered ++ before.0) before.1 in
@@ -315,7 +317,8 @@ module _ (config : Config) where
         };
   }
 
-  pub arrived_part : (end : LifeEnd) (past : List Entry) (old fed : Held) (bytes : List ℕ) (w : World) (side : Side)
+  pub arrived_part : (end : LifeEnd) (past : List Entry) (old fed : Held) (bytes : List ℕ)
+      (w : World) (side : Side)
       (now : ℕ) (r0 r1 : Records) (entries : List Entry) → old.kind ≡ kind_of side
       → fed.kind ≡ kind_of side
       → ((stream : List ℕ) (answered : List Piece) → StandsFor old stream answered

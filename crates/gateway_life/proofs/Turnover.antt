@@ -165,8 +165,8 @@ pub entry_left : {T : Type 0} (r : Result T LifeEnd) (t0 t2 : Option (List ℕ))
     → IfErr r (λ end. IsWhyOfDay end config'.names x.journal.entries now)
     → IfErr r (λ end. LeavesOf t2 i1 i2 config'.names (MayTurn end x.journal.entries now))
     → IfErr r (λ end. LeavesOf t0 i0 i2 config.names (DayBroken end config old now r0 r3))
-entry_left (Ok value) t0 t2 i0 i1 i2 config config' old x now r0 r2 r3 due all sound same at told one
-    client venue why left = tt
+entry_left (Ok value) t0 t2 i0 i1 i2 config config' old x now r0 r2 r3 due all sound same at told
+    one client venue why left = tt
 entry_left (Err end) t0 t2 i0 i1 i2 config config' old x now r0 r2 r3 due all sound same at told one
     client venue why left =
     let names = ap (λ (k : Config). k.names) at in

@@ -83,7 +83,8 @@ returns-in-Opened-clause-ends g c =
     (λ end. Broken end config past w (Opened c.args.side) c.args.now r0 r1)
     (λ end. ArrivedFront end c.args.framer.now came config past w c.args.side c.args.now r0 r1)
     refl (λ one. one) refl refl
-    (λ end xs. part_opened config c.args.side c.args.framer.now w c.args.now r0 r1 came end past xs is)
+    (λ end xs. part_opened config c.args.side c.args.framer.now w c.args.now r0 r1 came end past xs
+    is)
     c.event-in-Opened.ensures.ends
 
 pub returns-in-Closed-clause-arrived : goal.returns-in-Closed-clause-arrived
@@ -113,7 +114,8 @@ returns-in-Closed-clause-ends g c =
     (λ end. Broken end config past w (Closed c.args.side) c.args.now r0 r1)
     (λ end. ArrivedFront end c.args.framer.now came config past w c.args.side c.args.now r0 r1)
     refl (λ one. one) refl refl
-    (λ end xs. part_closed config c.args.side c.args.framer.now w c.args.now r0 r1 came end past xs is)
+    (λ end xs. part_closed config c.args.side c.args.framer.now w c.args.now r0 r1 came end past xs
+    is)
     c.event-in-Closed.ensures.ends
 
 pub returns-in-Bytes-clause-arrived : goal.returns-in-Bytes-clause-arrived

@@ -134,8 +134,8 @@ returns-in_err-frame_event-in-Frame-clause-ends g c =
     (BrokenIf error config' past' m (Frame c.args.side body) c.args.now r1 r2)
     (λ end. TakenFront end c.args.framer.now config past w c.args.side c.args.now r0 r2)
     c.from_residual.ensures.1 inv.told inv.durable (ap (λ (k : Config). k.names) inv.config)
-    inv.past (λ xs broken. taken_part config error past c.args.framer.now c.frames.framer c.next.new.self w m
-    c.args.side body c.args.now r0 r1 r2 xs (inv.taken t)
+    inv.past (λ xs broken. taken_part config error past c.args.framer.now c.frames.framer
+    c.next.new.self w m c.args.side body c.args.now r0 r1 r2 xs (inv.taken t)
     (λ stream answered stands.
     let found = c.in-Frame.ensures.answers stream answered stands in (
       found.1,

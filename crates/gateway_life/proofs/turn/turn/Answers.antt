@@ -101,7 +101,8 @@ returns-clause-ends g c =
     let day = c.in_ok-arrived.ensures.past
     ∙ ap (λ (j : JournalState). past_of j.entries) same.0 in
     err_told c.tick.result (g.D.Disk.bytes c.args.disk.now) _ _ config.names
-    (λ end. Behind past (TurnBroken end side c.args.framer.now config past w c.args.now r0 r3)) (λ t.
+    (λ end. Behind past (TurnBroken end side c.args.framer.now config past w c.args.now r0 r3))
+    (λ t.
     let found = subst (λ (k : Config). Arrived c.args.framer.now c.arrived.new.framer came k polled
     side c.args.now x r1 r2) at (c.in_ok-arrived.ensures.arrived t) in
     last_behind c.tick.result (g.D.Disk.bytes c.args.disk.now) (g.D.Disk.bytes c.arrived.new.disk)

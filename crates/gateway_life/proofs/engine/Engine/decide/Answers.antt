@@ -33,13 +33,20 @@ commit-requires-clause-goes_on g c =
     (numbers_after first_numbers (last_day l)) e) e)) (sym same)
     (goes_today all c.in_ok-plan.plan.entry goes.same_day goes.goes_on)
 
+pub returns-in_err-reserve-clause-images : goal.returns-in_err-reserve-clause-images
+returns-in_err-reserve-clause-images g c =
+    alone_left c.from_residual.result (g.D.Disk.bytes c.args.disk.now) _
+    (seen c.args.self.now) (event_of c.args.event.now) c.args.now c.requires.ready
+
+pub returns-in_err-plan-clause-images : goal.returns-in_err-plan-clause-images
+returns-in_err-plan-clause-images g c =
+    alone_left c.from_residual-in_err-plan.result (g.D.Disk.bytes c.args.disk.now) _
+    (seen c.args.self.now) (event_of c.args.event.now) c.args.now c.requires.ready
+
 pub returns-in_err-hold-clause-images : goal.returns-in_err-hold-clause-images
 returns-in_err-hold-clause-images g c =
-    let all = c.args.self.now.journal.entries in
     alone_left c.from_residual-in_err-hold.result (g.D.Disk.bytes c.args.disk.now) _
-    c.args.self.now.journal.names c.args.self.now.core.config.names c.args.self.now.core.config
-    (past_of all) (world_of (seen c.args.self.now)) all (event_of c.args.event.now) c.args.now
-    c.requires.ready.names (past-last all c.requires.ready.sound) c.requires.ready.stands
+    (seen c.args.self.now) (event_of c.args.event.now) c.args.now c.requires.ready
 
 pub returns-in-Ok-clause-today : goal.returns-in-Ok-clause-today
 returns-in-Ok-clause-today g c =
