@@ -1,5 +1,5 @@
 -- Worked lines of journals, by computation alone.
-use Rattle.std.proofs.Common.{◌≡◌, [], ◌∷◌, refl, None}
+use Rattle.std.proofs.Common.{◌≡◌, [], ◌∷◌, refl, None, false}
 use Rattle.std.specs.Prelude.{codes}
 use Rattle.std.specs.Fmt.{digits}
 use Rattle.order_meaning.specs.declared.names.Names.{Names}
