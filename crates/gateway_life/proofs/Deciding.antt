@@ -34,7 +34,7 @@ use Rattle.message_answers.specs.Answer.{Answers}
 use Rattle.message_answers.specs.Chains.{chains_of}
 use Rattle.gateway_config.specs.declared.config.Config.{Config}
 use Rattle.gateway_core.specs.declared.plan.Plan.{Plan}
-use Rattle.gateway_core.specs.State.{CoreState, Stand, sessions_in, decision_of}
+use Rattle.gateway_core.specs.State.{CoreState, Stand, Grows, sessions_in, decision_of}
 use Rattle.life_laws.specs.Happens.{World}
 use Rattle.gateway_life.specs.declared.end.LifeEnd.{LifeEnd}
 use Rattle.gateway_life.specs.declared.end.LifeEnd.TheVariants as ends
@@ -281,28 +281,42 @@ commit_why journal new entry (Err errors.NoMemory) is commits = absurd commits
 
 -- ---- a plan
 
-pub stand_of : (core : CoreState) (xs ys : List Entry) → core.chains ≡ chains_of xs → ys ≡ xs
-    → Stand core ys xs
-stand_of core xs ys chains same = record {
-  chains = sym chains;
-  sources = λ side number. ap (source_of side number) (sym same);
-}
+-- what a plan of an engine that is ready decides, and that its journal goes on so
+pub record Planned (old : EngineState) (event : Event) (now : ℕ) (plan : Plan) : Type 0 where
+  pub decides : Decides Answers old.core.config.names old.core.config.window
+      (last_day old.journal.entries) (sessions_in old.core) event now (Ok (decision_of plan))
+  pub continues : Continues (sessions_in old.core) event (decision_of plan)
+  pub numbers :
+      numbers_of (sessions_in old.core) ≡ numbers_after first_numbers (last_day old.journal.entries)
+  pub goes : Goes (last_day old.journal.entries) (decision_of plan)
+  pub grows : Grows old.core (last_day old.journal.entries) plan
 
-pub continues_by : DecisionsContinue → (core : CoreState) (xs : List Entry) (event : Event)
-    (now : ℕ) (plan : Plan) → AreSides (sessions_in core)
-    → Decides Answers core.config.names core.config.window xs (sessions_in core) event now
-    (Ok (decision_of plan)) → Continues (sessions_in core) event (decision_of plan)
-continues_by law core xs event now plan sides decides =
-    decided law core.config xs (sessions_in core) event now (decision_of plan) sides decides
-
-pub goes_by : DecisionsContinue → (core : CoreState) (xs : List Entry) (event : Event) (now : ℕ)
-    (plan : Plan) → AreSides (sessions_in core)
-    → numbers_of (sessions_in core) ≡ numbers_after first_numbers xs
-    → Decides Answers core.config.names core.config.window xs (sessions_in core) event now
-    (Ok (decision_of plan)) → Goes xs (decision_of plan)
-goes_by law core xs event now plan sides numbers decides =
-    goes xs (sessions_in core) event (decision_of plan)
-    (continues_by law core xs event now plan sides decides) numbers
+-- where it was made over a journal with the same entries
+pub planned : DecisionsContinue → (old : EngineState) (told : Option (List ℕ)) (event : Event)
+    (now : ℕ) (plan : Plan) (journal : JournalState) → journal.entries ≡ old.journal.entries
+    → IsReady old told
+    → ((entries : List Entry) → Stand old.core (last_day journal.entries) entries
+    → Decides Answers old.core.config.names old.core.config.window entries (sessions_in old.core)
+    event now (Ok (decision_of plan)))
+    → ((entries : List Entry) → Stand old.core (last_day journal.entries) entries
+    → Grows old.core entries plan) → Planned old event now plan
+planned law old told event now plan journal same ready plans grows =
+    let all = old.journal.entries in
+    let stand : Stand old.core (last_day journal.entries) (last_day all) = record {
+      chains = sym ready.chains;
+      sources = λ side number. ap (λ l. source_of side number (last_day l)) (sym same);
+    } in
+    let decides = plans (last_day all) stand in
+    let continues = decided law old.core.config (last_day all) (sessions_in old.core) event now
+    (decision_of plan) ready.sides decides in
+    let numbers = ready.numbers ∙ sym (last_numbers all ready.sound) in
+    record {
+      decides = decides;
+      continues = continues;
+      numbers = numbers;
+      goes = goes (last_day all) (sessions_in old.core) event (decision_of plan) continues numbers;
+      grows = grows (last_day all) stand;
+    }
 
 -- a disk whose one image stands for these entries, after some calls
 pub left_after : (t0 t1 : Option (List ℕ)) (i0 i1 : List ℕ → Type 0) (names names' : Names)
@@ -435,18 +449,18 @@ refused_why error end config past before event now d journal is names entries de
 
 -- an engine that has decided
 pub ready_decided : (old : EngineState) (t0 t1 : Option (List ℕ)) (journal : JournalState)
-    (held core : CoreState) (plan : Plan) (cu vu : Bool) → IsReady old t0
+    (held core : CoreState) (event : Event) (now : ℕ) (plan : Plan) (cu vu : Bool)
+    → IsReady old t0
     → journal.names ≡ old.journal.names → journal.broken ≡ false
     → journal.entries ≡ old.journal.entries ++ option_to_list plan.entry
-    → IfSome plan.entry IsEntry → Goes (last_day old.journal.entries) (decision_of plan)
+    → IfSome plan.entry IsEntry → Planned old event now plan
     → held ≡ record old.core { chains = old.core.chains ++ option_to_list plan.item }
     → core ≡ record held { client = plan.client; venue = plan.venue }
-    → chains_of (last_day old.journal.entries ++ option_to_list plan.entry)
-    ≡ old.core.chains ++ option_to_list plan.item
     → ForSome t1 (λ b. JournalOf b (Born journal.names journal.entries))
     → IsReady (record { journal = journal; core = core; client_up = cu; venue_up = vu }) t1
-ready_decided old t0 t1 journal held core plan cu vu ready names whole entries bounds goes is_held
-    is_core grows stands =
+ready_decided old t0 t1 journal held core event now plan cu vu ready names whole entries bounds made
+    is_held is_core stands =
+    let goes = made.goes in
     let today : last_day journal.entries
     ≡ last_day old.journal.entries ++ option_to_list plan.entry =
     ap last_day entries ∙ today_more old.journal.entries plan.entry goes.same_day in
@@ -459,7 +473,7 @@ ready_decided old t0 t1 journal held core plan cu vu ready names whole entries b
       whole = whole;
       sound = sound;
       chains = ap (λ (k : CoreState). k.chains) is_core ∙ ap (λ (k : CoreState). k.chains) is_held
-          ∙ sym grows ∙ ap chains_of (sym today);
+          ∙ sym made.grows ∙ ap chains_of (sym today);
       sides = subst AreSides (sym (ap sessions_in is_core)) goes.sides;
       numbers = ap (λ (k : CoreState). numbers_of (sessions_in k)) is_core ∙ goes.numbers
           ∙ ap (numbers_after first_numbers) (sym today) ∙ last_numbers journal.entries sound;
