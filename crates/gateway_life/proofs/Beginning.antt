@@ -5,10 +5,7 @@ use Rattle.std.proofs.Common.{Ok, Err}
 use Rattle.std.specs.Prelude.{Result, IfSome, IfErr, IsErrAnd}
 use Rattle.std.specs.declared.option.Option.{Option}
 use Rattle.std.specs.Option.{ForSome}
-use Rattle.outside.specs.Disk.{HasOneImage, AreAmong}
 use Rattle.order_meaning.specs.declared.names.Names.{Names}
-use Rattle.pair_journal.specs.declared.error.JournalError.{JournalError}
-use Rattle.pair_journal.specs.declared.error.JournalError.TheVariants as errors
 use Rattle.pair_entries.specs.declared.entry.Entry.{Entry}
 use Rattle.pair_journal.specs.Calls.{Loads, BornOrNot}
 use Rattle.pair_journal.specs.Days.{last_day}
@@ -19,24 +16,9 @@ use Rattle.pair_journal.specs.State.{JournalState}
 use Rattle.gateway_config.specs.declared.config.Config.{Config}
 use Rattle.gateway_core.specs.State.{CoreState, loaded}
 use Rattle.gateway_life.specs.declared.end.LifeEnd.{LifeEnd}
-use Rattle.gateway_life.specs.Ended.{end_of}
-use Rattle.gateway_life.specs.Stepped.{IsNotDone}
 use Rattle.gateway_life.specs.Ready.{IsReady}
-use Rattle.gate_log.specs.Log.{OnlyRead}
 use Rattle.gateway_life.specs.Life.{IfRefused, IsForeign}
 use Rattle.gateway_life.specs.Rounds.{Begins}
-
--- an error of the journal
-pub begins_err : {T : Type 0} (entries : T → List Entry) (names : Names) (told : Option (List ℕ))
-    (now : Option (List ℕ)) (error : JournalError)
-    → IfSome told (λ b. Loads names b (Err error) now)
-    → IfSome told (λ b. Begins entries names b (Err (end_of error)))
-begins_err entries names None now error h = tt
-begins_err entries names (Some b) now errors.DiskFault h = tt
-begins_err entries names (Some b) now (errors.Refused at) h = h.0
-begins_err entries names (Some b) now (errors.NamesDiffer kept given) h = (h.0, h.1, h.2, h.3)
-begins_err entries names (Some b) now errors.Full h = absurd h
-begins_err entries names (Some b) now errors.NoMemory h = tt
 
 pub begins_ok : {T : Type 0} (entries : T → List Entry) (names : Names) (told : Option (List ℕ))
     (now : Option (List ℕ)) (journal : JournalState) (made : T) → entries made ≡ journal.entries
@@ -45,13 +27,6 @@ pub begins_ok : {T : Type 0} (entries : T → List Entry) (names : Names) (told 
 begins_ok entries names None now journal made same h = tt
 begins_ok entries names (Some b) now journal made same h =
     subst (λ l. JournalOf b (Born names l) ⊎ (JournalOf b Unborn × (l ≡ []))) (sym same) h.1
-
-pub not_done : (error : JournalError) → IsNotDone (end_of error)
-not_done errors.DiskFault = tt
-not_done (errors.Refused at) = tt
-not_done (errors.NamesDiffer kept given) = tt
-not_done errors.Full = tt
-not_done errors.NoMemory = tt
 
 -- a disk that was left alone, or was only read behind
 pub born_same : (told : Option (List ℕ)) (image : List ℕ → Type 0) (names : Names)
@@ -62,15 +37,6 @@ born_same (Some b) image names = λ only c left. (
   λ kept entries born.
       subst (λ (d : List ℕ). JournalOf d (Born kept entries)) (sym (only c left)) born,
 )
-
-pub one_read : (t1 t2 : Option (List ℕ)) (i1 i2 : List ℕ → Type 0) → t2 ≡ t1 → AreAmong i2 i1
-    → HasOneImage t1 i1 → HasOneImage t2 i2
-one_read t1 t2 i1 i2 same among one =
-    subst (λ t. HasOneImage t i2) (sym same) (at t1 one)
-  where
-    at : (t : Option (List ℕ)) → HasOneImage t i1 → HasOneImage t i2
-    at None h = tt
-    at (Some b) h = λ c left. h c (among c left)
 
 -- a core that was loaded
 pub ready_loaded : (journal : JournalState) (core : CoreState) (config : Config)
@@ -95,48 +61,13 @@ ready_loaded journal core config told told' names whole sound is stands same =
           (sym same) stands;
     })
 
--- ---- the same of an answer that `?` made
-
-pub begins_of : {T : Type 0} (entries : T → List Entry) (names : Names) (told : Option (List ℕ))
-    (end : LifeEnd) (r : Result T LifeEnd) → IsErrAnd r (λ e. e ≡ end)
-    → IfSome told (λ b. Begins entries names b (Err end))
-    → IfSome told (λ b. Begins entries names b r)
-begins_of entries names told end (Ok value) is begins = absurd is
-begins_of entries names told end (Err e) is begins =
-    subst (λ (x : LifeEnd). IfSome told (λ b. Begins entries names b (Err x))) (sym is) begins
-
-pub only_of : {T : Type 0} (r : Result T LifeEnd) (end : LifeEnd) → IsErrAnd r (λ e. e ≡ end)
-    → IsNotDone end → IfErr r IsNotDone
-only_of (Ok value) end is only = tt
-only_of (Err e) end is only = subst IsNotDone (sym is) only
-
 -- ---- of a disk that was refused, and of one that was not unborn
-
-pub refused_by : {V : Type 0} (R : Type 0) (r : Result V JournalError) (error : JournalError)
-    → r ≡ Err error → ((at : ℕ) → r ≡ Err (errors.Refused at) → R)
-    → ((kept given : Names) → r ≡ Err (errors.NamesDiffer kept given) → R)
-    → IfRefused (end_of error) R
-refused_by R r errors.DiskFault is at_place differ = tt
-refused_by R r (errors.Refused at) is at_place differ = at_place at is
-refused_by R r (errors.NamesDiffer kept given) is at_place differ = differ kept given is
-refused_by R r errors.Full is at_place differ = tt
-refused_by R r errors.NoMemory is at_place differ = tt
 
 pub refused_of : {T : Type 0} (R : Type 0) (r : Result T LifeEnd) (end : LifeEnd)
     → IsErrAnd r (λ e. e ≡ end) → IfRefused end R → IfErr r (λ e. IfRefused e R)
 refused_of R (Ok value) end is refused = tt
 refused_of R (Err e) end is refused =
     subst (λ (x : LifeEnd). IfRefused x R) (sym is) refused
-
--- a disk that was left alone was only read
-pub untouched : (told : Option (List ℕ)) (image : List ℕ → Type 0)
-    → IfSome told (λ b. JournalOf b Unborn ⊎ OnlyRead told told image image)
-untouched None image = tt
-untouched (Some b) image = inr (record {
-  same = refl;
-  images = λ c left. left;
-  kept = λ c left. left;
-})
 
 -- a disk that is no journal of these names is not unborn, so it was only read
 pub read_foreign : (R : Type 0) (names : Names) (told : Option (List ℕ))

@@ -1,5 +1,5 @@
 -- What an event decides and commits, and what a commit that fails leaves.
-use Rattle.std.proofs.Common.{◌≡◌, ℕ, ◌+◌, ◌-◌, ◌≤◌, Bool, true, false, List, [], ◌∷◌, ◌++◌}
+use Rattle.std.proofs.Common.{◌≡◌, ℕ, ◌+◌, ◌-◌, ◌≤◌, Bool, false, List, [], ◌∷◌, ◌++◌}
 use Rattle.std.proofs.Common.{take, length-append, length, refl, sym, ◌∙◌, ap, subst, arith}
 use Rattle.std.proofs.Common.{append_assoc, append-nil, Some, None, inl}
 use Rattle.std.proofs.Common.{inr, ◌⊎◌, IfSome, Ok, Err}
@@ -348,11 +348,6 @@ undone_chains chains (Some item) =
     let size : length (chains ++ item ∷ []) - 1 ≡ length chains =
     omega (arith, length-append chains (item ∷ [])) in
     ap (λ n. take n (chains ++ item ∷ [])) size ∙ take_front chains (item ∷ [])
-
-pub held_some : (chains : List ChainItem) (item : Option ChainItem) → is_some item ≡ true
-    → 1 ≤ length (chains ++ option_to_list item)
-held_some chains None is = absurd (cc is)
-held_some chains (Some item) is = omega (arith, length-append chains (item ∷ []))
 
 pub why_of : (error : JournalError) (config : Config) (past : List Entry) (before : World)
     (event : Event) (now : ℕ) (d : Decision) (journal : JournalState)

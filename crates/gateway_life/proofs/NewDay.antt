@@ -2,7 +2,7 @@
 use Rattle.std.proofs.Common.{◌≡◌, ℕ, ◌+◌, ◌≤◌, Bool, true, false, List, [], ◌∷◌, ◌++◌, length}
 use Rattle.std.proofs.Common.{refl}
 use Rattle.std.proofs.Common.{sym, ◌∙◌, ap, subst, arith, Some, Ok, Err, inl, inr}
-use Rattle.std.specs.Prelude.{Result, IfErr, IsErrAnd, ◌&&◌}
+use Rattle.std.specs.Prelude.{Result, IfErr, IsErrAnd}
 use Rattle.std.specs.declared.option.Option.{Option}
 use Rattle.std.specs.Option.{ForSome}
 use Rattle.outside.specs.declared.disk.TheConstants.{MAX_DISK}

@@ -14,7 +14,7 @@ use Rattle.message_answers.specs.Answer.{Answers}
 use Rattle.gateway_core.specs.State.{CoreState, sessions_in, going_on}
 use Rattle.wires.specs.Wire.{WireCall}
 use Rattle.life_laws.specs.Sends.{hang_up_if}
-use Rattle.life_laws.specs.Happens.{World, both_standing}
+use Rattle.life_laws.specs.Happens.{both_standing}
 use Rattle.wire_sends.specs.Sent.{Agrees}
 use Rattle.wire_sends.proofs.Sendings.{grows_none}
 use Rattle.gateway_life.specs.Acted.{Acted}

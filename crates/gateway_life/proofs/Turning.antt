@@ -1,17 +1,15 @@
 -- Events one after another, and what a poll found.
 use Rattle.std.proofs.Common.{◌≡◌, ℕ, true, false, List, [], ◌∷◌, ◌++◌, refl, sym}
 use Rattle.std.proofs.Common.{◌∙◌}
-use Rattle.std.proofs.Common.{ap, subst, append_assoc, append-nil, Some, None}
+use Rattle.std.proofs.Common.{ap, subst, append_assoc, append-nil}
 use Rattle.std.specs.Prelude.{map}
 use Rattle.std.specs.List.{filter_map}
-use Rattle.std.specs.declared.option.Option.{Option}
 use Rattle.std.proofs.lemmas.List.{map-append}
 use Rattle.frame_grammar.specs.declared.frame.Garble.{Garble}
 use Rattle.frame_grammar.specs.Cut.{Piece, Good, Bad, ComeFirst, Cut}
 use Rattle.frame_grammar.specs.Held.{Held}
 use Rattle.frame_grammar.specs.Framer.{StandsFor}
 use Rattle.order_meaning.specs.declared.Side.{Side}
-use Rattle.order_meaning.specs.declared.names.Names.{Names}
 use Rattle.pair_entries.specs.declared.entry.Entry.{Entry}
 use Rattle.event_decisions.specs.Event.{Event, Opened, Frame, Closed}
 use Rattle.message_answers.specs.Answer.{Answers}
@@ -23,7 +21,6 @@ use Rattle.life_laws.specs.Bodies.{bodies_of, body_of}
 use Rattle.life_laws.specs.Happens.{World, Added, nothing, up_on}
 use Rattle.life_laws.specs.Turn.{both, counts, HappensIf, HappensOrNot, AllHappen}
 use Rattle.gateway_life.specs.declared.end.LifeEnd.{LifeEnd}
-use Rattle.gateway_life.specs.Ready.{LeavesOf}
 use Rattle.gateway_life.specs.Stepped.{Records, Grew, Stepped, SteppedOrNot, AllStepped, Broken}
 use Rattle.gateway_life.specs.Stepped.{BrokenIf, Failed}
 use Rattle.gateway_life.specs.Turned.{Taken, TakenAll, TakenFront, Arrived}
@@ -351,10 +348,3 @@ pub arrived_as : (came came' : Came) (old new : Held) (config : Config) (w x : W
     → Arrived old new came config w side now x r0 r1
 arrived_as came came' old new config w x side now r0 r1 same arrived =
     subst (λ k. Arrived old new k config w side now x r0 r1) (sym same) arrived
-
-pub leaves_later : (told : Option (List ℕ)) (before after : List ℕ → Type 0) (names : Names)
-    (P Q : List Entry → Type 0) → ((xs : List Entry) → P xs → Q xs)
-    → LeavesOf told before after names P → LeavesOf told before after names Q
-leaves_later None before after names P Q to h = tt
-leaves_later (Some b) before after names P Q to h = λ only bytes left.
-    let found = h only bytes left in (found.0, found.1, to found.0 found.2)

@@ -83,8 +83,8 @@ returns-in-Ok-clause-ready g c =
     let bounds = subst (λ e. IfSome e IsEntry) c.in-Ok.ensures.entry c.in-Ok.ensures.bounds in
     let more = c.in-Ok.ensures.entries ∙ ap (λ l. l ++ option_to_list plan.entry) same in
     ready_decided (seen old) (g.D.Disk.bytes c.args.disk.now) (g.D.Disk.bytes c.commit.new.disk)
-    c.commit.new.journal c.hold.new.self c.apply.new.self (event_of c.args.event.now) c.args.now plan
-    old.client_up old.venue_up c.requires.ready (c.commit.ensures.names ∙ names)
+    c.commit.new.journal c.hold.new.self c.apply.new.self (event_of c.args.event.now) c.args.now
+    plan old.client_up old.venue_up c.requires.ready (c.commit.ensures.names ∙ names)
     c.in-Ok.ensures.whole more bounds made c.in_ok-hold.ensures.ok c.apply.ensures
     c.in-Ok.ensures.stands
 

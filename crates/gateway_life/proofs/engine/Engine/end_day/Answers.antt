@@ -1,4 +1,4 @@
-use Rattle.std.proofs.Common.{◌≡◌, ◌∙◌, ap, sym, refl, subst, inr}
+use Rattle.std.proofs.Common.{◌∙◌, ap, refl, subst, inr}
 use Rattle.event_decisions.specs.Event.{End}
 use Rattle.order_meaning.specs.declared.Side.TheVariants.{Client, Venue}
 use Rattle.pair_journal.specs.Days.{past_of, day_at}
