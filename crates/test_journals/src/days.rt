@@ -111,13 +111,11 @@ fn a_stop_leaves_the_day_before_or_the_new_one(rt: HostRuntime) -> Result<(), Fa
     let names = names().ok_or("names of four bytes")?;
     let calls = calls(rt.alloc(), &names)?;
     for (passes, left) in &LEFT {
+        let cut = cut_off(rt.alloc(), &names, *passes)?;
+        assert_eq!(rt; cut, (*passes == 4, Ok(*left)), "{passes}");
         let call = calls.saturating_add(*passes).saturating_sub(3);
-        let lived = [
-            cut_off(rt.alloc(), &names, *passes),
-            refused(rt.alloc(), &names, call),
-        ];
-        let expected = (*passes == 4, Ok(*left));
-        assert_eq!(rt; lived, [Ok(expected), Ok(expected)], "{passes}");
+        let lone = refused(rt.alloc(), &names, call)?;
+        assert_eq!(rt; lone, (*passes == 4, Ok(*left)), "{passes}");
     }
     Ok(())
 }
