@@ -7,7 +7,6 @@ use Rattle.std.specs.Io.KnownBytes.{Appends}
 use Rattle.outside.specs.Bytes.{AppendsFront, PutAppends}
 use Rattle.order_meaning.specs.declared.names.Names.{Names}
 use Rattle.pair_entries.specs.declared.entry.Entry.{Entry}
-use Rattle.pair_journal.specs.Numbers.{first_numbers, numbers_after}
 use Rattle.wires.specs.Wire.{WireCall}
 use Rattle.gateway_life.specs.declared.end.LifeEnd.{LifeEnd}
 use Rattle.gateway_life.specs.declared.end.LifeEnd.TheVariants as ends
@@ -23,7 +22,7 @@ use Rattle.replay_lines.specs.declared.printing.PrintError.{PrintError}
 use Rattle.replay_lines.specs.declared.printing.PrintError.TheVariants.{OutputFault, NoMemory}
 use Rattle.drill_day.specs.Drill.{drill_names, drill_heart, drill_events, drill_capture, kinds_of}
 use Rattle.replay_lines.specs.ReplayLines.{drill_lines}
-use Rattle.capture_replay.specs.Replay.{Played, config_with, nothing, end_name}
+use Rattle.capture_replay.specs.Replay.{Played, config_with, nothing, end_name, numbers_left}
 use Rattle.capture_replay.specs.Lived.{IsLived, LivesOn}
 use Rattle.capture_replay.specs.Drills.{IsDrilled, Drills, lines_of_drill}
 use Rattle.capture_replay.specs.Rounds.{moment_after}
@@ -123,14 +122,14 @@ module _ {T : Type 0} (state : T → TapState) (first count : ℕ) (seen now : L
   pub drilled : (result : Result ⊤ PrintError) (old new : Option (List ℕ)) (entries : ℕ)
       (numbers kinds : ℕ × ℕ × ℕ × ℕ) (name : List ℕ) → kinds ≡ kinds_are → name ≡ end_name end
       → ((names : Names) (left : List Entry) → IsJournal names left image
-      → (entries ≡ length left) × (numbers ≡ numbers_after first_numbers left))
+      → (entries ≡ length left) × (numbers ≡ numbers_left left))
       → (result ≢ Err NoMemory → PutAppends old new result
       (drill_lines first count kinds name entries numbers))
       → (result ≡ Err NoMemory → new ≡ old) → Drills state first count seen now result old new
   drilled result old new entries numbers kinds name of of_end left put kept = by result refl
     where
       found : (entries ≡ length lived.entries)
-          × (numbers ≡ numbers_after first_numbers lived.entries)
+          × (numbers ≡ numbers_left lived.entries)
       found = left drill_names lived.entries stands
 
       lines : drill_lines first count kinds name entries numbers

@@ -12,7 +12,6 @@ use Rattle.outside.proofs.Fronts.{appended_front, front_on}
 use Rattle.wires.specs.Wire.{WireCall}
 use Rattle.wires.specs.MemWire.{calls_told}
 use Rattle.pair_entries.specs.declared.entry.Entry.{Entry}
-use Rattle.pair_journal.specs.Numbers.{first_numbers, numbers_after}
 use Rattle.gateway_config.specs.declared.config.Config.{Config}
 use Rattle.gateway_life.specs.declared.end.LifeEnd.{LifeEnd}
 use Rattle.gateway_life.specs.Life.{IsJournal}
@@ -31,7 +30,8 @@ use Rattle.replay_lines.specs.declared.printing.PrintError.TheVariants.{OutputFa
 use Rattle.replay_lines.specs.Pieces.{pieces_of}
 use Rattle.replay_lines.specs.ReplayLines.{life_lines, last_lines}
 use Rattle.capture_replay.specs.Replay.{Left, Played, after, nothing, IsPlayed, ArePlayed, config_of}
-use Rattle.capture_replay.specs.Replay.{end_name, lives_lines, entries_left, replay_lines, Replays}
+use Rattle.capture_replay.specs.Replay.{end_name, lives_lines, entries_left, numbers_left}
+use Rattle.capture_replay.specs.Replay.{replay_lines, Replays}
 use Rattle.capture_replay.specs.Lived.{IsLived, LivesOn, left_after, SoFar}
 use Rattle.capture_replay.specs.Rounds.{moment_after}
 
@@ -168,7 +168,7 @@ module _ {T : Type 0} (state : T → TapState) (capture : Capture)
       → AppendsFront old next (replay_lines longer)
   front_longer next put = front_on old next (lives_lines 1 longer)
       (last_lines (length (entries_left [] longer))
-      (numbers_after first_numbers (entries_left [] longer))) (replay_lines longer) refl
+      (numbers_left (entries_left [] longer))) (replay_lines longer) refl
       (subst (λ (l : List ℕ). AppendsFront old next l) (sym text_longer)
       (appended_front old new next (lives_lines 1 so_far.played) (lines_of (count + 1) life)
       so_far.put put))
@@ -267,7 +267,7 @@ module _ {T : Type 0} (state : T → TapState) (capture : Capture) where
 
     abbrev last_of : List ℕ
     last_of = last_lines (length (entries_left [] so_far.played))
-        (numbers_after first_numbers (entries_left [] so_far.played))
+        (numbers_left (entries_left [] so_far.played))
 
     put_so_far : AppendsFront old new (replay_lines so_far.played)
     put_so_far = front_on old new (lives_lines 1 so_far.played) last_of
@@ -289,7 +289,7 @@ module _ {T : Type 0} (state : T → TapState) (capture : Capture) where
     pub ended : (result : Result ⊤ PrintError) (next : Option (List ℕ)) (entries : ℕ)
         (numbers : ℕ × ℕ × ℕ × ℕ) → count ≡ length capture.lives → between ≡ now
         → ((names : Names) (left : List Entry) → IsJournal names left image
-        → (entries ≡ length left) × (numbers ≡ numbers_after first_numbers left))
+        → (entries ≡ length left) × (numbers ≡ numbers_left left))
         → (result ≢ Err NoMemory → PutAppends new next result (last_lines entries numbers))
         → (result ≡ Err NoMemory → next ≡ new)
         → Replays state capture seen now result old next
@@ -299,7 +299,7 @@ module _ {T : Type 0} (state : T → TapState) (capture : Capture) where
         whole = entries_are nothing so_far.played
 
         found : (entries ≡ length (entries_left [] so_far.played))
-            × (numbers ≡ numbers_after first_numbers (entries_left [] so_far.played))
+            × (numbers ≡ numbers_left (entries_left [] so_far.played))
         found = left capture.names (entries_left [] so_far.played)
             (subst (λ (es : List Entry). IsJournal capture.names es image) (sym whole)
             so_far.journal)

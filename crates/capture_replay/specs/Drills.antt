@@ -4,13 +4,13 @@ use Rattle.std.specs.declared.option.Option.{Option}
 use Rattle.std.specs.Io.KnownBytes.{Appends}
 use Rattle.outside.specs.Bytes.{AppendsFront}
 use Rattle.pair_entries.specs.declared.entry.Entry.{Entry}
-use Rattle.pair_journal.specs.Numbers.{first_numbers, numbers_after}
 use Rattle.drop_taps.specs.Shown.{TapState, HaveSeen}
 use Rattle.replay_lines.specs.declared.printing.PrintError.{PrintError}
 use Rattle.replay_lines.specs.declared.printing.PrintError.TheVariants.{OutputFault, NoMemory}
 use Rattle.replay_lines.specs.ReplayLines.{drill_lines}
 use Rattle.drill_day.specs.Drill.{drill_names, drill_heart, drill_events, kinds_of}
 use Rattle.capture_replay.specs.Replay.{Played, IsPlayed, config_with, nothing, end_name}
+use Rattle.capture_replay.specs.Replay.{numbers_left}
 
 -- THE DAY OF A DRILL WAS LIVED, over an unborn disk, as a life of a capture is; and the taps saw
 -- what was committed in it.
@@ -24,7 +24,7 @@ pub record IsDrilled {T : Type 0} (state : T → TapState) (first count : ℕ) (
 abbrev pub lines_of_drill : (first count : ℕ) → Played → List ℕ
 lines_of_drill first count life = let kinds = kinds_of first count in
     drill_lines first count (kinds.filled, kinds.busted, kinds.corrected, kinds.rejected)
-    (end_name life.end) (length life.entries) (numbers_after first_numbers life.entries)
+    (end_name life.end) (length life.entries) (numbers_left life.entries)
 
 -- WHAT A DRILL DOES by its answer: at `Ok` its day was lived, and its lines are printed; where the
 -- sink failed, a front of them is; for want of memory nothing is printed, and the taps saw some

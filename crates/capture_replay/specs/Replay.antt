@@ -7,12 +7,13 @@ use Rattle.outside.specs.Bytes.{AppendsFront}
 use Rattle.order_meaning.specs.declared.Side.TheVariants.{Client, Venue}
 use Rattle.order_meaning.specs.declared.names.Names.{Names}
 use Rattle.pair_entries.specs.declared.entry.Entry.{Entry}
+use Rattle.pair_entries.specs.Payload.{Next}
 use Rattle.pair_journal.specs.Numbers.{first_numbers, numbers_after}
 use Rattle.wires.specs.Wire.{Came}
 use Rattle.wires.specs.Script.{Plays}
 use Rattle.wires.specs.Clock.{moments_given}
 use Rattle.message_answers.specs.Answer.{Answers}
-use Rattle.pair_journal.specs.Days.{days_of}
+use Rattle.pair_journal.specs.Days.{days_of, last_day}
 use Rattle.life_laws.specs.Days.{DayEnded, DayLeft, Transcript, LeavesDays, transcript_after}
 use Rattle.gateway_config.specs.declared.config.Config.{Config}
 use Rattle.gateway_life.specs.declared.end.LifeEnd.{LifeEnd}
@@ -131,11 +132,15 @@ abbrev pub entries_left : List Entry → List Played → List Entry
 entries_left entries [] = entries
 entries_left entries (life ∷ played) = entries_left life.entries played
 
+-- the next numbers behind entries: those of the last day
+abbrev pub numbers_left : List Entry → Next
+numbers_left entries = numbers_after first_numbers (last_day entries)
+
 -- all that is printed of these lives
 abbrev pub replay_lines : List Played → List ℕ
 replay_lines played = lives_lines 1 played
     ++ last_lines (length (entries_left [] played))
-    (numbers_after first_numbers (entries_left [] played))
+    (numbers_left (entries_left [] played))
 
 -- WHAT A REPLAY DOES by its answer: at `Ok` all lives of the capture were played, and all is printed;
 -- at an error some were played, and a front of what is printed of them.

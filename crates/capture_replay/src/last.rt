@@ -3,15 +3,16 @@
 ghost use Rattle.std.specs.Prelude.{◌≡◌, List, length, IfOk};
 ghost use Rattle.order_meaning.specs.declared.names.Names.{Names};
 ghost use Rattle.pair_entries.specs.declared.entry.Entry.{Entry};
-ghost use Rattle.pair_journal.specs.Numbers.{first_numbers, numbers_after};
 ghost use Rattle.gateway_life.specs.Life.{IsJournal};
+ghost use Rattle.capture_replay.specs.Replay.{numbers_left};
 
 use crate::stops::disk_of;
 use pair_journal::laws::an_image_has_one_reading;
 use pair_journal::{Journal, JournalError};
 use std::alloc::{AllocError, Global};
 
-/// How many entries the journal of these bytes has, and its next numbers. An unborn disk has none.
+/// How many entries the journal of these bytes has, and the next numbers of its last day. An unborn
+/// disk has none.
 ///
 /// # Errors
 /// `AllocError` where memory was refused, also to the disk.
@@ -22,7 +23,7 @@ pub(crate) fn left_by(
     requires { (names : Names) × (entries : List Entry) × IsJournal names entries image.items }
     ensures { IfOk result (λ left. (names : Names) (entries : List Entry)
         → IsJournal names entries image.items
-        → (left.0 ≡ length entries) × (left.1 ≡ numbers_after first_numbers entries)) }
+        → (left.0 ≡ length entries) × (left.1 ≡ numbers_left entries)) }
 {
     an_image_has_one_reading();
     let mut disk = disk_of(alloc, None, image);

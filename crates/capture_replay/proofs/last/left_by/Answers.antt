@@ -1,6 +1,6 @@
 use Rattle.std.proofs.Common.{◌≡◌, ◌∙◌, rules, Ok, Err, length, ap, subst}
 use Rattle.pair_journal.specs.Calls.{Looks}
-use Rattle.pair_journal.specs.Numbers.{first_numbers, numbers_after}
+use Rattle.capture_replay.specs.Replay.{numbers_left}
 use Rattle.capture_replay.proofs.LastLeft.{found_entries, none_refused}
 use Rattle.capture_replay.proofs.last.left_by.Goals as goal
 
@@ -10,7 +10,7 @@ returns-in-Ok-Some c = λ names entries is.
     let same = found_entries c.args.image.items names entries _ c.in-Ok-Some.journal
     (c.an_image_has_one_reading.ensures c.args.image.items) is c.in-Ok-Some.field-0-is
     (subst (λ b. Looks b (Ok c.in-Ok-Some.field-0)) bytes c.in-Ok-Some.ensures.looks) in
-    (c.count.ensures ∙ ap length same, c.next.ensures ∙ ap (numbers_after first_numbers) same)
+    (c.count.ensures ∙ ap length same, c.next.ensures ∙ ap numbers_left same)
 
 pub unreachable-requires : goal.unreachable-requires
 unreachable-requires c =
