@@ -4,9 +4,10 @@
 //   peers venue SETTINGS           answers each request
 //
 // Both go on until their input ends. At each line of its input the venue stops and starts again,
-// from what its store has. A line goes to the output for each logon and logout, for each
-// message of the application when it is sent for the first time (>) or taken (<), with | for SOH,
-// for each Reject that is said or taken (!), and where all orders are sent.
+// from what its store has, and the client sends the same orders again as new ones. A line goes to
+// the output for each logon and logout, for each message of the application when it is sent for the
+// first time (>) or taken (<), with | for SOH, for each Reject that is said or taken (!), and where
+// all orders are sent.
 //
 // What becomes of an order is said by the last digit of its ClOrdID:
 //   0, 5  it is filled in two parts, told with parties and contra brokers
@@ -275,14 +276,15 @@ int main(int count, char** words) {
     Client client;
     FIX::SocketInitiator initiator(client, stores, settings, logs);
     initiator.start();
-    while (!client.active) std::this_thread::sleep_for(std::chrono::milliseconds(10));
     const int orders = count > 3 ? std::stoi(words[3]) : 0;
-    for (int number = 0; number < orders; ++number) {
-      client.order(number);
-      std::this_thread::sleep_for(std::chrono::milliseconds(50));
-    }
-    line("all", "orders are sent");
-    while (std::getline(std::cin, text)) continue;
+    do {
+      while (!client.active) std::this_thread::sleep_for(std::chrono::milliseconds(10));
+      for (int number = 0; number < orders; ++number) {
+        client.order(number);
+        std::this_thread::sleep_for(std::chrono::milliseconds(50));
+      }
+      line("all", "orders are sent");
+    } while (std::getline(std::cin, text));
     initiator.stop();
   }
   return 0;
