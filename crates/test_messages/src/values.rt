@@ -379,12 +379,13 @@ fn put_codes(line: &Line<'_>, out: &mut Vec<u8>) -> Result<(), AllocError> {
 fn put_decimals(line: &Line<'_>, out: &mut Vec<u8>) -> Result<(), AllocError> {
     let cum = qty_or_zero(line, 38);
     let order_qty = qty(line, 38);
+    let stop_px = None;
     put_content(
         out,
         &[
             Part::Row(14, Value::Dec(&cum)),
             Part::Row(38, Value::DecIf(&order_qty)),
-            Part::Row(99, Value::DecIf(&None)),
+            Part::Row(99, Value::DecIf(&stop_px)),
         ],
     )
 }
