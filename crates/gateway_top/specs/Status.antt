@@ -110,7 +110,7 @@ status_of_show shows.NoMemory = NoMemory
 abbrev pub status_of_migrate : MigrateError → Status
 status_of_migrate migrates.DiskFault = DiskFault
 status_of_migrate migrates.OutputFault = OutputFault
-status_of_migrate (migrates.JournalRefused at) = JournalRefused at
+status_of_migrate (migrates.Refused at) = JournalRefused at
 status_of_migrate migrates.Full = JournalFull
 status_of_migrate migrates.NoMemory = NoMemory
 

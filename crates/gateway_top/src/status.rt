@@ -143,7 +143,7 @@ impl From<MigrateError> for Status {
         match error {
             MigrateError::DiskFault => Status::DiskFault,
             MigrateError::OutputFault => Status::OutputFault,
-            MigrateError::JournalRefused { at } => Status::JournalRefused { at },
+            MigrateError::Refused { at } => Status::JournalRefused { at },
             MigrateError::Full => Status::JournalFull,
             MigrateError::NoMemory => Status::NoMemory,
         }

@@ -1,1 +1,9 @@
+pub mod Births
+pub mod Spelt
+pub mod Finding
+pub mod Twins
+pub mod OneReading
+pub mod Reached
+pub mod Put
+pub mod Migrated
 pub mod Worked

@@ -1,2 +1,4 @@
 pub mod Format1
 pub mod Migrating
+pub mod Walk
+pub mod Laws

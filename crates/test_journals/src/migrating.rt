@@ -24,14 +24,15 @@ const LOGON: &[u8] = b"\0\0\x01\x8c\xc9\x9d\xa1\x00\0\0\0\0\x01\0\0\0\x01\0\0\0\
 const NEW_DAY: &[u8] =
     b"\0\0\x01\x8c\xc9\x9d\xa1\x00\x03\0\0\0\x01\0\0\0\x01\0\0\0\x01\0\0\0\x01\0";
 
-/// What stands behind the birth record, by payloads, and where it is refused: all of it is migrated
-/// where it is not.
+/// What stands behind the birth record, by days and payloads, and where it is refused: all of it is
+/// migrated where it is not.
 #[rattlefmt::skip]
-const JOURNALS: [(&str, &[&[u8]], Option<u64>); 4] = [
+const JOURNALS: [(&str, &[(u32, &[u8])], Option<u64>); 5] = [
     ("names alone", &[], None),
-    ("a Logon", &[LOGON], None),
-    ("numbers that do not go on", &[LOGON, LOGON], Some(222)),
-    ("a new day, which format 1 has not", &[NEW_DAY], Some(160)),
+    ("a Logon", &[(0, LOGON)], None),
+    ("numbers that do not go on", &[(0, LOGON), (0, LOGON)], Some(222)),
+    ("a new day", &[(0, LOGON), (1, NEW_DAY), (1, LOGON)], None),
+    ("two new days", &[(1, NEW_DAY), (2, NEW_DAY)], None),
 ];
 
 /// Appends a record.
@@ -43,12 +44,12 @@ fn push_record(bytes: &mut Vec<u8>, front: &[u8], payload: &[u8]) -> Result<(), 
     bytes.extend_from_slice(payload)
 }
 
-/// A journal of this mark, with this in front of each payload.
+/// A journal of this mark, with the day in front of each payload, or not.
 fn image_of(
     alloc: Global,
     mark: &[u8],
-    front: &[u8],
-    payloads: &[&[u8]],
+    dated: bool,
+    payloads: &[(u32, &[u8])],
 ) -> Result<Vec<u8>, AllocError> {
     let mut birth = Vec::from_slice(alloc, mark)?;
     for (text, zeros) in &NAMES {
@@ -57,7 +58,9 @@ fn image_of(
     }
     let mut bytes = Vec::new(alloc);
     push_record(&mut bytes, b"", &birth)?;
-    for payload in payloads {
+    for (day, payload) in payloads {
+        let day = day.to_be_bytes();
+        let front: &[u8] = if dated { &day } else { &[] };
         push_record(&mut bytes, front, payload)?;
     }
     bytes.push(0)?;
@@ -80,13 +83,10 @@ fn migrated(
 fn a_journal_of_format_1_is_migrated_or_refused(rt: HostRuntime) -> Result<(), Fail> {
     let alloc = rt.alloc();
     for (shows, payloads, refused) in &JOURNALS {
-        let (answer, put) = migrated(alloc, image_of(alloc, b"FIXGATEWAY1", b"", payloads)?)?;
+        let (answer, put) = migrated(alloc, image_of(alloc, b"FIXGATEWAY1", false, payloads)?)?;
         let (expected, image) = match refused {
-            Some(at) => (
-                Err(MigrateError::JournalRefused { at: *at }),
-                Vec::new(alloc),
-            ),
-            None => (Ok(()), image_of(alloc, b"FIXGATEWAY2", &[0; 4], payloads)?),
+            Some(at) => (Err(MigrateError::Refused { at: *at }), Vec::new(alloc)),
+            None => (Ok(()), image_of(alloc, b"FIXGATEWAY2", true, payloads)?),
         };
         assert_eq!(rt; answer, expected, "{shows}");
         assert_eq!(rt; put.as_slice(), image.as_slice(), "{shows}");
@@ -97,7 +97,7 @@ fn a_journal_of_format_1_is_migrated_or_refused(rt: HostRuntime) -> Result<(), F
 #[test]
 fn the_logon_of_the_venue_grows_by_four_bytes(rt: HostRuntime) -> Result<(), Fail> {
     let alloc = rt.alloc();
-    let old = image_of(alloc, b"FIXGATEWAY1", b"", &[LOGON])?;
+    let old = image_of(alloc, b"FIXGATEWAY1", false, &[(0, LOGON)])?;
     let len = old.len();
     let (answer, put) = migrated(alloc, old)?;
     assert_eq!(rt; (answer, len, put.len()), (Ok(()), 223, 227));
@@ -109,10 +109,10 @@ fn an_unborn_disk_puts_nothing_and_format_2_is_refused(rt: HostRuntime) -> Resul
     let alloc = rt.alloc();
     let (answer, put) = migrated(alloc, Vec::new(alloc))?;
     assert_eq!(rt; (answer, put.len()), (Ok(()), 0));
-    let (answer, put) = migrated(alloc, image_of(alloc, b"FIXGATEWAY2", &[0; 4], &[LOGON])?)?;
+    let (answer, put) = migrated(alloc, image_of(alloc, b"FIXGATEWAY2", true, &[(0, LOGON)])?)?;
     assert_eq!(rt;
         (answer, put.len()),
-        (Err(MigrateError::JournalRefused { at: 0 }), 0)
+        (Err(MigrateError::Refused { at: 0 }), 0)
     );
     Ok(())
 }
