@@ -68,6 +68,9 @@ notice_text (notice.Closed at closed) = codes "client " ++ socket_text at ++ clo
 notice_text (notice.NumbersLow peer low) =
     peer_text peer ++ codes " numbers are too low: " ++ low_text low
     ++ codes "; has it begun a new day?"
+notice_text (notice.OwnNumbersLow peer low) =
+    peer_text peer ++ codes " finds our numbers too low: " ++ low_text low
+    ++ codes "; is its day that of yesterday?"
 notice_text (notice.Ended peer ending next) =
     peer_text peer ++ codes " connection " ++ ending_text ending ++ next_text next
 notice_text (notice.NotReached at missed) = codes "venue " ++ socket_text at ++ missed_text missed

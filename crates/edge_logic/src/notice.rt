@@ -91,6 +91,8 @@ pub enum Notice<'a> {
     Ended(PeerName, Ending<'a>, NextTry),
     /// A connection ended since this peer's numbers were too low.
     NumbersLow(PeerName, TooLow),
+    /// A connection ended since this peer found the gateway's numbers too low.
+    OwnNumbersLow(PeerName, TooLow),
     /// The venue was not reached.
     NotReached(SocketAddr, Missed<'a>),
     /// The stop file asks for an end.
@@ -216,6 +218,12 @@ impl fmt::Display for Notice<'_> {
                 write!(
                     f,
                     "{peer} numbers are too low: {low}; has it begun a new day?"
+                )
+            }
+            Notice::OwnNumbersLow(peer, low) => {
+                write!(
+                    f,
+                    "{peer} finds our numbers too low: {low}; is its day that of yesterday?"
                 )
             }
             Notice::Ended(peer, ending, next) => write!(f, "{peer} connection {ending}{next}"),

@@ -94,18 +94,28 @@ impl<'a, R: System, W: Write + Drop> ClientListener<'a, R, W> {
         self.teller.tell(self.rt, notice);
     }
 
-    // The connection has ended so. Where its numbers were too low the port is closed for a while.
+    // Why the client is put off, where it is: its numbers, or ours, were too low.
+    fn numbers_low(&self) -> Option<Notice<'static>> {
+        if let Some(low) = self.talk.too_low() {
+            return Some(Notice::NumbersLow(PeerName::Client, low));
+        }
+        let low = self.talk.own_too_low()?;
+        Some(Notice::OwnNumbersLow(PeerName::Client, low))
+    }
+
+    // The connection has ended so. Where numbers were too low the port is closed for a while: of a
+    // client that has not begun the day each try takes numbers of the gateway, up to its own.
     fn end(&mut self, ending: Ending<'_>)
         ensures { self.new.link ≡ self.old.link }
     {
-        let Some(low) = self.talk.too_low() else {
+        let Some(low) = self.numbers_low() else {
             self.tell(Notice::Ended(PeerName::Client, ending, NextTry::Never));
             return;
         };
         let now = ticks(self.rt);
         self.put_off.begin(now);
         let left = self.put_off.left(now).div_ceil(1_000);
-        self.tell(Notice::NumbersLow(PeerName::Client, low));
+        self.tell(low);
         self.tell(Notice::Ended(PeerName::Client, ending, NextTry::OpensAfter(left)));
     }
 
@@ -427,6 +437,7 @@ impl<'a, R: System, W: Write + Drop> ClientListener<'a, R, W> {
                 Ok(Arrival::Closed)
             }
             Ok(Arrival::Bytes(count)) => {
+                self.talk.note(&buf[..count]);
                 self.shared.note_activity();
                 self.link = Some(link);
                 Ok(Arrival::Bytes(count))

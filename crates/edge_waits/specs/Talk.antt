@@ -6,14 +6,16 @@ use Rattle.edge_logic.specs.Outbox.{has_bytes}
 use Rattle.edge_logic.specs.declared.notice.TooLow.{TooLow}
 use Rattle.edge_logic.specs.declared.back_off.LinkEnd.{LinkEnd}
 use Rattle.edge_logic.specs.declared.back_off.LinkEnd.TheVariants as link_end
-use Rattle.edge_waits.specs.Said.{too_low}
+use Rattle.edge_waits.specs.Said.{logout_text, too_low}
 
--- what came before a session stood, the text of the last Logout that the gateway said, and whether
--- a session stood
+-- what came before a session stood, the text of the last Logout that the gateway said, whether a
+-- session stood, and the numbers that the peer named last, where it said by a Logout that the
+-- gateway's number is too low
 pub record Spoken : Type 0 where
   pub heard : List ℕ
   pub farewell : Option (List ℕ)
   pub active : Bool
+  pub own_low : Option TooLow
 
 -- what came is kept before a session stands, until 1,024 bytes are
 abbrev pub heard_next : Spoken → List ℕ → List ℕ
@@ -24,6 +26,10 @@ heard_next spoken bytes =
 abbrev pub low_in : Option (List ℕ) → Option TooLow
 low_in (Some text) = too_low text
 low_in None = None
+
+-- the numbers that what came names, where it is a Logout that says so
+abbrev pub low_said : List ℕ → Option TooLow
+low_said bytes = low_in (logout_text bytes)
 
 -- the numbers that the gateway named, where it said that the peer's number is too low
 abbrev pub low_of : Spoken → Option TooLow

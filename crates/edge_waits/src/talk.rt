@@ -3,7 +3,7 @@
 ghost use Rattle.std.specs.Prelude.{◌≡◌, ◌++◌, [], OnOk, OnErr, IfOk, None, true, false};
 ghost use Rattle.edge_waits.specs.Said.{logout_text};
 ghost use Rattle.edge_waits.specs.Fields.{or_else};
-ghost use Rattle.edge_waits.specs.Talk.{heard_next, link_end_by, link_end_of, low_of};
+ghost use Rattle.edge_waits.specs.Talk.{heard_next, link_end_by, link_end_of, low_of, low_said};
 ghost use Rattle.edge_waits.specs.Why.{why_text};
 
 use crate::said::{logout_text, too_low};
@@ -15,14 +15,15 @@ use std::marker::Model;
 /// So many bytes that came before a session stood are kept at least.
 const KEPT: usize = 1_024;
 
-/// What came on a connection before a session stood, what the gateway said last by a Logout, and
-/// whether a session stood.
+/// What came on a connection before a session stood, what the gateway said last by a Logout,
+/// whether a session stood, and whether the peer found the gateway's number too low.
 #[derive(Drop)]
 pub struct Talk {
     alloc: Global,
     heard: Vec<u8>,
     farewell: Option<Vec<u8>>,
     is_active: bool,
+    own_low: Option<TooLow>,
 }
 
 impl Model for Talk {
@@ -35,6 +36,7 @@ impl Model for Talk {
       heard = t.heard.items;
       farewell = option_map (λ text. text.items) t.farewell;
       active = t.is_active;
+      own_low = t.own_low;
     } };
 }
 
@@ -60,13 +62,14 @@ fn link_end_by(text: &[u8]) -> LinkEnd
 impl Talk {
     /// Nothing was said.
     pub fn new(alloc: Global) -> Talk
-        ensures { result ≡ record { heard = []; farewell = None; active = false } }
+        ensures { result ≡ record { heard = []; farewell = None; active = false; own_low = None } }
     {
         Talk {
             alloc,
             heard: Vec::new(alloc),
             farewell: None,
             is_active: false,
+            own_low: None,
         }
     }
 
@@ -123,6 +126,24 @@ impl Talk {
             Some(text) => too_low(text.as_slice()),
             None => None,
         }
+    }
+
+    /// These bytes came where a session stands.
+    pub fn note(&mut self, bytes: &[u8])
+        ensures { self.new ≡ record self.old { own_low = low_said bytes.now } }
+    {
+        self.own_low = match logout_text(bytes) {
+            Some(text) => too_low(text),
+            None => None,
+        };
+    }
+
+    /// The numbers that the peer named, where what came last is a Logout by which it finds the
+    /// gateway's number too low.
+    pub fn own_too_low(&self) -> Option<TooLow>
+        ensures { result ≡ self.now.own_low }
+    {
+        self.own_low
     }
 
     /// How the connection ended, for the venue's next try. `was_closed` says that the venue closed
