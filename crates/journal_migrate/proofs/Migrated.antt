@@ -1,6 +1,6 @@
 -- What two walks say of a migration.
 use Rattle.std.proofs.Common.{◌≡◌, ◌≢◌, inl, inr, ℕ, ◌+◌, ◌-◌, ◌*◌, ◌<◌, ◌≤◌, List, [], refl, sym}
-use Rattle.std.proofs.Common.{◌∙◌, subst, arith, Some, None, IfSome, Result, Ok, Err, IsErrAnd}
+use Rattle.std.proofs.Common.{◌∙◌, ap, subst, arith, Some, None, IfSome, Result, Ok, Err, IsErrAnd}
 use Rattle.std.specs.Prelude.{⊤}
 use Rattle.std.specs.Option.{ForSome}
 use Rattle.std.specs.declared.option.Option.{Option}
@@ -19,10 +19,33 @@ use Rattle.pair_journal.specs.Journal.{Born, Refused}
 use Rattle.journal_migrate.specs.declared.migrating.MigrateError.{MigrateError}
 use Rattle.journal_migrate.specs.declared.migrating.MigrateError.TheVariants as errors
 use Rattle.journal_migrate.specs.Format1.{JournalOf1}
-use Rattle.journal_migrate.specs.Migrating.{image_of, Migrates}
+use Rattle.journal_migrate.specs.Migrating.{image_of, Migrates, FailsBy}
 use Rattle.journal_migrate.specs.Walk.{Walks, migrate_error}
 use Rattle.journal_migrate.proofs.OneReading.{born_refused}
 use Rattle.journal_migrate.proofs.Twins.{twin, too_long}
+
+-- an error that a call handed on
+pub answered : (result : Result ⊤ MigrateError) (error : MigrateError)
+    (told old new : Option (List ℕ)) → IsErrAnd result (λ e. e ≡ error)
+    → IfSome told (λ b. Migrates {T = ⊤} b (Err error) old new)
+    → IfSome told (λ b. Migrates b result old new)
+answered (Ok value) error told old new is migrates = absurd is
+answered (Err e) error told old new is migrates =
+    subst (λ (x : MigrateError). IfSome told (λ b. Migrates {T = ⊤} b (Err x) old new)) (sym is)
+    migrates
+
+-- where nothing can be told to fail, nothing fails
+pub no_output : (e : MigrateError) → FailsBy {T = ⊤} errors.OutputFault 0 0 (Err e)
+    → e ≢ errors.OutputFault
+no_output e fails is = omega (arith, fails.failed (ap Err is))
+
+-- the log that was found
+pub found_log : (told here : Option (List ℕ)) (found : Option LogState) (state : LogState)
+    → here ≡ told → found ≡ Some state → IfSome told (λ b. log.Looks b (Ok found))
+    → ForSome here (log.StandsOver state)
+found_log told here found state same is looks b e =
+    at_some told (λ x. log.Looks x (Ok (Some state))) b (sym same ∙ e)
+    (subst (λ (f : Option LogState). IfSome told (λ x. log.Looks x (Ok f))) is looks)
 
 -- what a look at the log refuses, or could not read
 pub refused : (told old : Option (List ℕ)) (e : LogError)

@@ -1,13 +1,13 @@
 -- What a walk puts, over a disk that may tell its bytes.
 use Rattle.std.proofs.Common.{◌≡◌, inl, inr, ℕ, ◌+◌, ◌<◌, ◌≤◌, List, [], ◌∷◌, ◌++◌, length, take}
 use Rattle.std.proofs.Common.{refl, sym, ◌∙◌, ap, subst, arith, Some, IfSome, Result, Ok, Err, IsErrAnd}
-use Rattle.std.specs.Prelude.{⊤}
+use Rattle.std.specs.Prelude.{⊤, OnErr}
 use Rattle.std.specs.Option.{ForSome}
 use Rattle.std.specs.declared.option.Option.{Option}
 use Rattle.std.specs.Io.KnownBytes.{Appends}
 use Rattle.std.proofs.KnownBytes.{Appends-nil, Appends-trans}
 use Rattle.std.proofs.lemmas.List.{take_all}
-use Rattle.outside.specs.Bytes.{AppendsFront}
+use Rattle.outside.specs.Bytes.{AppendsFront, PutAppends}
 use Rattle.outside.proofs.Fronts.{appended_front}
 use Rattle.order_meaning.specs.declared.names.Names.{Names}
 use Rattle.gate_log.specs.Records.{blocks, Stands}
@@ -39,6 +39,19 @@ pub handed : (result : Result ⊤ MigrateError) (error : MigrateError)
 handed (Ok value) error told old new is walks = absurd is
 handed (Err e) error told old new is walks =
     subst (λ (x : MigrateError). IfSome told (λ b. Walks {T = ⊤} b (Err x) old new)) (sym is) walks
+
+abbrev error_of : Result ⊤ MigrateError → MigrateError
+error_of (Ok value) = errors.NoMemory
+error_of (Err e) = e
+
+-- a put failed
+pub put_failed : (result : Result ⊤ MigrateError) (error : MigrateError)
+    (told old new : Option (List ℕ)) → IsErrAnd result (λ e. e ≡ error)
+    → ◌≡◌ {A = Result ⊤ MigrateError} (Err error) (Err errors.OutputFault)
+    → IfSome told (λ b. IsBegun b old new) → IfSome told (λ b. Walks b result old new)
+put_failed result error told old new is only started =
+    handed result errors.OutputFault told old new
+    (subst (λ (x : MigrateError). IsErrAnd result (λ e. e ≡ x)) (ap error_of only) is) started
 
 -- nothing was put
 pub nothing_put : (bytes : List ℕ) (old : Option (List ℕ)) → IsBegun bytes old old
@@ -201,7 +214,7 @@ module _ (told : Option (List ℕ)) (log : LogState) (stands : ForSome told (Sta
     -- ---- the closed gate behind them
 
     module _ (done : log.count ≤ index) where
-      pub all_put : (value : ⊤) (new : Option (List ℕ)) → Appends now new (0 ∷ [])
+      all_put : (value : ⊤) (new : Option (List ℕ)) → Appends now new (0 ∷ [])
           → IfSome told (λ b. Walks {T = ⊤} b (Ok value) old new)
       all_put value new last = if_some told _ (λ b e.
           let at = put_at b e in (
@@ -211,7 +224,7 @@ module _ (told : Option (List ℕ)) (log : LogState) (stands : ForSome told (Sta
             Appends-trans old now new _ (0 ∷ []) at.1 last,
           ))
 
-      pub all_begun : (new : Option (List ℕ)) → AppendsFront now new (0 ∷ [])
+      all_begun : (new : Option (List ℕ)) → AppendsFront now new (0 ∷ [])
           → IfSome told (λ b. IsBegun b old new)
       all_begun new last = if_some told _ (λ b e names entries born.
           let at = put_at b e in
@@ -229,3 +242,11 @@ module _ (told : Option (List ℕ)) (log : LogState) (stands : ForSome told (Sta
               image : Reading → List ℕ
               image (Born n es) = image_of n es
               image other = []
+
+      pub closed : (result : Result ⊤ MigrateError) (new : Option (List ℕ))
+          → PutAppends now new result (0 ∷ [])
+          → OnErr result (result ≡ Err errors.OutputFault)
+          → IfSome told (λ b. Walks b result old new)
+      closed (Ok value) new last only = all_put value new last
+      closed (Err e) new last only =
+          put_failed (Err e) e told old new refl only (all_begun new last)

@@ -1,6 +1,6 @@
 //! A journal is read twice: to see that each record goes on, and to put each one.
 
-ghost use Rattle.std.specs.Prelude.{◌≡◌, ◌+◌, ◌-◌, ◌*◌, nat_le, Err, None, OnErr, IfSome};
+ghost use Rattle.std.specs.Prelude.{◌≡◌, ◌+◌, ◌-◌, ◌*◌, ◌<◌, ◌≤◌, Err, None, OnErr, IfSome, MatchBool};
 ghost use Rattle.std.specs.Option.{ForSome};
 ghost use Rattle.outside.specs.Bytes.{PutAppends};
 ghost use Rattle.outside.specs.Causes.{HasCause};
@@ -99,10 +99,11 @@ fn put_all<D: Disk, O: Sink>(
     ensures disk_cause { FailsBy errors.DiskFault (D.faults disk.old) (D.faults disk.new) result }
     ensures output_cause { FailsBy errors.OutputFault (O.faults out.old) (O.faults out.new) result }
 {
+    let records = log.count();
     let mut walk = Walk::new(alloc)?;
     walk.read_birth(disk)?;
     put(out, walk.record())?;
-    for index in 1..log.count() {
+    for index in 1..records {
         walk.read_entry(alloc, log, disk)?;
         put(out, walk.record())?;
     }
@@ -112,7 +113,8 @@ fn put_all<D: Disk, O: Sink>(
 /// Whether the image of the journal of a log of format 1 is longer than a disk in format 2, where
 /// each record but the first has four bytes more.
 fn is_too_long(log: &Log) -> bool
-    ensures { result ≡ nat_le MAX_DISK (log.now.end + 4 * (log.now.count - 1)) }
+    ensures { MatchBool result (MAX_DISK ≤ log.now.end + 4 * (log.now.count - 1))
+        (log.now.end + 4 * (log.now.count - 1) < MAX_DISK) }
 {
     let more = (log.count() - 1).saturating_mul(4);
     log.end().saturating_add(more) >= MAX_DISK

@@ -1,6 +1,6 @@
 //! A walk over the records of a journal of format 1.
 
-ghost use Rattle.std.specs.Prelude.{◌≡◌, ◌+◌, ◌<◌, ◌≤◌, [], List, ℕ, length};
+ghost use Rattle.std.specs.Prelude.{◌≡◌, ◌≢◌, ◌+◌, ◌<◌, ◌≤◌, List, ℕ, length, Err};
 ghost use Rattle.std.specs.Prelude.{IfOk, IfErr, IfSome, OnOk};
 ghost use Rattle.std.specs.Option.{ForSome};
 ghost use Rattle.gate_log.specs.Chunk.{IsOf, IsOfAny};
@@ -39,6 +39,7 @@ fn read_payload<D: Disk>(chunk: &mut Chunk, disk: &mut D, place: u64) -> Result<
     ensures of { IsOf (D.bytes disk.new) chunk.new }
     ensures payload { OnOk result (ReadsPayload (D.bytes disk.old) place chunk.new.payload) }
     ensures err { IfErr result (Unread (D.bytes disk.old) place) }
+    ensures only { result ≢ Err errors.OutputFault }
     ensures only_read { OnlyReads D.bytes D.image disk.old disk.new }
     ensures cause { FailsBy errors.DiskFault (D.faults disk.old) (D.faults disk.new) result }
 {
@@ -82,6 +83,7 @@ impl Walk {
             → Stands b ps → IsAt ps 0 p → ReadsRecord
             (IsBirth p self.new.record.items × (self.new.place ≡ 5 + length p))
             (IsNoBirth p) 0 result) }
+        ensures only { result ≢ Err errors.OutputFault }
         ensures only_read { OnlyReads D.bytes D.image disk.old disk.new }
         ensures cause { FailsBy errors.DiskFault (D.faults disk.old) (D.faults disk.new) result }
     {
@@ -110,6 +112,7 @@ impl Walk {
             (IsNext self.old.day self.old.next p self.new.day self.new.next self.new.record.items
             × (self.new.place ≡ self.old.place + 5 + length p))
             (IsNoNext self.old.next p) self.old.place result) }
+        ensures only { result ≢ Err errors.OutputFault }
         ensures only_read { OnlyReads D.bytes D.image disk.old disk.new }
         ensures cause { FailsBy errors.DiskFault (D.faults disk.old) (D.faults disk.new) result }
     {
