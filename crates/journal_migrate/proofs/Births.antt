@@ -5,7 +5,7 @@ use Rattle.std.specs.declared.option.Option.{Option}
 use Rattle.order_meaning.specs.declared.names.Names.{Names}
 use Rattle.gate_log.specs.Records.{blocks}
 use Rattle.pair_entries.specs.Birth.{mark, birth_bytes, AreNames}
-use Rattle.journal_migrate.specs.Format1.{mark1, birth1_bytes}
+use Rattle.journal_migrate.specs.Format1.{mark1}
 use Rattle.journal_migrate.specs.Walk.{TellsBirth}
 use Rattle.journal_migrate.proofs.Spelt.{remarked}
 

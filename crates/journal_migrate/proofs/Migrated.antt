@@ -4,7 +4,6 @@ use Rattle.std.proofs.Common.{◌∙◌, ap, subst, arith, Some, None, IfSome, R
 use Rattle.std.specs.Prelude.{⊤}
 use Rattle.std.specs.Option.{ForSome}
 use Rattle.std.specs.declared.option.Option.{Option}
-use Rattle.std.specs.Io.KnownBytes.{Appends}
 use Rattle.std.proofs.KnownBytes.{Appends-nil}
 use Rattle.outside.specs.declared.disk.TheConstants.{MAX_DISK}
 use Rattle.order_meaning.specs.declared.names.Names.{Names}

@@ -1,5 +1,5 @@
 -- Bytes have one reading in format 1.
-use Rattle.std.proofs.Common.{◌≡◌, inl, inr, ◌⊎◌, ℕ, ◌+◌, ◌<◌, List, [], ◌∷◌, ◌++◌, length, take}
+use Rattle.std.proofs.Common.{◌≡◌, inl, inr, ℕ, ◌+◌, ◌<◌, List, [], ◌∷◌, length, take}
 use Rattle.std.proofs.Common.{refl, sym, ◌∙◌, ap, subst, arith, map}
 use Rattle.std.proofs.lemmas.List.{take-take}
 use Rattle.std.proofs.lemmas.Bool.{cases_order}
@@ -13,7 +13,7 @@ use Rattle.pair_journal.specs.Numbers.{first_numbers}
 use Rattle.pair_journal.specs.Journal.{Reading, Unborn, Born, Refused}
 use Rattle.pair_journal.proofs.Walking.{head_of}
 use Rattle.journal_migrate.specs.Format1.{JournalOf1, Spells1, AreSpelt1, Misspells1}
-use Rattle.journal_migrate.specs.Format1.{birth1_bytes, payloads1_of}
+use Rattle.journal_migrate.specs.Format1.{birth1_bytes}
 use Rattle.journal_migrate.proofs.Spelt.{same_birth1, spelt_take, same_entries}
 
 not_misspelt : (payloads : List (List ℕ)) (at : ℕ)

@@ -14,7 +14,7 @@ use Rattle.gate_log.proofs.Blocks.{Stands-unique, blocks-append, length-blocks-p
 use Rattle.pair_entries.specs.declared.entry.Entry.{Entry}
 use Rattle.pair_entries.specs.Payload.{Next, entry_bytes, payload_on}
 use Rattle.pair_entries.specs.Birth.{birth_bytes}
-use Rattle.pair_journal.specs.Numbers.{GoesOn, first_numbers, numbers_before, numbers_after}
+use Rattle.pair_journal.specs.Numbers.{GoesOn, first_numbers, numbers_before}
 use Rattle.pair_journal.specs.Days.{dated, day_after, day_number, payload_behind}
 use Rattle.pair_journal.specs.Journal.{Born, Refused}
 use Rattle.pair_journal.specs.Calls.{payloads_of}

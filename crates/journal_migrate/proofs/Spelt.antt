@@ -1,5 +1,5 @@
 -- The payloads of a journal of format 1, or some of them.
-use Rattle.std.proofs.Common.{◌≡◌, ℕ, zero, suc, ◌+◌, List, [], ◌∷◌, ◌++◌, length, take, drop, map}
+use Rattle.std.proofs.Common.{◌≡◌, ℕ, zero, suc, ◌+◌, List, [], ◌∷◌, ◌++◌, take, drop, map}
 use Rattle.std.proofs.Common.{refl, sym, ◌∙◌, ap, subst, arith}
 use Rattle.std.proofs.lemmas.List.{take-map}
 use Rattle.order_meaning.specs.declared.names.Names.{Names}
@@ -11,7 +11,7 @@ use Rattle.pair_entries.proofs.Same.{same_entry}
 use Rattle.pair_journal.specs.Numbers.{first_numbers, numbers_after}
 use Rattle.pair_journal.specs.Journal.{DaysGoOn}
 use Rattle.pair_journal.proofs.Walking.{head_of}
-use Rattle.journal_migrate.specs.Format1.{birth1_bytes, payloads1_of, Spells1, AreSpelt1}
+use Rattle.journal_migrate.specs.Format1.{birth1_bytes, AreSpelt1}
 use Rattle.journal_migrate.specs.Walk.{Follows1}
 
 -- the birth record of format 2 is that of format 1 under another mark

@@ -1,6 +1,6 @@
 -- A journal of format 1 beside its image in format 2.
-use Rattle.std.proofs.Common.{◌≡◌, ℕ, ◌+◌, ◌-◌, ◌*◌, ◌<◌, ◌≤◌, List, [], ◌∷◌, ◌++◌, length, map}
-use Rattle.std.proofs.Common.{refl, sym, ◌∙◌, ap, arith, length-append}
+use Rattle.std.proofs.Common.{◌≡◌, ℕ, ◌+◌, ◌-◌, ◌*◌, ◌<◌, ◌≤◌, List, [], ◌∷◌, length, map}
+use Rattle.std.proofs.Common.{refl, ◌∙◌, ap, arith, length-append}
 use Rattle.std.proofs.lemmas.List.{length-map}
 use Rattle.order_meaning.specs.declared.names.Names.{Names}
 use Rattle.outside.specs.declared.disk.TheConstants.{MAX_DISK}
@@ -9,7 +9,7 @@ use Rattle.gate_log.specs.Log.{StandsOver}
 use Rattle.gate_log.specs.State.{LogState}
 use Rattle.gate_log.proofs.Blocks.{Stands-unique}
 use Rattle.pair_entries.specs.declared.entry.Entry.{Entry}
-use Rattle.pair_entries.specs.Payload.{Next, entry_bytes, payload_on}
+use Rattle.pair_entries.specs.Payload.{Next, entry_bytes}
 use Rattle.pair_entries.specs.Birth.{birth_bytes}
 use Rattle.pair_entries.proofs.Names.{birth_size}
 use Rattle.pair_entries.proofs.Fronts.{entry_short}

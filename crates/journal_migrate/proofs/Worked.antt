@@ -1,5 +1,5 @@
 -- A journal in both formats, by computation alone.
-use Rattle.std.proofs.Common.{◌≡◌, ◌+◌, [], ◌∷◌, ◌++◌, ℕ, List, length, take, true, false, None}
+use Rattle.std.proofs.Common.{◌≡◌, ◌+◌, [], ◌∷◌, ℕ, List, length, take, true, false, None}
 use Rattle.std.proofs.Common.{refl}
 use Rattle.std.specs.Prelude.{codes, map, ◌==◌, if◌then◌else◌}
 use Rattle.order_meaning.specs.declared.names.Names.{Names}

@@ -1,4 +1,4 @@
-use Rattle.std.proofs.Common.{◌≡◌, ◌+◌, ◌<◌, ◌^◌, ℕ, length, refl, sym, subst, arith, List}
+use Rattle.std.proofs.Common.{◌≡◌, ◌+◌, ℕ, length, refl, sym, subst, arith}
 use Rattle.gate_log.specs.Log.{ReadsPayload}
 use Rattle.pair_entries.specs.Payload.{Next}
 use Rattle.pair_entries.proofs.Fronts.{at_none, at_some}
