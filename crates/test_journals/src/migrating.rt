@@ -37,9 +37,9 @@ const JOURNALS: [(&str, &[(u32, &[u8])], Option<u64>); 5] = [
 
 /// Appends a record.
 fn push_record(bytes: &mut Vec<u8>, front: &[u8], payload: &[u8]) -> Result<(), AllocError> {
-    let len = (front.len() + payload.len()) as u32;
+    let len = (front.len() + payload.len()).to_be_bytes();
     bytes.push(1)?;
-    bytes.extend_from_slice(&len.to_be_bytes())?;
+    bytes.extend_from_slice(&len[4..])?;
     bytes.extend_from_slice(front)?;
     bytes.extend_from_slice(payload)
 }
