@@ -84,8 +84,9 @@ pub struct Stamp {
     pub frac: Fraction,
 }
 
-/// Whether bytes have the form of whole seconds.
-#[inline(always)]
+/// Whether bytes have the form of whole seconds. It stands once for all forms, so that its loops over
+/// patterns of known length are unrolled.
+#[inline(never)]
 fn has_seconds(bytes: &[u8]) -> bool
     ensures { result ≡ has_pattern (codes "YYYYMMDD-HH:MM:SS") bytes.now }
 {
