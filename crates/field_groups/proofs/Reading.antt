@@ -133,12 +133,22 @@ tag_tests bytes n digits le few some first next =
     let count = next_is bytes n digits le next in
     rw count (good_tests n (get_or bytes 0 0) (get_or bytes n 0) some few first next)
 
+not_zero : (first : ℕ) → 49 ≤ first → first ≢ 48
+not_zero first lead = λ zero. absurd (omega (arith, lead, zero))
+
 -- two digits, and `=` behind them
 pub two_tests : (bytes : List ℕ) → list_all is_ascii_digit (take 2 bytes) ≡ true
-    → 2 ≤ length bytes → get_or bytes 0 0 ≢ 48 → get_or bytes 2 0 ≡ 61
+    → 2 ≤ length bytes → 49 ≤ get_or bytes 0 0 → get_or bytes 2 0 ≡ 61
     → (has_tag bytes ≡ true) × (is_tag_good bytes ≡ true)
 two_tests bytes digits le first next =
-    tag_tests bytes 2 digits le (omega arith) (omega arith) first next
+    tag_tests bytes 2 digits le (omega arith) (omega arith) (not_zero (get_or bytes 0 0) first) next
+
+-- the same of three digits
+pub three_tests : (bytes : List ℕ) → list_all is_ascii_digit (take 3 bytes) ≡ true
+    → 3 ≤ length bytes → 49 ≤ get_or bytes 0 0 → get_or bytes 3 0 ≡ 61
+    → (has_tag bytes ≡ true) × (is_tag_good bytes ≡ true)
+three_tests bytes digits le first next =
+    tag_tests bytes 3 digits le (omega arith) (omega arith) (not_zero (get_or bytes 0 0) first) next
 
 and_false : (b : Bool) → (b && false) ≡ false
 and_false true = refl

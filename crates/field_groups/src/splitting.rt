@@ -74,6 +74,20 @@ fn digit_at(bytes: &[u8], place: usize) -> Option<u32>
     }
 }
 
+/// The digit at the front, where one stands there that is not 0.
+#[inline(always)]
+fn lead_digit(bytes: &[u8]) -> Option<u32>
+    ensures some { IfSome result (λ digit. is_ascii_digit (slice_index bytes.now 0) ≡ true) }
+    ensures digit { IfSome result (λ digit. digit ≡ slice_index bytes.now 0 - 48) }
+    ensures small { IfSome result (λ digit. digit ≤ 9) }
+    ensures lead { IfSome result (λ digit. 49 ≤ slice_index bytes.now 0) }
+{
+    match digit_at(bytes, 0) {
+        None => None,
+        Some(digit) => if digit == 0 { None } else { Some(digit) },
+    }
+}
+
 /// Whether `=` stands at a place.
 #[inline(always)]
 fn is_equals_at(bytes: &[u8], place: usize) -> bool
@@ -123,7 +137,8 @@ fn good_tag(bytes: &[u8]) -> Option<(u32, &[u8])>
     Some((tag, &bytes[len + 1..]))
 }
 
-/// The number of the two digits at the front, where `=` stands behind them.
+/// The number of the two digits at the front, of which the first is not 0, where `=` stands behind
+/// them.
 #[inline(always)]
 fn two_digits(bytes: &[u8]) -> Option<u32>
     ensures digits { IfSome result (λ number. IsTrue (list_all is_ascii_digit (take 2 bytes.now))) }
@@ -131,11 +146,12 @@ fn two_digits(bytes: &[u8]) -> Option<u32>
     ensures all { IfSome result (λ number. 2 ≡ digit_count bytes.now) }
     ensures value { IfSome result (λ number. number ≡ digits_value 10 (take 2 bytes.now)) }
     ensures equals { IfSome result (λ number. slice_index bytes.now 2 ≡ 61) }
+    ensures lead { IfSome result (λ number. 49 ≤ slice_index bytes.now 0) }
 {
     if !is_equals_at(bytes, 2) {
         return None;
     }
-    match digit_at(bytes, 0) {
+    match lead_digit(bytes) {
         None => None,
         Some(ten) => match digit_at(bytes, 1) {
             None => None,
@@ -154,13 +170,46 @@ fn short_tag(bytes: &[u8]) -> Option<(u32, &[u8])>
 {
     match two_digits(bytes) {
         None => None,
-        Some(tag) => {
-            if bytes[0] == b'0' {
-                None
-            } else {
-                Some((tag, &bytes[3..]))
-            }
-        }
+        Some(tag) => Some((tag, &bytes[3..])),
+    }
+}
+
+/// The number of the three digits at the front, likewise.
+#[inline(always)]
+fn three_digits(bytes: &[u8]) -> Option<u32>
+    ensures digits { IfSome result (λ number. IsTrue (list_all is_ascii_digit (take 3 bytes.now))) }
+    ensures within { IfSome result (λ number. 3 ≤ length bytes.now) }
+    ensures all { IfSome result (λ number. 3 ≡ digit_count bytes.now) }
+    ensures value { IfSome result (λ number. number ≡ digits_value 10 (take 3 bytes.now)) }
+    ensures equals { IfSome result (λ number. slice_index bytes.now 3 ≡ 61) }
+    ensures lead { IfSome result (λ number. 49 ≤ slice_index bytes.now 0) }
+{
+    if !is_equals_at(bytes, 3) {
+        return None;
+    }
+    match lead_digit(bytes) {
+        None => None,
+        Some(hundred) => match digit_at(bytes, 1) {
+            None => None,
+            Some(ten) => match digit_at(bytes, 2) {
+                None => None,
+                Some(one) => Some(100 * hundred + 10 * ten + one),
+            },
+        },
+    }
+}
+
+/// A good tag of three digits at the front, and what is left after its `=`.
+#[inline(always)]
+fn longer_tag(bytes: &[u8]) -> Option<(u32, &[u8])>
+    ensures good { IfSome result
+        (λ tag. (has_tag bytes.now ≡ true) × (is_tag_good bytes.now ≡ true)) }
+    ensures tag { IfSome result (λ tag. tag.0 ≡ front_tag bytes.now) }
+    ensures rest { IfSome result (λ tag. tag.1.now ≡ after_tag bytes.now) }
+{
+    match three_digits(bytes) {
+        None => None,
+        Some(tag) => Some((tag, &bytes[4..])),
     }
 }
 
@@ -191,6 +240,9 @@ fn tag_at(place: usize, bytes: &[u8]) -> Result<(u32, &[u8]), SplitFault>
     ensures fault { IfErr result (λ e. (before : Option Field) → NoField place before bytes.now e) }
 {
     if let Some(tag) = short_tag(bytes) {
+        return Ok(tag);
+    }
+    if let Some(tag) = longer_tag(bytes) {
         return Ok(tag);
     }
     match good_tag(bytes) {
