@@ -120,7 +120,7 @@ pub fn put_tag(out: &mut Vec<u8>, tag: u32) -> Result<(), AllocError>
 }
 
 /// Appends a field as it is written: its tag in digits, `=`, its value, SOH. (FIX 4.2, "Field
-/// Delimiter".)
+/// Delimiter".) Many values are codes, which are put without a copy of bytes.
 ///
 /// # Errors
 ///
@@ -130,7 +130,10 @@ pub fn put_field(out: &mut Vec<u8>, tag: u32, value: &[u8]) -> Result<(), AllocE
     ensures done { OnOk result (out.new.items ≡ out.old.items ++ field_bytes (tag, value.now)) }
     ensures kept { StartsWith out.new.items out.old.items }
 {
-    put_known(out, tag, value)
+    match value {
+        [byte] => put_byte(out, tag, *byte),
+        _ => put_known(out, tag, value),
+    }
 }
 
 /// Appends a field whose tag the caller knows: its digits are then known as well.
