@@ -11,13 +11,16 @@ ghost use Rattle.message_tables.specs.Plain.{with_place};
 ghost use Rattle.first_faults.specs.OnePass.{AreGoodPlaces, Fit, ItemFit, ItemsFit, MembersFit};
 ghost use Rattle.message_tables.specs.FirstFault.{first_fault, marked, once_in};
 ghost use Rattle.message_tables.specs.Stages.{IsFound};
+ghost use Rattle.message_tables.specs.TagMarks.{AreOnceMarked};
 ghost use Rattle.row_values.specs.CodeKinds.{kind_of};
 ghost use Rattle.row_values.specs.Kinds.{judge};
 ghost use Rattle.first_faults.specs.Faults.{of_split, of_table};
 ghost use Rattle.first_faults.specs.Gives.{IsClean};
 
 use field_groups::{Fields, Split, SplitFault};
-use message_tables::{Found, Item, Mark, RepeatingGroup, Row, Standing, Table, TableFault};
+use message_tables::{
+    Found, Item, Mark, RepeatingGroup, Row, Standing, Table, TableFault, TagMarks,
+};
 use order_meaning::Fault;
 use row_values::Kind;
 
@@ -261,12 +264,13 @@ fn is_first(fields: &Fields<'_>, tag: u32, place: usize) -> bool
 
 /// Whether the field at a place is good where it is not the first one of a row. Most such fields
 /// are those of the further lines of a group, and those without a row.
-fn is_loose(table: &Table<Kind>, fields: &Fields<'_>, place: usize) -> bool
+fn is_loose(table: &Table<Kind>, once: &TagMarks, fields: &Fields<'_>, place: usize) -> bool
+    requires { AreOnceMarked (code_table (λ k. k) table.now) once.now }
     ensures { IsTrue result → IsLoose judge fields.now (code_table kind_of table.now) place }
 {
     match fields.at(place) {
         None => false,
-        Some((tag, value)) => match table.standing(tag) {
+        Some((tag, value)) => match table.standing(once, tag) {
             Standing::Again(row) => value_fits(row, fields, value),
             Standing::WithoutRow => is_good(table.without_row(tag, value)),
             Standing::Once => {
@@ -281,8 +285,9 @@ fn is_loose(table: &Table<Kind>, fields: &Fields<'_>, place: usize) -> bool
 fn are_good(table: &Table<Kind>, fields: &Fields<'_>, rowed: &Rowed) -> bool
     ensures { IsTrue result → AreGoodPlaces (code_table kind_of table.now) fields.now rowed.now }
 {
+    let once = table.once_marks();
     for place in 0..fields.len() {
-        if !rowed[place] && !is_loose(table, fields, place) {
+        if !rowed[place] && !is_loose(table, &once, fields, place) {
             return false;
         }
     }

@@ -9,4 +9,3 @@ pub mod Members
 pub mod ByPlace
 pub mod OnePass
 pub mod TagMarks
-pub mod TagStanding

@@ -1,9 +1,9 @@
 -- The first answer of the items of a list, and whether one passes a test, as a loop finds it.
-use Rattle.std.proofs.Common.{◌≡◌, ℕ, suc, ◌+◌, ◌-◌, ◌<◌, ◌≤◌, List, [], ◌∷◌, ◌++◌, length}
+use Rattle.std.proofs.Common.{◌≡◌, ℕ, suc, ◌+◌, ◌<◌, ◌≤◌, List, [], ◌∷◌, ◌++◌, length}
 use Rattle.std.proofs.Common.{get_or, take, drop, Option, Some, None, Bool, true, false, refl, sym}
 use Rattle.std.proofs.Common.{ap, ◌∙◌, arith}
 use Rattle.std.proofs.Math.Seq.{split_at}
-use Rattle.std.proofs.lemmas.List.{length-drop, take_all, take_more}
+use Rattle.std.proofs.lemmas.List.{take_all, take_more}
 use Rattle.std.proofs.lemmas.List.Folds.{list_any-append}
 use Rattle.std.specs.List.{list_any}
 use Rattle.message_tables.specs.Tables.{or_else, first_of}
@@ -64,21 +64,6 @@ module _ {X : Type 0} (p : X → Bool) where
   pub any_ended : (xs : List X) (i : ℕ)
       → length xs ≤ i → list_any p (take i xs) ≡ false → list_any p xs ≡ false
   any_ended xs i le before = ap (list_any p) (sym (take_all i xs le)) ∙ before
-
-  -- none of those up to one passes, so what passes stands behind it
-  pub any_behind : (xs : List X) (i : ℕ) (x : X) → x ≡ get_or xs i x → i < length xs
-      → list_any p (take i xs) ≡ false → p x ≡ false
-      → list_any p xs ≡ list_any p (take (length xs - (i + 1)) (drop (i + 1) xs))
-  any_behind xs i x at lt before none =
-      let behind = take (length xs - (i + 1)) (drop (i + 1) xs) in
-      let next : suc i ≡ i + 1 = omega arith in
-      let rest : drop (suc i) xs ≡ behind =
-      ap (λ (n : ℕ). drop n xs) next
-      ∙ sym (take_all (length xs - (i + 1)) (drop (i + 1) xs) (simp length-drop (omega arith))) in
-      let whole : xs ≡ take i xs ++ x ∷ behind =
-      split_at xs i x lt ∙ ap (λ y. take i xs ++ y ∷ drop (suc i) xs) (sym at)
-      ∙ ap (λ (r : List X). take i xs ++ x ∷ r) rest in
-      ap (list_any p) whole ∙ list_any-append p (take i xs) (x ∷ behind) ∙ rw (before, none) refl
 
 pub alone : {A : Type 0} (p : Option A) → p ≡ or_else p None
 alone None = refl

@@ -1,23 +1,28 @@
--- Marks of tags, by their remainders by 64.
+-- Marks of tags, by their remainders by 512.
 use Rattle.std.proofs.Common.{◌≡◌, ℕ, zero, suc, ◌+◌, ◌<◌, Bool, true, false, eqb, List, [], ◌∷◌}
 use Rattle.std.proofs.Common.{◌++◌, length, get_or, take, map, replicate, refl, sym, ap, ◌∙◌, arith}
 use Rattle.std.specs.Prelude.{◌%◌, ◌||◌}
 use Rattle.std.proofs.Math.ListN.{set}
-use Rattle.std.proofs.lemmas.List.{get_or-set_same, length-set, map_more, take_more}
+use Rattle.std.specs.List.{flat_map}
+use Rattle.std.proofs.lemmas.Grind.{flat_map-append}
+use Rattle.std.proofs.lemmas.List.{append-nil, get_or-set_same, length-set, map_more, take_more}
 use Rattle.std.proofs.lemmas.Nat.{mod_below}
 use Rattle.std.proofs.lemmas.Bool.Decides.{nat_tests}
 use Rattle.message_tables.specs.declared.table.Row.{Row as CodeRow}
+use Rattle.message_tables.specs.declared.table.Item.{Item as CodeItem}
 use Rattle.message_tables.specs.declared.table.RepeatingGroup.{RepeatingGroup as CodeGroup}
-use Rattle.message_tables.specs.Tables.{is_one_of, tags_of}
-use Rattle.message_tables.specs.CodeTables.{own_tags, row_of}
-use Rattle.message_tables.specs.TagMarks.{AreMarked, is_marked, with_tags}
+use Rattle.message_tables.specs.declared.table.Table.{Table as CodeTable}
+use Rattle.message_tables.specs.Tables.{Table, is_one_of, tags_of}
+use Rattle.message_tables.specs.FirstFault.{once_in, once_of}
+use Rattle.message_tables.specs.CodeTables.{item_of, own_tags, row_of, table_of}
+use Rattle.message_tables.specs.TagMarks.{AreMarked, AreOnceMarked, is_marked, with_tags}
 
 -- ---- lists of tags
 
 with_tags-append : (xs ys : List ℕ) (marks : List Bool)
     → with_tags (xs ++ ys) marks ≡ with_tags ys (with_tags xs marks)
 with_tags-append [] ys marks = refl
-with_tags-append (x ∷ xs) ys marks = with_tags-append xs ys (set marks (x % 64) true)
+with_tags-append (x ∷ xs) ys marks = with_tags-append xs ys (set marks (x % 512) true)
 
 -- what is marked stays marked
 set_keeps : (marks : List Bool) (i j : ℕ) → get_or marks j false ≡ true
@@ -32,34 +37,34 @@ with_tags-keeps : (tags : List ℕ) (marks : List Bool) (j : ℕ) → get_or mar
     → get_or (with_tags tags marks) j false ≡ true
 with_tags-keeps [] marks j h = h
 with_tags-keeps (tag ∷ tags) marks j h =
-    with_tags-keeps tags (set marks (tag % 64) true) j (set_keeps marks (tag % 64) j h)
+    with_tags-keeps tags (set marks (tag % 512) true) j (set_keeps marks (tag % 512) j h)
 
 with_tags-length : (tags : List ℕ) (marks : List Bool)
     → length (with_tags tags marks) ≡ length marks
 with_tags-length [] marks = refl
 with_tags-length (tag ∷ tags) marks =
-    with_tags-length tags (set marks (tag % 64) true) ∙ length-set marks (tag % 64) true
+    with_tags-length tags (set marks (tag % 512) true) ∙ length-set marks (tag % 512) true
 
 -- a tag of the list is marked
-tag_marked : (tags : List ℕ) (marks : List Bool) (tag : ℕ) → length marks ≡ 64
+tag_marked : (tags : List ℕ) (marks : List Bool) (tag : ℕ) → length marks ≡ 512
     → is_one_of tags tag ≡ true → is_marked (with_tags tags marks) tag ≡ true
 tag_marked [] marks tag whole there = absurd cc
 tag_marked (one ∷ tags) marks tag whole there =
-    by (eqb one tag) refl (tag_marked tags more tag (length-set marks (one % 64) true ∙ whole))
+    by (eqb one tag) refl (tag_marked tags more tag (length-set marks (one % 512) true ∙ whole))
     there
   where
     more : List Bool
-    more = set marks (one % 64) true
+    more = set marks (one % 512) true
 
     by : (b : Bool) → eqb one tag ≡ b
         → (is_one_of tags tag ≡ true → is_marked (with_tags tags more) tag ≡ true)
         → (b || is_one_of tags tag) ≡ true → is_marked (with_tags tags more) tag ≡ true
     by true e later there =
         let same : one ≡ tag = grind (arith, nat_tests) in
-        let within : one % 64 < length marks = rw whole (mod_below one 64 (omega arith)) in
+        let within : one % 512 < length marks = rw whole (mod_below one 512 (omega arith)) in
         let here : is_marked more one ≡ true =
-        get_or-set_same marks (one % 64) true false within in
-        with_tags-keeps tags more (tag % 64) (rw (← same) here)
+        get_or-set_same marks (one % 512) true false within in
+        with_tags-keeps tags more (tag % 512) (rw (← same) here)
     by false e later there = later there
 
 -- ---- a loop over tags, and one over rows
@@ -96,24 +101,68 @@ module _ {K : Type 0} where
   row_tags (row ∷ rows) = ap (λ (tags : List ℕ). row.tag ∷ tags) (row_tags rows)
 
   pub are_marked : (group : CodeGroup K) (rows marks : List Bool)
-      → rows ≡ with_tags (map tag_of group.rows.now) (replicate 64 false)
+      → rows ≡ with_tags (map tag_of group.rows.now) (replicate 512 false)
       → marks ≡ with_tags group.skipped.now rows → AreMarked (own_tags group) marks
   are_marked group rows marks rows_are marks_are tag inside =
       by (is_one_of (own_tags group).members tag) refl inside
     where
-      whole : length rows ≡ 64
+      whole : length rows ≡ 512
       whole = ap length rows_are
-          ∙ with_tags-length (map tag_of group.rows.now) (replicate 64 false)
+          ∙ with_tags-length (map tag_of group.rows.now) (replicate 512 false)
 
-      as_members : rows ≡ with_tags (own_tags group).members (replicate 64 false)
-      as_members = rows_are ∙ ap (λ (tags : List ℕ). with_tags tags (replicate 64 false))
+      as_members : rows ≡ with_tags (own_tags group).members (replicate 512 false)
+      as_members = rows_are ∙ ap (λ (tags : List ℕ). with_tags tags (replicate 512 false))
           (row_tags group.rows.now)
 
       by : (b : Bool) → is_one_of (own_tags group).members tag ≡ b
           → (b || is_one_of group.skipped.now tag) ≡ true → is_marked marks tag ≡ true
       by true member inside =
-          rw marks_are (with_tags-keeps group.skipped.now rows (tag % 64)
+          rw marks_are (with_tags-keeps group.skipped.now rows (tag % 512)
           (rw as_members
-          (tag_marked (own_tags group).members (replicate 64 false) tag refl member)))
+          (tag_marked (own_tags group).members (replicate 512 false) tag refl member)))
       by false member inside =
           rw marks_are (tag_marked group.skipped.now rows tag whole inside)
+
+  -- ---- the tags that stand at most once in a message
+
+  abbrev once : CodeItem K → List ℕ
+  once item = once_of (item_of (λ (k : K). k) item)
+
+  pub next_item : (items : List (CodeItem K)) (i : ℕ) (item : CodeItem K) (old mid new : List Bool)
+      → item ≡ get_or items i item → i < length items
+      → mid ≡ with_tags (flat_map once (take i items)) old
+      → new ≡ with_tags (once item) mid
+      → new ≡ with_tags (flat_map once (take (i + 1) items)) old
+  next_item items i item old mid new at lt so_far is =
+      let more : flat_map once (take (i + 1) items) ≡ flat_map once (take i items) ++ once item =
+      ap (flat_map once) (take_more items i item lt
+      ∙ ap (λ (x : CodeItem K). take i items ++ x ∷ []) (sym at))
+      ∙ flat_map-append once (take i items) (item ∷ [])
+      ∙ ap (λ (last : List ℕ). flat_map once (take i items) ++ last) (append-nil (once item)) in
+      is ∙ ap (with_tags (once item)) so_far
+      ∙ sym (with_tags-append (flat_map once (take i items)) (once item) old)
+      ∙ ap (λ (tags : List ℕ). with_tags tags old) (sym more)
+
+  item_tags : (items : List (CodeItem K))
+      → flat_map once items ≡ flat_map once_of (map (item_of (λ (k : K). k)) items)
+  item_tags [] = refl
+  item_tags (item ∷ items) = ap (λ (tags : List ℕ). once item ++ tags) (item_tags items)
+
+  pub once_marked : (table : CodeTable K) (header marks : List Bool)
+      → header ≡ with_tags (map tag_of table.header.now) (replicate 512 false)
+      → marks ≡ with_tags (flat_map once table.items.now) header
+      → AreOnceMarked (table_of (λ (k : K). k) table) marks
+  once_marked table header marks header_is marks_are tag there =
+      rw whole (tag_marked (once_in own) (replicate 512 false) tag refl there)
+    where
+      own : Table K
+      own = table_of (λ (k : K). k) table
+
+      whole : marks ≡ with_tags (once_in own) (replicate 512 false)
+      whole = marks_are ∙ ap (with_tags (flat_map once table.items.now)) header_is
+          ∙ sym (with_tags-append (map tag_of table.header.now) (flat_map once table.items.now)
+          (replicate 512 false))
+          ∙ ap (λ (tags : List ℕ). with_tags (tags ++ flat_map once table.items.now)
+          (replicate 512 false)) (row_tags table.header.now)
+          ∙ ap (λ (tags : List ℕ). with_tags (tags_of own.header ++ tags) (replicate 512 false))
+          (item_tags table.items.now)

@@ -16,3 +16,4 @@ pub use lookup::{Line, Lookup, field_at, stands, value};
 pub use stages::Found;
 pub use table::{Item, Need, RepeatingGroup, Row, Standing, Table, Test};
 pub use table_fault::{Mark, TableFault};
+pub use tag_marks::TagMarks;

@@ -1,6 +1,7 @@
 //! Tables of messages, as the code has them.
 
 ghost use Rattle.std.specs.Prelude.{◌≡◌, ◌==◌};
+ghost use Rattle.message_tables.specs.TagMarks.{AreOnceMarked};
 ghost use Rattle.message_tables.specs.TagStanding.{IsStanding};
 ghost use Rattle.std.specs.Option.{option_map};
 ghost use Rattle.std.specs.List.{find, list_all, list_any};
@@ -14,6 +15,7 @@ ghost use Rattle.message_tables.specs.Plain.{lacks, lacks_group};
 
 use crate::lookup::{Lookup, is_among, lacks};
 use crate::table_fault::Mark;
+use crate::tag_marks::TagMarks;
 use field_groups::{Field, Fields};
 
 /// SessionRejectReason(373): tag specified without a value.
@@ -286,25 +288,18 @@ impl<K> Table<K> {
         None
     }
 
-    /// How a tag may stand in a message.
-    pub fn standing(&self, tag: u32) -> Standing<'_, K>
+    /// How a tag may stand in a message, where the tags that stand at most once are marked.
+    pub fn standing(&self, once: &TagMarks, tag: u32) -> Standing<'_, K>
+        requires { AreOnceMarked (table_of (λ k. k) self.now) once.now }
         ensures { IsStanding self.now tag result }
     {
-        if has_row(self.header, tag) {
+        if self.is_once_marked(once, tag) {
             return Standing::Once;
         }
-        for (place, item) in self.items.iter().enumerate() {
-            if item.is_once(tag) {
-                return Standing::Once;
-            }
-            if let Some(row) = item.row(tag) {
-                if is_once_in(&self.items[place + 1..], tag) {
-                    return Standing::Once;
-                }
-                return Standing::Again(row);
-            }
+        match self.row(tag) {
+            Some(row) => Standing::Again(row),
+            None => Standing::WithoutRow,
         }
-        Standing::WithoutRow
     }
 
     /// Whether a field without a row may be passed over: in a table that is not strict, and where

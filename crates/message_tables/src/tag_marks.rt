@@ -1,18 +1,21 @@
-//! Marks of the tags of a group, which tell of most tags outside it that they are none of its own.
+//! Marks of tags, those of a group or those that stand once in a message, which tell of most other
+//! tags that they are none of these.
 
 ghost use Rattle.std.specs.Prelude.{◌≡◌, [], ◌∷◌, map};
-ghost use Rattle.message_tables.specs.Tables.{is_inside};
-ghost use Rattle.message_tables.specs.CodeTables.{own_tags};
-ghost use Rattle.message_tables.specs.TagMarks.{AreMarked, is_marked, with_tags};
+ghost use Rattle.std.specs.List.{flat_map};
+ghost use Rattle.message_tables.specs.Tables.{is_inside, is_one_of};
+ghost use Rattle.message_tables.specs.FirstFault.{once_in, once_of};
+ghost use Rattle.message_tables.specs.CodeTables.{item_of, own_tags, table_of};
+ghost use Rattle.message_tables.specs.TagMarks.{AreMarked, AreOnceMarked, is_marked, with_tags};
 
-use crate::table::{RepeatingGroup, Row};
+use crate::table::{Item, RepeatingGroup, Row, Table};
 
 /// How many remainders there are.
-const REMAINDERS: usize = 64;
+const REMAINDERS: usize = 512;
 
-/// Marks of tags, by their remainders by 64: a tag whose remainder is not marked is none of those
+/// Marks of tags, by their remainders by 512: a tag whose remainder is not marked is none of those
 /// marked.
-pub(crate) type TagMarks = [bool; REMAINDERS];
+pub type TagMarks = [bool; REMAINDERS];
 
 /// Marks a tag.
 #[inline(always)]
@@ -42,6 +45,27 @@ fn mark_all(tags: &[u32], marks: &mut TagMarks)
     }
 }
 
+/// Marks the tag that stands at most once by an item, if there is one.
+fn mark_item<K>(item: &Item<K>, marks: &mut TagMarks)
+    ensures { marks.new ≡ with_tags (once_of (item_of (λ k. k) item.now)) marks.old }
+{
+    match item {
+        Item::One(row) => mark(marks, row.tag),
+        Item::Party(_) => {}
+        Item::Lines(group) => mark(marks, group.count),
+    }
+}
+
+/// Marks the tags that stand at most once by items.
+fn mark_items<K>(items: &[Item<K>], marks: &mut TagMarks)
+    ensures { marks.new
+        ≡ with_tags (flat_map (λ item. once_of (item_of (λ k. k) item)) items.now) marks.old }
+{
+    for item in items {
+        mark_item(item, marks);
+    }
+}
+
 /// Whether the remainder of a tag is marked.
 #[inline(always)]
 fn is_marked(marks: &TagMarks, tag: u32) -> bool
@@ -68,5 +92,26 @@ impl<K> RepeatingGroup<K> {
         ensures { result ≡ is_inside (own_tags self.now) tag }
     {
         is_marked(marks, tag) && self.has(tag)
+    }
+}
+
+impl<K> Table<K> {
+    /// The marks of the tags that stand at most once in a message.
+    pub fn once_marks(&self) -> TagMarks
+        ensures { AreOnceMarked (table_of (λ k. k) self.now) result }
+    {
+        let mut marks = [false; REMAINDERS];
+        mark_rows(self.header, &mut marks);
+        mark_items(self.items, &mut marks);
+        marks
+    }
+
+    /// Whether a tag stands at most once in a message, where those that do are marked.
+    #[inline(always)]
+    pub(crate) fn is_once_marked(&self, once: &TagMarks, tag: u32) -> bool
+        requires { AreOnceMarked (table_of (λ k. k) self.now) once.now }
+        ensures { result ≡ is_one_of (once_in (table_of (λ k. k) self.now)) tag }
+    {
+        is_marked(once, tag) && self.is_once(tag)
     }
 }
