@@ -1,7 +1,7 @@
 //! The first fault of a message's fields beside their table.
 
 ghost use Rattle.std.specs.Prelude.{◌≡◌, ◌==◌, ◌&&◌, IsTrue, None, Some, false, map, position};
-ghost use Rattle.std.specs.Prelude.{IfNone, IfSome, take};
+ghost use Rattle.std.specs.Prelude.{◌≤◌, IfNone, IfSome, take};
 ghost use Rattle.std.specs.List.{list_all};
 ghost use Rattle.message_tables.specs.Tables.{Lines, has_tag, is_one_of};
 ghost use Rattle.message_tables.specs.CodeTables.{group_of, item_of, row_of};
@@ -247,9 +247,10 @@ fn items_fit(items: &[Item<Kind>], fields: &Fields<'_>, rowed: &mut Rowed) -> bo
 
 /// Whether the first places are all marked.
 fn are_marked(rowed: &Rowed, count: usize) -> bool
+    requires { count ≤ MAX_FIELDS }
     ensures { result ≡ list_all (λ one. one) (take count rowed.now) }
 {
-    rowed.iter().take(count).all(|one| *one)
+    rowed[..count].iter().all(|one| *one)
 }
 
 /// Whether the field at a place is the first one of its tag.
