@@ -9,7 +9,8 @@ ghost use Rattle.field_groups.specs.Field.{body_of};
 ghost use Rattle.message_tables.specs.Content.{cell_fields};
 ghost use Rattle.message_tables.specs.Tables.{Tag};
 ghost use Rattle.row_values.specs.CodeKinds.{kind_of};
-ghost use Rattle.rule_rows.specs.Texts.{byte_of, decimal_of, decimal_text, kept, number_of};
+ghost use Rattle.rule_rows.specs.Texts.{byte_of, decimal_of, decimal_text, kept, kept_by};
+ghost use Rattle.rule_rows.specs.Texts.{number_of};
 
 use crate::group_lines::put_text;
 use field_groups::Fields;
@@ -50,16 +51,25 @@ pub fn number_of(text: Option<&[u8]>) -> Option<Number>
     }
 }
 
-/// The value of a tag, where it is of the profile of a kind.
+/// A text, where it is of the profile of a kind.
+#[inline(never)]
+fn kept_by<'f>(fields: &Fields<'_>, kind: &Kind, text: &'f [u8]) -> Option<&'f [u8]>
+    ensures { option_map (λ t. t.now) result ≡ kept_by fields.now (kind_of kind.now) text.now }
+{
+    match kind.judge(fields, text) {
+        Mark::Good => Some(text),
+        _ => None,
+    }
+}
+
+/// The value of a tag, where it is of the profile of a kind. Where none stands, no call is made.
+#[inline(always)]
 pub fn kept<'f>(fields: &'f Fields<'_>, tag: u32, kind: &Kind) -> Option<&'f [u8]>
     ensures { option_map (λ t. t.now) result ≡ kept fields.now tag (kind_of kind.now) }
 {
     match fields.value(tag) {
         None => None,
-        Some(text) => match kind.judge(fields, text) {
-            Mark::Good => Some(text),
-            _ => None,
-        },
+        Some(text) => kept_by(fields, kind, text),
     }
 }
 
