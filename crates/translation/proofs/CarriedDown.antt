@@ -1,6 +1,7 @@
 -- A header that is carried down: its moments are cut, and all else is as it stands.
-use Rattle.std.proofs.Common.{◌≡◌, ℕ, List, [], ◌∷◌, Bool, true, false, Option, Some, None, refl}
-use Rattle.std.proofs.Common.{sym, ap, subst, ◌∙◌}
+use Rattle.std.proofs.Common.{◌≡◌, ◌≤◌, ℕ, List, [], ◌∷◌, Bool, true, false, Option, Some, None}
+use Rattle.std.proofs.Common.{length, refl, sym, ap, subst, ◌∙◌}
+use Rattle.std.proofs.lemmas.List.{take_all}
 use Rattle.std.specs.Prelude.{◌==◌, ◌&&◌, ◌||◌, Ok, if◌then◌else◌}
 use Rattle.std.proofs.lemmas.Bool.{eqb-true}
 use Rattle.std.specs.List.{AllByRecursion, find, slice_get}
@@ -18,6 +19,14 @@ use Rattle.sound_laws.proofs.SpelledAgain.{clear_front}
 use Rattle.translation.specs.Header.{carried_down, head_down, type_of}
 use Rattle.translation.proofs.CarriedHeader.{IsOwn, IsOwnHead}
 use Rattle.translation.proofs.Writable.{IsType, One as OneByte}
+
+-- a value that is short is carried as it stands
+pub short_stays : (tag : ℕ) (value : List ℕ) → length value ≤ 21 → value ≡ carried_down tag value
+short_stays tag value short = by ((tag == 52 || tag == 122) && is_ok (read_fine value))
+  where
+    by : (b : Bool) → value ≡ (if b then cut_text value else value)
+    by true = sym (take_all 21 value short)
+    by false = refl
 
 -- the first value of a tag
 pub value_down : (tag : ℕ) (fields : List Field)

@@ -21,10 +21,18 @@ pub fn msg_type<'a>(fields: &Fields<'a>) -> &'a [u8]
     }
 }
 
-/// What is carried of a value on the way down.
+/// The most bytes of a moment with no more digits of the second than three.
+const MILLIS: usize = 21;
+
+/// What is carried of a value on the way down. One that is no longer than a moment to its
+/// milliseconds has nothing to be cut.
+#[tactic(auto, using(crate::proofs::CarriedDown::short_stays))]
 fn carried_down(tag: u32, value: &[u8]) -> &[u8]
     ensures { result.now ≡ carried_down tag value.now }
 {
+    if value.len() <= MILLIS {
+        return value;
+    }
     if (tag == 52 || tag == 122) && Stamp::read_fine(value).is_ok() {
         cut_text(value)
     } else {
