@@ -6,6 +6,7 @@ pub mod Taking
 pub mod Front
 pub mod Determined
 pub mod Whole
+pub mod ByTag
 pub mod Lines
 pub mod Plain
 pub mod Grouped

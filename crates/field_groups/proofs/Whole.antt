@@ -94,21 +94,21 @@ front_written before left tag good end =
     ∙ sym (field_apart (front_field before left).0 (front_field before left).1)
 
 -- the same count and place
-moved : (n m p q : ℕ) (before : Option Field) (left : List ℕ) (fault : Option SplitFault)
+pub moved : (n m p q : ℕ) (before : Option Field) (left : List ℕ) (fault : Option SplitFault)
     → n ≡ m → p ≡ q → Stops n p before left fault → Stops m q before left fault
 moved n m p q before left fault counts places stops = subst (λ (k : ℕ). Stops k q before left fault)
     counts (subst (λ (k : ℕ). Stops n k before left fault) places stops)
 
 -- the fields of what is left of a body from this place on, after so many, the last of which is this
 -- one
-record Way (room count place : ℕ) (before : Option Field) (left : List ℕ) : Type 0 where
-  fields : List Field
-  rest : List ℕ
-  fault : Option SplitFault
-  good : AreFields before fields
-  at_most : length fields ≤ room
-  written : left ≡ body_of fields ++ rest
-  stopped : Stops
+pub record Way (room count place : ℕ) (before : Option Field) (left : List ℕ) : Type 0 where
+  pub fields : List Field
+  pub rest : List ℕ
+  pub fault : Option SplitFault
+  pub good : AreFields before fields
+  pub at_most : length fields ≤ room
+  pub written : left ≡ body_of fields ++ rest
+  pub stopped : Stops
       (count + length fields) (place + length (body_of fields)) (last_or before fields) rest fault
 
 none : (room count place : ℕ) (before : Option Field) (left : List ℕ) (fault : Option SplitFault)
@@ -174,7 +174,7 @@ by_tests room count place before left true true true tag_is good_is end_is lt so
     (front_written before left tag_is good_is end_is)
     (later f after (place + length (field_bytes f)))
 
-way : (room count : ℕ) (place : ℕ) (before : Option Field) (left : List ℕ)
+pub way : (room count : ℕ) (place : ℕ) (before : Option Field) (left : List ℕ)
     → room + count ≡ max_fields → Way room count place before left
 way room count place before [] is = none room count place before [] None refl
 way zero count place before (b ∷ bs) is =

@@ -4,7 +4,8 @@
 use Rattle.std.specs.Prelude.{◌≡◌, ℕ, ◌+◌, ◌<◌, ◌≤◌, Bool, true, false, not, nat_lt, nat_le, ◌==◌}
 use Rattle.std.specs.Prelude.{◌&&◌, List, [], ◌++◌, length, take, drop, Option, Some, None}
 use Rattle.std.specs.Prelude.{slice_index}
-use Rattle.std.specs.List.{list_any, prefix_len, last_or}
+use Rattle.std.specs.List.{find, list_any, prefix_len, last_or}
+use Rattle.std.specs.Option.{option_map}
 use Rattle.std.specs.Char.{is_ascii_digit}
 use Rattle.std.specs.Str.Parse.{digits_value}
 use Rattle.field_groups.specs.declared.fault.SplitFault.{SplitFault}
@@ -77,3 +78,7 @@ pub record SplitsInto (body : List ℕ) (fields : List Field) (fault : Option Sp
     pub at_most : length fields ≤ max_fields
     pub written : body ≡ body_of fields ++ left
     pub stopped : Stops (length fields) (length (body_of fields)) (last_or None fields) left fault
+
+-- the value of the first field of a tag
+abbrev pub value_of : ℕ → List Field → Option (List ℕ)
+value_of tag fields = option_map (λ f. f.1) (find (λ f. f.0 == tag) fields)

@@ -8,6 +8,7 @@
 mod data;
 mod fault;
 mod fields;
+mod finding;
 mod group;
 mod head_values;
 pub mod laws;
@@ -16,6 +17,7 @@ mod writing;
 
 pub use fault::SplitFault;
 pub use fields::{Field, Fields, SOH, Split};
+pub use finding::value_of;
 pub use group::{Group, GroupFault, MAX_LINES, Shape, read_group};
 pub use head_values::{is_type, number_in};
 pub use splitting::{split, split_into};

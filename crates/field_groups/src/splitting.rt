@@ -22,7 +22,7 @@ use memchr::memchr;
 use std::alloc::{AllocError, Global};
 
 /// The most fields of one body.
-const MAX_FIELDS: usize = 256;
+pub(crate) const MAX_FIELDS: usize = 256;
 
 /// The fields that the first growth of the list has room for: most messages have no more.
 const FIRST_ROOM: usize = 32;
@@ -319,7 +319,7 @@ fn data_at<'a>(said: &[u8], bytes: &'a [u8]) -> Option<(&'a [u8], &'a [u8])>
 /// this place of the body, directly behind the field before.
 #[inline(always)]
 #[tactic(auto, unfolding(crate::specs::Field::field_bytes))]
-fn field_at<'a>(
+pub(crate) fn field_at<'a>(
     place: usize,
     before: Option<(u32, &[u8])>,
     bytes: &'a [u8],
