@@ -34,7 +34,7 @@ pub(crate) fn read_front<D: Disk>(
     ensures only { (result ≡ Err LogError.Full) → ⊥ }
     ensures not_foreign { (at : ℕ) → (result ≡ Err (LogError.Foreign at)) → ⊥ }
 {
-    out.clear();
+    // Where it is long enough already, nothing is written twice.
     out.resize(most, 0)?;
     let count = disk.read_at(at, out.as_mut_slice())?;
     out.truncate(count);
