@@ -14,7 +14,7 @@ use Rattle.std.proofs.lemmas.Str.Parse.{IsNumeralModel, numerals_by_value}
 use Rattle.std.proofs.lemmas.Fmt.{digits_decimal, length-decimal-le}
 use Rattle.std.proofs.lemmas.Bool.Decides.{nat_tests}
 use Rattle.frame_grammar.specs.declared.frame.Kind.{Kind}
-use Rattle.frame_grammar.specs.declared.frame.Kind.TheVariants.{Fix42, Fixt11}
+use Rattle.frame_grammar.specs.declared.frame.Kind.TheVariants.{Fix42, Fix44, Fixt11}
 use Rattle.frame_grammar.specs.Frame.{IsBody, frame_of, front, opening, trailer}
 use Rattle.order_meaning.specs.declared.Side.{Side}
 use Rattle.order_meaning.specs.declared.Side.TheVariants.{Client, Venue}
@@ -225,6 +225,7 @@ round_is kind body few = (omega (arith, whole, last_of), omega (arith, whole, la
 
     open_short : (k : Kind) → length (opening k) ≤ 20
     open_short Fix42 = omega arith
+    open_short Fix44 = omega arith
     open_short Fixt11 = omega arith
 
     d : length (decimal (length body)) ≤ 7

@@ -6,7 +6,7 @@ use Rattle.std.specs.declared.option.Option.{Option}
 use Rattle.std.specs.Option.{option_map}
 use Rattle.std.proofs.lemmas.List.{take_min}
 use Rattle.frame_grammar.specs.declared.frame.Kind.{Kind}
-use Rattle.frame_grammar.specs.declared.frame.Kind.TheVariants.{Fix42, Fixt11}
+use Rattle.frame_grammar.specs.declared.frame.Kind.TheVariants.{Fix42, Fix44, Fixt11}
 use Rattle.frame_grammar.specs.declared.frame.Garble.{Garble}
 use Rattle.frame_grammar.specs.declared.frame.Span.{Span}
 use Rattle.frame_grammar.specs.declared.pieces.Next.{Next}
@@ -46,6 +46,7 @@ by_found (Broken cause after) stream p is = by_end cause stream (start_in (drop 
 -- nothing is the front of a message
 of_nothing : (k : Kind) (bytes : List ℕ) → bytes ≡ [] → first.More ≡ first_of (found k bytes)
 of_nothing Fix42 bytes none = sym (ap (λ s. first_of (found Fix42 s)) none)
+of_nothing Fix44 bytes none = sym (ap (λ s. first_of (found Fix44 s)) none)
 of_nothing Fixt11 bytes none = sym (ap (λ s. first_of (found Fixt11 s)) none)
 
 -- a stream of which no piece has come whole

@@ -12,7 +12,7 @@ use Rattle.std.proofs.lemmas.List.Elements.{All-tail, All-cons}
 use Rattle.std.specs.Char.{is_ascii_digit}
 use Rattle.std.specs.Str.Parse.{digits_value}
 use Rattle.frame_grammar.specs.declared.frame.Kind.{Kind}
-use Rattle.frame_grammar.specs.declared.frame.Kind.TheVariants.{Fix42, Fixt11}
+use Rattle.frame_grammar.specs.declared.frame.Kind.TheVariants.{Fix42, Fix44, Fixt11}
 use Rattle.frame_grammar.specs.declared.frame.Garble.{Garble}
 use Rattle.frame_grammar.specs.declared.frame.Garble.TheVariants.{BeginString, LengthField}
 use Rattle.frame_grammar.specs.declared.frame.Garble.TheVariants.{TypeField, Trailer}
@@ -356,6 +356,8 @@ shortest_body = codes "35=0" ++ 1 ∷ []
 start_found : (kind : Kind) → GoesOn (found_length (opening kind) []) []
 start_found Fix42 =
     (codes "5" ++ 1 ∷ codes "35=0" ++ 1 ∷ codes "10=161" ++ 1 ∷ [], shortest_body, refl)
+start_found Fix44 =
+    (codes "5" ++ 1 ∷ codes "35=0" ++ 1 ∷ codes "10=163" ++ 1 ∷ [], shortest_body, refl)
 start_found Fixt11 =
     (codes "5" ++ 1 ∷ codes "35=0" ++ 1 ∷ codes "10=241" ++ 1 ∷ [], shortest_body, refl)
 

@@ -8,7 +8,7 @@ use Rattle.std.proofs.lemmas.Bool.Decides.{nat_tests}
 use Rattle.std.specs.Char.{is_ascii_digit}
 use Rattle.std.specs.Str.Parse.{digits_value}
 use Rattle.frame_grammar.specs.declared.frame.Kind.{Kind}
-use Rattle.frame_grammar.specs.declared.frame.Kind.TheVariants.{Fix42, Fixt11}
+use Rattle.frame_grammar.specs.declared.frame.Kind.TheVariants.{Fix42, Fix44, Fixt11}
 use Rattle.frame_grammar.specs.declared.frame.Garble.{Garble}
 use Rattle.frame_grammar.specs.declared.frame.Garble.TheVariants.{BeginString, LengthField}
 use Rattle.frame_grammar.specs.declared.frame.Garble.TheVariants.{TypeField, Trailer}
@@ -148,6 +148,15 @@ short_bounded Fix42 bytes is = omega (
             (λ b2 i2. omega (arith, length_short (opening Fix42) [] b2 (omega arith) i2)) b1 i1,
       )) bytes is,
 )
+short_bounded Fix44 bytes is = omega (
+  arith,
+  expect_short (codes "8=FIX.4.4" ++ 1 ∷ [])
+      BeginString _ 8209 (λ b1 i1. omega (
+        arith,
+        expect_short (codes "9=") LengthField _ 8207
+            (λ b2 i2. omega (arith, length_short (opening Fix44) [] b2 (omega arith) i2)) b1 i1,
+      )) bytes is,
+)
 short_bounded Fixt11 bytes is = omega (
   arith,
   expect_short (codes "8=FIXT.1.1" ++ 1 ∷ [])
@@ -162,5 +171,6 @@ short_bounded Fixt11 bytes is = omega (
 pub broken_some : (kind : Kind) (bytes after : List ℕ) (cause : Garble)
     → found kind bytes ≡ Broken cause after → 1 ≤ length bytes
 broken_some Fix42 [] after cause is = absurd (cc is)
+broken_some Fix44 [] after cause is = absurd (cc is)
 broken_some Fixt11 [] after cause is = absurd (cc is)
 broken_some kind (b ∷ bytes) after cause is = omega arith

@@ -1,7 +1,7 @@
 -- Worked examples, by computation.
 use Rattle.std.specs.Prelude.{◌≡◌, ℕ, ◌==◌, if◌then◌else◌, List, [], ◌∷◌, ◌++◌, map, codes, refl}
 use Rattle.std.specs.Prelude.{Some, None, replicate}
-use Rattle.frame_grammar.specs.declared.frame.Kind.TheVariants.{Fix42, Fixt11}
+use Rattle.frame_grammar.specs.declared.frame.Kind.TheVariants.{Fix42, Fix44, Fixt11}
 use Rattle.frame_grammar.specs.declared.frame.Garble.TheVariants.{BeginString, LengthField, TooLong}
 use Rattle.frame_grammar.specs.declared.frame.Garble.TheVariants.{TypeField, Trailer, Sum}
 use Rattle.frame_grammar.specs.declared.pieces.Lost.{Lost}
@@ -35,6 +35,12 @@ logon = wire (codes
 
 abbrev logon_body : List ℕ
 logon_body = wire (codes "35=A|49=GATE|56=VENU|34=1|52=20240102-10:00:00.000|98=0|108=30|1137=9|")
+
+-- a Heartbeat of the third
+third_kind : found Fix44
+    (wire (codes "8=FIX.4.4|9=47|35=0|49=CLNT|56=GATE|34=2|52=20240102-10:00:00|10=072|"))
+    ≡ Whole beat_body []
+third_kind = refl
 
 other_kind : found Fixt11 logon ≡ Whole logon_body []
 other_kind = refl

@@ -1,5 +1,5 @@
--- Standard: FIX 4.2 and FIXT 1.1, "Message Format" and "Data Integrity". The limits of a body and
--- of BodyLength's digits are the gateway's own; docs/DECISIONS.md, "Frames".
+-- Standard: FIX 4.2, FIX 4.4 and FIXT 1.1, "Message Format" and "Data Integrity". The limits of a
+-- body and of BodyLength's digits are the gateway's own; docs/DECISIONS.md, "Frames".
 --
 -- A frame, as a relation on whole texts.
 use Rattle.std.specs.Prelude.{◌≡◌, ◌≢◌, ℕ, ◌+◌, ◌-◌, ◌/◌, ◌%◌, ◌≤◌, List, [], ◌∷◌, ◌++◌, IsTrue}
@@ -9,11 +9,12 @@ use Rattle.std.specs.Str.Parse.{digits_value}
 use Rattle.frame_grammar.specs.declared.frame.TheConstants.{MAX_BODY, MIN_BODY, MAX_LENGTH_DIGITS}
 use Rattle.frame_grammar.specs.declared.frame.TheConstants.{SOH}
 use Rattle.frame_grammar.specs.declared.frame.Kind.{Kind}
-use Rattle.frame_grammar.specs.declared.frame.Kind.TheVariants.{Fix42, Fixt11}
+use Rattle.frame_grammar.specs.declared.frame.Kind.TheVariants.{Fix42, Fix44, Fixt11}
 
 -- BeginString(8), which names the version and is the first field of a message
 abbrev pub begin_string : Kind → List ℕ
 begin_string Fix42 = codes "8=FIX.4.2" ++ SOH ∷ []
+begin_string Fix44 = codes "8=FIX.4.4" ++ SOH ∷ []
 begin_string Fixt11 = codes "8=FIXT.1.1" ++ SOH ∷ []
 
 -- and the tag of BodyLength(9)

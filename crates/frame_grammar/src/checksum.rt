@@ -12,6 +12,7 @@ pub fn begin_string_of(kind: Kind) -> &'static [u8]
 {
     match kind {
         Kind::Fix42 => b"8=FIX.4.2\x01",
+        Kind::Fix44 => b"8=FIX.4.4\x01",
         Kind::Fixt11 => b"8=FIXT.1.1\x01",
     }
 }
@@ -22,6 +23,7 @@ pub(crate) fn opening_of(kind: Kind) -> &'static [u8]
 {
     match kind {
         Kind::Fix42 => b"8=FIX.4.2\x019=",
+        Kind::Fix44 => b"8=FIX.4.4\x019=",
         Kind::Fixt11 => b"8=FIXT.1.1\x019=",
     }
 }

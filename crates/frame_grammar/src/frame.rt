@@ -19,6 +19,8 @@ pub const SOH: u8 = 1;
 pub enum Kind {
     /// `8=FIX.4.2`, the client's.
     Fix42,
+    /// `8=FIX.4.4`, that of a stream of a client that speaks FIX 4.4.
+    Fix44,
     /// `8=FIXT.1.1`, the venue's.
     Fixt11,
 }

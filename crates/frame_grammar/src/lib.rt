@@ -1,4 +1,4 @@
-//! Frames of FIX tag=value messages (FIX 4.2 and FIXT 1.1): what a frame is, what the pieces of a
+//! Frames of FIX tag=value messages (FIX 4.2, FIX 4.4 and FIXT 1.1): what a frame is, what the pieces of a
 //! stream are, cutting a stream, and writing.
 #![tactic(auto)]
 

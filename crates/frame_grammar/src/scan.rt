@@ -65,6 +65,7 @@ fn expect_begin(kind: Kind, bytes: &[u8]) -> Result<(), Stop>
 {
     match kind {
         Kind::Fix42 => expect_text(begin_string_of(Kind::Fix42), bytes, Garble::BeginString),
+        Kind::Fix44 => expect_text(begin_string_of(Kind::Fix44), bytes, Garble::BeginString),
         Kind::Fixt11 => expect_text(begin_string_of(Kind::Fixt11), bytes, Garble::BeginString),
     }
 }

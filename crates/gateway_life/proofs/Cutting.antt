@@ -8,7 +8,7 @@ use Rattle.std.specs.declared.option.Option.{Option}
 use Rattle.std.proofs.lemmas.List.{length-drop, length-take}
 use Rattle.std.proofs.lemmas.List.Elements.{filter_map-append}
 use Rattle.frame_grammar.specs.declared.frame.Kind.{Kind}
-use Rattle.frame_grammar.specs.declared.frame.Kind.TheVariants.{Fix42, Fixt11}
+use Rattle.frame_grammar.specs.declared.frame.Kind.TheVariants.{Fix42, Fix44, Fixt11}
 use Rattle.frame_grammar.specs.declared.frame.Garble.{Garble}
 use Rattle.frame_grammar.specs.Frame.{IsFrame, IsBody, front, trailer}
 use Rattle.frame_grammar.specs.Found.{Found, Whole, Short, Broken, found}
@@ -52,10 +52,12 @@ first_some kind s p is = at (found kind s) refl is
 
 no_piece : (kind : Kind) (p : Piece) → first_piece kind [] ≡ Some p → ⊥
 no_piece Fix42 p is = absurd (cc is)
+no_piece Fix44 p is = absurd (cc is)
 no_piece Fixt11 p is = absurd (cc is)
 
 pub none_first : (kind : Kind) → first_piece kind [] ≡ None
 none_first Fix42 = refl
+none_first Fix44 = refl
 none_first Fixt11 = refl
 
 -- the pieces of a cut are those that are counted

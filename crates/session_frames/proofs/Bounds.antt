@@ -5,7 +5,7 @@ use Rattle.field_groups.specs.Field.{Field, body_of, field_bytes}
 use Rattle.std.specs.Fmt.{decimal}
 use Rattle.std.proofs.lemmas.Fmt.{length-decimal-le}
 use Rattle.frame_grammar.specs.declared.frame.Kind.{Kind}
-use Rattle.frame_grammar.specs.declared.frame.Kind.TheVariants.{Fix42, Fixt11}
+use Rattle.frame_grammar.specs.declared.frame.Kind.TheVariants.{Fix42, Fix44, Fixt11}
 use Rattle.frame_grammar.specs.Frame.{begin_string}
 
 pub digits_short : (n : ℕ) → n < 2 ^ 32 → length (decimal n) ≤ 10
@@ -13,6 +13,7 @@ digits_short n lt = length-decimal-le 10 n (omega arith) (omega (arith, lt)) (om
 
 pub begin_short : (kind : Kind) → length (begin_string kind) ≤ 11
 begin_short Fix42 = omega arith
+begin_short Fix44 = omega arith
 begin_short Fixt11 = omega arith
 
 -- fields are written behind others
