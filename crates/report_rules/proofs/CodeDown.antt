@@ -19,29 +19,26 @@ use Rattle.typed_fields.proofs.DigitsLemmas.{numerals}
 use Rattle.field_groups.specs.HeadValues.{number_in}
 use Rattle.message_tables.specs.Content.{cell_fields, group_fields}
 use Rattle.message_tables.specs.Tables.{Message, Said, Tag, ◌>>=◌, code_of, first_of, lines_of}
-use Rattle.message_tables.specs.Tables.{Item, or_else}
+use Rattle.message_tables.specs.Tables.{or_else}
 use Rattle.value_kinds.specs.ValueKind.{Day, code_text}
 use Rattle.row_values.specs.CodeKinds.{kind_of}
 use Rattle.row_values.specs.Contras.{contra_cells}
-use Rattle.row_values.specs.Kinds.{Kind, MonthBeside, Value, said}
+use Rattle.row_values.specs.Kinds.{MonthBeside, Value, said}
 use Rattle.order_meaning.specs.Report.{or_known}
 use Rattle.rows_fix50.specs.Header.{month_by}
 use Rattle.rows_fix50.specs.Meaning.{id_of}
 use Rattle.reports_fix50.specs.Sense.{reason_told, telling}
-use Rattle.rule_rows.specs.ByRules.{Outline, content_by, fields_at, lack_if, outline, outline_of}
-use Rattle.rule_rows.specs.ByRules.{rule_fields}
+use Rattle.rule_rows.specs.ByRules.{content_by, lack_if, rule_fields}
 use Rattle.rule_rows.specs.Texts.{decimal_text, kept}
-use Rattle.rule_rows.proofs.Made.{nothing_at}
 use Rattle.report_rules.specs.declared.rules.Rule.{Rule as CodeRule}
 use Rattle.report_rules.specs.declared.rules.Rule.TheVariants as rules
 use Rattle.report_rules.specs.declared.source.Source.{Source}
-use Rattle.report_rules.specs.CodeRules.{close_code, known_of, lacked, number_of, numbered, placed}
-use Rattle.report_rules.specs.CodeRules.{rule_of, stands, tells_of, times, told, types, with_rule}
+use Rattle.report_rules.specs.CodeRules.{close_code, known_of, lacked, number_of, numbered}
+use Rattle.report_rules.specs.CodeRules.{rule_of, stands, tells_of, times, told, types}
 use Rattle.report_rules.specs.CodeRules.{within_text, writes}
-use Rattle.report_rules.specs.Rules.{Rule, at, at_close, coded, exec_type, fills, id_down, kinds}
+use Rattle.report_rules.specs.Rules.{at, at_close, coded, exec_type, fills, id_down, kinds}
 use Rattle.report_rules.specs.Rules.{lacks_type, on_close, party, reason_down, status_if, tells}
 use Rattle.report_rules.specs.Rules.{trans_type, within, works_on}
-use Rattle.report_rules.proofs.KindsDown.{are_kinds, lacks_none}
 
 -- ---- values
 
@@ -206,46 +203,3 @@ module _ (known : Said) (m : Message) (s : Source) (read : IsReadAs known m s) w
   unfolding first_of
   rules_lacked [] h = refl
   rules_lacked (rule ∷ rules) h = λ i. or_else (rule_lacked rule h.0 i) (rules_lacked rules h.1 i)
-
--- ---- rules that the table of a message has no place for
-
-module _ (m : Message) (items : List (Item Kind)) (there : outline m ≡ outline_of items) where
-  has_is : (rule : Rule) (b : Bool) → kinds.has (outline_of items) rule ≡ b
-      → kinds.has (outline m) rule ≡ b
-  has_is rule b e = ap (λ (o : Outline). kinds.has o rule) there ∙ e
-
-  nothing : (rule : Rule) → kinds.has (outline m) rule ≡ false → rule_fields kinds m rule ≡ []
-  nothing rule e =
-      (λ i. fields_at (kinds.target rule) (are_kinds.none m rule e i)
-      (are_kinds.no_lines m rule e i))
-      ∙ nothing_at (kinds.target rule)
-
-  -- write nothing
-  pub placed_content : (all : List Rule)
-      → content_by kinds (placed items all) m ≡ content_by kinds all m
-  placed_content [] = refl
-  placed_content (rule ∷ all) =
-      by (kinds.has (outline_of items) rule) refl (placed_content all)
-    where
-      by : (b : Bool) → kinds.has (outline_of items) rule ≡ b
-          → content_by kinds (placed items all) m ≡ content_by kinds all m
-          → content_by kinds (with_rule b rule (placed items all)) m
-          ≡ rule_fields kinds m rule ++ content_by kinds all m
-      by true e rest = ap (λ fs. rule_fields kinds m rule ++ fs) rest
-      by false e rest = rest
-          ∙ ap (λ fs. fs ++ content_by kinds all m) (sym (nothing rule (has_is rule false e)))
-
-  -- and lack nothing
-  pub placed_lack : (all : List Rule)
-      → first_of (kinds.lack m) (placed items all) ≡ first_of (kinds.lack m) all
-  unfolding first_of
-  placed_lack [] = refl
-  placed_lack (rule ∷ all) = by (kinds.has (outline_of items) rule) refl (placed_lack all)
-    where
-      by : (b : Bool) → kinds.has (outline_of items) rule ≡ b
-          → first_of (kinds.lack m) (placed items all) ≡ first_of (kinds.lack m) all
-          → first_of (kinds.lack m) (with_rule b rule (placed items all))
-          ≡ or_else (kinds.lack m rule) (first_of (kinds.lack m) all)
-      by true e rest = ap (or_else (kinds.lack m rule)) rest
-      by false e rest = rest ∙ ap (λ (o : Option ℕ). or_else o (first_of (kinds.lack m) all))
-          (sym (lacks_none m rule (has_is rule false e)))

@@ -25,15 +25,16 @@ use Rattle.report_rules.specs.declared.rules.Rule.{Rule as CodeRule}
 use Rattle.report_rules.specs.declared.source.Groups.{Groups}
 use Rattle.report_rules.specs.declared.source.Source.{Source}
 use Rattle.rule_rows.specs.ByRules.{by_rules, content_by, lack_by, or_lack, outline, outline_of}
+use Rattle.rule_rows.specs.ByRules.{placed}
 use Rattle.rule_rows.proofs.Made.{content_made}
-use Rattle.report_rules.specs.CodeRules.{AreRead, IsLackOf, lacked, placed, reject_source}
+use Rattle.rule_rows.proofs.Placed.{placed_content, placed_lack}
+use Rattle.report_rules.specs.CodeRules.{AreRead, IsLackOf, lacked, reject_source}
 use Rattle.report_rules.specs.CodeRules.{report_source, rule_of, writes}
 use Rattle.report_rules.specs.Down.{IsGoodBy, IsPut, LacksDown, PutsDown}
 use Rattle.report_rules.specs.Rules.{written, Original, Rule, Same, down_message, down_rules, kinds}
 use Rattle.report_rules.specs.Rules.{rules_for}
-use Rattle.report_rules.proofs.CodeDown.{IsReadAs, IsSaid, placed_content, placed_lack}
-use Rattle.report_rules.proofs.CodeDown.{rules_lacked, rules_written}
-use Rattle.report_rules.proofs.KindsDown.{are_kinds, reject_own, report_own}
+use Rattle.report_rules.proofs.CodeDown.{IsReadAs, IsSaid, rules_lacked, rules_written}
+use Rattle.report_rules.proofs.KindsDown.{are_kinds, lacks_none, reject_own, report_own}
 use Rattle.report_rules.proofs.SourceDown.{reject_read, reject_said, report_read, report_said}
 use Rattle.report_rules.proofs.TablesDown.{each_made, make}
 
@@ -122,15 +123,15 @@ module _ (known : Said) (msg_type : List ℕ) (fields : List Field) (all : List 
 
 module _ (m : Message) (items : List (Item Kind)) (there : outline m ≡ outline_of items)
     (known : Said) (s : Source) (read : IsReadAs known m s) (all : List Rule)
-    (rules : List CodeRule) (are : map (rule_of known) rules ≡ placed items all)
+    (rules : List CodeRule) (are : map (rule_of known) rules ≡ placed kinds items all)
     (said : AllByRecursion (IsSaid m s) rules) where
   all_written : flat_map (writes s) rules ≡ content_by kinds all m
   all_written = rules_written known m s read rules said ∙ ap (λ rs. content_by kinds rs m) are
-      ∙ placed_content m items there all
+      ∙ placed_content kinds are_kinds m items there all
 
   all_lacked : first_of (lacked s) rules ≡ first_of (kinds.lack m) all
   all_lacked = rules_lacked known m s read rules said ∙ ap (first_of (kinds.lack m)) are
-      ∙ placed_lack m items there all
+      ∙ placed_lack kinds are_kinds m items there (lacks_none m) all
 
 module _ (fields : Bor (List Field)) (groups : Groups) (id : Option (Bor (List ℕ)))
     (rules : List CodeRule) where
@@ -139,7 +140,7 @@ module _ (fields : Bor (List Field)) (groups : Groups) (id : Option (Bor (List �
 
   pub report_reads : first_fault judge report_table fields.now ≡ None
       → AreParties fields.now groups.parties → AreContras fields.now groups.contras
-      → map (rule_of known) rules ≡ placed report_table.items (down_rules (Same 41))
+      → map (rule_of known) rules ≡ placed kinds report_table.items (down_rules (Same 41))
       → AreRead report_table rules
       → (m : Message) → message50 (56 ∷ []) fields.now None ≡ Ok m
       → Read known (56 ∷ []) fields.now (down_rules (Same 41)) (report_source fields groups id)
@@ -161,7 +162,7 @@ module _ (fields : Bor (List Field)) (groups : Groups) (id : Option (Bor (List �
 
   pub reject_reads : first_fault judge cancel_reject_table fields.now ≡ None
       → groups.contras ≡ []
-      → map (rule_of known) rules ≡ placed cancel_reject_table.items (down_rules (Original known))
+      → map (rule_of known) rules ≡ placed kinds cancel_reject_table.items (down_rules (Original known))
       → AreRead cancel_reject_table rules
       → (m : Message) → message50 (57 ∷ []) fields.now None ≡ Ok m
       → Read known (57 ∷ []) fields.now (down_rules (Original known))

@@ -10,7 +10,7 @@ use Rattle.typed_fields.specs.declared.number.Number.{Number}
 use Rattle.typed_fields.specs.Stamp.{cut_text}
 use Rattle.field_groups.specs.Field.{Field}
 use Rattle.message_tables.specs.Content.{cell_fields, group_fields}
-use Rattle.message_tables.specs.Tables.{Item, Said, Table, Tag, ◌>>=◌, code_of, is_one_of, value_at}
+use Rattle.message_tables.specs.Tables.{Said, Table, Tag, ◌>>=◌, code_of, is_one_of, value_at}
 use Rattle.value_kinds.specs.ValueKind.{Code, Day, code_text}
 use Rattle.row_values.specs.CodeKinds.{kind_of}
 use Rattle.row_values.specs.Contras.{contra_cells}
@@ -21,7 +21,7 @@ use Rattle.order_meaning.specs.Report.{or_known}
 use Rattle.rows_fix50.specs.Header.{month_by}
 use Rattle.rows_fix50.specs.Meaning.{id_of}
 use Rattle.reports_fix50.specs.Sense.{reason_told, telling}
-use Rattle.rule_rows.specs.ByRules.{lack_if, outline_of}
+use Rattle.rule_rows.specs.ByRules.{lack_if}
 use Rattle.rule_rows.specs.Rules.{By, Group, Moved}
 use Rattle.rule_rows.specs.Texts.{AreRead as AreReadBy, Besides, OfKind, OfKinds, Own, Reading}
 use Rattle.rule_rows.specs.Texts.{decimal_of, decimal_text, is_amount, is_kept, is_moment}
@@ -34,7 +34,7 @@ use Rattle.report_rules.specs.declared.source.Source.{Source}
 use Rattle.report_rules.specs.Rules.{Rule, Original, PartyOf, ExecId, TransType, ExecType}
 use Rattle.report_rules.specs.Rules.{OrdStatus, Another, Traded, Within, Told, Month, DayOfDate}
 use Rattle.report_rules.specs.Rules.{OrdType, Time, at_close, coded, exec_type, id_down, is_fill}
-use Rattle.report_rules.specs.Rules.{kinds, lacks_type, status_if, trans_type, works_on, Same}
+use Rattle.report_rules.specs.Rules.{lacks_type, status_if, trans_type, works_on, Same}
 
 -- the rule that a rule of the code is, where this original id is known
 abbrev pub rule_of : Said → CodeRule → Rule
@@ -57,16 +57,6 @@ rule_of known rules.Month = By Month
 rule_of known rules.DayOfDate = By DayOfDate
 rule_of known rules.OrdType = By OrdType
 rule_of known rules.Time = By Time
-
--- the rules that a table has a place for
-abbrev pub with_rule : Bool → Rule → List Rule → List Rule
-with_rule true rule rules = rule ∷ rules
-with_rule false rule rules = rules
-
-abbrev pub placed : List (Item Kind) → List Rule → List Rule
-placed items [] = []
-placed items (rule ∷ rules) =
-    with_rule (kinds.has (outline_of items) rule) rule (placed items rules)
 
 -- the kinds of OrdType and TimeInForce
 abbrev pub types : Kind

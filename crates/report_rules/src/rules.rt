@@ -2,9 +2,10 @@
 
 ghost use Rattle.std.specs.Prelude.{◌≡◌, map};
 ghost use Rattle.message_tables.specs.Tables.{Said};
-ghost use Rattle.report_rules.specs.CodeRules.{AreRead, placed, rule_of};
+ghost use Rattle.rule_rows.specs.ByRules.{placed};
+ghost use Rattle.report_rules.specs.CodeRules.{AreRead, rule_of};
 ghost use Rattle.report_rules.specs.Rules as rules;
-ghost use Rattle.report_rules.specs.Rules.{down_rules};
+ghost use Rattle.report_rules.specs.Rules.{down_rules, kinds};
 ghost use Rattle.reports_fix50.specs.Message.{cancel_reject_table, report_table};
 
 use row_values::Kind;
@@ -129,7 +130,7 @@ static REJECT_RULES: [Rule; 10] = [
 /// The rules of an execution report, whatever is known besides.
 pub(crate) fn report_rules() -> &'static [Rule]
     ensures rules { (known : Said) → map (rule_of known) result.now
-        ≡ placed report_table.items (down_rules (rules.Same 41)) }
+        ≡ placed kinds report_table.items (down_rules (rules.Same 41)) }
     ensures read { AreRead report_table result.now }
 {
     &REPORT_RULES
@@ -138,7 +139,7 @@ pub(crate) fn report_rules() -> &'static [Rule]
 /// The rules of a cancel reject, where the original id of its order is known or not.
 pub(crate) fn reject_rules() -> &'static [Rule]
     ensures rules { (known : Said) → map (rule_of known) result.now
-        ≡ placed cancel_reject_table.items (down_rules (rules.Original known)) }
+        ≡ placed kinds cancel_reject_table.items (down_rules (rules.Original known)) }
     ensures read { AreRead cancel_reject_table result.now }
 {
     &REJECT_RULES

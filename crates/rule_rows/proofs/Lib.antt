@@ -5,5 +5,6 @@ pub mod Looked
 pub mod Made
 pub mod Own
 pub mod Parts
+pub mod Placed
 pub mod Sound
 pub mod Source

@@ -62,6 +62,10 @@ abbrev pub fields_at : Target → Said → List (List Cell) → List Field
 fields_at (At place) said lines = cell_fields (place, said)
 fields_at (Grouped count) said lines = group_fields count lines
 
+abbrev pub with_rule : {Rule : Type 0} → Bool → Rule → List Rule → List Rule
+with_rule true rule rules = rule ∷ rules
+with_rule false rule rules = rules
+
 module _ {Rule : Type 0} (kinds : Kinds Rule) where
   abbrev pub rule_cells : Message → Rule → List Cell
   rule_cells m rule =
@@ -90,6 +94,12 @@ module _ {Rule : Type 0} (kinds : Kinds Rule) where
 
   abbrev pub content_by : List Rule → Message → List Field
   content_by rules m = flat_map (rule_fields m) rules
+
+  -- the rules that a table has a place for
+  abbrev pub placed : {Kind : Type 0} → List (Item Kind) → List Rule → List Rule
+  placed items [] = []
+  placed items (rule ∷ rules) =
+      with_rule (kinds.has (outline_of items) rule) rule (placed items rules)
 
 -- the tag of a rule that cannot be said, where this holds
 abbrev pub lack_if : Bool → ℕ → Option ℕ
