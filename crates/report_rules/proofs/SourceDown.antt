@@ -89,7 +89,7 @@ module _ (letter : ℕ) (items : List (Item Kind)) (fields : List Field)
   Is reading = Has is_month table reading
 
   at_row : (tag : ℕ) → is_month tag ≡ false → at m tag ≡ row_says fields (row_of_tag tag items)
-  at_row = at_other fields letter items
+  at_row = at_other fields table
 
   text : (tag : ℕ) → Is (Own tag) → value_at tag fields ≡ at m tag
   text = text_said is_month table fields none (at m) at_row
@@ -193,7 +193,7 @@ module _ (fields : Bor (List Field)) (groups : Groups) (known : Option (Bor (Lis
         (number_good 56 execution_report fields.now none 378) tt
         (reason 56 execution_report fields.now none 103 refl)
         (reason 56 execution_report fields.now none 378 refl)
-        (at_other fields.now 56 execution_report 102 refl);
+        (at_other fields.now report_table 102 refl);
     contras = says_contras report_table fields.now none 8 refl refl groups.contras contras;
     is_known = refl;
   }
@@ -206,7 +206,7 @@ module _ (fields : Bor (List Field)) (groups : Groups) (known : Option (Bor (Lis
   pub report_said : (rules : List CodeRule) → AreRead report_table rules
       → AllByRecursion (IsSaid report source) rules
   report_said = rules_said 56 execution_report source none
-      (λ is. sym (at_month fields.now 56 execution_report refl))
+      (λ is. sym (at_month fields.now report_table refl))
       (one_of (λ role. id_of role groups.parties ≡ party report role) (1 ∷ 3 ∷ 4 ∷ [])
       (party_at 1 (lit< tt) & party_at 3 (lit< tt) & party_at 4 (lit< tt) & tt))
 
@@ -225,7 +225,7 @@ module _ (fields : Bor (List Field)) (groups : Groups) (known : Option (Bor (Lis
   unsaid : (tag : ℕ) → (tag == 200) ≡ false → row_of_tag tag cancel_reject ≡ None
       → at reject tag ≡ None
   unsaid tag other absent =
-      at_other fields.now 57 cancel_reject tag other ∙ ap (row_says fields.now) absent
+      at_other fields.now cancel_reject_table tag other ∙ ap (row_says fields.now) absent
 
   code_unsaid : (tag : ℕ) → (tag == 200) ≡ false → row_of_tag tag cancel_reject ≡ None
       → None ≡ (at reject tag >>= code_of)
