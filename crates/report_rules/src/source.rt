@@ -113,7 +113,7 @@ fn line_of(lines: &[PartyLine], role: u32) -> Option<&PartyLine>
 }
 
 /// The id of the first line of a role.
-pub(crate) fn party(lines: &Lines, role: u32) -> Option<&[u8]>
+pub fn party(lines: &Lines, role: u32) -> Option<&[u8]>
     ensures { option_map (λ id. id.now) result ≡ id_of role lines.now }
 {
     match line_of(lines.as_slice(), role) {

@@ -38,8 +38,12 @@ use typed_fields::{FieldValue, Number};
 type Appended = Result<(), AllocError>;
 
 /// Appends the field of a code, if there is one.
+///
+/// # Errors
+///
+/// `AllocError` for want of memory; what stood in `out` stays, and a part may stand behind it.
 #[inline(always)]
-fn put_code_if(out: &mut Vec<u8>, tag: u32, code: Option<u8>) -> Appended
+pub fn put_code_if(out: &mut Vec<u8>, tag: u32, code: Option<u8>) -> Result<(), AllocError>
     ensures done { OnOk result (out.new.items
         ≡ out.old.items ++ body_of (cell_fields (Tag tag, option_map code_text code))) }
     ensures kept { StartsWith out.new.items out.old.items }
@@ -51,7 +55,17 @@ fn put_code_if(out: &mut Vec<u8>, tag: u32, code: Option<u8>) -> Appended
 }
 
 /// Appends a reason, or another one in the place of one past the last of FIX 4.2.
-fn put_within(out: &mut Vec<u8>, tag: u32, last: u32, other: u8, reason: Option<Number>) -> Appended
+///
+/// # Errors
+///
+/// As [`put_code_if`].
+pub fn put_within(
+    out: &mut Vec<u8>,
+    tag: u32,
+    last: u32,
+    other: u8,
+    reason: Option<Number>,
+) -> Result<(), AllocError>
     ensures done { OnOk result (out.new.items ≡ out.old.items
         ++ body_of (cell_fields (Tag tag, option_map (within_text last other) reason))) }
     ensures kept { StartsWith out.new.items out.old.items }
@@ -112,8 +126,13 @@ fn push_reason(
     }
 }
 
-/// The reasons of a report that FIX 4.2 lacks, as a text tells them.
-fn tells_of(
+/// The reasons of a report that FIX 4.2 lacks, as a text tells them: OrdRejReason(103),
+/// ExecRestatementReason(378) and CxlRejReason(102).
+///
+/// # Errors
+///
+/// `AllocError` for want of memory.
+pub fn tells_of(
     alloc: Global,
     rej: Option<Number>,
     restate: Option<Number>,
@@ -160,7 +179,16 @@ fn put_joined(out: &mut Vec<u8>, tag: u32, text: &[u8], told: &[u8]) -> Appended
 }
 
 /// Appends a text, and behind it what it tells besides, which begins with a space.
-fn put_telling(out: &mut Vec<u8>, tag: u32, text: Option<&[u8]>, told: &[u8]) -> Appended
+///
+/// # Errors
+///
+/// As [`put_code_if`].
+pub fn put_telling(
+    out: &mut Vec<u8>,
+    tag: u32,
+    text: Option<&[u8]>,
+    told: &[u8],
+) -> Result<(), AllocError>
     ensures done { OnOk result (out.new.items ≡ out.old.items ++ body_of
         (cell_fields (Tag tag, telling (option_map (λ t. t.now) text.entry) told.now))) }
     ensures kept { StartsWith out.new.items out.old.items }

@@ -10,3 +10,4 @@ mod writing;
 
 pub use putting::{lack_up, put_up};
 pub use reading::{Good, good_request};
+pub use writing::{is_unlisted, put_parties};

@@ -125,12 +125,16 @@ fn put_party(out: &mut Vec<u8>, id: Option<&[u8]>, role: u32) -> Appended
 }
 
 /// Appends the parties of the roles 3, 1 and 4.
-fn put_parties(
+///
+/// # Errors
+///
+/// `AllocError` for want of memory; what stood in `out` stays, and a part may stand behind it.
+pub fn put_parties(
     out: &mut Vec<u8>,
     client: Option<&[u8]>,
     broker: Option<&[u8]>,
     firm: Option<&[u8]>,
-) -> Appended
+) -> Result<(), AllocError>
     ensures done { OnOk result (out.new.items ≡ out.old.items
         ++ body_of (group_fields 453 (party_lines (option_map (λ t. t.now) client.entry)
         (option_map (λ t. t.now) broker.entry) (option_map (λ t. t.now) firm.entry)))) }
@@ -182,7 +186,7 @@ fn is_late(ord_type: Option<u8>, time: Option<u8>) -> bool
 }
 
 /// Whether a code is not listed.
-fn is_unlisted(listed: &[u8], code: Option<u8>) -> bool
+pub fn is_unlisted(listed: &[u8], code: Option<u8>) -> bool
     ensures { result ≡ is_unlisted listed.now code }
 {
     match code {
