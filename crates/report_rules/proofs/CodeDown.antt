@@ -63,7 +63,7 @@ number_is (Some n) text good is =
     sym (number_says n good) ∙ ap (λ (t : Said). t >>= number_in) (sym is)
 
 -- a reason, or another one
-reason_is : (last other : ℕ) (n : Option Number) (text : Said) → IfSome n IsNumber
+pub reason_is : (last other : ℕ) (n : Option Number) (text : Said) → IfSome n IsNumber
     → text ≡ option_map number_text n
     → option_map (within_text last other) n ≡ reason_down last (code_text other) text
 reason_is last other None text good is = ap (reason_down last (code_text other)) (sym is)

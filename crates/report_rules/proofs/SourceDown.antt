@@ -48,7 +48,7 @@ use Rattle.report_rules.proofs.FieldsDown.{at_other, at_month}
 -- ---- values that are read
 
 -- the number of a value is bounded
-bounded : (value : Option (List ℕ)) → IfSome (number_of value) IsNumber
+pub bounded : (value : Option (List ℕ)) → IfSome (number_of value) IsNumber
 bounded None = tt
 bounded (Some v) = by (read_number v) refl
   where

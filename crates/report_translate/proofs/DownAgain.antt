@@ -79,7 +79,7 @@ module _ (letter : ℕ) (items : List (Item Kind)) (msg_type : List ℕ) (fields
       & own_said _ 369 Filled None tt
       & tt
 
-  message_again : items_behind t values r ≡ true → table_fits t (front t values r) ≡ true
+  pub message_again : items_behind t values r ≡ true → table_fits t (front t values r) ≡ true
       → IsSound judge t r → unwrap_or (option_map flag_of (value_at 97 fields)) false ≡ r.resend
       → told (message_of judge t (((35, msg_type) ∷ carried fields) ++ content t r)) ≡ Ok r
   message_again behind fit sound flag =
@@ -88,11 +88,12 @@ module _ (letter : ℕ) (items : List (Item Kind)) (msg_type : List ℕ) (fields
 -- ---- the report that fields are
 
 -- a report of a table, by its type
-record IsOf (fields : List Field) (known : List ℕ) (table : Table Kind) (x : Message) : Type 0 where
-  type_is : type_of fields ≡ known
-  read : IsReadOf table fields x
+pub record IsOf (fields : List Field) (known : List ℕ) (table : Table Kind) (x : Message)
+    : Type 0 where
+  pub type_is : type_of fields ≡ known
+  pub read : IsReadOf table fields x
 
-data IsEither (fields : List Field) (x : Message) : Type 0 where
+pub data IsEither (fields : List Field) (x : Message) : Type 0 where
   Eight : IsOf fields (codes "8") report_table x → IsEither fields x
   Nine : IsOf fields (codes "9") cancel_reject_table x → IsEither fields x
 
@@ -105,7 +106,7 @@ nothing_known : (said : Option (List ℕ)) → or_known said None ≡ said
 nothing_known None = refl
 nothing_known (Some said) = refl
 
-unfilled : (report : Option Report) → option_map (filled None) report ≡ report
+pub unfilled : (report : Option Report) → option_map (filled None) report ≡ report
 unfilled None = refl
 unfilled (Some (Executed report)) = refl
 unfilled (Some (NotCanceled reject)) =
@@ -114,10 +115,10 @@ unfilled (Some (NotCanceled reject)) =
 
 module _ (fields : List Field) (good : AreFields None fields) (m : Message)
     (e : report_message (type_of fields) fields None ≡ Ok m) where
-  clear : AllByRecursion (IsClearField judge) fields
+  pub clear : AllByRecursion (IsClearField judge) fields
   clear = clear_fields judge None fields good
 
-  either : IsEither fields m
+  pub either : IsEither fields m
   unfolding clear
   either =
       by (bytes_eq (type_of fields) (codes "8")) (bytes_eq (type_of fields) (codes "9")) refl refl
@@ -135,10 +136,10 @@ module _ (fields : List Field) (good : AreFields None fields) (m : Message)
       by false false a' b' = not_both (report_message (type_of fields) fields None) NotSupported m
           (no_report (type_of fields) fields None a' b') e
 
-  report_header : HasHeader report_table
+  pub report_header : HasHeader report_table
   report_header = search
 
-  reject_header : HasHeader cancel_reject_table
+  pub reject_header : HasHeader cancel_reject_table
   reject_header = search
 
   -- the type that is carried

@@ -76,7 +76,7 @@ module _ (msg_type : List ℕ) (fields : List Field) (r : Message) where
       & own_said _ 369 Filled None tt
       & tt
 
-  read_by : IsOwnHead msg_type fields → (letter : ℕ) (items : List (Item Kind))
+  pub read_by : IsOwnHead msg_type fields → (letter : ℕ) (items : List (Item Kind))
       → IsBehind letter items → Fits letter items → IsCanonical letter items r
       → r.resend ≡ unwrap_or (option_map flag_of (value_at 97 fields)) false
       → told50 (message_of judge (table letter items)
@@ -92,7 +92,7 @@ module _ (msg_type : List ℕ) (fields : List Field) (r : Message) where
 
 -- ---- what the fields of FIX 4.2 say of the header
 
-has_header : (letter : ℕ) (items : List (Item Kind)) → HasHeader (header42.table letter items)
+pub has_header : (letter : ℕ) (items : List (Item Kind)) → HasHeader (header42.table letter items)
 has_header letter items = record {
   sender = refl;
   target = refl;
