@@ -22,7 +22,7 @@ use Rattle.dict_fix42.specs.Message.{message42, table_of}
 use Rattle.dict_fix42.specs.Requests.{cancel_request, new_order, replace_request}
 use Rattle.reports_fix42.specs.Message as reports42
 use Rattle.translation.specs.Header.{type_of as type_in}
-use Rattle.event_decisions.specs.Body.{Reading, first_value, reading_of, type_of}
+use Rattle.event_decisions.specs.Body.{Reading, fields_of, first_value, reading_of, type_of}
 use Rattle.event_decisions.proofs.Bodies.{bodies_are_read}
 use Rattle.message_answers.specs.Chains.{item_in, item_said, joining, joining_letter}
 use Rattle.message_answers.specs.Message.{is_refusal_type, message_of}
@@ -92,15 +92,12 @@ reading_is body fields fault split =
     λ i. record { fields = same.0 i; fault = same.1 i }
 
 -- THE REQUEST OF AN ENTRY, by its fields
-pub item_read : (entry : Entry) (took : Took) (letter : ℕ) (raw : List ℕ) (fields : List Field)
-    (fault : Option SplitFault) → entry.took ≡ Some took
+pub item_read : (entry : Entry) (took : Took) (letter : ℕ) (raw : List ℕ) → entry.took ≡ Some took
     → first_of (joining_letter entry) entry.outs ≡ Some letter → raw ≡ took.raw
-    → SplitsInto raw fields fault → item_in entry ≡ Some (item_said took.number letter fields)
-item_read entry took letter raw fields fault is front same split =
+    → item_in entry ≡ Some (item_said took.number letter (fields_of raw))
+item_read entry took letter raw is front same =
     item_is entry (Some took) (Some letter) is front
-    ∙ ap (λ (r : List ℕ). Some (item_said took.number letter (reading_of r).fields)) (sym same)
-    ∙ ap (λ (r : Reading). Some (item_said took.number letter r.fields))
-    (reading_is raw fields fault split)
+    ∙ ap (λ (r : List ℕ). Some (item_said took.number letter (fields_of r))) (sym same)
 
 -- ---- by its fields
 

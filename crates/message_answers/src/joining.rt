@@ -4,10 +4,12 @@ ghost use Rattle.std.specs.Prelude.{◌≡◌, ◌++◌, [], IfOk, OnOk};
 ghost use Rattle.std.specs.Option.{option_map, option_to_list};
 ghost use Rattle.message_tables.specs.Tables.{first_of};
 ghost use Rattle.pair_journal.specs.Days.{last_day};
+ghost use Rattle.event_decisions.specs.Body.{fields_of};
 ghost use Rattle.message_answers.specs.Chains.{joining_letter, item_in, item_said, original_said};
 ghost use Rattle.message_answers.specs.Chains.{new_item, chains_of};
 
-use field_groups::{Fields, split};
+use field_groups::value_of;
+use message_tables::Lookup;
 use order_chains::{ChainItem, Chains};
 use order_meaning::Bytes;
 use pair_entries::{Entry, Out};
@@ -40,9 +42,23 @@ fn first_letter(entry: &Entry, outs: &[Out]) -> Option<u8>
     }
 }
 
+// The fields of a body, each of which is read where it is asked for.
+#[derive(Clone, Copy)]
+struct Body<'a> {
+    bytes: &'a [u8],
+}
+
+impl<'a> Lookup for Body<'a> {
+    ghost fields = { λ body. fields_of body.bytes.now };
+
+    fn value(&self, tag: u32) -> Option<&[u8]> {
+        value_of(self.bytes, tag)
+    }
+}
+
 // OrigClOrdID(41) of a request, which an order (D) does not have.
-fn original<'f>(letter: u8, fields: &'f Fields<'_>) -> Option<&'f [u8]>
-    ensures { option_map (λ id. id.now) result ≡ original_said letter fields.now }
+fn original<'f, F: Lookup>(letter: u8, fields: &'f F) -> Option<&'f [u8]>
+    ensures { option_map (λ id. id.now) result ≡ original_said letter (F.fields fields.now) }
 {
     match letter {
         b'D' => None,
@@ -61,13 +77,13 @@ fn copied(alloc: Global, text: Option<&[u8]>) -> Result<Option<Bytes>, AllocErro
 }
 
 // The request that these fields say, as it joins the chains.
-pub(crate) fn item_said(
+pub(crate) fn item_said<F: Lookup>(
     alloc: Global,
     number: u32,
     letter: u8,
-    fields: &Fields<'_>,
+    fields: &F,
 ) -> Result<ChainItem, AllocError>
-    ensures { IfOk result (λ item. item ≡ item_said number letter fields.now) }
+    ensures { IfOk result (λ item. item ≡ item_said number letter (F.fields fields.now)) }
 {
     let id = copied(alloc, text(fields, 11, &Id))?;
     let orig = copied(alloc, original(letter, fields))?;
@@ -79,7 +95,7 @@ pub(crate) fn item_said(
     })
 }
 
-// The request that an entry forwarded. Its fields are read, and not judged again.
+// The request that an entry forwarded. Of its fields two are read, and none is judged again.
 fn item_in(alloc: Global, entry: &Entry) -> Result<Option<ChainItem>, AllocError>
     ensures { IfOk result (λ item. item ≡ item_in entry.now) }
 {
@@ -89,8 +105,10 @@ fn item_in(alloc: Global, entry: &Entry) -> Result<Option<ChainItem>, AllocError
     let Some(letter) = first_letter(entry, entry.outs.as_slice()) else {
         return Ok(None);
     };
-    let split = split(alloc, took.raw.as_slice())?;
-    let item = item_said(alloc, took.number, letter, &split.fields)?;
+    let fields = Body {
+        bytes: took.raw.as_slice(),
+    };
+    let item = item_said(alloc, took.number, letter, &fields)?;
     Ok(Some(item))
 }
 

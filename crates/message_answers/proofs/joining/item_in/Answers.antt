@@ -4,7 +4,6 @@ use Rattle.message_answers.proofs.joining.item_in.Goals as goal
 
 pub returns : goal.returns
 returns c =
-    let split = c.in_ok-split.split in
     ap Some c.in_ok-item.ensures
-    ∙ sym (item_read c.args.entry.now c.in-Some.took c.in-Some-first_letter.letter _ split.fields
-    split.fault c.in-Some.is (search rules) c.as_slice-2.ensures c.in_ok-split.ensures)
+    ∙ sym (item_read c.args.entry.now c.in-Some.took c.in-Some-first_letter.letter _ c.in-Some.is
+    (search rules) c.as_slice-2.ensures)
