@@ -6,7 +6,7 @@ ghost use Rattle.pair_entries.specs.declared.entry.Entry.{Entry};
 
 use crate::{Seen, Tap, TapFailed};
 use order_meaning::Side;
-use pair_entries::{Entry, Out};
+use pair_entries::{Entry, EntryRef, OutRef};
 use pair_journal::source_in;
 
 /// A tap that counts entries, requests, reports and refusals, as [`Seen`] says. It never fails, and
@@ -24,7 +24,7 @@ pub struct TotalsTap {
 }
 
 /// Whether a message that was given out goes to the venue and translates the client's.
-fn is_request(entry: &Entry, out: &Out) -> bool
+fn is_request(entry: &EntryRef<'_>, out: &OutRef<'_>) -> bool
     ensures { result ≡ is_request entry.now out.now }
 {
     match out.side {
@@ -34,7 +34,7 @@ fn is_request(entry: &Entry, out: &Out) -> bool
 }
 
 /// Whether a message that was given out goes to the client and translates the venue's.
-fn is_report(entry: &Entry, out: &Out) -> bool
+fn is_report(entry: &EntryRef<'_>, out: &OutRef<'_>) -> bool
     ensures { result ≡ is_report entry.now out.now }
 {
     match out.side {
@@ -44,14 +44,14 @@ fn is_report(entry: &Entry, out: &Out) -> bool
 }
 
 /// Whether a message is a Reject(3) or a Business Message Reject(j).
-fn is_refusal(out: &Out) -> bool
+fn is_refusal(out: &OutRef<'_>) -> bool
     ensures { result ≡ is_refusal out.now }
 {
-    matches!(out.msg_type.as_slice(), b"3" | b"j")
+    matches!(out.msg_type, b"3" | b"j")
 }
 
 /// How many requests an entry gives out.
-fn requests_in(entry: &Entry) -> u64
+fn requests_in(entry: &EntryRef<'_>) -> u64
     ensures { result ≡ count_by (is_request entry.now) entry.now.outs }
 {
     let outs = entry.outs.as_slice();
@@ -59,7 +59,7 @@ fn requests_in(entry: &Entry) -> u64
 }
 
 /// How many reports an entry gives out.
-fn reports_in(entry: &Entry) -> u64
+fn reports_in(entry: &EntryRef<'_>) -> u64
     ensures { result ≡ count_by (is_report entry.now) entry.now.outs }
 {
     let outs = entry.outs.as_slice();
@@ -67,7 +67,7 @@ fn reports_in(entry: &Entry) -> u64
 }
 
 /// How many refusals an entry gives out.
-fn refusals_in(entry: &Entry) -> u64
+fn refusals_in(entry: &EntryRef<'_>) -> u64
     ensures { result ≡ count_by is_refusal entry.now.outs }
 {
     let outs = entry.outs.as_slice();
@@ -107,9 +107,10 @@ impl Tap for TotalsTap {
 
     fn saw(&mut self, entry: &Entry) -> Result<(), TapFailed> {
         self.entries = self.entries.saturating_add(1);
-        self.requests = self.requests.saturating_add(requests_in(entry));
-        self.reports = self.reports.saturating_add(reports_in(entry));
-        self.refusals = self.refusals.saturating_add(refusals_in(entry));
+        let entry = entry.as_ref();
+        self.requests = self.requests.saturating_add(requests_in(&entry));
+        self.reports = self.reports.saturating_add(reports_in(&entry));
+        self.refusals = self.refusals.saturating_add(refusals_in(&entry));
         Ok(())
     }
 

@@ -104,7 +104,7 @@ fn put_all<D: Disk, O: Sink>(
     walk.read_birth(disk)?;
     put(out, walk.record())?;
     for index in 1..records {
-        walk.read_entry(alloc, log, disk)?;
+        walk.read_entry(log, disk)?;
         put(out, walk.record())?;
     }
     put(out, &[0])

@@ -13,7 +13,7 @@ ghost use Rattle.journal_migrate.specs.Walk.{TellsBirth, IsNext, IsNoNext};
 use gate_log::MAX_PAYLOAD;
 use pair_entries::read_birth;
 use pair_journal::payload_next;
-use std::alloc::{AllocError, Global};
+use std::alloc::AllocError;
 
 /// The bytes in front of a payload: an open gate, and its length.
 pub(crate) const HEAD_LEN: usize = 5;
@@ -100,7 +100,6 @@ fn day_of(day: u32, payload: &[u8]) -> u32
 /// # Errors
 /// `AllocError` for want of memory.
 pub(crate) fn renew_entry(
-    alloc: Global,
     payload: &[u8],
     day: u32,
     next: Next,
@@ -113,5 +112,5 @@ pub(crate) fn renew_entry(
 {
     let today = day_of(day, payload);
     write_record(record, &today.to_be_bytes(), payload)?;
-    payload_next(alloc, payload_of(record), day, next)
+    Ok(payload_next(payload_of(record), day, next))
 }

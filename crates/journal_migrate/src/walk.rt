@@ -98,7 +98,6 @@ impl Walk {
     /// Reads the record of the next entry of a log.
     pub(crate) fn read_entry<D: Disk>(
         &mut self,
-        alloc: Global,
         log: &Log,
         disk: &mut D,
     ) -> Result<(), MigrateError>
@@ -121,7 +120,7 @@ impl Walk {
         }
         read_payload(&mut self.chunk, disk, self.place)?;
         let payload = self.chunk.payload();
-        let found = renew_entry(alloc, payload, self.day, self.next, &mut self.record)?;
+        let found = renew_entry(payload, self.day, self.next, &mut self.record)?;
         let Some((day, next)) = found else {
             return Err(MigrateError::Refused { at: self.place });
         };

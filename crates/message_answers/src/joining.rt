@@ -12,14 +12,14 @@ use field_groups::value_of;
 use message_tables::Lookup;
 use order_chains::{ChainItem, Chains};
 use order_meaning::Bytes;
-use pair_entries::{Entry, Out};
+use pair_entries::{EntryRef, OutRef};
 use pair_journal::{Reader, source_in};
 use row_values::{or_empty, text};
 use std::alloc::{AllocError, Global};
 use value_kinds::ValueKind::Id;
 
 // The letter of a New Order (D), a Cancel (F) or a Cancel/Replace (G) that an out translates.
-fn joining_letter(entry: &Entry, out: &Out) -> Option<u8>
+fn joining_letter(entry: &EntryRef<'_>, out: &OutRef<'_>) -> Option<u8>
     ensures { result ≡ joining_letter entry.now out.now }
 {
     match source_in(entry, out) {
@@ -30,7 +30,7 @@ fn joining_letter(entry: &Entry, out: &Out) -> Option<u8>
 
 // The same of the first of these outs that has one.
 #[tactic(auto, unfolding(message_tables::specs::Tables::first_of))]
-fn first_letter(entry: &Entry, outs: &[Out]) -> Option<u8>
+fn first_letter(entry: &EntryRef<'_>, outs: &[OutRef<'_>]) -> Option<u8>
     ensures { result ≡ first_of (joining_letter entry.now) outs.now }
 {
     match outs {
@@ -96,7 +96,7 @@ pub(crate) fn item_said<F: Lookup>(
 }
 
 // The request that an entry forwarded. Of its fields two are read, and none is judged again.
-fn item_in(alloc: Global, entry: &Entry) -> Result<Option<ChainItem>, AllocError>
+fn item_in(alloc: Global, entry: &EntryRef<'_>) -> Result<Option<ChainItem>, AllocError>
     ensures { IfOk result (λ item. item ≡ item_in entry.now) }
 {
     let Some(took) = &entry.took else {
@@ -105,15 +105,13 @@ fn item_in(alloc: Global, entry: &Entry) -> Result<Option<ChainItem>, AllocError
     let Some(letter) = first_letter(entry, entry.outs.as_slice()) else {
         return Ok(None);
     };
-    let fields = Body {
-        bytes: took.raw.as_slice(),
-    };
+    let fields = Body { bytes: took.raw };
     let item = item_said(alloc, took.number, letter, &fields)?;
     Ok(Some(item))
 }
 
 // Adds the request that an entry forwarded, unless one with its id is there.
-fn join(alloc: Global, chains: &mut Chains, entry: &Entry) -> Result<(), AllocError>
+fn join(alloc: Global, chains: &mut Chains, entry: &EntryRef<'_>) -> Result<(), AllocError>
     ensures { OnOk result (chains.new ≡
         chains.old ++ option_to_list (new_item chains.old entry.now)) }
 {
@@ -160,7 +158,7 @@ impl Joining {
 impl Reader for Joining {
     ghost shown = { λ joining entries. joining.chains ≡ chains_of (last_day entries) };
 
-    fn saw(&mut self, entry: &Entry) -> Result<(), AllocError> {
+    fn saw(&mut self, entry: &EntryRef<'_>) -> Result<(), AllocError> {
         if entry.reset {
             self.chains.clear();
             return Ok(());

@@ -1,6 +1,6 @@
 -- A payload spells one entry.
 use Rattle.std.proofs.Common.{◌≡◌, ℕ, ◌==◌, Bool, true, false, List, [], ◌∷◌, ◌++◌}
-use Rattle.std.proofs.Common.{length, take, drop, refl, sym, ◌∙◌, ap, subst, arith, ◌≤◌}
+use Rattle.std.proofs.Common.{length, take, drop, refl, sym, ◌∙◌, ap, arith, ◌≤◌}
 use Rattle.std.proofs.Common.{append_assoc}
 use Rattle.std.proofs.Common.{Some, None, IfSome}
 use Rattle.std.specs.Prelude.{◌||◌}
@@ -17,10 +17,8 @@ use Rattle.pair_entries.specs.declared.entry.Entry.{Entry}
 use Rattle.pair_entries.specs.Payload.{counted, side_byte, flags_byte, out_bytes, took_bytes}
 use Rattle.pair_entries.specs.Payload.{next_bytes, entry_bytes, Next, IsOut, AreOuts, IsTook}
 use Rattle.pair_entries.specs.Payload.{taken_bytes, AreNext, IsEntry}
-use Rattle.pair_entries.specs.Parts.{took_said, front_bytes, IsFront}
+use Rattle.pair_entries.specs.Parts.{front_bytes, IsFront}
 use Rattle.pair_entries.specs.declared.reading.Front.{Front}
-use Rattle.pair_entries.specs.declared.reading.TookRef.{TookRef}
-use Rattle.std.specs.Option.{option_map}
 use Rattle.pair_entries.proofs.Fronts.{same_front_64, same_counted, entry_split, behind_taken}
 use Rattle.pair_entries.proofs.Fronts.{same_reset, behind_next}
 
@@ -207,53 +205,46 @@ pub front_is : (front : Front) (entry : Entry) → IsFront front → IsEntry ent
     → front_bytes front ≡ entry_bytes entry → SaysOf front entry
 front_is front entry hf he is =
     let ends : List ℕ = length entry.outs ∷ flat_map out_bytes entry.outs in
-    let said : Option Took = option_map took_said front.took in
-    let at = same_front_64 front.at entry.at (taken_bytes front.reset said
+    let at = same_front_64 front.at entry.at (taken_bytes front.reset front.took
     ++ (next_bytes front.next ++ front.outs.now))
     (taken_bytes entry.reset entry.took ++ (next_bytes entry.next ++ ends))
     (omega (arith, hf.at)) (omega (arith, he.at)) (is ∙ entry_split entry) in
-    let rest = behind_taken front.reset entry.reset said entry.took
+    let rest = behind_taken front.reset entry.reset front.took entry.took
     (next_bytes front.next ++ front.outs.now) (next_bytes entry.next ++ ends) hf.took he.took at.1 in
     record {
       at = at.0;
-      reset = same_reset front.reset entry.reset said entry.took
+      reset = same_reset front.reset entry.reset front.took entry.took
           (next_bytes front.next ++ front.outs.now) (next_bytes entry.next ++ ends) at.1;
       next = same_next front.next entry.next front.outs.now ends hf.next he.next rest;
       outs = behind_next front.next entry.next front.outs.now ends hf.next he.next rest;
     }
 
 -- a front, and the outs that stand behind it, are an entry; of a new day there are none
-abbrev entry_in : Front → Option Took → List Out → Entry
-entry_in front took outs = record {
+abbrev entry_in : Front → List Out → Entry
+entry_in front outs = record {
   at = front.at;
   reset = front.reset;
-  took = took;
+  took = front.took;
   next = front.next;
   outs = outs;
 }
 
-nothing_said : (took : Option TookRef) → took ≡ None → option_map took_said took ≡ None
-nothing_said took is = ap (option_map took_said) is
-
 pub entry_of_front : (front : Front) (outs : List Out) (bytes : List ℕ) → IsFront front
     → front.outs.now ≡ length outs ∷ flat_map out_bytes outs → AreOuts outs → length outs ≤ 4
-    → (front.reset ≡ true → outs ≡ [])
-    → (took : Option Took) → took ≡ option_map took_said front.took → bytes ≡ front_bytes front
-    → (bytes ≡ entry_bytes (entry_in front took outs)) × IsEntry (entry_in front took outs)
-entry_of_front front outs bytes hf behind are few none took copied is = (
-  is ∙ ap (λ (t : Option Took). to_be_bytes w64 front.at
-      ++ (taken_bytes front.reset t ++ (next_bytes front.next ++ front.outs.now))) (sym copied)
-      ∙ ap (λ (l : List ℕ). to_be_bytes w64 front.at
-      ++ (taken_bytes front.reset took ++ (next_bytes front.next ++ l))) behind
-      ∙ sym (entry_split (entry_in front took outs)),
+    → (front.reset ≡ true → outs ≡ []) → bytes ≡ front_bytes front
+    → (bytes ≡ entry_bytes (entry_in front outs)) × IsEntry (entry_in front outs)
+entry_of_front front outs bytes hf behind are few none is = (
+  is ∙ ap (λ (l : List ℕ). to_be_bytes w64 front.at
+      ++ (taken_bytes front.reset front.took ++ (next_bytes front.next ++ l))) behind
+      ∙ sym (entry_split (entry_in front outs)),
   record {
     at = hf.at;
     reset = λ new. record {
-      took = copied ∙ nothing_said front.took (hf.reset new).0;
+      took = (hf.reset new).0;
       next = (hf.reset new).1;
       outs = none new;
     };
-    took = subst (λ (t : Option Took). IfSome t IsTook) (sym copied) hf.took;
+    took = hf.took;
     next = hf.next;
     few = few;
     outs = are;

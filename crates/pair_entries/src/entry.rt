@@ -2,7 +2,7 @@
 
 ghost use Rattle.std.specs.Prelude.{◌≡◌, ◌<◌, ◌≤◌, ◌++◌, [], ◌∷◌, length, IfOk, OnOk, OnErr};
 
-use crate::MAX_OUTS;
+use crate::{EntryRef, MAX_OUTS, OutRef, OutRefs, TookRef};
 use order_meaning::{Bytes, Side};
 use std::alloc::{AllocError, Global};
 use std::marker::Model;
@@ -36,37 +36,31 @@ pub struct Out {
 }
 
 impl Took {
-    /// A second one of the same value.
-    ///
-    /// # Errors
-    /// `AllocError` for want of memory.
-    pub fn duplicate(&self) -> Result<Took, AllocError>
-        ensures { IfOk result (λ took. took ≡ self.now) }
+    /// The same where it stands; it takes no memory.
+    pub fn as_ref(&self) -> TookRef<'_>
+        ensures { result ≡ self.now }
     {
-        Ok(Took {
+        TookRef {
             side: self.side,
             number: self.number,
-            raw: self.raw.duplicate()?,
-        })
+            raw: self.raw.as_slice(),
+        }
     }
 }
 
 impl Out {
-    /// A second one of the same value.
-    ///
-    /// # Errors
-    /// `AllocError` for want of memory.
-    pub fn duplicate(&self) -> Result<Out, AllocError>
-        ensures { IfOk result (λ out. out ≡ self.now) }
+    /// The same where it stands; it takes no memory.
+    pub fn as_ref(&self) -> OutRef<'_>
+        ensures { result ≡ self.now }
     {
-        Ok(Out {
+        OutRef {
             side: self.side,
             number: self.number,
             admin: self.admin,
             resend: self.resend,
-            msg_type: self.msg_type.duplicate()?,
-            content: self.content.duplicate()?,
-        })
+            msg_type: self.msg_type.as_slice(),
+            content: self.content.as_slice(),
+        }
     }
 }
 
@@ -110,18 +104,15 @@ impl Outs {
         Ok(())
     }
 
-    /// A second list of the same messages.
-    ///
-    /// # Errors
-    /// `AllocError` for want of memory.
-    pub fn duplicate(&self) -> Result<Outs, AllocError>
-        ensures { IfOk result (λ outs. outs ≡ self.now) }
+    /// The same where they stand; it takes no memory.
+    pub fn as_refs(&self) -> OutRefs<'_>
+        ensures { result ≡ self.now }
     {
-        let mut outs = Outs::new(*self.outs.allocator());
+        let mut refs = OutRefs::new();
         for out in self.outs.as_slice() {
-            outs.push(out.duplicate()?)?;
+            refs.push(out.as_ref());
         }
-        Ok(outs)
+        refs
     }
 
     /// The messages, in order; it takes no memory.
@@ -152,6 +143,23 @@ pub struct Entry {
 }
 
 impl Entry {
+    /// The same where it stands; it takes no memory.
+    pub fn as_ref(&self) -> EntryRef<'_>
+        ensures { result ≡ self.now }
+    {
+        let took = match &self.took {
+            Some(took) => Some(took.as_ref()),
+            None => None,
+        };
+        EntryRef {
+            at: self.at,
+            reset: self.reset,
+            took,
+            next: self.next,
+            outs: self.outs.as_refs(),
+        }
+    }
+
     /// A second one of the same value.
     ///
     /// # Errors
@@ -159,17 +167,6 @@ impl Entry {
     pub fn duplicate(&self) -> Result<Entry, AllocError>
         ensures { IfOk result (λ entry. entry ≡ self.now) }
     {
-        let took = match &self.took {
-            Some(took) => Some(took.duplicate()?),
-            None => None,
-        };
-        let outs = self.outs.duplicate()?;
-        Ok(Entry {
-            at: self.at,
-            reset: self.reset,
-            took,
-            next: self.next,
-            outs,
-        })
+        self.as_ref().to_entry(*self.outs.outs.allocator())
     }
 }

@@ -2,8 +2,7 @@
 
 ghost use Rattle.std.specs.Prelude.{◌≡◌, ◌≤◌, ◌<◌, ◌^◌, [], ◌∷◌, ◌++◌, ℕ, List, Bool, true, None};
 ghost use Rattle.std.specs.Prelude.{length};
-ghost use Rattle.std.specs.Prelude.{IfSome, IfOk};
-ghost use Rattle.std.specs.Prelude.{MatchOption};
+ghost use Rattle.std.specs.Prelude.{IfSome, MatchOption};
 ghost use Rattle.std.specs.declared.option.Option.{Option};
 ghost use Rattle.std.specs.Int.{w32, w64, to_be_bytes};
 ghost use Rattle.std.specs.List.{flat_map};
@@ -15,17 +14,16 @@ ghost use Rattle.pair_entries.specs.Payload.{Next, IsTook, IsOut, AreOuts, AreNe
 ghost use Rattle.pair_entries.specs.Payload.{IsNextNumber};
 ghost use Rattle.pair_entries.specs.Payload.{side_byte, flags_byte, counted};
 ghost use Rattle.pair_entries.specs.declared.reading.Head.{Head};
-ghost use Rattle.pair_entries.specs.Parts.{head_bytes, took_said, out_said, front_bytes, IsFront};
-ghost use Rattle.std.specs.Option.{option_map};
+ghost use Rattle.pair_entries.specs.Parts.{head_bytes, front_bytes, IsFront};
 ghost use Rattle.pair_entries.specs.Payload.{took_bytes, taken_bytes, next_bytes, out_bytes};
 ghost use Rattle.pair_entries.specs.Payload.{entry_bytes};
 
 use crate::{
-    Entry, MAX_AT, MAX_CONTENT, MAX_NEXT, MAX_NUMBER, MAX_OUTS, MAX_RAW, MAX_TYPE, Out, Outs, Took,
+    EntryRef, MAX_AT, MAX_CONTENT, MAX_NEXT, MAX_NUMBER, MAX_OUTS, MAX_RAW, MAX_TYPE, OutRef,
+    OutRefs, TookRef,
 };
 use gate_log::u32_front;
-use order_meaning::{Bytes, Side};
-use std::alloc::{AllocError, Global};
+use order_meaning::Side;
 
 /// The number of eight bytes in front, and what is behind it.
 fn u64_front(bytes: &[u8]) -> Option<(u64, &[u8])>
@@ -122,21 +120,12 @@ fn next_front(bytes: &[u8]) -> Option<(u32, &[u8])>
     None
 }
 
-/// A message that was taken, where its bytes stand.
-#[derive(Clone, Copy)]
-struct TookRef<'b> {
-    side: Side,
-    number: u32,
-    raw: &'b [u8],
-}
-
 /// What was taken, in front, and what is behind it.
 fn took_front(bytes: &[u8]) -> Option<(Option<TookRef<'_>>, &[u8])>
     ensures { MatchOption result
         ((took : Option Took) (rest : List ℕ) → IfSome took IsTook →
         bytes.now ≡ took_bytes took ++ rest → ⊥)
-        (λ x. (bytes.now ≡ took_bytes (option_map took_said x.0) ++ x.1.now) ×
-        IfSome (option_map took_said x.0) IsTook) }
+        (λ x. (bytes.now ≡ took_bytes x.0 ++ x.1.now) × IfSome x.0 IsTook) }
 {
     let (first, rest) = bytes.split_first()?;
     if *first == 0 {
@@ -152,8 +141,8 @@ fn taken_front(bytes: &[u8]) -> Option<(bool, Option<TookRef<'_>>, &[u8])>
     ensures { MatchOption result
         ((reset : Bool) (took : Option Took) (rest : List ℕ) → IfSome took IsTook →
         bytes.now ≡ taken_bytes reset took ++ rest → ⊥)
-        (λ x. (bytes.now ≡ taken_bytes x.0 (option_map took_said x.1) ++ x.2.now) ×
-        IfSome (option_map took_said x.1) IsTook × (x.0 ≡ true → x.1 ≡ None)) }
+        (λ x. (bytes.now ≡ taken_bytes x.0 x.1 ++ x.2.now) × IfSome x.1 IsTook ×
+        (x.0 ≡ true → x.1 ≡ None)) }
 {
     match bytes {
         [3, rest @ ..] => Some((true, None, rest)),
@@ -162,20 +151,6 @@ fn taken_front(bytes: &[u8]) -> Option<(bool, Option<TookRef<'_>>, &[u8])>
             Some((false, took, rest))
         }
     }
-}
-
-/// What was taken, copied.
-fn took_copied(alloc: Global, took: Option<TookRef<'_>>) -> Result<Option<Took>, AllocError>
-    ensures { IfOk result (λ copied. copied ≡ option_map took_said took.entry) }
-{
-    let Some(took) = took else {
-        return Ok(None);
-    };
-    Ok(Some(Took {
-        side: took.side,
-        number: took.number,
-        raw: Bytes::copy(alloc, took.raw)?,
-    }))
 }
 
 /// A number and a raw body in front, and what is behind them.
@@ -295,28 +270,11 @@ fn texts_front(bytes: &[u8]) -> Option<(&[u8], &[u8], &[u8])>
     Some((msg_type, content, rest))
 }
 
-/// A message that was given out, where its bytes stand.
-#[derive(Clone, Copy)]
-pub struct OutRef<'b> {
-    /// To whom it goes.
-    pub side: Side,
-    /// MsgSeqNum(34), at most 999,999,999.
-    pub number: u32,
-    /// Whether it is administrative.
-    pub admin: bool,
-    /// Whether it has PossResend(97) with `Y`.
-    pub resend: bool,
-    /// MsgType(35), of 1 to 8 bytes.
-    pub msg_type: &'b [u8],
-    /// The fields behind the header, of at most 7,936 bytes.
-    pub content: &'b [u8],
-}
-
 /// An out in front, where its bytes stand, and what is behind it.
 pub fn out_ref(bytes: &[u8]) -> Option<(OutRef<'_>, &[u8])>
     ensures { MatchOption result
         ((out : Out) (rest : List ℕ) → IsOut out → bytes.now ≡ out_bytes out ++ rest → ⊥)
-        (λ x. (bytes.now ≡ out_bytes (out_said x.0) ++ x.1.now) × IsOut (out_said x.0)) }
+        (λ x. (bytes.now ≡ out_bytes x.0 ++ x.1.now) × IsOut x.0) }
 {
     let Some((head, rest)) = head_front(bytes) else {
         return None;
@@ -335,49 +293,29 @@ pub fn out_ref(bytes: &[u8]) -> Option<(OutRef<'_>, &[u8])>
     Some((out, rest))
 }
 
-/// An out in front, copied, and what is behind it.
-fn out_front(alloc: Global, bytes: &[u8]) -> Result<Option<(Out, &[u8])>, AllocError>
-    ensures { IfOk result (λ r. MatchOption r
-        ((out : Out) (rest : List ℕ) → IsOut out → bytes.now ≡ out_bytes out ++ rest → ⊥)
-        (λ x. (bytes.now ≡ out_bytes x.0 ++ x.1.now) × IsOut x.0)) }
-{
-    let Some((out, rest)) = out_ref(bytes) else {
-        return Ok(None);
-    };
-    let out = Out {
-        side: out.side,
-        number: out.number,
-        admin: out.admin,
-        resend: out.resend,
-        msg_type: Bytes::copy(alloc, out.msg_type)?,
-        content: Bytes::copy(alloc, out.content)?,
-    };
-    Ok(Some((out, rest)))
-}
-
 /// So many outs in front, and what is behind them.
-fn outs_front(alloc: Global, count: u8, bytes: &[u8]) -> Result<Option<(Outs, &[u8])>, AllocError>
+fn outs_front(count: u8, bytes: &[u8]) -> Option<(OutRefs<'_>, &[u8])>
     requires { count ≤ MAX_OUTS }
-    ensures { IfOk result (λ r. MatchOption r
+    ensures { MatchOption result
         ((outs : List Out) (rest : List ℕ) → AreOuts outs → length outs ≡ count →
         bytes.now ≡ flat_map out_bytes outs ++ rest → ⊥)
         (λ x. (bytes.now ≡ flat_map out_bytes x.0 ++ x.1.now) × AreOuts x.0 ×
-        (length x.0 ≡ count))) }
+        (length x.0 ≡ count)) }
 {
-    let mut outs = Outs::new(alloc);
+    let mut outs = OutRefs::new();
     let mut rest = bytes;
     while outs.as_slice().len() < usize::from(count) {
-        let Some((out, after)) = out_front(alloc, rest)? else {
-            return Ok(None);
+        let Some((out, after)) = out_ref(rest) else {
+            return None;
         };
-        outs.push(out)?;
+        outs.push(out);
         rest = after;
     }
-    Ok(Some((outs, rest)))
+    Some((outs, rest))
 }
 
 /// An entry but for its outs, where its bytes stand.
-#[derive(Clone, Copy)]
+#[derive(Drop)]
 pub struct Front<'b> {
     /// When it was, in milliseconds since 1970-01-01 00:00 UTC.
     pub at: u64,
@@ -417,49 +355,56 @@ pub fn front_of(bytes: &[u8]) -> Option<Front<'_>>
     })
 }
 
-/// The entry that these bytes spell, all of them.
-pub fn read_entry(alloc: Global, bytes: &[u8]) -> Result<Option<Entry>, AllocError>
-    ensures { IfOk result (λ r. MatchOption r
+/// The entry that these bytes spell, all of them, where they stand. It takes no memory.
+pub fn entry_ref(bytes: &[u8]) -> Option<EntryRef<'_>>
+    ensures { MatchOption result
         ((entry : Entry) → IsEntry entry → bytes.now ≡ entry_bytes entry → ⊥)
-        (λ entry. (bytes.now ≡ entry_bytes entry) × IsEntry entry)) }
+        (λ entry. (bytes.now ≡ entry_bytes entry) × IsEntry entry) }
 {
     let Some(front) = front_of(bytes) else {
-        return Ok(None);
+        return None;
     };
-    let Some(outs) = all_outs(alloc, front.outs)? else {
-        return Ok(None);
+    let Some(outs) = all_outs(front.outs) else {
+        return None;
     };
     if front.reset && !outs.as_slice().is_empty() {
-        return Ok(None);
+        return None;
     }
-    Ok(Some(Entry {
-        at: front.at,
-        reset: front.reset,
-        took: took_copied(alloc, front.took)?,
-        next: front.next,
+    let Front {
+        at,
+        reset,
+        took,
+        next,
+        ..
+    } = front;
+    Some(EntryRef {
+        at,
+        reset,
+        took,
+        next,
         outs,
-    }))
+    })
 }
 
 /// The outs that these bytes spell behind their count, all of them.
-fn all_outs(alloc: Global, bytes: &[u8]) -> Result<Option<Outs>, AllocError>
-    ensures { IfOk result (λ r. MatchOption r
+fn all_outs(bytes: &[u8]) -> Option<OutRefs<'_>>
+    ensures { MatchOption result
         ((outs : List Out) → AreOuts outs → length outs ≤ MAX_OUTS →
         bytes.now ≡ length outs ∷ flat_map out_bytes outs → ⊥)
         (λ outs. (bytes.now ≡ length outs ∷ flat_map out_bytes outs) × AreOuts outs ×
-        (length outs ≤ MAX_OUTS))) }
+        (length outs ≤ MAX_OUTS)) }
 {
     let Some((count, rest)) = u8_front(bytes) else {
-        return Ok(None);
+        return None;
     };
     if usize::from(count) > MAX_OUTS {
-        return Ok(None);
+        return None;
     }
-    let Some((outs, rest)) = outs_front(alloc, count, rest)? else {
-        return Ok(None);
+    let Some((outs, rest)) = outs_front(count, rest) else {
+        return None;
     };
     if rest.len() > 0 {
-        return Ok(None);
+        return None;
     }
-    Ok(Some(outs))
+    Some(outs)
 }

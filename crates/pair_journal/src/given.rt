@@ -1,19 +1,17 @@
 //! An out by its side and number, and the message that it translated.
 
 ghost use Rattle.std.specs.Prelude.{◌≡◌, ◌==◌, ◌&&◌, ◌∷◌, ◌++◌, ℕ, List, length, IfSome};
-ghost use Rattle.std.specs.Option.{option_map};
 ghost use Rattle.std.specs.List.{list_any, flat_map};
 ghost use Rattle.pair_entries.specs.declared.entry.Out.{Out};
 ghost use Rattle.pair_entries.specs.declared.entry.Entry.{Entry};
 ghost use Rattle.pair_entries.specs.Payload.{IsOut, AreOuts, out_bytes};
-ghost use Rattle.pair_entries.specs.Parts.{out_said};
 ghost use Rattle.pair_journal.specs.Numbers.{is_side, outs_to};
 ghost use Rattle.pair_journal.specs.Given.{numbered, letters_to, has_letter, is_source};
 ghost use Rattle.pair_journal.specs.Given.{source_in};
 
 use crate::numbers::is_side;
 use order_meaning::Side;
-use pair_entries::{Entry, Front, Out, OutRef, Took, out_ref, u8_front};
+use pair_entries::{EntryRef, Front, OutRef, TookRef, out_ref, u8_front};
 
 /// The byte that ends a field; this crate stands on none that reads fields.
 const SOH: u8 = 1;
@@ -27,10 +25,10 @@ fn is_of(side: Side, number: u32, out: &OutRef<'_>) -> bool
 
 /// The first out of this side and number among so many that stand in front.
 fn out_among(side: Side, number: u32, count: u8, bytes: &[u8]) -> Option<OutRef<'_>>
-    ensures bounds { IfSome (option_map out_said result) IsOut }
+    ensures bounds { IfSome result IsOut }
     ensures finds { (outs : List Out) (rest : List ℕ) → AreOuts outs → length outs ≡ count →
         bytes.now ≡ flat_map out_bytes outs ++ rest →
-        option_map out_said result ≡ numbered number (outs_to side outs) }
+        result ≡ numbered number (outs_to side outs) }
 {
     if count == 0 {
         return None;
@@ -46,10 +44,10 @@ fn out_among(side: Side, number: u32, count: u8, bytes: &[u8]) -> Option<OutRef<
 
 /// The out of this side and number in an entry of which this is the front.
 pub(crate) fn out_in<'b>(side: Side, number: u32, front: &Front<'b>) -> Option<OutRef<'b>>
-    ensures bounds { IfSome (option_map out_said result) IsOut }
+    ensures bounds { IfSome result IsOut }
     ensures finds { (entry : Entry) → AreOuts entry.outs →
         front.now.outs.now ≡ length entry.outs ∷ flat_map out_bytes entry.outs →
-        option_map out_said result ≡ numbered number (outs_to side entry.outs) }
+        result ≡ numbered number (outs_to side entry.outs) }
 {
     let Some((count, outs)) = u8_front(front.outs) else {
         return None;
@@ -75,18 +73,18 @@ fn has_letter(letter: u8, raw: &[u8]) -> bool
 }
 
 /// Whether an out of this side and letter translates what was taken.
-fn is_source(took: &Took, side: Side, letter: u8) -> bool
+fn is_source(took: &TookRef<'_>, side: Side, letter: u8) -> bool
     ensures { result ≡ is_source took.now side letter }
 {
-    !is_side(side, took.side) && is_letter(side, letter) && has_letter(letter, took.raw.as_slice())
+    !is_side(side, took.side) && is_letter(side, letter) && has_letter(letter, took.raw)
 }
 
 /// The number and the type's letter of the message that an out of this entry translates.
-pub fn source_in(entry: &Entry, out: &Out) -> Option<(u32, u8)>
+pub fn source_in(entry: &EntryRef<'_>, out: &OutRef<'_>) -> Option<(u32, u8)>
     ensures { result ≡ source_in (record { entry = entry.now; out = out.now }) }
 {
     let took = entry.took.as_ref()?;
-    match out.msg_type.as_slice() {
+    match out.msg_type {
         [letter] if is_source(took, out.side, *letter) => Some((took.number, *letter)),
         _ => None,
     }

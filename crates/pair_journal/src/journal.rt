@@ -1,6 +1,6 @@
 //! A journal: its names and its entries, and the calls that read and lengthen it.
 
-ghost use Rattle.std.specs.Prelude.{◌≡◌, ◌≢◌, ◌⊎◌, ◌+◌, ◌≤◌, ◌<◌, ℕ, [], length, true, false};
+ghost use Rattle.std.specs.Prelude.{◌≡◌, ◌≢◌, ◌⊎◌, ◌+◌, ◌^◌, ◌≤◌, ◌<◌, ℕ, [], length, true, false};
 ghost use Rattle.std.specs.Prelude.{Some, None, Ok, Err, IfOk, IfErr};
 ghost use Rattle.std.specs.Prelude.{IfSome, OnOk, OnErr, IsOkUnless, is_some};
 ghost use Rattle.std.specs.Option.{ForSome};
@@ -17,7 +17,7 @@ ghost use Rattle.pair_entries.specs.Birth.{AreNames};
 ghost use Rattle.pair_journal.specs.Numbers.{GoesOn, first_numbers, numbers_before, numbers_after};
 ghost use Rattle.pair_journal.specs.Numbers.{next_out, outs_to};
 ghost use Rattle.pair_journal.specs.Journal.{JournalOf, Unborn, Born, DaysGoOn};
-ghost use Rattle.pair_journal.specs.Days.{last_day, day_at};
+ghost use Rattle.pair_journal.specs.Days.{last_day, day_after, day_at};
 ghost use Rattle.pair_entries.specs.declared.TheConstants.{MAX_AT};
 ghost use Rattle.pair_journal.specs.Given.{numbered, given_in, given, source_of};
 ghost use Rattle.pair_journal.specs.Spots.{IsSpot, StandsAt};
@@ -82,6 +82,14 @@ fn tell_out(record: &[u8], side: Side, number: u32, told: &mut OutTold) -> bool
     };
     told.tell(front.at, out);
     true
+}
+
+/// The number of the day of an entry that is to be committed, behind those of this day.
+fn day_behind(day: u32, entry: &Entry) -> u32
+    requires { day + 1 < 2 ^ 32 }
+    ensures { result ≡ day_after day entry.now }
+{
+    day_after(day, &entry.as_ref())
 }
 
 impl Journal {
@@ -350,7 +358,7 @@ impl Journal {
         ensures reads { D.reads disk.new ≡ D.reads disk.old }
         ensures cause { HasDiskCause (D.faults disk.old) (D.faults disk.new) result }
     {
-        let day = day_after(self.kept.day(), prepared.entry());
+        let day = day_behind(self.kept.day(), prepared.entry());
         let dated = prepared.dated(day);
         let payload = dated.payload();
         let len = payload.len() as u64;

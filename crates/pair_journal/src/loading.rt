@@ -19,8 +19,8 @@ use crate::{JournalError, Reader};
 use gate_log::{Chunk, Log, u32_front};
 use order_meaning::Names;
 use outside::{Disk, MAX_DISK};
-use pair_entries::{Entry, read_birth, read_entry};
-use std::alloc::{AllocError, Global};
+use pair_entries::{EntryRef, entry_ref, read_birth};
+use std::alloc::Global;
 
 /// Finds the payload of the record at this place.
 pub(crate) fn read_record<D: Disk>(
@@ -62,60 +62,46 @@ fn read_names<D: Disk>(log: &Log, disk: &mut D, chunk: &mut Chunk) -> Result<Nam
 }
 
 /// The entry that this payload spells behind this day, where its numbers go on from these.
-fn entry_after(
-    alloc: Global,
-    day: u32,
-    numbers: Next,
-    payload: &[u8],
-) -> Result<Option<Entry>, AllocError>
+fn entry_after(day: u32, numbers: Next, payload: &[u8]) -> Option<EntryRef<'_>>
     requires { day + 1 < 2 ^ 32 }
-    ensures { IfOk result (λ r. MatchOption r
+    ensures { MatchOption result
         ((entry : Entry) → Follows day numbers payload.now entry → ⊥)
-        (λ entry. Follows day numbers payload.now entry)) }
+        (λ entry. Follows day numbers payload.now entry) }
 {
     // Its day stands in front of it.
     let Some((on, bytes)) = u32_front(payload) else {
-        return Ok(None);
+        return None;
     };
-    let Some(entry) = read_entry(alloc, bytes)? else {
-        return Ok(None);
+    let Some(entry) = entry_ref(bytes) else {
+        return None;
     };
     if on != day_after(day, &entry) {
-        return Ok(None);
+        return None;
     }
     if !goes_on(numbers_before(numbers, &entry), &entry) {
-        return Ok(None);
+        return None;
     }
-    Ok(Some(entry))
+    Some(entry)
 }
 
 /// The day and the next numbers behind the entry that this payload spells, where it goes on from
-/// these; none exactly where it spells none that does.
-///
-/// # Errors
-/// `AllocError` for want of memory.
-pub fn payload_next(
-    alloc: Global,
-    payload: &[u8],
-    day: u32,
-    numbers: Next,
-) -> Result<Option<(u32, Next)>, AllocError>
+/// these; none exactly where it spells none that does. It takes no memory.
+pub fn payload_next(payload: &[u8], day: u32, numbers: Next) -> Option<(u32, Next)>
     requires { day + 1 < 2 ^ 32 }
-    ensures { IfOk result (λ r. MatchOption r
+    ensures { MatchOption result
         ((entry : Entry) → Follows day numbers payload.now entry → ⊥)
         (λ x. (entry : Entry) × Follows day numbers payload.now entry
-        × (x.0 ≡ day_after day entry) × (x.1 ≡ entry.next))) }
+        × (x.0 ≡ day_after day entry) × (x.1 ≡ entry.next)) }
 {
-    match entry_after(alloc, day, numbers, payload)? {
-        Some(entry) => Ok(Some((day_after(day, &entry), entry.next))),
-        None => Ok(None),
+    match entry_after(day, numbers, payload) {
+        Some(entry) => Some((day_after(day, &entry), entry.next)),
+        None => None,
     }
 }
 
 /// What a keeper, which has none yet, keeps of the entries in the records of a log behind its birth
 /// record. Each is shown to a reader.
 fn read_entries<D: Disk, R: Reader, K: Keeper + Drop>(
-    alloc: Global,
     log: &Log,
     names: &Names,
     disk: &mut D,
@@ -143,7 +129,7 @@ fn read_entries<D: Disk, R: Reader, K: Keeper + Drop>(
         }
         read_record(chunk, disk, end.place)?;
         let payload = chunk.payload();
-        let Some(entry) = entry_after(alloc, kept.day(), end.next, payload)? else {
+        let Some(entry) = entry_after(kept.day(), end.next, payload) else {
             return Err(JournalError::Refused { at: end.place });
         };
         reader.saw(&entry)?;
@@ -179,6 +165,6 @@ pub(crate) fn read_log<D: Disk, R: Reader, K: Keeper + Drop>(
 {
     let mut chunk = Chunk::new(alloc)?;
     let names = read_names(log, disk, &mut chunk)?;
-    let kept = read_entries(alloc, log, &names, disk, &mut chunk, reader, keeper)?;
+    let kept = read_entries(log, &names, disk, &mut chunk, reader, keeper)?;
     Ok((names, kept))
 }

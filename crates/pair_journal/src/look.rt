@@ -25,7 +25,7 @@ use crate::{JournalError, NoReader};
 use gate_log::{Chunk, Log, u32_front};
 use order_meaning::Names;
 use outside::Disk;
-use pair_entries::{Entry, read_entry};
+use pair_entries::{Entry, entry_ref};
 use std::alloc::Global;
 use std::marker::Model;
 
@@ -132,11 +132,11 @@ impl Look {
         let Some((_, bytes)) = u32_front(record) else {
             return Err(JournalError::Refused { at: spot.place });
         };
-        let Some(entry) = read_entry(self.alloc, bytes)? else {
+        let Some(entry) = entry_ref(bytes) else {
             return Err(JournalError::Refused { at: spot.place });
         };
         let next = spot.behind(&entry, record.len() as u64);
-        Ok((entry, next))
+        Ok((entry.to_entry(self.alloc)?, next))
     }
 
     /// The entry of this index, which counts from 0; the walk goes on to it, and behind it. It reads

@@ -7,7 +7,7 @@ ghost use Rattle.pair_journal.specs.Numbers.{OutsGoOn, InStays, GoesOn, numbers_
 ghost use Rattle.pair_journal.specs.Days.{day_after, begun_with};
 
 use order_meaning::Side;
-use pair_entries::{Entry, MAX_NEXT, Out, Took};
+use pair_entries::{EntryRef, MAX_NEXT, OutRef, TookRef};
 
 /// The next numbers: client in, client out, venue in, venue out.
 pub(crate) type Next = (u32, u32, u32, u32);
@@ -16,7 +16,7 @@ pub(crate) type Next = (u32, u32, u32, u32);
 pub(crate) const FIRST: Next = (1, 1, 1, 1);
 
 /// The number of an entry's day behind those of this day.
-pub(crate) fn day_after(day: u32, entry: &Entry) -> u32
+pub(crate) fn day_after(day: u32, entry: &EntryRef<'_>) -> u32
     requires { day + 1 < 2 ^ 32 }
     ensures { result ≡ day_after day entry.now }
 {
@@ -24,7 +24,7 @@ pub(crate) fn day_after(day: u32, entry: &Entry) -> u32
 }
 
 /// When the last day began, with an entry behind those before it.
-pub(crate) fn begun_with(at: Option<u64>, entry: &Entry) -> Option<u64>
+pub(crate) fn begun_with(at: Option<u64>, entry: &EntryRef<'_>) -> Option<u64>
     ensures { result ≡ begun_with at entry.now }
 {
     match at {
@@ -34,7 +34,7 @@ pub(crate) fn begun_with(at: Option<u64>, entry: &Entry) -> Option<u64>
 }
 
 /// From which numbers those of an entry go on, where these stand behind those before it.
-pub(crate) fn numbers_before(before: Next, entry: &Entry) -> Next
+pub(crate) fn numbers_before(before: Next, entry: &EntryRef<'_>) -> Next
     ensures { result ≡ numbers_before before entry.now }
 {
     if entry.reset { FIRST } else { before }
@@ -71,7 +71,7 @@ pub(crate) fn next_out(side: Side, next: Next) -> u32
 }
 
 /// Whether the outs to a side count up from this number, to the one before this next number.
-fn are_numbered(side: Side, from: u32, to: u32, outs: &[Out]) -> bool
+fn are_numbered(side: Side, from: u32, to: u32, outs: &[OutRef<'_>]) -> bool
     requires { AreOuts outs.now }
     ensures { IsTrue result ↔
         Numbered from (outs_to side outs.now) × (to ≡ from + length (outs_to side outs.now)) }
@@ -88,7 +88,7 @@ fn are_numbered(side: Side, from: u32, to: u32, outs: &[Out]) -> bool
 }
 
 /// Whether the outs of a side count up from its next out, which is then one past the last.
-fn outs_go_on(side: Side, before: Next, entry: &Entry) -> bool
+fn outs_go_on(side: Side, before: Next, entry: &EntryRef<'_>) -> bool
     requires { IsEntry entry.now }
     ensures { IsTrue result ↔ OutsGoOn side before entry.now }
 {
@@ -97,7 +97,7 @@ fn outs_go_on(side: Side, before: Next, entry: &Entry) -> bool
 }
 
 /// Whether the numbers of an entry go on from these.
-pub(crate) fn goes_on(before: Next, entry: &Entry) -> bool
+pub(crate) fn goes_on(before: Next, entry: &EntryRef<'_>) -> bool
     requires { IsEntry entry.now }
     ensures { IsTrue result ↔ GoesOn before entry.now }
 {
@@ -108,7 +108,7 @@ pub(crate) fn goes_on(before: Next, entry: &Entry) -> bool
 }
 
 /// Whether the next number that a side takes is as before, or the entry took a message of it.
-fn next_in_stays(side: Side, before: Next, entry: &Entry) -> bool
+fn next_in_stays(side: Side, before: Next, entry: &EntryRef<'_>) -> bool
     ensures { IsTrue result ↔ InStays side before entry.now }
 {
     match &entry.took {

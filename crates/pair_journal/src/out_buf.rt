@@ -1,7 +1,6 @@
 //! Room for one out that is read from a journal.
 
 ghost use Rattle.std.specs.Prelude.{◌≡◌, ◌+◌, ◌≤◌, [], length, IfOk};
-ghost use Rattle.pair_entries.specs.Parts.{out_said};
 ghost use Rattle.pair_journal.specs.OutBuf.{out_at};
 ghost use Rattle.pair_journal.specs.Buffer.{out_told, IsRoomy};
 ghost use Rattle.pair_journal.specs.Walks.{BeginsOuts};
@@ -48,8 +47,8 @@ impl OutTold {
     /// Takes in an out, and the moment of its entry.
     pub(crate) fn tell(&mut self, at: u64, out: OutRef<'_>)
         requires room { IsRoomy self.old }
-        requires fits { length out.msg_type.now + length out.content.now ≤ OUT_ROOM }
-        ensures told { out_told self.new ≡ out_at at (out_said out.entry) }
+        requires fits { length out.msg_type + length out.content ≤ OUT_ROOM }
+        ensures told { out_told self.new ≡ out_at at out.entry }
         ensures room { IsRoomy self.new }
     {
         self.bytes.clear();

@@ -4,7 +4,7 @@ ghost use Rattle.std.specs.Prelude.{◌≡◌, [], ◌∷◌, ◌++◌, List};
 ghost use Rattle.pair_entries.specs.declared.entry.Entry.{Entry};
 ghost use Rattle.pair_journal.specs.Past.{coded_entries};
 
-use pair_entries::Entry;
+use pair_entries::{Entry, EntryRef};
 use std::marker::{Model, PhantomData};
 
 /// The entries that were read or committed. It has no bytes: they stand on the disk.
@@ -38,9 +38,11 @@ pub(crate) fn none() -> Past
     seen_as(&())
 }
 
-/// One entry more.
-pub(crate) fn joined(past: &Past, entry: &Entry) -> Past
-    ensures { result.entries ≡ past.now.entries ++ entry.now ∷ [] }
+/// One entry more, picked by what is seen here.
+pub(crate) fn joined(past: &Past, entry: &EntryRef<'_>) -> Past
+    ghost more: { Entry }
+    ensures { result.entries ≡ past.now.entries ++ more ∷ [] }
 {
-    seen_as(&(past, entry))
+    let _ = entry;
+    seen_as(past)
 }

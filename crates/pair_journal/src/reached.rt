@@ -11,7 +11,7 @@ ghost use Rattle.pair_journal.specs.Spots.{behind, end_of};
 use crate::numbers::day_after;
 use crate::past::{Past, joined, none};
 use crate::spot::{Spot, start};
-use pair_entries::Entry;
+use pair_entries::EntryRef;
 use std::alloc::AllocError;
 use std::marker::Model;
 
@@ -35,7 +35,7 @@ pub(crate) trait Keeper {
     ///
     /// # Errors
     /// `AllocError` for want of memory.
-    fn keep(&mut self, entry: &Entry, len: u64) -> Result<(), AllocError>
+    fn keep(&mut self, entry: &EntryRef<'_>, len: u64) -> Result<(), AllocError>
         requires sound { IsEntry entry.now }
         requires goes_on { GoesOn (numbers_before
             (numbers_after first_numbers (entries self.old)) entry.now) entry.now }
@@ -79,7 +79,7 @@ impl Reached {
     }
 
     /// Adds an entry, by the length of its payload.
-    pub(crate) fn add(&mut self, entry: &Entry, len: u64)
+    pub(crate) fn add(&mut self, entry: &EntryRef<'_>, len: u64)
         requires sound { IsEntry entry.now }
         requires goes_on { GoesOn (numbers_before (numbers_after first_numbers self.old) entry.now)
             entry.now }
@@ -104,7 +104,7 @@ impl Keeper for Reached {
         self.day
     }
 
-    fn keep(&mut self, entry: &Entry, len: u64) -> Result<(), AllocError> {
+    fn keep(&mut self, entry: &EntryRef<'_>, len: u64) -> Result<(), AllocError> {
         self.add(entry, len);
         Ok(())
     }

@@ -11,7 +11,7 @@ ghost use Rattle.pair_journal.specs.Sources.{source_to, sources_in, sources_to, 
 use crate::given::source_in;
 use crate::numbers::is_side;
 use order_meaning::Side;
-use pair_entries::{Entry, Out};
+use pair_entries::{EntryRef, OutRef};
 
 /// What an out translates: its number, and the number and the type's letter of the message.
 #[derive(Clone, Copy, Debug)]
@@ -22,7 +22,7 @@ pub(crate) struct Source {
 }
 
 /// What an out of an entry translates, if it goes to this side.
-fn source_to(side: Side, entry: &Entry, out: &Out) -> Option<Source>
+fn source_to(side: Side, entry: &EntryRef<'_>, out: &OutRef<'_>) -> Option<Source>
     ensures { result ≡ source_to side entry.now out.now }
 {
     if !is_side(side, out.side) {
@@ -38,7 +38,7 @@ fn source_to(side: Side, entry: &Entry, out: &Out) -> Option<Source>
 
 /// Notes what the outs of an entry translate, for which there is room; with a new day, nothing is
 /// kept.
-pub(crate) fn note(list: &mut Vec<Source>, side: Side, entry: &Entry)
+pub(crate) fn note(list: &mut Vec<Source>, side: Side, entry: &EntryRef<'_>)
     requires room { vec_len list.old + length entry.now.outs ≤ vec_capacity list.old }
     ensures items { list.new.items ≡ noted side entry.now list.old.items }
 {
@@ -50,7 +50,7 @@ pub(crate) fn note(list: &mut Vec<Source>, side: Side, entry: &Entry)
 }
 
 /// Adds what these outs of an entry translate, for which there is room.
-fn note_outs(list: &mut Vec<Source>, side: Side, entry: &Entry, outs: &[Out])
+fn note_outs(list: &mut Vec<Source>, side: Side, entry: &EntryRef<'_>, outs: &[OutRef<'_>])
     requires room { vec_len list.old + length outs.now ≤ vec_capacity list.old }
     ensures items { list.new.items ≡ list.old.items ++ sources_in side entry.now outs.now }
     ensures capacity { vec_capacity list.new ≡ vec_capacity list.old }

@@ -8,7 +8,7 @@ ghost use Rattle.pair_journal.specs.Spots.{behind, AreMarks};
 
 use crate::numbers::{FIRST, Next};
 use gate_log::BIRTH_LEN;
-use pair_entries::Entry;
+use pair_entries::EntryRef;
 
 /// How many entries stand between one mark and the next.
 pub(crate) const STRIDE: u64 = 64;
@@ -24,7 +24,7 @@ pub(crate) struct Spot {
 
 impl Spot {
     /// The spot behind the entry that stands here, by the length of its payload.
-    pub(crate) fn behind(self, entry: &Entry, len: u64) -> Spot
+    pub(crate) fn behind(self, entry: &EntryRef<'_>, len: u64) -> Spot
         requires index { self.index + 1 < 2 ^ 64 }
         requires place { self.place + 5 + len < 2 ^ 64 }
         ensures { result ≡ record {

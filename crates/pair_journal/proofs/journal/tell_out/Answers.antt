@@ -1,7 +1,6 @@
 use Rattle.std.proofs.Common.{◌∙◌, sym, ap, subst, true}
 use Rattle.std.specs.declared.option.Option.{Option}
 use Rattle.pair_entries.specs.declared.entry.Out.{Out}
-use Rattle.pair_entries.specs.Parts.{out_said}
 use Rattle.pair_entries.proofs.Same.{front_is}
 use Rattle.pair_journal.specs.Buffer.{out_told}
 use Rattle.pair_journal.specs.OutBuf.{TellsIf, out_at}
@@ -31,4 +30,4 @@ returns-clause-gives c = λ entry is written.
     ∙ behind_day c.args.record.now c.in-Some.bytes.now _ entry written c.in-Some.ensures.0) in
     let found = c.in-Some-out_in.ensures.finds entry is.outs says.outs in
     subst (λ (o : Option Out). TellsIf true o entry.at (out_told c.tell.new.self)) found
-    (c.tell.ensures.told ∙ ap (λ n. out_at n (out_said c.in-Some-out_in.out)) says.at)
+    (c.tell.ensures.told ∙ ap (λ n. out_at n c.in-Some-out_in.out) says.at)

@@ -3,7 +3,6 @@ use Rattle.std.specs.Int.{w32, to_be_bytes}
 use Rattle.gate_log.proofs.Blocks.{same_front}
 use Rattle.pair_entries.specs.declared.entry.Entry.{Entry}
 use Rattle.pair_entries.specs.Payload.{Next, IsEntry, entry_bytes, payload_on}
-use Rattle.pair_entries.proofs.Fronts.{at_none, at_some}
 use Rattle.pair_entries.proofs.Same.{same_entry}
 use Rattle.pair_journal.specs.Numbers.{GoesOn, numbers_before}
 use Rattle.pair_journal.specs.Days.{day_after}
@@ -27,41 +26,41 @@ returns-in_default c = λ entry follows.
     has_day c.args.payload.now entry (day_after c.args.day entry, follows.written)
     c.in_default.ensures
 
-pub returns-in_default-2 : goal.returns-in_default-2
-returns-in_default-2 c = λ entry follows.
-    at_none _ _ _ c.in_default-2.is c.in_ok-entry.ensures entry follows.sound
+pub returns-in_default-entry_ref : goal.returns-in_default-entry_ref
+returns-in_default-entry_ref c = λ entry follows.
+    c.in_default-entry_ref.ensures entry follows.sound
     (behind_day c.args.payload.now c.in-Some.bytes.now c.in-Some.on entry
     (day_after c.args.day entry, follows.written) c.in-Some.ensures.0)
 
 pub returns-then-on-day_after : goal.returns-then-on-day_after
 returns-then-on-day_after c = λ entry follows.
-    let x = at_some _ _ _ _ c.in-Some-2.is c.in_ok-entry.ensures in
+    let x = c.in-Some-entry_ref.ensures in
     let one = the_one c.args.payload.now c.in-Some.bytes.now c.args.day c.in-Some.on
-    c.args.numbers c.in-Some-2.entry entry c.in-Some.ensures.0 c.in-Some.ensures.1 c.requires
+    c.args.numbers c.in-Some-entry_ref.entry entry c.in-Some.ensures.0 c.in-Some.ensures.1 c.requires
     x.0 x.1 follows in
     c.if-on-day_after.true (one.1 ∙ ap (λ (e : Entry). day_after c.args.day e) (sym one.0)
     ∙ sym c.day_after.ensures)
 
 pub returns-then-not-goes_on : goal.returns-then-not-goes_on
 returns-then-not-goes_on c = λ entry follows.
-    let x = at_some _ _ _ _ c.in-Some-2.is c.in_ok-entry.ensures in
+    let x = c.in-Some-entry_ref.ensures in
     let one = the_one c.args.payload.now c.in-Some.bytes.now c.args.day c.in-Some.on
-    c.args.numbers c.in-Some-2.entry entry c.in-Some.ensures.0 c.in-Some.ensures.1 c.requires
+    c.args.numbers c.in-Some-entry_ref.entry entry c.in-Some.ensures.0 c.in-Some.ensures.1 c.requires
     x.0 x.1 follows in
     let on = subst (λ (e : Entry). GoesOn (numbers_before c.args.numbers e) e) (sym one.0)
     follows.goes_on in
     let test : IsTrue c.goes_on.result = c.goes_on.ensures.1
-    (subst (λ (n : Next). GoesOn n c.in-Some-2.entry) (sym c.numbers_before.ensures) on) in
+    (subst (λ (n : Next). GoesOn n c.in-Some-entry_ref.entry) (sym c.numbers_before.ensures) on) in
     let no = subst IsTrue c.if-not-goes_on.true test in
     absurd (cc no)
 
 pub returns : goal.returns
 returns c =
-    let x = at_some _ _ _ _ c.in-Some-2.is c.in_ok-entry.ensures in
+    let x = c.in-Some-entry_ref.ensures in
     record {
       written = c.in-Some.ensures.0 ∙ ap (λ b. to_be_bytes w32 c.in-Some.on ++ b) x.0
-          ∙ ap (λ n. payload_on n c.in-Some-2.entry) (c.if-on-day_after.false ∙ c.day_after.ensures);
+          ∙ ap (λ n. payload_on n c.in-Some-entry_ref.entry) (c.if-on-day_after.false ∙ c.day_after.ensures);
       sound = x.1;
-      goes_on = subst (λ (n : Next). GoesOn n c.in-Some-2.entry) c.numbers_before.ensures
+      goes_on = subst (λ (n : Next). GoesOn n c.in-Some-entry_ref.entry) c.numbers_before.ensures
           (c.goes_on.ensures.0 c.if-not-goes_on.false);
     }

@@ -1,8 +1,6 @@
 use Rattle.std.proofs.Common.{◌≡◌, ◌<◌, ◌∷◌, ◌++◌, ◌∙◌, [], length, refl, sym}
 use Rattle.std.proofs.Common.{subst, ap, arith, length-append}
 use Rattle.gate_log.specs.Log.{ReadsPayload}
-use Rattle.pair_entries.specs.declared.entry.Entry.{Entry}
-use Rattle.pair_entries.proofs.Fronts.{at_none, at_some}
 use Rattle.pair_journal.specs.Loading.{Follows, Unread}
 use Rattle.pair_journal.proofs.Walking.{walks_at, only_read_still, only_read_on}
 use Rattle.pair_journal.proofs.Reading.{TellsFront, none_told, not_past, entry_unread, entry_misread}
@@ -57,10 +55,7 @@ returns-in_default-clause-err g c =
     entry_misread (g.D.Disk.bytes c.args.disk.now) c.args.log.now c.requires.stands
     c.args.names.now c.requires.named _ _ _ _ _ walks i.front
     (omega (arith, c.loop-index-test.true, c.count-index-end.ensures.count)) c.payload-payload.result.now read
-    (λ entry follows. at_none c.in_ok-entry.field-0
-    ((e : Entry) → Follows c.day.result c.end-end.result.next c.payload-payload.result.now e → ⊥)
-    (λ (e : Entry). Follows c.day.result c.end-end.result.next c.payload-payload.result.now e)
-    c.in_default.is c.in_ok-entry.ensures entry follows)
+    c.in_default.ensures
 
 pub loop-index-preserved : goal.loop-index-preserved
 loop-index-preserved g c =
@@ -75,10 +70,7 @@ loop-index-preserved g c =
     i.only_read.same (subst (ReadsPayload (g.D.Disk.bytes c.loop-index.disk) c.end-end.result.place)
     (sym c.payload-payload.ensures.payload) c.in_ok-read_record.ensures.payload) in
     let follows : Follows c.day.result c.end-end.result.next c.payload-payload.result.now entry =
-    at_some c.in_ok-entry.field-0 entry
-    ((e : Entry) → Follows c.day.result c.end-end.result.next c.payload-payload.result.now e → ⊥)
-    (λ (e : Entry). Follows c.day.result c.end-end.result.next c.payload-payload.result.now e)
-    c.in-Some.is c.in_ok-entry.ensures in
+    c.in-Some.ensures in
     let pushed : g.K.Keeper.entries c.keep.new.self ≡ entries ++ entry ∷ [] =
     c.in_ok-keep.ensures in
     record {

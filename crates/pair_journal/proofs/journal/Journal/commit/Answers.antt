@@ -31,8 +31,8 @@ add-requires-clause-goes_on g c =
 pub returns-in_err-append-clause-commits : goal.returns-in_err-append-clause-commits
 returns-in_err-append-clause-commits g c =
     let said = dated_behind c.self.inside.kept.entries c.args.prepared c.entry.result.now
-    c.day.result c.day_after-day.result c.dated-dated.result c.payload-payload.result.now
-    c.day.ensures.number c.entry.ensures.entry c.day_after-day.ensures
+    c.day.result c.day_behind-day.result c.dated-dated.result c.payload-payload.result.now
+    c.day.ensures.number c.entry.ensures.entry c.day_behind-day.ensures
     c.dated-dated.ensures.dated c.payload-payload.ensures.bytes in
     commit_refused c.self.inside.log c.append.new.self c.self.inside.names c.self.inside.kept
     c.args.self.now c.self.view_is c.args.prepared c.payload-payload.result.now
@@ -42,8 +42,8 @@ returns-in_err-append-clause-commits g c =
 pub returns-in_err-append-clause-images : goal.returns-in_err-append-clause-images
 returns-in_err-append-clause-images g c =
     let said = dated_behind c.self.inside.kept.entries c.args.prepared c.entry.result.now
-    c.day.result c.day_after-day.result c.dated-dated.result c.payload-payload.result.now
-    c.day.ensures.number c.entry.ensures.entry c.day_after-day.ensures
+    c.day.result c.day_behind-day.result c.dated-dated.result c.payload-payload.result.now
+    c.day.ensures.number c.entry.ensures.entry c.day_behind-day.ensures
     c.dated-dated.ensures.dated c.payload-payload.ensures.bytes in
     let on = goes_on_inside (state_of c.self.inside) _ c.args.prepared c.self.view_is
     c.day.ensures.sound c.requires.goes_on in
@@ -57,8 +57,8 @@ returns-in_err-append-clause-images g c =
 pub returns-clause-images : goal.returns-clause-images
 returns-clause-images g c =
     let said = dated_behind c.self.inside.kept.entries c.args.prepared c.entry.result.now
-    c.day.result c.day_after-day.result c.dated-dated.result c.payload-payload.result.now
-    c.day.ensures.number c.entry.ensures.entry c.day_after-day.ensures
+    c.day.result c.day_behind-day.result c.dated-dated.result c.payload-payload.result.now
+    c.day.ensures.number c.entry.ensures.entry c.day_behind-day.ensures
     c.dated-dated.ensures.dated c.payload-payload.ensures.bytes in
     let on = goes_on_inside (state_of c.self.inside) _ c.args.prepared c.self.view_is
     c.day.ensures.sound c.requires.goes_on in
@@ -74,8 +74,8 @@ invariant_of-self-2 g c =
     let log = c.in_ok-append.ensures.appends.2 in
     let kept = c.self.invariant in
     let said = dated_behind c.self.inside.kept.entries c.args.prepared c.entry.result.now
-    c.day.result c.day_after-day.result c.dated-dated.result c.payload-payload.result.now
-    c.day.ensures.number c.entry.ensures.entry c.day_after-day.ensures
+    c.day.result c.day_behind-day.result c.dated-dated.result c.payload-payload.result.now
+    c.day.ensures.number c.entry.ensures.entry c.day_behind-day.ensures
     c.dated-dated.ensures.dated c.payload-payload.ensures.bytes in
     let same = c.into_entry-entry.ensures
     ∙ ap (λ (d : OnDay). d.entry) c.dated-dated.ensures.dated in
@@ -91,8 +91,8 @@ invariant_of-self-2 g c =
 pub returns-clause-stands : goal.returns-clause-stands
 returns-clause-stands g c = λ x e.
     let said = dated_behind c.self.inside.kept.entries c.args.prepared c.entry.result.now
-    c.day.result c.day_after-day.result c.dated-dated.result c.payload-payload.result.now
-    c.day.ensures.number c.entry.ensures.entry c.day_after-day.ensures
+    c.day.result c.day_behind-day.result c.dated-dated.result c.payload-payload.result.now
+    c.day.ensures.number c.entry.ensures.entry c.day_behind-day.ensures
     c.dated-dated.ensures.dated c.payload-payload.ensures.bytes in
     let on = goes_on_inside (state_of c.self.inside) _ c.args.prepared c.self.view_is
     c.day.ensures.sound c.requires.goes_on in
@@ -111,8 +111,8 @@ pub returns-clause-commits : goal.returns-clause-commits
 returns-clause-commits g c =
     let log = c.in_ok-append.ensures.appends in
     let said = dated_behind c.self.inside.kept.entries c.args.prepared c.entry.result.now
-    c.day.result c.day_after-day.result c.dated-dated.result c.payload-payload.result.now
-    c.day.ensures.number c.entry.ensures.entry c.day_after-day.ensures
+    c.day.result c.day_behind-day.result c.dated-dated.result c.payload-payload.result.now
+    c.day.ensures.number c.entry.ensures.entry c.day_behind-day.ensures
     c.dated-dated.ensures.dated c.payload-payload.ensures.bytes in
     let same = c.into_entry-entry.ensures
     ∙ ap (λ (d : OnDay). d.entry) c.dated-dated.ensures.dated in (

@@ -1,7 +1,6 @@
 use Rattle.std.proofs.Common.{◌+◌, ◌∙◌, length, sym, ap, subst, arith}
 use Rattle.std.specs.Option.{ForSome}
 use Rattle.pair_entries.specs.declared.entry.Entry.{Entry}
-use Rattle.pair_entries.proofs.Fronts.{at_none, at_some}
 use Rattle.pair_entries.proofs.Same.{same_entry}
 use Rattle.pair_journal.specs.Journal.{JournalOf, Born}
 use Rattle.pair_journal.specs.Loading.{IsPayload}
@@ -47,8 +46,8 @@ returns-in_default-clause-refuses g c = λ at is b e entry here.
     has_day c.payload-record.result.now entry (subst (λ l. IsPayload l entry)
     (sym c.payload-record.ensures.payload) read.0) c.in_default.ensures
 
-pub returns-in_default-2-clause-refuses : goal.returns-in_default-2-clause-refuses
-returns-in_default-2-clause-refuses g c = λ at is b e entry here.
+pub returns-in_default-entry_ref-clause-refuses : goal.returns-in_default-entry_ref-clause-refuses
+returns-in_default-entry_ref-clause-refuses g c = λ at is b e entry here.
     let told = g.D.Disk.bytes c.args.disk.now in
     let stands = subst (λ (s : JournalState). ForSome told
     (λ x. JournalOf x (Born s.names s.entries))) (sym c.self.view_is) c.requires.stands in
@@ -58,7 +57,7 @@ returns-in_default-2-clause-refuses g c = λ at is b e entry here.
     c.end.ensures.sound stands c.args.spot c.read_record.new.chunk.payload c.in-Some.bytes.now _
     c.in_ok-read_record.ensures.payload (sym c.payload-record.ensures.payload ∙ c.in-Some.ensures.0)
     b e entry there in
-    at_none _ _ _ c.in_default-2.is c.in_ok-entry.ensures entry rest.1 rest.0
+    c.in_default-entry_ref.ensures entry rest.1 rest.0
 
 pub returns-clause-entry : goal.returns-clause-entry
 returns-clause-entry g c = λ b e entry here.
@@ -74,10 +73,10 @@ returns-clause-entry g c = λ b e entry here.
     c.end.ensures.sound stands c.args.spot c.read_record.new.chunk.payload c.in-Some.bytes.now _
     c.in_ok-read_record.ensures.payload (sym c.payload-record.ensures.payload ∙ c.in-Some.ensures.0)
     b e entry there in
-    let x = at_some _ _ _ _ c.in-Some-2.is c.in_ok-entry.ensures in
-    let same = same_entry c.in-Some-2.entry entry x.1 rest.1 (sym x.0 ∙ rest.0) in
+    let x = c.in-Some-entry_ref.ensures in
+    let same = same_entry c.in-Some-entry_ref.entry entry x.1 rest.1 (sym x.0 ∙ rest.0) in
     let spot = c.args.spot in (
-      same,
+      c.in_ok-to_entry.ensures ∙ same,
       subst (λ (s : JournalState). IsSpot s.entries c.behind-next.result) c.self.view_is
           (next_spot c.self.inside.reached spot c.behind-next.result entry _ there
           (ap length c.payload-record.ensures.payload ∙ ap length read.0)

@@ -1,12 +1,13 @@
-use Rattle.std.proofs.Common.{◌≡◌, ◌∙◌, ◌++◌, Bool, true, false, ap, sym, subst}
+use Rattle.std.proofs.Common.{◌≡◌, ◌∙◌, Bool, true, false, ap, sym, subst}
 use Rattle.std.specs.Prelude.{if◌then◌else◌}
 use Rattle.order_meaning.specs.declared.Side.TheVariants.{Client, Venue}
+use Rattle.pair_entries.specs.declared.entry.Entry.{Entry}
 use Rattle.pair_journal.specs.Numbers.{GoesOn, first_numbers, numbers_before, numbers_after}
 use Rattle.pair_journal.specs.Spots.{behind, AreMarks}
 use Rattle.pair_journal.specs.State.{KeptState}
 use Rattle.pair_journal.specs.declared.spot.Spot.{Spot}
 use Rattle.pair_journal.proofs.Adding.{at_added, begins_added, sources_added, kept_added}
-use Rattle.pair_journal.proofs.kept.Kept.add.Goals as goal
+use Rattle.pair_journal.proofs.kept.Kept.add_ref.Goals as goal
 
 -- where the last day begins, by whether one does with the entry
 new_begins : (b : Bool) (here end begins : Spot) → b ≡ true → here ≡ end
@@ -24,6 +25,7 @@ invariant_of-self c =
     let entry = c.args.entry.now in
     let pushed = c.add.ensures in
     let kept = c.self.invariant in
+    let new : entry.reset ≡ c.entry.inside.reset = sym (ap (λ (e : Entry). e.reset) c.entry.view_is) in
     let sound = c.requires.sound in
     let on = subst (λ (k : KeptState). GoesOn (numbers_before
     (numbers_after first_numbers k.entries) entry) entry) (sym c.self.view_is) c.requires.goes_on in
@@ -31,8 +33,8 @@ invariant_of-self c =
       sound = c.end-end.ensures.sound;
       begins = begins_added old more entry pushed kept.sound sound on c.self.inside.begins _ _
           kept.begins c.end-end.ensures.end (elim c.if-entry.branch [
-            | goal.then-entry w ↦ new_begins entry.reset _ _ _ w.if-entry.true w.self-is
-            | goal.else-entry w ↦ old_begins entry.reset _ _ _ w.if-entry.false w.self-is
+            | goal.then-entry w ↦ new_begins entry.reset _ _ _ (new ∙ w.if-entry.true) w.self-is
+            | goal.else-entry w ↦ old_begins entry.reset _ _ _ (new ∙ w.if-entry.false) w.self-is
           ]);
       at = at_added old more entry pushed kept.sound sound on _ _ kept.at
           c.begun_with-self-inside.ensures;
