@@ -127,7 +127,7 @@ impl Core {
         ensures err { OnErr result (self.new ≡ self.old) }
     {
         match item {
-            Some(item) => self.chains.add(item),
+            Some(item) => self.chains.add(&item.as_ref()),
             None => Ok(()),
         }
     }

@@ -1,12 +1,13 @@
 -- The chains of a journal, entry by entry.
 use Rattle.std.proofs.Common.{◌≡◌, true, false, List, [], ◌∷◌, ◌++◌, refl, ap, ◌∙◌, sym, Ok, Err}
+use Rattle.std.proofs.Common.{append-nil, Option, Some, None}
 use Rattle.std.specs.Prelude.{Result, OnOk}
 use Rattle.std.specs.Option.{option_to_list}
 use Rattle.order_chains.specs.declared.item.ChainItem.{ChainItem}
 use Rattle.pair_entries.specs.declared.entry.Entry.{Entry}
 use Rattle.pair_journal.specs.Days.{last_day}
 use Rattle.pair_journal.proofs.Dating.{last_day-push, last_day-reset}
-use Rattle.message_answers.specs.Chains.{chains_after, chains_of, new_item}
+use Rattle.message_answers.specs.Chains.{chains_after, chains_of, if_new, item_in, new_item}
 
 -- one entry more
 after_push : (items : List ChainItem) (entries : List Entry) (entry : Entry)
@@ -32,6 +33,21 @@ joined_on (Ok value) entry old new same is = λ before so_far.
     one_joined (last_day before) entry old new is so_far
     ∙ ap chains_of (sym (last_day-push before entry same))
 joined_on (Err error) entry old new same is = tt
+
+-- what an entry adds, by the request that it forwarded
+pub none_added : (items : List ChainItem) (entry : Entry) → item_in entry ≡ None
+    → items ≡ items ++ option_to_list (new_item items entry)
+none_added items entry is =
+    sym (append-nil items)
+    ∙ ap (λ (o : Option ChainItem). items ++ option_to_list (if_new items o)) (sym is)
+
+pub one_added : {T E : Type 0} (r : Result T E) (items new : List ChainItem) (entry : Entry)
+    (item : ChainItem) → item_in entry ≡ Some item
+    → OnOk r (new ≡ items ++ option_to_list (if_new items (Some item)))
+    → OnOk r (new ≡ items ++ option_to_list (new_item items entry))
+one_added (Ok value) items new entry item is more =
+    more ∙ ap (λ (o : Option ChainItem). items ++ option_to_list (if_new items o)) (sym is)
+one_added (Err error) items new entry item is more = tt
 
 -- a day begins with none
 pub none_joined : (entry : Entry) (new : List ChainItem) → entry.reset ≡ true → new ≡ []

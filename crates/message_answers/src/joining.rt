@@ -1,20 +1,21 @@
 //! The requests that a journal forwarded, as they join the chains.
 
-ghost use Rattle.std.specs.Prelude.{◌≡◌, ◌++◌, [], IfOk, OnOk};
+ghost use Rattle.std.specs.Prelude.{◌≡◌, ◌++◌, [], Some, IfOk, OnOk, unwrap_or};
 ghost use Rattle.std.specs.Option.{option_map, option_to_list};
 ghost use Rattle.message_tables.specs.Tables.{first_of};
 ghost use Rattle.pair_journal.specs.Days.{last_day};
 ghost use Rattle.event_decisions.specs.Body.{fields_of};
-ghost use Rattle.message_answers.specs.Chains.{joining_letter, item_in, item_said, original_said};
-ghost use Rattle.message_answers.specs.Chains.{new_item, chains_of};
+ghost use Rattle.row_values.specs.Kinds as kinds;
+ghost use Rattle.value_kinds.specs.ValueKind as value_kinds;
+ghost use Rattle.message_answers.specs.Chains.{joining_letter, item_said, original_said};
+ghost use Rattle.message_answers.specs.Chains.{if_new, new_item, chains_of};
 
 use field_groups::value_of;
 use message_tables::Lookup;
-use order_chains::{ChainItem, Chains};
-use order_meaning::Bytes;
+use order_chains::{Chains, ItemRef};
 use pair_entries::{EntryRef, OutRef};
 use pair_journal::{Reader, source_in};
-use row_values::{or_empty, text};
+use row_values::text;
 use std::alloc::{AllocError, Global};
 use value_kinds::ValueKind::Id;
 
@@ -66,68 +67,60 @@ fn original<'f, F: Lookup>(letter: u8, fields: &'f F) -> Option<&'f [u8]>
     }
 }
 
-// A text, copied.
-fn copied(alloc: Global, text: Option<&[u8]>) -> Result<Option<Bytes>, AllocError>
-    ensures { IfOk result (λ copied. copied ≡ option_map (λ bytes. bytes.now) text.entry) }
+// ClOrdID(11) of a request.
+pub(crate) fn id<'f, F: Lookup>(fields: &'f F) -> &'f [u8]
+    ensures { result.now ≡ unwrap_or
+        (kinds.said (F.fields fields.now) 11 (kinds.Value value_kinds.Id)) [] }
 {
-    match text {
-        Some(text) => Ok(Some(Bytes::copy(alloc, text)?)),
-        None => Ok(None),
+    match text(fields, 11, &Id) {
+        Some(id) => id,
+        None => &[],
     }
 }
 
 // The request that these fields say, as it joins the chains.
-pub(crate) fn item_said<F: Lookup>(
-    alloc: Global,
-    number: u32,
-    letter: u8,
-    fields: &F,
-) -> Result<ChainItem, AllocError>
-    ensures { IfOk result (λ item. item ≡ item_said number letter (F.fields fields.now)) }
+pub(crate) fn item_said<'f, F: Lookup>(number: u32, letter: u8, fields: &'f F) -> ItemRef<'f>
+    ensures { result ≡ item_said number letter (F.fields fields.now) }
 {
-    let id = copied(alloc, text(fields, 11, &Id))?;
-    let orig = copied(alloc, original(letter, fields))?;
-    Ok(ChainItem {
-        id: or_empty(alloc, id),
-        orig,
+    ItemRef {
+        id: id(fields),
+        orig: original(letter, fields),
         number,
         letter,
-    })
+    }
 }
 
-// The request that an entry forwarded. Of its fields two are read, and none is judged again.
-fn item_in(alloc: Global, entry: &EntryRef<'_>) -> Result<Option<ChainItem>, AllocError>
-    ensures { IfOk result (λ item. item ≡ item_in entry.now) }
-{
-    let Some(took) = &entry.took else {
-        return Ok(None);
-    };
-    let Some(letter) = first_letter(entry, entry.outs.as_slice()) else {
-        return Ok(None);
-    };
-    let fields = Body { bytes: took.raw };
-    let item = item_said(alloc, took.number, letter, &fields)?;
-    Ok(Some(item))
-}
-
-// Adds the request that an entry forwarded, unless one with its id is there.
-fn join(alloc: Global, chains: &mut Chains, entry: &EntryRef<'_>) -> Result<(), AllocError>
+// Adds a request, unless one with its id is there.
+fn add_new(chains: &mut Chains, item: &ItemRef<'_>) -> Result<(), AllocError>
     ensures { OnOk result (chains.new ≡
-        chains.old ++ option_to_list (new_item chains.old entry.now)) }
+        chains.old ++ option_to_list (if_new chains.old (Some item.now))) }
 {
-    let Some(item) = item_in(alloc, entry)? else {
-        return Ok(());
-    };
-    if chains.has(item.id.as_slice()) {
+    if chains.has(item.id) {
         return Ok(());
     }
     chains.add(item)
 }
 
+// Adds the request that an entry forwarded, unless one with its id is there. Of its fields two are
+// read, and none is judged again.
+fn join(chains: &mut Chains, entry: &EntryRef<'_>) -> Result<(), AllocError>
+    ensures { OnOk result (chains.new ≡
+        chains.old ++ option_to_list (new_item chains.old entry.now)) }
+{
+    let Some(took) = &entry.took else {
+        return Ok(());
+    };
+    let Some(letter) = first_letter(entry, entry.outs.as_slice()) else {
+        return Ok(());
+    };
+    let fields = Body { bytes: took.raw };
+    let item = item_said(took.number, letter, &fields);
+    add_new(chains, &item)
+}
+
 /// The requests that a journal forwarded on its last day, as its entries are read one by one.
 #[derive(Drop)]
 pub struct Joining {
-    alloc: Global,
     chains: Chains,
 }
 
@@ -141,7 +134,6 @@ impl Joining {
         ensures { IfOk result (λ joining. joining.chains ≡ chains_of []) }
     {
         Ok(Joining {
-            alloc,
             chains: Chains::new(alloc)?,
         })
     }
@@ -163,6 +155,6 @@ impl Reader for Joining {
             self.chains.clear();
             return Ok(());
         }
-        join(self.alloc, &mut self.chains, entry)
+        join(&mut self.chains, entry)
     }
 }

@@ -1,10 +1,8 @@
 //! The answer to a request of the client: the first of five that applies.
 
-ghost use Rattle.std.specs.Prelude.{◌≡◌, ◌&&◌, ◌∷◌, [], None, IfOk, false, unwrap_or};
+ghost use Rattle.std.specs.Prelude.{◌≡◌, ◌&&◌, ◌∷◌, [], None, IfOk, false};
 ghost use Rattle.message_tables.specs.Tables.{is_one_of, text_in};
 ghost use Rattle.order_chains.specs.Chains.{has_id};
-ghost use Rattle.row_values.specs.Kinds as kinds;
-ghost use Rattle.value_kinds.specs.ValueKind as value_kinds;
 ghost use Rattle.request_rules.specs.Good.{IsGood, IsRead, said};
 ghost use Rattle.request_rules.specs.Lack.{lack42};
 ghost use Rattle.reject_rules.specs.Refusals.{away_refusal, used_refusal};
@@ -16,15 +14,13 @@ ghost use Rattle.message_answers.specs.Seen.{IsSpelled, asked_in, joined, words_
 
 use crate::answer::{Answer, forwarded, lacking, refused};
 use crate::asking::{Asked, Known};
-use crate::joining::item_said;
+use crate::joining::{id, item_said};
 use crate::saying::{say_away, say_used};
-use field_groups::Fields;
 use order_chains::{ChainItem, Chains};
 use order_meaning::Side;
 use request_rules::{Good, good_request, put_up};
-use row_values::{resend, text};
+use row_values::resend;
 use std::alloc::{AllocError, Global};
-use value_kinds::ValueKind::Id;
 
 /// Whether requests of a letter join the chains, which a New Order (D), a Cancel (F) and a
 /// Cancel/Replace (G) do.
@@ -32,17 +28,6 @@ fn joins(letter: u8) -> bool
     ensures { result ≡ is_one_of joining letter }
 {
     matches!(letter, b'D' | b'F' | b'G')
-}
-
-/// ClOrdID(11) of a request.
-fn id<'f>(fields: &'f Fields<'_>) -> &'f [u8]
-    ensures { result.now
-        ≡ unwrap_or (kinds.said fields.now 11 (kinds.Value value_kinds.Id)) [] }
-{
-    match text(fields, 11, &Id) {
-        Some(id) => id,
-        None => &[],
-    }
 }
 
 /// The request of a message with this number, as it joins the chains, where it does.
@@ -56,7 +41,7 @@ fn item_of(alloc: Global, number: u32, good: &Good<'_, '_>) -> Result<Option<Cha
 {
     let letter = good.table.letter;
     if joins(letter) {
-        Ok(Some(item_said(alloc, number, letter, good.fields)?))
+        Ok(Some(item_said(number, letter, good.fields).to_item(alloc)?))
     } else {
         Ok(None)
     }

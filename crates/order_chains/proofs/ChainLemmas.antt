@@ -24,7 +24,7 @@ Key = Vec ℕ Global
 abbrev Entries : Type 0
 Entries = List (Key × Kept)
 
-abbrev same_key : Key → Key → Bool
+abbrev pub same_key : Key → Key → Bool
 same_key key other = bytes_eq key.items other.items
 
 -- what the map has under an id
@@ -32,7 +32,7 @@ abbrev kept_at : List ℕ → Entries → Option Kept
 kept_at id entries = lookup (λ key. bytes_eq id key.items) entries
 
 -- what is kept of an item
-abbrev kept_of : ChainItem → Kept
+abbrev pub kept_of : ChainItem → Kept
 kept_of item = record { orig = item.orig; number = item.number; letter = item.letter }
 
 -- an item with another id

@@ -5,7 +5,8 @@ ghost use Rattle.std.specs.Prelude.{OnErr};
 ghost use Rattle.std.specs.Option.{option_map};
 ghost use Rattle.order_chains.specs.Chains.{has_id, orig_of, number_of, AreDistinct};
 
-use crate::ChainItem;
+use crate::ItemRef;
+use crate::item::copied;
 use indexmap::IndexMap;
 use order_meaning::Bytes;
 use std::alloc::{AllocError, Global};
@@ -57,28 +58,25 @@ impl Chains {
         })
     }
 
-    /// Adds an item, whose id no item has yet ([`Chains::has`]), at the end.
+    /// Adds an item, whose id no item has yet ([`Chains::has`]), at the end. Each of its ids is
+    /// copied once.
     ///
     /// # Errors
     ///
-    /// `AllocError` for want of memory; then the items are as before, and this one is dropped.
-    pub fn add(&mut self, item: ChainItem) -> Result<(), AllocError>
-        requires { has_id self.old item.id ≡ false }
-        ensures ok { OnOk result (self.new ≡ self.old ++ item ∷ []) }
+    /// `AllocError` for want of memory; then the items are as before.
+    pub fn add(&mut self, item: &ItemRef<'_>) -> Result<(), AllocError>
+        requires { has_id self.old item.now.id ≡ false }
+        ensures ok { OnOk result (self.new ≡ self.old ++ item.now ∷ []) }
         ensures distinct { OnOk result (AreDistinct self.new) }
         ensures err { OnErr result (self.new ≡ self.old) }
     {
-        let ChainItem {
-            id,
-            orig,
-            number,
-            letter,
-        } = item;
-        let key = Vec::from_slice(*self.items.allocator(), id.as_slice())?;
+        let alloc = *self.items.allocator();
+        let key = Vec::from_slice(alloc, item.id)?;
+        let orig = copied(alloc, item.orig)?;
         let kept = Kept {
             orig,
-            number,
-            letter,
+            number: item.number,
+            letter: item.letter,
         };
         self.items.insert(key, kept)?;
         Ok(())

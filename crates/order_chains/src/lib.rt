@@ -8,4 +8,4 @@ mod chains;
 mod item;
 
 pub use chains::Chains;
-pub use item::ChainItem;
+pub use item::{ChainItem, ItemRef};

@@ -1,4 +1,4 @@
-use Rattle.std.proofs.Common.{◌≡◌, ◌∙◌, ap, sym}
+use Rattle.std.proofs.Common.{◌∙◌, ap, sym}
 use Rattle.pair_entries.specs.declared.entry.Entry.{Entry}
 use Rattle.message_answers.proofs.Joined.{joined_on, none_joined}
 use Rattle.message_answers.proofs.joining.JoiningReader.saw.Goals as goal
