@@ -61,24 +61,18 @@ pub record RoundDone (config : Config) (old new : LifeState) (now : ℕ) (r0 r1 
       (world_of new.engine)
       × StoodFor new reads'
 
--- An event ended the life, behind what led up to it.
-pub record BrokenAt (end : LifeEnd) (config : Config) (past : List Entry) (now : ℕ)
-    (r0 r1 : Records) (entries : List Entry) (leads : Added → World → Event → Type 0)
-    : Type 0 where
+-- A round of a day in which an event ended the life, behind what led up to it.
+pub record RoundBroken (end : LifeEnd) (config : Config) (old : LifeState) (now : ℕ)
+    (r0 r1 : Records) (entries : List Entry) : Type 0 where
   pub added : Added
   pub mid : World
   pub event : Event
   pub between : Records
   pub grew : Grew r0 between added
-  pub up_to : AreTold r1 → leads added mid event
-  pub broken : Broken end config past mid event now between r1 entries
-
--- a round of a day in which one did
-abbrev pub RoundBroken : LifeEnd → Config → LifeState → ℕ → (r0 r1 : Records) → List Entry → Type 0
-RoundBroken end config old now r0 r1 entries =
-    BrokenAt end config (past_of old.engine.journal.entries) now r0 r1 entries
-    (λ added mid event. (reads : Reads) → StoodFor old reads → RoundUpTo Answers config.names
-    config.window reads (world_of old.engine) now added mid event)
+  pub up_to : AreTold r1 → (reads : Reads) → StoodFor old reads
+      → RoundUpTo Answers config.names config.window reads (world_of old.engine) now added mid event
+  pub broken : Broken end config (past_of old.engine.journal.entries) mid event now between r1
+      entries
 
 -- ---- the turn of a day
 
