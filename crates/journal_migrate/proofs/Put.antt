@@ -1,6 +1,7 @@
 -- What a walk puts, over a disk that may tell its bytes.
 use Rattle.std.proofs.Common.{◌≡◌, inl, inr, ℕ, ◌+◌, ◌<◌, ◌≤◌, List, [], ◌∷◌, ◌++◌, length, take}
-use Rattle.std.proofs.Common.{refl, sym, ◌∙◌, ap, subst, arith, Some, IfSome, Result, Ok, Err, IsErrAnd}
+use Rattle.std.proofs.Common.{refl, sym, ◌∙◌, ap, subst, arith, Some, IfSome, Result, Ok, Err}
+use Rattle.std.proofs.Common.{IsErrAnd}
 use Rattle.std.specs.Prelude.{⊤, OnErr}
 use Rattle.std.specs.Option.{ForSome}
 use Rattle.std.specs.declared.option.Option.{Option}

@@ -88,10 +88,11 @@ impl Walk {
         ensures cause { FailsBy errors.DiskFault (D.faults disk.old) (D.faults disk.new) result }
     {
         read_payload(&mut self.chunk, disk, 0)?;
-        if !renew_birth(self.chunk.payload(), &mut self.record)? {
+        let payload = self.chunk.payload();
+        if !renew_birth(payload, &mut self.record)? {
             return Err(MigrateError::Refused { at: 0 });
         }
-        self.place = 5 + self.chunk.payload().len() as u64;
+        self.place = 5 + payload.len() as u64;
         Ok(())
     }
 

@@ -1,5 +1,4 @@
-use Rattle.std.proofs.Common.{◌≡◌, ◌+◌, ℕ, length, refl, sym, ◌∙◌, ap, subst}
-use Rattle.std.proofs.Common.{List}
+use Rattle.std.proofs.Common.{◌≡◌, ◌+◌, ℕ, length, refl, sym, subst}
 use Rattle.gate_log.specs.Log.{ReadsPayload}
 use Rattle.journal_migrate.specs.Walk.{IsBirth, IsNoBirth, TellsBirth}
 use Rattle.journal_migrate.proofs.Finding.{read_so, unread}
@@ -15,22 +14,23 @@ returns-in_err-read_payload-clause-read g c =
 pub returns-then-not-branch-clause-read : goal.returns-then-not-branch-clause-read
 returns-then-not-branch-clause-read g c =
     let told = g.D.Disk.bytes c.args.disk.now in
-    read_so told 0 c.payload.result.now (λ p. (◌≡◌ {A = ℕ} 0 0) × IsNoBirth p)
-    (subst (ReadsPayload told 0) (sym c.payload.ensures.payload)
+    read_so told 0 c.payload-payload.result.now (λ p. (◌≡◌ {A = ℕ} 0 0) × IsNoBirth p)
+    (subst (ReadsPayload told 0) (sym c.payload-payload.ensures.payload)
     c.in_ok-read_payload.ensures.payload) (
       refl,
-      subst (λ r. TellsBirth r c.payload.result.now c.renew_birth.new.record.items)
+      subst (λ r. TellsBirth r c.payload-payload.result.now c.renew_birth.new.record.items)
           c.if-not-branch.true c.in_ok-renew_birth.ensures,
     )
 
 pub returns-clause-read : goal.returns-clause-read
 returns-clause-read g c =
     let told = g.D.Disk.bytes c.args.disk.now in
-    read_so told 0 c.payload.result.now (λ p. IsBirth p c.renew_birth.new.record.items
-    × (5 + length c.payload-2.result.now ≡ 5 + length p))
-    (subst (ReadsPayload told 0) (sym c.payload.ensures.payload)
+    let read = c.payload-payload.result.now in
+    read_so told 0 read (λ p. IsBirth p c.renew_birth.new.record.items
+    × (5 + length read ≡ 5 + length p))
+    (subst (ReadsPayload told 0) (sym c.payload-payload.ensures.payload)
     c.in_ok-read_payload.ensures.payload) (
-      subst (λ r. TellsBirth r c.payload.result.now c.renew_birth.new.record.items)
-          c.if-not-branch.false c.in_ok-renew_birth.ensures,
-      ap (λ (l : List ℕ). 5 + length l) (c.payload-2.ensures.payload ∙ sym c.payload.ensures.payload),
+      subst (λ r. TellsBirth r read c.renew_birth.new.record.items) c.if-not-branch.false
+          c.in_ok-renew_birth.ensures,
+      refl,
     )
