@@ -134,10 +134,6 @@ next_join : (a a' b b' c c' d d' : ℕ)
     → a ≡ a' → b ≡ b' → c ≡ c' → d ≡ d' → ◌≡◌ {A = Next} (a, b, c, d) (a', b', c', d')
 next_join a a' b b' c c' d d' ha hb hc hd = cc
 
-next_split : (m : Next) (a : List ℕ) → next_bytes m ++ a ≡ to_be_bytes w32 m.0
-    ++ (to_be_bytes w32 m.1 ++ (to_be_bytes w32 m.2 ++ (to_be_bytes w32 m.3 ++ a)))
-next_split m a = refl
-
 same_next : (m n : Next) (a b : List ℕ)
     → AreNext m → AreNext n → next_bytes m ++ a ≡ next_bytes n ++ b → m ≡ n
 same_next m n a b hm hn is =
@@ -189,8 +185,8 @@ same_entry d e hd he is =
     let ends = behind_next d.next e.next ends_d ends_e hd.next he.next rest in
     let size : length d.outs ≡ length e.outs = cc ends in
     let outs = same_outs d.outs e.outs hd.outs he.outs size (ap (drop 1) ends) in
-    entry_join d.at e.at d.reset e.reset d.took e.took d.next e.next d.outs e.outs at.0 reset took next
-    outs
+    entry_join d.at e.at d.reset e.reset d.took e.took d.next e.next d.outs e.outs at.0 reset took
+    next outs
 
 -- ---- an entry before its outs
 

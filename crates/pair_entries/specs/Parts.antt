@@ -1,4 +1,4 @@
--- Inside: the parts of a payload where they stand: the head of an out, and an entry before its outs.
+-- Inside: parts of a payload where they stand: the head of an out, and an entry before its outs.
 use Rattle.std.specs.Prelude.{◌≡◌, ℕ, ◌≤◌, true, None, List, [], ◌∷◌, ◌++◌, IfSome}
 use Rattle.std.specs.Int.{w32, w64, to_be_bytes}
 use Rattle.pair_entries.specs.declared.TheConstants.{MAX_AT}

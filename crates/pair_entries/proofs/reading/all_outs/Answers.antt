@@ -20,6 +20,6 @@ returns-then-rest-gt0 c = λ outs are few is.
     let size : length outs ≡ c.in-Some.count = cc both in
     let x = c.in-Some-outs_front.ensures in
     let none : c.in-Some-outs_front.rest.now ≡ [] =
-    same_outs c.in-Some-outs_front.outs outs c.in-Some-outs_front.rest.now [] x.1 are (x.2 ∙ sym size)
-    (sym x.0 ∙ ap (drop 1) both ∙ sym (append_nothing (flat_map out_bytes outs))) in
+    same_outs c.in-Some-outs_front.outs outs c.in-Some-outs_front.rest.now [] x.1 are
+    (x.2 ∙ sym size) (sym x.0 ∙ ap (drop 1) both ∙ sym (append_nothing (flat_map out_bytes outs))) in
     absurd (omega (arith, ap length none))
