@@ -1,4 +1,4 @@
-mod AgainFields
+pub mod AgainFields
 mod AsStructs
 mod GoodFields
 mod KeptSense
@@ -7,7 +7,7 @@ mod OneContent
 mod PlainOrders
 mod SameRows
 mod Sayable
-mod SenseAgain
+pub mod SenseAgain
 mod Sound50
 mod Translated
 mod Worked
