@@ -1,6 +1,6 @@
 -- The parts of a life joined: its rounds and its end.
 use Rattle.std.proofs.Common.{◌≡◌, ℕ, ◌+◌, ◌≤◌, List, [], ◌∷◌, ◌++◌, length, refl, sym, ◌∙◌, ap}
-use Rattle.std.proofs.Common.{subst}
+use Rattle.std.proofs.Common.{subst, inr}
 use Rattle.std.proofs.Common.{arith}
 use Rattle.std.proofs.Common.{Ok, Err}
 use Rattle.std.specs.Prelude.{Result, OnOk, IfErr, IsErrAnd, is_some}
@@ -49,7 +49,7 @@ abbrev pub EndsWith : {T : Type 0} → Result T LifeEnd → Config → LifeState
     → (r0 r1 : Records) → Type 0
 EndsWith r config old rounds k0 k1 told i0 i1 r0 r1 = IfErr r (λ end.
     (given : List ℕ) × (last : ℕ) × (length given ≤ rounds) × GrowsBy k0 k1 (given ++ last ∷ [])
-    × LeavesOf told i0 i1 config.names (LifeBroken end config old given last r0 r1))
+    × LeavesOf told i0 i1 config.names (LifeBroken end config old rounds given last r0 r1))
 
 pub rounds_end : {T : Type 0} (r : Result T LifeEnd) (error : LifeEnd) (config config' : Config)
     (old mid : LifeState) (given : List ℕ) (m left all : ℕ) (k0 k1 k2 t0 t1 : Option (List ℕ))
@@ -68,12 +68,13 @@ rounds_end (Err end) error config config' old mid given m left all k0 k1 k2 t0 t
       m,
       omega (arith, count),
       grows_append k0 k1 k2 given (m ∷ []) grows more,
-      leaves_told t0 i0 i2 config.names (LifeBroken end config old given m r0 r2) (λ t.
+      leaves_told t0 i0 i2 config.names (LifeBroken end config old all given m r0 r2) (λ t.
           leaves_from t0 t1 i0 i1 i2 config.names config'.names
           (RoundFails error config' mid (moment_of m) r1 r2)
-          (LifeBroken end config old given m r0 r2) told one (ap (λ (k : Config). k.names) same)
-          (λ xs fails. subst (λ (e : LifeEnd). LifeBroken e config old given m r0 r2 xs) (sym is)
-          (life_fails config old mid given m r0 r1 (done t) sound error r2 xs
+          (LifeBroken end config old all given m r0 r2) told one
+          (ap (λ (k : Config). k.names) same)
+          (λ xs fails. subst (λ (e : LifeEnd). LifeBroken e config old all given m r0 r2 xs)
+          (sym is) (life_fails config old mid given m r0 r1 (done t) sound error all r2 xs
           (subst (λ (k : Config). RoundFails error k mid (moment_of m) r1 r2 xs) same fails)))
           ends),
     )
@@ -126,12 +127,13 @@ end_ends (Err end) config config' old mid given all k0 k1 k2 t0 t1 i0 i1 i2 r0 r
       ends.0,
       omega (arith, count),
       grows_append k0 k1 k2 given (ends.0 ∷ []) grows ends.1,
-      leaves_told t0 i0 i2 config.names (LifeBroken end config old given ends.0 r0 r2) (λ t.
+      leaves_told t0 i0 i2 config.names (LifeBroken end config old all given ends.0 r0 r2) (λ t.
           leaves_from t0 t1 i0 i1 i2 config.names config'.names (Behind past
           (Failed end config' past (world_of mid.engine) ends_of (moment_of ends.0) r1 r2))
-          (LifeBroken end config old given ends.0 r0 r2) told one
+          (LifeBroken end config old all given ends.0 r0 r2) told one
           (ap (λ (k : Config). k.names) same)
-          (λ xs broken. ends_fail config old mid given ends.0 r0 r1 (done t) sound end r2 xs
+          (λ xs broken. ends_fail config old mid given ends.0 r0 r1 (done t) sound end all r2 xs
+          (inr count)
           (subst (λ (k : Config). Behind past
           (Failed end k past (world_of mid.engine) ends_of (moment_of ends.0) r1 r2) xs)
           same broken)) ends.2),

@@ -1,6 +1,6 @@
 -- What a life leaves, by the laws of lives.
 use Rattle.std.proofs.Common.{◌≡◌, ℕ, List, [], ◌∷◌, ◌++◌, map, refl, sym, ◌∙◌, ap, subst}
-use Rattle.std.proofs.Common.{append-nil, None}
+use Rattle.std.proofs.Common.{append-nil, length, None}
 use Rattle.order_meaning.specs.declared.Side.{Side}
 use Rattle.order_meaning.specs.declared.Side.TheVariants.{Client, Venue}
 use Rattle.order_meaning.specs.declared.names.Names.{Names}
@@ -83,16 +83,16 @@ module _ (begin : lives.LivesBegin Answers) where
 
     -- the day on which a life failed
     last_leaves : (end : LifeEnd) (days : List Entry) (last : ℕ) (left : DayLeft)
-        → LastLeaves Answers config.names config.window config.reset left
-        (LastFails end config days last left)
-    last_leaves end days last left began r w moments cl vl h rc rv (AtEvent e) =
+        (all_rounds : Type 0) → LastLeaves Answers config.names config.window config.reset left
+        (LastFails end config days last left all_rounds)
+    last_leaves end days last left all began r w moments cl vl h rc rv (AtEvent e) =
         (fail config.names config.window r w e.whole last e.added e.mid e.event e.part left.added
         left.entries cl vl h rc rv e.up_to
         (fails_by config end e.mid e.event last e.part left.entries e.fails) e.all).0
-    last_leaves end days last left began r w moments cl vl h rc rv (AtDay d) =
+    last_leaves end days last left all began r w moments cl vl h rc rv (AtDay d) =
         ends-leave Answers config.names config.window config.reset began r w d.whole
         (record { left = left; at = last }) cl vl h rc rv d.ends
-    last_leaves end days last left began r w moments cl vl h rc rv (BehindDay d) =
+    last_leaves end days last left all began r w moments cl vl h rc rv (BehindDay d) =
         let none : left.entries ≡ w.entries =
         d.entries ∙ sym (ap (λ (x : World). x.entries) d.fresh) in
         subst (λ (a : Added). Leaves Answers config.names left.entries
@@ -105,8 +105,10 @@ module _ (begin : lives.LivesBegin Answers) where
     unfolding rest_sides rest_numbers rest_of
     failed end rounds did days left life = over-leaves Answers config.names config.window
         config.reset (rested config) (rest_sides config []) (rest_numbers config []) left
-        (LastFails end config (went_on before days []) (moment_of life.last) left)
-        (last_leaves end (went_on before days []) (moment_of life.last) left) days
+        (LastFails end config (went_on before days []) (moment_of life.last) left
+        (length life.given ≡ rounds))
+        (last_leaves end (went_on before days []) (moment_of life.last) left
+        (length life.given ≡ rounds)) days
         (day_at (past_of before)) reads (begun config (last_day before))
         (map moment_of (life.given ++ life.last ∷ [])) (days_of before).ended client venue
         (holds config (last_day before) client.present venue.present present) refl refl past

@@ -245,7 +245,8 @@ module _ (one : (image : List ℕ) → HasOneReading image) where
         → HangUpGrows rcm rc1 → HangUpGrows rvm rv1
         → BeginsWith config (Some bytes) xs old → length given ≤ rounds
         → GrowsBy km0 km1 (given ++ last ∷ [])
-        → (life : LifeBroken end config old given last (records rc0 rv0) (records rcm rvm) entries)
+        → (life : LifeBroken end config old rounds given last (records rc0 rv0) (records rcm rvm)
+        entries)
         → (entries ≡ went_on before life.days life.left.entries)
         × LifeFails end config before rounds did life.days life.left
     life_fails end rcm rvm old xs entries given last cd vd ch vh begins most moments life =
@@ -260,7 +261,7 @@ module _ (one : (image : List ℕ) → HasOneReading image) where
                 told_added km0 km1 (given ++ last ∷ []) k0 k1 did.moments moments ek0 ek1 dk;
             most = most;
             fails = λ reads. days_begun (λ es. LastFails end config (went_on es life.days [])
-                (moment_of last) life.left) xs old reads (map moment_of (given ++ last ∷ []))
+                (moment_of last) life.left (length given ≡ rounds)) xs old reads (map moment_of (given ++ last ∷ []))
                 life.days begins (life.fails told reads (stood_none xs old reads begins));
             client = hung_added rc0 rcm rc1 all.client c0 c1 did.client life.grew.client ch cd ec0
                 ec1 dc;
@@ -518,7 +519,7 @@ pub lived_stopped : {T : Type 0} (r : Result T LifeEnd) (config config' : Config
     (Ok old)) → is_some t1 ≡ is_some t0 → (HasOneImage t0 i0 → HasOneImage t1 i1)
     → IfErr r (EndsEvent t1) → IfErr r (λ end. (given : List ℕ) × (last : ℕ)
     × (length given ≤ rounds) × GrowsBy k0 k1 (given ++ last ∷ [])
-    × LeavesOf t1 i1 i2 config'.names (LifeBroken end config' old given last r0 r1))
+    × LeavesOf t1 i1 i2 config'.names (LifeBroken end config' old rounds given last r0 r1))
     → IfErr r (λ end. Q end ⊎ LifeStopped end config rounds t0 i0 i2 r0 r1 k0 k1)
 lived_stopped (Ok value) config config' rounds t0 t1 i0 i1 i2 old r0 r1 k0 k1 Q same world begins
     told one of_event ends = tt
@@ -533,11 +534,11 @@ lived_stopped (Err end) config config' rounds t0 t1 i0 i1 i2 old r0 r1 k0 k1 Q s
       most = ends.2;
       moments = ends.3;
       left = leaves_from t0 t1 i0 i1 i2 config.names config'.names
-          (LifeBroken end config' old ends.0 ends.1 r0 r1)
-          (LifeBroken end config old ends.0 ends.1 r0 r1) told one
+          (LifeBroken end config' old rounds ends.0 ends.1 r0 r1)
+          (LifeBroken end config old rounds ends.0 ends.1 r0 r1) told one
           (ap (λ (k : Config). k.names) same)
-          (λ xs broken. subst (λ (k : Config). LifeBroken end k old ends.0 ends.1 r0 r1 xs) same
-          broken) ends.4;
+          (λ xs broken. subst (λ (k : Config). LifeBroken end k old rounds ends.0 ends.1 r0 r1 xs)
+          same broken) ends.4;
     })
 
 -- ---- what is answered of a disk

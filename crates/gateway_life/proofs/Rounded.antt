@@ -3,7 +3,7 @@ use Rattle.std.proofs.Common.{◌≡◌, ◌⊎◌, ℕ, Bool, true, false, List
 use Rattle.std.proofs.Common.{◌∙◌}
 use Rattle.std.proofs.Common.{ap, subst, arith, append_assoc, append-nil, inl, inr, nat_lt, Some}
 use Rattle.std.proofs.Common.{None}
-use Rattle.std.specs.Prelude.{map, fold}
+use Rattle.std.specs.Prelude.{map, fold, length}
 use Rattle.std.specs.declared.option.Option.{Option}
 use Rattle.std.proofs.lemmas.Bool.Decides.{nat_tests}
 use Rattle.std.proofs.lemmas.List.{map-append}
@@ -32,7 +32,7 @@ use Rattle.gateway_life.specs.Ready.{Behind, world_of}
 use Rattle.gateway_life.specs.Fails.{IsWhy, FailsBy, IsWhyOfDay}
 use Rattle.gateway_life.specs.Stepped.{Records, Grew, AllStepped, Failed}
 use Rattle.gateway_life.specs.Life.{begun, rested, went_on, moment_of, LastFails, AtEvent, AtDay}
-use Rattle.gateway_life.specs.Life.{BehindDay}
+use Rattle.gateway_life.specs.Life.{BehindDay, IfAtEnd}
 use Rattle.gateway_life.specs.Rounds.{AreTold, StoodFor, RoundDone, RoundOver, RoundBroken}
 use Rattle.gateway_life.specs.Rounds.{RoundFails}
 use Rattle.gateway_life.specs.Rounds.{AtTurn, InRound, DayTurned, DayStays, AtEnd, AtEntry}
@@ -346,7 +346,7 @@ module _ (config : Config) where
     -- ---- what fails
 
     -- an event of this day, behind rounds of it
-    event_fails : (end : LifeEnd) (added part : Added) (w : World) (event : Event)
+    event_fails : (end : LifeEnd) (rounds : ℕ) (added part : Added) (w : World) (event : Event)
         (r2 between : Records) (entries today : List Entry)
         → Grew r1 between added → Grew between r2 part
         → IsWhy end config (past_of mid.engine.journal.entries) w event now
@@ -356,11 +356,14 @@ module _ (config : Config) where
         now ≡ true
         → UpTo Answers config.names config.window (world_of mid.engine) ends_of now added w event)
         → ((reads' : Reads) → AreTold r2 → StoodFor mid reads'
-        → RoundUpTo Answers config.names config.window reads' (world_of mid.engine) now added w
-        event
+        → (last : RoundUpTo Answers config.names config.window reads' (world_of mid.engine) now
+        added w event
         ⊎ UpTo Answers config.names config.window (world_of mid.engine) ends_of now added w event)
-        → LifeBroken end config old given m r0 r2 entries
-    event_fails end added part w event r2 between entries today grew rest why fails is due last =
+        × IfAtEnd last ((due_in config.reset (began_after before first.days)
+        (last_day mid.engine.journal.entries) now ≡ true) ⊎ (length given ≡ rounds)))
+        → LifeBroken end config old rounds given m r0 r2 entries
+    event_fails end rounds added part w event r2 between entries today grew rest why fails is due
+        last =
         let left : DayLeft =
         record { entries = today; added = both (both first.added added) part } in
         let whole : both (both (all_added first.days first.added) added) part
@@ -379,8 +382,9 @@ module _ (config : Config) where
               let told1 = are_told_back r1 between added grew
               (are_told_back between r2 part rest told) in
               let so = first.rounds told1 reads stood in
+              let at = last so.0 told so.2 in
               more_days (LastFails end config (went_on old.engine.journal.entries first.days []) now
-              left) reads so.0 so.1 (λ r v ms day. AtEvent (record {
+              left (length given ≡ rounds)) reads so.0 so.1 (λ r v ms day. AtEvent (record {
                 whole = ms;
                 split = refl;
                 added = both first.added added;
@@ -392,11 +396,12 @@ module _ (config : Config) where
                   first = first.added;
                   rest = added;
                   rounds = day.rounds;
-                  last = last so.0 told so.2;
+                  last = at.0;
                   all = refl;
                 };
                 none_due = day.none_due;
                 due = due;
+                ends = at.1;
                 why = subst (λ l. IsWhy end config l w event now) first.past why;
                 part = part;
                 fails = fails;
@@ -404,41 +409,52 @@ module _ (config : Config) where
               }));
         }
 
-    pub ends_fail : (end : LifeEnd) (r2 : Records) (entries : List Entry)
+    pub ends_fail : (end : LifeEnd) (rounds : ℕ) (r2 : Records) (entries : List Entry)
+        → (is_due config.reset (day_at mid.engine.journal.entries) now ≡ true)
+        ⊎ (length given ≡ rounds)
         → Behind (past_of mid.engine.journal.entries)
         (Failed end config (past_of mid.engine.journal.entries) (world_of mid.engine) ends_of now
         r1 r2) entries
-        → LifeBroken end config old given m r0 r2 entries
-    ends_fail end r2 entries h =
+        → LifeBroken end config old rounds given m r0 r2 entries
+    ends_fail end rounds r2 entries ends h =
         let failed = h.2 in
         let up_to = failed_up_to config end (past_of mid.engine.journal.entries)
         (world_of mid.engine) ends_of ends_of [] now r1 r2 h.0 refl failed in
-        event_fails end failed.all.added failed.broken.added failed.mid failed.last r2
+        event_fails end rounds failed.all.added failed.broken.added failed.mid failed.last r2
         failed.between entries h.0 failed.all.grew failed.broken.grew failed.broken.why
-        failed.broken.fails h.1 (λ due. up_to) (λ reads' told stood. inr up_to)
+        failed.broken.fails h.1 (λ due. up_to) (λ reads' told stood. (inr up_to, here ends))
+      where
+        here : (is_due config.reset (day_at mid.engine.journal.entries) now ≡ true)
+            ⊎ (length given ≡ rounds)
+            → (due_in config.reset (began_after before first.days)
+            (last_day mid.engine.journal.entries) now ≡ true) ⊎ (length given ≡ rounds)
+        here (inl due) = inl (due_here true due)
+        here (inr all) = inr all
 
-    round_fails : (end : LifeEnd) (r2 : Records) (entries : List Entry)
+    round_fails : (end : LifeEnd) (rounds : ℕ) (r2 : Records) (entries : List Entry)
         → is_due config.reset (day_at mid.engine.journal.entries) now ≡ false
         → Behind (past_of mid.engine.journal.entries)
         (RoundBroken end config (on_engine mid mid.engine) now r1 r2) entries
-        → LifeBroken end config old given m r0 r2 entries
-    round_fails end r2 entries due h =
+        → LifeBroken end config old rounds given m r0 r2 entries
+    round_fails end rounds r2 entries due h =
         let round = h.2 in
-        event_fails end round.added round.broken.added round.mid round.event r2 round.between
-        entries h.0 round.grew round.broken.grew round.broken.why round.broken.fails h.1
-        (λ is. not_both _ _ (due_here false due) is) (λ reads' told stood. inl
-        (round.up_to told reads' (record { client = stood.client; venue = stood.venue })))
+        event_fails end rounds round.added round.broken.added round.mid round.event r2
+        round.between entries h.0 round.grew round.broken.grew round.broken.why round.broken.fails
+        h.1 (λ is. not_both _ _ (due_here false due) is) (λ reads' told stood. (
+          inl (round.up_to told reads' (record { client = stood.client; venue = stood.venue })),
+          tt,
+        ))
 
     -- the new day was not committed
-    day_fails : (end : LifeEnd) (r2 : Records) (entries : List Entry)
+    day_fails : (end : LifeEnd) (rounds : ℕ) (r2 : Records) (entries : List Entry)
         (due : is_due config.reset (day_at mid.engine.journal.entries) now ≡ true)
         (added : Added) (after : World)
         → AllHappen Answers config.names config.window (world_of mid.engine) ends_of now added after
         → Grew r1 r2 (hung added after)
         → IsWhyOfDay end config.names (past_of mid.engine.journal.entries ++ after.entries) now
         → entries ≡ past_of mid.engine.journal.entries ++ after.entries
-        → LifeBroken end config old given m r0 r2 entries
-    day_fails end r2 entries due added after ends grew why is =
+        → LifeBroken end config old rounds given m r0 r2 entries
+    day_fails end rounds r2 entries due added after ends grew why is =
         let day = ended_day (both first.added added) after now in
         let whole : both (all_added first.days first.added) (hung added after)
         ≡ all_added first.days day.left.added =
@@ -455,7 +471,7 @@ module _ (config : Config) where
               let so = first.rounds (are_told_back r1 r2 (hung added after) grew told) reads stood
               in
               more_days (LastFails end config (went_on old.engine.journal.entries first.days []) now
-              day.left) reads so.0 so.1 (λ r v ms so_far. AtDay (record {
+              day.left (length given ≡ rounds)) reads so.0 so.1 (λ r v ms so_far. AtDay (record {
                 whole = ms;
                 split = refl;
                 ends = ends_day due added after ends so.0 r v ms so_far;
@@ -465,14 +481,14 @@ module _ (config : Config) where
         }
 
     -- it stands, but the disk failed
-    day_stands : (end : LifeEnd) (r2 : Records) (entries : List Entry)
+    day_stands : (end : LifeEnd) (rounds : ℕ) (r2 : Records) (entries : List Entry)
         (due : is_due config.reset (day_at mid.engine.journal.entries) now ≡ true)
         (added : Added) (after : World)
         → AllHappen Answers config.names config.window (world_of mid.engine) ends_of now added after
         → Grew r1 r2 (hung added after) → end ≡ ends.DiskFault
         → entries ≡ past_of mid.engine.journal.entries ++ after.entries ++ new_day now ∷ []
-        → LifeBroken end config old given m r0 r2 entries
-    day_stands end r2 entries due added after happen grew failed is =
+        → LifeBroken end config old rounds given m r0 r2 entries
+    day_stands end rounds r2 entries due added after happen grew failed is =
         let day = ended_day (both first.added added) after now in
         record {
           days = first.days ++ day ∷ [];
@@ -485,7 +501,8 @@ module _ (config : Config) where
               end_days due added after happen
               (LastFails end config
               (went_on old.engine.journal.entries (first.days ++ day ∷ []) [])
-              now (record { entries = []; added = nothing })) reads so.0 so.1
+              now (record { entries = []; added = nothing }) (length given ≡ rounds)) reads so.0
+              so.1
               (BehindDay (record {
                 failed = failed;
                 fresh = refl;
@@ -496,13 +513,13 @@ module _ (config : Config) where
         }
 
     -- the round of the new day failed
-    next_fails : (end : LifeEnd) (engine : EngineState) (between r2 : Records)
+    next_fails : (end : LifeEnd) (rounds : ℕ) (engine : EngineState) (between r2 : Records)
         (entries : List Entry) → DaysGoOn first_numbers engine.journal.entries
         → DayTurned config mid.engine engine now r1 between
         → Behind (past_of engine.journal.entries)
         (RoundBroken end config (on_engine mid engine) now between r2) entries
-        → LifeBroken end config old given m r0 r2 entries
-    next_fails end engine between r2 entries goes turned h =
+        → LifeBroken end config old rounds given m r0 r2 entries
+    next_fails end rounds engine between r2 entries goes turned h =
         let round = h.2 in
         let day = ended_day (both first.added turned.added) turned.mid now in
         let left : DayLeft =
@@ -532,7 +549,7 @@ module _ (config : Config) where
               end_days turned.due turned.added turned.mid turned.ends
               (LastFails end config
               (went_on old.engine.journal.entries (first.days ++ day ∷ []) [])
-              now left) reads so.0 so.1 (AtEvent (record {
+              now left (length given ≡ rounds)) reads so.0 so.1 (AtEvent (record {
                 whole = [];
                 split = refl;
                 added = both nothing round.added;
@@ -549,6 +566,7 @@ module _ (config : Config) where
                 };
                 none_due = tt;
                 due = λ is. not_both _ _ (not_due config.reset now) is;
+                ends = tt;
                 why = subst (λ l. IsWhy end config l round.mid round.event now) past
                     round.broken.why;
                 part = round.broken.added;
@@ -557,18 +575,20 @@ module _ (config : Config) where
               }));
         }
 
-    pub life_fails : (end : LifeEnd) (r2 : Records) (entries : List Entry)
+    pub life_fails : (end : LifeEnd) (rounds : ℕ) (r2 : Records) (entries : List Entry)
         → RoundFails end config mid now r1 r2 entries
-        → LifeBroken end config old given m r0 r2 entries
-    life_fails end r2 entries (AtTurn (AtEnd h)) = ends_fail end r2 entries h
-    life_fails end r2 entries (AtTurn (AtEntry due added after happen grew why (inl is))) =
-        day_fails end r2 entries due added after happen grew why is
-    life_fails end r2 entries (AtTurn (AtEntry due added after happen grew why (inr fault))) =
-        day_stands end r2 entries due added after happen grew fault.0 fault.1
-    life_fails end r2 entries (InRound engine between goes (inl turned) h) =
-        next_fails end engine between r2 entries goes turned h
-    life_fails end r2 entries (InRound engine between goes (inr stays) h) =
-        round_fails end r2 entries stays.due
+        → LifeBroken end config old rounds given m r0 r2 entries
+    life_fails end rounds r2 entries (AtTurn (AtEnd due h)) =
+        ends_fail end rounds r2 entries (inl due) h
+    life_fails end rounds r2 entries (AtTurn (AtEntry due added after happen grew why (inl is))) =
+        day_fails end rounds r2 entries due added after happen grew why is
+    life_fails end rounds r2 entries
+        (AtTurn (AtEntry due added after happen grew why (inr fault))) =
+        day_stands end rounds r2 entries due added after happen grew fault.0 fault.1
+    life_fails end rounds r2 entries (InRound engine between goes (inl turned) h) =
+        next_fails end rounds engine between r2 entries goes turned h
+    life_fails end rounds r2 entries (InRound engine between goes (inr stays) h) =
+        round_fails end rounds r2 entries stays.due
         (subst (λ (r : Records). Behind (past_of mid.engine.journal.entries)
         (RoundBroken end config (on_engine mid mid.engine) now r r2) entries) stays.records
         (subst (λ (e : EngineState). Behind (past_of e.journal.entries)

@@ -63,9 +63,10 @@ module _ (config : Config) (old : EngineState) (now : ℕ) (r0 r1 : Records) whe
 
   -- the client's end failed
   pub client_fails : (end : LifeEnd) (entries : List Entry)
+      → is_due config.reset (day_at old.journal.entries) now ≡ true
       → Behind past (Broken end config past w (End Client) now r0 r1) entries
       → DayBroken end config old now r0 r1 entries
-  client_fails end entries h = AtEnd (
+  client_fails end entries due h = AtEnd due (
     h.0,
     h.1,
     failed_at config end past w w [] (End Venue ∷ []) (End Client) now r0 r0 r1 h.0
@@ -74,10 +75,11 @@ module _ (config : Config) (old : EngineState) (now : ℕ) (r0 r1 : Records) whe
 
   -- the venue's did
   pub venue_fails : (end : LifeEnd) (mid : World) (r2 : Records) (entries : List Entry)
+      → is_due config.reset (day_at old.journal.entries) now ≡ true
       → Stepped config w (End Client) now mid r0 r1
       → Behind past (Broken end config past mid (End Venue) now r1 r2) entries
       → DayBroken end config old now r0 r2 entries
-  venue_fails end mid r2 entries client h = AtEnd (
+  venue_fails end mid r2 entries due client h = AtEnd due (
     h.0,
     h.1,
     failed_at config end past w mid (End Client ∷ []) [] (End Venue) now r0 r1 r2 h.0

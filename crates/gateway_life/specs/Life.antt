@@ -1,6 +1,7 @@
 -- Own: one life over the records of its wires and of its clock; docs/DEFINITIONS.md, "A life".
 use Rattle.std.specs.Prelude.{◌≡◌, ◌≢◌, ◌⊎◌, ℕ, zero, suc, ◌≤◌, false, List, [], ◌∷◌, ◌++◌, map}
 use Rattle.std.specs.Prelude.{true, length, min, Result, Ok, Err, ⊤}
+use mathlib.Core.Logic.{inl, inr}
 use Rattle.order_meaning.specs.declared.Side.TheVariants.{Client, Venue}
 use Rattle.order_meaning.specs.declared.names.Names.{Names}
 use Rattle.pair_entries.specs.declared.TheConstants.{MAX_AT}
@@ -73,11 +74,16 @@ pub record LivesToEnd (config : Config) (before : List Entry) (rounds : ℕ) (di
 abbrev pub hung_up : List WireCall → List WireCall
 hung_up calls = calls ++ hang_up_if (is_within calls)
 
+-- where an event is of the end of both sides, and of no round
+abbrev pub IfAtEnd : {Round Ends : Type 0} → Round ⊎ Ends → Type 0 → Type 0
+IfAtEnd (inl round) holds = Unit {0}
+IfAtEnd (inr ends) holds = holds
+
 -- AN EVENT THAT ENDED A LIFE on a day, behind the entries of the days before: all that the day did
 -- before it, the event, why that ended the life, and what stands of it.
 pub record EventFails (end : LifeEnd) (config : Config) (past : List Entry) (last : ℕ)
-    (left : DayLeft) (began : Option ℕ) (reads : Reads) (before : World) (moments : List ℕ)
-    : Type 0 where
+    (left : DayLeft) (all_rounds : Type 0) (began : Option ℕ) (reads : Reads) (before : World)
+    (moments : List ℕ) : Type 0 where
   pub whole : List ℕ
   pub split : moments ≡ whole ++ last ∷ []
   pub added : Added
@@ -90,6 +96,9 @@ pub record EventFails (end : LifeEnd) (config : Config) (past : List Entry) (las
   pub due : due_in config.reset began up_to.between.entries last ≡ true
       → UpTo Answers config.names config.window up_to.between (End Client ∷ End Venue ∷ []) last
       up_to.rest mid event
+  -- an event of the end of both sides comes where a new day was due, or behind all rounds
+  pub ends : IfAtEnd up_to.last
+      ((due_in config.reset began up_to.between.entries last ≡ true) ⊎ all_rounds)
   pub why : IsWhy end config past mid event last
   pub part : Added
   pub fails : FailsBy end config mid event last part left.entries
@@ -116,14 +125,14 @@ pub record DayStands (end : LifeEnd) (config : Config) (last : ℕ) (left : DayL
 
 -- the day on which a life failed
 pub data LastFails (end : LifeEnd) (config : Config) (past : List Entry) (last : ℕ)
-    (left : DayLeft) (began : Option ℕ) (reads : Reads) (before : World) (moments : List ℕ)
-    : Type 0 where
-  AtEvent : EventFails end config past last left began reads before moments
-      → LastFails end config past last left began reads before moments
+    (left : DayLeft) (all_rounds : Type 0) (began : Option ℕ) (reads : Reads) (before : World)
+    (moments : List ℕ) : Type 0 where
+  AtEvent : EventFails end config past last left all_rounds began reads before moments
+      → LastFails end config past last left all_rounds began reads before moments
   AtDay : DayFails end config past last left began reads before moments
-      → LastFails end config past last left began reads before moments
+      → LastFails end config past last left all_rounds began reads before moments
   BehindDay : DayStands end config last left before moments
-      → LastFails end config past last left began reads before moments
+      → LastFails end config past last left all_rounds began reads before moments
 
 -- A LIFE THAT FAILED: the days that ended in it, and the one on which it did; then both wires are
 -- hung up.
@@ -135,7 +144,8 @@ pub record LifeFails (end : LifeEnd) (config : Config) (before : List Entry) (ro
   pub most : length given ≤ rounds
   -- whatever was read on connections before
   pub fails : (reads : Reads) → OverDays Answers config.names config.window config.reset
-      (LastFails end config (went_on before days []) (moment_of last) left) (rested config)
+      (LastFails end config (went_on before days []) (moment_of last) left
+      (length given ≡ rounds)) (rested config)
       (day_at (past_of before)) reads (begun config (last_day before))
       (map moment_of (given ++ last ∷ [])) days
   pub client : did.client ≡ hung_up (all_added days left.added).client

@@ -110,11 +110,13 @@ abbrev pub MayTurn : LifeEnd → (before : List Entry) → (now : ℕ) → List 
 MayTurn end before now entries = (entries ≡ before)
     ⊎ ((end ≡ ends.DiskFault) × (entries ≡ before ++ new_day now ∷ []))
 
--- A DAY COULD NOT BE TURNED, so that these entries are left: an event of the end of a side ended
--- the life, or the entry of the new day was not committed; that stands only where the disk failed.
+-- A DAY THAT WAS DUE COULD NOT BE TURNED, so that these entries are left: an event of the end of a
+-- side ended the life, or the entry of the new day was not committed; that stands only where the
+-- disk failed.
 pub data DayBroken (end : LifeEnd) (config : Config) (old : EngineState) (now : ℕ)
     (r0 r1 : Records) (entries : List Entry) : Type 0 where
-  AtEnd : Behind (past_of old.journal.entries)
+  AtEnd : is_due config.reset (day_at old.journal.entries) now ≡ true
+      → Behind (past_of old.journal.entries)
       (Failed end config (past_of old.journal.entries) (world_of old) ends_of now r0 r1) entries
       → DayBroken end config old now r0 r1 entries
   AtEntry : is_due config.reset (day_at old.journal.entries) now ≡ true
@@ -194,16 +196,17 @@ pub data RoundFails (end : LifeEnd) (config : Config) (old : LifeState) (now : �
       (RoundBroken end config (on_engine old mid) now between r1) entries
       → RoundFails end config old now r0 r1 entries
 
--- a life that failed, behind all that was done before
-pub record LifeBroken (end : LifeEnd) (config : Config) (old : LifeState) (given : List ℕ)
-    (last : ℕ) (r0 r1 : Records) (entries : List Entry) : Type 0 where
+-- a life of so many rounds that failed, behind all that was done before
+pub record LifeBroken (end : LifeEnd) (config : Config) (old : LifeState) (rounds : ℕ)
+    (given : List ℕ) (last : ℕ) (r0 r1 : Records) (entries : List Entry) : Type 0 where
   pub days : List DayEnded
   pub left : DayLeft
   pub grew : Grew r0 r1 (all_added days left.added)
   pub goes_on : entries ≡ went_on old.engine.journal.entries days left.entries
   pub fails : AreTold r1 → (reads : Reads) → StoodFor old reads
       → DaysFrom (LastFails end config (went_on old.engine.journal.entries days [])
-      (moment_of last) left) config old reads (map moment_of (given ++ last ∷ [])) days
+      (moment_of last) left (length given ≡ rounds)) config old reads
+      (map moment_of (given ++ last ∷ [])) days
 
 -- ---- a life
 
@@ -267,4 +270,5 @@ pub record LifeStopped (end : LifeEnd) (config : Config) (rounds : ℕ) (told : 
   pub last : ℕ
   pub most : length given ≤ rounds
   pub moments : GrowsBy k0 k1 (given ++ last ∷ [])
-  pub left : LeavesOf told before after config.names (LifeBroken end config old given last r0 r1)
+  pub left : LeavesOf told before after config.names
+      (LifeBroken end config old rounds given last r0 r1)

@@ -277,7 +277,7 @@ impl Life {
             × GrowsBy (K.moments clock.old) (K.moments clock.new) (given ++ last ∷ [])
             × LeavesOf (D.bytes disk.old) (D.image disk.old) (D.image disk.new)
             self.old.engine.core.config.names (LifeBroken end self.old.engine.core.config self.old
-            given last (records (C.recorded client.old) (V.recorded venue.old))
+            rounds given last (records (C.recorded client.old) (V.recorded venue.old))
             (records (C.recorded client.new) (V.recorded venue.new)))) }
         ensures client_polls { OnOk result
             (C.polls client.new ≡ counted_on rounds (C.polls client.old)) }
@@ -333,7 +333,7 @@ impl Life {
             × GrowsBy (K.moments clock.old) (K.moments clock.new) (given ++ last ∷ [])
             × LeavesOf (D.bytes disk.old) (D.image disk.old) (D.image disk.new)
             self.old.engine.core.config.names (LifeBroken end self.old.engine.core.config self.old
-            given last (records (C.recorded client.old) (V.recorded venue.old))
+            rounds given last (records (C.recorded client.old) (V.recorded venue.old))
             (records (C.recorded client.new) (V.recorded venue.new)))) }
         ensures client_polls { OnOk result
             (C.polls client.new ≡ counted_on rounds (C.polls client.old)) }

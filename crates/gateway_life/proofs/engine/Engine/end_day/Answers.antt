@@ -40,7 +40,9 @@ returns-in_err-event-clause-ends g c =
     (g.D.Disk.bytes c.args.disk.now) _ _ _ config.names config.names
     (Behind past (Broken error config past (world_of old) (End Client) c.args.now r0 r1))
     (λ end. DayBroken end config old c.args.now r0 r1) c.from_residual.ensures.1 refl
-    (λ one. one) refl (λ xs h. client_fails config old c.args.now r0 r1 error xs h)
+    (λ one. one) refl (λ xs h. client_fails config old c.args.now r0 r1 error xs
+    (day_due config.reset c.reset.result (day_at old.journal.entries) c.day_at.result c.args.now
+    c.is_due.result _ c.is_due.ensures c.reset.ensures c.day_at.ensures.at c.if-not-is_due.false) h)
     c.in_err-event.ensures.ends
 
 pub returns-in_err-event-2-clause-ends : goal.returns-in_err-event-2-clause-ends
@@ -64,6 +66,8 @@ returns-in_err-event-2-clause-ends g c =
     c.event.ensures.told c.in_ok-event.ensures.durable
     (ap (λ (k : Config). k.names) c.event.ensures.config)
     (λ xs h. venue_fails config old c.args.now r0 r1 error (world_of mid) r2 xs
+    (day_due config.reset c.reset.result (day_at old.journal.entries) c.day_at.result c.args.now
+    c.is_due.result _ c.is_due.ensures c.reset.ensures c.day_at.ensures.at c.if-not-is_due.false)
     (c.in_ok-event.ensures.happens t)
     (behind_map past past'
     (Broken error mid.core.config past' (world_of mid) (End Venue) c.args.now r1 r2)
