@@ -6,7 +6,6 @@ use Rattle.order_meaning.specs.declared.Side.TheVariants.{Client, Venue}
 use Rattle.pair_entries.specs.declared.entry.Out.{Out}
 use Rattle.pair_entries.specs.declared.entry.Entry.{Entry}
 use Rattle.pair_entries.specs.Payload.{Next}
-use Rattle.pair_journal.specs.Days.{days_of, last_day}
 
 -- before the first entry
 abbrev pub first_numbers : Next
@@ -86,20 +85,3 @@ TookGoesOn taking before entry = elim entry.took [
   | Some took ↦ Takes (taking took.side took.raw)
       took.number (next_in took.side before) (next_in took.side entry.next)
 ]
-
--- the numbers of a day go on, and each taken message has the number that was expected; `taking` is
--- how a side's bodies are read
-abbrev pub ProperFrom : (Side → List ℕ → Taking) → Next → List Entry → Type 0
-ProperFrom taking before [] = Unit {0}
-ProperFrom taking before (entry ∷ entries) =
-    GoesOn before entry × TookGoesOn taking before entry × ProperFrom taking entry.next entries
-
--- each of some days is so, by itself
-abbrev pub AreProper : (Side → List ℕ → Taking) → List (List Entry) → Type 0
-AreProper taking [] = Unit {0}
-AreProper taking (day ∷ days) = ProperFrom taking first_numbers day × AreProper taking days
-
--- A PROPER JOURNAL
-abbrev pub Proper : (Side → List ℕ → Taking) → List Entry → Type 0
-Proper taking entries = AreProper taking (days_of entries).ended
-    × ProperFrom taking first_numbers (last_day entries)
