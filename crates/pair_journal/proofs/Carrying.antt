@@ -1,5 +1,5 @@
 -- A journal with one entry more, on the disk and in memory.
-use Rattle.std.proofs.Common.{◌≡◌, inl, inr, ℕ, ◌+◌, ◌-◌, ◌<◌, ◌≤◌, List, [], ◌∷◌, ◌++◌, length}
+use Rattle.std.proofs.Common.{◌≡◌, inl, inr, ℕ, ◌+◌, ◌<◌, ◌≤◌, List, [], ◌∷◌, ◌++◌, length}
 use Rattle.std.proofs.Common.{refl, sym, ◌∙◌, ap, subst, arith, length-append, Some, None, is_some}
 use Rattle.std.proofs.Common.{IfSome}
 use Rattle.std.specs.Option.{ForSome}

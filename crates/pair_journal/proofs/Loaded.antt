@@ -15,7 +15,7 @@ use Rattle.pair_journal.specs.declared.error.JournalError.{JournalError}
 use Rattle.pair_journal.specs.declared.error.JournalError.TheVariants as errors
 use Rattle.pair_journal.specs.Days.{dated}
 use Rattle.pair_entries.specs.Birth.{birth_bytes, AreNames}
-use Rattle.pair_journal.specs.Journal.{JournalOf, Unborn, Born, Refused}
+use Rattle.pair_journal.specs.Journal.{JournalOf, Unborn, Born}
 use Rattle.pair_journal.specs.State.{JournalState}
 use Rattle.pair_journal.specs.Calls.{Loads, BornOrNot, ReadsOnly}
 use Rattle.pair_journal.specs.Loading.{Tells, HasNames, HasExtent}

@@ -162,8 +162,8 @@ impl Journal {
         })
     }
 
-    /// A look at the journal on a disk; none where the disk is unborn. It only reads, and compares no
-    /// names.
+    /// A look at the journal on a disk; none where the disk is unborn. It only reads, and compares
+    /// no names.
     ///
     /// # Errors
     /// `Refused` exactly where the bytes are refused at that place; `DiskFault` only where the
@@ -179,8 +179,8 @@ impl Journal {
         }
     }
 
-    /// The journal of these names on a disk. An unborn disk becomes one without entries. Each entry is
-    /// shown to a reader as it is read.
+    /// The journal of these names on a disk. An unborn disk becomes one without entries. Each entry
+    /// is shown to a reader as it is read.
     ///
     /// # Errors
     /// `Refused` exactly where the bytes are refused at that place; `NamesDiffer` exactly where
@@ -413,8 +413,8 @@ impl Journal {
 
     /// Reads the out of this side and number of the last day, which was given out, and walks on to
     /// it. It finds at most 64 records, in as many calls of the disk where each of them has 65,541
-    /// bytes, and takes no memory. Where the numbers rise it begins with the record of the out before,
-    /// which may hold this one too and is not read again.
+    /// bytes, and takes no memory. Where the numbers rise it begins with the record of the out
+    /// before, which may hold this one too and is not read again.
     ///
     /// # Errors
     /// `Refused` only over a disk that does not tell its bytes, where a record that was read is no

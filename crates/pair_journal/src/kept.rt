@@ -21,8 +21,8 @@ use std::alloc::{AllocError, Global};
 use std::marker::Model;
 
 /// What a journal keeps of its entries, seen as their list: where they end and where the last day
-/// begins, a mark behind each 64th, and what the outs of the last day to each side translate. It holds
-/// no entry.
+/// begins, a mark behind each 64th, and what the outs of the last day to each side translate. It
+/// holds no entry.
 #[derive(Drop)]
 pub(crate) struct Kept {
     reached: Reached,

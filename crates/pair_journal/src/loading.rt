@@ -116,7 +116,8 @@ fn read_entries<D: Disk, R: Reader, K: Keeper + Drop>(
     requires of { IsOf (D.bytes disk.old) chunk.old }
     ensures ok { IfOk result (λ kept. Tells (D.bytes disk.old) names.now (K.entries kept)) }
     ensures extent { IfOk result (λ kept. HasExtent log.now names.now (K.entries kept)) }
-    ensures shown { IfOk result (λ kept. R.shown reader.old [] → R.shown reader.new (K.entries kept)) }
+    ensures shown { IfOk result (λ kept.
+        R.shown reader.old [] → R.shown reader.new (K.entries kept)) }
     ensures err { IfErr result (IsMisread (D.bytes disk.old)) }
     ensures only_read { OnlyReads D.bytes D.image disk.old disk.new }
     ensures cause { HasDiskCause (D.faults disk.old) (D.faults disk.new) result }

@@ -139,8 +139,8 @@ impl Look {
         Ok((entry.to_entry(self.alloc)?, next))
     }
 
-    /// The entry of this index, which counts from 0; the walk goes on to it, and behind it. It reads
-    /// 65,541 bytes at once, and no record twice.
+    /// The entry of this index, which counts from 0; the walk goes on to it, and behind it. It
+    /// reads 65,541 bytes at once, and no record twice.
     ///
     /// # Errors
     /// `Refused` only over a disk that does not tell its bytes, where a record that was read is no

@@ -36,8 +36,8 @@ pub returns-then-on-day_after : goal.returns-then-on-day_after
 returns-then-on-day_after c = λ entry follows.
     let x = c.in-Some-entry_ref.ensures in
     let one = the_one c.args.payload.now c.in-Some.bytes.now c.args.day c.in-Some.on
-    c.args.numbers c.in-Some-entry_ref.entry entry c.in-Some.ensures.0 c.in-Some.ensures.1 c.requires
-    x.0 x.1 follows in
+    c.args.numbers c.in-Some-entry_ref.entry entry c.in-Some.ensures.0 c.in-Some.ensures.1
+    c.requires x.0 x.1 follows in
     c.if-on-day_after.true (one.1 ∙ ap (λ (e : Entry). day_after c.args.day e) (sym one.0)
     ∙ sym c.day_after.ensures)
 
@@ -45,8 +45,8 @@ pub returns-then-not-goes_on : goal.returns-then-not-goes_on
 returns-then-not-goes_on c = λ entry follows.
     let x = c.in-Some-entry_ref.ensures in
     let one = the_one c.args.payload.now c.in-Some.bytes.now c.args.day c.in-Some.on
-    c.args.numbers c.in-Some-entry_ref.entry entry c.in-Some.ensures.0 c.in-Some.ensures.1 c.requires
-    x.0 x.1 follows in
+    c.args.numbers c.in-Some-entry_ref.entry entry c.in-Some.ensures.0 c.in-Some.ensures.1
+    c.requires x.0 x.1 follows in
     let on = subst (λ (e : Entry). GoesOn (numbers_before c.args.numbers e) e) (sym one.0)
     follows.goes_on in
     let test : IsTrue c.goes_on.result = c.goes_on.ensures.1
@@ -59,7 +59,8 @@ returns c =
     let x = c.in-Some-entry_ref.ensures in
     record {
       written = c.in-Some.ensures.0 ∙ ap (λ b. to_be_bytes w32 c.in-Some.on ++ b) x.0
-          ∙ ap (λ n. payload_on n c.in-Some-entry_ref.entry) (c.if-on-day_after.false ∙ c.day_after.ensures);
+          ∙ ap (λ n. payload_on n c.in-Some-entry_ref.entry)
+          (c.if-on-day_after.false ∙ c.day_after.ensures);
       sound = x.1;
       goes_on = subst (λ (n : Next). GoesOn n c.in-Some-entry_ref.entry) c.numbers_before.ensures
           (c.goes_on.ensures.0 c.if-not-goes_on.false);

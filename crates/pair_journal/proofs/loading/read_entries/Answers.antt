@@ -3,7 +3,8 @@ use Rattle.std.proofs.Common.{subst, ap, arith, length-append}
 use Rattle.gate_log.specs.Log.{ReadsPayload}
 use Rattle.pair_journal.specs.Loading.{Follows, Unread}
 use Rattle.pair_journal.proofs.Walking.{walks_at, only_read_still, only_read_on}
-use Rattle.pair_journal.proofs.Reading.{TellsFront, none_told, not_past, entry_unread, entry_misread}
+use Rattle.pair_journal.proofs.Reading.{TellsFront, none_told, not_past, entry_unread}
+use Rattle.pair_journal.proofs.Reading.{entry_misread}
 use Rattle.pair_journal.proofs.Reading.{more_told, all_told, not_short, extent_is, err_misread}
 use Rattle.pair_journal.proofs.loading.read_entries.Goals as goal
 
@@ -54,8 +55,8 @@ returns-in_default-clause-err g c =
     (sym c.payload-payload.ensures.payload) c.in_ok-read_record.ensures.payload) in
     entry_misread (g.D.Disk.bytes c.args.disk.now) c.args.log.now c.requires.stands
     c.args.names.now c.requires.named _ _ _ _ _ walks i.front
-    (omega (arith, c.loop-index-test.true, c.count-index-end.ensures.count)) c.payload-payload.result.now read
-    c.in_default.ensures
+    (omega (arith, c.loop-index-test.true, c.count-index-end.ensures.count))
+    c.payload-payload.result.now read c.in_default.ensures
 
 pub loop-index-preserved : goal.loop-index-preserved
 loop-index-preserved g c =

@@ -18,7 +18,8 @@ returns-in-None-clause-loads g c =
 
 pub returns-in-None-clause-stands : goal.returns-in-None-clause-stands
 returns-in-None-clause-stands g c =
-    begun_stands c.args.names.now _ (λ j. j.broken ≡ false) c.begin.result c.begin.ensures.ok c.begin.ensures.stands
+    begun_stands c.args.names.now _ (λ j. j.broken ≡ false) c.begin.result c.begin.ensures.ok
+    c.begin.ensures.stands
 
 pub returns-in-None-clause-images : goal.returns-in-None-clause-images
 returns-in-None-clause-images g c =

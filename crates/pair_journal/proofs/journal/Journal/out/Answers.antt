@@ -1,6 +1,6 @@
 use Rattle.std.proofs.Common.{◌≡◌, ◌⊎◌, ◌≤◌, ◌<◌, ◌+◌, ◌∙◌, Ok, Err, refl, sym, ap, subst, arith}
 use Rattle.gate_log.specs.Chunk.{IsOf}
-use Rattle.pair_journal.specs.Numbers.{next_out, numbers_after, first_numbers}
+use Rattle.pair_journal.specs.Numbers.{next_out, first_numbers}
 use Rattle.pair_journal.specs.Days.{last_day}
 use Rattle.pair_journal.specs.Journal.{DaysGoOn}
 use Rattle.pair_journal.specs.State.{JournalState}

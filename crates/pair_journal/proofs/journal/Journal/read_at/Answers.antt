@@ -5,7 +5,8 @@ use Rattle.pair_journal.specs.Loading.{IsPayload}
 use Rattle.pair_journal.specs.Spots.{IsSpot, StandsAt}
 use Rattle.pair_journal.specs.State.{JournalState}
 use Rattle.pair_journal.specs.declared.spot.Spot.{Spot}
-use Rattle.pair_journal.proofs.Standing.{not_behind, not_missing, unread_refused, payload_is, rest_is}
+use Rattle.pair_journal.proofs.Standing.{not_behind, not_missing, unread_refused, payload_is}
+use Rattle.pair_journal.proofs.Standing.{rest_is}
 use Rattle.pair_journal.proofs.Standing.{front_next, has_day}
 use Rattle.pair_journal.proofs.journal.Journal.read_at.Goals as goal
 
@@ -74,5 +75,6 @@ returns-clause-reads g c = λ b e entry here.
     c.read_record.new.chunk.payload c.in-Some.bytes.now _ c.in-Some-front_of.front
     (length c.payload-record.result.now) next c.in_ok-read_record.ensures.payload
     (sym c.payload-record.ensures.payload ∙ c.in-Some.ensures.0) c.in-Some-front_of.ensures.0
-    c.in-Some-front_of.ensures.1 (ap length c.payload-record.ensures.payload) refl b e entry there in
+    c.in-Some-front_of.ensures.1 (ap length c.payload-record.ensures.payload) refl b e entry there
+    in
     (read.0, read.1, subst (λ (s : JournalState). IsSpot s.entries next) c.self.view_is read.2)

@@ -25,7 +25,8 @@ invariant_of-self c =
     let entry = c.args.entry.now in
     let pushed = c.add.ensures in
     let kept = c.self.invariant in
-    let new : entry.reset ≡ c.entry.inside.reset = sym (ap (λ (e : Entry). e.reset) c.entry.view_is) in
+    let new : entry.reset ≡ c.entry.inside.reset =
+    sym (ap (λ (e : Entry). e.reset) c.entry.view_is) in
     let sound = c.requires.sound in
     let on = subst (λ (k : KeptState). GoesOn (numbers_before
     (numbers_after first_numbers k.entries) entry) entry) (sym c.self.view_is) c.requires.goes_on in
