@@ -1,21 +1,20 @@
 -- What the map of ids does, said of the list of items.
 use Rattle.std.proofs.Common.{◌≡◌, ℕ, Bool, true, false, cond, List, [], ◌∷◌, ◌++◌, map, Option}
-use Rattle.std.proofs.Common.{Some, None, refl, ap, ◌∙◌, true≢false, is_some}
+use Rattle.std.proofs.Common.{Some, None, refl, ap, sym, subst, ◌∙◌, is_some, unwrap_or}
 use Rattle.std.proofs.Common.{if◌then◌else◌}
-use Rattle.std.specs.Prelude.{◌≢◌, option_and_then}
+use Rattle.std.specs.Prelude.{option_and_then}
 use Rattle.std.specs.Option.{option_map}
 use Rattle.std.specs.Map.{lookup, keys_of}
 use Rattle.std.specs.List.{IsDistinct, AllByRecursion}
 use Rattle.std.specs.Str.{bytes_eq}
 use Rattle.std.specs.declared.alloc.Global.{Global}
 use Rattle.std.specs.declared.vec.Vec.{Vec}
-use Rattle.std.proofs.lemmas.List.{map-append}
 use Rattle.std.proofs.lemmas.Map.Made.{AllPairs-from_IsDistinct}
 use Rattle.std.proofs.lemmas.Slice.Eq.{bytes_eq-Decides}
-use Rattle.indexmap.specs.IndexMap.{insert_entry}
+use Rattle.indexmap.specs.IndexMap.{IndexMap, IsUnique, insert_entry}
 use Rattle.order_chains.specs.declared.chains.Kept.{Kept}
 use Rattle.order_chains.specs.declared.item.ChainItem.{ChainItem}
-use Rattle.order_chains.specs.Chains.{item_with, has_id, orig_of, number_of, AreDistinct}
+use Rattle.order_chains.specs.Chains.{item_with, has_id, orig_of, number_of, with_item, AreDistinct}
 use Rattle.order_chains.specs.Kept.{item_of}
 
 abbrev Key : Type 0
@@ -24,7 +23,7 @@ Key = Vec ℕ Global
 abbrev Entries : Type 0
 Entries = List (Key × Kept)
 
-abbrev pub same_key : Key → Key → Bool
+abbrev same_key : Key → Key → Bool
 same_key key other = bytes_eq key.items other.items
 
 -- what the map has under an id
@@ -94,34 +93,53 @@ module _ (items : List ChainItem) (es : Entries) (is : map item_of es ≡ items)
       ∙ number_kept (item_with (map item_of es) id)
       ∙ ap (λ (l : List ChainItem). number_of l id) is
 
--- a key that is not there goes last
-pub inserted : (es : Entries) (key : Key) (kept : Kept) →
-    has_id (map item_of es) key.items ≡ false →
-    insert_entry same_key es key kept ≡ es ++ (key, kept) ∷ []
-inserted [] key kept free = refl
-inserted (e ∷ es) key kept free = by (bytes_eq key.items e.0.items) free (inserted es key kept)
-  where
-    by : (b : Bool) →
-        is_some (cond b (Some (item_of e)) (item_with (map item_of es) key.items)) ≡ false →
-        (has_id (map item_of es) key.items ≡ false →
-        insert_entry same_key es key kept ≡ es ++ (key, kept) ∷ []) →
-        (if b then (e.0, kept) ∷ es else e ∷ insert_entry same_key es key kept)
-        ≡ e ∷ (es ++ (key, kept) ∷ [])
-    by true taken rest = absurd (true≢false taken)
-    by false free rest = ap (λ (l : Entries). e ∷ l) (rest free)
+-- an item behind another
+behind : (first : ChainItem) (rest more : List ChainItem) (has : Bool) →
+    first ∷ (if has then rest else rest ++ more)
+    ≡ (if has then first ∷ rest else first ∷ rest ++ more)
+behind first rest more true = refl
+behind first rest more false = refl
 
--- so the item goes last
-pub added : (items : List ChainItem) (es new : Entries) (key : Key) (item : ChainItem) →
-    map item_of es ≡ items → has_id items item.id ≡ false → key.items ≡ item.id →
-    new ≡ insert_entry same_key es key (kept_of item) →
-    map item_of new ≡ items ++ item ∷ []
-added items es new key item is free named stored =
-    let here : has_id (map item_of es) key.items ≡ false =
-    ap (λ (l : List ChainItem). has_id l key.items) is ∙ ap (has_id items) named ∙ free in
-    ap (map item_of) (stored ∙ inserted es key (kept_of item) here)
-    ∙ map-append item_of es ((key, kept_of item) ∷ [])
-    ∙ ap (λ (l : List ChainItem). l ++ item_of (key, kept_of item) ∷ []) is
-    ∙ ap (λ (id : List ℕ). items ++ with_id item id ∷ []) named
+-- a key that is there keeps what is kept under it, and one that is not goes last
+kept_or_put : (es : Entries) (key : Key) (kept : Kept) →
+    map item_of (insert_entry same_key es key (unwrap_or (kept_at key.items es) kept))
+    ≡ with_item (map item_of es) (item_of (key, kept))
+kept_or_put [] key kept = refl
+kept_or_put (e ∷ es) key kept =
+    by (bytes_eq key.items e.0.items) (kept_or_put es key kept)
+    (behind (item_of e) (map item_of es) (item_of (key, kept) ∷ [])
+    (has_id (map item_of es) key.items))
+  where
+    put : Kept → Entries
+    put value = insert_entry same_key es key value
+
+    by : (b : Bool) →
+        map item_of (put (unwrap_or (kept_at key.items es) kept))
+        ≡ with_item (map item_of es) (item_of (key, kept)) →
+        item_of e ∷ with_item (map item_of es) (item_of (key, kept))
+        ≡ (if has_id (map item_of es) key.items then map item_of (e ∷ es)
+        else map item_of (e ∷ es) ++ item_of (key, kept) ∷ []) →
+        map item_of (if b
+        then (e.0, unwrap_or (cond b (Some e.1) (kept_at key.items es)) kept) ∷ es
+        else e ∷ put (unwrap_or (cond b (Some e.1) (kept_at key.items es)) kept))
+        ≡ (if is_some (cond b (Some (item_of e)) (item_with (map item_of es) key.items))
+        then map item_of (e ∷ es) else map item_of (e ∷ es) ++ item_of (key, kept) ∷ [])
+    by true rest one = refl
+    by false rest one = ap (λ (l : List ChainItem). item_of e ∷ l) rest ∙ one
+
+-- so the item goes last, unless one with its id is there
+pub added : {S : Type 0} (items : List ChainItem) (es : Entries) (now told : IndexMap Key Kept S)
+    (key : Key) (value kept : Kept) (item : ChainItem) → map item_of es ≡ items →
+    key.items ≡ item.id → kept ≡ kept_of item → value ≡ unwrap_or (kept_at key.items es) kept →
+    now ≡ told → told.entries ≡ insert_entry same_key es key value →
+    map item_of now.entries ≡ with_item items item
+added items es now told key value kept item is named same there stands stored =
+    ap (map item_of) (ap (λ (m : IndexMap Key Kept _). m.entries) stands ∙ stored
+    ∙ ap (insert_entry same_key es key) there)
+    ∙ kept_or_put es key kept
+    ∙ ap (λ (k : Kept). with_item (map item_of es) (item_of (key, k))) same
+    ∙ ap (λ (id : List ℕ). with_item (map item_of es) (with_id item id)) named
+    ∙ ap (λ (l : List ChainItem). with_item l item) is
 
 abbrev ids_of : Entries → List (List ℕ)
 ids_of es = map (λ (item : ChainItem). item.id) (map item_of es)
@@ -140,3 +158,8 @@ ids_differ (e ∷ es) h = (other_ids e.0.items es h.0, ids_differ es h.1)
 -- no two items of a map's entries have one id
 pub distinct_ids : (es : Entries) → IsDistinct same_key (keys_of es) → AreDistinct (map item_of es)
 distinct_ids es h = AllPairs-from_IsDistinct bytes_eq-Decides (ids_of es) (ids_differ es h)
+
+pub still_distinct : {S : Type 0} (now told : IndexMap Key Kept S) → now ≡ told →
+    IsUnique same_key told → AreDistinct (map item_of now.entries)
+still_distinct now told stands unique = distinct_ids now.entries
+    (subst (λ (m : IndexMap Key Kept _). IsUnique same_key m) (sym stands) unique)

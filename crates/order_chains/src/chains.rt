@@ -1,9 +1,9 @@
 //! The list of forwarded requests, with a look-up by ClOrdID.
 
-ghost use Rattle.std.specs.Prelude.{◌≡◌, ◌-◌, ◌<◌, ◌++◌, [], ◌∷◌, false, length, take, IfOk, OnOk};
+ghost use Rattle.std.specs.Prelude.{◌≡◌, ◌-◌, ◌<◌, [], length, take, IfOk, OnOk};
 ghost use Rattle.std.specs.Prelude.{OnErr};
 ghost use Rattle.std.specs.Option.{option_map};
-ghost use Rattle.order_chains.specs.Chains.{has_id, orig_of, number_of, AreDistinct};
+ghost use Rattle.order_chains.specs.Chains.{has_id, orig_of, number_of, with_item, AreDistinct};
 
 use crate::ItemRef;
 use crate::item::copied;
@@ -58,15 +58,13 @@ impl Chains {
         })
     }
 
-    /// Adds an item, whose id no item has yet ([`Chains::has`]), at the end. Each of its ids is
-    /// copied once.
+    /// Adds an item at the end, unless one with its id is there. Each of its ids is copied once.
     ///
     /// # Errors
     ///
     /// `AllocError` for want of memory; then the items are as before.
     pub fn add(&mut self, item: &ItemRef<'_>) -> Result<(), AllocError>
-        requires { has_id self.old item.now.id ≡ false }
-        ensures ok { OnOk result (self.new ≡ self.old ++ item.now ∷ []) }
+        ensures ok { OnOk result (self.new ≡ with_item self.old item.now) }
         ensures distinct { OnOk result (AreDistinct self.new) }
         ensures err { OnErr result (self.new ≡ self.old) }
     {
@@ -78,7 +76,7 @@ impl Chains {
             number: item.number,
             letter: item.letter,
         };
-        self.items.insert(key, kept)?;
+        let _ = self.items.entry(key)?.or_insert(kept);
         Ok(())
     }
 
