@@ -1,9 +1,10 @@
 -- The chains of a journal, entry by entry.
 use Rattle.std.proofs.Common.{◌≡◌, true, false, List, [], ◌∷◌, ◌++◌, refl, ap, ◌∙◌, sym, Ok, Err}
-use Rattle.std.proofs.Common.{append-nil, Option, Some, None}
+use Rattle.std.proofs.Common.{append-nil, Option, Some, None, Bool, if◌then◌else◌}
 use Rattle.std.specs.Prelude.{Result, OnOk}
 use Rattle.std.specs.Option.{option_to_list}
 use Rattle.order_chains.specs.declared.item.ChainItem.{ChainItem}
+use Rattle.order_chains.specs.Chains.{has_id, with_item}
 use Rattle.pair_entries.specs.declared.entry.Entry.{Entry}
 use Rattle.pair_journal.specs.Days.{last_day}
 use Rattle.pair_journal.proofs.Dating.{last_day-push, last_day-reset}
@@ -42,11 +43,16 @@ none_added items entry is =
     ∙ ap (λ (o : Option ChainItem). items ++ option_to_list (if_new items o)) (sym is)
 
 pub one_added : {T E : Type 0} (r : Result T E) (items new : List ChainItem) (entry : Entry)
-    (item : ChainItem) → item_in entry ≡ Some item
-    → OnOk r (new ≡ items ++ option_to_list (if_new items (Some item)))
+    (item : ChainItem) → item_in entry ≡ Some item → OnOk r (new ≡ with_item items item)
     → OnOk r (new ≡ items ++ option_to_list (new_item items entry))
 one_added (Ok value) items new entry item is more =
-    more ∙ ap (λ (o : Option ChainItem). items ++ option_to_list (if_new items o)) (sym is)
+    more ∙ by (has_id items item.id)
+    ∙ ap (λ (o : Option ChainItem). items ++ option_to_list (if_new items o)) (sym is)
+  where
+    by : (has : Bool) → (if has then items else items ++ item ∷ [])
+        ≡ items ++ option_to_list (if has then None else Some item)
+    by true = sym (append-nil items)
+    by false = refl
 one_added (Err error) items new entry item is more = tt
 
 -- a day begins with none

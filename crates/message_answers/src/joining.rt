@@ -1,6 +1,6 @@
 //! The requests that a journal forwarded, as they join the chains.
 
-ghost use Rattle.std.specs.Prelude.{◌≡◌, ◌++◌, [], Some, IfOk, OnOk, unwrap_or};
+ghost use Rattle.std.specs.Prelude.{◌≡◌, ◌++◌, [], IfOk, OnOk, unwrap_or};
 ghost use Rattle.std.specs.Option.{option_map, option_to_list};
 ghost use Rattle.message_tables.specs.Tables.{first_of};
 ghost use Rattle.pair_journal.specs.Days.{last_day};
@@ -8,7 +8,7 @@ ghost use Rattle.event_decisions.specs.Body.{fields_of};
 ghost use Rattle.row_values.specs.Kinds as kinds;
 ghost use Rattle.value_kinds.specs.ValueKind as value_kinds;
 ghost use Rattle.message_answers.specs.Chains.{joining_letter, item_said, original_said};
-ghost use Rattle.message_answers.specs.Chains.{if_new, new_item, chains_of};
+ghost use Rattle.message_answers.specs.Chains.{new_item, chains_of};
 
 use field_groups::value_of;
 use message_tables::Lookup;
@@ -90,17 +90,6 @@ pub(crate) fn item_said<'f, F: Lookup>(number: u32, letter: u8, fields: &'f F) -
     }
 }
 
-// Adds a request, unless one with its id is there.
-fn add_new(chains: &mut Chains, item: &ItemRef<'_>) -> Result<(), AllocError>
-    ensures { OnOk result (chains.new ≡
-        chains.old ++ option_to_list (if_new chains.old (Some item.now))) }
-{
-    if chains.has(item.id) {
-        return Ok(());
-    }
-    chains.add(item)
-}
-
 // Adds the request that an entry forwarded, unless one with its id is there. Of its fields two are
 // read, and none is judged again.
 fn join(chains: &mut Chains, entry: &EntryRef<'_>) -> Result<(), AllocError>
@@ -115,7 +104,7 @@ fn join(chains: &mut Chains, entry: &EntryRef<'_>) -> Result<(), AllocError>
     };
     let fields = Body { bytes: took.raw };
     let item = item_said(took.number, letter, &fields);
-    add_new(chains, &item)
+    chains.add(&item)
 }
 
 /// The requests that a journal forwarded on its last day, as its entries are read one by one.

@@ -33,5 +33,5 @@ returns c =
     (ap (λ (t : Took). t.raw) c.took.view_is) in
     let said = c.item_said-item.ensures
     ∙ ap (λ (t : Took). item_said t.number letter (fields_of raw)) c.took.view_is in
-    one_added c.add_new.result c.args.chains.now c.add_new.new.chains entry c.item_said-item.result
-    (read ∙ ap (λ (i : ChainItem). Some i) (sym said)) c.add_new.ensures
+    one_added c.add.result c.args.chains.now c.add.new.self entry c.item_said-item.result
+    (read ∙ ap (λ (i : ChainItem). Some i) (sym said)) c.add.ensures.ok
