@@ -1,16 +1,14 @@
 -- The lines of a piece and of calls, one more at a time.
-use Rattle.std.proofs.Common.{◌≡◌, ℕ, suc, ◌+◌, ◌≤◌, ◌<◌, Bool, List, [], ◌∷◌, ◌++◌}
+use Rattle.std.proofs.Common.{◌≡◌, ℕ, suc, ◌+◌, ◌==◌, ◌<◌, Bool, List, [], ◌∷◌, ◌++◌}
 use Rattle.std.proofs.Common.{length, take, get_or, map, refl, sym, ◌∙◌, ap, append_assoc}
 use Rattle.std.proofs.Common.{append-nil, arith, codes}
-use Rattle.std.specs.Prelude.{fold, filter, if◌then◌else◌}
+use Rattle.std.specs.Prelude.{fold, if◌then◌else◌}
 use lib.Dec.{eqb-suc-zero}
 use Rattle.std.specs.List.{flat_map}
 use Rattle.std.proofs.lemmas.Grind.{flat_map-append}
 use Rattle.std.proofs.lemmas.List.{map-append, take_more, length_push}
 use Rattle.wires.specs.Wire.{WireCall, Poll, Send, HangUp, Nothing, Opened, Bytes, Closed, Broken}
 use Rattle.replay_lines.specs.Pieces.{add_piece, pieces_after, pieces_of}
-use Rattle.replay_lines.specs.CallLog.{has_line}
-use Rattle.replay_lines.specs.Calls.{opened, call_lines, lines_from}
 use Rattle.replay_lines.specs.ReplayLines.{printed, piece_line, numbered, connection_lines}
 use Rattle.replay_lines.specs.ReplayLines.{side_lines}
 
@@ -25,6 +23,26 @@ byte_more old now piece i within is =
     ∙ ap (λ (l : List ℕ). old ++ (codes "> " ++ l))
     (sym (map-append printed (take i piece) (get_or piece i 0 ∷ []))
     ∙ ap (λ (l : List ℕ). map printed l) (sym (take_more piece i 0 within)))
+
+-- ---- the lines of calls, one call at a time
+
+-- how many connections there are after a call
+abbrev pub opened : ℕ → WireCall → ℕ
+opened connections (Poll Opened) = connections + 1
+opened connections call = connections
+
+-- the line of a call behind so many connections
+abbrev pub call_lines : List ℕ → ℕ → WireCall → List ℕ
+call_lines side connections (Poll Opened) = numbered side (connections + 1)
+call_lines side connections (Send piece wrote done) =
+    if connections == 0 then [] else piece_line wrote
+call_lines side connections call = []
+
+-- the lines of calls behind so many connections
+abbrev pub lines_from : List ℕ → ℕ → List WireCall → List ℕ
+lines_from side connections [] = []
+lines_from side connections (call ∷ calls) =
+    call_lines side connections call ++ lines_from side (opened connections call) calls
 
 -- ---- their lines
 
@@ -111,53 +129,6 @@ all_lines side all (call ∷ calls) = all_lines side (pieces_after all call) cal
     ∙ append_assoc (side_lines side 1 all) (call_lines side (length all) call)
     (lines_from side (opened (length all) call) calls)
 
-lines_are : (side : List ℕ) (calls : List WireCall)
+pub lines_are : (side : List ℕ) (calls : List WireCall)
     → lines_from side 0 calls ≡ side_lines side 1 (pieces_of calls)
 lines_are side calls = sym (all_lines side [] calls)
-
--- a call without a line does nothing
-pub kept_lines : (side : List ℕ) (connections : ℕ) (calls : List WireCall)
-    → lines_from side connections (filter has_line calls) ≡ lines_from side connections calls
-kept_lines side connections [] = refl
-kept_lines side connections (Poll Opened ∷ calls) =
-    ap (λ (l : List ℕ). numbered side (connections + 1) ++ l)
-    (kept_lines side (connections + 1) calls)
-kept_lines side connections (Poll Nothing ∷ calls) = kept_lines side connections calls
-kept_lines side connections (Poll (Bytes bytes) ∷ calls) = kept_lines side connections calls
-kept_lines side connections (Poll Closed ∷ calls) = kept_lines side connections calls
-kept_lines side connections (Poll Broken ∷ calls) = kept_lines side connections calls
-kept_lines side connections (Send piece wrote done ∷ calls) =
-    ap (λ (l : List ℕ). call_lines side connections (Send piece wrote done) ++ l)
-    (kept_lines side connections calls)
-kept_lines side connections (HangUp ∷ calls) = kept_lines side connections calls
-
--- those that are kept have the lines of all
-pub side_kept : (side : List ℕ) (calls kept : List WireCall) → kept ≡ filter has_line calls
-    → lines_from side 0 kept ≡ side_lines side 1 (pieces_of calls)
-side_kept side calls kept is = ap (lines_from side 0) is ∙ kept_lines side 0 calls
-    ∙ lines_are side calls
-
-opened_most : (count : ℕ) (call : WireCall) → opened count call ≤ count + 1
-opened_most count (Poll Opened) = omega arith
-opened_most count (Poll Nothing) = omega arith
-opened_most count (Poll (Bytes bytes)) = omega arith
-opened_most count (Poll Closed) = omega arith
-opened_most count (Poll Broken) = omega arith
-opened_most count (Send piece wrote done) = omega arith
-opened_most count HangUp = omega arith
-
-pub few_more : (connections next count : ℕ) (call : WireCall) (left rest : List WireCall)
-    → left ≡ call ∷ rest → connections + length left ≤ count → next ≡ opened connections call
-    → next + length rest ≤ count
-few_more connections next count call left rest is few opens =
-    let most = opened_most connections call in
-    let longer : length left ≡ length rest + 1 = ap length is ∙ omega arith in
-    omega (arith, most, longer, few, opens)
-
--- the line of the first call, and the rest
-pub line_first : (side : List ℕ) (connections next : ℕ) (call : WireCall)
-    (left rest : List WireCall) → left ≡ call ∷ rest → next ≡ opened connections call
-    → lines_from side connections left
-    ≡ call_lines side connections call ++ lines_from side next rest
-line_first side connections next call left rest is opens = ap (lines_from side connections) is
-    ∙ ap (λ n. call_lines side connections call ++ lines_from side n rest) (sym opens)

@@ -1,6 +1,6 @@
 -- Lines that are printed one after another.
 use Rattle.std.proofs.Common.{◌≡◌, ◌∙◌, ℕ, List, [], ◌++◌, length, sym, ap, subst, append_assoc}
-use Rattle.std.proofs.Common.{arith}
+use Rattle.std.proofs.Common.{append-nil, arith}
 use Rattle.std.specs.Prelude.{Result, Ok, Err, IsErr}
 use Rattle.std.specs.declared.option.Option.{Option}
 use Rattle.std.specs.Io.KnownBytes.{Appends}
@@ -94,3 +94,13 @@ life_begins old text head client venue end is =
     begun old text (client ++ (venue ++ end)) (head ++ client ++ venue ++ end)
     (ap (λ (l : List ℕ). l ++ (client ++ (venue ++ end))) is
     ∙ sym (append_assoc (head ++ client) venue end ∙ append_assoc head client (venue ++ end)))
+
+-- nothing is left
+pub all_printed : (old new : Option (List ℕ)) (before after lines : List ℕ)
+    → SoFar old new after [] (before ++ lines)
+    → (put : List ℕ) × Appends old new put × (put ++ after ≡ before ++ lines)
+all_printed old new before after lines so_far = (
+  so_far.put,
+  so_far.appends,
+  sym (append-nil (so_far.put ++ after)) ∙ so_far.is,
+)

@@ -1,11 +1,10 @@
--- Inside: the calls on a wire as they are kept, of which those with a line have marks and pieces.
-use Rattle.std.specs.Prelude.{◌≡◌, ℕ, Bool, List, [], ◌∷◌, drop, filter, true, false, ⊤}
-use Rattle.kept_pieces.specs.Pieces.{first_piece}
+-- Inside: the calls on a wire as they are kept, by their lines, and how these are shown.
+use Rattle.std.specs.Prelude.{ℕ, ◌+◌, ◌==◌, if◌then◌else◌, List, [], ◌∷◌, ◌++◌, true}
+use Rattle.std.specs.List.{flat_map}
 use Rattle.wires.specs.Wire.{WireCall, Poll, Send, HangUp, Nothing, Opened, Bytes, Closed}
+use Rattle.replay_lines.specs.ReplayLines.{piece_line, numbered}
 use Rattle.replay_lines.specs.declared.call_log.Call.{Call}
 use Rattle.replay_lines.specs.declared.call_log.Call.TheVariants as call
-use Rattle.replay_lines.specs.declared.call_log.Mark.{Mark}
-use Rattle.replay_lines.specs.declared.call_log.Mark.TheVariants as mark
 
 abbrev pub call_of : Call → WireCall
 call_of call.Nothing = Poll Nothing
@@ -15,28 +14,31 @@ call_of call.Closed = Poll Closed
 call_of (call.Sent piece) = Send piece.now piece.now true
 call_of call.HungUp = HangUp
 
--- an opening and a send have a line
-abbrev pub has_line : WireCall → Bool
-has_line (Poll Opened) = true
-has_line (Send piece wrote done) = true
-has_line call = false
+-- an opening is kept as SOH, and of a send the line of its piece, which has no SOH
+abbrev pub kept_line : WireCall → List ℕ
+kept_line (Poll Opened) = 1 ∷ []
+kept_line (Send piece wrote done) = piece_line wrote
+kept_line call = []
 
--- the calls of marks, each with the next piece where it takes one
-abbrev pub calls_of : List Mark → List (List ℕ) → List WireCall
-calls_of [] pieces = []
-calls_of (mark.Opened ∷ marks) pieces = Poll Opened ∷ calls_of marks pieces
-calls_of (mark.Sent ∷ marks) pieces =
-    Send (first_piece pieces) (first_piece pieces) true ∷ calls_of marks (drop 1 pieces)
+abbrev pub kept_lines : List WireCall → List ℕ
+kept_lines calls = flat_map kept_line calls
 
--- there are just the pieces that the marks take
-abbrev pub AreWhole : List Mark → List (List ℕ) → Type 0
-AreWhole [] [] = ⊤
-AreWhole (mark.Opened ∷ marks) pieces = AreWhole marks pieces
-AreWhole (mark.Sent ∷ marks) (piece ∷ pieces) = AreWhole marks pieces
-AreWhole marks pieces = ⊥
+-- how many connections there are behind a byte that is kept
+abbrev pub opened_by : ℕ → ℕ → ℕ
+opened_by connections byte = if byte == 1 then connections + 1 else connections
 
--- those of a record that have a line are kept
-pub record AreKept (calls : List WireCall) (marks : List Mark) (pieces : List (List ℕ)) : Type 0
-  where
-    pub kept : calls_of marks pieces ≡ filter has_line calls
-    pub whole : AreWhole marks pieces
+-- A byte that is kept, behind so many connections, as it is shown: SOH as the line of the next one,
+-- and another byte as itself where there is one.
+abbrev pub shown_byte : List ℕ → ℕ → ℕ → List ℕ
+shown_byte side connections byte =
+    if byte == 1 then numbered side (connections + 1)
+    else (if connections == 0 then [] else byte ∷ [])
+
+abbrev pub opened_in : ℕ → List ℕ → ℕ
+opened_in connections [] = connections
+opened_in connections (byte ∷ kept) = opened_in (opened_by connections byte) kept
+
+abbrev pub shown : List ℕ → ℕ → List ℕ → List ℕ
+shown side connections [] = []
+shown side connections (byte ∷ kept) =
+    shown_byte side connections byte ++ shown side (opened_by connections byte) kept

@@ -1,6 +1,6 @@
 pub mod Pieces
 pub mod ReplayLines
-pub mod Calls
+pub mod Packing
 pub mod CallLog
 pub mod Past
 pub mod Prints

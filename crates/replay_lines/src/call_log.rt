@@ -1,13 +1,13 @@
 //! The calls on a wire, as they are kept until they are printed.
 
-ghost use Rattle.std.specs.Prelude.{◌≡◌, ◌<◌, ◌++◌, [], ◌∷◌, List, length, drop, filter};
-ghost use Rattle.std.specs.Prelude.{IfSome, IsNone, OnOk, OnErr};
-ghost use Rattle.replay_lines.specs.declared.call_log.Mark.{Mark};
-ghost use Rattle.replay_lines.specs.CallLog.{call_of, calls_of, has_line, AreWhole};
+ghost use Rattle.std.specs.Prelude.{◌≡◌, ◌++◌, [], ◌∷◌, OnOk, OnErr};
+ghost use Rattle.replay_lines.specs.CallLog.{call_of, kept_line, kept_lines};
 ghost use Rattle.replay_lines.specs.Past.{call_with};
+ghost use Rattle.replay_lines.specs.ReplayLines.{piece_line};
 
+use crate::kept_text::KeptText;
+use crate::lines::{SOH, append_piece};
 use crate::past::{Kind, Past, joined, none};
-use kept_pieces::{Left, Pieces};
 use std::alloc::{AllocError, Global};
 use std::marker::Model;
 
@@ -28,96 +28,45 @@ pub enum Call<'a> {
     HungUp,
 }
 
-/// What a call with a line is, without its bytes.
-#[derive(Clone, Copy, Debug)]
-pub(crate) enum Mark {
-    Opened,
-    Sent,
-}
-
-/// The calls on a wire, seen as its record. Those that have a line when they are printed are kept,
-/// an opening in a byte; of the others only clauses know.
+/// The calls on a wire, seen as its record. The lines of those that have one when they are printed
+/// are kept, that of an opening as SOH; of the others only clauses know.
 #[derive(Drop)]
 pub struct CallLog {
+    alloc: Global,
     past: Past,
-    marks: Vec<Mark>,
-    pieces: Pieces,
+    kept: KeptText,
 }
 
 impl Model for CallLog {
-    ghost use Rattle.std.specs.Prelude.{List};
+    ghost use Rattle.std.specs.Prelude.{◌≡◌, List};
     ghost use Rattle.wires.specs.Wire.{WireCall};
-    ghost use Rattle.replay_lines.specs.CallLog.{AreKept};
+    ghost use Rattle.replay_lines.specs.CallLog.{kept_lines};
 
     ghost Value = { List WireCall };
 
     ghost view = { λ l. l.past.calls };
 
-    ghost invariant = { λ l. AreKept l.past.calls l.marks.items l.pieces };
+    ghost invariant = { λ l. l.kept ≡ kept_lines l.past.calls };
 }
 
-/// The calls with a line that are left of a record, seen as their list.
-#[derive(Debug, Drop)]
-pub(crate) struct Calls<'a> {
-    marks: &'a [Mark],
-    pieces: Left<'a>,
-}
-
-impl<'a> Model for Calls<'a> {
-    ghost use Rattle.std.specs.Prelude.{List};
-    ghost use Rattle.wires.specs.Wire.{WireCall};
-    ghost use Rattle.replay_lines.specs.CallLog.{calls_of};
-
-    ghost Value = { List WireCall };
-
-    ghost view = { λ c. calls_of c.marks.now c.pieces };
-}
-
-// The call of a mark, with the next piece where it takes one.
-fn call_of<'a>(mark: Mark, pieces: &mut Left<'a>) -> Call<'a>
-    ensures { (marks : List Mark) → calls_of (mark ∷ marks) pieces.old
-        ≡ call_of result ∷ calls_of marks pieces.new }
+// Keeps the line of a piece that was sent.
+fn keep_sent(alloc: Global, kept: &mut KeptText, piece: &[u8]) -> Result<(), AllocError>
+    ensures ok { OnOk result (kept.new ≡ kept.old ++ piece_line piece.now) }
+    ensures err { OnErr result (kept.new ≡ kept.old) }
 {
-    match mark {
-        Mark::Opened => Call::Opened,
-        Mark::Sent => Call::Sent(pieces.next_or_empty()),
-    }
+    let mut line = Vec::with_capacity(alloc, piece.len())?;
+    append_piece(piece, &mut line)?;
+    kept.push(&line)
 }
 
-// Keeps an opening.
-fn keep_opened(marks: &mut Vec<Mark>) -> Result<(), AllocError>
-    ensures ok { OnOk result (marks.new.items ≡ marks.old.items ++ Mark.Opened ∷ []) }
-    ensures err { OnErr result (marks.new.items ≡ marks.old.items) }
-{
-    marks.push(Mark::Opened)?;
-    Ok(())
-}
-
-// Keeps a piece that was sent.
-fn keep_sent(marks: &mut Vec<Mark>, pieces: &mut Pieces, piece: &[u8]) -> Result<(), AllocError>
-    ensures ok { OnOk result (marks.new.items ≡ marks.old.items ++ Mark.Sent ∷ []) }
-    ensures piece { OnOk result (pieces.new ≡ pieces.old ++ piece.now ∷ []) }
-    ensures err { OnErr result (marks.new.items ≡ marks.old.items) }
-    ensures same { OnErr result (pieces.new ≡ pieces.old) }
-{
-    marks.reserve(1)?;
-    pieces.push(piece)?;
-    marks.push_reserved(Mark::Sent);
-    Ok(())
-}
-
-// Keeps a call, where it has a line.
-fn keep(marks: &mut Vec<Mark>, pieces: &mut Pieces, call: Call<'_>) -> Result<(), AllocError>
-    requires { AreWhole marks.old.items pieces.old }
-    ensures ok { OnOk result (calls_of marks.new.items pieces.new
-        ≡ calls_of marks.old.items pieces.old ++ filter has_line (call_of call.entry ∷ [])) }
-    ensures whole { OnOk result (AreWhole marks.new.items pieces.new) }
-    ensures err { OnErr result (marks.new.items ≡ marks.old.items) }
-    ensures same { OnErr result (pieces.new ≡ pieces.old) }
+// Keeps the line of a call, where it has one.
+fn keep(alloc: Global, kept: &mut KeptText, call: Call<'_>) -> Result<(), AllocError>
+    ensures ok { OnOk result (kept.new ≡ kept.old ++ kept_line (call_of call.entry)) }
+    ensures err { OnErr result (kept.new ≡ kept.old) }
 {
     match call {
-        Call::Opened => keep_opened(marks),
-        Call::Sent(piece) => keep_sent(marks, pieces, piece),
+        Call::Opened => kept.push(&[SOH]),
+        Call::Sent(piece) => keep_sent(alloc, kept, piece),
         Call::Nothing | Call::Bytes(_) | Call::Closed | Call::HungUp => Ok(()),
     }
 }
@@ -142,9 +91,9 @@ impl CallLog {
         ensures { result ≡ [] }
     {
         CallLog {
+            alloc,
             past: none(),
-            marks: Vec::new(alloc),
-            pieces: Pieces::new(alloc),
+            kept: KeptText::new(alloc),
         }
     }
 
@@ -152,43 +101,21 @@ impl CallLog {
     ///
     /// # Errors
     /// `AllocError` for want of memory; then the calls are as before.
+    #[tactic(auto, using(crate::proofs::Kept::one_more))]
     pub fn push(&mut self, call: Call<'_>) -> Result<(), AllocError>
         ensures ok { OnOk result (self.new ≡ self.old ++ call_of call.entry ∷ []) }
         ensures err { OnErr result (self.new ≡ self.old) }
     {
-        keep(&mut self.marks, &mut self.pieces, call)?;
+        keep(self.alloc, &mut self.kept, call)?;
         let (kind, bytes) = parts_of(call);
         self.past = joined(&self.past, kind, bytes);
         Ok(())
     }
 
-    /// The calls with a line, from the first on; it takes no memory.
-    pub(crate) fn calls(&self) -> Calls<'_>
-        ensures { result ≡ filter has_line self.now }
+    /// The lines that are kept of the calls.
+    pub(crate) fn kept(&self) -> &KeptText
+        ensures { result.now ≡ kept_lines self.now }
     {
-        Calls {
-            marks: &self.marks,
-            pieces: self.pieces.left(),
-        }
-    }
-}
-
-impl<'a> Calls<'a> {
-    /// How many calls there are.
-    #[tactic(auto, using(crate::proofs::Kept::as_many))]
-    pub(crate) fn len(&self) -> usize
-        ensures { result ≡ length self.now }
-    {
-        self.marks.len()
-    }
-
-    /// The next call, which is then behind.
-    pub(crate) fn next(&mut self) -> Option<Call<'a>>
-        ensures some { IfSome result (λ call. self.old ≡ call_of call ∷ self.new) }
-        ensures none { IsNone result → self.old ≡ [] }
-    {
-        let (mark, marks) = self.marks.split_first()?;
-        self.marks = marks;
-        Some(call_of(*mark, &mut self.pieces))
+        &self.kept
     }
 }

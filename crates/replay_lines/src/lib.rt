@@ -3,8 +3,10 @@
 #![tactic(auto)]
 
 mod call_log;
+mod kept_text;
 pub mod laws;
 mod lines;
+mod packing;
 mod past;
 mod played;
 mod printing;

@@ -1,18 +1,17 @@
 //! The lines, as they are appended to a text.
 
-ghost use Rattle.std.specs.Prelude.{◌≡◌, ◌<◌, ◌-◌, ◌^◌, ◌∷◌, ◌++◌, [], codes, decimal, IfOk, OnOk};
-ghost use Rattle.replay_lines.specs.CallLog.{call_of};
-ghost use Rattle.replay_lines.specs.Calls.{opened, call_lines};
+ghost use Rattle.std.specs.Prelude.{◌≡◌, ◌∷◌, ◌++◌, [], codes, decimal, IfOk, OnOk};
+ghost use Rattle.replay_lines.specs.CallLog.{opened_by, shown_byte, opened_in, shown};
 ghost use Rattle.replay_lines.specs.ReplayLines.{printed, piece_line, numbered};
 ghost use Rattle.replay_lines.specs.ReplayLines.{end_line, four_numbered};
 ghost use Rattle.replay_lines.specs.ReplayLines.{last_lines, drill_line, drill_lines};
 
-use crate::{Call, PlayedDrill};
+use crate::PlayedDrill;
 use itoa::Buffer;
 use std::alloc::AllocError;
 
 /// The byte that ends a field.
-const SOH: u8 = 1;
+pub(crate) const SOH: u8 = 1;
 
 /// The byte that stands for it.
 fn printed(byte: u8) -> u8
@@ -23,7 +22,7 @@ fn printed(byte: u8) -> u8
 
 /// Appends the line of a piece.
 #[tactic(auto, using(crate::proofs::OneMore::byte_more))]
-fn append_piece(piece: &[u8], text: &mut Vec<u8>) -> Result<(), AllocError>
+pub(crate) fn append_piece(piece: &[u8], text: &mut Vec<u8>) -> Result<(), AllocError>
     ensures { OnOk result (text.new.items ≡ text.old.items ++ piece_line piece.now) }
 {
     text.extend_from_slice(b"> ")?;
@@ -56,30 +55,46 @@ pub(crate) fn append_numbered(
     Ok(())
 }
 
-/// Appends the line of a call, if it has one, behind so many connections: that of the connection
-/// that it opens, or of the piece that it wrote. Answers how many connections there are then.
-pub(crate) fn append_call(
+/// Appends a byte that is kept, behind so many connections, as it is shown: SOH as the line of the
+/// next one, and another byte as itself where there is one. Answers how many there are then.
+fn append_byte(
     side: &[u8],
     connections: u64,
-    call: Call<'_>,
+    byte: u8,
     text: &mut Vec<u8>,
 ) -> Result<u64, AllocError>
-    requires { connections < 2 ^ 64 - 1 }
-    ensures count { IfOk result (λ n. n ≡ opened connections (call_of call.entry)) }
+    ensures count { IfOk result (λ n. n ≡ opened_by connections byte) }
     ensures text { OnOk result (text.new.items ≡
-        text.old.items ++ call_lines side.now connections (call_of call.entry)) }
+        text.old.items ++ shown_byte side.now connections byte) }
 {
-    match call {
-        Call::Opened => {
-            append_numbered(side, connections + 1, text)?;
-            Ok(connections + 1)
-        }
-        Call::Sent(piece) if connections > 0 => {
-            append_piece(piece, text)?;
-            Ok(connections)
-        }
-        _ => Ok(connections),
+    if byte == SOH {
+        let next = connections.checked_add(1).ok_or(AllocError)?;
+        append_numbered(side, next, text)?;
+        return Ok(next);
     }
+    if connections > 0 {
+        text.push(byte)?;
+    }
+    Ok(connections)
+}
+
+/// Appends what is kept of calls, behind so many connections, as it is shown. Answers how many
+/// there are then.
+pub(crate) fn append_shown(
+    side: &[u8],
+    connections: u64,
+    kept: &[u8],
+    text: &mut Vec<u8>,
+) -> Result<u64, AllocError>
+    ensures count { IfOk result (λ n. n ≡ opened_in connections kept.now) }
+    ensures text { OnOk result (text.new.items ≡
+        text.old.items ++ shown side.now connections kept.now) }
+{
+    let mut connections = connections;
+    for byte in kept {
+        connections = append_byte(side, connections, *byte, text)?;
+    }
+    Ok(connections)
 }
 
 /// Appends the line of an end.

@@ -1,23 +1,20 @@
 //! The lines, put to a sink.
 
-ghost use Rattle.std.specs.Prelude.{◌≡◌, ◌≢◌, ◌<◌, ◌-◌, ◌^◌, [], Err, IfOk, OnErr};
+ghost use Rattle.std.specs.Prelude.{◌≡◌, ◌≢◌, [], Err, IfOk, OnErr};
 ghost use Rattle.outside.specs.Bytes.{PutAppends};
 ghost use Rattle.outside.specs.Causes.{HasCause, Rose};
-ghost use Rattle.replay_lines.specs.CallLog.{call_of};
-ghost use Rattle.replay_lines.specs.Calls.{opened, call_lines};
+ghost use Rattle.replay_lines.specs.CallLog.{opened_in, shown};
 ghost use Rattle.replay_lines.specs.Pieces.{pieces_of};
 ghost use Rattle.replay_lines.specs.declared.printing.PrintError.TheVariants as errors;
 ghost use Rattle.replay_lines.specs.Prints.{Prints};
 ghost use Rattle.replay_lines.specs.ReplayLines.{side_lines, life_lines, last_lines, drill_lines};
 
-use crate::lines::{append_call, append_end, append_last, append_numbered, append_summary};
-use crate::{Call, CallLog, PlayedDrill, PlayedLife};
+use crate::kept_text::LONG_TEXT;
+use crate::lines::{append_end, append_last, append_numbered, append_shown, append_summary};
+use crate::{CallLog, PlayedDrill, PlayedLife};
 use outside::Sink;
 use std::alloc::{AllocError, Global};
 use thiserror::Error;
-
-/// How many bytes of lines wait to be put, and a line more.
-const LONG_TEXT: usize = 65_536;
 
 /// Why lines were not put.
 #[derive(Clone, Copy, Debug, Error, PartialEq, Eq)]
@@ -66,30 +63,29 @@ fn put_long<O: Sink>(out: &mut O, text: &mut Vec<u8>) -> Result<(), PrintError>
     Ok(())
 }
 
-/// Prints the line of a call, if it has one, behind so many connections. Answers how many there are
-/// then.
-fn print_call<O: Sink>(
+/// Prints what is kept of calls, behind so many connections. Answers how many there are then.
+fn print_kept<O: Sink>(
     out: &mut O,
     side: &[u8],
     connections: u64,
-    call: Call<'_>,
+    kept: &[u8],
     text: &mut Vec<u8>,
 ) -> Result<u64, PrintError>
-    requires { connections < 2 ^ 64 - 1 }
-    ensures count { IfOk result (λ n. n ≡ opened connections (call_of call.entry)) }
+    ensures count { IfOk result (λ n. n ≡ opened_in connections kept.now) }
     ensures prints { Prints (O.bytes out.old) (O.bytes out.new) text.old.items text.new.items
-        result (call_lines side.now connections (call_of call.entry)) }
+        result (shown side.now connections kept.now) }
     ensures fault { result ≡ Err errors.OutputFault →
         Rose (O.faults out.old) (O.faults out.new) }
     ensures still { result ≢ Err errors.OutputFault → O.faults out.new ≡ O.faults out.old }
 {
-    let connections = append_call(side, connections, call, text)?;
+    let connections = append_shown(side, connections, kept, text)?;
     put_long(out, text)?;
     Ok(connections)
 }
 
 /// Prints the lines of the connections of a side.
 fn print_side<O: Sink>(
+    alloc: Global,
     out: &mut O,
     side: &[u8],
     log: &CallLog,
@@ -101,12 +97,14 @@ fn print_side<O: Sink>(
         Rose (O.faults out.old) (O.faults out.new) }
     ensures still { result ≢ Err errors.OutputFault → O.faults out.new ≡ O.faults out.old }
 {
-    let mut left = log.calls();
-    let count = left.len(); // there are no more connections than calls
+    let (parts, end) = log.kept().parts();
+    let mut kept = Vec::new(alloc);
     let mut connections = 0;
-    while let Some(call) = left.next() {
-        connections = print_call(out, side, connections, call, text)?;
+    for packed in parts {
+        packed.unpack(&mut kept)?;
+        connections = print_kept(out, side, connections, &kept, text)?;
     }
+    print_kept(out, side, connections, end, text)?;
     Ok(())
 }
 
@@ -131,8 +129,8 @@ pub fn put_life<O: Sink>(
 {
     let mut text = Vec::new(alloc);
     append_numbered(b"life", life.number, &mut text)?;
-    print_side(out, b"client", life.client, &mut text)?;
-    print_side(out, b"venue", life.venue, &mut text)?;
+    print_side(alloc, out, b"client", life.client, &mut text)?;
+    print_side(alloc, out, b"venue", life.venue, &mut text)?;
     append_end(life.end, &mut text)?;
     put_text(out, &text)
 }
