@@ -1,6 +1,6 @@
 //! The lives of a capture, one after another.
 
-ghost use Rattle.std.specs.Prelude.{◌≡◌, ◌≢◌, Err};
+ghost use Rattle.std.specs.Prelude.{◌≡◌, ◌≢◌, [], Err};
 ghost use Rattle.outside.specs.Causes.{Rose};
 ghost use Rattle.capture_text.specs.Capture.{IsCapture};
 ghost use Rattle.drop_taps.specs.Shown.{state_by};
@@ -18,6 +18,19 @@ use gateway_life::laws::lives_follow;
 use outside::Sink;
 use replay_lines::{PlayedLife, PrintError, put_last, put_life};
 use std::alloc::Global;
+
+/// For how many bytes an unborn disk has room: the journal of a capture of 67,108,864 bytes.
+const ROOM: usize = 134_217_728;
+
+/// The bytes of an unborn disk. They have room for a journal, so that it does not move as it grows;
+/// a refusal does no harm.
+fn unborn(alloc: Global) -> Vec<u8>
+    ensures { result.items ≡ [] }
+{
+    let mut image = Vec::new(alloc);
+    let _ = image.reserve(ROOM);
+    image
+}
 
 /// Lives the lives of a capture one after another over a disk in memory, the first over an unborn
 /// one. Each side's wire gives what the lines of that side say, round by round, and the clock says
@@ -43,7 +56,7 @@ pub fn replay<O: Sink>(
 {
     lives_follow();
     let config = config_of(capture.names, capture.heart, capture.reset);
-    let mut image = Vec::new(alloc);
+    let mut image = unborn(alloc);
     let mut moment = 0;
     for (index, lines) in capture.lives.as_slice().iter().enumerate() {
         let lived = live_lines(alloc, &config, lines, moment, image, taps)?;

@@ -9,8 +9,8 @@ use Rattle.capture_replay.proofs.replaying.replay.Goals as goal
 
 pub loop-index-init : goal.loop-index-init
 loop-index-init g c = record {
-  so_far = none_yet _ c.args.capture.now c.args.taps.now.items c.new-image.result.items
-      (g.O.Sink.bytes c.args.out.now) c.lives_follow.ensures c.new-image.ensures.items;
+  so_far = none_yet _ c.args.capture.now c.args.taps.now.items c.unborn-image.result.items
+      (g.O.Sink.bytes c.args.out.now) c.lives_follow.ensures c.unborn-image.ensures;
   faults = refl;
 }
 
