@@ -1,7 +1,8 @@
 //! A tap that counts what went through.
 
 ghost use Rattle.std.specs.Prelude.{◌≡◌, None, false, true, count_by};
-ghost use Rattle.drop_taps.specs.Tap.{seen_after, is_request, is_report, is_refusal, grown};
+ghost use Rattle.drop_taps.specs.Tap.{seen_after, is_request, is_report, is_refusal, all_counted};
+ghost use Rattle.drop_taps.specs.Totals.{seen_by};
 ghost use Rattle.pair_entries.specs.declared.entry.Entry.{Entry};
 
 use crate::{Seen, Tap, TapFailed};
@@ -86,6 +87,16 @@ impl TotalsTap {
             refusals: 0,
         }
     }
+
+    /// Counts an entry and what it gives out.
+    fn count(&mut self, entry: &EntryRef<'_>)
+        ensures { seen_by self.new ≡ all_counted entry.now (seen_by self.old) }
+    {
+        self.entries = self.entries.saturating_add(1);
+        self.requests = self.requests.saturating_add(requests_in(entry));
+        self.reports = self.reports.saturating_add(reports_in(entry));
+        self.refusals = self.refusals.saturating_add(refusals_in(entry));
+    }
 }
 
 impl Tap for TotalsTap {
@@ -106,11 +117,7 @@ impl Tap for TotalsTap {
     ghost never_fails = { λ _. true };
 
     fn saw(&mut self, entry: &Entry) -> Result<(), TapFailed> {
-        self.entries = self.entries.saturating_add(1);
-        let entry = entry.as_ref();
-        self.requests = self.requests.saturating_add(requests_in(&entry));
-        self.reports = self.reports.saturating_add(reports_in(&entry));
-        self.refusals = self.refusals.saturating_add(refusals_in(&entry));
+        self.count(&entry.as_ref());
         Ok(())
     }
 
