@@ -1,5 +1,5 @@
 -- All that both books need of the entries of a lawful journal.
-use Rattle.std.proofs.Common.{◌≡◌, ◌≤◌, List, [], ◌∷◌, ◌++◌, Option, Some, None, IfSome}
+use Rattle.std.proofs.Common.{◌≡◌, ◌≤◌, ◌⊎◌, List, [], ◌∷◌, ◌++◌, Option, Some, None, IfSome}
 use Rattle.std.proofs.Common.{refl, sym, ap, subst, ◌∙◌, inl, inr}
 use Rattle.std.specs.List.{AllByRecursion}
 use Rattle.order_meaning.specs.declared.Side.{Side}
@@ -16,7 +16,7 @@ use Rattle.pair_journal.specs.Numbers.{GoesOn, TookGoesOn, first_numbers, next_i
 use Rattle.pair_journal.specs.Numbers.{outs_to}
 use Rattle.event_decisions.specs.Decide.{IsDecided, IsLawful, LawfulAfter, asked_of, is_active}
 use Rattle.event_decisions.specs.Decide.{numbers_of}
-use Rattle.event_decisions.specs.Laws.{Breaks, DecisionsMake, taking_of}
+use Rattle.event_decisions.specs.Laws.{Breaks, DecisionsMake, Makes, counts, taking_of}
 use Rattle.message_answers.specs.Answer.{Answers}
 use Rattle.message_answers.specs.Laws.{AreNumbered, IsNumbered}
 use Rattle.life_laws.specs.Receiver.{AreSent, IsSent}
@@ -24,6 +24,7 @@ use Rattle.book_laws.specs.HeardLaws.{AnswersAreHeard, BodiesAreReadAlike, IdsAr
 use Rattle.book_laws.specs.HeardLaws.{RefusalsAreHeard, SentSessionsAreHeardPlain}
 use Rattle.book_laws.specs.Keeps.{Each, In, KeepsHeads, KeepsJournal, KeepsRefusals}
 use Rattle.book_laws.specs.Laws.{HeadersSayNothing, TookBody}
+use Rattle.book_laws.specs.Proper.{ProperFrom}
 use Rattle.book_laws.proofs.Does.{AreBefore, AreSentBy, does, new_ids, no_ids}
 use Rattle.book_laws.proofs.Made.{made, none_breaks, silent_by}
 use Rattle.book_laws.proofs.New.{AllCounted, Counted, is_new, move_more, moves}
@@ -53,16 +54,22 @@ body_of (Some x) took is same =
     let one : x ≡ took = cc same in subst (λ (y : Took). IsBody y.raw) one is
 
 module _ (makes : DecisionsMake) (names : Names) where
+  -- what a decided entry is, where the sessions before it have these numbers
+  makes_of : (before : List Entry) (e : Entry) → (d : IsDecided Answers names before e)
+      → Makes d.sessions (asked_of names d.window d.sessions d.event e.at) d.decides.words e
+  makes_of before e d =
+      let active = is_active d.sessions.venue.link in
+      let asked = asked_of names d.window d.sessions d.event e.at in
+      let silence = silent_by before active asked d.decides.words d.decides.answer in
+      makes names d.window d.sessions d.event e.at d.decides.words d.decision e d.sides silence
+      d.decides.decided d.is
+
   -- what a decided entry does to the numbers
   pub decided_counts : (before : List Entry) (e : Entry) (next : Next)
       → next ≡ numbers_after first_numbers before → GoesOn next e → (Breaks e.outs → ⊥)
       → IsDecided Answers names before e → Counted next e
   decided_counts before e next at goes unbroken d =
-      let active = is_active d.sessions.venue.link in
-      let asked = asked_of names d.window d.sessions d.event e.at in
-      let silence = silent_by before active asked d.decides.words d.decides.answer in
-      let m = makes names d.window d.sessions d.event e.at d.decides.words d.decision e d.sides
-      silence d.decides.decided d.is in
+      let m = makes_of before e d in
       let same : numbers_of d.sessions ≡ next = d.numbers ∙ sym at in
       let taking : TookGoesOn taking_of next e = elim m.taken [
         | inl took ↦ subst (λ n. TookGoesOn taking_of n e) same took
@@ -86,6 +93,25 @@ module _ (makes : DecisionsMake) (names : Names) where
     all_counted (before ++ e ∷ []) entries e.next (sym (numbers_last first_numbers before e))
         sound.2 client.1 venue.1 lawful.1,
   )
+
+  -- so the numbers of a lawful day are proper
+  pub proper_after : (before entries : List Entry) (next : Next)
+      → next ≡ numbers_after first_numbers before → AreEntries next entries
+      → LawfulAfter Answers names before entries → ProperFrom next entries
+  proper_after before [] next at sound lawful = tt
+  proper_after before (e ∷ entries) next at sound lawful =
+      let d = lawful.0 in
+      let same : numbers_of d.sessions ≡ next = d.numbers ∙ sym at in
+      let taking : TookGoesOn taking_of next e ⊎ TookGoesOn counts next e =
+      elim (makes_of before e d).taken [
+        | inl took ↦ inl (subst (λ n. TookGoesOn taking_of n e) same took)
+        | inr breaks ↦ inr (subst (λ n. TookGoesOn counts n e) same breaks.0)
+      ] in (
+        sound.1,
+        taking,
+        proper_after (before ++ e ∷ []) entries e.next (sym (numbers_last first_numbers before e))
+            sound.2 lawful.1,
+      )
 
 -- what is asked of the entries that follow
 pub record AreGood (names : Names) (before entries : List Entry) : Type 0 where

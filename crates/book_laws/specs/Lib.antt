@@ -6,3 +6,4 @@ pub mod Books
 pub mod Pairs
 pub mod Keeps
 pub mod Laws
+pub mod Proper

@@ -6,6 +6,7 @@ ghost use Rattle.book_laws.specs.HeardLaws.{BodiesAreReadAlike, SessionsAreHeard
 ghost use Rattle.book_laws.specs.HeardLaws.{SentSessionsAreHeardPlain, SidesLearn};
 ghost use Rattle.book_laws.specs.Laws.{ConversationsAgree, HeadersSayNothing, JournalsAgree};
 ghost use Rattle.book_laws.specs.Laws.{PeersAgree, RequestsAreJudged};
+ghost use Rattle.book_laws.specs.Proper.{LawfulDaysAreProper};
 
 use event_decisions::laws::decisions_make;
 use message_answers::laws::answers_are_given_out;
@@ -42,6 +43,14 @@ pub fn sides_learn_what_was_said()
 pub fn requests_are_judged()
     ensures { RequestsAreJudged }
 {}
+
+/// A lawful day is proper: each side's outs are numbered from 1 without a gap, and each message
+/// that was taken has the number that was expected, or resets it.
+pub fn lawful_days_are_proper()
+    ensures { LawfulDaysAreProper }
+{
+    decisions_make();
+}
 
 /// A message means what its fields without the header mean: of the header PossResend(97) alone
 /// counts.
