@@ -9,7 +9,8 @@ use Rattle.journal_show.proofs.journal_lines.put_entries.Goals as goal
 pub returns-in_err-put_entry-clause-lines : goal.returns-in_err-put_entry-clause-lines
 returns-in_err-put_entry-clause-lines g c = λ b e.
     let one = entry_at c.args.journal.now.entries c.loop-index.index (search rules) in
-    front_put c.from_residual-in_err-put_entry.result _ _ _ _ _ _ _ c.from_residual-in_err-put_entry.ensures.1 one.1
+    front_put c.from_residual-in_err-put_entry.result _ _ _ _ _ _ _
+    c.from_residual-in_err-put_entry.ensures.1 one.1
     (c.loop-index.invariant.put b e)
     (c.in_err-put_entry.ensures.line b (c.loop-index.invariant.only_read.same ∙ e) one.0 one.1)
 
