@@ -1,0 +1,56 @@
+//! The rules of a direction, as the code has them.
+
+ghost use Rattle.std.specs.Prelude.{◌≡◌, ◌++◌, ℕ, List, OnOk};
+ghost use Rattle.std.specs.declared.option.Option.{Option};
+ghost use Rattle.std.specs.Io.{StartsWith};
+ghost use Rattle.field_groups.specs.Field.{Field, body_of};
+ghost use Rattle.rule_writing.specs.declared.source.Source.{Source as Read};
+
+use crate::source::Source;
+use row_values::Kind;
+use std::alloc::{AllocError, Global};
+
+/// How the target says one line of its table, where `O` are the kinds of the direction's own.
+#[derive(Clone, Copy, Debug)]
+pub enum Rule<O> {
+    /// The field of a tag, as it stands.
+    Same(u32),
+    /// The field of the first tag, a decimal number, at the second.
+    Decimal(u32, u32),
+    /// The field of a tag, a moment that is cut.
+    Moment(u32),
+    /// The field of the first tag at the second, where its value is of the profile of a kind.
+    Kept(u32, u32, Kind),
+    /// The lines of the group of a count.
+    Lines(u32),
+    /// What a kind of its own says.
+    By(O),
+}
+
+/// A kind of rule of a direction's own, which reads `B` beside the fields of a message.
+pub trait OwnRule<B> {
+    /// What the rule writes of what it reads.
+    ghost writes: { Read B → Self → List Field };
+
+    /// The tag that it cannot say, if any.
+    ghost lacks: { Read B → Self → Option ℕ };
+
+    /// The tag that the rule cannot say, if any.
+    fn lacked(&self, source: &Source<'_, '_, B>) -> Option<u32>
+        ensures { result ≡ lacks source.now self.now };
+
+    /// Appends what the rule says, where it can say it.
+    ///
+    /// # Errors
+    ///
+    /// `AllocError` for want of memory; what stood in `out` stays, and a part may stand behind it.
+    fn put(
+        &self,
+        alloc: Global,
+        source: &Source<'_, '_, B>,
+        out: &mut Vec<u8>,
+    ) -> Result<(), AllocError>
+        ensures done { OnOk result (out.new.items
+            ≡ out.old.items ++ body_of (writes source.now self.now)) }
+        ensures kept { StartsWith out.new.items out.old.items };
+}
