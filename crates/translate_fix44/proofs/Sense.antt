@@ -1,0 +1,266 @@
+-- What goes up or down by the rules means what it meant, and changes each book alike.
+use Rattle.std.proofs.Common.{◌≡◌, ℕ, [], map, Bool, true, false, Option, Some, None, refl, sym, ap}
+use Rattle.std.proofs.Common.{◌∙◌, codes, unwrap_or, option_map, if◌then◌else◌}
+use Rattle.std.specs.Prelude.{◌==◌, IfSome, IsSome}
+use Rattle.field_groups.specs.HeadValues.{number_in}
+use Rattle.value_kinds.specs.ValueKind.{code_text}
+use Rattle.message_tables.specs.Tables.{Place, Tag, Role, Said, Message, ◌>>=◌, code_of, flag_of}
+use Rattle.message_tables.specs.Tables.{code_in, lines_of, said_at}
+use Rattle.order_meaning.specs.Book.{Book}
+use Rattle.order_meaning.specs.Meant.{none_done, step_if}
+use Rattle.order_meaning.specs.Report.{Report, ExecutionReport, Executed, NotCanceled, filled}
+use Rattle.order_meaning.specs.Report.{or_known}
+use Rattle.order_meaning.specs.Request.{RequestKind}
+use Rattle.row_values.specs.Amounts.{alloc_of, amount_of, contra_of, session_of}
+use Rattle.rows_fix50.specs.Meaning.{maturity_of, terms_of}
+use Rattle.dict_fix50.specs.Sense as request50
+use Rattle.dict_fix44.specs.Sense as sense44
+use Rattle.dict_fix44.specs.Step.{step44}
+use Rattle.dict_fix44.proofs.Steps as steps44
+use Rattle.reports_fix50.specs.Sense as sense50
+use Rattle.reports_fix50.specs.Step.{step50}
+use Rattle.reports_fix50.proofs.Steps as steps50
+use Rattle.rule_rows.specs.ByRules.{At, Grouped, by_rules, has_place, outline}
+use Rattle.rule_rows.specs.Rules.{By}
+use Rattle.rule_rows.proofs.Looked as looked
+use Rattle.rule_rows.proofs.Looked.{rule_at, said_by, lines_by}
+use Rattle.request_rules.specs.Rules.{is_unlisted}
+use Rattle.report_rules.specs.Rules.{at}
+use Rattle.report_rules.proofs.ValuesDown.{other_0, other_2, other_4, reason_kept, report_told}
+use Rattle.report_rules.proofs.ValuesDown.{reject_told}
+use Rattle.translate_fix44.specs.Rules.{Same, Else, down_rules, else_said, kinds, turn}
+use Rattle.translate_fix44.specs.Rules.{turned_code}
+use Rattle.translate_fix44.specs.Rules.{up_rules}
+use Rattle.translate_fix44.proofs.Codes.{exec_kept, has_inst, id_kept, inst_kept, phase_kept}
+use Rattle.translate_fix44.proofs.Codes.{said_back, status_turns, types, unturned}
+use Rattle.translate_fix44.proofs.KindsSay.{are_kinds, up_own, report_own, reject_own}
+
+-- ---- a request
+
+module _ (m : Message) where
+  abbrev up : Message
+  up = by_rules kinds up_rules m
+
+  asks : (place : Place)
+      → said_at up.cells place ≡ said_by kinds m (rule_at kinds (At place) up_rules)
+  asks place = looked.says kinds are_kinds up_rules up_own m place
+
+  asked_lines : (count : ℕ)
+      → lines_of count up.groups ≡ lines_by kinds m (rule_at kinds (Grouped count) up_rules)
+  asked_lines count = looked.has_lines_of kinds are_kinds up_rules up_own m count
+
+  -- a code that turns to none
+  same_code : (said : Said)
+      → (option_map code_text (turned_code None said) >>= code_of) ≡ said >>= code_of
+  same_code said = said_back (turned_code None said) ∙ unturned (said >>= code_of)
+
+  pub request_means : (kind : RequestKind) → has_place (outline m) (Tag 21) ≡ has_inst kind
+      → IfSome (at m 21) (λ text. IsSome (code_of text))
+      → request50.request_of kind up ≡ sense44.request_of kind m
+  request_means kind there coded =
+      let inst = (λ i. asks (Tag 21) i >>= code_of)
+      ∙ inst_kept kind (has_place (outline m) (Tag 21)) (at m 21) there coded in
+      let type = (λ i. asks (Tag 40) i >>= code_of) ∙ same_code (at m 40) in
+      let capacity = (λ i. asks (Tag 528) i >>= code_of) ∙ same_code (at m 528) in
+      λ i. record {
+        kind = kind;
+        resend = m.resend;
+        cl_ord_id = unwrap_or (asks (Tag 11) i) [];
+        orig_id = asks (Tag 41) i;
+        order_id = asks (Tag 37) i;
+        client_id = asks (Role 3) i;
+        exec_broker = asks (Role 1) i;
+        clearing_firm = asks (Role 4) i;
+        account = asks (Tag 1) i;
+        allocs = map alloc_of (asked_lines 78 i);
+        settl_type = asks (Tag 63) i >>= code_of;
+        settl_date = asks (Tag 64) i;
+        hand_inst = inst i;
+        exec_inst = asks (Tag 18) i;
+        min_qty = asks (Tag 110) i >>= amount_of;
+        max_floor = asks (Tag 1138) i >>= amount_of;
+        ex_destination = asks (Tag 100) i;
+        sessions = map session_of (asked_lines 386 i);
+        symbol = unwrap_or (asks (Tag 55) i) [];
+        symbol_sfx = asks (Tag 65) i;
+        security_id = asks (Tag 48) i;
+        id_source = asks (Tag 22) i >>= code_of;
+        security_type = asks (Tag 167) i;
+        maturity = maturity_of (asks (Tag 200) i) (asks (Tag 541) i);
+        security_exchange = asks (Tag 207) i;
+        side = unwrap_or (asks (Tag 54) i >>= code_of) 0;
+        locate = option_map flag_of (asks (Tag 114) i);
+        transact_time = asks (Tag 60) i;
+        order_qty = asks (Tag 38) i >>= amount_of;
+        ord_type = (terms_of (type i) (asks (Tag 59) i >>= code_of)).0;
+        price = asks (Tag 44) i >>= amount_of;
+        stop_px = asks (Tag 99) i >>= amount_of;
+        currency = asks (Tag 15) i;
+        time_in_force = (terms_of (type i) (asks (Tag 59) i >>= code_of)).1;
+        effective_time = asks (Tag 168) i;
+        expire_date = asks (Tag 432) i;
+        expire_time = asks (Tag 126) i;
+        capacity = capacity i;
+        open_close = asks (Tag 77) i >>= code_of;
+        text = asks (Tag 58) i;
+      }
+
+-- ---- an execution report
+
+module _ (m : Message) where
+  abbrev w : Message
+  w = by_rules kinds (down_rules (Same 41)) m
+
+  says : (place : Place)
+      → said_at w.cells place ≡ said_by kinds m (rule_at kinds (At place) (down_rules (Same 41)))
+  says place = looked.says kinds are_kinds (down_rules (Same 41)) report_own m place
+
+  has_lines_of : (count : ℕ) → lines_of count w.groups
+      ≡ lines_by kinds m (rule_at kinds (Grouped count) (down_rules (Same 41)))
+  has_lines_of count = looked.has_lines_of kinds are_kinds (down_rules (Same 41)) report_own m count
+
+  abbrev Code : Type 0
+  Code = Option ℕ
+
+  type : (said_at w.cells (Tag 150) >>= code_of)
+      ≡ option_map (turn status_turns) (at m 150 >>= code_of)
+  type = (λ i. says (Tag 150) i >>= code_of)
+      ∙ said_back (option_map (turn status_turns) (at m 150 >>= code_of))
+
+  report_means : at m 102 ≡ None
+      → sense44.execution_of w
+      ≡ sense50.execution_of m (sense44.exec_of (code_in w.cells 150))
+  report_means no_reason =
+      let exec_id = (λ i. if unwrap_or (type i) 0 == 73 then None
+      else Some (unwrap_or (says (Tag 17) i) []))
+      ∙ id_kept (at m 150 >>= code_of) (unwrap_or (at m 17) []) in
+      let status = (λ i. sense44.phase_of (unwrap_or (says (Tag 39) i >>= code_of) 0))
+      ∙ ap (λ (c : Code). sense44.phase_of (unwrap_or c 0))
+      (said_back (option_map (turn (Some (53, 48))) (at m 39 >>= code_of)))
+      ∙ phase_kept (at m 39 >>= code_of) in
+      let rej = (λ i. says (Tag 103) i >>= number_in)
+      ∙ reason_kept 8 0 (codes "0") other_0 (at m 103) in
+      let restate = (λ i. says (Tag 378) i >>= number_in)
+      ∙ reason_kept 5 4 (codes "4") other_4 (at m 378) in
+      let text = says (Tag 58) ∙ report_told (at m 58) (at m 103) (at m 378) (at m 102) no_reason in
+      λ i. record {
+        resend = m.resend;
+        order_id = unwrap_or (says (Tag 37) i) [];
+        secondary_id = says (Tag 198) i;
+        cl_ord_id = says (Tag 11) i;
+        orig_id = says (Tag 41) i;
+        client_id = says (Role 3) i;
+        exec_broker = says (Role 1) i;
+        clearing_firm = says (Role 4) i;
+        contras = map contra_of (has_lines_of 382 i);
+        exec_id = exec_id i;
+        ref_id = says (Tag 19) i;
+        exec = sense44.exec_of (code_in w.cells 150);
+        ord_status = status i;
+        rej_reason = rej i;
+        restate_reason = restate i;
+        account = says (Tag 1) i;
+        settl_type = says (Tag 63) i >>= code_of;
+        settl_date = says (Tag 64) i;
+        symbol = unwrap_or (says (Tag 55) i) [];
+        symbol_sfx = says (Tag 65) i;
+        security_id = says (Tag 48) i;
+        id_source = says (Tag 22) i >>= code_of;
+        security_type = says (Tag 167) i;
+        maturity = maturity_of (says (Tag 200) i) (says (Tag 541) i);
+        security_exchange = says (Tag 207) i;
+        side = unwrap_or (says (Tag 54) i >>= code_of) 0;
+        order_qty = says (Tag 38) i >>= amount_of;
+        ord_type = (terms_of (says (Tag 40) i >>= code_of) (says (Tag 59) i >>= code_of)).0;
+        price = says (Tag 44) i >>= amount_of;
+        stop_px = says (Tag 99) i >>= amount_of;
+        currency = says (Tag 15) i;
+        time_in_force = (terms_of (says (Tag 40) i >>= code_of) (says (Tag 59) i >>= code_of)).1;
+        expire_date = says (Tag 432) i;
+        expire_time = says (Tag 126) i;
+        capacity = says (Tag 528) i >>= code_of;
+        last_qty = says (Tag 32) i >>= amount_of;
+        last_px = says (Tag 31) i >>= amount_of;
+        last_mkt = says (Tag 30) i;
+        leaves = unwrap_or (says (Tag 151) i >>= amount_of) none_done;
+        cum = unwrap_or (says (Tag 14) i >>= amount_of) none_done;
+        avg = unwrap_or (says (Tag 6) i >>= amount_of) none_done;
+        trade_date = says (Tag 75) i;
+        transact_time = says (Tag 60) i;
+        min_qty = says (Tag 110) i >>= amount_of;
+        max_floor = says (Tag 111) i >>= amount_of;
+        text = text i;
+      }
+
+  pub report_kept : at m 102 ≡ None
+      → is_unlisted types (turned_code status_turns (at m 150)) ≡ false
+      → Some (Executed (sense44.execution_of w))
+      ≡ option_map (λ e. Executed (sense50.execution_of m e))
+      (sense50.exec_of (code_in m.cells 150))
+  report_kept no_reason listed =
+      ap (λ (x : ExecutionReport). Some (Executed x)) (report_means no_reason)
+      ∙ ap (option_map (λ e. Executed (sense50.execution_of m e)))
+      (sym (exec_kept (at m 150 >>= code_of) listed
+      ∙ ap (λ (c : Code). Some (sense44.exec_of (unwrap_or c 0))) (sym type)))
+
+-- ---- a cancel reject
+
+module _ (known : Said) (m : Message) where
+  abbrev r : Message
+  r = by_rules kinds (down_rules (By (Else 41 known))) m
+
+  tells : (place : Place)
+      → said_at r.cells place
+      ≡ said_by kinds m (rule_at kinds (At place) (down_rules (By (Else 41 known))))
+  tells place =
+      looked.says kinds are_kinds (down_rules (By (Else 41 known))) (reject_own known) m place
+
+  original_there : (b : Bool) (said : Said) → b ≡ true
+      → else_said b said known ≡ or_known said known
+  original_there true said e = refl
+  original_there false said e = absurd cc
+
+  pub reject_kept : has_place (outline m) (Tag 41) ≡ true → at m 103 ≡ None → at m 378 ≡ None
+      → Some (NotCanceled (sense44.cancel_reject_of r))
+      ≡ Some (filled known (NotCanceled (sense50.cancel_reject_of m)))
+  reject_kept there no_rej no_restate =
+      let original = tells (Tag 41)
+      ∙ original_there (has_place (outline m) (Tag 41)) (at m 41) there in
+      let status = (λ i. sense44.phase_of (unwrap_or (tells (Tag 39) i >>= code_of) 0))
+      ∙ ap (λ (c : Option ℕ). sense44.phase_of (unwrap_or c 0))
+      (said_back (option_map (turn (Some (53, 48))) (at m 39 >>= code_of)))
+      ∙ phase_kept (at m 39 >>= code_of) in
+      let reason = (λ i. tells (Tag 102) i >>= number_in)
+      ∙ reason_kept 3 2 (codes "2") other_2 (at m 102) in
+      let text = tells (Tag 58)
+      ∙ reject_told (at m 58) (at m 103) (at m 378) (at m 102) no_rej no_restate in
+      λ i. Some (NotCanceled (record {
+        resend = m.resend;
+        order_id = unwrap_or (tells (Tag 37) i) [];
+        secondary_id = tells (Tag 198) i;
+        cl_ord_id = unwrap_or (tells (Tag 11) i) [];
+        orig_id = original i;
+        ord_status = status i;
+        account = tells (Tag 1) i;
+        transact_time = tells (Tag 60) i;
+        response_to = unwrap_or (tells (Tag 434) i >>= code_of) 0;
+        cxl_reason = reason i;
+        text = text i;
+      }))
+
+-- ---- books: a step is by the meaning, and the original id changes none
+
+fills_no_book : (book : Book) (known : Said) (report : Option Report)
+    → step_if book (option_map (filled known) report) ≡ step_if book report
+fills_no_book book known None = refl
+fills_no_book book known (Some (Executed report)) = refl
+fills_no_book book known (Some (NotCanceled reject)) = refl
+
+pub books_alike : (known : Said) (m w : Message)
+    → sense44.report44 w ≡ option_map (filled known) (sense50.report50 m)
+    → (book : Book) → step44 book w ≡ step50 book m
+books_alike known m w means book =
+    steps44.steps_meant book w
+    ∙ ap (step_if book) means
+    ∙ fills_no_book book known (sense50.report50 m)
+    ∙ sym (steps50.steps_meant book m)

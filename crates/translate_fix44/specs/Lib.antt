@@ -1,0 +1,5 @@
+pub mod CodeRules
+pub mod Laws
+pub mod Put
+pub mod Rules
+pub mod Translation

@@ -1,0 +1,42 @@
+-- Inside: what is known of the fields by which the code writes.
+use Rattle.std.specs.Prelude.{◌≡◌, List, [], ◌∷◌, None}
+use Rattle.field_groups.specs.Field.{Field}
+use Rattle.message_tables.specs.FirstFault.{first_fault}
+use Rattle.message_tables.specs.Tables.{Item, Table}
+use Rattle.order_meaning.specs.Request.{RequestKind, New, Cancel, Replace, Status}
+use Rattle.order_meaning.specs.declared.fault.Lack.{Lack}
+use Rattle.row_values.specs.Kinds.{Kind, judge}
+use Rattle.rows_fix42.specs.Header.{table}
+use Rattle.dict_fix44.specs.Requests.{cancel_request, new_order, replace_request, status_request}
+use Rattle.reports_fix50.specs.Message.{report_table_of}
+pub use Rattle.report_rules.specs.Down.{IsGoodBy}
+use Rattle.request_rules.proofs.ByType.{letter_of}
+use Rattle.translation.specs.Bodies.{Direction}
+use Rattle.translation.specs.Errors.{error_of_lack}
+use Rattle.translation.specs.Going.{StayBack}
+use Rattle.translation.specs.Header.{type_of}
+
+-- the items of what is asked for
+abbrev pub items_of : RequestKind → List (Item Kind)
+items_of New = new_order
+items_of Cancel = cancel_request
+items_of Replace = replace_request
+items_of Status = status_request
+
+abbrev pub asked44 : RequestKind → Table Kind
+asked44 kind = table (letter_of kind) (items_of kind)
+
+-- fields at no fault beside the table of their type, which is that of a request
+pub record IsAsked (table : Table Kind) (fields : List Field) : Type 0 where
+  pub kind : RequestKind
+  pub its : table ≡ asked44 kind
+  pub type : type_of fields ≡ letter_of kind ∷ []
+  pub none : first_fault judge table fields ≡ None
+
+-- fields at no fault beside the table of their type, which is that of a report
+abbrev pub IsReport : List Field → Type 0
+IsReport fields = IsGoodBy (report_table_of (type_of fields)) fields
+
+-- why nothing is appended of the fields of a body
+abbrev pub Lacks : Direction → List Field → Lack → Type 0
+Lacks d fields lack = StayBack d fields None (error_of_lack lack)

@@ -1,0 +1,101 @@
+-- Own: the two directions of FIX 4.4, and what the check of a refusal of its client finds.
+use Rattle.std.specs.Prelude.{◌≡◌, ℕ, List, Option, Some, None, Ok, Err}
+use Rattle.frame_grammar.specs.declared.frame.Kind.TheVariants.{Fix44, Fixt11}
+use Rattle.field_groups.specs.declared.fault.SplitFault.{SplitFault}
+use Rattle.field_groups.specs.Field.{Field}
+use Rattle.field_groups.specs.Fields.{SplitsInto}
+use Rattle.message_tables.specs.Tables.{Message}
+use Rattle.order_meaning.specs.Book.{Book}
+use Rattle.order_meaning.specs.declared.fault.Fault.{Fault}
+use Rattle.dict_fix44.specs.Message.{refusal44, report_message44, request_message44}
+use Rattle.dict_fix44.specs.Sense.{report44, request44}
+use Rattle.dict_fix44.specs.Step.{step44}
+use Rattle.dict_fix50.specs.Message.{message50}
+use Rattle.dict_fix50.specs.Sense.{request50}
+use Rattle.reports_fix50.specs.Sense.{report50}
+use Rattle.reports_fix50.specs.Step.{step50}
+use Rattle.translation.specs.Bodies.{Direction, Goes, IsOutcome}
+use Rattle.translation.specs.Header.{head_down, type_of, with_content}
+use Rattle.translation.specs.declared.error.TranslateError.{TranslateError}
+use Rattle.translation.specs.declared.error.TranslateError.TheVariants as errors
+use Rattle.report_translate.specs.Reading.{report_message}
+use Rattle.translate_fix44.specs.declared.translate.Way.{Way}
+use Rattle.translate_fix44.specs.declared.translate.Way.TheVariants.{Up, Down}
+use Rattle.translate_fix44.specs.Rules.{down_content, down_message, up_content, up_message}
+
+-- What fields of FIX 4.4, their request and the one that goes up of it have in common: the two mean
+-- the same, and the fields that stand for these are by the tables of FIX 5.0 SP2 at no fault and
+-- are the very request that was written, with the PossResend of the header.
+pub record KeepsRequest (fields : List Field) (m w : Message) : Type 0 where
+  pub means : request50 w ≡ request44 m
+  pub read : message50 (type_of fields) (with_content fields (up_content m)) None ≡ Ok w
+
+-- THE WAY UP of a request of FIX 4.4
+abbrev pub up : Direction
+up = record {
+  kind = Fixt11;
+  head = λ fields. fields;
+  source = request_message44;
+  goes = up_message;
+  content = λ m w. up_content m;
+  Kept = KeepsRequest;
+}
+
+-- The same of fields of FIX 5.0 SP2, with no order known besides; and the two reports change each
+-- book alike.
+pub record KeepsReport (fields : List Field) (m w : Message) : Type 0 where
+  pub means : report44 w ≡ report50 m
+  pub books : (book : Book) → step44 book w ≡ step50 book m
+  pub read : report_message44 (type_of (head_down fields))
+      (with_content (head_down fields) (down_content None m)) None ≡ Ok w
+
+-- THE WAY DOWN of a report of FIX 5.0 SP2
+abbrev pub down : Direction
+down = record {
+  kind = Fix44;
+  head = head_down;
+  source = report_message;
+  goes = down_message None;
+  content = λ m w. down_content None m;
+  Kept = KeepsReport;
+}
+
+abbrev pub direction : Way → Direction
+direction Up = up
+direction Down = down
+
+-- the outcome of a check of a request, which judges no length
+abbrev pub IsChecked : List ℕ → Option TranslateError → Type 0
+IsChecked body None = (fields : List Field) × Goes up body fields
+IsChecked body (Some errors.TooLong) = ⊥
+IsChecked body (Some error) = IsOutcome up body (Err error)
+
+abbrev pub IsRefusedByCheck : List ℕ → TranslateError → Type 0
+IsRefusedByCheck body errors.NoMemory = Unit {0}
+IsRefusedByCheck body error = IsChecked body (Some error)
+
+-- ---- refusals of the client
+
+-- a body that is read as a refusal, at no fault
+pub record IsGoodRefusal (body : List ℕ) : Type 0 where
+  pub fields : List Field
+  pub m : Message
+  pub split : SplitsInto body fields None
+  pub read : refusal44 (type_of fields) fields None ≡ Ok m
+
+-- a body that has this first fault, or whose type is neither 3 nor j
+pub record HasFault (body : List ℕ) (fault : Fault) : Type 0 where
+  pub fields : List Field
+  pub stopped : Option SplitFault
+  pub split : SplitsInto body fields stopped
+  pub read : refusal44 (type_of fields) fields stopped ≡ Err fault
+
+-- THE OUTCOME of a check of a refusal; want of memory says nothing of it
+abbrev pub IsCheckedRefusal : List ℕ → Option TranslateError → Type 0
+IsCheckedRefusal body None = IsGoodRefusal body
+IsCheckedRefusal body (Some (errors.Faulty fault)) = HasFault body fault
+IsCheckedRefusal body (Some error) = ⊥
+
+abbrev pub IsFaultyRefusal : List ℕ → TranslateError → Type 0
+IsFaultyRefusal body errors.NoMemory = Unit {0}
+IsFaultyRefusal body error = IsCheckedRefusal body (Some error)

@@ -1,0 +1,266 @@
+//! Translating bodies from FIX 4.4 and to it.
+
+ghost use Rattle.std.specs.Prelude.{◌≡◌, ◌++◌, ℕ, List, IfErr, None, OnErr, OnOk, Some};
+ghost use Rattle.field_groups.specs.Field.{Field, field_bytes};
+ghost use Rattle.message_tables.specs.CodeTables.{table_of as code_table};
+ghost use Rattle.row_values.specs.CodeKinds.{kind_of};
+ghost use Rattle.first_faults.specs.Gives.{IsCleanIf};
+ghost use Rattle.dict_fix44.specs.Message.{refusal_table_of, request_table_of};
+ghost use Rattle.translation.specs.Bodies.{Goes, IsRefused, IsTranslation};
+ghost use Rattle.translation.specs.Going.{Appends, IsOtherOf, Refuses, StayBack};
+ghost use Rattle.translation.specs.Header.{carried_field, carried_tags, type_of};
+ghost use Rattle.translation.specs.Writing.{put as put_tags};
+ghost use Rattle.translate_fix44.specs.Put.{IsAsked, IsReport};
+ghost use Rattle.translate_fix44.specs.Translation.{IsFaultyRefusal, IsGoodRefusal};
+ghost use Rattle.translate_fix44.specs.Translation.{IsRefusedByCheck, direction, down, up};
+
+use crate::putting::{put_down, put_up};
+use dict_fix44::{refusal_table, request_table};
+use field_groups::{Fields, Split, split};
+use first_faults::good_fields;
+use frame_grammar::{FrameError, Kind, write_frame};
+use message_tables::Table;
+use order_meaning::Fault;
+use reports_fix50::good_report;
+use row_values::Kind as RowKind;
+use std::alloc::{AllocError, Global};
+use translation::{HeadDown, TranslateError, check_lengths, faulty, lacking, msg_type, write_head};
+
+/// The way of a message between a client of FIX 4.4 and its venue.
+#[derive(Clone, Copy, Debug)]
+pub enum Way {
+    /// A request goes up: a New Order - Single(D), an Order Cancel Request(F), an Order
+    /// Cancel/Replace Request(G) or an Order Status Request(H).
+    Up,
+    /// A report goes down: an Execution Report(8) or an Order Cancel Reject(9).
+    Down,
+}
+
+impl Way {
+    /// The kind of the frames that are written.
+    fn kind(self) -> Kind
+        ensures { result ≡ (direction self).kind }
+    {
+        match self {
+            Way::Up => Kind::Fixt11,
+            Way::Down => Kind::Fix44,
+        }
+    }
+}
+
+/// Appends the content of FIX 5.0 SP2 of a request whose fields are at no fault.
+fn put_asked(
+    alloc: Global,
+    table: &'static Table<RowKind>,
+    fields: &Fields<'_>,
+    out: &mut Vec<u8>,
+) -> Result<(), TranslateError>
+    requires { IsAsked (code_table kind_of table.now) fields.now }
+    ensures ok { OnOk result (Appends up fields.now None out.old.items out.new.items) }
+    ensures refused { IfErr result (StayBack up fields.now None) }
+{
+    match put_up(alloc, table, fields, out) {
+        Ok(()) => Ok(()),
+        Err(lack) => Err(lacking(lack)),
+    }
+}
+
+/// Appends the content of the request of a table that stands for the fields of a body.
+#[tactic(auto, using(crate::proofs::Judged::of_table))]
+fn put_by(
+    alloc: Global,
+    table: &'static Table<RowKind>,
+    split: &Split<'_>,
+    out: &mut Vec<u8>,
+) -> Result<(), TranslateError>
+    requires { Some (code_table kind_of table.now) ≡ request_table_of (type_of split.now.fields) }
+    ensures ok { OnOk result
+        (Appends up split.now.fields split.now.fault out.old.items out.new.items) }
+    ensures refused { IfErr result (StayBack up split.now.fields split.now.fault) }
+{
+    match good_fields(table, split) {
+        Err(fault) => Err(faulty(fault)),
+        Ok(fields) => put_asked(alloc, table, fields, out),
+    }
+}
+
+/// Appends the content of FIX 5.0 SP2 of the request that stands for the fields of a body.
+#[tactic(auto, using(crate::proofs::Judged::of_request))]
+fn put_request(alloc: Global, split: &Split<'_>, out: &mut Vec<u8>) -> Result<(), TranslateError>
+    ensures ok { OnOk result
+        (Appends up split.now.fields split.now.fault out.old.items out.new.items) }
+    ensures refused { IfErr result (StayBack up split.now.fields split.now.fault) }
+{
+    match request_table(msg_type(&split.fields)) {
+        None => Err(TranslateError::Faulty(Fault::NotSupported)),
+        Some(table) => put_by(alloc, table, split, out),
+    }
+}
+
+/// Appends the content of FIX 4.4 of a report whose fields are at no fault.
+fn put_told(alloc: Global, fields: &Fields<'_>, out: &mut Vec<u8>) -> Result<(), TranslateError>
+    requires { IsReport fields.now }
+    ensures ok { OnOk result (Appends down fields.now None out.old.items out.new.items) }
+    ensures refused { IfErr result (StayBack down fields.now None) }
+{
+    match put_down(alloc, fields, out) {
+        Ok(()) => Ok(()),
+        Err(lack) => Err(lacking(lack)),
+    }
+}
+
+/// Appends the content of FIX 4.4 of the report that stands for the fields of a body.
+#[tactic(auto, using(crate::proofs::Judged::of_report))]
+fn put_report(alloc: Global, split: &Split<'_>, out: &mut Vec<u8>) -> Result<(), TranslateError>
+    ensures ok { OnOk result
+        (Appends down split.now.fields split.now.fault out.old.items out.new.items) }
+    ensures refused { IfErr result (StayBack down split.now.fields split.now.fault) }
+{
+    match good_report(msg_type(&split.fields), split) {
+        Err(fault) => Err(faulty(fault)),
+        Ok(fields) => put_told(alloc, fields, out),
+    }
+}
+
+/// Appends the content that stands for the fields of a body.
+fn put(way: Way, alloc: Global, split: &Split<'_>, out: &mut Vec<u8>) -> Result<(), TranslateError>
+    ensures ok { OnOk result (Appends (direction way) split.now.fields split.now.fault
+        out.old.items out.new.items) }
+    ensures refused { IfErr result
+        (StayBack (direction way) split.now.fields split.now.fault) }
+{
+    match way {
+        Way::Up => put_request(alloc, split, out),
+        Way::Down => put_report(alloc, split, out),
+    }
+}
+
+/// Appends MsgType(35) and the header that goes with it.
+fn put_head(way: Way, fields: &Fields<'_>, out: &mut Vec<u8>) -> Result<(), AllocError>
+    ensures { OnOk result (out.new.items
+        ≡ put_tags (carried_field ((direction way).head fields.now)) (out.old.items
+        ++ field_bytes (35, type_of ((direction way).head fields.now))) carried_tags) }
+{
+    match way {
+        Way::Up => write_head(msg_type(fields), fields, out),
+        Way::Down => {
+            let head = HeadDown { fields };
+            write_head(head.msg_type(), &head, out)
+        }
+    }
+}
+
+/// Writes to `other`, in place of what it has, the body that stands for the fields of a body.
+#[tactic(auto, using(translation::proofs::Going::grows))]
+fn write(
+    way: Way,
+    alloc: Global,
+    split: &Split<'_>,
+    other: &mut Vec<u8>,
+) -> Result<(), TranslateError>
+    ensures ok { OnOk result
+        (IsOtherOf (direction way) split.now.fields split.now.fault other.new.items) }
+    ensures refused { IfErr result (Refuses (direction way) split.now.fields split.now.fault) }
+{
+    other.clear();
+    put_head(way, &split.fields, other)?;
+    let head = other.len();
+    put(way, alloc, split, other)?;
+    let whole = other.len();
+    check_lengths(whole - head, whole)
+}
+
+/// The fields of a refusal, where they are whole and at no fault beside the table of their type.
+fn good_refusal<'s, 'a>(split: &'s Split<'a>) -> Result<&'s Fields<'a>, Fault>
+    ensures { IsCleanIf (refusal_table_of (type_of split.now.fields)) split.now.fields
+        split.now.fault result }
+{
+    match refusal_table(msg_type(&split.fields)) {
+        None => Err(Fault::NotSupported),
+        Some(table) => good_fields(table, split),
+    }
+}
+
+/// Whether a body is a good Reject(3) or Business Message Reject(j) of a client of FIX 4.4.
+///
+/// # Errors
+///
+/// `Faulty` for the first fault of the body, exactly where it has one, and with
+/// `Fault::NotSupported` for any other type; `NoMemory` for want of memory.
+#[tactic(auto, using(crate::proofs::Refused::judged))]
+pub fn check_refusal(alloc: Global, body: &[u8]) -> Result<(), TranslateError>
+    ensures ok { OnOk result (IsGoodRefusal body.now) }
+    ensures refused { IfErr result (IsFaultyRefusal body.now) }
+{
+    let split = split(alloc, body)?;
+    match good_refusal(&split) {
+        Ok(_) => Ok(()),
+        Err(fault) => Err(faulty(fault)),
+    }
+}
+
+/// Translates bodies between FIX 4.4 and FIX 5.0 SP2. It keeps the memory for one body from each
+/// call to the next.
+#[derive(Debug, Drop)]
+pub struct Translator44 {
+    alloc: Global,
+    other: Vec<u8>,
+}
+
+impl Translator44 {
+    /// A translator, which takes its memory by `alloc`, and none yet.
+    pub fn new(alloc: Global) -> Translator44 {
+        Translator44 {
+            alloc,
+            other: Vec::new(alloc),
+        }
+    }
+
+    /// Appends to `out` the frame that means what a body means: of a request of FIX 4.4 the FIXT
+    /// 1.1 frame of the one of FIX 5.0 SP2, and of a report of FIX 5.0 SP2 the FIX 4.4 frame of one
+    /// that changes each book alike. It has the header fields that `translate up` and `translate
+    /// down` carry, and then the one content by the rules.
+    ///
+    /// # Errors
+    ///
+    /// `Faulty` for the first fault of the body; `Lacking` where it says what the other version
+    /// cannot say: on the way up at OrdType(40), TimeInForce(59), OrderCapacity(528) or
+    /// PartyRole(452), on the way down at ExecType(150), and at OrigClOrdID(41) where a cancel
+    /// reject says none; `TooLong` where the content would have more than 7,936 bytes or the body
+    /// more than 8,192, each exactly there; `NoMemory` for want of memory. `out` is then as it was.
+    pub fn translate(
+        &mut self,
+        way: Way,
+        body: &[u8],
+        out: &mut Vec<u8>,
+    ) -> Result<(), TranslateError>
+        ensures ok { OnOk result ((text : List ℕ)
+            × IsTranslation (direction way) body.now text
+            × (out.new.items ≡ out.old.items ++ text)) }
+        ensures refused { IfErr result (IsRefused (direction way) body.now) }
+        ensures err { OnErr result (out.new.items ≡ out.old.items) }
+    {
+        let split = split(self.alloc, body)?;
+        write(way, self.alloc, &split, &mut self.other)?;
+        match write_frame(way.kind(), &self.other, out) {
+            Ok(()) => Ok(()),
+            Err(FrameError::NoMemory) => Err(TranslateError::NoMemory),
+            Err(FrameError::TooLong) => unreachable!(),
+        }
+    }
+
+    /// Whether a body of a request of FIX 4.4 has a translation, of whatever length.
+    ///
+    /// # Errors
+    ///
+    /// `Faulty` and `Lacking` as [`Translator44::translate`] has them; `NoMemory` for want of
+    /// memory.
+    pub fn check(&mut self, body: &[u8]) -> Result<(), TranslateError>
+        ensures ok { OnOk result ((fields : List Field) × Goes up body.now fields) }
+        ensures refused { IfErr result (IsRefusedByCheck body.now) }
+    {
+        let split = split(self.alloc, body)?;
+        self.other.clear();
+        put_request(self.alloc, &split, &mut self.other)
+    }
+}
