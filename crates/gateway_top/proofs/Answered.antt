@@ -1,21 +1,27 @@
 -- What is found, and what is written, by what a call answered.
 use Rattle.std.proofs.Common.{◌≡◌, ℕ, List, [], ◌++◌, refl, sym, ◌∙◌, inl, inr, Some, None, Option}
-use Rattle.std.proofs.Common.{length, append-nil, Ok, Err, Result}
+use Rattle.std.proofs.Common.{ap, length, append-nil, Ok, Err, Result}
 use Rattle.std.specs.Prelude.{OnOk, OnErr, IfOk, IfErr}
 use Rattle.std.specs.declared.alloc.AllocError.{AllocError}
 use Rattle.frame_grammar.specs.Cut.{Piece, Good}
 use Rattle.frame_grammar.specs.Places.{place_after}
 use Rattle.order_meaning.specs.declared.fault.Fault.{Fault}
 use Rattle.order_meaning.specs.declared.fault.Fault.TheVariants as faults
+use Rattle.translation.specs.Bodies.{IsOutcome, IsRefused, IsTranslation}
+use Rattle.translate_fix44.specs.Translation as fix44
 use Rattle.translation.specs.declared.error.TranslateError.{TranslateError}
 use Rattle.translation.specs.declared.error.TranslateError.TheVariants as errors
 use Rattle.request_translate.specs.Translation as up
 use Rattle.report_translate.specs.Translation as down
 use Rattle.gateway_top.specs.Answer.{found_by, refused_by}
-use Rattle.gateway_top.specs.Finding.{IsRead}
+use Rattle.gateway_top.specs.Finding.{IsFound44, IsRead, refusal_at}
 use Rattle.gateway_top.specs.Judge.{Writes, Judges}
+use Rattle.gateway_top.specs.Line.{frame_line}
+use Rattle.gateway_top.specs.declared.finding.Finding.{Finding}
 use Rattle.gateway_top.specs.declared.task.Task.{Task}
 use Rattle.gateway_top.specs.declared.task.Task.TheVariants.{TranslateUp, TranslateDown}
+use Rattle.gateway_top.specs.declared.task.Task.TheVariants.{TranslateUp44, TranslateDown44}
+use Rattle.gateway_top.specs.declared.task.Task.TheVariants.{CheckClient44}
 
 -- a check answered with an outcome, or for want of memory
 pub read_by : {A : Type 0} (checked : Option TranslateError → Type 0)
@@ -92,3 +98,40 @@ module _ (task : Task) (at len : ℕ) (old new body part : List ℕ)
   said_down answer is body_is result_is said why kept =
       rw (is, result_is, ← body_is) (written_by (down.IsOutcome body) (down.IsRefused body)
       (λ fault why. why) (λ tag why. why) (λ why. why) at len old new answer said why kept)
+
+  pub said_up44 : {A : Type 0} (answer : Result A TranslateError)
+      → task ≡ TranslateUp44 → body ≡ part → result ≡ refused_by at answer
+      → OnOk answer ((text : List ℕ) × IsTranslation fix44.up body text × (new ≡ old ++ text))
+      → IfErr answer (IsRefused fix44.up body) → OnErr answer (new ≡ old)
+      → IfOk result (Said task at len old new part)
+  said_up44 answer is body_is result_is said why kept =
+      rw (is, result_is, ← body_is) (written_by (IsOutcome fix44.up body)
+      (IsRefused fix44.up body) (λ fault why. why) (λ tag why. why) (λ why. why) at len old new
+      answer said why kept)
+
+  pub said_down44 : {A : Type 0} (answer : Result A TranslateError)
+      → task ≡ TranslateDown44 → body ≡ part → result ≡ refused_by at answer
+      → OnOk answer ((text : List ℕ) × IsTranslation fix44.down body text × (new ≡ old ++ text))
+      → IfErr answer (IsRefused fix44.down body) → OnErr answer (new ≡ old)
+      → IfOk result (Said task at len old new part)
+  said_down44 answer is body_is result_is said why kept =
+      rw (is, result_is, ← body_is) (written_by (IsOutcome fix44.down body)
+      (IsRefused fix44.down body) (λ fault why. why) (λ tag why. why) (λ why. why) at len old new
+      answer said why kept)
+
+-- what a check says of a frame of which this is found, wherever it stands
+pub told_44 : (task : Task) (at len wide : ℕ) (old new body part : List ℕ) (finding : Finding)
+    (refused : Option ℕ) → task ≡ CheckClient44 → body ≡ part → wide ≡ len
+    → IsFound44 body finding → new ≡ old ++ frame_line at wide body finding
+    → refused ≡ refusal_at finding at → Said task at len old new part refused
+told_44 task at len wide old new body part finding refused is body_is wide_is found line refusal =
+    rw (is, ← body_is) (λ before bytes place size. (
+      frame_line at wide body finding,
+      line,
+      (
+        finding,
+        found,
+        refusal ∙ ap (refusal_at finding) place,
+        (λ i. frame_line (place i) ((wide_is ∙ size) i) body finding),
+      ),
+    ))

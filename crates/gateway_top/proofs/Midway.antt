@@ -18,6 +18,8 @@ use Rattle.frame_grammar.specs.Places.{EndsIn, place_after}
 use Rattle.gateway_top.specs.declared.task.Task.{Task}
 use Rattle.gateway_top.specs.declared.task.Task.TheVariants.{TranslateUp, TranslateDown}
 use Rattle.gateway_top.specs.declared.task.Task.TheVariants.{CheckClient, CheckVenue}
+use Rattle.gateway_top.specs.declared.task.Task.TheVariants.{TranslateUp44, TranslateDown44}
+use Rattle.gateway_top.specs.declared.task.Task.TheVariants.{CheckClient44}
 use Rattle.gateway_top.specs.declared.status.Status.{Status}
 use Rattle.gateway_top.specs.declared.status.Status.TheVariants.{Done, Refused, Usage, InputFault}
 use Rattle.gateway_top.specs.declared.status.Status.TheVariants.{OutputFault, NoMemory}
@@ -50,12 +52,18 @@ cut_empty TranslateUp = (refl, refl)
 cut_empty TranslateDown = (refl, refl)
 cut_empty CheckClient = (refl, refl)
 cut_empty CheckVenue = (refl, refl)
+cut_empty TranslateUp44 = (refl, refl)
+cut_empty TranslateDown44 = (refl, refl)
+cut_empty CheckClient44 = (refl, refl)
 
 going_none : (task : Task) → has_ended task None ≡ false
 going_none TranslateUp = refl
 going_none TranslateDown = refl
 going_none CheckClient = refl
 going_none CheckVenue = refl
+going_none TranslateUp44 = refl
+going_none TranslateDown44 = refl
+going_none CheckClient44 = refl
 
 -- nothing was read yet
 pub at_start : (task : Task) (input out : Option (List ℕ)) (framer : Held)

@@ -13,6 +13,8 @@ use Rattle.gateway_top.specs.declared.command.Command.TheVariants.{Serve, Show, 
 use Rattle.gateway_top.specs.declared.command.Command.TheVariants.{Drill}
 use Rattle.gateway_top.specs.declared.task.Task.TheVariants.{TranslateUp, TranslateDown}
 use Rattle.gateway_top.specs.declared.task.Task.TheVariants.{CheckClient, CheckVenue}
+use Rattle.gateway_top.specs.declared.task.Task.TheVariants.{TranslateUp44, TranslateDown44}
+use Rattle.gateway_top.specs.declared.task.Task.TheVariants.{CheckClient44}
 
 -- a word is this number: its digits, without a zero in front, within these bounds
 abbrev pub is_between : (least most number : ℕ) → List ℕ → Bool
@@ -54,6 +56,12 @@ command_of (first ∷ second ∷ []) =
     then Some (Stream CheckClient)
     else if bytes_eq first (codes "check") && bytes_eq second (codes "venue")
     then Some (Stream CheckVenue)
+    else if bytes_eq first (codes "translate") && bytes_eq second (codes "up44")
+    then Some (Stream TranslateUp44)
+    else if bytes_eq first (codes "translate") && bytes_eq second (codes "down44")
+    then Some (Stream TranslateDown44)
+    else if bytes_eq first (codes "check") && bytes_eq second (codes "client44")
+    then Some (Stream CheckClient44)
     else if bytes_eq first (codes "serve")
     then option_map (λ rounds. Serve rounds) (number_in 1 MAX_ROUNDS second)
     else None

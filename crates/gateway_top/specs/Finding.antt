@@ -11,6 +11,7 @@ use Rattle.translation.specs.declared.error.TranslateError.TheVariants as errors
 use Rattle.request_translate.specs.Translation as up
 use Rattle.report_translate.specs.Translation as down
 use Rattle.report_translate.specs.Refusals.{IsCheckedRefusal}
+use Rattle.translate_fix44.specs.Translation as fix44
 use Rattle.gateway_top.specs.MsgType.{type_in}
 use Rattle.gateway_top.specs.declared.finding.Finding.{Finding}
 use Rattle.gateway_top.specs.declared.finding.Finding.TheVariants.{Session, Good, Reason}
@@ -42,12 +43,22 @@ abbrev pub IsCheckedMessage : Side → List ℕ → Option TranslateError → Ty
 IsCheckedMessage Client body checked = up.IsChecked body checked
 IsCheckedMessage Venue body checked = down.IsChecked body checked
 
--- what is found of a body of a side's session
+-- what is found of a body of a session, where these are the outcomes of a check of a refusal, and
+-- of any other message
+abbrev pub IsFoundBy : (refusal message : Option TranslateError → Type 0) → List ℕ → Finding
+    → Type 0
+IsFoundBy refusal message body finding =
+    MatchBool (is_session (type_in body)) (finding ≡ Session)
+    (MatchBool (is_refusal (type_in body)) (IsRead refusal finding) (IsRead message finding))
+
+-- what is found of a body of a side's session, and of that of a client of FIX 4.4
 abbrev pub IsFound : Side → List ℕ → Finding → Type 0
 IsFound side body finding =
-    MatchBool (is_session (type_in body)) (finding ≡ Session)
-    (MatchBool (is_refusal (type_in body)) (IsRead (IsCheckedRefusal side body) finding)
-    (IsRead (IsCheckedMessage side body) finding))
+    IsFoundBy (IsCheckedRefusal side body) (IsCheckedMessage side body) body finding
+
+abbrev pub IsFound44 : List ℕ → Finding → Type 0
+IsFound44 body finding =
+    IsFoundBy (fix44.IsCheckedRefusal body) (fix44.IsChecked body) body finding
 
 -- where a frame that begins here is refused for what is found of it
 abbrev pub refusal_at : Finding → ℕ → Option ℕ

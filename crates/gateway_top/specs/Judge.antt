@@ -10,13 +10,17 @@ use Rattle.translation.specs.declared.error.TranslateError.{TranslateError}
 use Rattle.request_translate.specs.Translation as up
 use Rattle.report_translate.specs.Translation as down
 use Rattle.order_meaning.specs.declared.Side.TheVariants.{Client, Venue}
-use Rattle.gateway_top.specs.Finding.{IsFound, refusal_at}
+use Rattle.translate_fix44.specs.Translation as fix44
+use Rattle.translation.specs.Bodies as bodies
+use Rattle.gateway_top.specs.Finding.{IsFound, IsFound44, refusal_at}
 use Rattle.gateway_top.specs.Line.{frame_line, garbled_line, inside_line}
 use Rattle.gateway_top.specs.declared.finding.Finding.{Finding}
 use Rattle.gateway_top.specs.Task.{has_ended, first_of}
 use Rattle.gateway_top.specs.declared.task.Task.{Task}
 use Rattle.gateway_top.specs.declared.task.Task.TheVariants.{TranslateUp, TranslateDown}
 use Rattle.gateway_top.specs.declared.task.Task.TheVariants.{CheckClient, CheckVenue}
+use Rattle.gateway_top.specs.declared.task.Task.TheVariants.{TranslateUp44, TranslateDown44}
+use Rattle.gateway_top.specs.declared.task.Task.TheVariants.{CheckClient44}
 
 -- What a translation writes for a frame that begins here, where its body has these outcomes: the
 -- text of a frame, or nothing where there is none, and then it is refused.
@@ -45,9 +49,19 @@ Judges CheckClient before (Good body bytes) refused said =
     Tells (IsFound Client body) (place_after before) body bytes refused said
 Judges CheckVenue before (Good body bytes) refused said =
     Tells (IsFound Venue body) (place_after before) body bytes refused said
+Judges TranslateUp44 before (Good body bytes) refused said =
+    Writes (bodies.IsOutcome fix44.up body) (place_after before) refused said
+Judges TranslateDown44 before (Good body bytes) refused said =
+    Writes (bodies.IsOutcome fix44.down body) (place_after before) refused said
+Judges CheckClient44 before (Good body bytes) refused said =
+    Tells (IsFound44 body) (place_after before) body bytes refused said
 Judges TranslateUp before (Bad cause bytes) refused said =
     (refused ≡ Some (place_after before)) × (said ≡ [])
 Judges TranslateDown before (Bad cause bytes) refused said =
+    (refused ≡ Some (place_after before)) × (said ≡ [])
+Judges TranslateUp44 before (Bad cause bytes) refused said =
+    (refused ≡ Some (place_after before)) × (said ≡ [])
+Judges TranslateDown44 before (Bad cause bytes) refused said =
     (refused ≡ Some (place_after before)) × (said ≡ [])
 Judges task before (Bad cause bytes) refused said =
     (refused ≡ Some (place_after before))
@@ -67,6 +81,8 @@ JudgesAll task before (piece ∷ pieces) refused said =
 abbrev pub end_said : Task → Rest → List ℕ
 end_said TranslateUp rest = []
 end_said TranslateDown rest = []
+end_said TranslateUp44 rest = []
+end_said TranslateDown44 rest = []
 end_said task rests.Clean = []
 end_said task (rests.Inside at len) = inside_line at len
 end_said task (rests.Garbled at len cause) = garbled_line at len cause

@@ -100,6 +100,9 @@ fn of_two(first: &str, second: &str) -> Option<Command>
         ("translate", "down") => Some(Command::Stream(Task::TranslateDown)),
         ("check", "client") => Some(Command::Stream(Task::CheckClient)),
         ("check", "venue") => Some(Command::Stream(Task::CheckVenue)),
+        ("translate", "up44") => Some(Command::Stream(Task::TranslateUp44)),
+        ("translate", "down44") => Some(Command::Stream(Task::TranslateDown44)),
+        ("check", "client44") => Some(Command::Stream(Task::CheckClient44)),
         ("serve", rounds) => number_in(1, MAX_ROUNDS, rounds).map(Command::Serve),
         _ => None,
     }

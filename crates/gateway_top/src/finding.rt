@@ -5,13 +5,14 @@ ghost use Rattle.order_meaning.specs.declared.Side.TheVariants.{Client, Venue};
 ghost use Rattle.report_translate.specs.Refusals.{IsCheckedRefusal};
 ghost use Rattle.gateway_top.specs.Answer.{found_by, fault_finding};
 ghost use Rattle.gateway_top.specs.Finding.{is_session, is_refusal, refusal_at};
-ghost use Rattle.gateway_top.specs.Finding.{IsRead, IsCheckedMessage, IsFound};
+ghost use Rattle.gateway_top.specs.Finding.{IsRead, IsCheckedMessage, IsFound, IsFound44};
 
 use crate::line::type_in;
 use order_meaning::{Fault, Side};
 use report_translate::{ReportTranslator, check_refusal};
 use request_translate::Translator;
 use std::alloc::{AllocError, Global};
+use translate_fix44::{Translator44, check_refusal as check_refusal44};
 use translation::TranslateError;
 
 /// What is found of a message.
@@ -117,6 +118,24 @@ pub(crate) fn of_client(
         return of_refusal(alloc, Side::Client, body);
     }
     of_request(requests, body)
+}
+
+/// What is found of a message of the session of a client of FIX 4.4.
+pub(crate) fn of_client44(
+    alloc: Global,
+    fix44: &mut Translator44,
+    body: &[u8],
+) -> Result<Finding, AllocError>
+    ensures { IfOk result (IsFound44 body.now) }
+{
+    let msg_type = type_in(body);
+    if is_session(msg_type) {
+        return Ok(Finding::Session);
+    }
+    if is_refusal(msg_type) {
+        return found_by(check_refusal44(alloc, body));
+    }
+    found_by(fix44.check(body))
 }
 
 /// What is found of a message of the venue's session.

@@ -18,7 +18,7 @@ ghost use Rattle.gateway_top.specs.Pass.{CaughtUp, Advances, Ends};
 ghost use Rattle.gateway_top.specs.Task.{has_ended, kind_of, stops, first_of};
 
 use crate::Status;
-use crate::finding::{of_client, of_venue};
+use crate::finding::{of_client, of_client44, of_venue};
 use crate::line::{append_frame, append_garbled, append_inside};
 use crate::task::{Task, first_of};
 use frame_grammar::{Framer, Garble, Next, Rest, Span};
@@ -26,6 +26,7 @@ use outside::{Failed, Sink};
 use report_translate::ReportTranslator;
 use request_translate::Translator;
 use std::alloc::{AllocError, Global};
+use translate_fix44::{Translator44, Way};
 use translation::TranslateError;
 
 /// Why a run stops before the end of its input.
@@ -43,6 +44,7 @@ pub(crate) struct Pass {
     alloc: Global,
     requests: Translator,
     reports: ReportTranslator,
+    fix44: Translator44,
     /// Where the first piece that was refused begins.
     pub(crate) refused: Option<u64>,
     /// What is said of the pieces of one read.
@@ -63,6 +65,7 @@ impl Pass {
             alloc,
             requests: Translator::new(alloc),
             reports: ReportTranslator::new(alloc),
+            fix44: Translator44::new(alloc),
             refused: None,
             text: Vec::new(alloc),
         })
@@ -88,6 +91,17 @@ impl Pass {
             Task::TranslateDown => {
                 return refused_by(at, self.reports.translate(body, &mut self.text));
             }
+            Task::TranslateUp44 => {
+                return refused_by(at, self.fix44.translate(Way::Up, body, &mut self.text));
+            }
+            Task::TranslateDown44 => {
+                return refused_by(at, self.fix44.translate(Way::Down, body, &mut self.text));
+            }
+            Task::CheckClient44 => {
+                let finding = of_client44(self.alloc, &mut self.fix44, body)?;
+                append_frame(at, u64::from(len), body, finding, &mut self.text)?;
+                return Ok(finding.refusal_at(at));
+            }
             Task::CheckClient => of_client(self.alloc, &self.requests, body)?,
             Task::CheckVenue => of_venue(self.alloc, &self.reports, body)?,
         };
@@ -106,8 +120,10 @@ impl Pass {
         ensures refused { self.new.refused ≡ self.old.refused }
     {
         match self.task {
-            Task::TranslateUp | Task::TranslateDown => Ok(()),
-            Task::CheckClient | Task::CheckVenue => append_garbled(at, len, cause, &mut self.text),
+            Task::CheckClient | Task::CheckVenue | Task::CheckClient44 => {
+                append_garbled(at, len, cause, &mut self.text)
+            }
+            _ => Ok(()),
         }
     }
 
@@ -226,7 +242,8 @@ fn append_end(task: Task, rest: Rest, text: &mut Vec<u8>) -> Result<(), AllocErr
     ensures { OnOk result (text.new.items ≡ text.old.items ++ end_said task rest) }
 {
     match (task, rest) {
-        (Task::TranslateUp | Task::TranslateDown, _) | (_, Rest::Clean) => Ok(()),
+        (Task::TranslateUp | Task::TranslateDown | Task::TranslateUp44 | Task::TranslateDown44, _)
+        | (_, Rest::Clean) => Ok(()),
         (_, Rest::Inside { at, len }) => append_inside(at, u64::from(len), text),
         (_, Rest::Garbled { at, len, cause }) => append_garbled(at, len, cause, text),
     }

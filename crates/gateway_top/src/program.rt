@@ -60,6 +60,8 @@ Usage: fixgate [OPTIONS] COMMAND
   check client    reads a stream of FIX 4.2 and prints a line for each frame and
                   each garbled piece, with the first fault of each request
   check venue     the same of a stream of FIXT 1.1 and of each report
+  translate up44, translate down44, check client44
+                  the same three for a client of FIX 4.4
   replay          reads a capture from standard input, runs each of its lives
                   over a journal in memory, and prints what was written in it
   drill FIRST COUNT

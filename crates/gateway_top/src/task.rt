@@ -16,6 +16,12 @@ pub enum Task {
     CheckClient,
     /// `check venue`: a line is written for each piece of a stream of FIXT 1.1.
     CheckVenue,
+    /// `translate up44`: the requests of a client of FIX 4.4 are written as the venue takes them.
+    TranslateUp44,
+    /// `translate down44`: the reports of a venue are written as a client of FIX 4.4 takes them.
+    TranslateDown44,
+    /// `check client44`: a line is written for each piece of a stream of FIX 4.4.
+    CheckClient44,
 }
 
 impl Task {
@@ -25,7 +31,8 @@ impl Task {
     {
         match self {
             Task::TranslateUp | Task::CheckClient => Kind::Fix42,
-            Task::TranslateDown | Task::CheckVenue => Kind::Fixt11,
+            Task::TranslateUp44 | Task::CheckClient44 => Kind::Fix44,
+            Task::TranslateDown | Task::TranslateDown44 | Task::CheckVenue => Kind::Fixt11,
         }
     }
 
@@ -33,7 +40,10 @@ impl Task {
     pub(crate) fn stops(self) -> bool
         ensures { result ≡ stops self }
     {
-        matches!(self, Task::TranslateUp | Task::TranslateDown)
+        matches!(
+            self,
+            Task::TranslateUp | Task::TranslateDown | Task::TranslateUp44 | Task::TranslateDown44
+        )
     }
 
     /// Whether it has ended, where the first piece that it refused begins here.
