@@ -3,8 +3,10 @@
 //! documents and definitions and not from the program's code, so it is also what the program is
 //! compared with. Build it with `rustc -O`.
 mod reports;
+mod requests44;
 
 use reports::Report;
+use requests44::Request44;
 use std::fs::File;
 use std::io::{self, Read, Write};
 use std::ops::Range;
@@ -676,15 +678,20 @@ fn column_of(kind: &[u8]) -> Option<usize> {
 /// What is done to a stream of frames.
 #[derive(Clone, Copy, PartialEq)]
 #[rustfmt::skip]
-enum Task { TranslateUp, TranslateDown, CheckClient, CheckVenue }
+enum Task {
+    TranslateUp, TranslateDown, CheckClient, CheckVenue, TranslateUp44, TranslateDown44,
+    CheckClient44,
+}
 use Task::*;
 
 const BEGIN_42: &[u8] = b"8=FIX.4.2\x01";
+const BEGIN_44: &[u8] = b"8=FIX.4.4\x01";
 const BEGIN_50: &[u8] = b"8=FIXT.1.1\x01";
 
 /// What reads the messages of both sides, and writes their translations.
 struct Reader {
     request: Request,
+    request44: Request44,
     report: Report,
     written: Vec<u8>,
 }
@@ -693,14 +700,22 @@ impl Reader {
     /// Appends the frame that stands for a body, where there is one.
     fn translate(&mut self, task: Task, body: &[u8], out: &mut Vec<u8>) -> bool {
         let kind = msg_type(body);
+        let written = &mut self.written;
         let (begin, is_written) = if task == TranslateUp {
             let Some(column) = column_of(kind) else { return false };
             let is_good = self.request.read(body, column) == Fine;
-            (BEGIN_50, is_good && self.request.write(body, &mut self.written))
+            (BEGIN_50, is_good && self.request.write(body, written))
+        } else if task == TranslateUp44 {
+            let Some(column) = column_of(kind) else { return false };
+            let is_good = self.request44.read(body, column) == Fine;
+            (BEGIN_50, is_good && self.request44.write(body, column, written))
         } else {
-            let Some(column @ (0 | 1)) = reports::column_of(kind, true) else { return false };
+            let is_44 = task == TranslateDown44;
+            let column = reports::column_of(kind, true, is_44);
+            let Some(column @ (0 | 1)) = column else { return false };
             let is_good = self.report.read(body, column) == Fine;
-            (BEGIN_42, is_good && self.report.write(body, column, &mut self.written))
+            let begin = if is_44 { BEGIN_44 } else { BEGIN_42 };
+            (begin, is_good && self.report.write(body, column, is_44, written))
         };
         if is_written {
             let start = out.len();
@@ -718,11 +733,13 @@ impl Reader {
         if matches!(kind, b"0" | b"1" | b"2" | b"4" | b"5" | b"A") {
             return Session;
         }
-        if let Some(column) = reports::column_of(kind, task == CheckVenue) {
+        let is_44 = task == CheckClient44;
+        if let Some(column) = reports::column_of(kind, task == CheckVenue, is_44) {
             return self.report.read(body, column);
         }
         match column_of(kind) {
             Some(column) if task == CheckClient => self.request.read(body, column),
+            Some(column) if task == CheckClient44 => self.request44.read(body, column),
             _ => NotSupported,
         }
     }
@@ -755,18 +772,23 @@ fn fault(code: u8, line: &str) -> impl Fn(io::Error) -> End + '_ {
 }
 
 fn run(task: Task) -> Result<(), End> {
-    let is_check = matches!(task, CheckClient | CheckVenue);
+    let is_check = matches!(task, CheckClient | CheckVenue | CheckClient44);
     let (input_fault, output_fault) = (fault(4, "input fault"), fault(5, "output fault"));
     // The files themselves, since std's handles read 8,192 bytes at a time and write by lines.
     let input = io::stdin().as_fd().try_clone_to_owned().map_err(&input_fault)?;
     let output = io::stdout().as_fd().try_clone_to_owned().map_err(&output_fault)?;
     let (mut input, mut output) = (File::from(input), File::from(output));
-    let begin = if matches!(task, TranslateUp | CheckClient) { BEGIN_42 } else { BEGIN_50 };
+    let begin = match task {
+        TranslateUp | CheckClient => BEGIN_42,
+        TranslateUp44 | CheckClient44 => BEGIN_44,
+        TranslateDown | TranslateDown44 | CheckVenue => BEGIN_50,
+    };
     let mut framer = Framer { begin, buffer: Vec::with_capacity(CAPACITY), ..Framer::default() };
     let fields = [Span::default(); ROWS.len()];
     let (allocs, sessions) = (Vec::new(), Vec::new());
     let request = Request { seen: 0, fields, allocs, sessions, open: None };
-    let mut reader = Reader { request, report: Report::new(), written: Vec::new() };
+    let (request44, report) = (Request44::new(), Report::new());
+    let mut reader = Reader { request, request44, report, written: Vec::new() };
     let mut text = Vec::new();
     let mut chunk = [0; CHUNK];
     let (mut taken, mut first_refused) = (0, None);
@@ -829,6 +851,9 @@ fn main() -> ExitCode {
         ["translate", "down"] => run(TranslateDown),
         ["check", "client"] => run(CheckClient),
         ["check", "venue"] => run(CheckVenue),
+        ["translate", "up44"] => run(TranslateUp44),
+        ["translate", "down44"] => run(TranslateDown44),
+        ["check", "client44"] => run(CheckClient44),
         _ => Err(End(2, "usage".into())),
     };
     let Err(End(code, line)) = ended else { return ExitCode::SUCCESS };

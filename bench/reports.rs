@@ -1,12 +1,12 @@
 //! The part of the baseline that reads what a venue says, and refusals: reports of FIX 5.0 SP2 and
-//! what they are in FIX 4.2, and Reject and BusinessMessageReject of both versions. It was written
+//! what they are in FIX 4.2 and FIX 4.4, and Reject and BusinessMessageReject of both versions. It was written
 //! from the documents and definitions, as the rest.
 use crate::{
     Finding, First, MAX_BODY, MAX_CONTENT, MAX_FIELDS, MAX_LINES, Mark, Span, Stage, are_digits,
     decimal, digits_value, field_at, good_or, is_day, is_month, judge_decimal, judge_stamp,
     number_in, push_decimal, push_field, push_number,
 };
-use crate::{EMPTY, FORM, RANGE};
+use crate::{EMPTY, FORM, RANGE, requests44};
 use crate::Finding::{Fine, NoCounterpart};
 use crate::Mark::*;
 
@@ -19,8 +19,8 @@ enum Kind {
 }
 use self::Kind::*;
 
-/// The messages: the venue's 8, 9, 3 and j, and 3 and j of the client.
-const MESSAGES: usize = 6;
+/// The messages: the venue's 8, 9, 3 and j, 3 and j of the client, and j of a client of FIX 4.4.
+const MESSAGES: usize = 7;
 
 /// A tag, the kind of its values, and what each message says of it: `R` required, `o` optional, `-`
 /// not of this message.
@@ -31,34 +31,34 @@ struct Row(u32, Kind, &'static [u8; MESSAGES]);
 /// the sets of fields.
 #[rustfmt::skip]
 static ROWS: [Row; 75] = [
-    Row(37, Id, b"RR----"), Row(198, Id, b"oo----"), Row(11, Id, b"oR----"),
-    Row(41, Id, b"oo----"), Row(453, Count, b"o-----"), Row(448, Id, b"o-----"),
-    Row(447, OneByte, b"o-----"), Row(452, Number, b"o-----"), Row(382, Count, b"o-----"),
-    Row(375, Id, b"o-----"), Row(337, Id, b"o-----"), Row(437, Qty, b"o-----"),
-    Row(438, Stamp, b"o-----"), Row(17, Id, b"R-----"), Row(19, Id, b"o-----"),
-    Row(150, Known(b"03456789ABCDEFGHIJKL"), b"R-----"),
-    Row(39, Known(b"0123456789ABCDE"), b"RR----"), Row(103, Reason, b"o-----"),
-    Row(378, Reason, b"o-----"), Row(1, Id, b"oo----"), Row(63, Code(b"0123456789"), b"o-----"),
-    Row(64, Day, b"o-----"), Row(55, Id, b"R-----"), Row(65, Id, b"o-----"),
-    Row(48, Id, b"o-----"), Row(22, Code(b"123456789"), b"o-----"),
-    Row(167, SecurityType, b"o-----"), Row(200, Beside, b"o-----"), Row(541, Day, b"o-----"),
-    Row(207, Id, b"o-----"), Row(54, Side, b"R-----"), Row(38, Qty, b"o-----"),
-    Row(40, Code(b"1234"), b"o-----"), Row(44, Price, b"o-----"), Row(99, Price, b"o-----"),
-    Row(15, Currency, b"o-----"), Row(59, Beside, b"o-----"), Row(432, Day, b"o-----"),
-    Row(126, Stamp, b"o-----"), Row(528, Code(b"AIP"), b"o-----"), Row(32, Qty, b"o-----"),
-    Row(31, Price, b"o-----"), Row(30, Id, b"o-----"), Row(151, Qty, b"R-----"),
-    Row(14, Qty, b"R-----"), Row(6, Price, b"R-----"), Row(75, Day, b"o-----"),
-    Row(60, Stamp, b"oo----"), Row(110, Qty, b"o-----"), Row(1138, Qty, b"o-----"),
-    Row(434, Known(b"12"), b"-R----"), Row(102, Reason, b"-o----"), Row(45, Number, b"--RoRR"),
-    Row(371, Number, b"--o-o-"), Row(372, Id, b"--oRoR"), Row(373, Number, b"--o-o-"),
-    Row(379, Id, b"---o-o"), Row(380, Number, b"---R-R"), Row(58, Text, b"oooooo"),
-    Row(1128, Version, b"oooo--"),
-    Row(49, Any, b"oooooo"), Row(56, Any, b"oooooo"), Row(34, Any, b"oooooo"),
-    Row(43, Any, b"oooooo"), Row(97, Flag, b"oooooo"), Row(52, Any, b"oooooo"),
-    Row(122, Any, b"oooooo"), Row(35, Any, b"oooooo"), Row(50, Any, b"oooooo"),
-    Row(57, Any, b"oooooo"), Row(142, Any, b"oooooo"), Row(143, Any, b"oooooo"),
-    Row(347, Any, b"oooooo"), Row(369, Any, b"oooooo"),
-    Row(0, Passed, b"------"),
+    Row(37, Id, b"RR-----"), Row(198, Id, b"oo-----"), Row(11, Id, b"oR-----"),
+    Row(41, Id, b"oo-----"), Row(453, Count, b"o------"), Row(448, Id, b"o------"),
+    Row(447, OneByte, b"o------"), Row(452, Number, b"o------"), Row(382, Count, b"o------"),
+    Row(375, Id, b"o------"), Row(337, Id, b"o------"), Row(437, Qty, b"o------"),
+    Row(438, Stamp, b"o------"), Row(17, Id, b"R------"), Row(19, Id, b"o------"),
+    Row(150, Known(b"03456789ABCDEFGHIJKL"), b"R------"),
+    Row(39, Known(b"0123456789ABCDE"), b"RR-----"), Row(103, Reason, b"o------"),
+    Row(378, Reason, b"o------"), Row(1, Id, b"oo-----"), Row(63, Code(b"0123456789"), b"o------"),
+    Row(64, Day, b"o------"), Row(55, Id, b"R------"), Row(65, Id, b"o------"),
+    Row(48, Id, b"o------"), Row(22, Code(b"123456789"), b"o------"),
+    Row(167, SecurityType, b"o------"), Row(200, Beside, b"o------"), Row(541, Day, b"o------"),
+    Row(207, Id, b"o------"), Row(54, Side, b"R------"), Row(38, Qty, b"o------"),
+    Row(40, Code(b"1234"), b"o------"), Row(44, Price, b"o------"), Row(99, Price, b"o------"),
+    Row(15, Currency, b"o------"), Row(59, Beside, b"o------"), Row(432, Day, b"o------"),
+    Row(126, Stamp, b"o------"), Row(528, Code(b"AIP"), b"o------"), Row(32, Qty, b"o------"),
+    Row(31, Price, b"o------"), Row(30, Id, b"o------"), Row(151, Qty, b"R------"),
+    Row(14, Qty, b"R------"), Row(6, Price, b"R------"), Row(75, Day, b"o------"),
+    Row(60, Stamp, b"oo-----"), Row(110, Qty, b"o------"), Row(1138, Qty, b"o------"),
+    Row(434, Known(b"12"), b"-R-----"), Row(102, Reason, b"-o-----"), Row(45, Number, b"--RoRRo"),
+    Row(371, Number, b"--o-o--"), Row(372, Id, b"--oRoRR"), Row(373, Number, b"--o-o--"),
+    Row(379, Id, b"---o-oo"), Row(380, Number, b"---R-RR"), Row(58, Text, b"ooooooo"),
+    Row(1128, Version, b"oooo---"),
+    Row(49, Any, b"ooooooo"), Row(56, Any, b"ooooooo"), Row(34, Any, b"ooooooo"),
+    Row(43, Any, b"ooooooo"), Row(97, Flag, b"ooooooo"), Row(52, Any, b"ooooooo"),
+    Row(122, Any, b"ooooooo"), Row(35, Any, b"ooooooo"), Row(50, Any, b"ooooooo"),
+    Row(57, Any, b"ooooooo"), Row(142, Any, b"ooooooo"), Row(143, Any, b"ooooooo"),
+    Row(347, Any, b"ooooooo"), Row(369, Any, b"ooooooo"),
+    Row(0, Passed, b"-------"),
 ];
 
 const NONE: usize = 74;
@@ -140,12 +140,13 @@ fn cut(value: &[u8]) -> &[u8] {
 }
 
 /// The column of a message of a side.
-pub fn column_of(kind: &[u8], of_venue: bool) -> Option<usize> {
+pub fn column_of(kind: &[u8], of_venue: bool, is_44: bool) -> Option<usize> {
     match kind {
         b"8" if of_venue => Some(0),
         b"9" if of_venue => Some(1),
         b"3" => Some(if of_venue { 2 } else { 4 }),
-        b"j" => Some(if of_venue { 3 } else { 5 }),
+        b"j" if of_venue => Some(3),
+        b"j" => Some(if is_44 { 6 } else { 5 }),
         _ => None,
     }
 }
@@ -289,9 +290,9 @@ impl Report {
         }
     }
 
-    /// Writes what the fields mean as a body of FIX 4.2; `false` where that is too long, or where
-    /// they do not say which order could not be canceled.
-    pub fn write(&self, body: &[u8], column: usize, down: &mut Vec<u8>) -> bool {
+    /// Writes what the fields mean as a body of FIX 4.2, or of FIX 4.4; `false` where that is too
+    /// long, or where they do not say which order could not be canceled.
+    pub fn write(&self, body: &[u8], column: usize, is_44: bool, down: &mut Vec<u8>) -> bool {
         if column == 1 && self.value::<41>(body).is_empty() {
             return false;
         }
@@ -321,8 +322,10 @@ impl Report {
             let Row(tag, kind, _) = &ROWS[i];
             let value = if self.said & 1 << i == 0 { b"" } else { self.fields[i].value(body) };
             match tag {
+                453 if is_44 => requests44::write_parties(&self.parties, body, down),
                 453 => self.write_parties(body, down),
                 382 => self.write_contras(body, down),
+                17 if is_44 => push_field(down, b"17=", value),
                 17 => {
                     let is_status = matches!(exec_type, b"I" | b"L");
                     push_field(down, b"17=", if is_status { b"0" } else { value });
@@ -333,6 +336,8 @@ impl Report {
                         _ => b"0",
                     });
                 }
+                150 if is_44 => push_field(down, b"150=", if value == b"L" { b"I" } else { value }),
+                39 if is_44 => push_field(down, b"39=", if value == b"5" { b"0" } else { value }),
                 150 => push_field(down, b"150=", match exec_type {
                     b"F" if self.is_filled(body) => b"2",
                     b"F" => b"1",
@@ -345,10 +350,10 @@ impl Report {
                 102 => write_reason(b"102=", value, 3, 2, down, &mut note),
                 200 if !date.is_empty() => push_field(down, b"200=", &date[..6]),
                 200 if !is_month(value) => {}
-                541 => push_field(down, b"205=", &date[6..]),
-                40 if on_close => push_field(down, b"40=", if value == b"1" { b"5" } else { b"B" }),
-                59 if !matches!(value, [b'0'..=b'6']) => {}
-                528 => push_field(down, b"47=", value),
+                541 if !is_44 => push_field(down, b"205=", &date[6..]),
+                40 if on_close && !is_44 => push_field(down, b"40=", if value == b"1" { b"5" } else { b"B" }),
+                59 if !matches!(value, [b'0'..=b'6']) && !(is_44 && on_close) => {}
+                528 if !is_44 => push_field(down, b"47=", value),
                 1138 => push_decimal(down, b"111=", value),
                 58 if note.is_empty() && value.is_empty() => {}
                 58 if note.is_empty() => push_field(down, b"58=", value),

@@ -1,5 +1,5 @@
-"""Order requests of FIX 4.2 and reports of FIX 5.0 SP2 made from a seed: those of the timed
-streams, and those of --compare, with refusals of both sides.
+"""Order requests of FIX 4.2 and FIX 4.4 and reports of FIX 5.0 SP2 made from a seed: those of the
+timed streams, and those of --compare, with refusals of both sides.
 
 A message is a list of fields, each a pair of bytes: a tag, and a value. What stops the fields of a
 body is a pair whose tag is all of it and whose value is None.
@@ -18,6 +18,16 @@ REQUESTS = """
 54 123456 RRRR  114 flag o-o-  60 stamp RRR-     38 qty RoR-      40 12345B R-R-   44 price o-o-
 99 price o-o-   15 money o-o-  59 0123456 o-o-   168 stamp o-o-   432 day o-o-     126 stamp o-o-
 47 byte o-o-    77 OC o-o-     58 text ooo-
+"""
+# The same for a client of FIX 4.4, with the codes that FIX 5.0 SP2 has, too.
+REQUESTS_44 = """
+11 id RRRR      41 id -RR-     37 id -ooo        453 group oooo   1 id oooo        78 group o-o-
+63 0123456789 o-o-  64 day o-o-  21 123 o-o-     18 some o-o-     110 qty o-o-     111 qty o-o-
+100 id o-o-     386 group o-o- 55 id RRRR        65 id oooo       48 id oooo       22 123456789 oooo
+167 word oooo   200 month oooo 541 day oooo      207 id oooo      54 123456 RRRR   114 flag o-o-
+60 stamp RRR-   38 qty RoR-    40 1234 R-R-      44 price o-o-    99 price o-o-    15 money o-o-
+59 0123456 o-o- 168 stamp o-o- 432 day o-o-      126 stamp o-o-   528 byte o-o-    77 OC o-o-
+58 text ooo-
 """
 REFUSALS = """
 45 number RR    371 number o-  372 id oR       373 number o-     379 id -o         380 number -R
@@ -62,6 +72,12 @@ CLIENT = side_of(b"8=FIX.4.2", rows_of(REQUESTS, "DFGH"), HEADER_TAGS,
                  {b"78": (b"79", {b"80": 0.7}), b"386": (b"336", {})},
                  {b"79": "id", b"80": "qty", b"336": "id"}, CODES)
 CLIENT_REFUSALS = CLIENT._replace(rows=rows_of(REFUSALS, "3j"))
+CLIENT_44 = side_of(b"8=FIX.4.4", rows_of(REQUESTS_44, "DFGH"), HEADER_TAGS,
+                    {b"453": (b"448", {b"447": 0.9, b"452": 1, b"802": 0.05}), **CLIENT.groups},
+                    {b"448": "id", b"447": "D", b"452": "placed", b"802": "id", **CLIENT.members},
+                    CODES + [b"5", b"D"])
+# A j of FIX 4.4 may leave out its number.
+CLIENT_44_REFUSALS = CLIENT_44._replace(rows=rows_of(REFUSALS.replace("RR ", "Ro ", 1), "3j"))
 VENUE = side_of(b"8=FIXT.1.1", rows_of(REPORTS, "893j"), HEADER_TAGS + [b"1128"],
                 {b"453": (b"448", {b"447": 0.9, b"452": 1, b"802": 0.05}),
                  b"382": (b"375", {b"337": 0.5, b"437": 0.5, b"438": 0.5, b"655": 0.05})},
@@ -87,6 +103,7 @@ USUAL = {
     "number": [b"2", b"41", b"1007"],
     "reason": [b"0", b"1", b"3", b"99"],
     "role": [b"1", b"3", b"4", b"17"],
+    "placed": [b"1", b"3"],
 }
 RARE = {
     "id": [b"x" * 128, b" ", b"=", b"\xff\x80", b"8=FIX.4.2"],
@@ -105,6 +122,7 @@ RARE = {
     "number": [b"0", b"0002", b"1000000000", b"0000000001"],
     "reason": [b"0099", b"4", b"5", b"6", b"8", b"9", b"9999", b"0000000008"],
     "role": [b"03", b"0", b"1000000000", b"001"],
+    "placed": [b"03", b"4", b"001", b"4", b"0000000003", b"17"],
 }
 # Values that are empty, of wrong form, out of range, or outside the profile.
 BAD = {
@@ -140,6 +158,7 @@ BAD["fine"] = BAD["stamp"] + [b"20240230-00:00:00.125999", b"20240102-10:00:00.1
                               b"20240102-10:00:00.1259991", b"20240102-24:00:00.125999999",
                               b"20240102-10:00:00.1259999999", b"20240102-10:00:00,125999"]
 BAD["stamp"] = BAD["stamp"] + FINE
+BAD["placed"] = BAD["role"]
 BAD["price"] = [value for value in BAD["qty"] if not value.startswith(b"-")] + [b"-", b"-x"]
 COUNTS = [b"", b"0", b"00", b"1", b"01", b"2", b"3", b"32", b"33", b"x", b"-1", b"1.",
           b"1000000000", b"1000000001", b"0000000001", b"00000000001", b"99999999999999999999"]
@@ -262,6 +281,16 @@ def mixed_requests(seed, size):
     return messages(seed, size, CLIENT, "DDDDDFFGGH", ["0", "0", "8", "AE"])
 
 
+def good_requests_44(seed, size):
+    """Frames of a mix of requests of FIX 4.4, likewise; one in ten has parties."""
+    return messages(seed, size, CLIENT_44, "DDDDDFFGGH", "")
+
+
+def mixed_requests_44(seed, size):
+    """The same with changes and other types, as of FIX 4.2."""
+    return messages(seed, size, CLIENT_44, "DDDDDFFGGH", ["0", "0", "8", "AE"])
+
+
 def good_reports(seed, size):
     """Frames of a mix of reports, of this many bytes together or a little more, and their number:
     nine of ten are 8 and the others 9. Two thirds of them have few fields and a third most; one in
@@ -375,9 +404,10 @@ def unknown(draw, side, fields):
 
 
 def lacking(draw, side, fields):
-    """An order on close beside some TimeInForce, or some Rule80A."""
+    """An order on close beside some TimeInForce, or some Rule80A or OrderCapacity."""
+    capacity = b"528" if side is CLIENT_44 else b"47"
     values = {b"40": draw.choice([b"5", b"B", b"2"]), b"59": draw.choice([b"0", b"3", b"6", b"7"]),
-              b"47": draw.choice([b"A", b"I", b"P", b"J", b"a", b"AA"])}
+              capacity: draw.choice([b"A", b"I", b"P", b"J", b"a", b"AA"])}
     for tag in draw.sample(list(values), draw.randint(1, 3)):
         fields[:] = [field for field in fields if field[0] != tag]
         fields.insert(somewhere(draw, fields), (tag, values[tag]))
@@ -425,13 +455,14 @@ def scratched(draw, body):
     return bytes(text)
 
 
-def long_request(draw, number):
+def long_request(draw, side, number):
     """A good body whose translation is about as long as one may be: its content has about 7,936
-    bytes, which is as many as here, or its body about 8,192, which is 18 more than here."""
+    bytes, which is as many as here, or its body about 8,192, which is so many more than here as a
+    ClientID or a MaxFloor takes."""
     kind = draw.choice("DG")
-    fields = [field for field in flat(message(draw, CLIENT, kind, number, 0.0))
-              if field[0] != b"40"]
-    fields.append((b"40", b"2"))
+    fields = [field for field in flat(message(draw, side, kind, number, 0.0))
+              if field[0] not in (b"21", b"40")]
+    fields += [(b"21", b"1"), (b"40", b"2")]
     header = len(body_of(kind.encode(), fields[:len(HEADER)]))
     near = draw.choice([-200, -1, 0, 1, 200])
     if draw.random() < 0.5:
@@ -440,8 +471,9 @@ def long_request(draw, number):
         lacking = header + 7_936 + near - len(body_of(kind.encode(), fields)) - 4
         fields.append((b"58", b"t" * lacking))
     else:
-        fields.append((b"109", b"FUND"))
-        lacking = 8_192 - 18 + min(near, 18) - len(body_of(kind.encode(), fields)) - 5
+        field, more = ((b"109", b"FUND"), 18) if side is CLIENT else ((b"111", b"9"), 1)
+        fields.append(field)
+        lacking = 8_192 - more + min(near, more) - len(body_of(kind.encode(), fields)) - 5
         fields.insert(0, (b"122", b"x" * lacking))
     return body_of(kind.encode(), fields)
 
@@ -464,13 +496,18 @@ def long_report(draw, number):
     return body_of(b"8", fields)
 
 
-def any_request(draw, number):
+def any_request(draw, number, side=CLIENT, refusals=CLIENT_REFUSALS):
     """A body of any kind that a client may send: good or at fault, with up to three faults."""
     if draw.random() < 0.02:
-        return long_request(draw, number)
+        return long_request(draw, side, number)
     if draw.random() < 0.1:
-        return any_body(draw, CLIENT_REFUSALS, "3j", number)
-    return any_body(draw, CLIENT, "DDDDGGGFFH", number)
+        return any_body(draw, refusals, "3j", number)
+    return any_body(draw, side, "DDDDGGGFFH", number)
+
+
+def any_request_44(draw, number):
+    """The same of a client of FIX 4.4."""
+    return any_request(draw, number, CLIENT_44, CLIENT_44_REFUSALS)
 
 
 def any_report(draw, number):
