@@ -50,8 +50,8 @@ pub(crate) fn fault_of(words: &[String]) -> WordsFault<'_> {
             word,
             "FIRST from 0 to 65536 and COUNT from 1 to 10000, in digits without a leading zero",
         ),
-        "translate" => WordsFault::Form(word, "up or down, and nothing more"),
-        "check" => WordsFault::Form(word, "client or venue, and nothing more"),
+        "translate" => WordsFault::Form(word, "up, down, up44 or down44, and nothing more"),
+        "check" => WordsFault::Form(word, "client, venue or client44, and nothing more"),
         _ if word.starts_with("--") => WordsFault::NoOption(word),
         _ => WordsFault::NoCommand(word),
     }
