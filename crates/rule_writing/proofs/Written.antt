@@ -82,14 +82,14 @@ module _ {B O Own : Type 0} (code : Code B O Own) (s : Source B) (m : Message) w
       }
       rule_goes (rules.By rule) has = own rule has
 
-      rules_written : (rules : List (CodeRule O))
+      pub rules_written : (rules : List (CodeRule O))
           → AllByRecursion (IsRead code.apart (table_of s) (reading code (table_of s))) rules
           → flat_map (writes code.writes s) rules ≡ content_by kinds (map (rule_of code) rules) m
       rules_written [] has = refl
       rules_written (rule ∷ rules) has =
           λ i. (rule_goes rule has.0).written i ++ rules_written rules has.1 i
 
-      rules_lacked : (rules : List (CodeRule O))
+      pub rules_lacked : (rules : List (CodeRule O))
           → AllByRecursion (IsRead code.apart (table_of s) (reading code (table_of s))) rules
           → first_of (lacked code.lacks s) rules
           ≡ first_of (kinds.lack m) (map (rule_of code) rules)

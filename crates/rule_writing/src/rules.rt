@@ -8,7 +8,7 @@ ghost use Rattle.rule_writing.specs.declared.source.Source.{Source as Read};
 
 use crate::source::Source;
 use row_values::Kind;
-use std::alloc::{AllocError, Global};
+use std::alloc::AllocError;
 
 /// How the target says one line of its table, where `O` are the kinds of the direction's own.
 #[derive(Clone, Copy, Debug)]
@@ -44,12 +44,7 @@ pub trait OwnRule<B> {
     /// # Errors
     ///
     /// `AllocError` for want of memory; what stood in `out` stays, and a part may stand behind it.
-    fn put(
-        &self,
-        alloc: Global,
-        source: &Source<'_, '_, B>,
-        out: &mut Vec<u8>,
-    ) -> Result<(), AllocError>
+    fn put(&self, source: &Source<'_, '_, B>, out: &mut Vec<u8>) -> Result<(), AllocError>
         ensures done { OnOk result (out.new.items
             ≡ out.old.items ++ body_of (writes source.now self.now)) }
         ensures kept { StartsWith out.new.items out.old.items };

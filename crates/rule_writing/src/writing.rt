@@ -5,6 +5,7 @@ ghost use Rattle.std.specs.Io.{StartsWith};
 ghost use Rattle.std.specs.List.{flat_map};
 ghost use Rattle.field_groups.specs.Field.{body_of};
 ghost use Rattle.message_tables.specs.Tables.{first_of};
+ghost use Rattle.rule_rows.specs.ByRules.{lack_if};
 ghost use Rattle.rule_rows.specs.Rows.{have_written_lines};
 ghost use Rattle.rule_writing.specs.CodeRules.{IsLackOf, lacked, table_of, writes};
 
@@ -13,46 +14,35 @@ use crate::source::Source;
 use message_tables::Lookup;
 use order_meaning::Lack;
 use rule_rows::{kept, put_decimal, put_lines, put_moment, put_text};
-use std::alloc::{AllocError, Global};
 
-/// Appends what a rule says, if it says anything.
-fn put_said<B, O: OwnRule<B>>(
-    alloc: Global,
+/// A tag that is lacking, or none.
+pub fn tag_if(lacks: bool, tag: u32) -> Option<u32>
+    ensures { result ≡ lack_if lacks tag }
+{
+    if lacks { Some(tag) } else { None }
+}
+
+/// Appends what a kind of the direction's own says, unless it cannot.
+#[inline(always)]
+fn put_own<B, O: OwnRule<B>>(
     source: &Source<'_, '_, B>,
-    rule: &Rule<O>,
+    own: &O,
     out: &mut Vec<u8>,
-) -> Result<(), AllocError>
-    requires { IsTrue (have_written_lines (table_of source.now).items) }
+) -> Result<(), Lack>
     ensures done { OnOk result (out.new.items
-        ≡ out.old.items ++ body_of (writes O.writes source.now rule.now)) }
+        ≡ out.old.items ++ body_of (O.writes source.now own.now)) }
+    ensures said { OnOk result (O.lacks source.now own.now ≡ None) }
+    ensures lack { IfErr result (IsLackOf (O.lacks source.now own.now)) }
     ensures kept { StartsWith out.new.items out.old.items }
 {
-    let fields = source.fields;
-    match rule {
-        Rule::Same(tag) => put_text(out, *tag, fields.value(*tag)),
-        Rule::Decimal(from, to) => put_decimal(out, *to, fields.value(*from)),
-        Rule::Moment(tag) => put_moment(out, *tag, fields.value(*tag)),
-        Rule::Kept(from, to, kind) => put_text(out, *to, kept(fields, *from, kind)),
-        Rule::Lines(count) => put_lines(out, fields, source.table, *count),
-        Rule::By(own) => own.put(alloc, source, out),
+    match own.lacked(source) {
+        Some(tag) => Err(Lack::Tag(tag)),
+        None => Ok(own.put(source, out)?),
     }
 }
 
-/// The tag that a rule cannot say, if any.
-#[inline(always)]
-fn lacked<B, O: OwnRule<B>>(source: &Source<'_, '_, B>, rule: &Rule<O>) -> Option<u32>
-    ensures { result ≡ lacked O.lacks source.now rule.now }
-{
-    match rule {
-        Rule::By(own) => own.lacked(source),
-        _ => None,
-    }
-}
-
-/// Appends what a rule says, unless it cannot.
-#[inline(always)]
+/// Appends what a rule says, if it says anything, unless it cannot.
 fn put_rule<B, O: OwnRule<B>>(
-    alloc: Global,
     source: &Source<'_, '_, B>,
     rule: &Rule<O>,
     out: &mut Vec<u8>,
@@ -64,16 +54,20 @@ fn put_rule<B, O: OwnRule<B>>(
     ensures lack { IfErr result (IsLackOf (lacked O.lacks source.now rule.now)) }
     ensures kept { StartsWith out.new.items out.old.items }
 {
-    match lacked(source, rule) {
-        Some(tag) => Err(Lack::Tag(tag)),
-        None => Ok(put_said(alloc, source, rule, out)?),
+    let fields = source.fields;
+    match rule {
+        Rule::Same(tag) => Ok(put_text(out, *tag, fields.value(*tag))?),
+        Rule::Decimal(from, to) => Ok(put_decimal(out, *to, fields.value(*from))?),
+        Rule::Moment(tag) => Ok(put_moment(out, *tag, fields.value(*tag))?),
+        Rule::Kept(from, to, kind) => Ok(put_text(out, *to, kept(fields, *from, kind))?),
+        Rule::Lines(count) => Ok(put_lines(out, fields, source.table, *count)?),
+        Rule::By(own) => put_own(source, own, out),
     }
 }
 
 /// Appends what rules say, up to the first that cannot.
 #[tactic(auto, using(row_values::proofs::Contents::still_kept))]
 fn put_all<B, O: OwnRule<B>>(
-    alloc: Global,
     source: &Source<'_, '_, B>,
     rules: &[Rule<O>],
     out: &mut Vec<u8>,
@@ -86,7 +80,7 @@ fn put_all<B, O: OwnRule<B>>(
     ensures kept { StartsWith out.new.items out.old.items }
 {
     for rule in rules {
-        put_rule(alloc, source, rule, out)?;
+        put_rule(source, rule, out)?;
     }
     Ok(())
 }
@@ -98,7 +92,6 @@ fn put_all<B, O: OwnRule<B>>(
 /// `Lack::Tag` for the tag of the first rule that cannot say its line, exactly where there is one;
 /// `Lack::NoMemory` for want of memory. Then `out` is unchanged.
 pub fn put_rules<B, O: OwnRule<B>>(
-    alloc: Global,
     source: &Source<'_, '_, B>,
     rules: &[Rule<O>],
     out: &mut Vec<u8>,
@@ -111,7 +104,7 @@ pub fn put_rules<B, O: OwnRule<B>>(
     ensures err { OnErr result (out.new.items ≡ out.old.items) }
 {
     let start = out.len();
-    match put_all(alloc, source, rules, out) {
+    match put_all(source, rules, out) {
         Ok(()) => Ok(()),
         Err(lack) => {
             out.truncate(start);

@@ -69,7 +69,7 @@ pub(crate) fn put_up(
         besides: Besides { parties, has_terms },
     };
     let start = out.len();
-    put_rules(alloc, &source, request_rules(), out)?;
+    put_rules(&source, request_rules(), out)?;
     if lacks_role(has_terms, source.besides.parties.as_slice()) {
         out.truncate(start);
         Err(Lack::Tag(452))
@@ -101,7 +101,7 @@ pub(crate) fn put_down(alloc: Global, fields: &Fields<'_>, out: &mut Vec<u8>) ->
                 has_terms: true,
             },
         };
-        put_rules(alloc, &source, report_rules(), out)
+        put_rules(&source, report_rules(), out)
     } else {
         let source = Source {
             fields,
@@ -111,6 +111,6 @@ pub(crate) fn put_down(alloc: Global, fields: &Fields<'_>, out: &mut Vec<u8>) ->
                 has_terms: false,
             },
         };
-        put_rules(alloc, &source, reject_rules(), out)
+        put_rules(&source, reject_rules(), out)
     }
 }

@@ -7,7 +7,6 @@ ghost use Rattle.field_groups.specs.Field.{body_of};
 ghost use Rattle.message_tables.specs.Content.{cell_fields};
 ghost use Rattle.message_tables.specs.Tables.{Tag};
 ghost use Rattle.reports_fix50.specs.Sense.{telling};
-ghost use Rattle.rule_rows.specs.ByRules.{lack_if};
 ghost use Rattle.rule_writing.specs.CodeRules.{stands};
 ghost use Rattle.translate_fix44.specs.declared.rules.Own.TheVariants as rules;
 ghost use Rattle.translate_fix44.specs.CodeRules.{coded, firm_of, lacks, told, writes};
@@ -22,7 +21,7 @@ use request_rules::{is_unlisted, put_parties};
 use row_values::{Part, Value};
 use rows_fix50::maturity;
 use rule_rows::{code_of, number_of, put_one, put_text};
-use rule_writing::OwnRule;
+use rule_writing::{OwnRule, tag_if};
 use std::alloc::{AllocError, Global};
 
 /// What the rules read beside the fields.
@@ -111,12 +110,12 @@ fn told(alloc: Global, source: &Source<'_, '_>, is_report: bool) -> Result<Vec<u
 }
 
 /// Appends Text(58), which tells these reasons.
-fn put_told(alloc: Global, source: &Source<'_, '_>, is_report: bool, out: &mut Vec<u8>) -> Appended
+fn put_told(source: &Source<'_, '_>, is_report: bool, out: &mut Vec<u8>) -> Appended
     ensures done { OnOk result (out.new.items
         ≡ out.old.items ++ body_of (writes source.now (rules.Told is_report))) }
     ensures kept { StartsWith out.new.items out.old.items }
 {
-    let told = told(alloc, source, is_report)?;
+    let told = told(*out.allocator(), source, is_report)?;
     put_telling(out, 58, source.fields.value(58), &told)
 }
 
@@ -140,13 +139,6 @@ fn lacks_close(ord_type: Option<u8>, time: Option<u8>) -> bool
     }
 }
 
-/// A tag that is lacking, or none.
-fn tag_if(lacks: bool, tag: u32) -> Option<u32>
-    ensures { result ≡ lack_if lacks tag }
-{
-    if lacks { Some(tag) } else { None }
-}
-
 impl OwnRule<Besides> for Own {
     ghost writes = { writes };
 
@@ -167,12 +159,7 @@ impl OwnRule<Besides> for Own {
         }
     }
 
-    fn put(
-        &self,
-        alloc: Global,
-        source: &Source<'_, '_>,
-        out: &mut Vec<u8>,
-    ) -> Result<(), AllocError> {
+    fn put(&self, source: &Source<'_, '_>, out: &mut Vec<u8>) -> Result<(), AllocError> {
         let fields = source.fields;
         let parties = &source.besides.parties;
         match self {
@@ -186,7 +173,7 @@ impl OwnRule<Besides> for Own {
             Own::Within(tag, last, other) => {
                 put_within(out, *tag, *last, *other, number_of(fields.value(*tag)))
             }
-            Own::Told(is_report) => put_told(alloc, source, *is_report, out),
+            Own::Told(is_report) => put_told(source, *is_report, out),
         }
     }
 }
