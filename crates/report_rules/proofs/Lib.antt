@@ -1,7 +1,6 @@
 pub mod CodesDown
 pub mod CodeDown
 pub mod CodesSaid
-pub mod FieldsDown
 pub mod DatesDown
 pub mod GoDown
 pub mod KindsDown
@@ -10,9 +9,9 @@ pub mod PutDown
 pub mod ReadDown
 pub mod RowsDown
 pub mod SenseDown
-pub mod Steps
 pub mod SoundDown
 pub mod SourceDown
 pub mod TablesDown
+pub mod Telling
 pub mod ValuesDown
 pub mod Worked

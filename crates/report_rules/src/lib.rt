@@ -11,4 +11,4 @@ mod writing;
 pub use mapping::has_trans_type;
 pub use putting::put_down;
 pub use source::party;
-pub use writing::{put_code_if, put_telling, put_within, tells_of};
+pub use writing::{put_code_if, put_month, put_told, put_within};

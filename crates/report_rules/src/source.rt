@@ -1,24 +1,17 @@
 //! What the rules read of a report of FIX 5.0 SP2.
 
-ghost use Rattle.std.specs.Prelude.{◌≡◌, ◌==◌, ◌≤◌, [], IfOk, length};
+ghost use Rattle.std.specs.Prelude.{◌≡◌, ◌==◌};
 ghost use Rattle.std.specs.List.{find};
 ghost use Rattle.std.specs.Option.{option_map};
-ghost use Rattle.message_tables.specs.Tables.{lines_in, tags_in};
-ghost use Rattle.row_values.specs.Contras as contras;
-ghost use Rattle.row_values.specs.Contras.{AreContras};
-ghost use Rattle.row_values.specs.Groups as groups;
-ghost use Rattle.row_values.specs.Groups.{AreParties};
 ghost use Rattle.rows_fix50.specs.Meaning.{id_of};
-ghost use Rattle.report_rules.specs.CodeRules.{reject_codes, reject_source, report_codes};
-ghost use Rattle.report_rules.specs.CodeRules.{report_source};
+ghost use Rattle.report_rules.specs.CodeRules.{reject_codes, report_codes};
 
 use crate::mapping::is_fill;
 use field_groups::Fields;
 use message_tables::Lookup;
 use order_meaning::{Lines, PartyLine};
-use row_values::{Contras, Kind, read_lines};
+use row_values::Kind;
 use rule_rows::{code_of, decimal_of, kept};
-use std::alloc::{AllocError, Global};
 use typed_fields::Dec;
 use value_kinds::ValueKind;
 
@@ -44,7 +37,7 @@ pub(crate) struct Codes {
 }
 
 /// Reads the codes of an execution report.
-fn report_codes(fields: &Fields<'_>) -> Codes
+pub(crate) fn report_codes(fields: &Fields<'_>) -> Codes
     ensures { result ≡ report_codes fields.now }
 {
     let ord_status = code_of(fields.value(39));
@@ -59,7 +52,7 @@ fn report_codes(fields: &Fields<'_>) -> Codes
 }
 
 /// Reads the codes of a cancel reject.
-fn reject_codes(fields: &Fields<'_>) -> Codes
+pub(crate) fn reject_codes(fields: &Fields<'_>) -> Codes
     ensures { result ≡ reject_codes fields.now }
 {
     let ord_status = code_of(fields.value(39));
@@ -70,39 +63,6 @@ fn reject_codes(fields: &Fields<'_>) -> Codes
         ord_type: None,
         time: None,
     }
-}
-
-/// The groups of a report.
-#[derive(Debug, Drop)]
-pub(crate) struct Groups {
-    /// Parties(453).
-    pub(crate) parties: Lines,
-    /// ContraGrp(382).
-    pub(crate) contras: Contras,
-}
-
-/// The groups of a report whose table has none.
-pub(crate) fn no_groups(alloc: Global) -> Groups
-    ensures parties { result.parties ≡ [] }
-    ensures contras { result.contras ≡ [] }
-{
-    Groups {
-        parties: Lines::new(alloc),
-        contras: Contras::new(alloc),
-    }
-}
-
-/// Reads both groups.
-pub(crate) fn read_groups(alloc: Global, fields: &Fields<'_>) -> Result<Groups, AllocError>
-    requires parties { length (lines_in (tags_in groups.parties) fields.now) ≤ 32 }
-    requires contras { length (lines_in (tags_in contras.contras) fields.now) ≤ 32 }
-    ensures parties { IfOk result (λ groups. AreParties fields.now groups.parties) }
-    ensures contras { IfOk result (λ groups. AreContras fields.now groups.contras) }
-{
-    Ok(Groups {
-        parties: read_lines(alloc, fields)?,
-        contras: read_lines(alloc, fields)?,
-    })
 }
 
 /// The first line of a role.
@@ -122,51 +82,16 @@ pub fn party(lines: &Lines, role: u32) -> Option<&[u8]>
     }
 }
 
-/// What the rules read of a report.
+/// What the rules read beside the fields.
 #[derive(Drop)]
-pub(crate) struct Source<'f, 'k, 'a> {
-    /// The fields of its body.
-    pub(crate) fields: &'f Fields<'a>,
+pub(crate) struct Besides<'k> {
     /// The codes by which several rules go.
     pub(crate) codes: Codes,
-    /// Whether it is an execution report.
-    pub(crate) is_report: bool,
-    /// Its groups.
-    pub(crate) groups: Groups,
+    /// The parties of an execution report.
+    pub(crate) parties: Lines,
     /// The original id of its order, where it is known besides.
     pub(crate) known: Option<&'k [u8]>,
 }
 
-/// What the rules read of the fields of an execution report.
-pub(crate) fn report_source<'f, 'k, 'a>(
-    fields: &'f Fields<'a>,
-    groups: Groups,
-    known: Option<&'k [u8]>,
-) -> Source<'f, 'k, 'a>
-    ensures { result ≡ report_source fields.entry groups known.entry }
-{
-    Source {
-        fields,
-        codes: report_codes(fields),
-        is_report: true,
-        groups,
-        known,
-    }
-}
-
-/// What the rules read of the fields of a cancel reject.
-pub(crate) fn reject_source<'f, 'k, 'a>(
-    fields: &'f Fields<'a>,
-    groups: Groups,
-    known: Option<&'k [u8]>,
-) -> Source<'f, 'k, 'a>
-    ensures { result ≡ reject_source fields.entry groups known.entry }
-{
-    Source {
-        fields,
-        codes: reject_codes(fields),
-        is_report: false,
-        groups,
-        known,
-    }
-}
+/// What the rules read of a report.
+pub(crate) type Source<'f, 'k, 'a> = rule_writing::Source<'f, 'a, Besides<'k>>;

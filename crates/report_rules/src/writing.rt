@@ -1,36 +1,31 @@
 //! Writing the content of FIX 4.2 rule by rule.
 
-ghost use Rattle.std.specs.Prelude.{◌≡◌, ◌++◌, [], IfErr, IfOk, IfSome, None, OnErr, OnOk, Some};
-ghost use Rattle.std.specs.Prelude.{codes, drop, is_some, map, not, take, if◌then◌else◌};
+ghost use Rattle.std.specs.Prelude.{◌≡◌, ◌++◌, IfOk, IfSome, OnOk, codes, drop, is_some, not, take};
 ghost use Rattle.std.specs.Io.{StartsWith};
-ghost use Rattle.std.specs.List.{flat_map};
 ghost use Rattle.std.specs.Option.{option_map};
 ghost use Rattle.typed_fields.specs.Number.{IsNumber};
 ghost use Rattle.value_kinds.specs.ValueKind.{code_text};
 ghost use Rattle.field_groups.specs.Field.{body_of, field_bytes};
-ghost use Rattle.message_tables.specs.Content.{cell_fields, group_fields};
-ghost use Rattle.message_tables.specs.Tables.{Tag, first_of};
-ghost use Rattle.row_values.specs.Contras.{AreReadableContras, contra_cells};
+ghost use Rattle.message_tables.specs.Content.{cell_fields};
+ghost use Rattle.message_tables.specs.Tables.{Tag, value_at};
 ghost use Rattle.order_meaning.specs.Report.{or_known};
 ghost use Rattle.reports_fix50.specs.Sense.{most_before_reasons, reason_told, telling};
-ghost use Rattle.rule_rows.specs.ByRules.{lack_if};
-ghost use Rattle.report_rules.specs.CodeRules.{IsLackOf, close_code, exec_type_in, known_of};
-ghost use Rattle.report_rules.specs.CodeRules.{lacked, number_of, stands, tells_of, times, told};
-ghost use Rattle.report_rules.specs.CodeRules.{told_text, trans_type_in, types, within_text};
-ghost use Rattle.report_rules.specs.CodeRules.{writes};
-ghost use Rattle.rule_rows.specs.Texts.{kept};
-ghost use Rattle.report_rules.specs.declared.rules.Rule.TheVariants as rules;
-ghost use Rattle.report_rules.specs.Rules.{at_close, id_down, lacks_type, status_if, works_on};
+ghost use Rattle.rule_writing.specs.CodeRules.{stands};
+ghost use Rattle.report_rules.specs.CodeRules.{close_code, exec_type_in, known_of, lacks, month};
+ghost use Rattle.report_rules.specs.CodeRules.{number_of, tells_of, told, told_text, trans_type_in};
+ghost use Rattle.report_rules.specs.CodeRules.{within_text, writes};
+ghost use Rattle.report_rules.specs.declared.rules.Own.TheVariants as rules;
+ghost use Rattle.report_rules.specs.Rules.{at_close, lacks_type, status_if, works_on};
 
 use crate::mapping::{at_close, exec_type, on_close, status_if, trans_type, works_on};
-use crate::rules::Rule;
-use crate::source::{Source, TIMES, TYPES, party};
-use field_groups::{SOH, put_byte, put_field, put_number, put_tag};
+use crate::rules::Own;
+use crate::source::{Besides, Codes, Source, TIMES, TYPES, party};
+use field_groups::{Fields, SOH, put_byte, put_field, put_number, put_tag};
 use message_tables::Lookup;
-use order_meaning::Lack;
-use row_values::{Contras, Part, Value};
+use row_values::{Part, Value};
 use rows_fix50::maturity;
-use rule_rows::{kept, number_of, put_decimal, put_moment, put_one, put_text};
+use rule_rows::{kept, number_of, put_decimal, put_one, put_text};
+use rule_writing::{OwnRule, tag_if};
 use std::alloc::{AllocError, Global};
 use typed_fields::{FieldValue, Number};
 
@@ -82,16 +77,6 @@ pub fn put_within(
     }
 }
 
-/// Appends the brokers on the other side of a trade.
-fn put_contras(out: &mut Vec<u8>, contras: &Contras) -> Appended
-    requires { AreReadableContras contras.now }
-    ensures done { OnOk result (out.new.items
-        ≡ out.old.items ++ body_of (group_fields 382 (map contra_cells contras.now))) }
-    ensures kept { StartsWith out.new.items out.old.items }
-{
-    put_one(out, Part::Contras(contras))
-}
-
 /// Appends ` [tag=reason]`.
 fn push_told(out: &mut Vec<u8>, tag: u32, reason: Number) -> Result<(), AllocError>
     requires { IsNumber reason }
@@ -128,11 +113,7 @@ fn push_reason(
 
 /// The reasons of a report that FIX 4.2 lacks, as a text tells them: OrdRejReason(103),
 /// ExecRestatementReason(378) and CxlRejReason(102).
-///
-/// # Errors
-///
-/// `AllocError` for want of memory.
-pub fn tells_of(
+fn tells_of(
     alloc: Global,
     rej: Option<Number>,
     restate: Option<Number>,
@@ -179,16 +160,7 @@ fn put_joined(out: &mut Vec<u8>, tag: u32, text: &[u8], told: &[u8]) -> Appended
 }
 
 /// Appends a text, and behind it what it tells besides, which begins with a space.
-///
-/// # Errors
-///
-/// As [`put_code_if`].
-pub fn put_telling(
-    out: &mut Vec<u8>,
-    tag: u32,
-    text: Option<&[u8]>,
-    told: &[u8],
-) -> Result<(), AllocError>
+fn put_telling(out: &mut Vec<u8>, tag: u32, text: Option<&[u8]>, told: &[u8]) -> Appended
     ensures done { OnOk result (out.new.items ≡ out.old.items ++ body_of
         (cell_fields (Tag tag, telling (option_map (λ t. t.now) text.entry) told.now))) }
     ensures kept { StartsWith out.new.items out.old.items }
@@ -207,28 +179,81 @@ fn day_of(date: &[u8]) -> &[u8]
     if date.len() > 6 { &date[6..] } else { &[] }
 }
 
+/// The reasons that FIX 4.2 lacks of an execution report, or of a cancel reject.
+fn told(alloc: Global, fields: &Fields<'_>, is_report: bool) -> Result<Vec<u8>, AllocError>
+    ensures { IfOk result (λ text. text.items ≡ told fields.now is_report) }
+{
+    if is_report {
+        let restate = number_of(fields.value(378));
+        tells_of(alloc, number_of(fields.value(103)), restate, None)
+    } else {
+        tells_of(alloc, None, None, number_of(fields.value(102)))
+    }
+}
+
+/// Appends Text(58), which tells the reasons that FIX 4.2 lacks of an execution report, or of a
+/// cancel reject.
+///
+/// # Errors
+///
+/// As [`put_code_if`].
+pub fn put_told(out: &mut Vec<u8>, fields: &Fields<'_>, is_report: bool) -> Result<(), AllocError>
+    ensures done { OnOk result (out.new.items ≡ out.old.items ++ body_of
+        (cell_fields (Tag 58, telling (value_at 58 fields.now) (told fields.now is_report)))) }
+    ensures kept { StartsWith out.new.items out.old.items }
+{
+    let told = told(*out.allocator(), fields, is_report)?;
+    put_telling(out, 58, fields.value(58), &told)
+}
+
+/// Appends MaturityMonthYear(200), which is that of MaturityDate(541), where there is one.
+///
+/// # Errors
+///
+/// As [`put_code_if`].
+pub fn put_month(out: &mut Vec<u8>, fields: &Fields<'_>) -> Result<(), AllocError>
+    ensures done { OnOk result (out.new.items
+        ≡ out.old.items ++ body_of (cell_fields (Tag 200, month fields.now))) }
+    ensures kept { StartsWith out.new.items out.old.items }
+{
+    let maturity = maturity(fields);
+    put_one(out, Part::Row(200, Value::Month(&maturity)))
+}
+
+/// Appends MaturityDay(205), where there is a date.
+fn put_day(out: &mut Vec<u8>, date: Option<&[u8]>) -> Appended
+    ensures done { OnOk result (out.new.items ≡ out.old.items ++ body_of (cell_fields
+        (Tag 205, option_map (drop 6) (option_map (λ d. d.now) date.entry)))) }
+    ensures kept { StartsWith out.new.items out.old.items }
+{
+    match date {
+        Some(date) => put_field(out, 205, day_of(date)),
+        None => Ok(()),
+    }
+}
+
 /// Appends OrigClOrdID(41), or else the id that is known.
 fn put_original(source: &Source<'_, '_, '_>, out: &mut Vec<u8>) -> Appended
-    ensures done { OnOk result (out.new.items ≡ out.old.items ++ body_of (cell_fields
-        (Tag 41, or_known (stands source.now 41) (known_of source.now)))) }
+    ensures done { OnOk result (out.new.items
+        ≡ out.old.items ++ body_of (writes source.now rules.Original)) }
     ensures kept { StartsWith out.new.items out.old.items }
 {
     match source.fields.value(41) {
         Some(id) => put_field(out, 41, id),
-        None => put_text(out, 41, source.known),
+        None => put_text(out, 41, source.besides.known),
     }
 }
 
 /// Appends ExecID(17), which is 0 in a status.
 fn put_exec_id(source: &Source<'_, '_, '_>, out: &mut Vec<u8>) -> Appended
-    ensures done { OnOk result (out.new.items ≡ out.old.items ++ body_of (cell_fields
-        (Tag 17, id_down (status_if source.now.codes.exec_type) (stands source.now 17)))) }
+    ensures done { OnOk result (out.new.items
+        ≡ out.old.items ++ body_of (writes source.now rules.ExecId)) }
     ensures kept { StartsWith out.new.items out.old.items }
 {
     match source.fields.value(17) {
         None => Ok(()),
         Some(id) => {
-            if status_if(source.codes.exec_type) {
+            if status_if(source.besides.codes.exec_type) {
                 put_byte(out, 17, b'0')
             } else {
                 put_field(out, 17, id)
@@ -248,77 +273,28 @@ fn trans_type_if(exec_type: Option<u8>) -> Option<u8>
 }
 
 /// ExecType(150) of FIX 4.2.
-fn exec_type_if(source: &Source<'_, '_, '_>) -> Option<u8>
-    ensures { result ≡ exec_type_in source.now.codes }
+fn exec_type_if(codes: &Codes) -> Option<u8>
+    ensures { result ≡ exec_type_in codes.now }
 {
-    match source.codes.exec_type {
+    match codes.exec_type {
         None => None,
-        Some(code) => Some(exec_type(
-            code,
-            source.codes.ord_status.unwrap_or(0),
-            source.codes.fills,
-        )),
+        Some(code) => Some(exec_type(code, codes.ord_status.unwrap_or(0), codes.fills)),
     }
 }
 
 /// Appends OrdStatus(39).
 fn put_status(source: &Source<'_, '_, '_>, out: &mut Vec<u8>) -> Appended
-    ensures done { OnOk result (out.new.items ≡ out.old.items ++ body_of (cell_fields (
-      Tag 39,
-      if works_on source.now.codes.ord_status source.now.codes.exec_type
-          then Some (codes "5") else stands source.now 39,
-    ))) }
+    ensures done { OnOk result (out.new.items
+        ≡ out.old.items ++ body_of (writes source.now rules.OrdStatus)) }
     ensures kept { StartsWith out.new.items out.old.items }
 {
-    if works_on(source.codes.ord_status, source.codes.exec_type) {
+    if works_on(
+        source.besides.codes.ord_status,
+        source.besides.codes.exec_type,
+    ) {
         put_byte(out, 39, b'5')
     } else {
         put_text(out, 39, source.fields.value(39))
-    }
-}
-
-/// The reasons of a report that FIX 4.2 lacks, by the rows of its table.
-fn told(alloc: Global, source: &Source<'_, '_, '_>) -> Result<Vec<u8>, AllocError>
-    ensures { IfOk result (λ text. text.items ≡ told source.now) }
-{
-    let fields = source.fields;
-    if source.is_report {
-        let restate = number_of(fields.value(378));
-        tells_of(alloc, number_of(fields.value(103)), restate, None)
-    } else {
-        tells_of(alloc, None, None, number_of(fields.value(102)))
-    }
-}
-
-/// Appends Text(58), which tells the reasons that FIX 4.2 lacks.
-fn put_told(alloc: Global, source: &Source<'_, '_, '_>, out: &mut Vec<u8>) -> Appended
-    ensures done { OnOk result (out.new.items ≡ out.old.items
-        ++ body_of (cell_fields (Tag 58, telling (stands source.now 58) (told source.now)))) }
-    ensures kept { StartsWith out.new.items out.old.items }
-{
-    let told = told(alloc, source)?;
-    put_telling(out, 58, source.fields.value(58), &told)
-}
-
-/// Appends MaturityMonthYear(200), which is that of the date where there is one.
-fn put_month(source: &Source<'_, '_, '_>, out: &mut Vec<u8>) -> Appended
-    ensures done { OnOk result (out.new.items
-        ≡ out.old.items ++ body_of (writes source.now rules.Month)) }
-    ensures kept { StartsWith out.new.items out.old.items }
-{
-    let maturity = maturity(source.fields);
-    put_one(out, Part::Row(200, Value::Month(&maturity)))
-}
-
-/// Appends MaturityDay(205), where there is a date.
-fn put_day(source: &Source<'_, '_, '_>, out: &mut Vec<u8>) -> Appended
-    ensures done { OnOk result (out.new.items ≡ out.old.items ++ body_of (cell_fields
-        (Tag 205, option_map (drop 6) (stands source.now 541)))) }
-    ensures kept { StartsWith out.new.items out.old.items }
-{
-    match source.fields.value(541) {
-        Some(date) => put_field(out, 205, day_of(date)),
-        None => Ok(()),
     }
 }
 
@@ -334,16 +310,12 @@ fn close_if(ord_type: Option<u8>) -> Option<u8>
 
 /// Appends OrdType(40), by which FIX 4.2 says that an order is on close.
 fn put_type(source: &Source<'_, '_, '_>, out: &mut Vec<u8>) -> Appended
-    ensures done { OnOk result (out.new.items ≡ out.old.items ++ body_of (cell_fields (
-      Tag 40,
-      if at_close source.now.codes.ord_type source.now.codes.time
-          then option_map code_text (option_map close_code source.now.codes.ord_type)
-          else kept source.now.fields.now 40 types,
-    ))) }
+    ensures done { OnOk result (out.new.items
+        ≡ out.old.items ++ body_of (writes source.now rules.OrdType)) }
     ensures kept { StartsWith out.new.items out.old.items }
 {
-    if at_close(source.codes.ord_type, source.codes.time) {
-        put_code_if(out, 40, close_if(source.codes.ord_type))
+    if at_close(source.besides.codes.ord_type, source.besides.codes.time) {
+        put_code_if(out, 40, close_if(source.besides.codes.ord_type))
     } else {
         put_text(out, 40, kept(source.fields, 40, &TYPES))
     }
@@ -351,50 +323,14 @@ fn put_type(source: &Source<'_, '_, '_>, out: &mut Vec<u8>) -> Appended
 
 /// Appends TimeInForce(59), which FIX 4.2 does not say of an order on close.
 fn put_time(source: &Source<'_, '_, '_>, out: &mut Vec<u8>) -> Appended
-    ensures done { OnOk result (out.new.items ≡ out.old.items ++ body_of (cell_fields (
-      Tag 59,
-      if at_close source.now.codes.ord_type source.now.codes.time then None
-          else kept source.now.fields.now 59 times,
-    ))) }
+    ensures done { OnOk result (out.new.items
+        ≡ out.old.items ++ body_of (writes source.now rules.Time)) }
     ensures kept { StartsWith out.new.items out.old.items }
 {
-    if at_close(source.codes.ord_type, source.codes.time) {
+    if at_close(source.besides.codes.ord_type, source.besides.codes.time) {
         Ok(())
     } else {
         put_text(out, 59, kept(source.fields, 59, &TIMES))
-    }
-}
-
-/// Appends what a rule says, if it says anything.
-fn put_said(alloc: Global, source: &Source<'_, '_, '_>, rule: &Rule, out: &mut Vec<u8>) -> Appended
-    requires { AreReadableContras source.now.groups.contras }
-    ensures done { OnOk result (out.new.items
-        ≡ out.old.items ++ body_of (writes source.now rule.now)) }
-    ensures kept { StartsWith out.new.items out.old.items }
-{
-    let fields = source.fields;
-    match rule {
-        Rule::Same(tag) => put_text(out, *tag, fields.value(*tag)),
-        Rule::Decimal(from, to) => put_decimal(out, *to, fields.value(*from)),
-        Rule::Moment(tag) => put_moment(out, *tag, fields.value(*tag)),
-        Rule::Kept(from, to, kind) => put_text(out, *to, kept(fields, *from, kind)),
-        Rule::Original => put_original(source, out),
-        Rule::PartyOf(role, to) => put_text(out, *to, party(&source.groups.parties, *role)),
-        Rule::Contras => put_contras(out, &source.groups.contras),
-        Rule::ExecId => put_exec_id(source, out),
-        Rule::TransType => put_code_if(out, 20, trans_type_if(source.codes.exec_type)),
-        Rule::ExecType => put_code_if(out, 150, exec_type_if(source)),
-        Rule::OrdStatus => put_status(source, out),
-        Rule::Another(tag) => put_text(out, *tag, fields.value(*tag)),
-        Rule::Traded(tag) => put_decimal(out, *tag, fields.value(*tag)),
-        Rule::Within(tag, last, other) => {
-            put_within(out, *tag, *last, *other, number_of(fields.value(*tag)))
-        }
-        Rule::Told => put_told(alloc, source, out),
-        Rule::Month => put_month(source, out),
-        Rule::DayOfDate => put_day(source, out),
-        Rule::OrdType => put_type(source, out),
-        Rule::Time => put_time(source, out),
     }
 }
 
@@ -414,96 +350,45 @@ fn lacks_original(source: &Source<'_, '_, '_>) -> bool
 {
     match source.fields.value(41) {
         Some(_) => false,
-        None => source.known.is_none(),
+        None => source.besides.known.is_none(),
     }
 }
 
-/// A tag that is lacking, or none.
-fn tag_if(lacks: bool, tag: u32) -> Option<u32>
-    ensures { result ≡ lack_if lacks tag }
-{
-    if lacks { Some(tag) } else { None }
-}
+impl<'k> OwnRule<Besides<'k>> for Own {
+    ghost writes = { writes };
 
-/// The tag that a rule cannot say, if any.
-#[inline(always)]
-fn lacked(source: &Source<'_, '_, '_>, rule: &Rule) -> Option<u32>
-    ensures { result ≡ lacked source.now rule.now }
-{
-    match rule {
-        Rule::TransType => tag_if(lacks_type(source.codes.exec_type), 150),
-        Rule::Original => tag_if(lacks_original(source), 41),
-        _ => None,
+    ghost lacks = { lacks };
+
+    #[inline(always)]
+    fn lacked(&self, source: &Source<'_, 'k, '_>) -> Option<u32> {
+        match self {
+            Own::TransType => tag_if(lacks_type(source.besides.codes.exec_type), 150),
+            Own::Original => tag_if(lacks_original(source), 41),
+            _ => None,
+        }
     }
-}
 
-/// Appends what a rule says, unless it cannot.
-#[inline(always)]
-fn put_rule(
-    alloc: Global,
-    source: &Source<'_, '_, '_>,
-    rule: &Rule,
-    out: &mut Vec<u8>,
-) -> Result<(), Lack>
-    requires { AreReadableContras source.now.groups.contras }
-    ensures done { OnOk result (out.new.items
-        ≡ out.old.items ++ body_of (writes source.now rule.now)) }
-    ensures said { OnOk result (lacked source.now rule.now ≡ None) }
-    ensures lack { IfErr result (IsLackOf (lacked source.now rule.now)) }
-    ensures kept { StartsWith out.new.items out.old.items }
-{
-    match lacked(source, rule) {
-        Some(tag) => Err(Lack::Tag(tag)),
-        None => Ok(put_said(alloc, source, rule, out)?),
-    }
-}
-
-/// Appends what rules say, up to the first that cannot.
-#[tactic(auto, using(row_values::proofs::Contents::still_kept))]
-fn put_all(
-    alloc: Global,
-    source: &Source<'_, '_, '_>,
-    rules: &[Rule],
-    out: &mut Vec<u8>,
-) -> Result<(), Lack>
-    requires { AreReadableContras source.now.groups.contras }
-    ensures done { OnOk result (out.new.items
-        ≡ out.old.items ++ body_of (flat_map (writes source.now) rules.now)) }
-    ensures said { OnOk result (first_of (lacked source.now) rules.now ≡ None) }
-    ensures lack { IfErr result (IsLackOf (first_of (lacked source.now) rules.now)) }
-    ensures kept { StartsWith out.new.items out.old.items }
-{
-    for rule in rules {
-        put_rule(alloc, source, rule, out)?;
-    }
-    Ok(())
-}
-
-/// Appends what rules say of a report, all or nothing.
-///
-/// # Errors
-///
-/// `Lack::Tag` for the tag of the first rule that cannot say its line, exactly where there is one;
-/// `Lack::NoMemory` for want of memory. Then `out` is unchanged.
-pub(crate) fn put_rules(
-    alloc: Global,
-    source: &Source<'_, '_, '_>,
-    rules: &[Rule],
-    out: &mut Vec<u8>,
-) -> Result<(), Lack>
-    requires { AreReadableContras source.now.groups.contras }
-    ensures done { OnOk result (out.new.items
-        ≡ out.old.items ++ body_of (flat_map (writes source.now) rules.now)) }
-    ensures said { OnOk result (first_of (lacked source.now) rules.now ≡ None) }
-    ensures lack { IfErr result (IsLackOf (first_of (lacked source.now) rules.now)) }
-    ensures err { OnErr result (out.new.items ≡ out.old.items) }
-{
-    let start = out.len();
-    match put_all(alloc, source, rules, out) {
-        Ok(()) => Ok(()),
-        Err(lack) => {
-            out.truncate(start);
-            Err(lack)
+    fn put(&self, source: &Source<'_, 'k, '_>, out: &mut Vec<u8>) -> Result<(), AllocError> {
+        let fields = source.fields;
+        match self {
+            Own::Original => put_original(source, out),
+            Own::PartyOf(role, to) => put_text(out, *to, party(&source.besides.parties, *role)),
+            Own::ExecId => put_exec_id(source, out),
+            Own::TransType => {
+                put_code_if(out, 20, trans_type_if(source.besides.codes.exec_type))
+            }
+            Own::ExecType => put_code_if(out, 150, exec_type_if(&source.besides.codes)),
+            Own::OrdStatus => put_status(source, out),
+            Own::Another(tag) => put_text(out, *tag, fields.value(*tag)),
+            Own::Traded(tag) => put_decimal(out, *tag, fields.value(*tag)),
+            Own::Within(tag, last, other) => {
+                put_within(out, *tag, *last, *other, number_of(fields.value(*tag)))
+            }
+            Own::Told(is_report) => put_told(out, fields, *is_report),
+            Own::Month => put_month(out, fields),
+            Own::DayOfDate => put_day(out, fields.value(541)),
+            Own::OrdType => put_type(source, out),
+            Own::Time => put_time(source, out),
         }
     }
 }

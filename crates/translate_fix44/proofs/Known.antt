@@ -15,7 +15,7 @@ use Rattle.row_values.specs.Kinds.{Kind, judge, row}
 use Rattle.row_values.specs.Lines.{party_cells}
 use Rattle.row_values.proofs.ByTable.{says_parties}
 use Rattle.row_values.proofs.SaidRows.{plain_parties}
-use Rattle.rows_fix50.specs.Header.{completed, month_by}
+use Rattle.rows_fix50.specs.Header.{month_by}
 use Rattle.rows_fix50.specs.Meaning.{id_of}
 use Rattle.rows_fix50.proofs.Roles.{of_role}
 use Rattle.reports_fix50.specs.Message.{cancel_reject_table, report_table}
@@ -23,18 +23,13 @@ use Rattle.sound_laws.proofs.RowsSaid.{row_of_tag}
 use Rattle.rule_rows.specs.ByRules.{outline, outline_of}
 use Rattle.rule_rows.specs.Rows.{have_written_lines}
 use Rattle.rule_rows.proofs.FieldsSaid.{row_says}
-use Rattle.report_rules.specs.CodeRules.{is_month}
-use Rattle.report_rules.proofs.FieldsDown.{at_month, at_other}
-use Rattle.rule_writing.proofs.Written.{AreSaid}
-use Rattle.translate_fix44.specs.CodeRules.{Source, has_terms, month}
+use Rattle.report_rules.specs.CodeRules.{month}
+use Rattle.report_rules.proofs.SourceDown.{at_month, read_by, said}
+use Rattle.translate_fix44.specs.CodeRules.{Source, has_terms}
 use Rattle.translate_fix44.specs.Put.{asked44}
 use Rattle.translate_fix44.specs.Rules.{party}
 use Rattle.translate_fix44.proofs.CodeRead.{IsKnown}
 use Rattle.translate_fix44.proofs.Roles.{HasRoles, three_roles, two_roles}
-
--- the message that fields are by a table
-abbrev pub read_by : Table Kind → List Field → Message
-read_by table fields = completed (message_in judge table fields)
 
 pub few_asked : (fields : List Field) (kind : RequestKind)
     → first_fault judge (asked44 kind) fields ≡ None
@@ -60,10 +55,6 @@ module _ (s : Source) (t : Table Kind) (none : first_fault judge t s.fields.now 
   abbrev m : Message
   m = read_by t fields
 
-  pub said : outline m ≡ outline_of t.items → AreSaid is_month t fields m
-  said there =
-      record { none = none; at_row = at_other fields t; groups = refl; there = there }
-
   -- a message that names an order
   module _ (are : AreParties fields s.besides.parties) (i : ℕ)
       (at : slice_get t.items i ≡ Some (Lines parties))
@@ -78,14 +69,14 @@ module _ (s : Source) (t : Table Kind) (none : first_fault judge t s.fields.now 
 
     pub names_order : s.besides.has_terms ≡ has_terms t → outline m ≡ outline_of t.items
         → list_any (is_place (Tag 200)) (map (λ c. c.0) (message_in judge t fields).cells) ≡ true
-        → month s ≡ month_by (row_says fields (row_of_tag 541 t.items))
+        → month s.fields.now ≡ month_by (row_says fields (row_of_tag 541 t.items))
         (row_says fields (row_of_tag 200 t.items))
         → party_in 3 (group_says judge fields parties).1 ≡ party m 3
         → party_in 1 (group_says judge fields parties).1 ≡ party m 1
         → (if has_terms t then party_in 4 (group_says judge fields parties).1 else None) ≡ party m 4
         → IsKnown s m t
     names_order terms there place of client broker firm = record {
-      said = said there;
+      said = said t fields none there;
       terms = terms;
       order = λ h. record {
         month = of ∙ sym (at_month fields t place);
@@ -141,7 +132,7 @@ pub known_reject : (s : Source) → first_fault judge cancel_reject_table s.fiel
     → s.besides.has_terms ≡ false
     → IsKnown s (read_by cancel_reject_table s.fields.now) cancel_reject_table
 known_reject s none terms = record {
-  said = said s cancel_reject_table none refl;
+  said = said cancel_reject_table s.fields.now none refl;
   terms = terms;
   order = λ h. absurd cc;
 }

@@ -24,6 +24,7 @@ use Rattle.rule_writing.specs.CodeRules.{writes as all_write}
 use Rattle.rule_writing.proofs.Written.{all_lacked, all_written}
 use Rattle.request_rules.proofs.ByType.{letter_of}
 use Rattle.report_rules.proofs.PutDown.{good_eight, is_eight, nine as is_nine}
+use Rattle.report_rules.proofs.SourceDown.{read_by}
 use Rattle.translation.specs.Bodies.{Direction}
 use Rattle.translation.specs.Going.{Appends, AreRead as IsReadAs}
 use Rattle.translation.specs.Header.{type_of}
@@ -35,7 +36,7 @@ use Rattle.translate_fix44.specs.Rules.{Rule, kinds, lacks_role, up_rules}
 use Rattle.translate_fix44.specs.Translation.{up}
 use Rattle.translate_fix44.proofs.CodeRead.{IsKnown, own_goes}
 use Rattle.translate_fix44.proofs.KindsSay.{are_kinds, lacks_none}
-use Rattle.translate_fix44.proofs.Known.{IsKnownRequest, known_request, read_by}
+use Rattle.translate_fix44.proofs.Known.{IsKnownRequest, known_request}
 use Rattle.translate_fix44.proofs.Roles.{roles_lack}
 
 -- ---- rules of the code for a table

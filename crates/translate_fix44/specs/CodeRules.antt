@@ -1,31 +1,28 @@
 -- Inside: the kinds of rules of FIX 4.4 as the code has them, and what it writes by each of what it
 -- has read.
-use Rattle.std.specs.Prelude.{ℕ, ◌==◌, Bool, true, false, not, ◌||◌, ◌&&◌, is_some, List, [], ◌∷◌}
-use Rattle.std.specs.Prelude.{Option, Some, None, codes, if◌then◌else◌}
+use Rattle.std.specs.Prelude.{ℕ, ◌==◌, Bool, not, ◌||◌, ◌&&◌, is_some, List, [], ◌∷◌, Option}
+use Rattle.std.specs.Prelude.{Some, None, codes, if◌then◌else◌}
 use Rattle.std.specs.Borrow.{Bor}
 use Rattle.std.specs.List.{list_any}
 use Rattle.std.specs.Option.{option_map}
-use Rattle.typed_fields.specs.declared.number.Number.{Number}
 use Rattle.field_groups.specs.Field.{Field}
 use Rattle.message_tables.specs.declared.table.Table.{Table as CodeTable}
 use Rattle.message_tables.specs.Content.{cell_fields, group_fields}
 use Rattle.message_tables.specs.Tables.{Said, Table, Tag, ◌>>=◌, code_of, is_one_of}
-use Rattle.value_kinds.specs.ValueKind.{Day, code_text}
+use Rattle.value_kinds.specs.ValueKind.{code_text}
 use Rattle.row_values.specs.declared.kinds.Kind.{Kind as CodeKind}
-use Rattle.row_values.specs.Kinds.{Kind, MonthBeside, Value, said}
+use Rattle.row_values.specs.Kinds.{Kind}
 use Rattle.order_meaning.specs.declared.party.PartyLine.{PartyLine}
-use Rattle.rows_fix50.specs.Header.{month_by}
 use Rattle.rows_fix50.specs.Meaning.{id_of}
 use Rattle.reports_fix50.specs.Sense.{telling}
-use Rattle.sound_laws.proofs.RowsSaid.{row_of_tag}
 use Rattle.rule_rows.specs.ByRules.{lack_if}
 use Rattle.rule_rows.specs.Rules.{By, Same}
 use Rattle.rule_rows.specs.Texts.{Besides as Asks, OfKinds, Own as OwnText, Reading, is_reason}
-use Rattle.rule_rows.specs.Texts.{number_of}
 use Rattle.rule_writing.specs.declared.source.Source.{Source as ReadSource}
 use Rattle.rule_writing.specs.CodeRules.{Code, stands}
 use Rattle.request_rules.specs.Rules.{Broker, Client, Firm, Who, is_unlisted, party_lines}
-use Rattle.report_rules.specs.CodeRules.{is_month, tells_of, within_text}
+use Rattle.report_rules.specs.CodeRules.{has_row, is_month, month, numbered, told, told_reading}
+use Rattle.report_rules.specs.CodeRules.{within_text}
 use Rattle.translate_fix44.specs.declared.rules.Own.{Own as CodeOwn}
 use Rattle.translate_fix44.specs.declared.rules.Own.TheVariants as rules
 use Rattle.translate_fix44.specs.declared.writing.Besides.{Besides}
@@ -49,10 +46,6 @@ rule_of (rules.Told is_report) = By Told
 
 -- ---- what the code reads by a rule
 
--- whether a row says this tag
-abbrev pub has_row : Table Kind → ℕ → Bool
-has_row table tag = is_some (row_of_tag tag table.items)
-
 -- the messages that have the terms of an order, and that name one by its instrument and parties:
 -- all but a cancel reject (9)
 abbrev pub has_terms : Table Kind → Bool
@@ -71,10 +64,7 @@ reading table rules.AtClose = OwnText 40 ∷ OwnText 59 ∷ []
 reading table rules.Parties = Asks (names_order table) ∷ []
 reading table (rules.PartyOf role) = []
 reading table (rules.Within tag last other) = OfKinds is_reason tag ∷ []
-reading table (rules.Told true) = OwnText 58 ∷ OfKinds is_reason 103 ∷ OfKinds is_reason 378
-    ∷ Asks (not (has_row table 102)) ∷ []
-reading table (rules.Told false) = OwnText 58 ∷ OfKinds is_reason 102
-    ∷ Asks (not (has_row table 103)) ∷ Asks (not (has_row table 378)) ∷ []
+reading table (rules.Told is_report) = told_reading table is_report
 
 -- ---- what it writes
 
@@ -89,29 +79,17 @@ source_of fields table parties terms = record {
 }
 
 module _ (s : Source) where
-  -- the code that the value of a tag is, and the number that it spells
+  -- the code that the value of a tag is
   abbrev pub coded : ℕ → Option ℕ
   coded tag = stands s tag >>= code_of
-
-  abbrev pub numbered : ℕ → Option Number
-  numbered tag = number_of (stands s tag)
-
-  -- the month of the maturity
-  abbrev pub month : Said
-  month = month_by (said s.fields.now 541 (Value Day)) (said s.fields.now 200 (MonthBeside 541))
 
   -- the id of the party of role 4, where that has a place
   abbrev pub firm_of : Said
   firm_of = if s.besides.has_terms then id_of 4 s.besides.parties else None
 
-  -- the reasons that FIX 4.2 lacks of an execution report, or of a cancel reject
-  abbrev pub told : Bool → List ℕ
-  told is_report = if is_report then tells_of (numbered 103) (numbered 378) None
-      else tells_of None None (numbered 102)
-
   -- WHAT THE CODE WRITES by a rule
   abbrev pub writes : CodeOwn → List Field
-  writes rules.Month = cell_fields (Tag 200, month)
+  writes rules.Month = cell_fields (Tag 200, month s.fields.now)
   writes rules.HandlInst =
       cell_fields (Tag 21, else_said s.besides.has_terms (stands s 21) (Some (codes "1")))
   writes rules.Original = cell_fields (Tag 41, stands s 41)
@@ -122,8 +100,9 @@ module _ (s : Source) where
       (party_lines (id_of 3 s.besides.parties) (id_of 1 s.besides.parties) firm_of)
   writes (rules.PartyOf role) = []
   writes (rules.Within tag last other) =
-      cell_fields (Tag tag, option_map (within_text last other) (numbered tag))
-  writes (rules.Told is_report) = cell_fields (Tag 58, telling (stands s 58) (told is_report))
+      cell_fields (Tag tag, option_map (within_text last other) (numbered s.fields.now tag))
+  writes (rules.Told is_report) =
+      cell_fields (Tag 58, telling (stands s 58) (told s.fields.now is_report))
 
   -- the tag that it cannot say
   abbrev pub lacks : CodeOwn → Option ℕ

@@ -1,28 +1,22 @@
 //! What the kinds of rules of FIX 4.4 write, and what they cannot say.
 
-ghost use Rattle.std.specs.Prelude.{◌≡◌, ◌++◌, Bool, IfOk, OnOk};
+ghost use Rattle.std.specs.Prelude.{◌≡◌, ◌++◌, OnOk};
 ghost use Rattle.std.specs.Io.{StartsWith};
 ghost use Rattle.std.specs.Option.{option_map};
 ghost use Rattle.field_groups.specs.Field.{body_of};
-ghost use Rattle.message_tables.specs.Content.{cell_fields};
-ghost use Rattle.message_tables.specs.Tables.{Tag};
-ghost use Rattle.reports_fix50.specs.Sense.{telling};
-ghost use Rattle.rule_writing.specs.CodeRules.{stands};
 ghost use Rattle.translate_fix44.specs.declared.rules.Own.TheVariants as rules;
-ghost use Rattle.translate_fix44.specs.CodeRules.{coded, firm_of, lacks, told, writes};
+ghost use Rattle.translate_fix44.specs.CodeRules.{coded, firm_of, lacks, writes};
 ghost use Rattle.translate_fix44.specs.Rules.{is_market_or_limit, lacks_close, turn};
 
 use crate::rules::Own;
 use field_groups::{put_byte, put_field};
 use message_tables::Lookup;
 use order_meaning::Lines;
-use report_rules::{party, put_code_if, put_telling, put_within, tells_of};
+use report_rules::{party, put_code_if, put_month, put_told, put_within};
 use request_rules::{is_unlisted, put_parties};
-use row_values::{Part, Value};
-use rows_fix50::maturity;
-use rule_rows::{code_of, number_of, put_one, put_text};
+use rule_rows::{code_of, number_of, put_text};
 use rule_writing::{OwnRule, tag_if};
-use std::alloc::{AllocError, Global};
+use std::alloc::AllocError;
 
 /// What the rules read beside the fields.
 #[derive(Drop)]
@@ -59,16 +53,6 @@ fn turned(source: &Source<'_, '_>, tag: u32, turns: Option<(u8, u8)>) -> Option<
     }
 }
 
-/// Appends the month of a maturity, which is that of its date, where there is one.
-fn put_month(source: &Source<'_, '_>, out: &mut Vec<u8>) -> Appended
-    ensures done { OnOk result (out.new.items
-        ≡ out.old.items ++ body_of (writes source.now rules.Month)) }
-    ensures kept { StartsWith out.new.items out.old.items }
-{
-    let maturity = maturity(source.fields);
-    put_one(out, Part::Row(200, Value::Month(&maturity)))
-}
-
 /// Appends HandlInst(21), which is 1 in an order that does not say it.
 fn put_hand_inst(source: &Source<'_, '_>, out: &mut Vec<u8>) -> Appended
     ensures done { OnOk result (out.new.items
@@ -94,29 +78,6 @@ fn firm<'s>(source: &'s Source<'_, '_>) -> Option<&'s [u8]>
     } else {
         None
     }
-}
-
-/// The reasons that FIX 4.2 lacks of an execution report, or of a cancel reject.
-fn told(alloc: Global, source: &Source<'_, '_>, is_report: bool) -> Result<Vec<u8>, AllocError>
-    ensures { IfOk result (λ text. text.items ≡ told source.now is_report) }
-{
-    let fields = source.fields;
-    if is_report {
-        let restate = number_of(fields.value(378));
-        tells_of(alloc, number_of(fields.value(103)), restate, None)
-    } else {
-        tells_of(alloc, None, None, number_of(fields.value(102)))
-    }
-}
-
-/// Appends Text(58), which tells these reasons.
-fn put_told(source: &Source<'_, '_>, is_report: bool, out: &mut Vec<u8>) -> Appended
-    ensures done { OnOk result (out.new.items
-        ≡ out.old.items ++ body_of (writes source.now (rules.Told is_report))) }
-    ensures kept { StartsWith out.new.items out.old.items }
-{
-    let told = told(*out.allocator(), source, is_report)?;
-    put_telling(out, 58, source.fields.value(58), &told)
 }
 
 /// Whether an OrdType is market (1) or limit (2).
@@ -163,7 +124,7 @@ impl OwnRule<Besides> for Own {
         let fields = source.fields;
         let parties = &source.besides.parties;
         match self {
-            Own::Month => put_month(source, out),
+            Own::Month => put_month(out, fields),
             Own::HandlInst => put_hand_inst(source, out),
             Own::Original => put_text(out, 41, fields.value(41)),
             Own::Turned(tag, _, turns) => put_code_if(out, *tag, turned(source, *tag, *turns)),
@@ -173,7 +134,7 @@ impl OwnRule<Besides> for Own {
             Own::Within(tag, last, other) => {
                 put_within(out, *tag, *last, *other, number_of(fields.value(*tag)))
             }
-            Own::Told(is_report) => put_told(source, *is_report, out),
+            Own::Told(is_report) => put_told(out, fields, *is_report),
         }
     }
 }

@@ -1,43 +1,65 @@
-use Rattle.std.proofs.Common.{ℕ, List, option_map, subst, sym}
-use Rattle.std.specs.Prelude.{IfErr, OnOk}
-use Rattle.report_rules.specs.Down.{LacksDown, PutsDown}
-use Rattle.report_rules.proofs.PutDown.{good_eight, is_eight, nine}
+use Rattle.std.proofs.Common.{refl, subst, sym}
+use Rattle.std.specs.Prelude.{IsTrue}
+use Rattle.message_tables.specs.Tables.{Table}
+use Rattle.reports_fix50.proofs.Few.{few_parties}
+use Rattle.row_values.specs.Kinds.{Kind}
+use Rattle.rule_rows.specs.Rows.{have_written_lines}
+use Rattle.report_rules.specs.CodeRules.{source_of}
+use Rattle.report_rules.proofs.PutDown.{good_eight, lacking, puts, reject_ruled, report_ruled}
 use Rattle.report_rules.proofs.putting.put_down.Goals as goal
 
-pub put_report-requires : goal.put_report-requires
-put_report-requires c =
-    good_eight c.args.msg_type.now c.args.fields.now c.requires (sym c.if-is_type.ensures)
+pub read_lines-requires : goal.read_lines-requires
+read_lines-requires c = few_parties c.args.fields.now
+    (good_eight c.args.msg_type.now c.args.fields.now c.requires (sym c.if-is_type.ensures))
 
-pub put_cancel_reject-requires : goal.put_cancel_reject-requires
-put_cancel_reject-requires c =
-    (nine c.args.msg_type.now c.args.fields.now c.requires (sym c.if-is_type.ensures)).none
+pub put_rules-requires : goal.put_rules-requires
+put_rules-requires c =
+    let P : Table Kind → Type 0 = λ t. IsTrue (have_written_lines t.items) in
+    subst P (sym c.execution_report.ensures) refl
 
-pub returns-then-is_type-clause-ok : goal.returns-then-is_type-clause-ok
-returns-then-is_type-clause-ok c =
-    let P : List ℕ → Type 0 = λ t. OnOk c.put_report.result (PutsDown t
-    (option_map (λ id. id.now) c.args.known) c.args.fields.now c.args.out.now.items
-    c.put_report.new.out.items) in
-    subst P (is_eight c.args.msg_type.now c.args.fields.now (sym c.if-is_type.ensures))
-    c.put_report.ensures.ok
+pub put_rules-requires-else-is_type : goal.put_rules-requires-else-is_type
+put_rules-requires-else-is_type c =
+    let P : Table Kind → Type 0 = λ t. IsTrue (have_written_lines t.items) in
+    subst P (sym c.cancel_reject.ensures) refl
 
-pub returns-then-is_type-clause-lack : goal.returns-then-is_type-clause-lack
-returns-then-is_type-clause-lack c =
-    let P : List ℕ → Type 0 = λ t. IfErr c.put_report.result (LacksDown t
-    (option_map (λ id. id.now) c.args.known) c.args.fields.now) in
-    subst P (is_eight c.args.msg_type.now c.args.fields.now (sym c.if-is_type.ensures))
-    c.put_report.ensures.lack
+pub returns-in_ok-parties-clause-ok : goal.returns-in_ok-parties-clause-ok
+returns-in_ok-parties-clause-ok c =
+    let s = source_of c.args.fields c.execution_report.result c.report_codes.result
+    c.in_ok-parties.parties c.args.known in
+    puts c.args.msg_type.now s c.report_rules.result.now
+    (report_ruled c.args.msg_type.now s c.report_rules.result.now c.requires
+    (sym c.if-is_type.ensures) c.execution_report.ensures c.in_ok-parties.ensures
+    c.report_codes.ensures c.report_rules.ensures)
+    c.put_rules.result c.args.out.now.items c.put_rules.new.out.items c.put_rules.ensures.said
+    c.put_rules.ensures.done
+
+pub returns-in_ok-parties-clause-lack : goal.returns-in_ok-parties-clause-lack
+returns-in_ok-parties-clause-lack c =
+    let s = source_of c.args.fields c.execution_report.result c.report_codes.result
+    c.in_ok-parties.parties c.args.known in
+    lacking c.args.msg_type.now s c.report_rules.result.now
+    (report_ruled c.args.msg_type.now s c.report_rules.result.now c.requires
+    (sym c.if-is_type.ensures) c.execution_report.ensures c.in_ok-parties.ensures
+    c.report_codes.ensures c.report_rules.ensures)
+    c.put_rules.result c.put_rules.ensures.lack
 
 pub returns-else-is_type-clause-ok : goal.returns-else-is_type-clause-ok
 returns-else-is_type-clause-ok c =
-    let P : List ℕ → Type 0 = λ t. OnOk c.put_cancel_reject.result (PutsDown t
-    (option_map (λ id. id.now) c.args.known) c.args.fields.now c.args.out.now.items
-    c.put_cancel_reject.new.out.items) in
-    subst P (nine c.args.msg_type.now c.args.fields.now c.requires (sym c.if-is_type.ensures)).is
-    c.put_cancel_reject.ensures.ok
+    let s = source_of c.args.fields c.cancel_reject.result c.reject_codes.result c.new.result
+    c.args.known in
+    puts c.args.msg_type.now s c.reject_rules.result.now
+    (reject_ruled c.args.msg_type.now s c.reject_rules.result.now c.requires
+    (sym c.if-is_type.ensures) c.cancel_reject.ensures c.reject_codes.ensures
+    c.reject_rules.ensures)
+    c.put_rules-else-is_type.result c.args.out.now.items c.put_rules-else-is_type.new.out.items
+    c.put_rules-else-is_type.ensures.said c.put_rules-else-is_type.ensures.done
 
 pub returns-else-is_type-clause-lack : goal.returns-else-is_type-clause-lack
 returns-else-is_type-clause-lack c =
-    let P : List ℕ → Type 0 = λ t. IfErr c.put_cancel_reject.result (LacksDown t
-    (option_map (λ id. id.now) c.args.known) c.args.fields.now) in
-    subst P (nine c.args.msg_type.now c.args.fields.now c.requires (sym c.if-is_type.ensures)).is
-    c.put_cancel_reject.ensures.lack
+    let s = source_of c.args.fields c.cancel_reject.result c.reject_codes.result c.new.result
+    c.args.known in
+    lacking c.args.msg_type.now s c.reject_rules.result.now
+    (reject_ruled c.args.msg_type.now s c.reject_rules.result.now c.requires
+    (sym c.if-is_type.ensures) c.cancel_reject.ensures c.reject_codes.ensures
+    c.reject_rules.ensures)
+    c.put_rules-else-is_type.result c.put_rules-else-is_type.ensures.lack

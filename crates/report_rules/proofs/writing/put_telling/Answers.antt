@@ -1,5 +1,5 @@
 use Rattle.std.proofs.Common.{ap, option_map}
-use Rattle.report_rules.proofs.Steps.{joined}
+use Rattle.report_rules.proofs.Telling.{joined}
 use Rattle.report_rules.proofs.writing.put_telling.Goals as goal
 
 pub returns-in_default-Some-clause-done : goal.returns-in_default-Some-clause-done
