@@ -8,8 +8,9 @@ ghost use Rattle.request_rules.specs.Put.{IsPut, Lacks};
 
 use crate::reading::Good;
 use crate::rules::up_rules;
-use crate::writing::{first_lack, put_rules};
+use crate::writing::{Source, first_lack};
 use order_meaning::Lack;
+use rule_writing::put_rules;
 
 /// Appends the content of FIX 5.0 SP2 of a request, rule by rule.
 ///
@@ -23,11 +24,12 @@ pub fn put_up(good: &Good<'_, '_>, out: &mut Vec<u8>) -> Result<(), Lack>
     ensures lack { IfErr result (Lacks (said good.now)) }
     ensures err { OnErr result (out.new.items ≡ out.old.items) }
 {
-    let rules = up_rules();
-    match first_lack(good.fields) {
-        Some(tag) => Err(Lack::Tag(tag)),
-        None => Ok(put_rules(good, rules, out)?),
-    }
+    let source = Source {
+        fields: good.fields,
+        table: good.table,
+        besides: (),
+    };
+    put_rules(&source, up_rules(), out)
 }
 
 /// The tag of what FIX 5.0 SP2 cannot say of a request: 59 before 47. It takes no memory.

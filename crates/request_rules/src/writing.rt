@@ -1,27 +1,27 @@
 //! Writing the content of FIX 5.0 SP2 rule by rule.
 
-ghost use Rattle.std.specs.Prelude.{◌≡◌, ◌++◌, IsTrue, OnErr, OnOk, length};
+ghost use Rattle.std.specs.Prelude.{◌≡◌, ◌++◌, OnOk, length};
 ghost use Rattle.std.specs.Io.{StartsWith};
-ghost use Rattle.std.specs.List.{flat_map};
 ghost use Rattle.std.specs.Option.{option_map};
 ghost use Rattle.field_groups.specs.Field.{body_of};
 ghost use Rattle.message_tables.specs.Content.{cell_fields, group_fields};
 ghost use Rattle.message_tables.specs.Tables.{Tag, first_of, value_at};
 ghost use Rattle.party_translate.specs.Parties.{line_of};
 ghost use Rattle.rows_fix42.specs.Meaning.{is_on_close};
-ghost use Rattle.rule_rows.specs.Rows.{have_written_lines};
-ghost use Rattle.request_rules.specs.CodeRules.{party_fields, writes, wrote};
-ghost use Rattle.request_rules.specs.Good.{table};
+ghost use Rattle.request_rules.specs.CodeRules.{date, lacks, month, party_fields, writes};
 ghost use Rattle.request_rules.specs.Rules.{is_late, is_unlisted, party_lines, rule_lack};
 ghost use Rattle.request_rules.specs.Rules.{time_up, type_up, up_rules};
 
-use crate::reading::Good;
-use crate::rules::Rule;
+use crate::rules::Own;
 use field_groups::{Fields, put_byte, put_field, put_number};
 use message_tables::Lookup;
 use row_values::{Part, Value, month_and_day};
-use rule_rows::{code_of, put_count, put_decimal, put_lines, put_one, put_text};
+use rule_rows::{code_of, put_count, put_one, put_text};
+use rule_writing::{OwnRule, tag_if};
 use std::alloc::AllocError;
+
+/// What the rules read.
+pub(crate) type Source<'f, 'a> = rule_writing::Source<'f, 'a, ()>;
 
 /// TimeInForce(59): at the close.
 const AT_CLOSE: u8 = b'7';
@@ -72,15 +72,15 @@ fn put_time(out: &mut Vec<u8>, ord_type: Option<&[u8]>, time: Option<&[u8]>) -> 
 }
 
 /// Appends the month of a maturity.
-fn put_month(out: &mut Vec<u8>, good: &Good<'_, '_>) -> Appended
-    ensures done { OnOk result (out.new.items ≡ out.old.items ++ body_of
-        (wrote (table good.now) good.now.fields.now Rule.Month)) }
+fn put_month(out: &mut Vec<u8>, fields: &Fields<'_>) -> Appended
+    ensures done { OnOk result (out.new.items
+        ≡ out.old.items ++ body_of (cell_fields (Tag 200, month fields.now))) }
     ensures kept { StartsWith out.new.items out.old.items }
 {
-    match good.fields.value(200) {
+    match fields.value(200) {
         None => Ok(()),
         Some(_) => {
-            let maturity = month_and_day(good.fields);
+            let maturity = month_and_day(fields);
             put_one(out, Part::Row(200, Value::Month(&maturity)))
         }
     }
@@ -88,15 +88,15 @@ fn put_month(out: &mut Vec<u8>, good: &Good<'_, '_>) -> Appended
 
 /// Appends the date of a maturity that has a day.
 #[tactic(auto, using(crate::proofs::DateWritten::date_written))]
-fn put_date(out: &mut Vec<u8>, good: &Good<'_, '_>) -> Appended
-    ensures done { OnOk result (out.new.items ≡ out.old.items ++ body_of
-        (wrote (table good.now) good.now.fields.now Rule.Date)) }
+fn put_date(out: &mut Vec<u8>, fields: &Fields<'_>) -> Appended
+    ensures done { OnOk result (out.new.items
+        ≡ out.old.items ++ body_of (cell_fields (Tag 541, date fields.now))) }
     ensures kept { StartsWith out.new.items out.old.items }
 {
-    match good.fields.value(200) {
+    match fields.value(200) {
         None => Ok(()),
         Some(_) => {
-            let maturity = month_and_day(good.fields);
+            let maturity = month_and_day(fields);
             put_one(out, Part::Row(541, Value::Date(&maturity)))
         }
     }
@@ -150,31 +150,6 @@ pub fn put_parties(
     put_party(out, firm, 4)
 }
 
-/// Appends what a rule says that can say it.
-fn put_said(good: &Good<'_, '_>, rule: &Rule, out: &mut Vec<u8>) -> Appended
-    requires { IsTrue (have_written_lines (table good.now).items) }
-    ensures done { OnOk result (out.new.items
-        ≡ out.old.items ++ body_of (writes good.now rule.now)) }
-    ensures kept { StartsWith out.new.items out.old.items }
-{
-    let fields = good.fields;
-    match rule {
-        Rule::Same(tag) => put_text(out, *tag, fields.value(*tag)),
-        Rule::Decimal(tag) => put_decimal(out, *tag, fields.value(*tag)),
-        Rule::Moved(from, to) => put_decimal(out, *to, fields.value(*from)),
-        Rule::Listed(from, to, _) => put_text(out, *to, fields.value(*from)),
-        Rule::Parties => put_parties(out, fields.value(109), fields.value(76), fields.value(439)),
-        Rule::Client => Ok(()),
-        Rule::Broker => Ok(()),
-        Rule::Firm => Ok(()),
-        Rule::Month => put_month(out, good),
-        Rule::Date => put_date(out, good),
-        Rule::OrdType => put_type(out, fields.value(40)),
-        Rule::Time => put_time(out, fields.value(40), fields.value(59)),
-        Rule::Lines(count) => put_lines(out, fields, good.table, *count),
-    }
-}
-
 /// Whether an order on close has another time.
 fn is_late(ord_type: Option<u8>, time: Option<u8>) -> bool
     ensures { result ≡ is_late ord_type time }
@@ -210,33 +185,38 @@ pub(crate) fn first_lack(fields: &Fields<'_>) -> Option<u32>
     }
 }
 
-/// Appends what rules say that can say it.
-#[tactic(auto, using(row_values::proofs::Contents::still_kept))]
-fn put_all(good: &Good<'_, '_>, rules: &[Rule], out: &mut Vec<u8>) -> Appended
-    requires { IsTrue (have_written_lines (table good.now).items) }
-    ensures done { OnOk result (out.new.items
-        ≡ out.old.items ++ body_of (flat_map (writes good.now) rules.now)) }
-    ensures kept { StartsWith out.new.items out.old.items }
-{
-    for rule in rules {
-        put_said(good, rule, out)?;
-    }
-    Ok(())
-}
+impl OwnRule<()> for Own {
+    ghost writes = { writes };
 
-/// Appends what rules say that can say it, all or nothing.
-pub(crate) fn put_rules(good: &Good<'_, '_>, rules: &[Rule], out: &mut Vec<u8>) -> Appended
-    requires { IsTrue (have_written_lines (table good.now).items) }
-    ensures done { OnOk result (out.new.items
-        ≡ out.old.items ++ body_of (flat_map (writes good.now) rules.now)) }
-    ensures err { OnErr result (out.new.items ≡ out.old.items) }
-{
-    let start = out.len();
-    match put_all(good, rules, out) {
-        Ok(()) => Ok(()),
-        Err(error) => {
-            out.truncate(start);
-            Err(error)
+    ghost lacks = { lacks };
+
+    #[inline(always)]
+    fn lacked(&self, source: &Source<'_, '_>) -> Option<u32> {
+        let fields = source.fields;
+        match self {
+            Own::Listed(from, _, listed) => {
+                tag_if(is_unlisted(listed, code_of(fields.value(*from))), *from)
+            }
+            Own::Time => {
+                let ord_type = code_of(fields.value(40));
+                tag_if(is_late(ord_type, code_of(fields.value(59))), 59)
+            }
+            _ => None,
+        }
+    }
+
+    fn put(&self, source: &Source<'_, '_>, out: &mut Vec<u8>) -> Result<(), AllocError> {
+        let fields = source.fields;
+        match self {
+            Own::Listed(from, to, _) => put_text(out, *to, fields.value(*from)),
+            Own::Parties => {
+                put_parties(out, fields.value(109), fields.value(76), fields.value(439))
+            }
+            Own::PartyOf(_) => Ok(()),
+            Own::Month => put_month(out, fields),
+            Own::Date => put_date(out, fields),
+            Own::OrdType => put_type(out, fields.value(40)),
+            Own::Time => put_time(out, fields.value(40), fields.value(59)),
         }
     }
 }

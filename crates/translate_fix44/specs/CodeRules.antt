@@ -20,7 +20,8 @@ use Rattle.rule_rows.specs.Rules.{By, Same}
 use Rattle.rule_rows.specs.Texts.{Besides as Asks, OfKinds, Own as OwnText, Reading, is_reason}
 use Rattle.rule_writing.specs.declared.source.Source.{Source as ReadSource}
 use Rattle.rule_writing.specs.CodeRules.{Code, stands}
-use Rattle.request_rules.specs.Rules.{Broker, Client, Firm, Who, is_unlisted, party_lines}
+use Rattle.request_rules.specs.CodeRules.{who_of}
+use Rattle.request_rules.specs.Rules.{is_unlisted, party_lines}
 use Rattle.report_rules.specs.CodeRules.{has_row, is_month, month, numbered, told, told_reading}
 use Rattle.report_rules.specs.CodeRules.{within_text}
 use Rattle.translate_fix44.specs.declared.rules.Own.{Own as CodeOwn}
@@ -30,9 +31,6 @@ use Rattle.translate_fix44.specs.Rules.{Own, Rule, Else, Turned, AtClose, Partie
 use Rattle.translate_fix44.specs.Rules.{Told, else_said, lacks_close, own_kinds, turn}
 
 -- the rule that a kind of the code is, with no original id known
-abbrev pub who_of : ℕ → Who
-who_of role = if role == 3 then Client else (if role == 1 then Broker else Firm)
-
 abbrev pub rule_of : CodeOwn → Rule
 rule_of rules.Month = Same 200
 rule_of rules.HandlInst = By (Else 21 (Some (codes "1")))
