@@ -13,7 +13,10 @@ use Rattle.message_tables.specs.FirstFault.{message_in, message_of, unless}
 use Rattle.message_tables.specs.Content.{content}
 use Rattle.row_values.specs.Kinds.{Kind, judge}
 use Rattle.first_faults.specs.Faults.{told}
+use Rattle.rows_fix50.specs.Header.{completed_by}
+use Rattle.sound_laws.specs.Complete.{HasMonthOfDate}
 use Rattle.sound_laws.specs.Sound.{IsSound, places_of, without_resend}
+use Rattle.sound_laws.proofs.Completed.{completed_again}
 use Rattle.sound_laws.proofs.Each.{are_apart}
 use Rattle.sound_laws.proofs.Lookups.{places_apart}
 use Rattle.sound_laws.proofs.Stages.{item_tags, value_none}
@@ -65,3 +68,10 @@ module _ (table : Table Kind) (m : Message)
         let none = again.no_fault judge table m [] is sound.items in
         ap (λ (f : Option TableFault). told (unless f (message_in judge table body))) none
         ∙ ap (λ (x : Message). Ok x) same_message
+
+    -- and completed, where it says the month of its date
+    pub content_again : HasMonthOfDate m
+        → completed_by (told (message_of judge table body)) ≡ Ok (without_resend m)
+    content_again month =
+        ap completed_by read_again ∙ ap (λ (x : Message). Ok x) (completed_again m month
+        (ap places_apart sound.places ∙ fits.places_are_apart table m [] fit) false)

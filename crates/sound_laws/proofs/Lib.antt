@@ -11,6 +11,7 @@ pub mod Lookups
 pub mod PlainFields
 pub mod PlainRows
 pub mod ReadAgain
+pub mod ReadComplete
 pub mod ReadSound
 pub mod RowsSaid
 pub mod ShortDays

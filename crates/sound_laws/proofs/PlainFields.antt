@@ -60,14 +60,18 @@ unfoldable pub times : ℕ → ℕ → ℕ
 times zero k = 0
 times (suc n) k = k + times n k
 
-abbrev pub most : {Kind : Type 0} → Item Kind → ℕ
-most (One row) = 1
-most (Party role) = 0
-most (Lines group) = 1 + times 32 (length group.rows)
+-- where a group of a count has at most so many lines
+abbrev most : {Kind : Type 0} → (ℕ → ℕ) → Item Kind → ℕ
+most limit (One row) = 1
+most limit (Party role) = 0
+most limit (Lines group) = 1 + times (limit group.count) (length group.rows)
+
+abbrev pub most_within : {Kind : Type 0} → (limit : ℕ → ℕ) → List (Item Kind) → ℕ
+most_within limit [] = 0
+most_within limit (item ∷ items) = most limit item + most_within limit items
 
 abbrev pub most_of : {Kind : Type 0} → List (Item Kind) → ℕ
-most_of [] = 0
-most_of (item ∷ items) = most item + most_of items
+most_of items = most_within (λ count. 32) items
 
 times_grows : (n m k : ℕ) → n ≤ m → times n k ≤ times m k
 unfolding times
@@ -136,13 +140,13 @@ module _ {Kind : Type 0} (judge : Judge Kind) where
         lines_plain rows (line ∷ lines) tags said,
       )
 
-  group_length : (count : ℕ) (rows : List (Row Kind)) (lines : List (List Cell))
-      → length lines ≤ 32 → AllByRecursion (IsLine judge rows) lines →
-      length (group_fields count lines) ≤ 1 + times 32 (length rows)
-  group_length count rows [] few said = omega arith
-  group_length count rows (line ∷ lines) few said =
+  group_length : (count n : ℕ) (rows : List (Row Kind)) (lines : List (List Cell))
+      → length lines ≤ n → AllByRecursion (IsLine judge rows) lines →
+      length (group_fields count lines) ≤ 1 + times n (length rows)
+  group_length count n rows [] few said = omega arith
+  group_length count n rows (line ∷ lines) few said =
       let whole = lines_length rows (line ∷ lines) said in
-      let grown = times_grows (length (line ∷ lines)) 32 (length rows) few in
+      let grown = times_grows (length (line ∷ lines)) n (length rows) few in
       omega (arith, whole, grown)
 
   module _ (fields : List Field) (m : Message) where
@@ -165,20 +169,23 @@ module _ {Kind : Type 0} (judge : Judge Kind) where
         each_joined IsPlainField (item_fields m item) (flat_map (item_fields m) items)
         (item_plain item g.0 said.0) (items_plain items g.1 said.1)
 
-    item_length : (item : Item Kind) → IsItem judge fields m item
-        → length (item_fields m item) ≤ most item
-    item_length (One row) said = cell_length (Tag row.tag) (said_at m.cells (Tag row.tag))
-    item_length (Party role) said = omega arith
-    item_length (Lines group) said =
-        group_length group.count group.rows (lines_of group.count m.groups) said.few said.said
+    module _ (limit : ℕ → ℕ) (within : (count : ℕ) → length (lines_of count m.groups) ≤ 32
+        → length (lines_of count m.groups) ≤ limit count) where
+      item_length : (item : Item Kind) → IsItem judge fields m item
+          → length (item_fields m item) ≤ most limit item
+      item_length (One row) said = cell_length (Tag row.tag) (said_at m.cells (Tag row.tag))
+      item_length (Party role) said = omega arith
+      item_length (Lines group) said =
+          group_length group.count (limit group.count) group.rows (lines_of group.count m.groups)
+          (within group.count said.few) said.said
 
-    items_length : (items : List (Item Kind)) → AllByRecursion (IsItem judge fields m) items
-        → length (flat_map (item_fields m) items) ≤ most_of items
-    items_length [] said = omega arith
-    items_length (item ∷ items) said =
-        let one = item_length item said.0 in let rest = items_length items said.1 in
-        let joined = length-append (item_fields m item) (flat_map (item_fields m) items) in
-        omega (arith, one, rest, joined)
+      items_length : (items : List (Item Kind)) → AllByRecursion (IsItem judge fields m) items
+          → length (flat_map (item_fields m) items) ≤ most_within limit items
+      items_length [] said = omega arith
+      items_length (item ∷ items) said =
+          let one = item_length item said.0 in let rest = items_length items said.1 in
+          let joined = length-append (item_fields m item) (flat_map (item_fields m) items) in
+          omega (arith, one, rest, joined)
 
 pub all_of : (fields : List Field) → Plains fields → All IsPlainField fields
 all_of [] h = search rules
@@ -189,16 +196,26 @@ pub record AreFew (fields : List Field) : Type 0 where
   pub plain : Plains fields
   pub few : length fields ≤ 240
 
--- THE CONTENT OF A SOUND MESSAGE has such fields.
-pub few_of : {Kind : Type 0} (judge : Judge Kind) (table : Table Kind) (m : Message)
-    → list_all has_good_tags table.items ≡ true → most_of table.items ≤ 240
+-- THE CONTENT OF A SOUND MESSAGE has such fields,
+pub few_within : {Kind : Type 0} (judge : Judge Kind) (table : Table Kind) (m : Message)
+    (limit : ℕ → ℕ)
+    → list_all has_good_tags table.items ≡ true → most_within limit table.items ≤ 240
+    → ((count : ℕ) → length (lines_of count m.groups) ≤ 32
+    → length (lines_of count m.groups) ≤ limit count)
     → IsSound judge table m → AreFew (content table m)
-few_of judge table m good most sound =
-    let few = items_length judge (content table m) m table.items sound.items in
+few_within judge table m limit good most within sound =
+    let few = items_length judge (content table m) m limit within table.items sound.items in
     record {
       plain = items_plain judge (content table m) m table.items good sound.items;
       few = omega (arith, few, most);
     }
+
+-- where each of its groups may have 32 lines.
+pub few_of : {Kind : Type 0} (judge : Judge Kind) (table : Table Kind) (m : Message)
+    → list_all has_good_tags table.items ≡ true → most_of table.items ≤ 240
+    → IsSound judge table m → AreFew (content table m)
+few_of judge table m good most sound =
+    few_within judge table m (λ count. 32) good most (λ count few. few) sound
 
 -- fields of a body have no SOH, but where they are raw data
 pub clear_fields : {Kind : Type 0} (judge : Judge Kind) (before : Option Field)
