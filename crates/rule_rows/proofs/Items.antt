@@ -4,7 +4,7 @@ use Rattle.std.proofs.Common.{◌≡◌, ℕ, List, [], ◌∷◌, Bool, true, f
 use Rattle.std.proofs.Common.{sym, ap, subst, ◌∙◌}
 use Rattle.std.proofs.lemmas.Bool.{eqb-true}
 use Rattle.std.specs.Option.{option_map}
-use Rattle.std.specs.Prelude.{◌||◌, ◌&&◌, ◌==◌, is_some, if◌then◌else◌}
+use Rattle.std.specs.Prelude.{◌||◌, ◌&&◌, ◌==◌, is_some, if◌then◌else◌, IfSome}
 use Rattle.std.specs.List.{AllByRecursion, flat_map, list_any}
 use Rattle.message_tables.specs.Tables.{Need, Required, Optional, Lenient, Place, Tag, Row, Item}
 use Rattle.message_tables.specs.Tables.{One, Party, Lines, RepeatingGroup, is_place}
@@ -18,6 +18,10 @@ use Rattle.rule_rows.proofs.Made.{target_if, target_of}
 
 abbrev pub has_row : List (Item Kind) → ℕ → Bool
 has_row items tag = is_some (row_of_tag tag items)
+
+-- where the items have the row of a tag, it is this one
+abbrev pub IsRow : List (Item Kind) → Row Kind → Type 0
+IsRow items row = IfSome (row_of_tag row.tag items) (λ other. other ≡ row)
 
 -- ---- places are those of rows
 

@@ -1,3 +1,4 @@
+pub mod Carried
 pub mod FieldsSaid
 pub mod Items
 pub mod LinesSaid

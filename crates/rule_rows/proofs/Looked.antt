@@ -9,7 +9,8 @@ use Rattle.message_tables.specs.Tables.{Place, Tag, Role, Said, Cell, Message, i
 use Rattle.message_tables.specs.Tables.{said_at}
 use Rattle.sound_laws.proofs.Each.{both, either, none_each}
 use Rattle.rule_rows.specs.ByRules.{Target, At, Grouped, Kinds, by_rules, cells_at, groups_at}
-use Rattle.rule_rows.specs.ByRules.{has_any, has_place, lack_by, outline, rule_cells, rule_groups}
+use Rattle.rule_rows.specs.ByRules.{has_any, has_place, lack_by, lack_if, outline, rule_cells}
+use Rattle.rule_rows.specs.ByRules.{rule_groups}
 
 -- ---- what the source does not have says nothing
 
@@ -215,3 +216,8 @@ module _ {Rule : Type 0} (kinds : Kinds Rule) where
       by [] found fit lack = tt
       by (rule ∷ rules) found fit lack =
           (each rule found.0 fit.0 lack.0, by rules found.1 fit.1 lack.1)
+
+-- no lack of a tag, where it would be lacking if this held
+pub no_lack : (lacks : Bool) (tag : ℕ) → lack_if lacks tag ≡ None → lacks ≡ false
+no_lack true tag h = absurd cc
+no_lack false tag h = refl

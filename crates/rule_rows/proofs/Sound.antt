@@ -2,19 +2,19 @@
 -- item that it says: the shapes of such items, whatever the kinds of the rules are.
 use Rattle.std.proofs.Common.{◌≡◌, ℕ, List, [], ◌∷◌, Bool, true, false, Option, Some, None, refl}
 use Rattle.std.proofs.Common.{sym, ap, subst, ◌∙◌, append-nil}
-use Rattle.std.proofs.lemmas.Bool.{eqb-true}
-use Rattle.std.specs.Prelude.{IfSome, option_to_list, ◌||◌, ◌==◌}
+use Rattle.std.specs.Prelude.{IfSome, option_to_list, is_some, ◌||◌, ◌==◌}
 use Rattle.std.specs.List.{AllByRecursion, flat_map}
+use Rattle.std.proofs.lemmas.Bool.{eqb-true}
 use Rattle.field_groups.specs.Field.{Field}
 use Rattle.message_tables.specs.Tables.{Row, Item, One, Party, Lines, RepeatingGroup, Message}
-use Rattle.message_tables.specs.Tables.{Place, Tag, Role, Said, Cell, Table, said_at, groups_of}
-use Rattle.message_tables.specs.Tables.{value_at, lines_of, party_in}
+use Rattle.message_tables.specs.Tables.{Place, Tag, Said, Cell, Table, said_at, groups_of, value_at}
+use Rattle.message_tables.specs.Tables.{lines_of, Role, party_in}
 use Rattle.message_tables.specs.Content.{content}
 use Rattle.row_values.specs.Kinds.{Kind, judge}
 use Rattle.sound_laws.specs.Sound.{IsGroup, IsItem, IsSaid, IsSound}
 use Rattle.sound_laws.proofs.ContentValues.{GroupSaid, is_alone, value_said}
 use Rattle.sound_laws.proofs.RowsSaid.{row_of_tag}
-use Rattle.rule_rows.specs.ByRules.{At, Grouped, Kinds, by_rules, has_any, has_place, outline_of}
+use Rattle.rule_rows.specs.ByRules.{At, Grouped, Kinds, by_rules, has_any, outline_of, has_place}
 use Rattle.rule_rows.specs.Rows.{group_at}
 use Rattle.rule_rows.proofs.Items.{can_go, count_is, has_one, has_row, item_if, may_go, row_there}
 use Rattle.rule_rows.proofs.Items.{turned, turned_group}
@@ -27,6 +27,12 @@ use Rattle.rule_rows.proofs.Source as source
 pub may_fit : (row : Option (Row Kind)) → may_go row ≡ true → IfSome row (λ row. can_go row ≡ true)
 may_fit None h = tt
 may_fit (Some row) h = h
+
+-- what holds of a row that is found, and that there is one
+pub with_there : (P : Row Kind → Type 0) (row : Option (Row Kind)) → IfSome row P
+    → IfSome row (λ one. P one × (is_some row ≡ true))
+with_there P None h = tt
+with_there P (Some row) h = (h, refl)
 
 -- of whatever stands there
 pub whatever : {A : Type 0} (some : Option A) → IfSome some (λ one. Unit {0})

@@ -1,11 +1,13 @@
 -- What a sound message says at the rows and groups of its table.
 use Rattle.std.proofs.Common.{◌≡◌, ℕ, List, Bool, true, false, Option, Some, None, refl, sym, ap}
-use Rattle.std.proofs.Common.{subst, ◌∙◌}
-use Rattle.std.specs.Prelude.{IsSome, IfSome, is_some}
+use Rattle.std.proofs.Common.{subst, ◌∙◌, [], ◌∷◌}
+use Rattle.std.specs.Prelude.{IsSome, IfSome, is_some, ◌||◌, ◌==◌}
+use Rattle.std.specs.List.{AllByRecursion}
+use Rattle.std.proofs.lemmas.Bool.{eqb-true}
 use Rattle.field_groups.specs.Field.{Field}
-use Rattle.message_tables.specs.Tables.{Need, Required, Optional, Lenient, Row, RepeatingGroup}
-use Rattle.message_tables.specs.Tables.{Message, Said, Tag, Spells, Table, said_at, lines_of}
-use Rattle.message_tables.specs.Tables.{is_needed, value_at}
+use Rattle.message_tables.specs.Tables.{Required, Row, RepeatingGroup, Message, Said, Tag, Spells}
+use Rattle.message_tables.specs.Tables.{Table, said_at, lines_of, is_needed, value_at, Item, One}
+use Rattle.message_tables.specs.Tables.{Party, Lines, Role, party_in, Need, Optional, Lenient}
 use Rattle.message_tables.specs.Content.{content}
 use Rattle.row_values.specs.Kinds.{Kind, judge}
 use Rattle.sound_laws.specs.Sound.{IsClear, IsSaid, IsGroup, IsItem, IsSound}
@@ -15,7 +17,7 @@ use Rattle.sound_laws.proofs.ContentValues.{groups_said, is_alone, value_said}
 use Rattle.rule_rows.specs.ByRules.{has_place, outline, outline_of}
 use Rattle.rule_rows.proofs.Looked.{none_at}
 use Rattle.rule_rows.specs.Rows.{group_at}
-use Rattle.rule_rows.proofs.Items.{group_found, has_row, row_there}
+use Rattle.rule_rows.proofs.Items.{group_found, has_row, row_there, IsRow}
 
 -- what is said by a canonical spelling without SOH
 pub record IsSpelled (fields : List Field) (kind : Kind) (said : Said) : Type 0 where
@@ -75,8 +77,7 @@ module _ (table : Table Kind) (m : Message) (sound : IsSound judge table m) wher
       (ap (λ o. has_place o (Tag tag)) outline_is ∙ row_there table.items tag ∙ ap is_some e)
 
   -- what is said at the tag of this row, where the table has it
-  pub spelled_by : (row : Row Kind)
-      → IfSome (row_of_tag row.tag table.items) (λ other. other ≡ row)
+  pub spelled_by : (row : Row Kind) → IsRow table.items row
       → IsSpelled fields row.kind (at row.tag)
   spelled_by row is = by (row_of_tag row.tag table.items) refl is
     where
@@ -91,8 +92,7 @@ module _ (table : Table Kind) (m : Message) (sound : IsSound judge table m) wher
 
   -- a row that the table has, and each message says
   pub is_there : (row : Row Kind) → (need : row.need ≡ Required)
-      → has_row table.items row.tag ≡ true
-      → IfSome (row_of_tag row.tag table.items) (λ other. other ≡ row) → IsSome (at row.tag)
+      → has_row table.items row.tag ≡ true → IsRow table.items row → IsSome (at row.tag)
   is_there row need there is = by (row_of_tag row.tag table.items) refl there is
     where
       by : (o : Option (Row Kind)) → row_of_tag row.tag table.items ≡ o → is_some o ≡ true
@@ -114,3 +114,28 @@ module _ (table : Table Kind) (m : Message) (sound : IsSound judge table m) wher
       let P : ℕ → Type 0 = λ c. IsGroup judge group (lines_of c m.groups) in
       let found = group_found (IsItem judge fields m) count table.items group e sound.items in
       subst P found.0 found.1
+
+  -- the party of a role that has a place
+  role_in : (some : List (Item Kind)) (role : ℕ)
+      → has_place (outline_of some) (Role role) ≡ true
+      → AllByRecursion (IsItem judge fields m) some
+      → said_at m.cells (Role role) ≡ party_in role (lines_of 453 m.groups)
+  role_in [] role has said = absurd cc
+  role_in (One row ∷ some) role has said = role_in some role has said.1
+  role_in (Lines group ∷ some) role has said = role_in some role has said.1
+  role_in (Party first ∷ some) role has said =
+      by (first == role) refl has (λ later. role_in some role later said.1)
+    where
+      by : (b : Bool) → (first == role) ≡ b → (b || has_place (outline_of some) (Role role)) ≡ true
+          → (has_place (outline_of some) (Role role) ≡ true
+          → said_at m.cells (Role role) ≡ party_in role (lines_of 453 m.groups))
+          → said_at m.cells (Role role) ≡ party_in role (lines_of 453 m.groups)
+      by true e h later =
+          let P : ℕ → Type 0 =
+          λ r. said_at m.cells (Role r) ≡ party_in r (lines_of 453 m.groups) in
+          subst P (eqb-true first role e) said.0
+      by false e h later = later h
+
+  pub role_is : (role : ℕ) → has_place (outline_of table.items) (Role role) ≡ true
+      → said_at m.cells (Role role) ≡ party_in role (lines_of 453 m.groups)
+  role_is role has = role_in table.items role has sound.items
