@@ -27,6 +27,23 @@ module _ (d : Direction) where
   IsFair = (fields : List Field) → AreFields None fields → (m w : Message)
       → d.source (type_of fields) fields None ≡ Ok m → d.goes m ≡ Ok w → Keeps fields m w
 
+  -- ---- fields that were judged, in place of those of a body
+
+  module _ (fields good : List Field) (stopped : Option SplitFault) (same : good ≡ fields)
+      (whole : stopped ≡ None) (r : Result (Unit {0}) TranslateError) where
+    pub appends_of : (before after : List ℕ) → OnOk r (Appends d good None before after)
+        → OnOk r (Appends d fields stopped before after)
+    appends_of before after h =
+        let P : List Field → Type 0 = λ f. OnOk r (Appends d f None before after) in
+        let Q : Option SplitFault → Type 0 = λ s. OnOk r (Appends d fields s before after) in
+        subst Q (sym whole) (subst P same h)
+
+    pub stays_of : IfErr r (StayBack d good None) → IfErr r (StayBack d fields stopped)
+    stays_of h =
+        let P : List Field → Type 0 = λ f. IfErr r (StayBack d f None) in
+        let Q : Option SplitFault → Type 0 = λ s. IfErr r (StayBack d fields s) in
+        subst Q (sym whole) (subst P same h)
+
   module _ (fields : List Field) (stopped : Option SplitFault) where
     -- what is appended makes no body shorter
     pub grows : (before after : List ℕ) → Appends d fields stopped before after
