@@ -22,6 +22,7 @@ use Rattle.translation.specs.Judged.{AreGood, AreGoodBy}
 use Rattle.translation.specs.declared.error.TranslateError.{TranslateError}
 use Rattle.report_translate.specs.Reading.{is_report, report_message}
 use Rattle.translation.specs.Going.{Appends, StayBack}
+use Rattle.translation.proofs.Going.{appends_of, stays_of}
 use Rattle.report_translate.specs.Translation.{down}
 use Rattle.report_translate.proofs.GoodFields.{of_good, read_8, read_9}
 
@@ -100,24 +101,14 @@ pub ruleset of_put = (is_good, appended, refused)
 
 module _ (fields good : List Field) (stopped : Option SplitFault)
     (are : AreGood (report_table_of (type_of fields)) fields stopped good) where
-  appends_of : (before after : List ℕ) → Appends down good None before after
-      → Appends down fields stopped before after
-  appends_of before after h =
-      let P : List Field → Type 0 = λ f. Appends down f None before after in
-      let Q : Option SplitFault → Type 0 = λ s. Appends down fields s before after in
-      subst Q (sym are.whole) (subst P are.same h)
-
-  pub appends_of_if : (r : Result (Unit {0}) TranslateError) (before after : List ℕ)
-      → OnOk r (Appends down good None before after) → OnOk r (Appends down fields stopped before after)
-  appends_of_if (Ok done) before after h = appends_of before after h
-  appends_of_if (Err error) before after h = tt
+  pub appends_if : (r : Result (Unit {0}) TranslateError) (before after : List ℕ)
+      → OnOk r (Appends down good None before after)
+      → OnOk r (Appends down fields stopped before after)
+  appends_if r before after h =
+      appends_of down fields good stopped are.same are.whole r before after h
 
   pub refuses_if : (r : Result (Unit {0}) TranslateError) → IfErr r (StayBack down good None)
       → IfErr r (StayBack down fields stopped)
-  refuses_if (Ok done) h = tt
-  refuses_if (Err error) h =
-      let P : List Field → Type 0 = λ f. StayBack down f None error in
-      let Q : Option SplitFault → Type 0 = λ s. StayBack down fields s error in
-      subst Q (sym are.whole) (subst P are.same h)
+  refuses_if r h = stays_of down fields good stopped are.same are.whole r h
 
-pub ruleset of_good_fields = (of_good, refuses_if, appends_of_if)
+pub ruleset of_good_fields = (of_good, refuses_if, appends_if)

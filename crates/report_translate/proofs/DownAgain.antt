@@ -35,8 +35,8 @@ use Rattle.sound_laws.proofs.ReadSound.{IsClearField}
 use Rattle.sound_laws.proofs.TableFits.{table_fits}
 use Rattle.rule_rows.specs.ByRules.{by_rules, lack_by}
 use Rattle.report_rules.specs.Down.{IsReport50, Reports50, Rejects50}
-use Rattle.report_rules.specs.Rules.{table_at, written}
-use Rattle.report_rules.specs.Rules.{Original, Same, down_message, down_rules, kinds, rules_for}
+use Rattle.report_rules.specs.Rules.{table_at, written, Original, Same, down_message, down_rules}
+use Rattle.report_rules.specs.Rules.{kinds, rules_for}
 use Rattle.report_rules.proofs.GoDown.{down_by, goes_down, reject_sound, report_sound, rules_of}
 use Rattle.report_rules.proofs.ReadDown.{IsReadOf, reject_complete, reject_read, report_complete}
 use Rattle.report_rules.proofs.ReadDown.{report_read}
@@ -148,6 +148,23 @@ module _ (fields : List Field) (good : AreFields None fields) (m : Message)
       let is = type_is (type_of fields) fields None m e in
       let P : List ℕ → Type 0 = λ t. IsType t in subst P (sym (type_down fields is)) is
 
+  -- a sound message is read again behind the header that is carried
+  pub behind_head : (table50 : Table Kind) (known : List ℕ) (letter : ℕ) (items : List (Item Kind))
+      (w : Message) → IsOf fields known table50 m → HasHeader table50 → w.resend ≡ m.resend
+      → IsSound judge (table letter items) w
+      → items_behind (table letter items) (head_value (type_of fields) (head_down fields)) w ≡ true
+      → table_fits (table letter items) (front (table letter items)
+      (head_value (type_of fields) (head_down fields)) w) ≡ true
+      → told (message_of judge (table letter items) (((35, type_of fields)
+      ∷ carried (head_down fields)) ++ content (table letter items) w)) ≡ Ok w
+  behind_head table50 known letter items w of header resend sound behind fits =
+      let own = own_down (type_of fields) fields (head_is_own table50 fields of.read.good (clear)
+      (type_of fields) (type_is (type_of fields) fields None m e) header) in
+      let flag = ap (λ (v : Option (List ℕ)). unwrap_or (option_map flag_of v) false)
+      (resend_down fields) in
+      message_again letter items (type_of fields) (head_down fields) w own behind fits sound
+      (flag ∙ sym of.read.resend ∙ sym resend)
+
   module _ (w : Message) (down : down_message None m ≡ Ok w) where
     -- THE MESSAGE OF FIX 4.2 means the same, and is sound
     pub record Keeps : Type 0 where
@@ -175,11 +192,7 @@ module _ (fields : List Field) (good : AreFields None fields) (m : Message)
         ≡ told (message_of judge (table letter items) x)) → Keeps
     kept table50 known letter items of report header sound is few behind fits reads =
         let stands = goes_down None tt m w report down in
-        let own = own_down (type_of fields) fields (head_is_own table50 fields of.read.good (clear)
-        (type_of fields) (type_is (type_of fields) fields None m e) header) in
         let head : List Field = (35, type_of fields) ∷ carried (head_down fields) in
-        let flag = ap (λ (v : Option (List ℕ)). unwrap_or (option_map flag_of v) false)
-        (resend_down fields) in
         let P : Table Kind → Type 0 = λ t. AreFew (content t w) in
         record {
           means = stands.means ∙ unfilled (report50 m);
@@ -188,8 +201,7 @@ module _ (fields : List Field) (good : AreFields None fields) (m : Message)
           again = ap (λ (t : List ℕ). message42 t (head ++ written w) None) of.type_is
               ∙ ap (λ (t : Table Kind). message42 known (head ++ content t w) None) is
               ∙ reads (head ++ content (table letter items) w)
-              ∙ message_again letter items (type_of fields) (head_down fields) w own behind fits
-              sound (flag ∙ sym of.read.resend ∙ sym resend_is);
+              ∙ behind_head table50 known letter items w of header resend_is sound behind fits;
         }
 
     -- WHAT GOES DOWN means the same, and is read again behind its header
