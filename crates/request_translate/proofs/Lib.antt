@@ -11,5 +11,5 @@ pub mod SenseAgain
 mod Sound50
 mod Translated
 mod Worked
-mod Writable
+pub mod Writable
 mod WrittenAgain

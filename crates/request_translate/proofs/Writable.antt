@@ -8,7 +8,7 @@ use Rattle.first_faults.specs.Faults.{message_by}
 use Rattle.translation.proofs.Writable.{IsType, One}
 use Rattle.request_rules.proofs.ByType.{by_type, letter_of}
 
-is_type : (kind : RequestKind) → IsType (letter_of kind ∷ [])
+pub is_type : (kind : RequestKind) → IsType (letter_of kind ∷ [])
 is_type New = One 68 (λ no. absurd (omega (arith, no))) refl
 is_type Cancel = One 70 (λ no. absurd (omega (arith, no))) refl
 is_type Replace = One 71 (λ no. absurd (omega (arith, no))) refl

@@ -3,6 +3,7 @@
 use Rattle.std.proofs.Common.{refl}
 use Rattle.dict_fix42.specs.Message.{message42}
 use Rattle.rows_fix42.specs.Header.{table as table42}
+use Rattle.rows_fix50.specs.Header.{table as table50}
 use Rattle.dict_fix42.specs.Requests as requests42
 use Rattle.dict_fix42.specs.Said as said42
 use Rattle.dict_fix42.specs.declared.requests.Msg42.{Msg42}
@@ -13,8 +14,7 @@ use Rattle.dict_fix50.specs.Said as said50
 use Rattle.dict_fix50.specs.declared.requests.Msg50.{Msg50}
 use Rattle.dict_fix50.specs.declared.requests.Msg50.TheVariants as messages50
 use Rattle.request_translate.specs.Laws.{IsReadAgain42, IsReadAgain50}
-use Rattle.sound_laws.proofs.ContentAgain.{read_again}
-use Rattle.request_rules.proofs.GoUp.{content_again}
+use Rattle.sound_laws.proofs.ContentAgain.{content_again, read_again}
 
 -- ---- FIX 4.2
 
@@ -34,10 +34,14 @@ again42 (messages42.Status m) sound =
 pub again50 : (m : Msg50) → IsReadAgain50 m
 unfolding message50
 again50 (messages50.New m) c =
-    content_again 68 requests50.new_order refl refl (said50.new_says m) c.sound c.month
+    content_again (table50 68 requests50.new_order) (said50.new_says m) refl refl c.sound
+    c.month
 again50 (messages50.Cancel m) c =
-    content_again 70 requests50.cancel_request refl refl (said50.cancel_says m) c.sound c.month
+    content_again (table50 70 requests50.cancel_request) (said50.cancel_says m) refl refl c.sound
+    c.month
 again50 (messages50.Replace m) c =
-    content_again 71 requests50.replace_request refl refl (said50.replace_says m) c.sound c.month
+    content_again (table50 71 requests50.replace_request) (said50.replace_says m) refl refl c.sound
+    c.month
 again50 (messages50.Status m) c =
-    content_again 72 requests50.status_request refl refl (said50.status_says m) c.sound c.month
+    content_again (table50 72 requests50.status_request) (said50.status_says m) refl refl c.sound
+    c.month
