@@ -1,6 +1,6 @@
 -- What goes up of a request stands for it: the four tables.
-use Rattle.std.proofs.Common.{◌≡◌, ℕ, List, [], ◌∷◌, length, true, false, Some, None, refl}
-use Rattle.std.proofs.Common.{sym, ap, subst, ◌∙◌, codes}
+use Rattle.std.proofs.Common.{◌≡◌, ℕ, List, [], ◌∷◌, length, true, false, Some, None, refl, sym, ap}
+use Rattle.std.proofs.Common.{subst, ◌∙◌, codes}
 use Rattle.std.specs.Prelude.{IfSome, Ok, ◌==◌}
 use Rattle.std.specs.List.{flat_map}
 use Rattle.std.specs.Str.Parse.{digits_value}
@@ -18,15 +18,11 @@ use Rattle.rows_fix50.specs.Header.{completed_by, month_by, table as table50}
 use Rattle.dict_fix42.specs.Sense as sense42
 use Rattle.dict_fix42.specs.Sense.{request42}
 use Rattle.dict_fix50.specs.Message.{message50}
-use Rattle.sound_laws.specs.Complete.{HasMonthOfDate}
 use Rattle.sound_laws.specs.Sound.{IsSound, without_resend}
 use Rattle.sound_laws.proofs.Each.{◌&◌}
-use Rattle.sound_laws.proofs.Completed.{completed_again}
-use Rattle.sound_laws.proofs.ContentAgain.{read_again}
-use Rattle.sound_laws.proofs.Lookups.{places_apart}
+use Rattle.sound_laws.proofs.ContentAgain.{content_again}
 use Rattle.sound_laws.proofs.PlainFields.{clear_fields}
 use Rattle.sound_laws.proofs.Stages.{item_tags}
-use Rattle.sound_laws.proofs.TableFits as fits
 use Rattle.sound_laws.proofs.TableFits.{table_fits}
 use Rattle.rule_rows.proofs.Looked.{has_lines_of, says}
 use Rattle.rule_rows.proofs.Made.{content_made}
@@ -116,19 +112,6 @@ table_goes Status = record {
 
 -- ---- a message of a table that goes up
 
--- what is written of a sound message that says the month of its date is read again
-pub content_again : (letter : ℕ) (items : List (Item Kind))
-    → table_fits (table50 letter items) [] ≡ true → is_one_of (flat_map item_tags items) 97 ≡ false
-    → (m : Message) → IsSound judge (table50 letter items) m → HasMonthOfDate m
-    → completed_by
-    (told (message_of judge (table50 letter items) (content (table50 letter items) m)))
-    ≡ Ok (without_resend m)
-content_again letter items fit bare m sound month =
-    let t = table50 letter items in
-    ap completed_by (read_again t m fit bare sound) ∙ ap (λ (x : Message). Ok x)
-    (completed_again m month
-    (ap places_apart sound.places ∙ fits.places_are_apart t m [] fit) false)
-
 module _ (kind : RequestKind)
     (is : (f : RequestKind → Request) → asked (letter_of kind) f ≡ Some (f kind))
     (fit : table_fits (table50 (letter_of kind) (items_up (items42 kind))) [] ≡ true)
@@ -193,8 +176,7 @@ module _ (kind : RequestKind)
         means = keeps_sense m ordinary lack;
         again = subst IsAgain (sym sound.letter) (reads
             ∙ ap (λ fields. completed_by (told (message_of judge t fields))) by_table
-            ∙ content_again letter (items_up items) fit bare (up_message m) as_canonical.sound
-            as_canonical.month);
+            ∙ content_again t (up_message m) fit bare as_canonical.sound as_canonical.month);
       }
 
 -- WHAT GOES UP STANDS FOR A MESSAGE.

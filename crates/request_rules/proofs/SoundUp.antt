@@ -1,32 +1,29 @@
 -- What goes up of a sound message is sound in the table that goes up: one lemma for each kind of
 -- rule.
-use Rattle.std.proofs.Common.{◌≡◌, ℕ, List, [], ◌∷◌, Bool, true, false, Some, None, refl, sym, ap}
-use Rattle.std.proofs.Common.{subst, ◌∙◌, codes, length, arith}
+use Rattle.std.proofs.Common.{◌≡◌, ℕ, List, [], Bool, true, false, Some, None, refl, sym, ap, subst}
+use Rattle.std.proofs.Common.{◌∙◌, codes}
 use Rattle.std.proofs.lemmas.Bool.{eqb-true}
-use Rattle.std.proofs.lemmas.Bool.Decides.{nat_tests}
 use Rattle.std.specs.Prelude.{IsSome, IfSome, ◌||◌, ◌==◌, not}
 use Rattle.std.specs.List.{list_any, slice_get}
 use Rattle.field_groups.specs.Field.{Field, is_soh}
-use Rattle.message_tables.specs.Tables.{Need, Required, Optional, Lenient, Row, Item, Party}
-use Rattle.message_tables.specs.Tables.{Message, Said, Role, Spells, Cell, lines_of, party_in}
-use Rattle.message_tables.specs.Tables.{value_at, ◌>>=◌, code_of, is_one_of}
-use Rattle.value_kinds.specs.ValueKind.{Code, Id, Stamp, MonthYear, Day, OneByte, formed, spelling}
+use Rattle.message_tables.specs.Tables.{Required, Optional, Lenient, Row, Item, Party, Message}
+use Rattle.message_tables.specs.Tables.{Said, Role, Spells, Cell, lines_of, party_in, value_at}
+use Rattle.message_tables.specs.Tables.{◌>>=◌, code_of}
+use Rattle.value_kinds.specs.ValueKind.{Code, Id, MonthYear, Day, OneByte}
 use Rattle.row_values.specs.Kinds.{Kind, Value, Byte, DayOf, MonthBeside, TimeBeside, judge, row}
-use Rattle.row_values.specs.Kinds.{verdict_of}
 use Rattle.row_values.specs.Groups.{parties}
 use Rattle.rows_fix42.specs.Header.{table as table42}
 use Rattle.rows_fix50.specs.Header.{header as header50, table as table50}
-use Rattle.sound_laws.specs.Sound.{IsClear, IsSaid, IsGroup, IsItem, IsSound}
+use Rattle.sound_laws.specs.Sound.{IsClear, IsGroup, IsItem, IsSound}
 use Rattle.sound_laws.proofs.Each.{at_index, both, not_true, all_true}
-use Rattle.sound_laws.proofs.PlainRows.{spelled as spelled_text}
 use Rattle.sound_laws.proofs.RowsSaid.{row_of_tag, same_value, optional_said, lenient_said}
-use Rattle.sound_laws.proofs.SpelledAgain.{clear_joined, fine_up}
-use Rattle.rule_rows.specs.ByRules.{lack_if}
+use Rattle.sound_laws.proofs.SpelledAgain.{clear_joined}
 use Rattle.rule_rows.specs.Rows.{group_at}
-use Rattle.rule_rows.proofs.Items.{has_row, row_there, can_go, is_plain, is_value}
-use Rattle.rule_rows.proofs.Looked.{IsFound, each_rule}
+use Rattle.rule_rows.proofs.Carried.{carried, row_carried}
+use Rattle.rule_rows.proofs.Items.{has_row, row_there, can_go, IsRow}
+use Rattle.rule_rows.proofs.Looked.{IsFound, each_rule, no_lack}
 use Rattle.rule_rows.proofs.Source as source
-use Rattle.rule_rows.proofs.Source.{IsSpelled, carried_said, is_less}
+use Rattle.rule_rows.proofs.Source.{IsSpelled}
 use Rattle.rule_rows.proofs.Sound.{AreGroups, Goes, RuleGood, after, before, carried_good, has_of}
 use Rattle.rule_rows.proofs.Sound.{lines_are, lines_good, may_fit, own_good, party_good, said_is}
 use Rattle.rule_rows.proofs.Sound.{sound_made, turned_good, value_is, w, whatever}
@@ -35,78 +32,12 @@ use Rattle.request_rules.specs.Rules.{Rule, Listed, Parties, PartyOf, Month, Dat
 use Rattle.request_rules.specs.Rules.{Who, Client, at, date_up, is_unlisted, kinds, role_of, tag_of}
 use Rattle.request_rules.specs.Rules.{up_lack, up_message, up_rules}
 use Rattle.request_rules.proofs.KindsUp.{are_kinds, own}
-use Rattle.request_rules.proofs.TablesUp.{GoesUp, own_rows, IsRow, capacity_row, coded_need}
-use Rattle.request_rules.proofs.TablesUp.{day_row, each_made, has_rule, is_carried, is_coded}
-use Rattle.request_rules.proofs.TablesUp.{items_up, make, month_row, time_row, type_row, up_kind}
-use Rattle.request_rules.proofs.TablesUp.{up_row, up_need}
+use Rattle.request_rules.proofs.TablesUp.{GoesUp, own_rows, capacity_row, day_row, each_made}
+use Rattle.request_rules.proofs.TablesUp.{has_rule, is_carried, items_up, make, month_row, time_row}
+use Rattle.request_rules.proofs.TablesUp.{type_row}
 use Rattle.request_rules.proofs.PartiesUp.{IsPartyId, parties_said, roles_said, id_for}
 use Rattle.request_rules.proofs.DatesUp.{date_spelled, month_spelled}
-use Rattle.request_rules.proofs.TermsUp.{are_listed, listed_said, type_said, time_said}
-
--- ---- a row that is carried
-
-less_is : (need : Need) (coded : Bool) → is_plain need ≡ true
-    → is_less need (coded_need need coded) ≡ true
-less_is Required coded h = refl
-less_is Optional true h = refl
-less_is Optional false h = refl
-less_is Lenient coded h = refl
-less_is other coded h = absurd cc
-
--- a moment of FIX 4.2 is a fine one
-kind_up : (fields42 fields50 : List Field) (kind : Kind) (said : Said) → is_value kind ≡ true
-    → IfSome said (λ text. judge fields42 kind text ≡ Spells text)
-    → IfSome said (λ text. judge fields50 (up_kind kind) text ≡ Spells text)
-unfolding judge
-kind_up fields42 fields50 (Value Stamp) None value h = tt
-kind_up fields42 fields50 (Value Stamp) (Some text) value h =
-    ap verdict_of (fine_up text (spelled_text (spelling Stamp text) text h))
-kind_up fields42 fields50 (Value kind) said value h = same_value fields42 fields50 kind said h
-kind_up fields42 fields50 other said value h = absurd cc
-
-row_up : (fields42 fields50 : List Field) (to : ℕ) (row : Row Kind) (said : Said)
-    → can_go row ≡ true → IsSaid judge fields42 row said
-    → IsSaid judge fields50 (up_row to row) said
-row_up fields42 fields50 to row said ok h =
-    let p = both (is_value row.kind) (is_plain row.need) ok in
-    carried_said fields42 fields50 row to (up_kind row.kind) (up_need row) said
-    (less_is row.need (is_coded row.kind) p.1) h
-    (kind_up fields42 fields50 row.kind said p.0 h.spelled)
-
--- ---- a code that is listed
-
-two_bytes : (fields : List Field) (a b : ℕ) (text : List ℕ)
-    → judge fields (Value OneByte) (a ∷ b ∷ text) ≡ Spells (a ∷ b ∷ text) → ⊥
-unfolding judge spelling
-two_bytes fields a b text h = formed_two (length (a ∷ b ∷ text) == 1) long h
-  where
-    long : (length (a ∷ b ∷ text) == 1) ≡ false
-    long = grind (arith, nat_tests)
-
-    formed_two : (one : Bool) → one ≡ false
-        → verdict_of (formed one (a ∷ b ∷ text)) ≡ Spells (a ∷ b ∷ text) → ⊥
-    formed_two true e h = cc
-    formed_two false e h = cc
-
-no_bytes : (fields : List Field) → judge fields (Value OneByte) [] ≡ Spells [] → ⊥
-unfolding judge spelling
-no_bytes fields h = cc
-
-code_listed : (fields : List Field) (listed : List ℕ) (said : Said)
-    → IfSome said (λ text. judge fields (Value OneByte) text ≡ Spells text)
-    → is_unlisted listed (said >>= code_of) ≡ false → are_listed listed said ≡ true
-code_listed fields listed None h k = refl
-code_listed fields listed (Some []) h k = absurd (no_bytes fields h)
-code_listed fields listed (Some (code ∷ [])) h k = by (is_one_of listed code) k
-  where
-    by : (there : Bool) → not there ≡ false → there ≡ true
-    by true k = refl
-    by false k = absurd cc
-code_listed fields listed (Some (a ∷ b ∷ text)) h k = absurd (two_bytes fields a b text h)
-
-lacks_not : (lacks : Bool) (tag : ℕ) → lack_if lacks tag ≡ None → lacks ≡ false
-lacks_not true tag h = absurd cc
-lacks_not false tag h = refl
+use Rattle.request_rules.proofs.TermsUp.{are_listed, listed_said, type_said, time_said, code_listed}
 
 -- ---- a sound message of a table that goes up
 
@@ -227,15 +158,15 @@ module _ (letter : ℕ) (items : List (Item Kind)) (goes : GoesUp items) (m : Me
       let capacity : Spelled (Value OneByte) from =
       subst P (sym (eqb-true from 47 ok)) (spelled capacity_row 4 refl) in
       code_listed fields42 listed (at m from) capacity.spelled
-      (lacks_not (is_unlisted listed (at m from >>= code_of)) from lack)
+      (no_lack (is_unlisted listed (at m from >>= code_of)) from lack)
 
   -- ONE LEMMA FOR EACH KIND OF RULE
   rule_up : (rule : Rule) → IsFound kinds up_rules rule → is_carried items rule ≡ true
       → kinds.lack m rule ≡ None → RuleGood g rule
   rule_up (Moved from to) found ok lack =
-      turned_good g (λ row. can_go row ≡ true) (Moved from to) from (up_row to)
+      turned_good g (λ row. can_go row ≡ true) (Moved from to) from (carried true to)
       (λ row. refl) found (may_fit (row_of_tag from items) ok)
-      (λ row fit said groups. row_up fields42 fields50 to row (at m from) fit said)
+      (λ row fit said groups. row_carried true fields42 fields50 to row (at m from) fit said)
   rule_up (By (Listed from to listed)) found ok lack =
       let p = both (not (list_any is_soh listed)) (from == 47) ok in
       own_good g (By (Listed from to listed)) (has_rule items (Listed from to listed))

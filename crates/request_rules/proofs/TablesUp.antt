@@ -1,49 +1,25 @@
 -- The table that the rules make of a table of FIX 4.2. Each table of FIX 5.0 SP2 is what they make
 -- of the table of FIX 4.2 with its letter.
-use Rattle.std.proofs.Common.{[], ◌∷◌, ◌≡◌, ℕ, Bool, true, false, not, List, codes, refl, Option}
-use Rattle.std.specs.Prelude.{IfSome, ◌&&◌, ◌==◌}
+use Rattle.std.proofs.Common.{[], ◌∷◌, ◌≡◌, ℕ, Bool, true, not, List, codes, refl, Option}
+use Rattle.std.specs.Prelude.{◌&&◌, ◌==◌}
 use Rattle.std.specs.List.{AllByRecursion, list_any, list_all}
 use Rattle.field_groups.specs.Field.{is_soh}
-use Rattle.message_tables.specs.Tables.{Need, Required, Optional, Lenient, When, Row, Item, One}
-use Rattle.message_tables.specs.Tables.{Party, Lines}
-use Rattle.value_kinds.specs.ValueKind.{Code, Codes, Word, Id, OneByte, FineStamp, Stamp, MonthYear}
-use Rattle.value_kinds.specs.ValueKind.{Day}
-use Rattle.row_values.specs.Kinds.{Kind, Value, Byte, DayOf, MonthBeside, TimeBeside, row}
+use Rattle.message_tables.specs.Tables.{Required, Optional, Lenient, When, Row, Item, One, Party}
+use Rattle.message_tables.specs.Tables.{Lines}
+use Rattle.value_kinds.specs.ValueKind.{Code, Id, OneByte, MonthYear, Day}
+use Rattle.row_values.specs.Kinds.{Kind, Byte, DayOf, MonthBeside, TimeBeside, row}
 use Rattle.row_values.specs.Groups.{parties}
 use Rattle.rows_fix42.specs.Header.{has_day}
 use Rattle.sound_laws.proofs.ContentValues.{is_alone}
 use Rattle.sound_laws.proofs.RowsSaid.{row_of_tag}
 use Rattle.rule_rows.specs.ByRules.{has_any, outline_of}
-use Rattle.rule_rows.proofs.Items.{has_row, item_if, item_made, may_go}
+use Rattle.rule_rows.proofs.Carried.{carried}
+use Rattle.rule_rows.proofs.Items.{has_row, item_if, item_made, may_go, IsRow}
 use Rattle.rule_rows.proofs.Made.{IsMade, made}
 use Rattle.rule_rows.specs.Rules.{By, Moved}
 use Rattle.rule_rows.proofs.Own.{each_with, make_with}
 use Rattle.request_rules.specs.Rules.{Rule, Own, Listed, Parties, PartyOf, Month, Date, OrdType}
 use Rattle.request_rules.specs.Rules.{Time, kinds, own_kinds, role_of, sources, up_rules}
-
--- ---- rows that are carried
-
--- a code or word that may be missing is dropped where it is outside the profile
-abbrev pub coded_need : Need → Bool → Need
-coded_need Optional true = Lenient
-coded_need need coded = need
-
-abbrev pub is_coded : Kind → Bool
-is_coded (Value (Code listed)) = true
-is_coded (Value (Codes listed)) = true
-is_coded (Value (Word listed)) = true
-is_coded kind = false
-
-abbrev pub up_need : Row Kind → Need
-up_need row = coded_need row.need (is_coded row.kind)
-
--- a moment of FIX 4.2 is a fine one
-abbrev pub up_kind : Kind → Kind
-up_kind (Value Stamp) = Value FineStamp
-up_kind kind = kind
-
-abbrev pub up_row : ℕ → Row Kind → Row Kind
-up_row to row = record { tag = to; kind = up_kind row.kind; need = up_need row }
 
 -- ---- what a rule makes
 
@@ -69,11 +45,11 @@ module _ (items : List (Item Kind)) where
   each_own rule = item_made (has_rule rule) _
 
   abbrev pub make : Rule → Option (Item Kind)
-  make rule = make_with own_kinds up_row (λ group. group) items make_own rule
+  make rule = make_with own_kinds (carried true) (λ group. group) items make_own rule
 
   pub each_made : (rule : Rule) → IsMade kinds items make rule
-  each_made rule = each_with own_kinds up_row (λ group. group) items make_own (λ to row. refl)
-      (λ group. refl) each_own rule
+  each_made rule = each_with own_kinds (carried true) (λ group. group) items make_own
+      (λ to row. refl) (λ group. refl) each_own rule
 
   -- THE TABLE of FIX 5.0 SP2
   abbrev pub items_up : List (Item Kind)
@@ -99,10 +75,6 @@ time_row = row Optional 59 (Code (codes "0123456"))
 
 abbrev pub capacity_row : Row Kind
 capacity_row = row Optional 47 OneByte
-
--- the row of a tag is this one, where there is one
-abbrev pub IsRow : List (Item Kind) → Row Kind → Type 0
-IsRow items own = IfSome (row_of_tag own.tag items) (λ other. other ≡ own)
 
 abbrev pub own_rows : List (Row Kind)
 own_rows = month_row ∷ day_row ∷ type_row ∷ time_row ∷ capacity_row ∷

@@ -1,18 +1,19 @@
 -- OrdType, TimeInForce and OrderCapacity as FIX 5.0 SP2 says them.
 use Rattle.std.proofs.Common.{◌≡◌, ℕ, List, [], ◌∷◌, Bool, true, false, Some, None, refl, sym, ap}
-use Rattle.std.proofs.Common.{subst, ◌∙◌, codes}
+use Rattle.std.proofs.Common.{subst, ◌∙◌, codes, length, arith, Option}
 use Rattle.std.specs.Prelude.{IsSome, IfSome, not, ◌||◌, ◌==◌, Ok}
 use Rattle.std.specs.List.{list_any}
+use Rattle.std.proofs.lemmas.Bool.Decides.{nat_tests}
 use Rattle.field_groups.specs.Field.{Field, is_soh}
-use Rattle.value_kinds.specs.ValueKind.{Code, spelling, listed_word, is_code}
+use Rattle.value_kinds.specs.ValueKind.{Code, spelling, listed_word, is_code, OneByte, formed}
 use Rattle.message_tables.specs.Tables.{Spells, Required, Lenient, Said, is_one_of, is_listed}
-use Rattle.message_tables.specs.Tables.{value_at}
+use Rattle.message_tables.specs.Tables.{value_at, code_of, ◌>>=◌}
 use Rattle.row_values.specs.Kinds.{Value, Byte, TimeBeside, judge, verdict_of, counted, is_at_close}
 use Rattle.row_values.specs.Kinds.{row}
 use Rattle.sound_laws.specs.Sound.{IsSaid}
 use Rattle.sound_laws.proofs.Each.{◌&◌, one_of}
 use Rattle.sound_laws.proofs.RowsSaid.{is_code_of, lenient_said, listed_clear, code_said}
-use Rattle.request_rules.specs.Rules.{type_up, time_up}
+use Rattle.request_rules.specs.Rules.{type_up, time_up, is_unlisted}
 
 -- ---- OrdType
 
@@ -46,20 +47,20 @@ module _ (fields50 : List Field) where
   IsTime said =
       IsSaid judge fields50 (record { tag = 59; kind = TimeBeside 40; need = Lenient }) said
 
-  close_counts : (ord_type : ℕ) → value_at 40 fields50 ≡ Some (ord_type ∷ [])
-      → is_one_of (codes "12") ord_type ≡ true
-      → judge fields50 (TimeBeside 40) (codes "7") ≡ Spells (codes "7")
+  pub time_counts : (code : ℕ) → is_one_of (codes "01234567") code ≡ true
+      → (not (is_at_close (code ∷ [])) || is_listed (codes "12") (value_at 40 fields50)) ≡ true
+      → judge fields50 (TimeBeside 40) (code ∷ []) ≡ Spells (code ∷ [])
   unfolding judge spelling
-  close_counts ord_type at listed =
-      ap (λ (value : Said). counted (not (is_at_close (codes "7")) || is_listed (codes "12") value)
-      (verdict_of (Ok (listed_word (is_code (codes "01234567") (codes "7")) (codes "7"))))) at
-      ∙ ap (λ (b : Bool). counted b (Spells (codes "7"))) listed
+  time_counts code listed beside =
+      ap (λ (b : Bool). counted b
+      (verdict_of (Ok (listed_word (is_code (codes "01234567") (code ∷ [])) (code ∷ []))))) beside
+      ∙ ap (λ (b : Bool). verdict_of (Ok (listed_word b (code ∷ [])))) listed
 
   at_close : (ord_type : ℕ) → value_at 40 fields50 ≡ Some (ord_type ∷ [])
       → is_one_of (codes "12") ord_type ≡ true → IsTime (Some (codes "7"))
   at_close ord_type at listed =
       lenient_said fields50 59 (TimeBeside 40) (Some (codes "7"))
-      (close_counts ord_type at listed) refl
+      (time_counts 55 refl (ap (is_listed (codes "12")) at ∙ listed)) refl
 
   -- a time of FIX 4.2 is not at the close
   pub is_other : (code : ℕ) → is_one_of (codes "0123456") code ≡ true → (code == 55) ≡ false
@@ -109,10 +110,47 @@ module _ (fields50 : List Field) where
 
 -- ---- OrderCapacity
 
+-- what is spelled as one byte is a code
+pub one_byte : (fields : List Field) (text : List ℕ)
+    → judge fields (Value OneByte) text ≡ Spells text → (code : ℕ) × (text ≡ code ∷ [])
+unfolding judge spelling
+one_byte fields [] h = absurd cc
+one_byte fields (code ∷ []) h = (code, refl)
+one_byte fields (a ∷ b ∷ text) h = formed_two (length (a ∷ b ∷ text) == 1) long h
+  where
+    long : (length (a ∷ b ∷ text) == 1) ≡ false
+    long = grind (arith, nat_tests)
+
+    formed_two : (one : Bool) → one ≡ false
+        → verdict_of (formed one (a ∷ b ∷ text)) ≡ Spells (a ∷ b ∷ text)
+        → (code : ℕ) × (a ∷ b ∷ text ≡ code ∷ [])
+    formed_two true e h = absurd cc
+    formed_two false e h = absurd cc
+
+-- a code that is not unlisted
+pub listed_is : (listed : List ℕ) (code : Option ℕ) → is_unlisted listed code ≡ false
+    → IfSome code (λ c. is_one_of listed c ≡ true)
+listed_is listed None h = tt
+listed_is listed (Some code) h = by (is_one_of listed code) h
+  where
+    by : (b : Bool) → not b ≡ false → b ≡ true
+    by true h = refl
+    by false h = absurd cc
+
 -- whether each code that is said is listed
 abbrev pub are_listed : List ℕ → Said → Bool
 are_listed listed None = true
 are_listed listed (Some text) = is_code listed text
+
+pub code_listed : (fields : List Field) (listed : List ℕ) (said : Said)
+    → IfSome said (λ text. judge fields (Value OneByte) text ≡ Spells text)
+    → is_unlisted listed (said >>= code_of) ≡ false → are_listed listed said ≡ true
+code_listed fields listed None h k = refl
+code_listed fields listed (Some text) h k =
+    let t = one_byte fields text h in
+    let P : List ℕ → Type 0 = λ x. is_unlisted listed (code_of x) ≡ false
+    → are_listed listed (Some x) ≡ true in
+    subst P (sym t.1) (listed_is listed (Some t.0)) k
 
 pub listed_said : (fields50 : List Field) (to : ℕ) (listed : List ℕ) (said : Said)
     → list_any is_soh listed ≡ false → are_listed listed said ≡ true
