@@ -8,7 +8,6 @@ use Rattle.order_meaning.specs.Report.{filled}
 use Rattle.row_values.specs.Kinds.{judge, Kind}
 use Rattle.reports_fix42.specs.Message as tables42
 use Rattle.reports_fix42.specs.Message.{message42}
-use Rattle.reports_fix42.specs.Reports as reports42
 use Rattle.reports_fix42.specs.Sense.{report42}
 use Rattle.reports_fix50.specs.Message as tables50
 use Rattle.reports_fix50.specs.Reports as reports50
@@ -31,15 +30,6 @@ use Rattle.report_rules.proofs.SoundDown.{ordinary_by, sound_down}
 use Rattle.report_rules.proofs.TablesDown.{GoesDown, each_made, items_down, make}
 use Rattle.rows_fix42.specs.Header.{table as table42}
 use Rattle.rows_fix50.specs.Header.{table as table50}
-
--- What the rules make of the items of FIX 5.0 SP2 are those of FIX 4.2.
-pub reports_made : items_down reports50.execution_report (down_rules (Same 41))
-    ≡ reports42.execution_report
-reports_made = refl
-
-pub rejects_made : (known : Said)
-    → items_down reports50.cancel_reject (down_rules (Original known)) ≡ reports42.cancel_reject
-rejects_made known = refl
 
 pub report_goes : GoesDown (down_rules (Same 41)) reports50.execution_report
 report_goes = record {

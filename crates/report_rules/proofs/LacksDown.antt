@@ -22,7 +22,7 @@ use Rattle.report_rules.specs.Rules.{Same, Original, at, down_rules, kinds, lack
 use Rattle.report_rules.specs.Rules.{down_message, rules_for, trans_type}
 use Rattle.report_rules.specs.Down.{Lacks, LacksMean, NoSense, NoOriginal, Reports50, Rejects50}
 use Rattle.report_rules.proofs.GoDown.{rules_of}
-use Rattle.report_rules.proofs.RowsDown.{is_known_of}
+use Rattle.rule_rows.proofs.Carried.{is_known_of}
 
 abbrev exec_types : List ℕ
 exec_types = codes "03456789ABCDEFGHIJKL"

@@ -1,22 +1,19 @@
 -- What is read of the fields of a report of FIX 5.0 SP2 is a sound message, but for the month of
 -- its date, which is told besides.
-use Rattle.std.proofs.Common.{◌≡◌, ℕ, List, Some, None, Bool, true, false, refl, sym, ap, subst}
-use Rattle.std.proofs.Common.{◌∙◌, Option}
-use Rattle.std.specs.Prelude.{Ok, not, unwrap_or, ◌&&◌}
+use Rattle.std.proofs.Common.{◌≡◌, ℕ, List, Some, None, true, false, refl, sym, ap, subst, ◌∙◌}
+use Rattle.std.specs.Prelude.{Ok, unwrap_or}
 use Rattle.std.specs.Option.{option_map}
 use Rattle.std.specs.List.{AllByRecursion}
 use Rattle.field_groups.specs.Field.{AreFields, Field}
 use Rattle.field_groups.specs.Data.{is_data_tag}
-use Rattle.message_tables.specs.declared.table_fault.TableFault.{TableFault}
-use Rattle.message_tables.specs.Tables.{Verdict, Spells, Outside, Wrong, Optional, Row, Table}
-use Rattle.message_tables.specs.Tables.{Message, Said, ◌>>=◌, flag_of, groups_in, Tag, is_listed}
-use Rattle.message_tables.specs.Tables.{said_at, text_of, value_at}
-use Rattle.message_tables.specs.FirstFault.{first_fault, message_in, message_of, unless}
+use Rattle.message_tables.specs.Tables.{Verdict, Spells, Outside, Wrong, Optional, Table, Message}
+use Rattle.message_tables.specs.Tables.{Said, ◌>>=◌, flag_of, Tag, is_listed, said_at, text_of}
+use Rattle.message_tables.specs.Tables.{value_at}
+use Rattle.message_tables.specs.FirstFault.{first_fault, message_in}
 use Rattle.message_tables.specs.Content.{content}
 use Rattle.value_kinds.specs.ValueKind.{Day, Known, spelling}
 use Rattle.row_values.specs.Kinds.{Kind, Value, date_at, judge, row, verdict_of}
-use Rattle.first_faults.specs.Faults.{told}
-use Rattle.rows_fix50.specs.Header.{completed, completed_by, month_by}
+use Rattle.rows_fix50.specs.Header.{completed, month_by}
 use Rattle.reports_fix50.specs.Message.{message50, report_by, report_table, cancel_reject_table}
 use Rattle.reports_fix50.specs.Reports.{execution_report, cancel_reject}
 use Rattle.sound_laws.specs.Sound.{IsSaid, IsSound}
@@ -25,26 +22,19 @@ use Rattle.sound_laws.proofs.Completed.{completed_again}
 use Rattle.sound_laws.proofs.Lookups.{places_apart}
 use Rattle.sound_laws.proofs.PlainFields.{clear_fields}
 use Rattle.sound_laws.proofs.RowsSaid.{row_said}
-use Rattle.sound_laws.proofs.ContentValues.{GroupSaid, groups_said, value_said}
-use Rattle.sound_laws.proofs.Each.{both, not_true}
-use Rattle.sound_laws.proofs.Judged50.{AreAlike, date_kept, judged_again, judged_clear, ours_kind}
-use Rattle.sound_laws.proofs.Judged50.{type_kept}
+use Rattle.sound_laws.proofs.ContentValues.{groups_said, value_said}
 use Rattle.sound_laws.proofs.PlainRows.{contras_apart, contras_plain, parties_apart, parties_plain}
-use Rattle.sound_laws.proofs.PlainRows.{plain_items, plain_stables, spelled, unfixed}
-use Rattle.sound_laws.proofs.ReadSound.{IsClearField, IsStableRow, IsStableItem, read_sound}
-use Rattle.sound_laws.proofs.ReadSound.{stable_items}
+use Rattle.sound_laws.proofs.PlainRows.{plain_items, plain_stables, spelled}
+use Rattle.sound_laws.proofs.ReadSound.{IsClearField, read_sound}
 use Rattle.sound_laws.proofs.SpelledAgain.{own_bytes}
 use Rattle.rule_rows.proofs.Source as source
 use Rattle.report_rules.specs.Down.{IsReport50, IsReportType, Reports50, Rejects50, Type8, Type9}
 use Rattle.report_rules.specs.Down.{WritesDown}
-use Rattle.sound_laws.proofs.CompletedSound.{KeepsType, completed_month, completed_sound, kept_need}
-use Rattle.sound_laws.proofs.CompletedSound.{ours_need}
+use Rattle.sound_laws.proofs.CompletedSound.{KeepsType, completed_month, completed_sound}
+use Rattle.sound_laws.proofs.ReadComplete.{IsDated, dated_sound, read_of}
 use Rattle.report_rules.proofs.GoDown.{goes_down}
 
--- ---- the rows of an execution report
-
-abbrev is_ours_row : Row Kind → Bool
-is_ours_row row = not (is_data_tag row.tag) && (ours_need row.need && ours_kind true row.kind)
+-- ---- the ExecType of an execution report
 
 -- a known code that fields say is the one that stands there
 known_listed : (known listed : List ℕ) (value : Said)
@@ -74,46 +64,18 @@ type_again known fields after at listed h =
 -- ---- what is read by a table
 
 module _ (fields : List Field) (clear : AllByRecursion (IsClearField judge) fields) where
-  abbrev m : Message
-  m = message_in judge report_table fields
-
-  abbrev after : List Field
-  after = content report_table m
-
-  module _ (alike : AreAlike true fields after) (kept : KeepsType fields after) where
-    stable_row : (row : Row Kind) → is_ours_row row ≡ true
-        → IsStableRow judge report_table fields row
-    stable_row row h =
-        let a = both (not (is_data_tag row.tag))
-        (ours_need row.need && ours_kind true row.kind) h in
-        let b = both (ours_need row.need) (ours_kind true row.kind) a.1 in
-        record {
-          kept = kept_need row.need b.0 fields after kept;
-          spelled = λ bytes text at e.
-              judged_again true fields after alike row.kind b.1 bytes text e;
-          clear = judged_clear true fields clear row.kind b.1;
-          fixed = λ text e. absurd (unfixed ours_need (λ other. refl) row.need b.0 text e);
-          bare = not_true (is_data_tag row.tag) a.0;
-        }
-
-  report_stable : AllByRecursion (GroupSaid judge m) (groups_in report_table)
-      → AllByRecursion (IsStableItem judge report_table fields) execution_report
+  dated : IsDated fields report_table true
   unfolding is_data_tag
-  report_stable groups = stable_items judge report_table fields is_ours_row (stable_row (record {
-    date = date_kept fields after (value_said judge m 541 execution_report refl groups);
-    ord_type = λ _. type_kept fields after (value_said judge m 40 execution_report refl groups);
-  }) (type_again _ fields after (value_said judge m 150 execution_report refl groups)))
-      execution_report refl
-
-  pub report_sound : first_fault judge report_table fields ≡ None → IsSound judge report_table m
-  unfolding is_data_tag
-  report_sound none = read_sound judge report_table fields (record {
-    rows = refl;
-    places = refl;
-    counts = refl;
-    plain = (parties_apart, (contras_apart, tt));
-  }) (plain_items report_table fields execution_report (parties_plain, (contras_plain, tt)))
-      report_stable clear none
+  dated = record {
+    fits = refl;
+    apart = (parties_apart, (contras_apart, tt));
+    plain = (parties_plain, (contras_plain, tt));
+    date = refl;
+    types = λ there. (refl, refl);
+    kept = λ groups. type_again _ fields
+        (content report_table (message_in judge report_table fields))
+        (value_said judge (message_in judge report_table fields) 150 execution_report refl groups);
+  }
 
   reject_sound : first_fault judge cancel_reject_table fields ≡ None
       → IsSound judge cancel_reject_table (message_in judge cancel_reject_table fields)
@@ -137,35 +99,26 @@ pub record IsReadOf (table : Table Kind) (fields : List Field) (x : Message) : T
   pub good : first_fault judge table fields ≡ None
   pub resend : x.resend ≡ unwrap_or (option_map flag_of (value_at 97 fields)) false
 
-read_of : (table : Table Kind) (fields : List Field) (x : Message)
+is_read : (table : Table Kind) (fields : List Field) (x : Message)
     → (first_fault judge table fields ≡ None
     → IsSound judge table (message_in judge table fields))
     → report_by table fields None ≡ Ok x → IsReadOf table fields x
-unfolding message_of
-read_of table fields x sound e = by (first_fault judge table fields) refl sound e
-  where
-    by : (f : Option TableFault) → first_fault judge table fields ≡ f
-        → (f ≡ None → IsSound judge table (message_in judge table fields))
-        → completed_by (told (unless f (message_in judge table fields))) ≡ Ok x
-        → IsReadOf table fields x
-    by None good sound h =
-        let is : completed (message_in judge table fields) ≡ x = cc in
-        record {
-          read = record { before = message_in judge table fields; sound = sound refl; is = is };
-          good = good;
-          resend = sym (ap (λ (y : Message). y.resend) is);
-        }
-    by (Some fault) good sound h = absurd cc
+is_read table fields x sound e = let r = read_of table fields x e in record {
+  read = record { before = message_in judge table fields; sound = sound r.0; is = r.1 };
+  good = r.0;
+  resend = sym (ap (λ (y : Message). y.resend) r.1);
+}
 
 module _ (fields : List Field) (clear : AllByRecursion (IsClearField judge) fields) where
   -- WHAT IS READ IS SOUND.
   pub report_read : (x : Message)
       → report_by report_table fields None ≡ Ok x → IsReadOf report_table fields x
-  report_read x e = read_of report_table fields x (report_sound fields clear) e
+  report_read x e = is_read report_table fields x
+      (dated_sound fields report_table clear true (dated fields clear)) e
 
   pub reject_read : (x : Message)
       → report_by cancel_reject_table fields None ≡ Ok x → IsReadOf cancel_reject_table fields x
-  reject_read x e = read_of cancel_reject_table fields x (reject_sound fields clear) e
+  reject_read x e = is_read cancel_reject_table fields x (reject_sound fields clear) e
 
 -- ---- what was read is complete
 

@@ -2,8 +2,9 @@
 -- and texts.
 use Rattle.std.proofs.Common.{◌≡◌, ◌≤◌, ◌<◌, ◌+◌, ◌^◌, ℕ, zero, suc, Bool, true, false, List, []}
 use Rattle.std.proofs.Common.{◌∷◌, ◌++◌, codes, length, take, Option, Some, None, refl, sym, ap}
-use Rattle.std.proofs.Common.{subst, arith, nat_le, lit≤, length-append, unwrap_or}
-use Rattle.std.specs.Prelude.{IsSome, IfSome, Ok, Err, Result, ◌==◌, ◌||◌, if◌then◌else◌}
+use Rattle.std.proofs.Common.{subst, arith, nat_le, lit≤, length-append, unwrap_or, ◌∙◌}
+use Rattle.std.specs.Prelude.{IsSome, IfSome, Ok, Err, Result, ◌==◌, ◌||◌, if◌then◌else◌, not}
+use Rattle.std.specs.Prelude.{is_some}
 use Rattle.std.specs.Fmt.{decimal, digits}
 use Rattle.std.specs.Str.{bytes_eq}
 use Rattle.std.specs.List.{AllByRecursion, list_any}
@@ -20,58 +21,27 @@ use Rattle.typed_fields.proofs.SpellingLemmas.{judged_ok}
 use Rattle.field_groups.specs.Field.{Field, is_soh}
 use Rattle.field_groups.specs.HeadValues.{number_in, is_number}
 use Rattle.message_tables.specs.Tables.{Spells, Required, Optional, Said, Cell, Place, Tag, ◌>>=◌}
-use Rattle.message_tables.specs.Tables.{first_of, is_place, is_one_of, or_else, party_in, said_at}
-use Rattle.message_tables.specs.Tables.{text_in}
+use Rattle.message_tables.specs.Tables.{first_of, is_place, or_else, party_in, said_at, text_in}
+use Rattle.message_tables.specs.Tables.{Message, Table, Role, lines_of}
 use Rattle.message_tables.specs.Content.{line_fields}
-use Rattle.value_kinds.specs.ValueKind.{Id, Text, Reason, Code, Known, FineStamp, Stamp, known}
-use Rattle.value_kinds.specs.ValueKind.{if_in_range, spelling, spelt}
-use Rattle.row_values.specs.Kinds.{Value, judge, row, verdict_of}
+use Rattle.value_kinds.specs.ValueKind.{Id, Text, Reason, if_in_range, spelling, spelt}
+use Rattle.value_kinds.specs.ValueKind.{ValueKind}
+use Rattle.row_values.specs.Kinds.{Value, judge, row, verdict_of, Kind}
 use Rattle.row_values.specs.Groups.{parties}
 use Rattle.reports_fix50.specs.Sense.{reason_told, telling}
-use Rattle.sound_laws.specs.Sound.{IsClear, IsSaid, IsLine}
+use Rattle.sound_laws.specs.Sound.{IsClear, IsSaid, IsLine, IsSound}
 use Rattle.sound_laws.proofs.Each.{either}
-use Rattle.sound_laws.proofs.RowsSaid.{optional_said, required_said, same_value, code_spelled}
-use Rattle.sound_laws.proofs.RowsSaid.{IsCodeOf}
+use Rattle.sound_laws.proofs.RowsSaid.{optional_said, required_said, same_value}
 use Rattle.sound_laws.proofs.PlainRows.{spelled}
-use Rattle.sound_laws.proofs.SpelledAgain.{clear_front, clear_joined, digits_clear, fine_down}
+use Rattle.sound_laws.proofs.SpelledAgain.{clear_front, clear_joined, digits_clear}
+use Rattle.rule_rows.proofs.Source as source
 use Rattle.rule_rows.proofs.Source.{IsSpelled}
+use Rattle.rule_rows.specs.ByRules.{has_place, lack_if, outline_of}
+use Rattle.rule_rows.specs.Rows.{group_at}
+use Rattle.rule_rows.proofs.Looked.{none_at}
 use Rattle.report_rules.specs.Down.{IsId}
-use Rattle.report_rules.specs.Rules.{id_down, reason_down, within}
-
--- ---- codes
-
-known_by : (listed : Bool) (text : List ℕ)
-    → verdict_of (known listed text) ≡ Spells text → listed ≡ true
-known_by true text h = refl
-known_by false text h = absurd cc
-
-pub is_known_of : (fields : List Field) (listed text : List ℕ)
-    → judge fields (Value (Known listed)) text ≡ Spells text → IsCodeOf listed text
-unfolding judge spelling
-is_known_of fields listed [] h = absurd cc
-is_known_of fields listed (code ∷ []) h =
-    record { code = code; is = refl; listed = known_by (is_one_of listed code) (code ∷ []) h }
-is_known_of fields listed (a ∷ b ∷ text) h =
-    absurd (let k = known_by false (a ∷ b ∷ text) h in cc)
-
-pub known_down : (before after : List Field) (listed : List ℕ) (said : Said)
-    → IfSome said (λ text. judge before (Value (Known listed)) text ≡ Spells text)
-    → IfSome said (λ text. judge after (Value (Code listed)) text ≡ Spells text)
-known_down before after listed None h = tt
-known_down before after listed (Some text) h =
-    let t = is_known_of before listed text h in
-    let P : List ℕ → Type 0 = λ x. judge after (Value (Code listed)) x ≡ Spells x in
-    subst P (sym t.is) (code_spelled after listed t.code t.listed)
-
--- ---- moments
-
-pub stamp_down : (before after : List Field) (said : Said)
-    → IfSome said (λ text. judge before (Value FineStamp) text ≡ Spells text)
-    → IfSome said (λ text. judge after (Value Stamp) text ≡ Spells text)
-unfolding judge
-stamp_down before after None h = tt
-stamp_down before after (Some text) h =
-    ap verdict_of (fine_down text text (spelled (spelling FineStamp text) text h))
+use Rattle.report_rules.specs.Rules.{id_down, reason_down, within, at, party, told}
+use Rattle.order_meaning.specs.Report.{or_known}
 
 -- ---- ids
 
@@ -103,7 +73,7 @@ line_id (cell ∷ cells) said =
     by None there spelled clear = absurd cc
     by (Some text) there spelled clear = (spelled, clear)
 
-pub party_id : (role : ℕ) (lines : List (List Cell))
+party_id : (role : ℕ) (lines : List (List Cell))
     → AllByRecursion (IsLine judge parties.rows) lines → IfSome (party_in role lines) IsId
 unfolding first_of
 party_id role [] said = tt
@@ -115,11 +85,39 @@ party_id role (line ∷ lines) said =
     by true later = line_id line said.0
     by false later = later
 
+-- the id of the party of a role
+pub role_id : (table : Table Kind) (m : Message) → IsSound judge table m
+    → group_at 453 table.items ≡ Some parties → (role : ℕ) → IfSome (party m role) IsId
+role_id table m sound there role = by (has_place (outline_of table.items) (Role role)) refl
+  where
+    P : Said → Type 0
+    P id = IfSome id IsId
+
+    by : (b : Bool) → has_place (outline_of table.items) (Role role) ≡ b → P (party m role)
+    by true e = subst P (sym (source.role_is table m sound role e)) (party_id role
+        (lines_of 453 m.groups) (source.group_is table m sound 453 parties there).said)
+    by false e = subst P (sym (none_at m.cells (Role role)
+        (ap (λ o. has_place o (Role role)) (source.outline_is table m sound) ∙ e))) tt
+
 pub ids_said : (fields : List Field) (tag : ℕ) (id : Said)
     → IfSome id IsId → IsSaid judge fields (row Optional tag Id) id
 unfolding judge
 ids_said fields tag None h = optional_said fields tag (Value Id) None tt tt
 ids_said fields tag (Some id) h = optional_said fields tag (Value Id) (Some id) h.0 h.1
+
+-- what is said, or else what is known
+pub known_said : (before after : List Field) (tag : ℕ) (kind : ValueKind) (said known : Said)
+    → IsSpelled before (Value kind) said
+    → IfSome known (λ text. (judge [] (Value kind) text ≡ Spells text) × IsClear text)
+    → lack_if (not (is_some (or_known said known))) tag ≡ None
+    → IsSaid judge after (row Required tag kind) (or_known said known)
+known_said before after tag kind (Some text) known h k lack =
+    required_said after tag (Value kind) (Some text) refl
+    (same_value before after kind (Some text) h.spelled) h.clear
+known_said before after tag kind None (Some text) h k lack =
+    required_said after tag (Value kind) (Some text) refl
+    (same_value [] after kind (Some text) k.0) k.1
+known_said before after tag kind None None h k lack = absurd cc
 
 -- ---- reasons
 
@@ -257,14 +255,14 @@ told_of tag last (Some n) small h = by (nat_le n last)
     by true = record { short = lit≤ tt; clear = refl; begins = tt }
     by false = one_told tag n small h
 
-pub told_said : (fields : List Field) (tag last : ℕ) (reason : Said) → tag < 1000
+told_said : (fields : List Field) (tag last : ℕ) (reason : Said) → tag < 1000
     → IsSpelled fields (Value Reason) reason
     → IsTold 12 (reason_told tag last (reason >>= number_in))
 told_said fields tag last None small h = told_of tag last None small tt
 told_said fields tag last (Some text) small h =
     told_of tag last (number_in text) small (small_reason fields text h.spelled)
 
-pub told_both : (p q : ℕ) (one two : List ℕ) → IsTold p one → IsTold q two
+told_both : (p q : ℕ) (one two : List ℕ) → IsTold p one → IsTold q two
     → IsTold (p + q) (one ++ two)
 told_both p q one two h k = record {
   short = let low = h.short in let also = k.short in omega (arith, low, also, length-append one two);
@@ -276,6 +274,17 @@ told_both p q one two h k = record {
     by [] b = k.begins
     by (x ∷ []) b = absurd b
     by (x ∷ y ∷ ys) b = tt
+
+-- WHAT THE REASONS of a report are told as
+pub all_told : (fields : List Field) (m : Message) → IsSpelled fields (Value Reason) (at m 103)
+    → IsSpelled fields (Value Reason) (at m 378) → IsSpelled fields (Value Reason) (at m 102)
+    → IsTold 48 (told m)
+all_told fields m rej restate cxl =
+    let last = told_both 12 12 _ _ (told_said fields 378 5 (at m 378) (lit≤ tt) restate)
+    (told_said fields 102 3 (at m 102) (lit≤ tt) cxl) in
+    let all = told_both 12 24 _ _ (told_said fields 103 8 (at m 103) (lit≤ tt) rej) last in
+    let low = all.short in
+    record { short = omega (arith, low); clear = all.clear; begins = all.begins }
 
 text_spelled : (text : List ℕ) → 1 ≤ length text → length text ≤ 2048
     → verdict_of (spelling Text text) ≡ Spells text

@@ -1,11 +1,11 @@
 -- What goes down by the rules means what it meant, and changes each book alike.
-use Rattle.std.proofs.Common.{◌≡◌, ℕ, [], map, Bool, true, false, Option, Some}
-use Rattle.std.proofs.Common.{None, refl, sym, ap, subst, ◌∙◌, codes, unwrap_or, option_map}
+use Rattle.std.proofs.Common.{◌≡◌, ℕ, [], map, Bool, true, false, Option, Some, None, refl, sym, ap}
+use Rattle.std.proofs.Common.{subst, ◌∙◌, codes, unwrap_or, option_map}
 use Rattle.std.proofs.lemmas.Bool.{eqb-true}
 use Rattle.std.specs.Prelude.{Ok, ◌==◌, if◌then◌else◌}
 use Rattle.field_groups.specs.HeadValues.{number_in}
-use Rattle.message_tables.specs.Tables.{Place, Tag, Said, Message, ◌>>=◌, code_of, code_if}
-use Rattle.message_tables.specs.Tables.{code_in, lines_of, said_at}
+use Rattle.message_tables.specs.Tables.{Place, Tag, Said, Message, ◌>>=◌, code_of, code_if, code_in}
+use Rattle.message_tables.specs.Tables.{lines_of, said_at}
 use Rattle.order_meaning.specs.Book.{Book}
 use Rattle.order_meaning.specs.Meant.{none_done, step_if}
 use Rattle.order_meaning.specs.Report.{Exec, ExecutionReport, Report, Executed, NotCanceled, filled}
@@ -18,9 +18,9 @@ use Rattle.reports_fix50.specs.Step.{step50}
 use Rattle.reports_fix42.proofs.Steps as steps42
 use Rattle.reports_fix50.proofs.Steps as steps50
 use Rattle.sound_laws.proofs.Each.{none_each}
-use Rattle.rule_rows.specs.ByRules.{At, Grouped, by_rules, lack_by, lack_if, or_lack}
+use Rattle.rule_rows.specs.ByRules.{At, Grouped, by_rules, lack_by, or_lack}
 use Rattle.rule_rows.proofs.Looked as looked
-use Rattle.rule_rows.proofs.Looked.{rule_at, said_by, lines_by}
+use Rattle.rule_rows.proofs.Looked.{rule_at, said_by, lines_by, no_lack}
 use Rattle.report_rules.specs.Rules.{Rule, Same, Original, at, down_rules, is_fill, kinds}
 use Rattle.report_rules.specs.Rules.{lacks_type, rules_for}
 use Rattle.report_rules.specs.Down.{IsOrdinary, KeepsBooks, KeepsSense}
@@ -170,16 +170,19 @@ pub not_lacking : (lack : Option ℕ) (m w : Message) → or_lack lack m ≡ Ok 
 not_lacking None m w h = let is : m ≡ w = cc in (refl, is)
 not_lacking (Some tag) m w h = absurd cc
 
-no_lack : (b : Bool) (tag : ℕ) → lack_if b tag ≡ None → b ≡ false
-no_lack true tag h = absurd cc
-no_lack false tag h = refl
-
 -- the lack of an execution report
 pub has_codes : (original : Rule) (m : Message) → lack_by kinds (down_rules original) m ≡ None
     → lacks_type (code_if m.cells 150) ≡ false
 has_codes original m h =
     no_lack (lacks_type (code_if m.cells 150)) 150
     (none_each (kinds.lack m) (down_rules original) h).1.1.1.1.1.1.1.1.1.0
+
+-- an execution report names no order
+pub fills_nothing : (known : Said) (m : Message) (exec : Option Exec)
+    → option_map (λ e. Executed (sense50.execution_of m e)) exec
+    ≡ option_map (filled known) (option_map (λ e. Executed (sense50.execution_of m e)) exec)
+fills_nothing known m None = refl
+fills_nothing known m (Some e) = refl
 
 -- by the letter
 by_letter : (known : Said) (m : Message) → IsOrdinary m → (report reject : Bool)
@@ -196,13 +199,7 @@ by_letter : (known : Said) (m : Message) → IsOrdinary m → (report reject : B
 by_letter known m h true true e f lack apart = absurd (let not = apart refl in cc)
 by_letter known m h true false e f lack apart =
     report_kept m h e (has_codes (Same 41) m lack)
-    ∙ fills_nothing (sense50.exec_of (code_in m.cells 150))
-  where
-    fills_nothing : (exec : Option Exec)
-        → option_map (λ e. Executed (sense50.execution_of m e)) exec
-        ≡ option_map (filled known) (option_map (λ e. Executed (sense50.execution_of m e)) exec)
-    fills_nothing None = refl
-    fills_nothing (Some e) = refl
+    ∙ fills_nothing known m (sense50.exec_of (code_in m.cells 150))
 by_letter known m h false true e f lack apart =
     reject_means known m h f (has_codes (Original known) m lack)
 by_letter known m h false false e f lack apart = refl
@@ -227,14 +224,22 @@ fills_no_book book known None = refl
 fills_no_book book known (Some (Executed report)) = refl
 fills_no_book book known (Some (NotCanceled reject)) = refl
 
-pub books_alike : (known : Said) (m w : Message)
-    → sense42.report42 w ≡ option_map (filled known) (sense50.report50 m)
-    → (book : Book) → step42 book w ≡ step50 book m
-books_alike known m w means book =
-    steps42.steps_meant book w
+-- of reports that mean the same, whatever is stepped by their meaning
+pub books_by : (step : Book → Message → Book) (report : Message → Option Report)
+    → ((book : Book) (w : Message) → step book w ≡ step_if book (report w))
+    → (known : Said) (m w : Message)
+    → report w ≡ option_map (filled known) (sense50.report50 m)
+    → (book : Book) → step book w ≡ step50 book m
+books_by step report meant known m w means book =
+    meant book w
     ∙ ap (step_if book) means
     ∙ fills_no_book book known (sense50.report50 m)
     ∙ sym (steps50.steps_meant book m)
+
+pub books_alike : (known : Said) (m w : Message)
+    → sense42.report42 w ≡ option_map (filled known) (sense50.report50 m)
+    → (book : Book) → step42 book w ≡ step50 book m
+books_alike = books_by step42 sense42.report42 steps42.steps_meant
 
 pub keeps_books : KeepsBooks
 keeps_books known m w h down book = books_alike known m w (keeps_sense known m w h down) book

@@ -1,117 +1,61 @@
 -- What goes down by each kind of rule is sound in the table that goes down.
 use Rattle.std.proofs.Common.{◌≡◌, ℕ, zero, suc, take, List, [], ◌∷◌, Bool, true, false, Option}
-use Rattle.std.proofs.Common.{Some, None, refl, sym, ap, subst, ◌∙◌, codes, lit≤, option_map}
-use Rattle.std.proofs.Common.{unwrap_or, arith, map}
+use Rattle.std.proofs.Common.{Some, None, refl, sym, ap, subst, ◌∙◌, codes, option_map, unwrap_or}
 use Rattle.std.specs.Prelude.{IfSome, IsSome, not, drop, ◌||◌, ◌&&◌, ◌==◌, is_some, if◌then◌else◌}
-use Rattle.std.specs.List.{AllByRecursion, list_any}
+use Rattle.std.specs.List.{list_any}
 use Rattle.std.proofs.lemmas.Bool.{eqb-true}
 use Rattle.field_groups.specs.Field.{Field, is_soh}
-use Rattle.message_tables.specs.Tables.{Condition, Need, Required, Optional, Lenient, When, Cell}
-use Rattle.message_tables.specs.Tables.{Row, Item, One, Message, Said, Tag, Role, Spells, ◌>>=◌}
-use Rattle.message_tables.specs.Tables.{code_of, code_if, code_in, has_tag, is_listed, is_needed}
-use Rattle.message_tables.specs.Tables.{is_one_of, lines_of, said_at, value_at}
-use Rattle.message_tables.specs.Content.{content, line_fields}
-use Rattle.value_kinds.specs.ValueKind.{ValueKind, Code, Known, Id, Text, Reason, FineStamp}
-use Rattle.value_kinds.specs.ValueKind.{code_text, MonthYear, Day, number_of_two}
+use Rattle.message_tables.specs.Tables.{Condition, Need, Required, Optional, When, Row, Item, One}
+use Rattle.message_tables.specs.Tables.{Message, Said, Tag, Role, Spells, ◌>>=◌, code_of, code_if}
+use Rattle.message_tables.specs.Tables.{code_in, has_tag, is_listed, is_needed, is_one_of, said_at}
+use Rattle.message_tables.specs.Tables.{value_at}
+use Rattle.message_tables.specs.Content.{content}
+use Rattle.value_kinds.specs.ValueKind.{Code, Known, Id, Text, Reason, code_text, MonthYear, Day}
+use Rattle.value_kinds.specs.ValueKind.{number_of_two}
 use Rattle.row_values.specs.Kinds.{Kind, Value, DayOf, TimeBeside, judge, is_at_close, row}
 use Rattle.row_values.specs.Amounts.{amount_in}
-use Rattle.row_values.specs.Groups.{parties}
-use Rattle.order_meaning.specs.Report.{or_known}
 use Rattle.std.specs.Str.Parse.{digits_value}
 use Rattle.rows_fix42.specs.Meaning.{is_on_close}
 use Rattle.rows_fix42.specs.Header.{has_day, header as header42, table as table42}
 use Rattle.rows_fix50.specs.Header.{month_by, table as table50}
 use Rattle.reports_fix42.specs.Reports.{is_about_another, is_execution}
-use Rattle.sound_laws.specs.Sound.{AreSaid, IsClear, IsSaid, IsLine, IsSound}
+use Rattle.sound_laws.specs.Sound.{IsClear, IsSaid, IsSound}
 use Rattle.sound_laws.proofs.Each.{both, either}
 use Rattle.sound_laws.proofs.ContentValues.{is_alone}
-use Rattle.sound_laws.proofs.RowsSaid.{row_of_tag, same_value, required_said, optional_said}
-use Rattle.sound_laws.proofs.RowsSaid.{needed_said, code_said, codes_said, among, is_code_of}
-use Rattle.rule_rows.specs.ByRules.{At, by_rules, lack_if, lack_by}
-use Rattle.rule_rows.proofs.Items.{has_one, has_row, item_if, turned, can_go, is_plain, is_value}
+use Rattle.sound_laws.proofs.RowsSaid.{row_of_tag, same_value, optional_said, needed_said}
+use Rattle.sound_laws.proofs.RowsSaid.{code_said, codes_said, among, is_code_of}
+use Rattle.rule_rows.specs.ByRules.{At, by_rules, lack_by}
+use Rattle.rule_rows.proofs.Items.{has_one, has_row, item_if, turned, can_go, is_value, IsRow}
 use Rattle.rule_rows.proofs.Looked.{AreOwn, IsFound, each_rule}
 use Rattle.rule_rows.proofs.Source as source
-use Rattle.rule_rows.proofs.Source.{IsSpelled, carried_said, is_less}
+use Rattle.rule_rows.proofs.Source.{IsSpelled}
 use Rattle.rule_rows.proofs.Sound.{AreGroups, Goes, IsGood, RuleGood, carried_good, has_of, may_fit}
-use Rattle.rule_rows.proofs.Sound.{own_good, role_is, sound_made, turned_good, value_is}
+use Rattle.rule_rows.proofs.Sound.{own_good, sound_made, turned_good, value_is}
 use Rattle.rule_rows.specs.Rules.{By, Moved, Group}
+use Rattle.rule_rows.proofs.Carried.{carried, row_carried, lines_carried, is_known_of, all_can_go}
 use Rattle.report_rules.specs.Rules.{Rule, Own, OrKnown, PartyOf, ExecId, TransType, ExecType}
 use Rattle.report_rules.specs.Rules.{OrdStatus, Another, Traded, Within, Told, Month, DayOfDate}
 use Rattle.report_rules.specs.Rules.{OrdType, Time, at, at_close, coded, exec_type, is_fill, kinds}
 use Rattle.report_rules.specs.Rules.{lacks_type, on_close, status_if, time_down, told, trans_type}
-use Rattle.report_rules.specs.Rules.{works_on, own_kinds, own_said}
-use Rattle.report_rules.specs.Down.{IsId, IsOrdinary}
+use Rattle.report_rules.specs.Rules.{works_on, own_kinds, own_said, party}
+use Rattle.report_rules.specs.Down.{IsOrdinary}
 use Rattle.report_rules.proofs.CodesSaid.{AreCodes, are_codes, statuses, time_is_code, time_counts}
 use Rattle.report_rules.proofs.CodesSaid.{but_last, close_is, open_is}
 use Rattle.report_rules.proofs.DatesDown.{day_spelled, day_value, month_spelled, month_there}
 use Rattle.report_rules.proofs.DatesDown.{only_test}
 use Rattle.report_rules.proofs.KindsDown.{are_kinds}
-use Rattle.report_rules.proofs.RowsDown.{IsTold, ids_said, id_said, is_known_of, known_down}
-use Rattle.report_rules.proofs.RowsDown.{party_id, reason_said, stamp_down, text_said, told_both}
-use Rattle.report_rules.proofs.RowsDown.{told_said}
-use Rattle.report_rules.proofs.TablesDown.{Fits, GoesDown, IsRow, all_can_go, by_type, carried}
-use Rattle.report_rules.proofs.TablesDown.{carried_group, down_kind, down_need, each_made, has_rule}
-use Rattle.report_rules.proofs.TablesDown.{items_down, make, month_row, needed, own_row, time_row}
-use Rattle.report_rules.proofs.TablesDown.{type_row, NeedsType}
+use Rattle.report_rules.proofs.RowsDown.{IsTold, ids_said, id_said, reason_said, text_said}
+use Rattle.report_rules.proofs.RowsDown.{known_said, role_id, all_told}
+use Rattle.report_rules.proofs.TablesDown.{Fits, GoesDown, by_type, carried_group, each_made}
+use Rattle.report_rules.proofs.TablesDown.{has_rule, items_down, make, month_row, needed, own_row}
+use Rattle.report_rules.proofs.TablesDown.{time_row, type_row, NeedsType}
 
--- ---- a row that is carried
-
-module _ (before after : List Field) where
-  kind_down : (kind : ValueKind) (said : Said)
-      → IfSome said (λ text. judge before (Value kind) text ≡ Spells text)
-      → IfSome said (λ text. judge after (down_kind (Value kind)) text ≡ Spells text)
-  kind_down (Known listed) said h = known_down before after listed said h
-  kind_down FineStamp said h = stamp_down before after said h
-  kind_down kind said h = same_value before after kind said h
-
-  -- any kind of value
-  valued : (kind : Kind) → is_value kind ≡ true → (said : Said)
-      → IfSome said (λ text. judge before kind text ≡ Spells text)
-      → IfSome said (λ text. judge after (down_kind kind) text ≡ Spells text)
-  valued (Value kind) v said h = kind_down kind said h
-  valued kind v said h = absurd cc
-
-  row_down : (to : ℕ) (row : Row Kind) (said : Said) → can_go row ≡ true
-      → IsSaid judge before row said → IsSaid judge after (carried to row) said
-  row_down to row said ok h =
-      let p = both (is_value row.kind) (is_plain row.need) ok in
-      carried_said before after row to (down_kind row.kind) (down_need row.need) said
-      (less_is row.need p.1) h (valued row.kind p.0 said h.spelled)
-    where
-      less_is : (need : Need) → is_plain need ≡ true → is_less need (down_need need) ≡ true
-      less_is Required h = refl
-      less_is Optional h = refl
-      less_is Lenient h = refl
-      less_is need h = absurd cc
-
-  -- a value that other fields need
-  same_kind : (kind : Kind) → is_value kind ≡ true → (said : Said)
-      → IfSome said (λ text. judge before kind text ≡ Spells text)
-      → IfSome said (λ text. judge after kind text ≡ Spells text)
-  same_kind (Value kind) v said h = same_value before after kind said h
-  same_kind kind v said h = absurd cc
-
--- ---- the lines of a group
-
-cells_down : (fields : List Field) (rows : List (Row Kind)) (cells : List Cell)
-    → all_can_go rows ≡ true → AreSaid judge fields rows cells
-    → AreSaid judge fields (map (λ row. carried row.tag row) rows) cells
-cells_down fields [] [] ok said = tt
-cells_down fields [] (cell ∷ cells) ok said = absurd said
-cells_down fields (row ∷ rows) [] ok said = absurd said
-cells_down fields (row ∷ rows) (cell ∷ cells) ok said =
-    let p = both (can_go row) (all_can_go rows) ok in (
-      said.0,
-      row_down fields fields row.tag row cell.1 p.0 said.1,
-      cells_down fields rows cells p.1 said.2,
-    )
-
-lines_down : (rows : List (Row Kind)) (lines : List (List Cell)) → all_can_go rows ≡ true
-    → AllByRecursion (IsLine judge rows) lines
-    → AllByRecursion (IsLine judge (map (λ row. carried row.tag row) rows)) lines
-lines_down rows [] ok said = tt
-lines_down rows (line ∷ lines) ok said =
-    (cells_down (line_fields line) rows line ok said.0, lines_down rows lines ok said.1)
+-- a value that other fields need
+same_kind : (before after : List Field) (kind : Kind) → is_value kind ≡ true → (said : Said)
+    → IfSome said (λ text. judge before kind text ≡ Spells text)
+    → IfSome said (λ text. judge after kind text ≡ Spells text)
+same_kind before after (Value kind) v said h = same_value before after kind said h
+same_kind before after kind v said h = absurd cc
 
 -- ---- needs
 
@@ -244,18 +188,6 @@ module _ (all : List Rule) (own : AreOwn kinds all) (letter : ℕ) (items : List
         none_of : (o : Option (Row Kind)) → is_some o ≡ false → o ≡ None
         none_of None e = refl
         none_of (Some row) e = absurd cc
-
-    -- ---- items
-
-    original_said : (said known : Said) → IsSpelled before (Value Id) said → IfSome known IsId
-        → lack_if (not (is_some (or_known said known))) 41 ≡ None
-        → IsSaid judge after (row Required 41 Id) (or_known said known)
-    original_said (Some id) known h k lack =
-        required_said after 41 (Value Id) (Some id) refl
-        (same_value before after Id (Some id) h.spelled) h.clear
-    original_said None (Some id) h k lack =
-        required_said after 41 (Value Id) (Some id) refl (same_value [] after Id (Some id) k.0) k.1
-    original_said None None h k lack = absurd cc
 
     -- ---- codes
 
@@ -439,18 +371,8 @@ module _ (all : List Rule) (own : AreOwn kinds all) (letter : ℕ) (items : List
 
       told_case : Fits items (By Told) → IsTold 48 (told m)
       told_case fit =
-          let a = told_said before 103 8 (at m 103) (lit≤ tt)
-          (spelled (row Optional 103 Reason) fit.1) in
-          let b = told_said before 378 5 (at m 378) (lit≤ tt)
-          (spelled (row Optional 378 Reason) fit.2) in
-          let c = told_said before 102 3 (at m 102) (lit≤ tt)
-          (spelled (row Optional 102 Reason) fit.3) in
-          let all = told_both 12 24 _ _ a (told_both 12 12 _ _ b c) in
-          record {
-            short = let low = all.short in omega (arith, low);
-            clear = all.clear;
-            begins = all.begins;
-          }
+          all_told before m (spelled (row Optional 103 Reason) fit.1)
+          (spelled (row Optional 378 Reason) fit.2) (spelled (row Optional 102 Reason) fit.3)
 
       clear_back : (n : ℕ) (bytes : List ℕ) → IsClear bytes → IsClear (drop n bytes)
       clear_back zero bytes h = h
@@ -495,24 +417,22 @@ module _ (all : List Rule) (own : AreOwn kinds all) (letter : ℕ) (items : List
       rule_down : (rule : Rule) → IsFound kinds all rule → Fits items rule
           → kinds.lack m rule ≡ None → RuleGood g rule
       rule_down (Moved from to) found fit lack =
-          turned_good g (λ row. can_go row ≡ true) (Moved from to) from (carried to)
+          turned_good g (λ row. can_go row ≡ true) (Moved from to) from (carried false to)
           (λ row. refl) found (may_fit (row_of_tag from items) fit)
-          (λ row fit said groups. row_down before after to row (at m from) fit said)
+          (λ row fit said groups. row_carried false before after to row (at m from) fit said)
       rule_down (By (OrKnown known)) found fit lack = own_case (OrKnown known) refl found
           (λ has groups.
-          original_said (at m 41) known (spelled (row Optional 41 Id) fit.0) fit.1 lack)
+          known_said before after 41 Id (at m 41) known (spelled (row Optional 41 Id) fit.0) fit.1
+          lack)
       rule_down (By (PartyOf role to)) found fit lack = own_case (PartyOf role to) refl found
           (λ has groups.
-          let P : Said → Type 0 = λ id. IfSome id IsId in
-          ids_said after to (said_at m.cells (Role role))
-          (subst P (sym (role_is g items role (sym (has_one items (Role role)) ∙ has) sound.items))
-          (party_id role (lines_of 453 m.groups) (source.group_is (table50 letter items) m sound
-          453 parties (fit (sym (has_one items (Role role)) ∙ has))).said)))
+          ids_said after to (party m role) (role_id (table50 letter items) m sound
+          (fit (sym (has_one items (Role role)) ∙ has)) role))
       rule_down (Group count) found fit lack =
           carried_good g (λ group. all_can_go group.rows ≡ true) (Group count) count
           carried_group (λ group. refl) refl refl found fit
           (λ group lines ok said.
-          record { few = said.few; said = lines_down group.rows lines ok said.said })
+          record { few = said.few; said = lines_carried false group.rows lines ok said.said })
       rule_down (By ExecId) found fit lack = own_case ExecId refl found (λ has groups.
           id_said before after (status_if (code_if m.cells 150)) (at m 17)
           (is_there (row Required 17 Id) refl (has_of g 17 has) fit)

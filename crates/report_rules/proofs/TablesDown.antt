@@ -1,13 +1,12 @@
 -- The table that the rules make of a table of FIX 5.0 SP2. The tables of reports of FIX 4.2 are what
 -- they make of those of FIX 5.0 SP2.
-use Rattle.std.specs.Prelude.{◌≡◌, ℕ, Bool, true, List, [], ◌∷◌, Option, Some, IfSome, codes, map}
-use Rattle.std.specs.List.{AllByRecursion, list_all}
+use Rattle.std.specs.Prelude.{◌≡◌, ℕ, Bool, true, false, List, [], ◌∷◌, Option, Some, IfSome, codes}
+use Rattle.std.specs.List.{AllByRecursion}
 use Rattle.std.proofs.Common.{refl}
 use Rattle.message_tables.specs.Tables.{Condition, Is, Need, Required, Optional, Lenient, When, Row}
 use Rattle.message_tables.specs.Tables.{RepeatingGroup, Item, One, Role}
-use Rattle.value_kinds.specs.ValueKind.{Code, Known, Id, Text, Reason, FineStamp, Stamp, MonthYear}
-use Rattle.value_kinds.specs.ValueKind.{Day}
-use Rattle.row_values.specs.Kinds.{Kind, Value, DayOf, MonthBeside, TimeBeside, row}
+use Rattle.value_kinds.specs.ValueKind.{Code, Known, Id, Text, Reason, MonthYear, Day}
+use Rattle.row_values.specs.Kinds.{Kind, DayOf, MonthBeside, TimeBeside, row}
 use Rattle.row_values.specs.Groups.{parties}
 use Rattle.rows_fix42.specs.Header.{has_day}
 use Rattle.reports_fix42.specs.Reports.{is_about_another, is_execution}
@@ -15,12 +14,13 @@ use Rattle.sound_laws.proofs.ContentValues.{is_alone}
 use Rattle.sound_laws.proofs.RowsSaid.{row_of_tag}
 use Rattle.rule_rows.specs.ByRules.{has_place, outline_of}
 use Rattle.rule_rows.specs.Rows.{group_at}
-use Rattle.rule_rows.proofs.Items.{can_go, has_row, is_value, item_if, item_made, may_go, turned}
-use Rattle.rule_rows.proofs.Items.{turned_made}
+use Rattle.rule_rows.proofs.Items.{has_row, is_value, item_if, item_made, may_go, turned}
+use Rattle.rule_rows.proofs.Items.{turned_made, IsRow}
 use Rattle.rule_rows.proofs.Looked.{IsFound}
 use Rattle.rule_rows.proofs.Made.{IsMade, made}
 use Rattle.rule_rows.specs.Rules.{By, Moved, Group}
 use Rattle.rule_rows.proofs.Own.{each_with, make_with}
+use Rattle.rule_rows.proofs.Carried.{carried, carried_rows, all_can_go}
 use Rattle.report_rules.specs.Rules.{Rule, Own, OrKnown, PartyOf, ExecId, TransType, ExecType}
 use Rattle.report_rules.specs.Rules.{OrdStatus, Another, Traded, Within, Told, Month, DayOfDate}
 use Rattle.report_rules.specs.Rules.{OrdType, Time, has, kinds, own_kinds}
@@ -28,21 +28,7 @@ use Rattle.report_rules.specs.Down.{IsId}
 use Rattle.report_rules.proofs.CodesSaid.{statuses}
 use Rattle.report_rules.proofs.RowsDown.{is_other}
 
--- ---- rows that are carried
-
--- what is dropped where it is outside the profile may be missing
-abbrev pub down_need : Need → Need
-down_need Lenient = Optional
-down_need need = need
-
--- a code that has to be known is one of these, and a moment that is cut is one of FIX 4.2
-abbrev pub down_kind : Kind → Kind
-down_kind (Value (Known listed)) = Value (Code listed)
-down_kind (Value FineStamp) = Value Stamp
-down_kind kind = kind
-
-abbrev pub carried : ℕ → Row Kind → Row Kind
-carried to row = record { tag = to; kind = down_kind row.kind; need = down_need row.need }
+-- ---- what a rule makes of a row
 
 -- a row that other fields need
 abbrev pub needed : ℕ → Condition → Row Kind → Row Kind
@@ -52,12 +38,9 @@ needed tag condition row = record { tag = tag; kind = row.kind; need = When cond
 abbrev pub carried_group : RepeatingGroup Kind → RepeatingGroup Kind
 carried_group group = record {
   count = group.count;
-  rows = map (λ row. carried row.tag row) group.rows;
+  rows = carried_rows false group.rows;
   skipped = [];
 }
-
-abbrev pub all_can_go : List (Row Kind) → Bool
-all_can_go rows = list_all can_go rows
 
 abbrev pub by_type : List ℕ → Need
 by_type listed = When ((Is 150 listed ∷ []) ∷ [])
@@ -93,20 +76,16 @@ module _ (items : List (Item Kind)) where
   each_own rule = item_made (has_rule rule) (One (own_row rule))
 
   abbrev pub make : Rule → Option (Item Kind)
-  make rule = make_with own_kinds carried carried_group items make_own rule
+  make rule = make_with own_kinds (carried false) carried_group items make_own rule
 
   pub each_made : (rule : Rule) → IsMade kinds items make rule
-  each_made rule = each_with own_kinds carried carried_group items make_own (λ to row. refl)
-      (λ group. refl) each_own rule
+  each_made rule = each_with own_kinds (carried false) carried_group items make_own
+      (λ to row. refl) (λ group. refl) each_own rule
 
   abbrev pub items_down : List Rule → List (Item Kind)
   items_down rules = made kinds items make rules
 
   -- ---- what a rule asks of the table
-
-  -- where the table has the row of a tag, it is this one
-  abbrev pub IsRow : Row Kind → Type 0
-  IsRow row = IfSome (row_of_tag row.tag items) (λ other. other ≡ row)
 
   abbrev pub NeedsType : ℕ → List ℕ → Type 0
   NeedsType tag listed = IfSome (row_of_tag tag items)
@@ -129,21 +108,22 @@ module _ (items : List (Item Kind)) where
 
   abbrev pub Fits : Rule → Type 0
   Fits (Moved from to) = may_go (row_of_tag from items) ≡ true
-  Fits (By (OrKnown known)) = IsRow (row Optional 41 Id) × IfSome known IsId
+  Fits (By (OrKnown known)) = IsRow items (row Optional 41 Id) × IfSome known IsId
   Fits (By (PartyOf role to)) =
       has_place (outline_of items) (Role role) ≡ true → group_at 453 items ≡ Some parties
   Fits (Group count) =
       IfSome (group_at count items) (λ group. all_can_go group.rows ≡ true)
-  Fits (By ExecId) = IsRow (row Required 17 Id)
+  Fits (By ExecId) = IsRow items (row Required 17 Id)
   Fits (By (Another tag)) = NeedsType tag (codes "GH")
   Fits (By (Traded tag)) = NeedsType tag (codes "FG")
-  Fits (By (Within tag last other)) = IsRow (row Optional tag Reason) × (is_other other ≡ true)
-  Fits (By Told) = IsRow (row Optional 58 Text) × IsRow (row Optional 103 Reason)
-      × IsRow (row Optional 378 Reason) × IsRow (row Optional 102 Reason)
-  Fits (By Month) = IsRow month_row × IsRow (row Optional 541 Day)
-  Fits (By DayOfDate) = IsRow (row Optional 541 Day)
-  Fits (By OrdType) = IsRow type_row
-  Fits (By Time) = IsRow time_row × IsRow type_row
+  Fits (By (Within tag last other)) =
+      IsRow items (row Optional tag Reason) × (is_other other ≡ true)
+  Fits (By Told) = IsRow items (row Optional 58 Text) × IsRow items (row Optional 103 Reason)
+      × IsRow items (row Optional 378 Reason) × IsRow items (row Optional 102 Reason)
+  Fits (By Month) = IsRow items month_row × IsRow items (row Optional 541 Day)
+  Fits (By DayOfDate) = IsRow items (row Optional 541 Day)
+  Fits (By OrdType) = IsRow items type_row
+  Fits (By Time) = IsRow items time_row × IsRow items type_row
   Fits rule = Unit {0}
 
 -- A TABLE GOES DOWN: it fits each rule, and what values are judged by has one place.

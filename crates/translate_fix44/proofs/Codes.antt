@@ -1,7 +1,6 @@
 -- The codes that rules turn mean what they meant.
-use Rattle.std.proofs.Common.{◌≡◌, ℕ, Bool, true, false, ◌==◌, ◌||◌, List, Option, Some}
-use Rattle.std.proofs.Common.{None, refl, subst, if◌then◌else◌, codes, unwrap_or}
-use Rattle.std.proofs.Common.{option_map, arith}
+use Rattle.std.proofs.Common.{◌≡◌, ℕ, Bool, true, false, ◌==◌, ◌||◌, List, Option, Some, None, refl}
+use Rattle.std.proofs.Common.{subst, if◌then◌else◌, codes, unwrap_or, option_map, arith}
 use Rattle.std.specs.Prelude.{not, IfSome, IsSome}
 use Rattle.std.proofs.lemmas.Bool.{eqb-true}
 use Rattle.std.proofs.lemmas.Bool.Decides.{nat_tests}
@@ -14,6 +13,7 @@ use Rattle.order_meaning.specs.Report.{or_known}
 use Rattle.order_meaning.specs.Request.{RequestKind, New, Cancel, Replace, Status}
 use Rattle.sound_laws.proofs.Each.{◌&◌, one_of}
 use Rattle.request_rules.specs.Rules.{is_unlisted}
+use Rattle.request_rules.proofs.TermsUp.{listed_is}
 use Rattle.translate_fix44.specs.Rules.{else_said, turn}
 
 -- what is spelled as a code is that code
@@ -24,15 +24,6 @@ said_back (Some code) = refl
 pub unturned : (code : Option ℕ) → option_map (turn None) code ≡ code
 unturned None = refl
 unturned (Some code) = refl
-
-pub listed_is : (listed : List ℕ) (code : Option ℕ) → is_unlisted listed code ≡ false
-    → IfSome code (λ c. is_one_of listed c ≡ true)
-listed_is listed None h = tt
-listed_is listed (Some code) h = by (is_one_of listed code) h
-  where
-    by : (b : Bool) → not b ≡ false → b ≡ true
-    by true h = refl
-    by false h = absurd cc
 
 -- ---- ExecType and ExecID
 

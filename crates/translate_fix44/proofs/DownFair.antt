@@ -1,14 +1,13 @@
 -- A report goes down fairly: what is written means the same, changes each book alike, and is split
 -- and read again behind its header.
-use Rattle.std.proofs.Common.{◌≡◌, ◌∙◌, ℕ, List, [], ◌∷◌, ◌++◌, true, false, Option, None, Ok}
-use Rattle.std.proofs.Common.{◌≤◌, length, refl, sym, ap, subst, lit≤, arith}
-use Rattle.std.specs.Prelude.{◌==◌, if◌then◌else◌, unwrap_or}
-use Rattle.std.specs.Option.{option_map}
+use Rattle.std.proofs.Common.{◌≡◌, ◌∙◌, ℕ, List, [], ◌∷◌, ◌++◌, true, Option, None, Ok, ◌≤◌, length}
+use Rattle.std.proofs.Common.{refl, sym, ap, subst, lit≤, arith}
+use Rattle.std.specs.Prelude.{◌==◌, if◌then◌else◌}
 use Rattle.field_groups.specs.Data.{is_data_tag}
 use Rattle.field_groups.specs.Field.{AreFields, Field}
 use Rattle.message_tables.specs.Content.{content}
 use Rattle.message_tables.specs.FirstFault.{message_of}
-use Rattle.message_tables.specs.Tables.{Cell, Item, Message, Table, flag_of, lines_of}
+use Rattle.message_tables.specs.Tables.{Cell, Item, Message, Table, lines_of}
 use Rattle.row_values.specs.Kinds.{Kind, judge}
 use Rattle.first_faults.specs.Faults.{told}
 use Rattle.rows_fix42.specs.Header.{table as table44}
@@ -31,13 +30,13 @@ use Rattle.report_rules.proofs.ReadDown.{reject_complete, report_complete}
 use Rattle.report_rules.proofs.SenseDown.{not_lacking}
 use Rattle.translation.specs.Header.{carried, head_down, type_of}
 use Rattle.translation.proofs.BehindHeader.{front, items_behind, whole}
-use Rattle.translation.proofs.CarriedDown.{head_clear, own_down, resend_down, type_down}
-use Rattle.translation.proofs.CarriedHeader.{HasHeader, head_is_own, head_value}
+use Rattle.translation.proofs.CarriedDown.{head_clear, type_down}
+use Rattle.translation.proofs.CarriedHeader.{HasHeader, head_value}
 use Rattle.translation.proofs.Going.{IsFair, Keeps}
 use Rattle.translation.proofs.SplitAgain.{clear_again}
 use Rattle.report_translate.specs.Reading.{report_message}
 use Rattle.report_translate.proofs.DownAgain.{Eight, IsEither, IsOf, Nine, clear, down_type, either}
-use Rattle.report_translate.proofs.DownAgain.{message_again, reject_header, report_header, unfilled}
+use Rattle.report_translate.proofs.DownAgain.{reject_header, report_header, unfilled, behind_head}
 use Rattle.report_translate.proofs.OfType.{type_is}
 use Rattle.translate_fix44.specs.Laws.{IsReport44, Rejects, Reports, StandsDown}
 use Rattle.translate_fix44.specs.Rules.{Else, Rule, Same, down_content, down_message, down_rules}
@@ -71,11 +70,7 @@ module _ (fields : List Field) (are : AreFields None fields) (m w : Message)
   keeps table50 letter items of header stands c is few behind fit reads =
       let t = table44 letter items in
       let typed = type_is (type_of fields) fields None m read in
-      let own = own_down (type_of fields) fields (head_is_own table50 fields of.read.good
-      (clear fields are m read) (type_of fields) typed header) in
       let head : List Field = (35, type_of fields) ∷ carried (head_down fields) in
-      let flag = ap (λ (v : Option (List ℕ)). unwrap_or (option_map flag_of v) false)
-      (resend_down fields) ∙ sym of.read.resend ∙ ap (λ (x : Message). x.resend) made in
       let places = fits.places_are_apart t (whole t Values w) (front t Values w) fit in
       record {
         kept = record {
@@ -88,8 +83,8 @@ module _ (fields : List Field) (are : AreFields None fields) (m w : Message)
               of.type_is
               ∙ reads (head ++ down_content None m)
               ∙ ap (λ (fs : List Field). completed_by (told (message_of judge t (head ++ fs)))) is
-              ∙ ap completed_by (message_again letter items (type_of fields) (head_down fields) w
-              own behind fit c.sound flag)
+              ∙ ap completed_by (behind_head fields are m read table50 (letter ∷ []) letter items w
+              of header (sym (ap (λ (x : Message). x.resend) made)) c.sound behind fit)
               ∙ ap (λ (x : Message). Ok x) (completed_again w c.month
               (ap places_apart c.sound.places ∙ places) w.resend);
         };

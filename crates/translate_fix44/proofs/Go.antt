@@ -13,7 +13,7 @@ use Rattle.value_kinds.specs.ValueKind.{Code, Id, code_text, spelling}
 use Rattle.row_values.specs.Kinds.{Kind, Value, judge, row}
 use Rattle.rows_fix42.specs.Header.{header as header42, table as table44}
 use Rattle.rows_fix50.specs.Header.{completed_by, header as header50, month_by, table as table50}
-use Rattle.order_meaning.specs.Report.{Exec, Executed, NotCanceled, filled}
+use Rattle.order_meaning.specs.Report.{Executed, NotCanceled, filled}
 use Rattle.order_meaning.specs.Request.{Request, RequestKind, New, Cancel, Replace, Status}
 use Rattle.dict_fix50.specs.Message.{message50}
 use Rattle.dict_fix50.specs.Sense as request50
@@ -21,60 +21,48 @@ use Rattle.dict_fix44.specs.Message.{report_message44}
 use Rattle.dict_fix44.specs.Reports as reports44
 use Rattle.dict_fix44.specs.Requests as requests44
 use Rattle.dict_fix44.specs.Sense as sense44
+use Rattle.dict_fix44.specs.Step.{step44}
+use Rattle.dict_fix44.proofs.Steps as steps44
 use Rattle.reports_fix50.specs.Message as tables50
 use Rattle.reports_fix50.specs.Reports as reports50
 use Rattle.reports_fix50.specs.Sense as sense50
 use Rattle.sound_laws.specs.Complete.{HasMonthOfDate, IsComplete}
 use Rattle.sound_laws.specs.Sound.{IsClear, IsSound, without_resend}
-use Rattle.sound_laws.proofs.Completed.{completed_again}
-use Rattle.sound_laws.proofs.ContentAgain.{read_again}
+use Rattle.sound_laws.proofs.ContentAgain.{content_again}
 use Rattle.sound_laws.proofs.Each.{◌&◌, none_each}
 use Rattle.sound_laws.proofs.Stages.{item_tags}
-use Rattle.sound_laws.proofs.Lookups.{places_apart}
 use Rattle.sound_laws.proofs.PlainFields.{clear_fields}
-use Rattle.sound_laws.proofs.RowsSaid.{is_code_of, row_of_tag}
+use Rattle.sound_laws.proofs.RowsSaid.{is_code_of}
 use Rattle.sound_laws.proofs.TableFits as fits
 use Rattle.sound_laws.proofs.TableFits.{table_fits}
-use Rattle.rule_rows.specs.ByRules.{At, by_rules, content_by, has_place, lack_by, or_lack}
-use Rattle.rule_rows.specs.ByRules.{outline_of}
+use Rattle.rule_rows.specs.ByRules.{At, by_rules, content_by, has_place, lack_by, outline_of}
 use Rattle.rule_rows.proofs.Looked as looked
-use Rattle.rule_rows.proofs.Looked.{AreOwn, rule_at, said_by}
+use Rattle.rule_rows.proofs.Looked.{AreOwn, rule_at, said_by, no_lack}
 use Rattle.rule_rows.proofs.Made.{content_made}
 use Rattle.rule_rows.proofs.Source as source
 use Rattle.request_rules.specs.Canonical.{IsCanonical, IsRequest}
 use Rattle.request_rules.specs.Canonical as canonical
 use Rattle.request_rules.specs.Rules.{party_lines}
+use Rattle.request_rules.proofs.ByType.{asked, letter_of}
 use Rattle.report_rules.specs.Down.{IsId, IsReport50, Rejects50, Reports50}
 use Rattle.report_rules.specs.Rules.{at}
+use Rattle.report_rules.proofs.SenseDown.{not_lacking, fills_nothing, books_by}
 use Rattle.translate_fix44.specs.Laws.{GoDown, GoUp, IsRequest44, News, Cancels, ReadGoUp, Rejects}
 use Rattle.translate_fix44.specs.Laws.{IsReport44, Replaces, Reports, StandsDown, StandsUp}
 use Rattle.translate_fix44.specs.Laws.{Statuses}
 use Rattle.rule_rows.specs.Rules.{By}
-use Rattle.translate_fix44.specs.Rules.{Else, Rule, Same, down_rules, kinds, rules_for}
-use Rattle.translate_fix44.specs.Rules.{turned_code, up_content, up_lack, up_rules}
+use Rattle.rule_rows.proofs.Items.{IsRow}
+use Rattle.translate_fix44.specs.Rules.{Else, Rule, Same, down_rules, kinds, rules_for, turned_code}
+use Rattle.translate_fix44.specs.Rules.{up_content, up_lack, up_rules}
 use Rattle.translate_fix44.proofs.Codes.{has_inst, status_turns}
 use Rattle.translate_fix44.proofs.KindsSay.{are_kinds, reject_own, report_own, up_own}
 use Rattle.translate_fix44.proofs.Read.{read_is_complete}
-use Rattle.translate_fix44.proofs.Sense.{books_alike, reject_kept, report_kept, request_means}
-use Rattle.translate_fix44.proofs.Sound.{no_lack, sound_by}
+use Rattle.translate_fix44.proofs.Sense.{reject_kept, report_kept, request_means}
+use Rattle.translate_fix44.proofs.Sound.{sound_by}
 use Rattle.translate_fix44.proofs.Tables.{Both, GoesBy, Neither, each_made, items_by, make}
+use Rattle.translate_fix44.specs.Put.{asked44, items_of}
 
 -- ---- either way
-
--- what lacks nothing goes by the rules
-not_lacking : (lack : Option ℕ) (m w : Message) → or_lack lack m ≡ Ok w → (lack ≡ None) × (m ≡ w)
-not_lacking None m w h = let is : m ≡ w = cc in (refl, is)
-not_lacking (Some tag) m w h = absurd cc
-
--- what is written of a sound message that says the month of its date is read again
-content_again : (t : Table Kind) → table_fits t [] ≡ true
-    → is_one_of (flat_map item_tags t.items) 97 ≡ false → (m : Message) → IsSound judge t m
-    → HasMonthOfDate m
-    → completed_by (told (message_of judge t (content t m))) ≡ Ok (without_resend m)
-content_again t fit bare m sound month =
-    ap completed_by (read_again t m fit bare sound) ∙ ap (λ (x : Message). Ok x)
-    (completed_again m month (ap places_apart sound.places ∙ fits.places_are_apart t m [] fit)
-    false)
 
 -- the month of what rules make of a message that says the month of its date
 month_kept : (all : List Rule) → AreOwn kinds all
@@ -92,13 +80,6 @@ or_none : (a b : Option ℕ) → or_else a b ≡ None → a ≡ None
 or_none None b h = refl
 or_none (Some x) b h = absurd cc
 
-abbrev asked : ℕ → (RequestKind → Request) → Option Request
-asked letter f =
-    if letter == 68 then Some (f New) else
-    (if letter == 70 then Some (f Cancel) else
-    (if letter == 71 then Some (f Replace) else
-    (if letter == 72 then Some (f Status) else None)))
-
 coded : (fields : List Field) (said : Said)
     → IfSome said (λ text. judge fields (Value (Code (codes "123"))) text ≡ Spells text)
     → IfSome said (λ text. IsSome (code_of text))
@@ -107,13 +88,18 @@ coded fields (Some text) h =
     let t = is_code_of fields (codes "123") text h in
     let P : List ℕ → Type 0 = λ x. IsSome (code_of x) in subst P (sym t.is) refl
 
-module _ (letter : ℕ) (kind : RequestKind) (items : List (Item Kind))
-    (goes : GoesBy true up_rules items)
-    (is : (f : RequestKind → Request) → asked letter f ≡ Some (f kind))
-    (inst : has_place (outline_of items) (Tag 21) ≡ has_inst kind)
-    (fit : table_fits (table50 letter (items_by true items up_rules)) [] ≡ true)
-    (bare : is_one_of (flat_map item_tags (items_by true items up_rules)) 97 ≡ false)
-    (m : Message) (c : IsComplete (table44 letter items) m) (lack : up_lack m ≡ None) where
+module _ (kind : RequestKind) (goes : GoesBy true up_rules (items_of kind))
+    (is : (f : RequestKind → Request) → asked (letter_of kind) f ≡ Some (f kind))
+    (inst : has_place (outline_of (items_of kind)) (Tag 21) ≡ has_inst kind)
+    (fit : table_fits (table50 (letter_of kind) (items_by true (items_of kind) up_rules)) [] ≡ true)
+    (bare : is_one_of (flat_map item_tags (items_by true (items_of kind) up_rules)) 97 ≡ false)
+    (m : Message) (c : IsComplete (asked44 kind) m) (lack : up_lack m ≡ None) where
+  abbrev letter : ℕ
+  letter = letter_of kind
+
+  abbrev items : List (Item Kind)
+  items = items_of kind
+
   abbrev w : Message
   w = by_rules kinds up_rules m
 
@@ -164,7 +150,7 @@ module _ (letter : ℕ) (kind : RequestKind) (items : List (Item Kind))
     means = means codes;
     again = subst IsAgain (sym c.sound.letter) (reads
         ∙ ap (λ fields. completed_by (told (message_of judge t fields))) by_table
-        ∙ content_again t fit bare w sound as_canonical.month);
+        ∙ content_again t w fit bare sound as_canonical.month);
   }
 
 -- a type that turns to none is listed where it was
@@ -247,29 +233,23 @@ status_goes = record {
   types = λ m listed n h. absurd cc;
 }
 
--- WHAT GOES UP STANDS FOR A MESSAGE.
-inst_coded : (letter : ℕ) (items : List (Item Kind)) (m : Message)
-    → IsSound judge (table44 letter items) m
-    → IfSome (row_of_tag 21 items) (λ other. other ≡ row Optional 21 (Code (codes "123")))
+inst_coded : (kind : RequestKind) (m : Message) → IsSound judge (asked44 kind) m
+    → IsRow (items_of kind) (row Optional 21 (Code (codes "123")))
     → IfSome (at m 21) (λ text. IsSome (code_of text))
-inst_coded letter items m sound is =
-    coded (content (table44 letter items) m) (at m 21) (source.spelled_by (table44 letter items) m
-    sound (row Optional 21 (Code (codes "123"))) is).spelled
+inst_coded kind m sound is = coded (content (asked44 kind) m) (at m 21)
+    (source.spelled_by (asked44 kind) m sound (row Optional 21 (Code (codes "123"))) is).spelled
 
+-- WHAT GOES UP STANDS FOR A MESSAGE.
 stands : (m : Message) → IsRequest44 m → up_lack m ≡ None → StandsUp m (by_rules kinds up_rules m)
 unfolding message50
-stands m (News c) lack =
-    stands_up 68 New requests44.new_order new_goes (λ f. refl) refl refl refl m c lack
-    (inst_coded 68 requests44.new_order m c.sound refl) canonical.News refl
-stands m (Cancels c) lack =
-    stands_up 70 Cancel requests44.cancel_request cancel_goes (λ f. refl) refl refl refl m c lack
-    (inst_coded 70 requests44.cancel_request m c.sound tt) canonical.Cancels refl
-stands m (Replaces c) lack =
-    stands_up 71 Replace requests44.replace_request replace_goes (λ f. refl) refl refl refl m c lack
-    (inst_coded 71 requests44.replace_request m c.sound refl) canonical.Replaces refl
-stands m (Statuses c) lack =
-    stands_up 72 Status requests44.status_request status_goes (λ f. refl) refl refl refl m c lack
-    (inst_coded 72 requests44.status_request m c.sound tt) canonical.Statuses refl
+stands m (News c) lack = stands_up New new_goes (λ f. refl) refl refl refl m c lack
+    (inst_coded New m c.sound refl) canonical.News refl
+stands m (Cancels c) lack = stands_up Cancel cancel_goes (λ f. refl) refl refl refl m c lack
+    (inst_coded Cancel m c.sound tt) canonical.Cancels refl
+stands m (Replaces c) lack = stands_up Replace replace_goes (λ f. refl) refl refl refl m c lack
+    (inst_coded Replace m c.sound refl) canonical.Replaces refl
+stands m (Statuses c) lack = stands_up Status status_goes (λ f. refl) refl refl refl m c lack
+    (inst_coded Status m c.sound tt) canonical.Statuses refl
 
 pub go_up : GoUp
 go_up m w request up =
@@ -283,7 +263,14 @@ read_go_up msg_type fields m w are read up =
 
 -- ---- down
 
-module _ (known : Said) (all : List Rule) (own : AreOwn kinds all) (letter : ℕ)
+-- what the rules make is complete in a table, is written by it, and is read again
+record IsGone (t : Table Kind) (all : List Rule) (m : Message) : Type 0 where
+  complete : IsComplete t (by_rules kinds all m)
+  written : content_by kinds all m ≡ content t (by_rules kinds all m)
+  again : completed_by (told (message_of judge t (content_by kinds all m)))
+      ≡ Ok (without_resend (by_rules kinds all m))
+
+module _ (all : List Rule) (own : AreOwn kinds all) (letter : ℕ)
     (items : List (Item Kind)) (goes : GoesBy false all items)
     (date : (m : Message) → said_by kinds m (rule_at kinds (At (Tag 541)) all) ≡ at m 541)
     (month : (m : Message) → said_by kinds m (rule_at kinds (At (Tag 200)) all) ≡ at m 200)
@@ -297,23 +284,23 @@ module _ (known : Said) (all : List Rule) (own : AreOwn kinds all) (letter : ℕ
   abbrev reported : Table Kind
   reported = table44 letter (items_by false items all)
 
-  pub report_sound : IsSound judge reported r
-  report_sound =
-      sound_by false all own letter items goes header50 header42 false true m c.sound lack
+  report_complete : IsComplete reported r
+  report_complete = record {
+    sound = sound_by false all own letter items goes header50 header42 false true m c.sound lack;
+    month = month_kept all own date month m c.month;
+  }
 
-  pub report_complete : IsComplete reported r
-  report_complete =
-      record { sound = report_sound; month = month_kept all own date month m c.month }
-
-  pub report_content : content_by kinds all m ≡ content reported r
-  report_content = content_made kinds items (make false items) m
+  report_written : content_by kinds all m ≡ content reported r
+  report_written = content_made kinds items (make false items) m
       (source.outline_is (table50 letter items) m c.sound) are_kinds all own (each_made false items)
 
-  pub report_again : completed_by (told (message_of judge reported (content_by kinds all m)))
-      ≡ Ok (without_resend r)
-  report_again =
-      ap (λ fields. completed_by (told (message_of judge reported fields))) report_content
-      ∙ content_again reported fit bare r report_sound (month_kept all own date month m c.month)
+  gone : IsGone reported all m
+  gone = record {
+    complete = report_complete;
+    written = report_written;
+    again = ap (λ fields. completed_by (told (message_of judge reported fields))) report_written
+        ∙ content_again reported r fit bare report_complete.sound report_complete.month;
+  }
 
 -- an ExecType that turns to none but I is listed where it was
 types_kept : (said : Said) (listed : List ℕ) → is_one_of listed 73 ≡ false
@@ -364,11 +351,14 @@ reject_goes known id = record {
   types = λ m listed n h. types_kept (at m 150) listed n h;
 }
 
-fills_nothing : (known : Said) (m : Message) (exec : Option Exec)
-    → option_map (λ e. Executed (sense50.execution_of m e)) exec
-    ≡ option_map (filled known) (option_map (λ e. Executed (sense50.execution_of m e)) exec)
-fills_nothing known m None = refl
-fills_nothing known m (Some e) = refl
+-- what both mean, by the letter
+abbrev MeanAlike : (known : Said) (m w : Message) → ℕ → Type 0
+MeanAlike known m w l = (if l == 56 then Some (Executed (sense44.execution_of w)) else
+    (if l == 57 then Some (NotCanceled (sense44.cancel_reject_of w)) else None))
+    ≡ option_map (filled known) (if l == 56
+    then option_map (λ exec. Executed (sense50.execution_of m exec))
+    (sense50.exec_of (code_in m.cells 150))
+    else (if l == 57 then Some (NotCanceled (sense50.cancel_reject_of m)) else None))
 
 -- what goes down by rules, whichever they are
 record Stands (known : Said) (rules : List Rule) (m : Message) : Type 0 where
@@ -392,26 +382,17 @@ report_stands : (known : Said) (m : Message) → IsComplete tables50.report_tabl
 report_stands known m c lack =
     let rules = down_rules (Same 41) in
     let w = by_rules kinds rules m in
-    let items = reports50.execution_report in
+    let g = gone rules report_own 56 reports50.execution_report report_goes (λ m. refl) (λ m. refl)
+    refl refl m c lack in
     let P : ℕ → Type 0 = λ l. report_message44 (l ∷ []) (content_by kinds rules m) None
     ≡ Ok (without_resend w) in
-    let Q : ℕ → Type 0 = λ l. (if l == 56 then Some (Executed (sense44.execution_of w)) else
-    (if l == 57 then Some (NotCanceled (sense44.cancel_reject_of w)) else None))
-    ≡ option_map (filled known) (if l == 56
-    then option_map (λ exec. Executed (sense50.execution_of m exec))
-    (sense50.exec_of (code_in m.cells 150))
-    else (if l == 57 then Some (NotCanceled (sense50.cancel_reject_of m)) else None)) in
     record {
-      report = Reports (report_complete known rules report_own 56 items report_goes (λ m. refl)
-          (λ m. refl) refl refl m c lack) (report_content known rules report_own 56 items
-          report_goes (λ m. refl) (λ m. refl) refl refl m c lack);
-      means = subst Q (sym c.sound.letter)
+      report = Reports g.complete g.written;
+      means = subst (MeanAlike known m w) (sym c.sound.letter)
           (report_kept m (source.no_row tables50.report_table m c.sound 102 refl)
           (no_lack _ 150 (none_each (kinds.lack m) rules lack).1.1.1.1.1.1.1.1.1.1.1.0)
           ∙ fills_nothing known m (sense50.exec_of (code_in m.cells 150)));
-      again = subst P (sym c.sound.letter) (report_reads (content_by kinds rules m)
-          ∙ report_again known rules report_own 56 items report_goes (λ m. refl) (λ m. refl) refl
-          refl m c lack);
+      again = subst P (sym c.sound.letter) (report_reads (content_by kinds rules m) ∙ g.again);
     }
 
 reject_stands : (known : Said) → IfSome known IsId → (m : Message)
@@ -421,33 +402,23 @@ reject_stands : (known : Said) → IfSome known IsId → (m : Message)
 reject_stands known id m c lack =
     let rules = down_rules (By (Else 41 known)) in
     let w = by_rules kinds rules m in
-    let items = reports50.cancel_reject in
     let t = tables50.cancel_reject_table in
+    let g = gone rules (reject_own known) 57 reports50.cancel_reject (reject_goes known id)
+    (λ m. refl) (λ m. refl) refl refl m c lack in
     let P : ℕ → Type 0 = λ l. report_message44 (l ∷ []) (content_by kinds rules m) None
     ≡ Ok (without_resend w) in
-    let Q : ℕ → Type 0 = λ l. (if l == 56 then Some (Executed (sense44.execution_of w)) else
-    (if l == 57 then Some (NotCanceled (sense44.cancel_reject_of w)) else None))
-    ≡ option_map (filled known) (if l == 56
-    then option_map (λ exec. Executed (sense50.execution_of m exec))
-    (sense50.exec_of (code_in m.cells 150))
-    else (if l == 57 then Some (NotCanceled (sense50.cancel_reject_of m)) else None)) in
     record {
-      report = Rejects (report_complete known rules (reject_own known) 57 items
-          (reject_goes known id) (λ m. refl) (λ m. refl) refl refl m c lack) (report_content known
-          rules (reject_own known) 57 items (reject_goes known id) (λ m. refl) (λ m. refl) refl refl
-          m c lack);
-      means = subst Q (sym c.sound.letter) (reject_kept known m
+      report = Rejects g.complete g.written;
+      means = subst (MeanAlike known m w) (sym c.sound.letter) (reject_kept known m
           (ap (λ o. has_place o (Tag 41)) (source.outline_is t m c.sound))
           (source.no_row t m c.sound 103 refl) (source.no_row t m c.sound 378 refl));
-      again = subst P (sym c.sound.letter) (reject_reads (content_by kinds rules m)
-          ∙ report_again known rules (reject_own known) 57 items (reject_goes known id) (λ m. refl)
-          (λ m. refl) refl refl m c lack);
+      again = subst P (sym c.sound.letter) (reject_reads (content_by kinds rules m) ∙ g.again);
     }
 
 -- the rules of a letter
-rules_of : (known : Said) (m : Message) (letter : ℕ) → m.letter ≡ letter → rules_for known m
-    ≡ (if letter == 57 then down_rules (By (Else 41 known)) else down_rules (Same 41))
-rules_of known m letter is =
+rules_of : (known : Said) (m : Message) (own : ℕ) → m.letter ≡ own → rules_for known m
+    ≡ (if own == 57 then down_rules (By (Else 41 known)) else down_rules (Same 41))
+rules_of known m own is =
     ap (λ (l : ℕ). if l == 57 then down_rules (By (Else 41 known)) else down_rules (Same 41)) is
 
 stands_for : (known : Said) (m : Message) (rules : List Rule) → rules_for known m ≡ rules
@@ -460,7 +431,8 @@ stands_for known m rules is lack h =
     record {
       report = s.report;
       means = s.means;
-      books = books_alike known m (by_rules kinds (rules_for known m) m) s.means;
+      books = books_by step44 sense44.report44 steps44.steps_meant known m
+          (by_rules kinds (rules_for known m) m) s.means;
       again = s.again;
     }
 

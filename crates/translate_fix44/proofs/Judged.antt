@@ -16,34 +16,17 @@ use Rattle.first_faults.specs.Gives.{IsCleanIf}
 use Rattle.rows_fix50.specs.Header.{completed_by}
 use Rattle.reports_fix50.specs.Message.{report_table_of}
 use Rattle.dict_fix44.specs.Message.{message44_by, request_message44, request_table_of}
-use Rattle.translation.specs.Bodies.{Direction}
 use Rattle.translation.specs.Errors.{error_of_fault}
 use Rattle.translation.specs.Going.{Appends, StayBack}
 use Rattle.translation.specs.Header.{type_of}
 use Rattle.translation.specs.Judged.{AreGood, AreGoodBy}
 use Rattle.translation.specs.declared.error.TranslateError.{TranslateError}
 use Rattle.translation.specs.declared.error.TranslateError.TheVariants as errors
+use Rattle.translation.proofs.Going.{appends_of, stays_of}
 use Rattle.report_translate.proofs.GoodFields.{fault_is, good_is}
 use Rattle.translate_fix44.specs.Put.{IsAsked, IsGoodBy, IsReport}
 use Rattle.translate_fix44.specs.Translation.{down, up}
 use Rattle.translate_fix44.proofs.ByType.{kind_of}
-
--- ---- whatever the direction is
-
-module _ (d : Direction) (fields good : List Field) (stopped : Option SplitFault)
-    (same : good ≡ fields) (whole : stopped ≡ None) (r : Result (Unit {0}) TranslateError) where
-  appends_if : (before after : List ℕ) → OnOk r (Appends d good None before after)
-      → OnOk r (Appends d fields stopped before after)
-  appends_if before after h =
-      let P : List Field → Type 0 = λ f. OnOk r (Appends d f None before after) in
-      let Q : Option SplitFault → Type 0 = λ s. OnOk r (Appends d fields s before after) in
-      subst Q (sym whole) (subst P same h)
-
-  stays_if : IfErr r (StayBack d good None) → IfErr r (StayBack d fields stopped)
-  stays_if h =
-      let P : List Field → Type 0 = λ f. IfErr r (StayBack d f None) in
-      let Q : Option SplitFault → Type 0 = λ s. IfErr r (StayBack d fields s) in
-      subst Q (sym whole) (subst P same h)
 
 -- ---- a request
 
@@ -89,10 +72,10 @@ module _ (fields : List Field) (stopped : Option SplitFault) where
         pub asked_appends : (before after : List ℕ) → OnOk r (Appends up good None before after)
             → OnOk r (Appends up fields stopped before after)
         asked_appends before after h =
-            appends_if up fields good stopped clean.0 clean.1 r before after h
+            appends_of up fields good stopped clean.0 clean.1 r before after h
 
         pub asked_stays : IfErr r (StayBack up good None) → IfErr r (StayBack up fields stopped)
-        asked_stays h = stays_if up fields good stopped clean.0 clean.1 r h
+        asked_stays h = stays_of up fields good stopped clean.0 clean.1 r h
 
 pub ruleset of_request = (not_supported, table_is)
 
@@ -127,10 +110,10 @@ module _ (fields : List Field) (stopped : Option SplitFault) where
       pub told_appends : (before after : List ℕ) → OnOk r (Appends down good.now None before after)
           → OnOk r (Appends down fields stopped before after)
       told_appends before after h =
-          appends_if down fields good.now stopped are.same are.whole r before after h
+          appends_of down fields good.now stopped are.same are.whole r before after h
 
       pub told_stays : IfErr r (StayBack down good.now None)
           → IfErr r (StayBack down fields stopped)
-      told_stays h = stays_if down fields good.now stopped are.same are.whole r h
+      told_stays h = stays_of down fields good.now stopped are.same are.whole r h
 
 pub ruleset of_report = (told_fault, told_is, told_appends, told_stays)

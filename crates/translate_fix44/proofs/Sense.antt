@@ -1,4 +1,4 @@
--- What goes up or down by the rules means what it meant, and changes each book alike.
+-- What goes up or down by the rules means what it meant.
 use Rattle.std.proofs.Common.{◌≡◌, ℕ, [], map, Bool, true, false, Option, Some, None, refl, sym, ap}
 use Rattle.std.proofs.Common.{◌∙◌, codes, unwrap_or, option_map, if◌then◌else◌}
 use Rattle.std.specs.Prelude.{◌==◌, IfSome, IsSome}
@@ -6,20 +6,14 @@ use Rattle.field_groups.specs.HeadValues.{number_in}
 use Rattle.value_kinds.specs.ValueKind.{code_text}
 use Rattle.message_tables.specs.Tables.{Place, Tag, Role, Said, Message, ◌>>=◌, code_of, flag_of}
 use Rattle.message_tables.specs.Tables.{code_in, lines_of, said_at}
-use Rattle.order_meaning.specs.Book.{Book}
-use Rattle.order_meaning.specs.Meant.{none_done, step_if}
-use Rattle.order_meaning.specs.Report.{Report, ExecutionReport, Executed, NotCanceled, filled}
-use Rattle.order_meaning.specs.Report.{or_known}
+use Rattle.order_meaning.specs.Meant.{none_done}
+use Rattle.order_meaning.specs.Report.{ExecutionReport, Executed, NotCanceled, filled, or_known}
 use Rattle.order_meaning.specs.Request.{RequestKind}
 use Rattle.row_values.specs.Amounts.{alloc_of, amount_of, contra_of, session_of}
 use Rattle.rows_fix50.specs.Meaning.{maturity_of, terms_of}
 use Rattle.dict_fix50.specs.Sense as request50
 use Rattle.dict_fix44.specs.Sense as sense44
-use Rattle.dict_fix44.specs.Step.{step44}
-use Rattle.dict_fix44.proofs.Steps as steps44
 use Rattle.reports_fix50.specs.Sense as sense50
-use Rattle.reports_fix50.specs.Step.{step50}
-use Rattle.reports_fix50.proofs.Steps as steps50
 use Rattle.rule_rows.specs.ByRules.{At, Grouped, by_rules, has_place, outline}
 use Rattle.rule_rows.specs.Rules.{By}
 use Rattle.rule_rows.proofs.Looked as looked
@@ -28,8 +22,7 @@ use Rattle.request_rules.specs.Rules.{is_unlisted}
 use Rattle.report_rules.specs.Rules.{at}
 use Rattle.report_rules.proofs.ValuesDown.{other_0, other_2, other_4, reason_kept, report_told}
 use Rattle.report_rules.proofs.ValuesDown.{reject_told}
-use Rattle.translate_fix44.specs.Rules.{Same, Else, down_rules, else_said, kinds, turn}
-use Rattle.translate_fix44.specs.Rules.{turned_code}
+use Rattle.translate_fix44.specs.Rules.{Same, Else, down_rules, else_said, kinds, turn, turned_code}
 use Rattle.translate_fix44.specs.Rules.{up_rules}
 use Rattle.translate_fix44.proofs.Codes.{exec_kept, has_inst, id_kept, inst_kept, phase_kept}
 use Rattle.translate_fix44.proofs.Codes.{said_back, status_turns, types, unturned}
@@ -247,20 +240,3 @@ module _ (known : Said) (m : Message) where
         cxl_reason = reason i;
         text = text i;
       }))
-
--- ---- books: a step is by the meaning, and the original id changes none
-
-fills_no_book : (book : Book) (known : Said) (report : Option Report)
-    → step_if book (option_map (filled known) report) ≡ step_if book report
-fills_no_book book known None = refl
-fills_no_book book known (Some (Executed report)) = refl
-fills_no_book book known (Some (NotCanceled reject)) = refl
-
-pub books_alike : (known : Said) (m w : Message)
-    → sense44.report44 w ≡ option_map (filled known) (sense50.report50 m)
-    → (book : Book) → step44 book w ≡ step50 book m
-books_alike known m w means book =
-    steps44.steps_meant book w
-    ∙ ap (step_if book) means
-    ∙ fills_no_book book known (sense50.report50 m)
-    ∙ sym (steps50.steps_meant book m)

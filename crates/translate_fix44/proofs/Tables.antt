@@ -2,16 +2,15 @@
 -- 5.0 SP2 are what the rules make of those of FIX 4.4, and the tables of reports of FIX 4.4 what
 -- they make of those of FIX 5.0 SP2.
 use Rattle.std.specs.Prelude.{◌≡◌, ℕ, Bool, true, false, not, ◌&&◌, ◌==◌, List, [], ◌∷◌, Option}
-use Rattle.std.specs.Prelude.{IfSome, Some, codes, if◌then◌else◌, map}
-use Rattle.std.specs.List.{AllByRecursion, list_all, list_any}
+use Rattle.std.specs.Prelude.{IfSome, Some, codes}
+use Rattle.std.specs.List.{AllByRecursion, list_any}
 use Rattle.std.proofs.Common.{refl}
 use Rattle.field_groups.specs.Field.{is_soh}
 use Rattle.message_tables.specs.Tables.{Is, Need, Required, Optional, Lenient, When, Row, Item, One}
 use Rattle.message_tables.specs.Tables.{Party, Lines, RepeatingGroup, Message, Said, Spells, Tag}
 use Rattle.message_tables.specs.Tables.{is_listed, is_one_of}
-use Rattle.value_kinds.specs.ValueKind.{ValueKind, Code, Codes, FineStamp, Known, OneByte, Reason}
-use Rattle.value_kinds.specs.ValueKind.{Stamp, Text, Word}
-use Rattle.row_values.specs.Kinds.{Kind, Value, Byte, MonthBeside, TimeBeside, judge, row}
+use Rattle.value_kinds.specs.ValueKind.{ValueKind, Code, Known, OneByte, Reason, Text}
+use Rattle.row_values.specs.Kinds.{Kind, Value, Byte, TimeBeside, judge, row}
 use Rattle.row_values.specs.Groups.{parties}
 use Rattle.sound_laws.specs.Sound.{IsClear}
 use Rattle.sound_laws.proofs.ContentValues.{is_alone, writes}
@@ -20,64 +19,38 @@ use Rattle.sound_laws.proofs.RowsSaid.{row_of_tag}
 use Rattle.rule_rows.specs.ByRules.{At, outline_of}
 use Rattle.rule_rows.specs.Rows.{group_at}
 use Rattle.rule_rows.specs.Rules.{By, Moved, Group}
-use Rattle.rule_rows.proofs.Items.{can_go, has_row, item_if, item_made, turned, turned_made}
+use Rattle.rule_rows.proofs.Items.{has_row, item_if, item_made, turned, turned_made, IsRow}
+use Rattle.rule_rows.proofs.Items.{is_plain}
 use Rattle.rule_rows.proofs.Looked.{IsFound, rule_at, said_by}
 use Rattle.rule_rows.proofs.Made.{IsMade, made}
 use Rattle.rule_rows.proofs.Own.{each_with, make_with}
+use Rattle.rule_rows.proofs.Carried.{all_can_go, carried, carried_rows, need_by}
 use Rattle.request_rules.specs.Rules.{role_of}
 use Rattle.report_rules.specs.Rules.{at}
 use Rattle.report_rules.proofs.RowsDown.{is_other}
 use Rattle.translate_fix44.specs.Rules.{Own, Rule, Else, Turned, AtClose, Parties, PartyOf, Within}
 use Rattle.translate_fix44.specs.Rules.{Told, has, kinds, own_kinds}
 
--- ---- rows that are carried, up or down
+-- ---- what a rule makes of a row
 
--- what FIX 5.0 SP2 drops where it is outside the profile
-abbrev pub is_dropped : Kind → Bool
-is_dropped (Value (Code listed)) = true
-is_dropped (Value (Codes listed)) = true
-is_dropped (Value (Word listed)) = true
-is_dropped (MonthBeside date) = true
-is_dropped kind = false
-
-abbrev pub need_by : Need → (up dropped : Bool) → Need
-need_by Optional up dropped = if up && dropped then Lenient else Optional
-need_by Lenient up dropped = if up then Lenient else Optional
-need_by need up dropped = need
-
--- a code that has to be known is one of these, and a moment of FIX 5.0 SP2 is a fine one
-abbrev pub kind_by : Kind → Bool → Kind
-kind_by (Value (Known listed)) up = Value (if up then Known listed else Code listed)
-kind_by (Value Stamp) up = Value (if up then FineStamp else Stamp)
-kind_by (Value FineStamp) up = Value (if up then FineStamp else Stamp)
-kind_by kind up = kind
+abbrev pub carried_group : Bool → RepeatingGroup Kind → RepeatingGroup Kind
+carried_group up group = record {
+  count = group.count;
+  rows = carried_rows up group.rows;
+  skipped = group.skipped;
+}
 
 -- a code of a list
 abbrev pub listed_kind : List ℕ → Kind → Kind
 listed_kind listed (Value OneByte) = Byte listed
 listed_kind listed kind = Value (Code listed)
 
-module _ (up : Bool) where
-  abbrev pub carried : ℕ → Row Kind → Row Kind
-  carried to row = record {
-    tag = to;
-    kind = kind_by row.kind up;
-    need = need_by row.need up (is_dropped row.kind);
-  }
-
-  abbrev pub carried_group : RepeatingGroup Kind → RepeatingGroup Kind
-  carried_group group = record {
-    count = group.count;
-    rows = map (λ row. carried row.tag row) group.rows;
-    skipped = group.skipped;
-  }
-
-  abbrev pub coded : ℕ → List ℕ → Row Kind → Row Kind
-  coded tag listed row = record {
-    tag = tag;
-    kind = listed_kind listed row.kind;
-    need = need_by row.need up true;
-  }
+abbrev pub coded : (up : Bool) → ℕ → List ℕ → Row Kind → Row Kind
+coded up tag listed row = record {
+  tag = tag;
+  kind = listed_kind listed row.kind;
+  need = need_by row.need up true;
+}
 
 abbrev pub demanded : ℕ → Row Kind → Row Kind
 demanded tag row = record { tag = tag; kind = row.kind; need = Required }
@@ -95,10 +68,6 @@ is_kept Lenient = true
 is_kept (When ((Is tag listed ∷ []) ∷ [])) = tag == 150 && not (is_one_of listed 73)
 is_kept need = false
 
-abbrev pub is_plain_need : Need → Bool
-is_plain_need (When condition) = false
-is_plain_need need = is_kept need
-
 abbrev pub is_code_kind : Kind → Bool
 is_code_kind (Value (Code listed)) = true
 is_code_kind (Value (Known listed)) = true
@@ -109,15 +78,12 @@ abbrev pub IsCarried : Row Kind → Type 0
 IsCarried row = (is_kept row.need && ours_kind true row.kind) ≡ true
 
 abbrev pub IsCoded : Row Kind → Type 0
-IsCoded row = (is_plain_need row.need && is_code_kind row.kind) ≡ true
+IsCoded row = (is_plain row.need && is_code_kind row.kind) ≡ true
 
 -- a row whose values are judged by themselves, of which what is known is one
 abbrev pub IsElse : Said → Row Kind → Type 0
 IsElse known row = (kind : ValueKind) × (row.kind ≡ Value kind)
     × IfSome known (λ text. (judge [] (Value kind) text ≡ Spells text) × IsClear text)
-
-abbrev pub all_can_go : List (Row Kind) → Bool
-all_can_go rows = list_all can_go rows
 
 module _ (up : Bool) (items : List (Item Kind)) where
   abbrev pub has_rule : Own → Bool
@@ -155,20 +121,18 @@ module _ (up : Bool) (items : List (Item Kind)) where
 
   -- ---- what a rule asks of the table
 
-  abbrev pub IsRow : Row Kind → Type 0
-  IsRow row = IfSome (row_of_tag row.tag items) (λ other. other ≡ row)
-
   abbrev pub Fits : Rule → Type 0
   Fits (Moved from to) = IfSome (row_of_tag from items) IsCarried
   Fits (Group count) = IfSome (group_at count items) (λ group. all_can_go group.rows ≡ true)
   Fits (By (Else tag known)) = IfSome (row_of_tag tag items) (IsElse known)
   Fits (By (Turned tag listed turns)) =
       IfSome (row_of_tag tag items) IsCoded × (list_any is_soh listed ≡ false)
-  Fits (By AtClose) = IsRow (row Optional 59 (Code (codes "01234567")))
+  Fits (By AtClose) = IsRow items (row Optional 59 (Code (codes "01234567")))
   Fits (By Parties) = has_rule Parties ≡ true → group_at 453 items ≡ Some parties
-  Fits (By (Within tag last other)) = IsRow (row Optional tag Reason) × (is_other other ≡ true)
-  Fits (By Told) = IsRow (row Optional 58 Text) × IsRow (row Optional 103 Reason)
-      × IsRow (row Optional 378 Reason) × IsRow (row Optional 102 Reason)
+  Fits (By (Within tag last other)) =
+      IsRow items (row Optional tag Reason) × (is_other other ≡ true)
+  Fits (By Told) = IsRow items (row Optional 58 Text) × IsRow items (row Optional 103 Reason)
+      × IsRow items (row Optional 378 Reason) × IsRow items (row Optional 102 Reason)
   Fits rule = Unit {0}
 
   -- a tag that one row writes, of the table and of that which the rules make, or none of either

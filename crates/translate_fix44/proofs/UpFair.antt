@@ -1,70 +1,33 @@
 -- A request goes up fairly: what is written means the same, and is split and read again behind its
 -- header.
-use Rattle.std.proofs.Common.{◌≡◌, ◌∙◌, ℕ, List, [], ◌∷◌, true, Option, Some, None}
-use Rattle.std.proofs.Common.{Ok, refl, sym, ap, subst, arith}
+use Rattle.std.proofs.Common.{◌≡◌, ◌∙◌, ℕ, List, [], ◌∷◌, true, None, refl, sym, ap, subst}
 use Rattle.field_groups.specs.Field.{Field}
-use Rattle.message_tables.specs.declared.table_fault.TableFault.{TableFault}
-use Rattle.message_tables.specs.FirstFault.{first_fault, message_in, message_of, unless}
-use Rattle.message_tables.specs.Tables.{Message, Table}
-use Rattle.order_meaning.specs.Request.{RequestKind, New, Cancel, Replace, Status}
-use Rattle.row_values.specs.Kinds.{Kind, judge}
+use Rattle.message_tables.specs.FirstFault.{message_of}
+use Rattle.message_tables.specs.Tables.{Message}
+use Rattle.order_meaning.specs.Request.{RequestKind, New}
+use Rattle.row_values.specs.Kinds.{judge}
 use Rattle.first_faults.specs.Faults.{told}
-use Rattle.rows_fix50.specs.Header.{completed, completed_by}
-use Rattle.dict_fix44.specs.Message.{message44_by, request_message44, request_table_of}
+use Rattle.rows_fix50.specs.Header.{completed_by}
 use Rattle.dict_fix50.specs.Message.{message50}
 use Rattle.sound_laws.proofs.PlainFields.{clear_fields}
 use Rattle.sound_laws.proofs.TableFits.{table_fits}
+use Rattle.sound_laws.proofs.ReadComplete.{read_of}
 use Rattle.request_rules.proofs.ByType.{asked50, items50, letter_of}
 use Rattle.rule_rows.specs.ByRules.{by_rules}
 use Rattle.translation.specs.Header.{type_of, with_content}
 use Rattle.translation.proofs.BehindHeader.{front, items_behind}
 use Rattle.translation.proofs.CarriedHeader.{head_is_own, head_value}
 use Rattle.translation.proofs.Going.{IsFair}
-use Rattle.translation.proofs.Writable.{IsType, One}
+use Rattle.translation.proofs.Writable.{IsType}
 use Rattle.request_translate.proofs.AgainFields.{of_kind, split_again}
 use Rattle.request_translate.proofs.SenseAgain.{has_header, read_by}
+use Rattle.request_translate.proofs.Writable.{is_type}
 use Rattle.report_rules.proofs.SenseDown.{not_lacking}
 use Rattle.translate_fix44.specs.Put.{asked44, items_of}
 use Rattle.translate_fix44.specs.Rules.{kinds, up_content, up_lack, up_rules}
 use Rattle.translate_fix44.specs.Translation.{up}
-use Rattle.translate_fix44.proofs.ByType.{kind_of}
 use Rattle.translate_fix44.proofs.Go.{read_go_up}
-
--- ---- a request that was read
-
--- what fields are that are read as a message, by what it asks for
-record IsReadOf (msg_type : List ℕ) (fields : List Field) (m : Message) : Type 0 where
-  kind : RequestKind
-  type : msg_type ≡ letter_of kind ∷ []
-  good : first_fault judge (asked44 kind) fields ≡ None
-  is : completed (message_in judge (asked44 kind) fields) ≡ m
-
-module _ (msg_type : List ℕ) (fields : List Field) (m : Message) where
-  good_if : (t : Table Kind) (f : Option TableFault) → first_fault judge t fields ≡ f
-      → completed_by (told (unless f (message_in judge t fields))) ≡ Ok m
-      → (first_fault judge t fields ≡ None) × (completed (message_in judge t fields) ≡ m)
-  good_if t None e h = (e, cc)
-  good_if t (Some fault) e h = absurd cc
-
-  is_asked : request_message44 msg_type fields None ≡ Ok m → IsReadOf msg_type fields m
-  unfolding request_message44 message_of
-  is_asked = by (request_table_of msg_type) refl
-    where
-      by : (o : Option (Table Kind)) → request_table_of msg_type ≡ o
-          → message44_by o fields None ≡ Ok m → IsReadOf msg_type fields m
-      by None e read = absurd cc
-      by (Some t) e read =
-          let k = kind_of msg_type t (sym e) in
-          let P : Table Kind → Type 0 = λ t. (first_fault judge t fields ≡ None)
-          × (completed (message_in judge t fields) ≡ m) in
-          let p = subst P k.its (good_if t (first_fault judge t fields) refl read) in
-          record { kind = k.kind; type = k.type; good = p.0; is = p.1 }
-
-type_of_kind : (kind : RequestKind) → IsType (letter_of kind ∷ [])
-type_of_kind New = One 68 (λ no. absurd (omega (arith, no))) refl
-type_of_kind Cancel = One 70 (λ no. absurd (omega (arith, no))) refl
-type_of_kind Replace = One 71 (λ no. absurd (omega (arith, no))) refl
-type_of_kind Status = One 72 (λ no. absurd (omega (arith, no))) refl
+use Rattle.translate_fix44.proofs.Read.{is_asked}
 
 -- ---- what is written of it
 
@@ -90,14 +53,15 @@ pub up_fair : IsFair up
 up_fair fields are m w read goes =
     let stands = read_go_up (type_of fields) fields m w are read goes in
     let a = is_asked (type_of fields) fields m read in
-    let type = subst (λ (t : List ℕ). IsType t) (sym a.type) (type_of_kind a.kind) in
+    let r = read_of (asked44 a.kind) fields m a.read in
+    let type = subst (λ (t : List ℕ). IsType t) (sym a.type) (is_type a.kind) in
     let made = (not_lacking (up_lack m) (by_rules kinds up_rules m) w goes).1 in
     let resend = ap (λ (x : Message). x.resend) (sym made)
-    ∙ ap (λ (x : Message). x.resend) (sym a.is) in
+    ∙ ap (λ (x : Message). x.resend) (sym r.1) in
     let own = of_kind w (up_content m) stands.request in
-    let letter = ap (λ (x : Message). x.letter) a.is ∙ ap (λ (x : Message). x.letter) made
+    let letter = ap (λ (x : Message). x.letter) r.1 ∙ ap (λ (x : Message). x.letter) made
     ∙ own.1.canonical.sound.letter in
-    let head = head_is_own (asked44 a.kind) fields a.good (clear_fields judge None fields are)
+    let head = head_is_own (asked44 a.kind) fields r.0 (clear_fields judge None fields are)
     (type_of fields) type (has_header (letter_of a.kind) (items_of a.kind)) in
     record {
       kept = record {
