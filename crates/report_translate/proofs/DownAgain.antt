@@ -79,7 +79,7 @@ module _ (letter : ℕ) (items : List (Item Kind)) (msg_type : List ℕ) (fields
       & own_said _ 369 Filled None tt
       & tt
 
-  pub message_again : items_behind t values r ≡ true → table_fits t (front t values r) ≡ true
+  message_again : items_behind t values r ≡ true → table_fits t (front t values r) ≡ true
       → IsSound judge t r → unwrap_or (option_map flag_of (value_at 97 fields)) false ≡ r.resend
       → told (message_of judge t (((35, msg_type) ∷ carried fields) ++ content t r)) ≡ Ok r
   message_again behind fit sound flag =

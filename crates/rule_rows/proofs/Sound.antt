@@ -2,19 +2,18 @@
 -- item that it says: the shapes of such items, whatever the kinds of the rules are.
 use Rattle.std.proofs.Common.{◌≡◌, ℕ, List, [], ◌∷◌, Bool, true, false, Option, Some, None, refl}
 use Rattle.std.proofs.Common.{sym, ap, subst, ◌∙◌, append-nil}
-use Rattle.std.specs.Prelude.{IfSome, option_to_list, is_some, ◌||◌, ◌==◌}
+use Rattle.std.specs.Prelude.{IfSome, option_to_list, is_some}
 use Rattle.std.specs.List.{AllByRecursion, flat_map}
-use Rattle.std.proofs.lemmas.Bool.{eqb-true}
 use Rattle.field_groups.specs.Field.{Field}
 use Rattle.message_tables.specs.Tables.{Row, Item, One, Party, Lines, RepeatingGroup, Message}
 use Rattle.message_tables.specs.Tables.{Place, Tag, Said, Cell, Table, said_at, groups_of, value_at}
-use Rattle.message_tables.specs.Tables.{lines_of, Role, party_in}
+use Rattle.message_tables.specs.Tables.{lines_of}
 use Rattle.message_tables.specs.Content.{content}
 use Rattle.row_values.specs.Kinds.{Kind, judge}
 use Rattle.sound_laws.specs.Sound.{IsGroup, IsItem, IsSaid, IsSound}
 use Rattle.sound_laws.proofs.ContentValues.{GroupSaid, is_alone, value_said}
 use Rattle.sound_laws.proofs.RowsSaid.{row_of_tag}
-use Rattle.rule_rows.specs.ByRules.{At, Grouped, Kinds, by_rules, has_any, outline_of, has_place}
+use Rattle.rule_rows.specs.ByRules.{At, Grouped, Kinds, by_rules, has_any, outline_of}
 use Rattle.rule_rows.specs.Rows.{group_at}
 use Rattle.rule_rows.proofs.Items.{can_go, count_is, has_one, has_row, item_if, may_go, row_there}
 use Rattle.rule_rows.proofs.Items.{turned, turned_group}
@@ -161,27 +160,6 @@ module _ {Rule : Type 0} (g : Goes Rule) where
       → IsGood (item_if b (Party role))
   party_good true role h = record { groups = tt; said = λ groups. h }
   party_good false role h = nothing
-
-  -- the party of a role of the source
-  pub role_is : (some : List (Item Kind)) (role : ℕ)
-      → has_place (outline_of some) (Role role) ≡ true
-      → AllByRecursion (IsItem judge before g.m) some
-      → said_at g.m.cells (Role role) ≡ party_in role (lines_of 453 g.m.groups)
-  role_is [] role has said = absurd cc
-  role_is (One row ∷ some) role has said = role_is some role has said.1
-  role_is (Lines group ∷ some) role has said = role_is some role has said.1
-  role_is (Party first ∷ some) role has said =
-      by (first == role) refl has (λ later. role_is some role later said.1)
-    where
-      by : (b : Bool) → (first == role) ≡ b → (b || has_place (outline_of some) (Role role)) ≡ true
-          → (has_place (outline_of some) (Role role) ≡ true
-          → said_at g.m.cells (Role role) ≡ party_in role (lines_of 453 g.m.groups))
-          → said_at g.m.cells (Role role) ≡ party_in role (lines_of 453 g.m.groups)
-      by true e h later =
-          let P : ℕ → Type 0 =
-          λ r. said_at g.m.cells (Role r) ≡ party_in r (lines_of 453 g.m.groups) in
-          subst P (eqb-true first role e) said.0
-      by false e h later = later h
 
   -- the lines of a rule's group
   pub lines_are : (rule : Rule) (count : ℕ) → g.kinds.target rule ≡ Grouped count → Found rule

@@ -7,12 +7,11 @@ use Rattle.std.proofs.lemmas.Bool.{eqb-true}
 use Rattle.field_groups.specs.Field.{Field}
 use Rattle.message_tables.specs.Tables.{Required, Row, RepeatingGroup, Message, Said, Tag, Spells}
 use Rattle.message_tables.specs.Tables.{Table, said_at, lines_of, is_needed, value_at, Item, One}
-use Rattle.message_tables.specs.Tables.{Party, Lines, Role, party_in, Need, Optional, Lenient}
+use Rattle.message_tables.specs.Tables.{Party, Lines, Role, party_in}
 use Rattle.message_tables.specs.Content.{content}
 use Rattle.row_values.specs.Kinds.{Kind, judge}
 use Rattle.sound_laws.specs.Sound.{IsClear, IsSaid, IsGroup, IsItem, IsSound}
-use Rattle.sound_laws.proofs.RowsSaid.{row_found, row_of_tag, required_said, optional_said}
-use Rattle.sound_laws.proofs.RowsSaid.{lenient_said}
+use Rattle.sound_laws.proofs.RowsSaid.{row_found, row_of_tag}
 use Rattle.sound_laws.proofs.ContentValues.{groups_said, is_alone, value_said}
 use Rattle.rule_rows.specs.ByRules.{has_place, outline, outline_of}
 use Rattle.rule_rows.proofs.Looked.{none_at}
@@ -26,32 +25,6 @@ pub record IsSpelled (fields : List Field) (kind : Kind) (said : Said) : Type 0 
 
 pub says_nothing : (fields : List Field) (kind : Kind) → IsSpelled fields kind None
 says_nothing fields kind = record { spelled = tt; clear = tt }
-
--- ---- a row that is carried
-
--- a need that asks for no more than another
-abbrev pub is_less : Need → Need → Bool
-is_less need Optional = true
-is_less need Lenient = true
-is_less Required Required = true
-is_less need other = false
-
--- what is said by a row is said by a row of a need that asks for no more, where its kind spells it
-pub carried_said : (source target : List Field) (row : Row Kind) (to : ℕ) (kind : Kind)
-    (less : Need) (said : Said) → is_less row.need less ≡ true → IsSaid judge source row said
-    → IfSome said (λ text. judge target kind text ≡ Spells text)
-    → IsSaid judge target (record { tag = to; kind = kind; need = less }) said
-carried_said source target row to kind Optional said ok h s =
-    optional_said target to kind said s h.clear
-carried_said source target row to kind Lenient said ok h s =
-    lenient_said target to kind said s h.clear
-carried_said source target row to kind Required said ok h s =
-    required_said target to kind said (h.needed (needs row.need ok)) s h.clear
-  where
-    needs : (need : Need) → is_less need Required ≡ true → is_needed need source ≡ true
-    needs Required ok = refl
-    needs need ok = absurd cc
-carried_said source target row to kind other said ok h s = absurd cc
 
 -- ---- a sound message
 
