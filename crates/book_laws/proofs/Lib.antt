@@ -15,6 +15,7 @@ pub mod EntryFollows
 mod Judged
 mod Followed
 mod Worked
+mod WorkedProper
 mod Lists
 mod Places
 mod Tests

@@ -1,5 +1,5 @@
 -- A report that goes on is read as a report of FIX 4.2 that changes each book alike.
-use Rattle.std.proofs.Common.{◌≡◌, ◌==◌, ℕ, true, false, List, [], ◌∷◌, Option, Ok, IfSome, refl}
+use Rattle.std.proofs.Common.{◌≡◌, ℕ, true, false, List, [], ◌∷◌, Option, Ok, IfSome, refl}
 use Rattle.std.proofs.Common.{None, sym, ap, ◌∙◌}
 use Rattle.field_groups.specs.Field.{Field}
 use Rattle.message_tables.specs.Tables.{Message}
@@ -18,7 +18,7 @@ use Rattle.event_decisions.proofs.Bodies.{bodies_are_read}
 use Rattle.message_answers.specs.Message.{is_refusal, message_of}
 use Rattle.message_answers.specs.Translated.{GoesDown}
 use Rattle.message_answers.proofs.ReadShapes.{shape, venue_report}
-use Rattle.message_answers.proofs.SaidTexts.{AreClear, IsShortId}
+use Rattle.message_answers.proofs.SaidTexts.{IsShortId}
 use Rattle.message_answers.proofs.SentFields.{report_given, stands}
 use Rattle.book_laws.specs.Heard.{message_to, sort_of}
 use Rattle.book_laws.specs.HeardLaws.{sort_from}

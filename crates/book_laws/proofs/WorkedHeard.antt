@@ -33,7 +33,7 @@ use Rattle.book_laws.specs.Heard.{Sort, Request, Report, Refusal, FaultyRefusal,
 use Rattle.book_laws.specs.Heard.{Heard, heard_body, heard_out}
 use Rattle.book_laws.specs.Learned.{learned_of_said, learned_of_taken, said_below}
 
-abbrev soh : List ℕ → List ℕ
+abbrev pub soh : List ℕ → List ℕ
 soh text = map (λ byte. if byte == 124 then 1 else byte) text
 
 -- the sort, the number and the id that a refusal names, and ClOrdID(11)
