@@ -122,9 +122,12 @@ impl Kept {
         note(&mut self.client, Side::Client, entry);
         note(&mut self.venue, Side::Venue, entry);
         self.reached.add(entry, len);
-        let end = self.reached.end();
-        mark(&mut self.marks, end);
-        self.begins = if entry.reset { end } else { self.begins };
+        mark(&mut self.marks, self.reached.spot());
+        self.begins = if entry.reset {
+            self.reached.end()
+        } else {
+            self.begins
+        };
         self.at = begun_with(self.at, entry);
         self.spare = false;
     }

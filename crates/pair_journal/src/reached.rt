@@ -78,6 +78,15 @@ impl Reached {
         }
     }
 
+    /// The place behind the last of them, not copied: a copy right after it was written would wait
+    /// for all that was written before.
+    pub(crate) fn spot(&self) -> &Spot
+        ensures end { result.now ≡ behind self.now }
+        ensures sound { DaysGoOn first_numbers self.now }
+    {
+        &self.end
+    }
+
     /// Adds an entry, by the length of its payload.
     pub(crate) fn add(&mut self, entry: &EntryRef<'_>, len: u64)
         requires sound { IsEntry entry.now }

@@ -66,14 +66,15 @@ pub(crate) fn later(mark: Spot, spot: Spot) -> Spot
 }
 
 /// Marks the place behind the last entry, where that is a 64th.
-pub(crate) fn mark(marks: &mut Vec<Spot>, end: Spot)
+pub(crate) fn mark(marks: &mut Vec<Spot>, end: &Spot)
     requires room { vec_len marks.old + 1 ≤ vec_capacity marks.old }
-    requires few { STRIDE * length marks.old.items ≤ end.index }
-    ensures marked { (entries : List Entry) (entry : Entry) → end ≡ behind (entries ++ entry ∷ []) →
+    requires few { STRIDE * length marks.old.items ≤ end.now.index }
+    ensures marked { (entries : List Entry) (entry : Entry) →
+        end.now ≡ behind (entries ++ entry ∷ []) →
         AreMarks entries marks.old.items → AreMarks (entries ++ entry ∷ []) marks.new.items }
 {
     if end.index - STRIDE * marks.len() as u64 == STRIDE {
-        marks.push_reserved(end);
+        marks.push_reserved(*end);
     }
 }
 

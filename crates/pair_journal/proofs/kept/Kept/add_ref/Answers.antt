@@ -1,4 +1,4 @@
-use Rattle.std.proofs.Common.{◌≡◌, ◌∙◌, Bool, true, false, ap, sym, subst}
+use Rattle.std.proofs.Common.{◌≡◌, ◌∙◌, Bool, true, false, refl, ap, sym, subst}
 use Rattle.std.specs.Prelude.{if◌then◌else◌}
 use Rattle.order_meaning.specs.declared.Side.TheVariants.{Client, Venue}
 use Rattle.pair_entries.specs.declared.entry.Entry.{Entry}
@@ -31,16 +31,17 @@ invariant_of-self c =
     let on = subst (λ (k : KeptState). GoesOn (numbers_before
     (numbers_after first_numbers k.entries) entry) entry) (sym c.self.view_is) c.requires.goes_on in
     record {
-      sound = c.end-end.ensures.sound;
-      begins = begins_added old more entry pushed kept.sound sound on c.self.inside.begins _ _
-          kept.begins c.end-end.ensures.end (elim c.if-entry.branch [
-            | goal.then-entry w ↦ new_begins entry.reset _ _ _ (new ∙ w.if-entry.true) w.self-is
+      sound = c.spot.ensures.sound;
+      begins = begins_added old more entry pushed kept.sound sound on c.self.inside.begins
+          (behind more) _ kept.begins refl (elim c.if-entry.branch [
+            | goal.then-entry w ↦ new_begins entry.reset _ _ _ (new ∙ w.if-entry.true)
+                (w.self-is ∙ w.end-self-inside.ensures.end)
             | goal.else-entry w ↦ old_begins entry.reset _ _ _ (new ∙ w.if-entry.false) w.self-is
           ]);
       at = at_added old more entry pushed kept.sound sound on _ _ kept.at
           c.begun_with-self-inside.ensures;
       marks = subst (λ es. AreMarks es c.mark.new.marks.items) (sym pushed)
-          (c.mark.ensures.marked old entry (c.end-end.ensures.end ∙ ap behind pushed) kept.marks);
+          (c.mark.ensures.marked old entry (c.spot.ensures.end ∙ ap behind pushed) kept.marks);
       client = sources_added old more entry pushed kept.sound sound on Client _ _ kept.client
           c.note.ensures.items;
       venue = sources_added old more entry pushed kept.sound sound on Venue _ _ kept.venue
