@@ -1,6 +1,7 @@
 -- That each request that a lawful journal forwarded was at no fault.
 use Rattle.std.proofs.Common.{◌≡◌, ℕ, ◌==◌, ◌&&◌, not, Bool, true, false, List, [], ◌∷◌, ◌++◌}
-use Rattle.std.proofs.Common.{Option, Some, None, Result, Ok, Err, IfSome, refl, sym, ap, subst, ◌∙◌}
+use Rattle.std.proofs.Common.{Option, Some, None, Result, Ok, Err, IfSome, refl, sym, ap, subst}
+use Rattle.std.proofs.Common.{◌∙◌}
 use Rattle.std.proofs.Common.{option_map, unwrap_or, inl, inr}
 use Rattle.std.specs.List.{AllByRecursion, list_any}
 use Rattle.message_tables.specs.Tables.{Message, is_one_of}

@@ -40,8 +40,8 @@ pub record IsJudged (took : Took) (item : ChainItem) : Type 0 where
   pub number : item.number ≡ took.number
   pub letter : item.letter ≡ m.letter
 
--- EACH REQUEST THAT A LAWFUL JOURNAL FORWARDED IS AT NO FAULT, though the chains read its fields and
--- do not judge them.
+-- EACH REQUEST THAT A LAWFUL JOURNAL FORWARDED IS AT NO FAULT, though the chains read its fields
+-- and do not judge them.
 abbrev pub RequestsAreJudged : Type 0
 RequestsAreJudged = (names : Names) (entries : List Entry) → IsLawful Answers names entries →
     AllByRecursion (λ e. (item : ChainItem) → item_in e ≡ Some item →

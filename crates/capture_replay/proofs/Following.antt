@@ -1,6 +1,7 @@
 -- Lives one after another, one more at a time.
 use Rattle.std.proofs.Common.{◌≡◌, ◌∙◌, ℕ, ◌+◌, ◌<◌, List, [], ◌∷◌, ◌++◌, length}
-use Rattle.std.proofs.Common.{get_or, refl, sym, ap, subst, append_assoc, append-nil, arith, inr, inl}
+use Rattle.std.proofs.Common.{get_or, refl, sym, ap, subst, append_assoc, append-nil, arith, inr}
+use Rattle.std.proofs.Common.{inl}
 use Rattle.std.proofs.Common.{Result, Ok, Err, Some, ◌≢◌}
 use Rattle.std.specs.Prelude.{⊤, IsErr}
 use Rattle.std.specs.declared.option.Option.{Option}
@@ -29,7 +30,8 @@ use Rattle.replay_lines.specs.declared.printing.PrintError.{PrintError}
 use Rattle.replay_lines.specs.declared.printing.PrintError.TheVariants.{OutputFault, NoMemory}
 use Rattle.replay_lines.specs.Pieces.{pieces_of}
 use Rattle.replay_lines.specs.ReplayLines.{life_lines, last_lines}
-use Rattle.capture_replay.specs.Replay.{Left, Played, after, nothing, IsPlayed, ArePlayed, config_of}
+use Rattle.capture_replay.specs.Replay.{Left, Played, after, nothing, IsPlayed, ArePlayed}
+use Rattle.capture_replay.specs.Replay.{config_of}
 use Rattle.capture_replay.specs.Replay.{end_name, lives_lines, entries_left, numbers_left}
 use Rattle.capture_replay.specs.Replay.{replay_lines, Replays}
 use Rattle.capture_replay.specs.Lived.{IsLived, LivesOn, left_after, SoFar}

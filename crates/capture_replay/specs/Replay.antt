@@ -142,8 +142,8 @@ replay_lines played = lives_lines 1 played
     ++ last_lines (length (entries_left [] played))
     (numbers_left (entries_left [] played))
 
--- WHAT A REPLAY DOES by its answer: at `Ok` all lives of the capture were played, and all is printed;
--- at an error some were played, and a front of what is printed of them.
+-- WHAT A REPLAY DOES by its answer: at `Ok` all lives of the capture were played, and all is
+-- printed; at an error some were played, and a front of what is printed of them.
 abbrev pub Replays : {T : Type 0} → (T → TapState) → Capture → (seen now : List T)
     → Result ⊤ PrintError → (old new : Option (List ℕ)) → Type 0
 Replays state capture seen now (Ok value) old new =

@@ -83,8 +83,8 @@ fn read_other(
     }
 }
 
-/// What is said to a side of its message 2 of a type, which the other side refused by a message of a
-/// type and a content.
+/// What is said to a side of its message 2 of a type, which the other side refused by a message of
+/// a type and a content.
 pub(crate) fn of_other(alloc: Global, given: &str) -> Result<Vec<u8>, AllocError> {
     let (side, rest) = first_word(given);
     let (far_type, rest) = first_word(rest);

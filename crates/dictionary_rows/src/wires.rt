@@ -3,8 +3,8 @@
 use row_words::{SOH, Sign, bytes_of};
 use std::alloc::{AllocError, Global};
 
-/// What the bytes of a text stand for: `$` and `@` for the header and the first field of an order of
-/// FIX 4.2 and of FIX 5.0 SP2, and `&` for the other fields that an order of either must have.
+/// What the bytes of a text stand for: `$` and `@` for the header and the first field of an order
+/// of FIX 4.2 and of FIX 5.0 SP2, and `&` for the other fields that an order of either must have.
 pub(crate) const SIGNS: [Sign; 4] = [
     SOH,
     (

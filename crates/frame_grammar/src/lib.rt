@@ -1,5 +1,5 @@
-//! Frames of FIX tag=value messages (FIX 4.2, FIX 4.4 and FIXT 1.1): what a frame is, what the pieces of a
-//! stream are, cutting a stream, and writing.
+//! Frames of FIX tag=value messages (FIX 4.2, FIX 4.4 and FIXT 1.1): what a frame is, what the
+//! pieces of a stream are, cutting a stream, and writing.
 #![tactic(auto)]
 
 mod buffer;

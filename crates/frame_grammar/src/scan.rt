@@ -54,7 +54,8 @@ pub(crate) fn scan_front(kind: Kind, buffer: &Buffer) -> Result<Front, Stop>
     scan_said(buffer, start, field)
 }
 
-// The BeginString of a kind has to come. Each kind is compared by itself, as a text of known length.
+// The BeginString of a kind has to come. Each kind is compared by itself, as a text of known
+// length.
 #[inline(always)]
 fn expect_begin(kind: Kind, bytes: &[u8]) -> Result<(), Stop>
     ensures leads { (go : List ℕ → Found) → Leads result

@@ -5,8 +5,8 @@ ghost use Rattle.std.specs.Prelude.{◌≡◌};
 use outside::{Failed, Source};
 use std::alloc::Global;
 
-/// A source that keeps what it gave, as long as that is no more than a bound and memory is had; past
-/// that it keeps nothing.
+/// A source that keeps what it gave, as long as that is no more than a bound and memory is had;
+/// past that it keeps nothing.
 #[derive(Drop)]
 pub(crate) struct Kept<S: Source + Drop> {
     source: S,

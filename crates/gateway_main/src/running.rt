@@ -175,8 +175,8 @@ fn is_old<D: Disk>(disk: &mut D) -> bool {
     matches!(disk.read_at(0, &mut head), Ok(HEAD)) && is_of_format_1(&head)
 }
 
-// Says how long an end by the stop file takes, where a gateway is to live for so many rounds that it
-// is long.
+// Says how long an end by the stop file takes, where a gateway is to live for so many rounds that
+// it is long.
 fn tell_long_end<R: System, W: Write + Copy + Drop>(rt: &R, lines: W, words: &[String]) {
     let [word, rounds] = words else {
         return;

@@ -73,7 +73,8 @@ fn outs_on(
     Ok(text)
 }
 
-/// What the journal on a disk gives out to a side in its last day: ` ~ `, type, `:` and content each.
+/// What the journal on a disk gives out to a side in its last day: ` ~ `, type, `:` and content
+/// each.
 pub(crate) fn outs(alloc: Global, disk: &mut MemDisk, word: &str) -> Result<String, AllocError> {
     let side = if word == "client" {
         Side::Client

@@ -27,7 +27,8 @@ use Rattle.sound_laws.proofs.Each.{each_joined, not_true}
 use Rattle.sound_laws.proofs.PlainFields.{clear_fields}
 use Rattle.event_decisions.specs.Body.{reading_of}
 use Rattle.event_decisions.proofs.Bodies.{bodies_are_read}
-use Rattle.message_answers.specs.Chains.{chains_after, chains_of, if_new, item_in, item_said, joining}
+use Rattle.message_answers.specs.Chains.{chains_after, chains_of, if_new, item_in, item_said}
+use Rattle.message_answers.specs.Chains.{joining}
 use Rattle.message_answers.specs.Chains.{joining_letter, new_item, original_said}
 use Rattle.message_answers.specs.Known.{known_of, named, named_by_id}
 use Rattle.message_answers.specs.Laws.{AreNumbered, IsNumbered}

@@ -27,7 +27,8 @@ use Rattle.first_faults.proofs.Given.{given}
 use Rattle.refusal_parts.specs.Once.{refusal_by}
 use Rattle.rows_fix50.specs.Header.{completed, completed_by}
 use Rattle.reports_fix50.specs.Message.{message50, report_by, report_table, cancel_reject_table}
-use Rattle.reports_fix50.specs.Message.{business_reject_table, report_table_of, session_reject_table}
+use Rattle.reports_fix50.specs.Message.{business_reject_table, report_table_of}
+use Rattle.reports_fix50.specs.Message.{session_reject_table}
 use Rattle.reports_fix50.specs.Sense.{cancel_reject_of, exec_of, execution_of}
 use Rattle.rule_rows.specs.ByRules.{by_rules, lack_by, lack_if}
 use Rattle.report_rules.specs.Down.{IsGoodBy, IsPut, IsReport50, LacksDown, PutsDown, Reports50}

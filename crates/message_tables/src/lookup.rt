@@ -57,6 +57,7 @@ pub trait Lookup {
 impl<'a> Lookup for Fields<'a> {
     ghost fields = { λ fields. fields };
 
+    #[inline(always)]
     fn value(&self, tag: u32) -> Option<&[u8]> {
         match self.find(tag) {
             None => None,

@@ -13,9 +13,9 @@ use std::marker::Model;
 pub struct TookRef<'b> {
     /// Whose message it is.
     pub side: Side,
-    /// MsgSeqNum(34).
+    /// MsgSeqNum(34), from 1 to 999,999,999.
     pub number: u32,
-    /// The body, from `35=` on.
+    /// The body, from `35=` on, of at most 8,192 bytes.
     pub raw: &'b [u8],
 }
 
@@ -32,15 +32,15 @@ impl<'b> Model for TookRef<'b> {
 pub struct OutRef<'b> {
     /// To whom it goes.
     pub side: Side,
-    /// MsgSeqNum(34).
+    /// MsgSeqNum(34), from 1 to 999,999,999.
     pub number: u32,
     /// Whether it is administrative.
     pub admin: bool,
     /// Whether it has PossResend(97) with `Y`.
     pub resend: bool,
-    /// MsgType(35).
+    /// MsgType(35), of 1 to 8 bytes.
     pub msg_type: &'b [u8],
-    /// The fields behind the header.
+    /// The fields behind the header, of at most 7,936 bytes.
     pub content: &'b [u8],
 }
 
@@ -83,7 +83,8 @@ pub struct EntryRef<'b> {
     pub reset: bool,
     /// The message that was taken, if one was.
     pub took: Option<TookRef<'b>>,
-    /// The next numbers after it: client in, client out, venue in, venue out.
+    /// The next numbers after it: client in, client out, venue in, venue out, each from 1 to
+    /// 1,000,000,000.
     pub next: (u32, u32, u32, u32),
     /// The messages that were given out.
     pub outs: OutRefs<'b>,

@@ -1,5 +1,5 @@
-//! Rows of the program `fixgate` over inputs and outputs in memory. Behind them it prints the help, and
-//! the code and the lines of each status.
+//! Rows of the program `fixgate` over inputs and outputs in memory. Behind them it prints the help,
+//! and the code and the lines of each status.
 #![tactic(auto)]
 
 mod runs;

@@ -2,8 +2,8 @@
 
 use row_words::{SOH, Sign};
 
-/// `|` stands for SOH, `!` for `|`, `~` for a new line, `;` for a carriage return, a backtick for byte
-/// 127, `$` for a plain order, `@` for the same as the venue takes it, `%` for the names of a
+/// `|` stands for SOH, `!` for `|`, `~` for a new line, `;` for a carriage return, a backtick for
+/// byte 127, `$` for a plain order, `@` for the same as the venue takes it, `%` for the names of a
 /// configuration, and `^` for the first lines of a capture.
 pub(crate) const SIGNS: [Sign; 9] = [
     SOH,

@@ -1,5 +1,5 @@
--- The table that the rules make of a table of FIX 5.0 SP2. The tables of reports of FIX 4.2 are what
--- they make of those of FIX 5.0 SP2.
+-- The table that the rules make of a table of FIX 5.0 SP2. The tables of reports of FIX 4.2 are
+-- what they make of those of FIX 5.0 SP2.
 use Rattle.std.specs.Prelude.{◌≡◌, ℕ, Bool, true, false, List, [], ◌∷◌, Option, Some, IfSome, codes}
 use Rattle.std.specs.List.{AllByRecursion}
 use Rattle.std.proofs.Common.{refl}

@@ -19,8 +19,8 @@ use Rattle.report_translate.specs.Reading.{report_message}
 
 -- What fields of FIX 5.0 SP2, their message and the one that goes down of it have in common: the
 -- two messages mean the same and change each book alike, and the fields that stand for these are by
--- the tables of FIX 4.2 at no fault and are the very report that was written, with the PossResend of
--- the header.
+-- the tables of FIX 4.2 at no fault and are the very report that was written, with the PossResend
+-- of the header.
 pub record IsKept (fields : List Field) (m w : Message) : Type 0 where
   pub means : report42 w ≡ report50 m
   pub books : (book : Book) → step42 book w ≡ step50 book m

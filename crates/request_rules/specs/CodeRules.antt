@@ -18,7 +18,8 @@ use Rattle.request_rules.specs.declared.reading.Good.{Good}
 use Rattle.request_rules.specs.declared.rules.Own.{Own as CodeOwn}
 use Rattle.request_rules.specs.declared.rules.Own.TheVariants as rules
 use Rattle.request_rules.specs.Rules.{Own, Rule, Listed, Parties, PartyOf, Month, Date, OrdType}
-use Rattle.request_rules.specs.Rules.{Time, Who, Client, Broker, Firm, date_up, is_late, is_unlisted}
+use Rattle.request_rules.specs.Rules.{Time, Who, Client, Broker, Firm, date_up, is_late}
+use Rattle.request_rules.specs.Rules.{is_unlisted}
 use Rattle.request_rules.specs.Rules.{own_kinds, party_lines, time_up, type_up}
 
 -- the rule that a kind of the code is

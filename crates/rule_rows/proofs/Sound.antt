@@ -39,7 +39,8 @@ whatever None = tt
 whatever (Some one) = tt
 
 -- A MESSAGE THAT GOES by rules: the kinds of its rules, and the rules, which have a target each;
--- the table in which it is sound; what a rule makes of that table, and the header of what they make.
+-- the table in which it is sound; what a rule makes of that table, and the header of what they
+-- make.
 pub record Goes (Rule : Type 0) : Type 0 where
   pub kinds : Kinds Rule
   pub are : AreKinds kinds

@@ -1,6 +1,6 @@
 //! Journals, as their bytes. An entry is written `moment took number out number type flags` with
-//! the next numbers after it, which are four, and the body that it took, where `-` says that it took
-//! or gave out nothing. An out has no content here.
+//! the next numbers after it, which are four, and the body that it took, where `-` says that it
+//! took or gave out nothing. An out has no content here.
 
 use order_meaning::{Name, Names};
 use outside::MemDisk;

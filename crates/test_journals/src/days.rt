@@ -40,8 +40,8 @@ fn begin_day(alloc: Global, disk: &mut MemDisk, names: &Names) -> Result<(), Jou
     Ok(())
 }
 
-/// What a journal is by its last day: how many entries it has, its next numbers, when the day began,
-/// and what the first out to the venue translates.
+/// What a journal is by its last day: how many entries it has, its next numbers, when the day
+/// began, and what the first out to the venue translates.
 type Day = (u64, Next, Option<u64>, Option<(u32, u8)>);
 
 /// The day of one order.

@@ -88,7 +88,8 @@ const IMAGES: [(&str, Parts, Result<Option<u64>, u64>); 20] = [
     ("numbers that do not go on",
         &[OPEN, CLIENT, GATE, VENUE, (FIRST_ORDER, 0), (FIRST_ORDER, 1)], Err(223)),
     ("an order, a new day, and an order with number 1 again",
-        &[OPEN, CLIENT, GATE, VENUE, (FIRST_ORDER, 0), (SECOND_DAY, 0), (NEXT_ORDER, 1)], Ok(Some(3))),
+        &[OPEN, CLIENT, GATE, VENUE, (FIRST_ORDER, 0), (SECOND_DAY, 0), (NEXT_ORDER, 1)],
+        Ok(Some(3))),
     ("an order of the day before",
         &[OPEN, CLIENT, GATE, VENUE, (SECOND_DAY, 0), (FIRST_ORDER, 1)], Err(195)),
 ];

@@ -234,8 +234,8 @@ fn nearly_full(alloc: Global) -> Result<Vec<u8>, AllocError> {
     Ok(bytes)
 }
 
-/// Why such a log refuses a payload, if it does, whether it wrote anything, and how long the disk is
-/// behind that.
+/// Why such a log refuses a payload, if it does, whether it wrote anything, and how long the disk
+/// is behind that.
 fn appended(alloc: Global, payload: &[u8]) -> Result<(Option<LogError>, bool, u64), LogError>
     requires { IsSized payload.now }
 {

@@ -1,5 +1,5 @@
-//! A journal of more entries than stand between two marks: each is read again from its disk, and the
-//! outs one after the other.
+//! A journal of more entries than stand between two marks: each is read again from its disk, and
+//! the outs one after the other.
 
 ghost use Rattle.std.specs.Prelude.{◌<◌};
 ghost use Rattle.std.specs.Option.{ForSome};
@@ -48,7 +48,8 @@ fn first_untold<D: Disk>(
     Ok(None)
 }
 
-/// What the outs of so many orders tell, how many these are, and how often the disk is read for all.
+/// What the outs of so many orders tell, how many these are, and how often the disk is read for
+/// all.
 fn all_told(alloc: Global, names: &Names) -> Result<(Option<u32>, u32, usize), JournalError> {
     let mut disk = orders(alloc, names)?;
     let journal = Journal::load(alloc, &mut disk, names, &mut NoReader)?;

@@ -1,5 +1,5 @@
-//! The lines of entries, as a tap tells them: those of orders, and the texts of Reject(3), Logout(5)
-//! and BusinessMessageReject(j), taken or said.
+//! The lines of entries, as a tap tells them: those of orders, and the texts of Reject(3),
+//! Logout(5) and BusinessMessageReject(j), taken or said.
 
 use crate::entries::{Message, entry_of, is_entry};
 use drop_taps::{Tap, TapFailed};

@@ -1,5 +1,5 @@
-//! What is looked up in fields and in a table, and the laws of tables. Fields with their first fault
-//! beside a table are rows of `field_rows`.
+//! What is looked up in fields and in a table, and the laws of tables. Fields with their first
+//! fault beside a table are rows of `field_rows`.
 
 use Need::{Optional, Required};
 use field_groups::Field;

@@ -1,6 +1,6 @@
-//! What the fields of a message say, the first faults beside a small table, the lines of each group,
-//! and the parts of a content. The expected values are those of the data types of FIX 4.2 and of
-//! SessionRejectReason(373). `|` is SOH.
+//! What the fields of a message say, the first faults beside a small table, the lines of each
+//! group, and the parts of a content. The expected values are those of the data types of FIX 4.2
+//! and of SessionRejectReason(373). `|` is SOH.
 
 ghost use Rattle.std.specs.Prelude.{IfSome};
 ghost use Rattle.row_values.specs.Lines.{IsReadableMaturity};

@@ -1,7 +1,8 @@
 -- Standard: FIX 4.4 and FIX 5.0 SP2, volume 6: how each field of a request of FIX 4.4 is spelled in
 -- FIX 5.0 SP2, and each field of a report of FIX 5.0 SP2 in FIX 4.4. Own: the order of writing;
 -- that a place that the source does not have is not written; that an order without HandlInst says
--- 1; and that of OrderCapacity only A (agency), I (individual) and P (principal) are in the profile.
+-- 1; and that of OrderCapacity only A (agency), I (individual) and P (principal) are in the
+-- profile.
 use Rattle.std.specs.Prelude.{ℕ, Bool, true, false, not, ◌==◌, ◌&&◌, List, [], ◌∷◌, codes}
 use Rattle.std.specs.Prelude.{Option, Some, None, Result, is_some, if◌then◌else◌}
 use Rattle.std.specs.Option.{option_map}

@@ -15,8 +15,8 @@ use Rattle.translation.specs.Header.{type_of, with_content}
 
 -- A DIRECTION: the kind of the frames that it writes; the header fields that it carries; what
 -- fields are read as, by MsgType and with the fault that stopped them; what a message becomes, or
--- the tag that it lacks; the content that is written; and what the fields of a body, its message and
--- what that becomes have in common.
+-- the tag that it lacks; the content that is written; and what the fields of a body, its message
+-- and what that becomes have in common.
 pub record Direction : Type 1 where
   pub kind : Kind
   pub head : List Field → List Field

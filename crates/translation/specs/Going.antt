@@ -11,7 +11,8 @@ use Rattle.translation.specs.Writing.{IsUnwritten, IsWritten}
 
 module _ (d : Direction) where
   -- fields of a whole body are read as this message
-  pub record AreRead (fields : List Field) (stopped : Option SplitFault) (m : Message) : Type 0 where
+  pub record AreRead (fields : List Field) (stopped : Option SplitFault) (m : Message)
+      : Type 0 where
     pub whole : stopped ≡ None
     pub read : d.source (type_of fields) fields None ≡ Ok m
 
@@ -26,7 +27,8 @@ module _ (d : Direction) where
   abbrev pub StayBack : List Field → Option SplitFault → TranslateError → Type 0
   StayBack fields stopped errors.NoMemory = Unit {0}
   StayBack fields stopped errors.TooLong = ⊥
-  StayBack fields stopped (errors.Faulty fault) = d.source (type_of fields) fields stopped ≡ Err fault
+  StayBack fields stopped (errors.Faulty fault) =
+      d.source (type_of fields) fields stopped ≡ Err fault
   StayBack fields stopped (errors.Lacking tag) =
       (m : Message) × AreRead fields stopped m × (d.goes m ≡ Err tag)
 

@@ -90,6 +90,7 @@ fn write_carried<F: Lookup>(tag: u32, fields: &F, out: &mut Vec<u8>) -> Result<(
 /// # Errors
 ///
 /// `AllocError` for want of memory; then a part of the header may stand at the end of `out`.
+#[inline]
 pub fn write_head<F: Lookup>(
     msg_type: &[u8],
     fields: &F,

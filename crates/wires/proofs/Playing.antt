@@ -1,12 +1,14 @@
 -- A record that plays a script, and one call more.
 use Rattle.std.proofs.Common.{◌≡◌, ℕ, Bool, true, false, List, [], ◌∷◌, ◌++◌, refl, sym, subst}
 use Rattle.std.specs.Option.{option_map}
-use Rattle.std.specs.Prelude.{fold, ⊤, if◌then◌else◌, Some, None, IfSome, Result, Ok, Err, OnOk, OnErr}
+use Rattle.std.specs.Prelude.{fold, ⊤, if◌then◌else◌, Some, None, IfSome, Result, Ok, Err, OnOk}
+use Rattle.std.specs.Prelude.{OnErr}
 use Rattle.std.specs.declared.option.Option.{Option}
 use Rattle.outside.specs.declared.stream.Failed.{Failed}
 use Rattle.wires.specs.Wire.{Came, Nothing, Opened, Bytes, Closed, Broken}
 use Rattle.wires.specs.Told.{Keeps}
-use Rattle.wires.specs.Wire.{WireCall, Poll, Send, HangUp, within_after, is_within, came_by, came_of}
+use Rattle.wires.specs.Wire.{WireCall, Poll, Send, HangUp, within_after, is_within, came_by}
+use Rattle.wires.specs.Wire.{came_of}
 use Rattle.wires.specs.MemWire.{WireState, PlaysTo, plays, noted, lost, hung_up}
 use Rattle.wires.specs.Script.{next_of, rest_of, Takes, Plays}
 use Rattle.wires.specs.declared.wire.Arrival.{Arrival}

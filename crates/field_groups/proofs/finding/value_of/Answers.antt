@@ -4,7 +4,8 @@ use Rattle.std.specs.Option.{option_map}
 use Rattle.field_groups.proofs.ByTag.{ended, found, no_field, none_left, one_more, some_left}
 use Rattle.field_groups.proofs.ByTag.{too_many}
 use Rattle.field_groups.proofs.finding.value_of.Goals as goal
-use Rattle.field_groups.proofs.finding.value_of.Goals.{then-loop-count-test+else-not-is_empty, else-loop-count-test}
+use Rattle.field_groups.proofs.finding.value_of.Goals.{then-loop-count-test+else-not-is_empty}
+use Rattle.field_groups.proofs.finding.value_of.Goals.{else-loop-count-test}
 
 pub returns-in-Err : goal.returns-in-Err
 returns-in-Err c =

@@ -2,7 +2,8 @@ use Rattle.std.proofs.Common.{rules, ◌≡◌, ℕ, List, None, option_map, sub
 use Rattle.std.specs.Prelude.{IfOk}
 use Rattle.row_values.specs.Kinds.{resend_of}
 use Rattle.message_answers.specs.Seen.{IsForwarded}
-use Rattle.message_answers.proofs.Reported.{answers, is_good, joins, one_byte, original_said, refused}
+use Rattle.message_answers.proofs.Reported.{answers, is_good, joins, one_byte, original_said}
+use Rattle.message_answers.proofs.Reported.{refused}
 use Rattle.message_answers.proofs.Reported.{sent}
 use Rattle.message_answers.proofs.reports.sent.Goals as goal
 
