@@ -1,9 +1,7 @@
--- Own: what may happen to the gateway.
+-- Own: what may happen to one of the two sessions.
 use Rattle.std.specs.Prelude.{ℕ, List}
 use Rattle.order_meaning.specs.declared.Side.{Side}
 use Rattle.frame_grammar.specs.Frame.{IsBody}
-use Rattle.event_decisions.specs.declared.event.Event.{Event as GivenEvent}
-use Rattle.event_decisions.specs.declared.event.Event.TheVariants as given
 
 -- a connection opened; a frame with this body came; the connection ended; time went by; the gateway
 -- ends
@@ -13,14 +11,6 @@ pub data Event : Type 0 where
   Closed : (side : Side) → Event
   Tick : (side : Side) → Event
   End : (side : Side) → Event
-
--- an event as the code is handed it
-abbrev pub event_of : GivenEvent → Event
-event_of (given.Opened side) = Opened side
-event_of (given.Frame side body) = Frame side body.now
-event_of (given.Closed side) = Closed side
-event_of (given.Tick side) = Tick side
-event_of (given.End side) = End side
 
 abbrev pub side_of : Event → Side
 side_of (Opened side) = side

@@ -6,8 +6,6 @@
 #![tactic(auto)]
 
 mod day;
-mod event;
 pub mod laws;
 
 pub use day::is_due;
-pub use event::Event;

@@ -20,7 +20,17 @@ use Rattle.gateway_core.specs.declared.plan.PlanError.TheVariants as errors
 use Rattle.message_answers.specs.Chains.{chains_of, new_item}
 use Rattle.event_decisions.specs.Decide.{Sessions, Decision, Decides, with_session}
 use Rattle.message_answers.specs.Answer.{Answers}
-use Rattle.event_decisions.specs.Event.{Event}
+use Rattle.event_decisions.specs.Event.{Event, Opened, Frame, Closed, Tick, End}
+use Rattle.gateway_core.specs.declared.event.Event.{Event as GivenEvent}
+use Rattle.gateway_core.specs.declared.event.Event.TheVariants as given
+
+-- an event as the code is handed it
+abbrev pub event_of : GivenEvent → Event
+event_of (given.Opened side) = Opened side
+event_of (given.Frame side body) = Frame side body.now
+event_of (given.Closed side) = Closed side
+event_of (given.Tick side) = Tick side
+event_of (given.End side) = End side
 
 -- the configuration, the two sessions and the chains
 pub record CoreState : Type 0 where

@@ -8,6 +8,7 @@
 
 mod acting;
 mod entries;
+mod event;
 pub mod laws;
 mod outs;
 mod plan;
@@ -15,7 +16,8 @@ mod planning;
 mod sessions;
 
 pub use entries::new_day;
-pub use event_decisions::{Event, is_due};
+pub use event::Event;
+pub use event_decisions::is_due;
 pub use gateway_config::Config;
 pub use plan::{Plan, PlanError};
 pub use planning::Core;

@@ -12,7 +12,7 @@ ghost use Rattle.pair_entries.specs.Payload.{IsTook, IsOut, AreOuts, AreNext};
 ghost use Rattle.session_core.specs.Numbers.{AreNextNumbers};
 ghost use Rattle.session_core.specs.Table.{Message, step, number_of};
 ghost use Rattle.event_decisions.specs.Body.{reading_of, fields_of};
-ghost use Rattle.event_decisions.specs.Event.{event_of, IsFramed, Frame, Tick};
+ghost use Rattle.event_decisions.specs.Event.{IsFramed, Frame, Tick};
 ghost use Rattle.event_decisions.specs.Decide.{session_of, says_of, head_in, Decides};
 ghost use Rattle.event_decisions.specs.Decide.{with_session};
 ghost use Rattle.message_answers.specs.Answer.{Answers};
@@ -23,7 +23,7 @@ ghost use Rattle.gateway_core.specs.Planning.{words_by, given_by, entry_by, deci
 ghost use Rattle.gateway_core.specs.Planning.{quiet_by, silent, Comes, JoinsWith, IsAnswered};
 ghost use Rattle.message_answers.specs.Seen.{IsSplit};
 ghost use Rattle.gateway_core.specs.State.{loaded, Stand, IsNew, Plans, HasItem, Grows};
-ghost use Rattle.gateway_core.specs.State.{sessions_in, decision_of, going_on};
+ghost use Rattle.gateway_core.specs.State.{event_of, sessions_in, decision_of, going_on};
 
 use crate::acting::{hangs_up, is_active, is_asked, repeat_of, took_of};
 use crate::entries::{committed, entry_of, same_numbers, with_entry};

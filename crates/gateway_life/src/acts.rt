@@ -1,13 +1,12 @@
 //! Which outs of an event are sent, and which sessions stand behind it.
 
 ghost use Rattle.std.specs.Prelude.{◌≡◌};
-ghost use Rattle.event_decisions.specs.Event.{event_of, side_of};
+ghost use Rattle.event_decisions.specs.Event.{side_of};
 ghost use Rattle.event_decisions.specs.Decide.{session_of};
-ghost use Rattle.gateway_core.specs.State.{sessions_in};
+ghost use Rattle.gateway_core.specs.State.{event_of, sessions_in};
 ghost use Rattle.life_laws.specs.Happens.{is_sent, standing};
 
-use event_decisions::Event;
-use gateway_core::Core;
+use gateway_core::{Core, Event};
 use order_meaning::Side;
 use session_core::{LinkState, Session};
 use wire_sends::is_side;

@@ -1,5 +1,5 @@
 use Rattle.std.proofs.Common.{ap}
-use Rattle.event_decisions.specs.Event.{event_of}
+use Rattle.gateway_core.specs.State.{event_of}
 use Rattle.gateway_core.proofs.Planned.{closed_plans}
 use Rattle.gateway_core.proofs.planning.Core.planned.Goals as goal
 

@@ -1,8 +1,7 @@
 use Rattle.std.proofs.Common.{◌∙◌, ◌++◌, ap, sym, refl, subst}
 use Rattle.std.specs.Prelude.{IfSome}
 use Rattle.std.specs.Option.{option_to_list}
-use Rattle.event_decisions.specs.Event.{event_of}
-use Rattle.gateway_core.specs.State.{sessions_in, decision_of}
+use Rattle.gateway_core.specs.State.{event_of, sessions_in, decision_of}
 use Rattle.pair_journal.specs.Days.{last_day, past_of}
 use Rattle.pair_journal.specs.Numbers.{numbers_after, numbers_before, first_numbers, GoesOn}
 use Rattle.pair_journal.proofs.Dating.{last_is_sound, past-last}

@@ -2,7 +2,7 @@ use Rattle.std.proofs.Common.{◌∙◌, ◌++◌, ap, sym, Err}
 use Rattle.std.specs.Option.{option_to_list}
 use Rattle.pair_journal.specs.Days.{last_day, past_of}
 use Rattle.pair_journal.proofs.Dating.{past-last}
-use Rattle.event_decisions.specs.Event.{event_of}
+use Rattle.gateway_core.specs.State.{event_of}
 use Rattle.pair_journal.specs.State.{JournalState}
 use Rattle.gateway_life.specs.State.{seen}
 use Rattle.gateway_life.specs.Ready.{world_of, made_of, Behind}
