@@ -32,31 +32,12 @@ use text_tap::TextTap;
 const MAX_NAMED: usize = 1 << 20;
 
 /// The words of the command line behind the program's name.
-fn read_words(rt: &(impl Env + AllocGlobal)) -> Result<Vec<String>, Status> {
-    let args = match env::args(rt) {
-        Ok(args) => args,
-        Err(error) => {
-            return Err(match error.kind() {
-                io::ErrorKind::OutOfMemory => Status::NoMemory,
-                _ => Status::Usage,
-            });
-        }
-    };
+fn read_words(rt: &(impl Env + AllocGlobal)) -> io::Result<Vec<String>> {
     let mut words = Vec::new(rt.alloc());
-    for word in args.skip(1) {
-        if words.push(word).is_err() {
-            return Err(Status::NoMemory);
-        }
+    for word in env::args(rt)?.skip(1) {
+        words.push(word)?;
     }
     Ok(words)
-}
-
-/// Whether the command is this one, whatever its other words.
-fn is_command(options: &Options<'_>, name: &str) -> bool {
-    options
-        .words
-        .first()
-        .is_some_and(|word| word.as_str() == name)
 }
 
 /// Tells what a status leaves unsaid: which word is wrong, or which key is unknown.
@@ -91,11 +72,11 @@ fn ended(rt: HostRuntime, words: &[String]) -> Result<Status, AllocError> {
     let alloc = rt.alloc();
     let mut taps: Vec<Box<dyn Tap>> = Vec::new(alloc);
     let mut room = 0;
-    if is_command(&options, "serve") {
+    if options.is_command("serve") {
         taps.push(Box::new(alloc, LineTap::new(PlainLines::new(rt)))?)?;
         taps.push(Box::new(alloc, TextTap::new(alloc, DatedLines::new(rt)))?)?;
         room = MAX_NAMED;
-    } else if is_command(&options, "replay") || is_command(&options, "drill") {
+    } else if options.is_command("replay") || options.is_command("drill") {
         taps.push(Box::new(alloc, TotalsTap::new())?)?;
     }
     let mut input = Kept::new(alloc, Reading::new(rt.stdin()), room);
@@ -110,7 +91,11 @@ fn ended(rt: HostRuntime, words: &[String]) -> Result<Status, AllocError> {
 fn status_of(rt: HostRuntime) -> Status {
     match read_words(&rt) {
         Ok(words) => ended(rt, &words).unwrap_or(Status::NoMemory),
-        Err(status) => status,
+        Err(error) if error.kind() == io::ErrorKind::OutOfMemory => Status::NoMemory,
+        Err(_) => {
+            let _ = eprintln!(rt; "fixgate: a word of the command line is no UTF-8");
+            Status::Usage
+        }
     }
 }
 

@@ -17,6 +17,13 @@ pub(crate) struct Options<'a> {
     pub(crate) words: &'a [String],
 }
 
+impl Options<'_> {
+    /// Whether the command is this one, whatever its other words.
+    pub(crate) fn is_command(&self, name: &str) -> bool {
+        self.words.first().is_some_and(|word| word.as_str() == name)
+    }
+}
+
 /// Why the options of a command line are refused. Its `Display` is the line, without its LF.
 #[derive(Clone, Copy, Debug)]
 pub(crate) enum OptionFault<'a> {

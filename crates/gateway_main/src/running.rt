@@ -218,7 +218,7 @@ fn run_with_journal<
     };
     let status = match options.addresses {
         Some(addresses) => {
-            if stop_lies(&rt, lines, &stop) {
+            if options.is_command("serve") && stop_lies(&rt, lines, &stop) {
                 return Status::DiskFault;
             }
             tell_long_end(&rt, lines, options.words);
@@ -269,6 +269,11 @@ pub(crate) fn run_words<
 {
     match options.journal {
         Some(path) => run_with_journal(rt, lines, options, input, out, taps, path),
-        None => run_in_memory(rt, lines, options, input, out, taps),
+        None => {
+            if only_read(options.words) {
+                tell(lines, "fixgate: no journal is read: --journal is not given");
+            }
+            run_in_memory(rt, lines, options, input, out, taps)
+        }
     }
 }
