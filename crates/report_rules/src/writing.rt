@@ -1,6 +1,6 @@
 //! Writing the content of FIX 4.2 rule by rule.
 
-ghost use Rattle.std.specs.Prelude.{◌≡◌, ◌++◌, IfOk, IfSome, OnOk, codes, drop, is_some, not, take};
+ghost use Rattle.std.specs.Prelude.{◌≡◌, ◌++◌, IfErr, IfOk, IfSome, None, OnOk, codes, drop, take};
 ghost use Rattle.std.specs.Io.{StartsWith};
 ghost use Rattle.std.specs.Option.{option_map};
 ghost use Rattle.typed_fields.specs.Number.{IsNumber};
@@ -8,24 +8,23 @@ ghost use Rattle.value_kinds.specs.ValueKind.{code_text};
 ghost use Rattle.field_groups.specs.Field.{body_of, field_bytes};
 ghost use Rattle.message_tables.specs.Content.{cell_fields};
 ghost use Rattle.message_tables.specs.Tables.{Tag, value_at};
-ghost use Rattle.order_meaning.specs.Report.{or_known};
 ghost use Rattle.reports_fix50.specs.Sense.{most_before_reasons, reason_told, telling};
-ghost use Rattle.rule_writing.specs.CodeRules.{stands};
-ghost use Rattle.report_rules.specs.CodeRules.{close_code, exec_type_in, known_of, lacks, month};
-ghost use Rattle.report_rules.specs.CodeRules.{number_of, tells_of, told, told_text, trans_type_in};
-ghost use Rattle.report_rules.specs.CodeRules.{within_text, writes};
+ghost use Rattle.rule_writing.specs.CodeRules.{IsLackOf};
+ghost use Rattle.report_rules.specs.CodeRules.{close_code, exec_type_in, lacks, month, number_of};
+ghost use Rattle.report_rules.specs.CodeRules.{tells_of, told, told_text, within_text, writes};
 ghost use Rattle.report_rules.specs.declared.rules.Own.TheVariants as rules;
-ghost use Rattle.report_rules.specs.Rules.{at_close, lacks_type, status_if, works_on};
+ghost use Rattle.report_rules.specs.Rules.{at_close, status_if, works_on};
 
 use crate::mapping::{at_close, exec_type, on_close, status_if, trans_type, works_on};
 use crate::rules::Own;
 use crate::source::{Besides, Codes, Source, TIMES, TYPES, party};
 use field_groups::{Fields, SOH, put_byte, put_field, put_number, put_tag};
 use message_tables::Lookup;
+use order_meaning::Lack;
 use row_values::{Part, Value};
 use rows_fix50::maturity;
 use rule_rows::{kept, number_of, put_decimal, put_one, put_text};
-use rule_writing::{OwnRule, tag_if};
+use rule_writing::OwnRule;
 use std::alloc::{AllocError, Global};
 use typed_fields::{FieldValue, Number};
 
@@ -232,15 +231,19 @@ fn put_day(out: &mut Vec<u8>, date: Option<&[u8]>) -> Appended
     }
 }
 
-/// Appends OrigClOrdID(41), or else the id that is known.
-fn put_original(source: &Source<'_, '_, '_>, out: &mut Vec<u8>) -> Appended
+/// Appends OrigClOrdID(41), or else the id that is known, unless nothing tells which order was to
+/// be canceled or replaced.
+fn put_original(source: &Source<'_, '_, '_>, out: &mut Vec<u8>) -> Result<(), Lack>
     ensures done { OnOk result (out.new.items
         ≡ out.old.items ++ body_of (writes source.now rules.Original)) }
+    ensures said { OnOk result (lacks source.now rules.Original ≡ None) }
+    ensures lack { IfErr result (IsLackOf (lacks source.now rules.Original)) }
     ensures kept { StartsWith out.new.items out.old.items }
 {
-    match source.fields.value(41) {
-        Some(id) => put_field(out, 41, id),
-        None => put_text(out, 41, source.besides.known),
+    match (source.fields.value(41), source.besides.known) {
+        (Some(id), _) => Ok(put_field(out, 41, id)?),
+        (None, Some(known)) => Ok(put_field(out, 41, known)?),
+        (None, None) => Err(Lack::Tag(41)),
     }
 }
 
@@ -262,13 +265,20 @@ fn put_exec_id(source: &Source<'_, '_, '_>, out: &mut Vec<u8>) -> Appended
     }
 }
 
-/// ExecTransType(20), where ExecType(150) has one.
-fn trans_type_if(exec_type: Option<u8>) -> Option<u8>
-    ensures { result ≡ trans_type_in exec_type }
+/// Appends ExecTransType(20), unless ExecType(150) has no counterpart.
+fn put_trans_type(source: &Source<'_, '_, '_>, out: &mut Vec<u8>) -> Result<(), Lack>
+    ensures done { OnOk result (out.new.items
+        ≡ out.old.items ++ body_of (writes source.now rules.TransType)) }
+    ensures said { OnOk result (lacks source.now rules.TransType ≡ None) }
+    ensures lack { IfErr result (IsLackOf (lacks source.now rules.TransType)) }
+    ensures kept { StartsWith out.new.items out.old.items }
 {
-    match exec_type {
-        None => None,
-        Some(code) => trans_type(code),
+    match source.besides.codes.exec_type {
+        None => Ok(()),
+        Some(code) => match trans_type(code) {
+            None => Err(Lack::Tag(150)),
+            Some(code) => Ok(put_byte(out, 20, code)?),
+        },
     }
 }
 
@@ -334,61 +344,33 @@ fn put_time(source: &Source<'_, '_, '_>, out: &mut Vec<u8>) -> Appended
     }
 }
 
-/// Whether an ExecType(150) has no counterpart.
-fn lacks_type(exec_type: Option<u8>) -> bool
-    ensures { result ≡ lacks_type exec_type }
-{
-    match exec_type {
-        None => false,
-        Some(code) => trans_type(code).is_none(),
-    }
-}
-
-/// Whether nothing tells which order was to be canceled or replaced.
-fn lacks_original(source: &Source<'_, '_, '_>) -> bool
-    ensures { result ≡ not (is_some (or_known (stands source.now 41) (known_of source.now))) }
-{
-    match source.fields.value(41) {
-        Some(_) => false,
-        None => source.besides.known.is_none(),
-    }
-}
-
 impl<'k> OwnRule<Besides<'k>> for Own {
     ghost writes = { writes };
 
     ghost lacks = { lacks };
 
-    #[inline(always)]
-    fn lacked(&self, source: &Source<'_, 'k, '_>) -> Option<u32> {
-        match self {
-            Own::TransType => tag_if(lacks_type(source.besides.codes.exec_type), 150),
-            Own::Original => tag_if(lacks_original(source), 41),
-            _ => None,
-        }
-    }
-
-    fn put(&self, source: &Source<'_, 'k, '_>, out: &mut Vec<u8>) -> Result<(), AllocError> {
+    fn put(&self, source: &Source<'_, 'k, '_>, out: &mut Vec<u8>) -> Result<(), Lack> {
         let fields = source.fields;
         match self {
             Own::Original => put_original(source, out),
-            Own::PartyOf(role, to) => put_text(out, *to, party(&source.besides.parties, *role)),
-            Own::ExecId => put_exec_id(source, out),
-            Own::TransType => {
-                put_code_if(out, 20, trans_type_if(source.besides.codes.exec_type))
+            Own::PartyOf(role, to) => {
+                Ok(put_text(out, *to, party(&source.besides.parties, *role))?)
             }
-            Own::ExecType => put_code_if(out, 150, exec_type_if(&source.besides.codes)),
-            Own::OrdStatus => put_status(source, out),
-            Own::Another(tag) => put_text(out, *tag, fields.value(*tag)),
-            Own::Traded(tag) => put_decimal(out, *tag, fields.value(*tag)),
+            Own::ExecId => Ok(put_exec_id(source, out)?),
+            Own::TransType => put_trans_type(source, out),
+            Own::ExecType => Ok(put_code_if(out, 150, exec_type_if(&source.besides.codes))?),
+            Own::OrdStatus => Ok(put_status(source, out)?),
+            Own::Another(tag) => Ok(put_text(out, *tag, fields.value(*tag))?),
+            Own::Traded(tag) => Ok(put_decimal(out, *tag, fields.value(*tag))?),
             Own::Within(tag, last, other) => {
-                put_within(out, *tag, *last, *other, number_of(fields.value(*tag)))
+                let reason = number_of(fields.value(*tag));
+                Ok(put_within(out, *tag, *last, *other, reason)?)
             }
-            Own::Told(is_report) => put_told(out, fields, *is_report),
-            Own::Month => put_month(out, fields),
-            Own::DayOfDate => put_day(out, fields.value(541)),
-            Own::OrdType => put_type(source, out),
-            Own::Time => put_time(source, out),
+            Own::Told(is_report) => Ok(put_told(out, fields, *is_report)?),
+            Own::Month => Ok(put_month(out, fields)?),
+            Own::DayOfDate => Ok(put_day(out, fields.value(541))?),
+            Own::OrdType => Ok(put_type(source, out)?),
+            Own::Time => Ok(put_time(source, out)?),
         }
     }
 }

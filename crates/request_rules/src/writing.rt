@@ -15,9 +15,10 @@ ghost use Rattle.request_rules.specs.Rules.{time_up, type_up, up_rules};
 use crate::rules::Own;
 use field_groups::{Fields, put_byte, put_field, put_number};
 use message_tables::Lookup;
+use order_meaning::Lack;
 use row_values::{Part, Value, month_and_day};
 use rule_rows::{code_of, put_count, put_one, put_text};
-use rule_writing::{OwnRule, tag_if};
+use rule_writing::OwnRule;
 use std::alloc::AllocError;
 
 /// What the rules read.
@@ -190,33 +191,33 @@ impl OwnRule<()> for Own {
 
     ghost lacks = { lacks };
 
-    #[inline(always)]
-    fn lacked(&self, source: &Source<'_, '_>) -> Option<u32> {
+    fn put(&self, source: &Source<'_, '_>, out: &mut Vec<u8>) -> Result<(), Lack> {
         let fields = source.fields;
         match self {
-            Own::Listed(from, _, listed) => {
-                tag_if(is_unlisted(listed, code_of(fields.value(*from))), *from)
+            Own::Listed(from, to, listed) => {
+                let code = fields.value(*from);
+                if is_unlisted(listed, code_of(code)) {
+                    Err(Lack::Tag(*from))
+                } else {
+                    Ok(put_text(out, *to, code)?)
+                }
             }
-            Own::Time => {
-                let ord_type = code_of(fields.value(40));
-                tag_if(is_late(ord_type, code_of(fields.value(59))), 59)
-            }
-            _ => None,
-        }
-    }
-
-    fn put(&self, source: &Source<'_, '_>, out: &mut Vec<u8>) -> Result<(), AllocError> {
-        let fields = source.fields;
-        match self {
-            Own::Listed(from, to, _) => put_text(out, *to, fields.value(*from)),
             Own::Parties => {
-                put_parties(out, fields.value(109), fields.value(76), fields.value(439))
+                let (client, broker) = (fields.value(109), fields.value(76));
+                Ok(put_parties(out, client, broker, fields.value(439))?)
             }
             Own::PartyOf(_) => Ok(()),
-            Own::Month => put_month(out, fields),
-            Own::Date => put_date(out, fields),
-            Own::OrdType => put_type(out, fields.value(40)),
-            Own::Time => put_time(out, fields.value(40), fields.value(59)),
+            Own::Month => Ok(put_month(out, fields)?),
+            Own::Date => Ok(put_date(out, fields)?),
+            Own::OrdType => Ok(put_type(out, fields.value(40))?),
+            Own::Time => {
+                let (ord_type, time) = (fields.value(40), fields.value(59));
+                if is_late(code_of(ord_type), code_of(time)) {
+                    Err(Lack::Tag(59))
+                } else {
+                    Ok(put_time(out, ord_type, time)?)
+                }
+            }
         }
     }
 }

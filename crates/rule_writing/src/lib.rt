@@ -10,4 +10,4 @@ mod writing;
 
 pub use rules::{OwnRule, Rule};
 pub use source::Source;
-pub use writing::{put_rules, tag_if};
+pub use writing::put_rules;

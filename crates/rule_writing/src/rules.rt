@@ -1,14 +1,15 @@
 //! The rules of a direction, as the code has them.
 
-ghost use Rattle.std.specs.Prelude.{◌≡◌, ◌++◌, ℕ, List, OnOk};
+ghost use Rattle.std.specs.Prelude.{◌≡◌, ◌++◌, ℕ, List, IfErr, None, OnOk};
 ghost use Rattle.std.specs.declared.option.Option.{Option};
 ghost use Rattle.std.specs.Io.{StartsWith};
 ghost use Rattle.field_groups.specs.Field.{Field, body_of};
+ghost use Rattle.rule_writing.specs.CodeRules.{IsLackOf};
 ghost use Rattle.rule_writing.specs.declared.source.Source.{Source as Read};
 
 use crate::source::Source;
+use order_meaning::Lack;
 use row_values::Kind;
-use std::alloc::AllocError;
 
 /// How the target says one line of its table, where `O` are the kinds of the direction's own.
 #[derive(Clone, Copy, Debug)]
@@ -35,17 +36,16 @@ pub trait OwnRule<B> {
     /// The tag that it cannot say, if any.
     ghost lacks: { Read B → Self → Option ℕ };
 
-    /// The tag that the rule cannot say, if any.
-    fn lacked(&self, source: &Source<'_, '_, B>) -> Option<u32>
-        ensures { result ≡ lacks source.now self.now };
-
-    /// Appends what the rule says, where it can say it.
+    /// Appends what the rule says, unless it cannot.
     ///
     /// # Errors
     ///
-    /// `AllocError` for want of memory; what stood in `out` stays, and a part may stand behind it.
-    fn put(&self, source: &Source<'_, '_, B>, out: &mut Vec<u8>) -> Result<(), AllocError>
+    /// `Lack::Tag` for the tag that it cannot say, exactly where there is one; `Lack::NoMemory` for
+    /// want of memory. What stood in `out` stays, and a part may stand behind it.
+    fn put(&self, source: &Source<'_, '_, B>, out: &mut Vec<u8>) -> Result<(), Lack>
         ensures done { OnOk result (out.new.items
             ≡ out.old.items ++ body_of (writes source.now self.now)) }
+        ensures said { OnOk result (lacks source.now self.now ≡ None) }
+        ensures lack { IfErr result (IsLackOf (lacks source.now self.now)) }
         ensures kept { StartsWith out.new.items out.old.items };
 }

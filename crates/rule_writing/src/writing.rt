@@ -5,7 +5,6 @@ ghost use Rattle.std.specs.Io.{StartsWith};
 ghost use Rattle.std.specs.List.{flat_map};
 ghost use Rattle.field_groups.specs.Field.{body_of};
 ghost use Rattle.message_tables.specs.Tables.{first_of};
-ghost use Rattle.rule_rows.specs.ByRules.{lack_if};
 ghost use Rattle.rule_rows.specs.Rows.{have_written_lines};
 ghost use Rattle.rule_writing.specs.CodeRules.{IsLackOf, lacked, table_of, writes};
 
@@ -14,32 +13,6 @@ use crate::source::Source;
 use message_tables::Lookup;
 use order_meaning::Lack;
 use rule_rows::{kept, put_decimal, put_lines, put_moment, put_text};
-
-/// A tag that is lacking, or none.
-pub fn tag_if(lacks: bool, tag: u32) -> Option<u32>
-    ensures { result ≡ lack_if lacks tag }
-{
-    if lacks { Some(tag) } else { None }
-}
-
-/// Appends what a kind of the direction's own says, unless it cannot.
-#[inline(always)]
-fn put_own<B, O: OwnRule<B>>(
-    source: &Source<'_, '_, B>,
-    own: &O,
-    out: &mut Vec<u8>,
-) -> Result<(), Lack>
-    ensures done { OnOk result (out.new.items
-        ≡ out.old.items ++ body_of (O.writes source.now own.now)) }
-    ensures said { OnOk result (O.lacks source.now own.now ≡ None) }
-    ensures lack { IfErr result (IsLackOf (O.lacks source.now own.now)) }
-    ensures kept { StartsWith out.new.items out.old.items }
-{
-    match own.lacked(source) {
-        Some(tag) => Err(Lack::Tag(tag)),
-        None => Ok(own.put(source, out)?),
-    }
-}
 
 /// Appends what a rule says, if it says anything, unless it cannot.
 fn put_rule<B, O: OwnRule<B>>(
@@ -61,7 +34,7 @@ fn put_rule<B, O: OwnRule<B>>(
         Rule::Moment(tag) => Ok(put_moment(out, *tag, fields.value(*tag))?),
         Rule::Kept(from, to, kind) => Ok(put_text(out, *to, kept(fields, *from, kind))?),
         Rule::Lines(count) => Ok(put_lines(out, fields, source.table, *count)?),
-        Rule::By(own) => put_own(source, own, out),
+        Rule::By(own) => own.put(source, out),
     }
 }
 

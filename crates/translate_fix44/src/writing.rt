@@ -11,11 +11,11 @@ ghost use Rattle.translate_fix44.specs.Rules.{is_market_or_limit, lacks_close, t
 use crate::rules::Own;
 use field_groups::{put_byte, put_field};
 use message_tables::Lookup;
-use order_meaning::Lines;
+use order_meaning::{Lack, Lines};
 use report_rules::{party, put_code_if, put_month, put_told, put_within};
 use request_rules::{is_unlisted, put_parties};
 use rule_rows::{code_of, number_of, put_text};
-use rule_writing::{OwnRule, tag_if};
+use rule_writing::OwnRule;
 use std::alloc::AllocError;
 
 /// What the rules read beside the fields.
@@ -105,36 +105,41 @@ impl OwnRule<Besides> for Own {
 
     ghost lacks = { lacks };
 
-    fn lacked(&self, source: &Source<'_, '_>) -> Option<u32> {
+    fn put(&self, source: &Source<'_, '_>, out: &mut Vec<u8>) -> Result<(), Lack> {
         let fields = source.fields;
         match self {
+            Own::Month => Ok(put_month(out, fields)?),
+            Own::HandlInst => Ok(put_hand_inst(source, out)?),
+            Own::Original => match fields.value(41) {
+                None => Err(Lack::Tag(41)),
+                Some(id) => Ok(put_field(out, 41, id)?),
+            },
             Own::Turned(tag, listed, turns) => {
-                tag_if(is_unlisted(listed, turned(source, *tag, *turns)), *tag)
+                let code = turned(source, *tag, *turns);
+                if is_unlisted(listed, code) {
+                    Err(Lack::Tag(*tag))
+                } else {
+                    Ok(put_code_if(out, *tag, code)?)
+                }
             }
             Own::AtClose => {
-                let ord_type = code_of(fields.value(40));
-                tag_if(lacks_close(ord_type, code_of(fields.value(59))), 59)
+                let time = fields.value(59);
+                if lacks_close(code_of(fields.value(40)), code_of(time)) {
+                    Err(Lack::Tag(59))
+                } else {
+                    Ok(put_text(out, 59, time)?)
+                }
             }
-            Own::Original => tag_if(fields.value(41).is_none(), 41),
-            _ => None,
-        }
-    }
-
-    fn put(&self, source: &Source<'_, '_>, out: &mut Vec<u8>) -> Result<(), AllocError> {
-        let fields = source.fields;
-        let parties = &source.besides.parties;
-        match self {
-            Own::Month => put_month(out, fields),
-            Own::HandlInst => put_hand_inst(source, out),
-            Own::Original => put_text(out, 41, fields.value(41)),
-            Own::Turned(tag, _, turns) => put_code_if(out, *tag, turned(source, *tag, *turns)),
-            Own::AtClose => put_text(out, 59, fields.value(59)),
-            Own::Parties => put_parties(out, party(parties, 3), party(parties, 1), firm(source)),
+            Own::Parties => {
+                let parties = &source.besides.parties;
+                Ok(put_parties(out, party(parties, 3), party(parties, 1), firm(source))?)
+            }
             Own::PartyOf(_) => Ok(()),
             Own::Within(tag, last, other) => {
-                put_within(out, *tag, *last, *other, number_of(fields.value(*tag)))
+                let reason = number_of(fields.value(*tag));
+                Ok(put_within(out, *tag, *last, *other, reason)?)
             }
-            Own::Told(is_report) => put_told(out, fields, *is_report),
+            Own::Told(is_report) => Ok(put_told(out, fields, *is_report)?),
         }
     }
 }
