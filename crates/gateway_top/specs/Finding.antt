@@ -8,8 +8,10 @@ use Rattle.order_meaning.specs.declared.Side.TheVariants.{Client, Venue}
 use Rattle.order_meaning.specs.declared.fault.Fault.TheVariants as faults
 use Rattle.translation.specs.declared.error.TranslateError.{TranslateError}
 use Rattle.translation.specs.declared.error.TranslateError.TheVariants as errors
+use Rattle.dict_fix44.specs.Message.{refusal44}
 use Rattle.request_translate.specs.Translation as up
 use Rattle.report_translate.specs.Translation as down
+use Rattle.report_translate.specs.Reading.{refusal_message}
 use Rattle.report_translate.specs.Refusals.{IsCheckedRefusal}
 use Rattle.translate_fix44.specs.Translation as fix44
 use Rattle.gateway_top.specs.MsgType.{type_in}
@@ -54,11 +56,12 @@ IsFoundBy refusal message body finding =
 -- what is found of a body of a side's session, and of that of a client of FIX 4.4
 abbrev pub IsFound : Side → List ℕ → Finding → Type 0
 IsFound side body finding =
-    IsFoundBy (IsCheckedRefusal side body) (IsCheckedMessage side body) body finding
+    IsFoundBy (IsCheckedRefusal (refusal_message side) body) (IsCheckedMessage side body) body
+    finding
 
 abbrev pub IsFound44 : List ℕ → Finding → Type 0
 IsFound44 body finding =
-    IsFoundBy (fix44.IsCheckedRefusal body) (fix44.IsChecked body) body finding
+    IsFoundBy (IsCheckedRefusal refusal44 body) (fix44.IsChecked body) body finding
 
 -- where a frame that begins here is refused for what is found of it
 abbrev pub refusal_at : Finding → ℕ → Option ℕ

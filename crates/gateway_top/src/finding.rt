@@ -2,6 +2,7 @@
 
 ghost use Rattle.std.specs.Prelude.{◌≡◌, IfOk};
 ghost use Rattle.order_meaning.specs.declared.Side.TheVariants.{Client, Venue};
+ghost use Rattle.report_translate.specs.Reading.{refusal_message};
 ghost use Rattle.report_translate.specs.Refusals.{IsCheckedRefusal};
 ghost use Rattle.gateway_top.specs.Answer.{found_by, fault_finding};
 ghost use Rattle.gateway_top.specs.Finding.{is_session, is_refusal, refusal_at};
@@ -83,7 +84,7 @@ fn found_by(answer: Result<(), TranslateError>) -> Result<Finding, AllocError>
 
 /// What is found of a refusal by a side.
 fn of_refusal(alloc: Global, side: Side, body: &[u8]) -> Result<Finding, AllocError>
-    ensures { IfOk result (IsRead (IsCheckedRefusal side body.now)) }
+    ensures { IfOk result (IsRead (IsCheckedRefusal (refusal_message side) body.now)) }
 {
     found_by(check_refusal(alloc, side, body))
 }

@@ -19,13 +19,13 @@ module _ (side : Side) (body : List ℕ) (fields : List Field)
     (stopped : Option SplitFault) (split : SplitsInto body fields stopped) where
   pub faulty : (fault : Fault) (error : TranslateError) → error ≡ error_of_fault fault
       → Tells fault (refusal_message side (type_of fields) fields stopped)
-      → IsFaultyRefusal side body error
+      → IsFaultyRefusal (refusal_message side) body error
   faulty fault error same told =
-      let P : TranslateError → Type 0 = λ e. IsFaultyRefusal side body e in
+      let P : TranslateError → Type 0 = λ e. IsFaultyRefusal (refusal_message side) body e in
       subst P (sym same) (by fault told)
     where
       by : (fault : Fault) → Tells fault (refusal_message side (type_of fields) fields stopped)
-          → IsFaultyRefusal side body (error_of_fault fault)
+          → IsFaultyRefusal (refusal_message side) body (error_of_fault fault)
       by faults.NoMemory told = tt
       by faults.NotSupported told =
           record { fields = fields; stopped = stopped; split = split; read = told }
@@ -35,7 +35,7 @@ module _ (side : Side) (body : List ℕ) (fields : List Field)
           record { fields = fields; stopped = stopped; split = split; read = told }
 
   pub good : (x : Message) → refusal_message side (type_of fields) fields stopped ≡ Ok x
-      → IsGoodRefusal side body
+      → IsGoodRefusal (refusal_message side) body
   good x is =
       let none = whole_refusal (type_of fields) fields stopped side x is in
       let P : Option SplitFault → Type 0 = λ s. SplitsInto body fields s in

@@ -65,8 +65,8 @@ fn read(alloc: Global, side: Side, split: &Split<'_>) -> Result<Refusal, Fault>
 /// `Fault::NotSupported` for any other type; `NoMemory` for want of memory.
 #[tactic(auto, using(crate::proofs::Refused::judged))]
 pub fn check_refusal(alloc: Global, side: Side, body: &[u8]) -> Result<(), TranslateError>
-    ensures ok { OnOk result (IsGoodRefusal side body.now) }
-    ensures refused { IfErr result (IsFaultyRefusal side body.now) }
+    ensures ok { OnOk result (IsGoodRefusal (refusal_message side) body.now) }
+    ensures refused { IfErr result (IsFaultyRefusal (refusal_message side) body.now) }
 {
     let split = split(alloc, body)?;
     match read(alloc, side, &split) {

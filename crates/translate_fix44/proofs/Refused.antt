@@ -18,14 +18,15 @@ use Rattle.translation.specs.Errors.{error_of_fault}
 use Rattle.translation.specs.Header.{type_of}
 use Rattle.translation.specs.Judged.{AreGood, AreGoodBy}
 use Rattle.translation.proofs.Judged.{clean_is, fault_by}
-use Rattle.translate_fix44.specs.Translation.{HasFault, IsFaultyRefusal, IsGoodRefusal}
+use Rattle.report_translate.specs.Refusals.{HasFault, IsFaultyRefusal, IsGoodRefusal}
 
 module _ (body : List ℕ) (fields : List Field) (stopped : Option SplitFault)
     (split : SplitsInto body fields stopped) where
   abbrev table : Option (Table Kind)
   table = refusal_table_of (type_of fields)
 
-  told : (fault : Fault) → IsCleanIf table fields stopped (Err fault) → HasFault body fault
+  told : (fault : Fault) → IsCleanIf table fields stopped (Err fault)
+      → HasFault refusal44 body fault
   unfolding refusal44
   told fault h = record {
     fields = fields;
@@ -35,14 +36,14 @@ module _ (body : List ℕ) (fields : List Field) (stopped : Option SplitFault)
   }
 
   pub faulty : (fault : Fault) → IsCleanIf table fields stopped (Err fault)
-      → IsFaultyRefusal body (error_of_fault fault)
+      → IsFaultyRefusal refusal44 body (error_of_fault fault)
   faulty faults.NoMemory h = tt
   faulty faults.NotSupported h = told faults.NotSupported h
   faulty (faults.Session tag reason) h = told (faults.Session tag reason) h
   faulty (faults.NoCounterpart tag) h = told (faults.NoCounterpart tag) h
 
   pub good : (good : Bor (List Field)) → IsCleanIf table fields stopped (Ok good)
-      → IsGoodRefusal body
+      → IsGoodRefusal refusal44 body
   unfolding refusal44
   good g h =
       let are = clean_is fields stopped table g h in
@@ -50,11 +51,11 @@ module _ (body : List ℕ) (fields : List Field) (stopped : Option SplitFault)
       by table refl whole are.none
     where
       by : (t : Option (Table Kind)) → table ≡ t → SplitsInto body fields None → AreGoodBy t fields
-          → IsGoodRefusal body
+          → IsGoodRefusal refusal44 body
       by None e whole good = absurd good
       by (Some t) e whole good = record {
         fields = fields;
-        m = once (message_in judge t fields);
+        message = once (message_in judge t fields);
         split = whole;
         read = ap (λ (t : Option (Table Kind)). once_by (message_by t fields None)) e
             ∙ ap once_by (given t fields None refl good);

@@ -1,13 +1,10 @@
--- Own: the two directions of FIX 4.4, and what the check of a refusal of its client finds.
+-- Own: the two directions of FIX 4.4.
 use Rattle.std.specs.Prelude.{◌≡◌, ℕ, List, Option, Some, None, Ok, Err}
 use Rattle.frame_grammar.specs.declared.frame.Kind.TheVariants.{Fix44, Fixt11}
-use Rattle.field_groups.specs.declared.fault.SplitFault.{SplitFault}
 use Rattle.field_groups.specs.Field.{Field}
-use Rattle.field_groups.specs.Fields.{SplitsInto}
 use Rattle.message_tables.specs.Tables.{Message}
 use Rattle.order_meaning.specs.Book.{Book}
-use Rattle.order_meaning.specs.declared.fault.Fault.{Fault}
-use Rattle.dict_fix44.specs.Message.{refusal44, report_message44, request_message44}
+use Rattle.dict_fix44.specs.Message.{report_message44, request_message44}
 use Rattle.dict_fix44.specs.Sense.{report44, request44}
 use Rattle.dict_fix44.specs.Step.{step44}
 use Rattle.dict_fix50.specs.Message.{message50}
@@ -73,29 +70,3 @@ IsChecked body (Some error) = IsOutcome up body (Err error)
 abbrev pub IsRefusedByCheck : List ℕ → TranslateError → Type 0
 IsRefusedByCheck body errors.NoMemory = Unit {0}
 IsRefusedByCheck body error = IsChecked body (Some error)
-
--- ---- refusals of the client
-
--- a body that is read as a refusal, at no fault
-pub record IsGoodRefusal (body : List ℕ) : Type 0 where
-  pub fields : List Field
-  pub m : Message
-  pub split : SplitsInto body fields None
-  pub read : refusal44 (type_of fields) fields None ≡ Ok m
-
--- a body that has this first fault, or whose type is neither 3 nor j
-pub record HasFault (body : List ℕ) (fault : Fault) : Type 0 where
-  pub fields : List Field
-  pub stopped : Option SplitFault
-  pub split : SplitsInto body fields stopped
-  pub read : refusal44 (type_of fields) fields stopped ≡ Err fault
-
--- THE OUTCOME of a check of a refusal; want of memory says nothing of it
-abbrev pub IsCheckedRefusal : List ℕ → Option TranslateError → Type 0
-IsCheckedRefusal body None = IsGoodRefusal body
-IsCheckedRefusal body (Some (errors.Faulty fault)) = HasFault body fault
-IsCheckedRefusal body (Some error) = ⊥
-
-abbrev pub IsFaultyRefusal : List ℕ → TranslateError → Type 0
-IsFaultyRefusal body errors.NoMemory = Unit {0}
-IsFaultyRefusal body error = IsCheckedRefusal body (Some error)

@@ -5,13 +5,13 @@ ghost use Rattle.field_groups.specs.Field.{Field, field_bytes};
 ghost use Rattle.message_tables.specs.CodeTables.{table_of as code_table};
 ghost use Rattle.row_values.specs.CodeKinds.{kind_of};
 ghost use Rattle.first_faults.specs.Gives.{IsCleanIf};
-ghost use Rattle.dict_fix44.specs.Message.{refusal_table_of, request_table_of};
+ghost use Rattle.dict_fix44.specs.Message.{refusal44, refusal_table_of, request_table_of};
 ghost use Rattle.translation.specs.Bodies.{Goes, IsRefused, IsTranslation};
 ghost use Rattle.translation.specs.Going.{Appends, IsOtherOf, Refuses, StayBack};
 ghost use Rattle.translation.specs.Header.{carried_field, carried_tags, type_of};
 ghost use Rattle.translation.specs.Writing.{put as put_tags};
+ghost use Rattle.report_translate.specs.Refusals.{IsFaultyRefusal, IsGoodRefusal};
 ghost use Rattle.translate_fix44.specs.Put.{IsAsked, IsReport};
-ghost use Rattle.translate_fix44.specs.Translation.{IsFaultyRefusal, IsGoodRefusal};
 ghost use Rattle.translate_fix44.specs.Translation.{IsRefusedByCheck, direction, down, up};
 
 use crate::putting::{put_down, put_up};
@@ -189,8 +189,8 @@ fn good_refusal<'s, 'a>(split: &'s Split<'a>) -> Result<&'s Fields<'a>, Fault>
 /// `Fault::NotSupported` for any other type; `NoMemory` for want of memory.
 #[tactic(auto, using(crate::proofs::Refused::judged))]
 pub fn check_refusal(alloc: Global, body: &[u8]) -> Result<(), TranslateError>
-    ensures ok { OnOk result (IsGoodRefusal body.now) }
-    ensures refused { IfErr result (IsFaultyRefusal body.now) }
+    ensures ok { OnOk result (IsGoodRefusal refusal44 body.now) }
+    ensures refused { IfErr result (IsFaultyRefusal refusal44 body.now) }
 {
     let split = split(alloc, body)?;
     match good_refusal(&split) {
