@@ -71,6 +71,8 @@ notice_text (notice.NumbersLow peer low) =
 notice_text (notice.OwnNumbersLow peer low) =
     peer_text peer ++ codes " finds our numbers too low: " ++ low_text low
     ++ codes "; is its day that of yesterday?"
+notice_text (notice.Late peer) =
+    peer_text peer ++ codes " did not begin with number 1; is its day that of yesterday?"
 notice_text (notice.Ended peer ending next) =
     peer_text peer ++ codes " connection " ++ ending_text ending ++ next_text next
 notice_text (notice.NotReached at missed) = codes "venue " ++ socket_text at ++ missed_text missed

@@ -93,6 +93,8 @@ pub enum Notice<'a> {
     NumbersLow(PeerName, TooLow),
     /// A connection ended since this peer found the gateway's numbers too low.
     OwnNumbersLow(PeerName, TooLow),
+    /// A connection ended on which this peer did not begin with number 1, where the gateway did.
+    Late(PeerName),
     /// The venue was not reached.
     NotReached(SocketAddr, Missed<'a>),
     /// The stop file asks for an end.
@@ -224,6 +226,12 @@ impl fmt::Display for Notice<'_> {
                 write!(
                     f,
                     "{peer} finds our numbers too low: {low}; is its day that of yesterday?"
+                )
+            }
+            Notice::Late(peer) => {
+                write!(
+                    f,
+                    "{peer} did not begin with number 1; is its day that of yesterday?"
                 )
             }
             Notice::Ended(peer, ending, next) => write!(f, "{peer} connection {ending}{next}"),
