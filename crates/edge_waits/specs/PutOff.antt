@@ -1,4 +1,4 @@
--- Own: how long a side whose numbers were too low is put off; docs/DECISIONS.md, "The edge".
+-- Own: how long a side with numbers of another day is put off; docs/DECISIONS.md, "The edge".
 use Rattle.std.specs.Prelude.{ℕ, zero, suc, ◌*◌, ◌^◌, min}
 
 -- the pause by how often in a row a number was too low, in milliseconds: 30 s, 60 s and so on, up

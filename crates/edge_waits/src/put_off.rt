@@ -1,7 +1,7 @@
-//! How long a side whose numbers were too low is put off.
+//! How long a side with numbers of another day is put off.
 
 ghost use Rattle.std.specs.Prelude.{◌≡◌, ◌+◌, ◌-◌, ◌≤◌, min, nat_le};
-ghost use Rattle.edge_logic.specs.BackOff.{later};
+ghost use Rattle.edge_logic.specs.BackOff.{later, not_before};
 ghost use Rattle.edge_waits.specs.PutOff.{pause_of};
 
 use std::marker::Model;
@@ -9,8 +9,12 @@ use std::marker::Model;
 /// So many times in a row have the longest pause behind them.
 const LONGEST: u8 = 6;
 
+/// How long a side that may be in the day before has to begin its own, in milliseconds.
+const LATE: u64 = 120_000;
+
 /// How long a side whose number was too low is put off: 30 s, then 60 s and so on, doubled up to 10
-/// minutes, from 30 s again once a session of it was active.
+/// minutes, from 30 s again once a session of it was active. One that may be in the day before is
+/// put off until two minutes have passed.
 #[derive(Debug, Drop)]
 pub struct PutOff {
     /// How often in a row its number was too low, up to 6.
@@ -76,6 +80,14 @@ impl PutOff {
     {
         self.times = (self.times + 1).min(LONGEST);
         self.until = now.saturating_add(pause_of(self.times));
+    }
+
+    /// The side may have been in the day before, at that moment.
+    pub fn hold(&mut self, since: u64)
+        ensures times { self.new.times ≡ self.old.times }
+        ensures until { self.new.until ≡ not_before self.old.until since 120_000 }
+    {
+        self.until = self.until.max(since.saturating_add(LATE));
     }
 
     /// A session of the side was active.

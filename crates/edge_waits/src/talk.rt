@@ -1,14 +1,18 @@
 //! What was said on a connection, as far as it tells how the connection ended.
 
 ghost use Rattle.std.specs.Prelude.{◌≡◌, ◌++◌, [], OnOk, OnErr, IfOk, None, true, false};
+ghost use Rattle.std.specs.Option.{option_map};
 ghost use Rattle.edge_waits.specs.Said.{logout_text};
 ghost use Rattle.edge_waits.specs.Fields.{or_else};
 ghost use Rattle.edge_waits.specs.Talk.{heard_next, link_end_by, link_end_of, low_of, low_said};
+ghost use Rattle.edge_waits.specs.Talk.{says_one, begins_day, began_next, late_since};
 ghost use Rattle.edge_waits.specs.Why.{why_text};
 
+use crate::fields::value_of;
 use crate::said::{logout_text, too_low};
 use crate::why::put_why;
 use edge_logic::{LinkEnd, TooLow};
+use field_groups::number_in;
 use std::alloc::{AllocError, Global};
 use std::marker::Model;
 
@@ -16,7 +20,8 @@ use std::marker::Model;
 const KEPT: usize = 1_024;
 
 /// What came on a connection before a session stood, what the gateway said last by a Logout,
-/// whether a session stood, and whether the peer found the gateway's number too low.
+/// whether a session stood, whether the peer found the gateway's number too low, and when the
+/// gateway began the day on it.
 #[derive(Drop)]
 pub struct Talk {
     alloc: Global,
@@ -24,6 +29,8 @@ pub struct Talk {
     farewell: Option<Vec<u8>>,
     is_active: bool,
     own_low: Option<TooLow>,
+    /// In milliseconds of the clock that never goes back.
+    began: Option<u64>,
 }
 
 impl Model for Talk {
@@ -37,6 +44,7 @@ impl Model for Talk {
       farewell = option_map (λ text. text.items) t.farewell;
       active = t.is_active;
       own_low = t.own_low;
+      began = t.began;
     } };
 }
 
@@ -59,10 +67,41 @@ fn link_end_by(text: &[u8]) -> LinkEnd
     }
 }
 
+// Whether a field says number 1.
+fn says_one(value: Option<&[u8]>) -> bool
+    ensures { result ≡ says_one (option_map (λ value. value.now) value.entry) }
+{
+    match value {
+        Some(value) => match number_in(value) {
+            Some(number) => number == 1,
+            None => false,
+        },
+        None => false,
+    }
+}
+
+// Whether the gateway tells by this frame that it has taken nothing of the peer's day yet.
+#[tactic(auto, unfolding(crate::specs::Talk::begins_day))]
+fn begins_day(frame: &[u8]) -> bool
+    ensures { result ≡ begins_day frame.now }
+{
+    match value_of(b"35=", frame) {
+        Some(b"A") => says_one(value_of(b"34=", frame)),
+        Some(b"2") => says_one(value_of(b"7=", frame)),
+        _ => false,
+    }
+}
+
 impl Talk {
     /// Nothing was said.
     pub fn new(alloc: Global) -> Talk
-        ensures { result ≡ record { heard = []; farewell = None; active = false; own_low = None } }
+        ensures { result ≡ record {
+          heard = [];
+          farewell = None;
+          active = false;
+          own_low = None;
+          began = None;
+        } }
     {
         Talk {
             alloc,
@@ -70,6 +109,7 @@ impl Talk {
             farewell: None,
             is_active: false,
             own_low: None,
+            began: None,
         }
     }
 
@@ -103,15 +143,28 @@ impl Talk {
         Ok(())
     }
 
-    /// The gateway sends this frame.
+    // The gateway sends this frame, which may begin the day.
+    fn begin(&mut self, frame: &[u8], now: u64)
+        ensures { self.new ≡ record self.old { began = began_next self.old frame.now now } }
+    {
+        if begins_day(frame) {
+            self.began = Some(now);
+        }
+    }
+
+    /// The gateway sends this frame, at a moment in milliseconds of the clock that never goes back.
     ///
     /// # Errors
     /// For want of memory alone.
-    pub fn say(&mut self, frame: &[u8]) -> Result<(), AllocError>
-        ensures ok { OnOk result (self.new
-            ≡ record self.old { farewell = or_else (logout_text frame.now) self.old.farewell }) }
-        ensures err { OnErr result (self.new ≡ self.old) }
+    pub fn say(&mut self, frame: &[u8], now: u64) -> Result<(), AllocError>
+        ensures ok { OnOk result (self.new ≡ record self.old {
+          farewell = or_else (logout_text frame.now) self.old.farewell;
+          began = began_next self.old frame.now now;
+        }) }
+        ensures err { OnErr result (self.new
+            ≡ record self.old { began = began_next self.old frame.now now }) }
     {
+        self.begin(frame, now);
         if let Some(text) = logout_text(frame) {
             self.farewell = Some(copy(self.alloc, text)?);
         }
@@ -144,6 +197,21 @@ impl Talk {
         ensures { result ≡ self.now.own_low }
     {
         self.own_low
+    }
+
+    /// Since when the peer may be in the day before, in milliseconds of the clock that never goes
+    /// back: the gateway began the day, and the peer did not begin with number 1. `was_closed` says
+    /// that it closed the connection in order.
+    pub fn late_since(&self, was_closed: bool) -> Option<u64>
+        ensures { result ≡ late_since self.now was_closed }
+    {
+        if says_one(value_of(b"34=", &self.heard)) {
+            return None;
+        }
+        if was_closed || !self.heard.is_empty() {
+            return self.began;
+        }
+        None
     }
 
     /// How the connection ended, for the venue's next try. `was_closed` says that the venue closed

@@ -210,8 +210,8 @@ fn put_wrong(out: &mut Vec<u8>, wrong: Wrong) -> Result<(), AllocError>
     put_seconds(out, seconds_of(wrong))
 }
 
-// Whether a message of this type is a Logon.
-fn is_logon(kind: Option<&[u8]>) -> bool
+/// Whether a message of this type is a Logon.
+pub(crate) fn is_logon(kind: Option<&[u8]>) -> bool
     ensures { result ≡ is_logon (option_map (λ kind. kind.now) kind.entry) }
 {
     match kind {
