@@ -44,7 +44,7 @@ pub struct ClientListener<'a, R: System, W: Write + Drop> {
     strangers: u64,
     /// When a line says again that a connection was closed that was no client's.
     stranger_lines: Pace,
-    /// How long no client may come, since its numbers were too low.
+    /// How long no client may come, since its numbers were of another day.
     put_off: PutOff,
     hung_up: Option<HungUp>,
     /// What the client said before it had the place.
@@ -103,20 +103,36 @@ impl<'a, R: System, W: Write + Drop> ClientListener<'a, R, W> {
         Some(Notice::OwnNumbersLow(PeerName::Client, low))
     }
 
-    // The connection has ended so. Where numbers were too low the port is closed for a while: of a
-    // client that has not begun the day each try takes numbers of the gateway, up to its own.
+    // Puts the client off where it has to be, and answers why.
+    fn put_off(&mut self, now: u64) -> Notice<'static>
+        ensures { self.new.link ≡ self.old.link }
+    {
+        let low = self.numbers_low();
+        if low.is_some() {
+            self.put_off.begin(now);
+        }
+        if let Some(since) = self.talk.late_since(false) {
+            self.put_off.hold(since);
+        }
+        low.unwrap_or(Notice::Late(PeerName::Client))
+    }
+
+    // The connection has ended so. Where numbers were of another day the port is closed for a
+    // while: of a client that has not begun the day each try takes numbers of the gateway, up to
+    // its own.
     fn end(&mut self, ending: Ending<'_>)
         ensures { self.new.link ≡ self.old.link }
     {
-        let Some(low) = self.numbers_low() else {
+        let now = ticks(self.rt);
+        let why = self.put_off(now);
+        let left = self.put_off.left(now);
+        if left == 0 {
             self.tell(Notice::Ended(PeerName::Client, ending, NextTry::Never));
             return;
-        };
-        let now = ticks(self.rt);
-        self.put_off.begin(now);
-        let left = self.put_off.left(now).div_ceil(1_000);
-        self.tell(low);
-        self.tell(Notice::Ended(PeerName::Client, ending, NextTry::OpensAfter(left)));
+        }
+        let next = NextTry::OpensAfter(left.div_ceil(1_000));
+        self.tell(why);
+        self.tell(Notice::Ended(PeerName::Client, ending, next));
     }
 
     // Says that the connection failed.
@@ -476,8 +492,9 @@ impl<'a, R: System, W: Write + Drop> Peer for ClientListener<'a, R, W> {
         let Some(mut link) = mem::replace(&mut self.link, None) else {
             return Err(Fault::NotConnected);
         };
-        let _ = self.talk.say(piece); // what there is no memory for is not told
-        match link.send(piece, ticks(self.rt)) {
+        let now = ticks(self.rt);
+        let _ = self.talk.say(piece, now); // what there is no memory for is not told
+        match link.send(piece, now) {
             Ok(()) => {
                 self.hold(link);
                 Ok(())

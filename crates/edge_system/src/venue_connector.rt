@@ -42,7 +42,7 @@ pub struct VenueConnector<'a, R: System, W: Write + Drop> {
     shared: &'a Shared,
     teller: Teller<W>,
     back_off: BackOff,
-    /// How long the venue is not tried, since its numbers were too low.
+    /// How long the venue is not tried, since its numbers were of another day.
     put_off: PutOff,
     mark: LogonMark,
     /// A session stands once a Logon has come and the connection stood at the next poll: a Logon
@@ -111,6 +111,19 @@ impl<'a, R: System, W: Write + Drop> VenueConnector<'a, R, W> {
         self.teller.tell(self.rt, notice);
     }
 
+    // Puts the venue off where it may be in the day before.
+    fn put_off_late(&mut self, now: u64, was_closed: bool)
+        ensures { self.new.stage ≡ self.old.stage }
+    {
+        let Some(since) = self.talk.late_since(was_closed) else {
+            return;
+        };
+        self.put_off.hold(since);
+        if !self.put_off.is_over(now) {
+            self.tell(Notice::Late(PeerName::Venue));
+        }
+    }
+
     // The connection has ended so, in order by the venue or not.
     fn end(&mut self, ending: Ending<'_>, was_closed: bool)
         ensures { self.new.stage ≡ self.old.stage }
@@ -121,6 +134,7 @@ impl<'a, R: System, W: Write + Drop> VenueConnector<'a, R, W> {
             self.put_off.begin(now);
             self.tell(Notice::NumbersLow(PeerName::Venue, low));
         }
+        self.put_off_late(now, was_closed);
         let next = self.next_try();
         self.tell(Notice::Ended(PeerName::Venue, ending, next));
     }
@@ -343,9 +357,10 @@ impl<'a, R: System, W: Write + Drop> Peer for VenueConnector<'a, R, W> {
     }
 
     fn say(&mut self, piece: &[u8]) -> Result<(), Fault> {
-        let _ = self.talk.say(piece); // what there is no memory for is not told
+        let now = ticks(self.rt);
+        let _ = self.talk.say(piece, now); // what there is no memory for is not told
         match mem::replace(&mut self.stage, Stage::Off) {
-            Stage::On(mut link) => match link.send(piece, ticks(self.rt)) {
+            Stage::On(mut link) => match link.send(piece, now) {
                 Ok(()) => {
                     self.hold(link);
                     Ok(())
