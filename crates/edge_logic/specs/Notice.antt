@@ -110,3 +110,5 @@ refusal_text (refusal.StopLies path) =
     codes "fixgate: stop file " ++ path.now ++ codes " is there already"
 refusal_text (refusal.OldFormat path) =
     codes "fixgate: journal " ++ path.now ++ codes " is of format 1: migrate makes it format 2"
+refusal_text (refusal.NotOld path) =
+    codes "fixgate: journal " ++ path.now ++ codes " is not of format 1, which alone migrates"

@@ -48,6 +48,8 @@ pub enum Refusal<'a> {
     StopLies(&'a str),
     /// The journal at this path is of format 1.
     OldFormat(&'a str),
+    /// What is to migrate at this path is not of format 1.
+    NotOld(&'a str),
 }
 
 impl fmt::Display for Refusal<'_> {
@@ -65,6 +67,12 @@ impl fmt::Display for Refusal<'_> {
                 write!(
                     f,
                     "fixgate: journal {path} is of format 1: migrate makes it format 2"
+                )
+            }
+            Refusal::NotOld(path) => {
+                write!(
+                    f,
+                    "fixgate: journal {path} is not of format 1, which alone migrates"
                 )
             }
         }

@@ -244,8 +244,12 @@ fn run_with_journal<
             return Status::JournalRefused { at: 0 };
         }
     }
-    if matches!(status, Status::JournalRefused { at: 0 }) && is_old(&mut disk) {
-        tell(lines, Refusal::OldFormat(path.as_str()));
+    if matches!(status, Status::JournalRefused { at: 0 }) {
+        match (options.is_command("migrate"), is_old(&mut disk)) {
+            (false, true) => tell(lines, Refusal::OldFormat(path.as_str())),
+            (true, false) => tell(lines, Refusal::NotOld(path.as_str())),
+            _ => {}
+        }
     }
     status
 }
