@@ -1,6 +1,6 @@
 //! The part of the baseline that reads what a venue says, and refusals: reports of FIX 5.0 SP2 and
-//! what they are in FIX 4.2 and FIX 4.4, and Reject and BusinessMessageReject of both versions. It was written
-//! from the documents and definitions, as the rest.
+//! what they are in FIX 4.2 and FIX 4.4, and Reject and BusinessMessageReject of all versions. It
+//! was written from the documents and definitions, as the rest.
 use crate::{
     Finding, First, MAX_BODY, MAX_CONTENT, MAX_FIELDS, MAX_LINES, Mark, Span, Stage, are_digits,
     decimal, digits_value, field_at, good_or, is_day, is_month, judge_decimal, judge_stamp,
