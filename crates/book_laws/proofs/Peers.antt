@@ -50,9 +50,6 @@ pub record IsWhole (side : Side) (c : Conversation) (entries : List Entry) : Typ
   pub sent : PassesAll side c.sent 0 entries (length c.sent)
   pub took : heard c.took ≡ heard (flat_map (given side) entries)
 
-or-same : (a b c : Bool) → b ≡ c → (a || b) ≡ (a || c)
-or-same a b c is = ap (λ x. a || x) is
-
 take-length : {X : Type 0} (l : List X) → take (length l) l ≡ l
 take-length [] = refl
 take-length (x ∷ l) = ap (λ r. x ∷ r) (take-length l)

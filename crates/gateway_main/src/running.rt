@@ -30,6 +30,11 @@ fn no_sockets<W: Write + Copy>(mut lines: W, error: &io::Error) -> Status {
     Status::DiskFault
 }
 
+// The system does not remove the stop file at this path, of which a line is printed.
+fn stop_stays<W: Write + Copy>(mut lines: W, path: &str, error: &io::Error) {
+    let _ = writeln!(lines, "fixgate: stop file {path}: {error}");
+}
+
 // Drops both wires and the clock by a call. In line, each of their fields would be a case of its
 // caller.
 fn let_go<E: Drop>(_edge: E) {}
@@ -84,7 +89,7 @@ fn run_between<
     edge.wait_for_peers();
     if shared.is_ending() {
         if let Err(error) = stop.remove(&rt) {
-            tell(lines, error);
+            stop_stays(lines, stop_path, &error);
         }
     }
     let_go(edge);

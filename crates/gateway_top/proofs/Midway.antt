@@ -4,7 +4,7 @@ use Rattle.std.proofs.Common.{◌∙◌, ap, subst, inl, inr, Some, None, Option
 use Rattle.std.proofs.Common.{length-append, append-nil}
 use Rattle.std.specs.Prelude.{is_some}
 use Rattle.std.specs.Io.KnownBytes.{Appends, Consumes, Keeps, IsAtEnd}
-use Rattle.std.proofs.KnownBytes.{Appends-nil, Appends-trans, Appends-kept, Consumes-nil}
+use Rattle.std.proofs.KnownBytes.{Appends-trans, Appends-kept}
 use Rattle.std.proofs.KnownBytes.{Consumes-trans}
 use Rattle.std.proofs.lemmas.List.{take_all}
 use Rattle.std.proofs.Math.Seq.{take-append_seam}
@@ -64,24 +64,6 @@ going_none CheckVenue = refl
 going_none TranslateUp44 = refl
 going_none TranslateDown44 = refl
 going_none CheckClient44 = refl
-
--- nothing was read yet
-pub at_start : (task : Task) (input out : Option (List ℕ)) (framer : Held)
-    → StandsFor framer [] [] →
-    Midway task input input out out framer None 0
-at_start task input out framer stands = record {
-  bytes = [];
-  taken_is = refl;
-  consumed = Consumes-nil input;
-  answered = [];
-  stands = stands;
-  rest = [];
-  cut = cut_empty task;
-  said = [];
-  judges = (refl, refl);
-  going = going_none task;
-  put = Appends-nil out;
-}
 
 consumed_kept : (a b c : Option (List ℕ)) (bytes : List ℕ)
     → Consumes a b bytes → Keeps b c → Consumes a c bytes

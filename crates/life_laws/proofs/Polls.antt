@@ -51,19 +51,6 @@ bodies-bytes side bytes read more new (link ∷ next ∷ links) last =
     ∙ sym (append_assoc (bodies_of (kind_of side) link.read) (bodies_read side
     (next ∷ links)) more)
 
-pub last-open : (links : List Connection) → LastRead (links ++ new_link ∷ []) []
-last-open [] = refl
-last-open (link ∷ []) = refl
-last-open (link ∷ next ∷ links) = last-open (next ∷ links)
-
-pub last-bytes : (bytes read : List ℕ) (links : List Connection) → LastRead links read
-    → LastRead (change_last (add_read bytes) links) (read ++ bytes)
-last-bytes bytes read [] last = absurd last
-last-bytes bytes read (link ∷ []) last = ap (λ l. l ++ bytes) last
-last-bytes bytes read (link ∷ next ∷ []) last = last-bytes bytes read (next ∷ []) last
-last-bytes bytes read (link ∷ next ∷ other ∷ links) last = last-bytes bytes read
-    (next ∷ other ∷ links) last
-
 module _ (names : Names) (side : Side) (entries : List Entry) where
   abbrev T : Form → List ℕ
   T f = form_frame names side f

@@ -13,9 +13,6 @@ use Rattle.order_meaning.specs.declared.refusal.Refusal.{Refusal}
 use Rattle.order_chains.specs.declared.item.ChainItem.{ChainItem}
 use Rattle.session_core.specs.declared.said.Said.{Said}
 use Rattle.pair_entries.specs.declared.TheConstants.{MAX_CONTENT}
-use Rattle.pair_entries.specs.declared.entry.Entry.{Entry}
-use Rattle.pair_journal.specs.Given.{source_of}
-use Rattle.pair_journal.specs.Days.{last_day}
 use Rattle.first_faults.specs.Gives.{Tells}
 use Rattle.refusal_parts.specs.Said.{business_reject_says, session_reject_says}
 use Rattle.reject_rules.specs.Refusals.{refusal_of}
@@ -27,9 +24,7 @@ use Rattle.message_answers.specs.declared.asking.Known.{Known as GivenKnown}
 use Rattle.message_answers.specs.Answer.{Gives, near_if}
 use Rattle.message_answers.specs.Answer.{refused, spelled, told, in_order, answered, forwarded}
 use Rattle.message_answers.specs.Answer.{near_words, words_of, too_long}
-use Rattle.message_answers.specs.Answer.{Answers, AnswersBy}
-use Rattle.message_answers.specs.Chains.{chains_of}
-use Rattle.message_answers.specs.Known.{Known, known_of, named}
+use Rattle.message_answers.specs.Known.{named}
 use Rattle.message_answers.specs.Message.{message_of, is_refusal}
 use Rattle.message_answers.specs.Message.{refusal_in, said_by}
 use Rattle.message_answers.specs.Seen.{IsSplit, IsAnswer, IsRefused, IsTold, IsForwarded}
@@ -189,18 +184,3 @@ module _ (k : GivenKnown) (a : GivenAsked) (split : IsSplit a) where
   refusal_told business r (Err error) is again told = tt
 
 -- ---- what is known
-
--- The answer is the same behind all entries that have these chains and sources.
-pub answers_behind : (k : GivenKnown) (a : GivenAsked) (answer : GivenAnswer)
-    (entries : List Entry) → chains_of entries ≡ k.chains.now
-    → ((side : Side) (number : ℕ)
-    → source_of side number entries ≡ source_of side number (last_day k.journal.now.entries))
-    → IsAnswer k a answer
-    → Answers entries k.active (Some (asked_in a)) (words_in answer)
-answers_behind k a answer entries chains sources is =
-    let same : known_in k ≡ known_of entries = λ i. record {
-      chains = sym chains i;
-      source = λ side number. sym (sources side number) i;
-    } in
-    subst (λ (known : Known). AnswersBy known k.active (Some (asked_in a)) (words_in answer)) same
-    is

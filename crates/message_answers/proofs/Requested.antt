@@ -24,7 +24,7 @@ use Rattle.rows_fix42.specs.Header.{table}
 use Rattle.dict_fix42.specs.Message.{message42}
 use Rattle.dict_fix42.specs.Requests.{new_order, cancel_request, replace_request, status_request}
 use Rattle.reports_fix42.specs.Message as reports42
-use Rattle.reject_rules.specs.Refusals.{used_refusal, away_refusal}
+use Rattle.reject_rules.specs.Refusals.{away_refusal}
 use Rattle.request_rules.specs.Good.{IsRead}
 use Rattle.request_rules.specs.Lack.{lack42}
 use Rattle.request_rules.specs.Put.{IsPut, Lacks as IsLacked}
@@ -40,7 +40,6 @@ use Rattle.message_answers.specs.declared.answer.Answer.{Answer as GivenAnswer}
 use Rattle.message_answers.specs.declared.asking.Asked.{Asked as GivenAsked}
 use Rattle.message_answers.specs.declared.asking.Known.{Known as GivenKnown}
 use Rattle.message_answers.specs.Answer.{Near, Gives, in_order, is_used, requested, spelled}
-use Rattle.message_answers.specs.Answer.{to_near}
 use Rattle.message_answers.specs.Answer.{used}
 use Rattle.message_answers.specs.Message.{is_refusal, is_refusal_type}
 use Rattle.message_answers.specs.Message.{message_of as message_of_side}
@@ -141,50 +140,6 @@ module _ (k : GivenKnown) (a : GivenAsked) (split : IsSplit a) (of_client : a.si
         (subst (λ (side : Side).
         Gives (asked_in a) (in_order side (known_in k) k.active (asked_in a) m)
         (words_in answer)) (sym of_client) gives)
-
-    -- an id that was used before
-    pub answers_repeat : (answer : GivenAnswer) → is_used (known_in k) m ≡ true
-        → m.resend ≡ true → words_in answer ≡ None → IsAnswer k a answer
-    answers_repeat answer is resend words = answers answer
-        (subst (λ (b : Bool). Gives (asked_in a) (if b
-        then used (asked_in a) m.resend else
-        (if not k.active then Near (away_refusal a.number (type_of a.body.now)) else
-        spelled (asked_in a) None m (lack42 m)))
-        (words_in answer)) (sym is)
-        (subst (λ (b : Bool). Gives (asked_in a) (used (asked_in a) b) (words_in answer))
-        (sym resend) words))
-
-    pub answers_used : (answer : GivenAnswer) → is_used (known_in k) m ≡ true
-        → m.resend ≡ false
-        → words_in answer ≡ to_near (asked_in a) (used_refusal a.number a.msg_type.now)
-        → IsAnswer k a answer
-    answers_used answer is resend words = answers answer
-        (subst (λ (b : Bool). Gives (asked_in a) (if b
-        then used (asked_in a) m.resend else
-        (if not k.active then Near (away_refusal a.number (type_of a.body.now)) else
-        spelled (asked_in a) None m (lack42 m)))
-        (words_in answer)) (sym is)
-        (subst (λ (b : Bool). Gives (asked_in a) (used (asked_in a) b) (words_in answer))
-        (sym resend) (words ∙ ap (λ (t : List ℕ). to_near (asked_in a) (used_refusal a.number t))
-        split.msg_type)))
-
-    -- the venue is away
-    pub answers_away : (answer : GivenAnswer) → is_used (known_in k) m ≡ false
-        → k.active ≡ false
-        → words_in answer ≡ to_near (asked_in a) (away_refusal a.number a.msg_type.now)
-        → IsAnswer k a answer
-    answers_away answer is away words = answers answer
-        (subst (λ (b : Bool). Gives (asked_in a) (if b
-        then used (asked_in a) m.resend else
-        (if not k.active then Near (away_refusal a.number (type_of a.body.now)) else
-        spelled (asked_in a) None m (lack42 m)))
-        (words_in answer)) (sym is)
-        (subst (λ (b : Bool). Gives (asked_in a)
-        (if not b then Near (away_refusal a.number (type_of a.body.now)) else
-        spelled (asked_in a) None m (lack42 m))
-        (words_in answer)) (sym away)
-        (words ∙ ap (λ (t : List ℕ). to_near (asked_in a) (away_refusal a.number t))
-        split.msg_type)))
 
     -- it goes on, or lacks a counterpart
     pub answers_tried : (answer : GivenAnswer) → is_used (known_in k) m ≡ false

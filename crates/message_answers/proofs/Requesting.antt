@@ -1,10 +1,9 @@
 -- What joins of a request at no fault, by its fields.
-use Rattle.std.proofs.Common.{◌≡◌, ℕ, Bool, true, false, ◌&&◌, List, [], Option, Some, None}
+use Rattle.std.proofs.Common.{[], ◌≡◌, ℕ, Bool, true, Option, Some, None}
 use Rattle.std.proofs.Common.{sym, ap, ◌∙◌, unwrap_or, if◌then◌else◌}
 use Rattle.std.specs.Option.{option_map}
 use Rattle.message_tables.specs.Tables.{is_one_of, text_in}
 use Rattle.order_chains.specs.declared.item.ChainItem.{ChainItem}
-use Rattle.order_chains.specs.Chains.{has_id}
 use Rattle.row_values.specs.Kinds as kinds
 use Rattle.value_kinds.specs.ValueKind.{Id}
 use Rattle.request_rules.specs.declared.reading.Good.{Good}
@@ -23,10 +22,6 @@ module _ (good : Good) (is : IsGood good) where
   item_is number joins =
       joined_said number good.fields.now letter joins (table good) (known (table good) is.typed).own
 
-  pub item_none : (number : ℕ) → is_one_of joining letter ≡ false → joined number (said good) ≡ None
-  item_none number fails =
-      ap (λ (b : Bool). if b then Some (item_of number (said good)) else None) fails
-
   id_is : is_one_of joining letter ≡ true
       → text_in (said good).cells 11 ≡ unwrap_or (kinds.said good.fields.now 11 (kinds.Value Id)) []
   id_is joins =
@@ -34,15 +29,3 @@ module _ (good : Good) (is : IsGood good) where
       let same : Some item ≡ Some (item_said 0 letter good.fields.now) =
       ap (λ (b : Bool). if b then Some item else None) (sym joins) ∙ item_is 0 joins in
       ap (λ (o : Option ChainItem). unwrap_or (option_map (λ (i : ChainItem). i.id) o) []) same
-
-  pub used_is : (chains : List ChainItem) → is_one_of joining letter ≡ true
-      → has_id chains (unwrap_or (kinds.said good.fields.now 11 (kinds.Value Id)) [])
-      ≡ (is_one_of joining (said good).letter && has_id chains (text_in (said good).cells 11))
-  used_is chains joins = sym (ap (λ (b : Bool).
-      b && has_id chains (text_in (said good).cells 11)) joins ∙ ap (has_id chains) (id_is joins))
-
-  pub used_none : (chains : List ChainItem) → is_one_of joining letter ≡ false
-      → false
-      ≡ (is_one_of joining (said good).letter && has_id chains (text_in (said good).cells 11))
-  used_none chains fails =
-      sym (ap (λ (b : Bool). b && has_id chains (text_in (said good).cells 11)) fails)

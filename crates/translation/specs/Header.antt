@@ -1,5 +1,5 @@
 -- Own: which fields of its header a translation carries, and in which order; docs/DECISIONS.md,
--- "Requests". The fields are those of the standard header of FIX 4.2 and FIXT 1.1.
+-- "Translations". The fields are those of the standard header of FIX 4.2 and FIXT 1.1.
 use Rattle.std.specs.Prelude.{ℕ, List, [], ◌∷◌, ◌++◌, map, ◌==◌, ◌&&◌, ◌||◌, if◌then◌else◌}
 use Rattle.std.specs.List.{flat_map}
 use Rattle.std.specs.Result.{is_ok}

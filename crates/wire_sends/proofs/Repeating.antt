@@ -15,7 +15,7 @@ use Rattle.pair_entries.specs.declared.entry.Entry.{Entry}
 use Rattle.wires.specs.Wire.{WireCall}
 use Rattle.life_laws.specs.Forms.{Placed, Form, Again, placed, form_frame, out_frame}
 use Rattle.life_laws.specs.Repeats.{Run, close_run, repeat_one, run_after, repeats}
-use Rattle.wire_sends.specs.Sent.{Sent, FrontSent}
+use Rattle.wire_sends.specs.Sent.{Sent}
 use Rattle.wire_sends.specs.declared.repeats.Run.{Run as KeptRun}
 use Rattle.wire_sends.specs.Again.{Repeated, IsBegun, run_of}
 use Rattle.wire_sends.proofs.Sendings.{sent_append, sent_none}
@@ -45,15 +45,6 @@ again_sent a b d up mid after names side run n now p piece admin is closed sent 
     (map T (if c then [] else close_run run n now ++ Again p now ∷ [])) after) (sym admin)
     (subst (λ l. Sent a d up l after) joined
     (sent_append a b d up mid after (map T (close_run run n now)) (piece ∷ []) closed sent))
-
--- an administrative message adds nothing
-pub admin_sent : (a : Option (List WireCall)) (up : Bool) (names : Names) (side : Side)
-    (run : Option Run) (n now : ℕ) (p : Placed) → p.out.admin ≡ true
-    → Sent a a up (map (form_frame names side) (repeat_one run n now (Some p))) up
-admin_sent a up names side run n now p admin =
-    let T : Form → List ℕ = form_frame names side in
-    subst (λ c. Sent a a up (map T (if c then [] else close_run run n now ++ Again p now ∷ [])) up)
-    (sym admin) (sent_none a up)
 
 repeats_step : (entries : List Entry) (side : Side) (run : Option Run) (n now end : ℕ) (p : Placed)
     → n < end → placed side n entries ≡ Some p
@@ -113,17 +104,6 @@ end_repeat a b d up mid after frame entries side run n now end all past at so_fa
         → close_run o n now ≡ close_run o end now
     go None h = refl
     go (Some r) h = ap (λ k. close_run (Some r) k now) (h r refl)
-
--- some of it
-pub cut_repeat : (a b : Option (List WireCall)) (up mid : Bool) (frame : Form → List ℕ)
-    (left all : List Form) → Repeated a b up frame mid left all → FrontSent a b up (map frame all)
-cut_repeat a b up mid frame left all so_far = record {
-  front = map frame so_far.done;
-  rest = map frame left;
-  joined = sym (map-append frame so_far.done left) ∙ ap (map frame) so_far.joined;
-  after = mid;
-  sent = so_far.sent;
-}
 
 -- ---- the end of the numbers
 

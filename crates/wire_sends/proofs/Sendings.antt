@@ -12,7 +12,7 @@ use Rattle.order_meaning.specs.declared.names.Names.{Names}
 use Rattle.pair_entries.specs.declared.entry.Out.{Out}
 use Rattle.pair_journal.specs.Numbers.{is_side, outs_to}
 use Rattle.wires.specs.Told.{GrowsBy}
-use Rattle.wires.specs.Wire.{WireCall, Send, is_within, within_after}
+use Rattle.wires.specs.Wire.{WireCall, within_after}
 use Rattle.session_frames.specs.Frames.{fill_out}
 use Rattle.life_laws.specs.Forms.{form_frame, out_frame, placed_at}
 use Rattle.life_laws.specs.Repeats.{close_run}
@@ -20,7 +20,7 @@ use Rattle.life_laws.specs.Happens.{first_form}
 use Rattle.life_laws.specs.Sends.{Sends}
 use Rattle.wire_sends.specs.declared.repeats.Run.{Run as KeptRun}
 use Rattle.wire_sends.specs.Again.{run_of}
-use Rattle.wire_sends.specs.Sent.{Agrees, Sent}
+use Rattle.wire_sends.specs.Sent.{Sent}
 
 -- without a connection nothing is sent
 off : (pieces : List (List ℕ)) (calls : List WireCall) (after : Bool)
@@ -70,40 +70,10 @@ sent_append a b c up mid after xs ys s t = record {
   sends = sends_append up mid after xs ys s.calls t.calls s.sends t.sends;
 }
 
-pub sent_off : (a : Option (List WireCall)) (pieces : List (List ℕ)) → Sent a a false pieces false
-sent_off a [] = sent_none a false
-sent_off a (p ∷ pieces) = record { calls = []; grows = grows_none a; sends = (refl, refl) }
-
-pub sent_ok : (a b : Option (List WireCall)) (piece : List ℕ)
-    → GrowsBy a b (Send piece piece true ∷ []) → Sent a b true (piece ∷ []) true
-sent_ok a b piece grows = record {
-  calls = Send piece piece true ∷ [];
-  grows = grows;
-  sends = inl ([], refl, (refl, refl));
-}
-
-pub sent_cut : (a b : Option (List WireCall)) (piece : List ℕ) (n : ℕ)
-    → GrowsBy a b (Send piece (take n piece) false ∷ []) → Sent a b true (piece ∷ []) false
-sent_cut a b piece n grows = record {
-  calls = Send piece (take n piece) false ∷ [];
-  grows = grows;
-  sends = inr (n, refl, refl);
-}
-
 pub fold-append : (within : Bool) (xs ys : List WireCall)
     → fold within_after within (xs ++ ys) ≡ fold within_after (fold within_after within xs) ys
 fold-append within [] ys = refl
 fold-append within (x ∷ xs) ys = fold-append (within_after within x) xs ys
-
--- one call more, on a wire that may tell
-pub agrees_step : (a b : Option (List WireCall)) (call : WireCall) (up after : Bool)
-    → GrowsBy a b (call ∷ []) → Agrees a up → within_after up call ≡ after → Agrees b after
-agrees_step None b call up after grows agrees is x e = absurd (cc (grows, e))
-agrees_step (Some a) None call up after grows agrees is x e = absurd (cc e)
-agrees_step (Some a) (Some b) call up after grows agrees is x e =
-    let same : b ≡ x = cc e in
-    ap is_within (sym same ∙ grows) ∙ fold-append false a (call ∷ [])
-    ∙ ap (λ w. within_after w call) (agrees a refl) ∙ is
 
 -- the frames of an out, where it is of this side, and of those behind it
 pub firsts_more : (names : Names) (side : Side) (at : ℕ) (out : Out) (outs : List Out)
