@@ -49,7 +49,7 @@ use Rattle.message_answers.specs.Chains.{joining, joining_letter, if_new, item_s
 use Rattle.gateway_core.specs.Planning.{concluded_by, resolved, quiet_by, Comes, JoinsWith}
 use Rattle.gateway_core.specs.Planning.{with_entry, IsSayable}
 use Rattle.gateway_core.specs.Planning.{StepsAreSayable}
-use Rattle.gateway_core.specs.State.{CoreState, sessions_in, Plans}
+use Rattle.gateway_core.specs.State.{CoreState, sessions_in, Plans, PlansEvent}
 
 -- ---- the outs of an entry
 
@@ -375,18 +375,34 @@ quiet_plans core entries event now step r quiet is comes =
     (sym (ap (decide_by names window s event now None) (sym is)
     ∙ quiet_decided names window s event now step quiet)) comes)
 
+-- where the session of the side is this
+pub stepped_plans : (core : CoreState) (entries : List Entry) (event : Event) (now : ℕ)
+    (s : Session) (step : Result Step Spent) (r : Result Plan PlanError) → IsQuiet event
+    → s ≡ session_of (side_of event) (sessions_in core)
+    → step ≡ session.step s (input_of core.config.names core.config.window event now) now
+    → Comes (quiet_by (sessions_in core) (side_of event) now step) r
+    → Plans core entries event now r
+stepped_plans core entries event now s step r quiet same is comes =
+    quiet_plans core entries event now step r quiet (is ∙ ap (λ (x : Session).
+    session.step x (input_of core.config.names core.config.window event now) now) same) comes
+
 -- the connection ended
-pub closed_plans : (core : CoreState) (entries : List Entry) (event : Event) (side : Side)
-    (now : ℕ) (s next : Session) (acts : List Act) (r : Result Plan PlanError)
-    → event ≡ Closed side → s ≡ session_of side (sessions_in core)
+pub closed_plans : (core : CoreState) (entries : List Entry) (side : Side) (now : ℕ)
+    (s next : Session) (acts : List Act) (r : Result Plan PlanError)
+    → s ≡ session_of side (sessions_in core)
     → session.step s session.Closed now ≡ Ok (does [] next) → acts ≡ []
     → Comes (quiet_by (sessions_in core) side now (Ok (does acts next))) r
-    → Plans core entries event now r
-closed_plans core entries event side now s next acts r is same does_so none comes =
-    subst (λ (e : Event). Plans core entries e now r) (sym is)
-    (quiet_plans core entries (Closed side) now (Ok (does acts next)) r tt
-    (ap (λ (x : List Act). Ok (does x next)) none ∙ sym does_so
-    ∙ ap (λ (x : Session). session.step x session.Closed now) same) comes)
+    → Plans core entries (Closed side) now r
+closed_plans core entries side now s next acts r same does_so none comes =
+    stepped_plans core entries (Closed side) now s (Ok (does acts next)) r tt same
+    (ap (λ (x : List Act). Ok (does x next)) none ∙ sym does_so) comes
+
+-- an event of a side, as it is handed in
+pub side_plans : (core : CoreState) (entries : List Entry) (given : Option Event) (event : Event)
+    (now : ℕ) (r : Result Plan PlanError) → given ≡ Some event → Plans core entries event now r
+    → IfOk r (λ plan. plan.fresh ≡ None) → PlansEvent core entries given now r
+side_plans core entries given event now r is plans fresh =
+    subst (λ (o : Option Event). PlansEvent core entries o now r) (sym is) (plans, fresh)
 
 -- the step of such an event may be said
 pub quiet_sayable : (s : Session) (input : session.Input) (now : ℕ) (r : Result Step Spent)

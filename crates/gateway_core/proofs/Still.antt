@@ -100,5 +100,6 @@ ticks_on core entries side now step is nothing ins outs =
       venue = after.venue;
       resend = None;
       hang_up = None;
+      fresh = None;
     })) tt (sym is)
     (still_comes s side step now after nothing refl (same_of s side step.next ins outs))

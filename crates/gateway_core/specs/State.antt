@@ -1,6 +1,6 @@
 -- Own: what a core is seen as, and what its calls answer.
 use Rattle.std.specs.Prelude.{◌≡◌, ℕ, false, List, [], ◌∷◌, ◌++◌, Option, Some, None, Result, Ok}
-use Rattle.std.specs.Prelude.{Err}
+use Rattle.std.specs.Prelude.{Err, IfOk}
 use Rattle.std.specs.Option.{option_map, option_to_list}
 use Rattle.order_meaning.specs.declared.Side.{Side}
 use Rattle.order_meaning.specs.declared.Side.TheVariants.{Client, Venue}
@@ -18,19 +18,21 @@ use Rattle.gateway_core.specs.declared.plan.Plan.{Plan}
 use Rattle.gateway_core.specs.declared.plan.PlanError.{PlanError}
 use Rattle.gateway_core.specs.declared.plan.PlanError.TheVariants as errors
 use Rattle.message_answers.specs.Chains.{chains_of, new_item}
+use Rattle.event_decisions.specs.Days.{new_day}
 use Rattle.event_decisions.specs.Decide.{Sessions, Decision, Decides, with_session}
 use Rattle.message_answers.specs.Answer.{Answers}
 use Rattle.event_decisions.specs.Event.{Event, Opened, Frame, Closed, Tick, End}
 use Rattle.gateway_core.specs.declared.event.Event.{Event as GivenEvent}
 use Rattle.gateway_core.specs.declared.event.Event.TheVariants as given
 
--- an event as the code is handed it
-abbrev pub event_of : GivenEvent → Event
-event_of (given.Opened side) = Opened side
-event_of (given.Frame side body) = Frame side body.now
-event_of (given.Closed side) = Closed side
-event_of (given.Tick side) = Tick side
-event_of (given.End side) = End side
+-- an event as the code is handed it: what happens to a side, or none, where a new day begins
+abbrev pub event_of : GivenEvent → Option Event
+event_of (given.Opened side) = Some (Opened side)
+event_of (given.Frame side body) = Some (Frame side body.now)
+event_of (given.Closed side) = Some (Closed side)
+event_of (given.Tick side) = Some (Tick side)
+event_of (given.End side) = Some (End side)
+event_of given.NewDay = None
 
 -- the configuration, the two sessions and the chains
 pub record CoreState : Type 0 where
@@ -102,6 +104,27 @@ Plans core entries event now (Err (errors.NumbersSpent side)) =
     Decides Answers core.config.names core.config.window entries (sessions_in core) event now
     (Err side)
 Plans core entries event now (Err errors.NoMemory) = Unit {0}
+
+-- THE PLAN OF A NEW DAY: its entry, and the sessions and the chains of a core of no entries
+abbrev pub plan_of_day : CoreState → ℕ → Plan
+plan_of_day core now = record {
+  entry = Some (new_day now);
+  item = None;
+  client = (loaded core.config []).client;
+  venue = (loaded core.config []).venue;
+  resend = None;
+  hang_up = None;
+  fresh = Some [];
+}
+
+-- the same of any event: one of a side leaves the chains in their place, and a new day has exactly
+-- that plan, or there is no memory
+abbrev pub PlansEvent : CoreState → List Entry → Option Event → ℕ → Result Plan PlanError → Type 0
+PlansEvent core entries (Some event) now result =
+    Plans core entries event now result × IfOk result (λ plan. plan.fresh ≡ None)
+PlansEvent core entries None now (Ok plan) = plan ≡ plan_of_day core now
+PlansEvent core entries None now (Err (errors.NumbersSpent side)) = ⊥
+PlansEvent core entries None now (Err errors.NoMemory) = Unit {0}
 
 -- the item of a plan is the request that its entry forwards
 abbrev pub HasItem : CoreState → Plan → Type 0

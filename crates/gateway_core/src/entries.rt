@@ -59,7 +59,7 @@ pub(crate) fn entry_of(
 /// # Errors
 ///
 /// `AllocError` for want of memory.
-pub fn new_day(alloc: Global, now: u64) -> Result<Prepared, AllocError>
+pub(crate) fn new_day(alloc: Global, now: u64) -> Result<Prepared, AllocError>
     requires { now ≤ MAX_AT }
     ensures { IfOk result (λ prepared. prepared ≡ new_day now) }
 {

@@ -2,7 +2,7 @@
 
 use order_meaning::Side;
 
-/// One thing that happens to one of the two sessions.
+/// One thing that happens to one of the two sessions, or a new day, which begins for both.
 #[derive(Clone, Copy, Debug)]
 pub enum Event<'a> {
     /// The connection of a side opened.
@@ -15,4 +15,6 @@ pub enum Event<'a> {
     Tick(Side),
     /// The gateway ends, and says so to a side.
     End(Side),
+    /// A session day begins, behind the end of both sides.
+    NewDay,
 }

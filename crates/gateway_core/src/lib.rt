@@ -15,7 +15,6 @@ mod plan;
 mod planning;
 mod sessions;
 
-pub use entries::new_day;
 pub use event::Event;
 pub use event_decisions::is_due;
 pub use gateway_config::Config;

@@ -1,15 +1,15 @@
 //! What one event decides.
 
-use order_chains::ChainItem;
+use order_chains::{ChainItem, Chains};
 use order_meaning::Side;
 use pair_entries::Prepared;
 use session_core::Session;
 use std::alloc::AllocError;
 
 /// What is to be done at one event. Nothing of it was done yet.
-#[derive(Debug, Drop)]
+#[derive(Drop)]
 pub struct Plan {
-    /// The entry to commit; none exactly where no number changes.
+    /// The entry to commit; one exactly where a number changes or a day begins.
     pub entry: Option<Prepared>,
     /// The request that joins the chains, where the entry forwards one.
     pub item: Option<ChainItem>,
@@ -22,6 +22,8 @@ pub struct Plan {
     pub resend: Option<(Side, u32, u32)>,
     /// Whose connection is hung up.
     pub hang_up: Option<Side>,
+    /// The chains of a day that begins, which are empty.
+    pub fresh: Option<Chains>,
 }
 
 /// Why there is no plan.

@@ -22,11 +22,12 @@ ghost use Rattle.gateway_core.specs.Planning.{IsSayable, StepsAreSayable, heard_
 ghost use Rattle.gateway_core.specs.Planning.{words_by, given_by, entry_by, decision_by, resolved};
 ghost use Rattle.gateway_core.specs.Planning.{quiet_by, silent, Comes, JoinsWith, IsAnswered};
 ghost use Rattle.message_answers.specs.Seen.{IsSplit};
-ghost use Rattle.gateway_core.specs.State.{loaded, Stand, IsNew, Plans, HasItem, Grows};
-ghost use Rattle.gateway_core.specs.State.{event_of, sessions_in, decision_of, going_on};
+ghost use Rattle.gateway_core.specs.State.{loaded, Stand, IsNew, Plans, PlansEvent, HasItem};
+ghost use Rattle.gateway_core.specs.State.{Grows, plan_of_day, event_of, sessions_in};
+ghost use Rattle.gateway_core.specs.State.{decision_of, going_on};
 
 use crate::acting::{hangs_up, is_active, is_asked, repeat_of, took_of};
-use crate::entries::{committed, entry_of, same_numbers, with_entry};
+use crate::entries::{committed, entry_of, new_day, same_numbers, with_entry};
 use crate::outs::{Heard, Speaker, say_all};
 use crate::sessions::{Given, Sessions};
 use crate::{Config, Event, Plan, PlanError};
@@ -93,7 +94,8 @@ impl Core {
     /// # Errors
     ///
     /// `NumbersSpent` exactly where a message would take a number of that side past 999,999,999;
-    /// the event's own session comes first. `NoMemory` for want of memory.
+    /// the event's own session comes first. `NoMemory` for want of memory, which alone refuses a
+    /// new day.
     pub fn plan(
         &self,
         alloc: Global,
@@ -102,10 +104,10 @@ impl Core {
         now: u64,
     ) -> Result<Plan, PlanError>
         requires moment { now ≤ MAX_AT }
-        requires body { IsFramed (event_of event.now) }
+        requires body { IfSome (event_of event.now) IsFramed }
         ensures plans { (entries : List Entry) →
             Stand self.now (last_day journal.now.entries) entries →
-            Plans self.now entries (event_of event.now) now result }
+            PlansEvent self.now entries (event_of event.now) now result }
         ensures item { IfOk result (HasItem self.now) }
         ensures new { IfOk result (λ plan. IsNew self.now.chains plan.item) }
         ensures grows { (entries : List Entry) →
@@ -189,17 +191,6 @@ impl Core {
         }
     }
 
-    /// A session day begins: both sessions are down and count from 1, and no request was forwarded.
-    /// It takes no memory.
-    pub fn begin_day(&mut self)
-        ensures { self.new ≡ loaded self.old.config [] }
-    {
-        let heart = self.config.heart;
-        self.client = Session::new(Side::Client, numbers(1, 1), heart);
-        self.venue = Session::new(Side::Venue, numbers(1, 1), heart);
-        self.chains.clear();
-    }
-
     /// The minute of the UTC day at which a session day begins; none where no day ends.
     pub fn reset(&self) -> Option<u32>
         ensures { result ≡ self.now.config.reset }
@@ -207,12 +198,20 @@ impl Core {
         self.config.reset
     }
 
-    /// Sets both sessions. It takes no memory.
-    pub fn apply(&mut self, client: Session, venue: Session)
-        ensures { self.new ≡ record self.old { client = client; venue = venue } }
+    /// Sets both sessions and, where fresh chains are given, puts them in place of the chains. It
+    /// takes no memory.
+    pub fn apply(&mut self, client: Session, venue: Session, fresh: Option<Chains>)
+        ensures { self.new ≡ record self.old {
+          client = client;
+          venue = venue;
+          chains = unwrap_or fresh self.old.chains;
+        } }
     {
         self.client = client;
         self.venue = venue;
+        if let Some(chains) = fresh {
+            self.chains = chains;
+        }
     }
 }
 
@@ -310,10 +309,10 @@ impl Core {
         now: u64,
     ) -> Result<Plan, PlanError>
         requires moment { now ≤ MAX_AT }
-        requires body { IsFramed (event_of event.now) }
+        requires body { IfSome (event_of event.now) IsFramed }
         ensures plans { (entries : List Entry) →
             Stand self.now (last_day journal.now.entries) entries →
-            Plans self.now entries (event_of event.now) now result }
+            PlansEvent self.now entries (event_of event.now) now result }
         ensures item { IfOk result (HasItem self.now) }
     {
         steps_are_sayable();
@@ -334,7 +333,27 @@ impl Core {
             }
             Event::Tick(side) => self.quiet(alloc, side, self.session(side).on_tick(now), now),
             Event::End(side) => self.quiet(alloc, side, self.session(side).on_end(now), now),
+            Event::NewDay => Ok(self.new_day(alloc, now)?),
         }
+    }
+
+    // The plan of a new day: its entry, and what the core of no entries has.
+    fn new_day(&self, alloc: Global, now: u64) -> Result<Plan, AllocError>
+        requires { now ≤ MAX_AT }
+        ensures { IfOk result (λ plan. plan ≡ plan_of_day self.now now) }
+    {
+        let heart = self.config.heart;
+        let fresh = Chains::new(alloc)?;
+        let entry = new_day(alloc, now)?;
+        Ok(Plan {
+            entry: Some(entry),
+            item: None,
+            client: Session::new(Side::Client, numbers(1, 1), heart),
+            venue: Session::new(Side::Venue, numbers(1, 1), heart),
+            resend: None,
+            hang_up: None,
+            fresh: Some(fresh),
+        })
     }
 
     // What is to be done at an event that brings no message.
@@ -350,6 +369,7 @@ impl Core {
             (session_of side (sessions_in self.now)).numbers.next_out t.acts []) }
         ensures plan { Comes (quiet_by (sessions_in self.now) side now step) result }
         ensures item { IfOk result (HasItem self.now) }
+        ensures fresh { IfOk result (λ plan. plan.fresh ≡ None) }
     {
         match step {
             Ok(step) => match self.still(side, &step) {
@@ -366,6 +386,7 @@ impl Core {
             resolved (sessions_in self.now) side silent None None step.now now
             ≡ Ok (decision_of plan)) }
         ensures item { IfSome result (HasItem self.now) }
+        ensures fresh { IfSome result (λ plan. plan.fresh ≡ None) }
     {
         let sessions = self.sessions().with(side, step.next);
         if !same_numbers(self.sessions().numbers(), sessions.numbers()) {
@@ -379,6 +400,7 @@ impl Core {
                 venue: sessions.venue,
                 resend: None,
                 hang_up: None,
+                fresh: None,
             }),
             _ => None,
         }
@@ -399,6 +421,7 @@ impl Core {
             Stand self.now (last_day journal.now.entries) entries →
             Plans self.now entries (Frame side body.now) now result }
         ensures item { IfOk result (HasItem self.now) }
+        ensures fresh { IfOk result (λ plan. plan.fresh ≡ None) }
     {
         let split = split(alloc, body)?;
         self.framed(alloc, journal, side, body, &split, now)
@@ -422,6 +445,7 @@ impl Core {
             Stand self.now (last_day journal.now.entries) entries →
             Plans self.now entries (Frame side body.now) now result }
         ensures item { IfOk result (HasItem self.now) }
+        ensures fresh { IfOk result (λ plan. plan.fresh ≡ None) }
     {
         steps_are_sayable();
         let msg_type = msg_type(&split.fields);
@@ -463,6 +487,7 @@ impl Core {
             Stand self.now (last_day journal.now.entries) entries →
             Plans self.now entries (Frame asked.now.side asked.now.body.now) now result }
         ensures item { IfOk result (HasItem self.now) }
+        ensures fresh { IfOk result (λ plan. plan.fresh ≡ None) }
     {
         let Reaction { head, step } = reaction;
         let acts = step.acts.as_slice();
@@ -531,6 +556,7 @@ impl Core {
             (heard_by facts.entry.heard) facts.entry.took (words_by facts.entry.answer.words)
             step now) result }
         ensures item { IfOk result (HasItem self.now) }
+        ensures fresh { IfOk result (λ plan. plan.fresh ≡ None) }
     {
         let Facts {
             side,
@@ -608,6 +634,7 @@ impl Core {
         ensures plan { IfOk result (λ plan. decision_of plan ≡ decision_by (sessions_in self.now)
             side acts.now draft.took draft.own (given_by draft.given) now) }
         ensures item { IfOk result (HasItem self.now) }
+        ensures fresh { IfOk result (λ plan. plan.fresh ≡ None) }
     {
         let Draft {
             took,
@@ -625,6 +652,7 @@ impl Core {
             venue: sessions.venue,
             resend: repeat_of(side, acts),
             hang_up: if hangs_up(acts) { Some(side) } else { None },
+            fresh: None,
         })
     }
 }

@@ -113,7 +113,7 @@ fn done(alloc: Global, core: &mut Core, plan: Result<Plan, PlanError>) -> Result
     let text = planned_text(alloc, &plan)?;
     if let Ok(plan) = plan {
         core.hold(plan.item)?;
-        core.apply(plan.client, plan.venue);
+        core.apply(plan.client, plan.venue, plan.fresh);
     }
     Ok(text)
 }
@@ -211,7 +211,7 @@ fn both_active(given: &str) -> Option<(Session, Session)> {
 pub(crate) fn active(alloc: Global, core: &mut Core, given: &str) -> Result<String, AllocError> {
     match both_active(given) {
         Some((client, venue)) => {
-            core.apply(client, venue);
+            core.apply(client, venue, None);
             numbers(alloc, core)
         }
         None => format!(in alloc; "no next numbers"),
@@ -219,8 +219,13 @@ pub(crate) fn active(alloc: Global, core: &mut Core, given: &str) -> Result<Stri
 }
 
 /// Begins a session day, and answers the same.
-pub(crate) fn begun(alloc: Global, core: &mut Core) -> Result<String, AllocError> {
-    core.begin_day();
+pub(crate) fn begun(
+    alloc: Global,
+    core: &mut Core,
+    journal: &Journal,
+) -> Result<String, AllocError> {
+    let plan = core.plan(alloc, journal, &Event::NewDay, NOW);
+    done(alloc, core, plan)?;
     numbers(alloc, core)
 }
 

@@ -49,7 +49,7 @@ fn core_answer(
         return active(alloc, core, given);
     }
     if call == "begin-day" {
-        return begun(alloc, core);
+        return begun(alloc, core, journal);
     }
     match side_of(word(given, 0)) {
         Some(side) => side_answer(alloc, core, journal, call, side, behind(given, 1)),
