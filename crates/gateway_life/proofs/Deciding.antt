@@ -1,9 +1,9 @@
 -- What an event decides and commits, and what a commit that fails leaves.
-use Rattle.std.proofs.Common.{◌≡◌, ℕ, ◌+◌, ◌-◌, ◌≤◌, Bool, false, List, [], ◌∷◌, ◌++◌}
+use Rattle.std.proofs.Common.{◌≡◌, ℕ, ◌+◌, ◌-◌, ◌≤◌, Bool, false, true, List, [], ◌∷◌, ◌++◌}
 use Rattle.std.proofs.Common.{take, length-append, length, refl, sym, ◌∙◌, ap, subst, arith}
 use Rattle.std.proofs.Common.{append_assoc, append-nil, Some, None, inl}
 use Rattle.std.proofs.Common.{inr, ◌⊎◌, IfSome, Ok, Err}
-use Rattle.std.specs.Prelude.{Result, IfErr, if◌then◌else◌, is_some}
+use Rattle.std.specs.Prelude.{Result, IfErr, IsErrAnd, if◌then◌else◌, is_some, unwrap_or}
 use Rattle.std.specs.declared.option.Option.{Option}
 use Rattle.std.specs.Option.{option_to_list, ForSome}
 use Rattle.outside.specs.Disk.{HasOneImage}
@@ -23,22 +23,26 @@ use Rattle.pair_journal.specs.Numbers.{next_out, outs_to, Numbered, OutsGoOn, Go
 use Rattle.pair_journal.specs.Numbers.{numbers_after, first_numbers}
 use Rattle.pair_journal.specs.Journal.{JournalOf, Born, AreEntries, DaysGoOn}
 use Rattle.pair_journal.specs.Days.{last_day, past_of, payload_behind}
-use Rattle.pair_journal.proofs.Dating.{last_numbers, past-last}
+use Rattle.pair_journal.proofs.Dating.{last_numbers, last_day-reset, last_is_sound, past-last}
 use Rattle.pair_journal.specs.Given.{source_of}
 use Rattle.pair_journal.specs.State.{JournalState}
 use Rattle.pair_journal.specs.Calls.{Commits, KeepsJournal, payloads_of}
 use Rattle.event_decisions.specs.Event.{Event}
+use Rattle.event_decisions.specs.Days.{new_day}
 use Rattle.event_decisions.specs.Decide.{Sessions, AreSides, numbers_of, Decision, Decides, Repeat}
 use Rattle.event_decisions.specs.Laws.{Continues, DecisionsContinue}
 use Rattle.message_answers.specs.Answer.{Answers}
 use Rattle.message_answers.specs.Chains.{chains_of}
 use Rattle.gateway_config.specs.declared.config.Config.{Config}
 use Rattle.gateway_core.specs.declared.plan.Plan.{Plan}
-use Rattle.gateway_core.specs.State.{CoreState, Stand, Grows, sessions_in, decision_of}
+use Rattle.gateway_core.specs.declared.plan.PlanError.{PlanError}
+use Rattle.gateway_core.specs.declared.plan.PlanError.TheVariants as plan_errors
+use Rattle.gateway_core.specs.State.{CoreState, Stand, Grows, PlansEvent, plan_of_day}
+use Rattle.gateway_core.specs.State.{sessions_in, decision_of}
 use Rattle.life_laws.specs.Happens.{World}
 use Rattle.gateway_life.specs.declared.end.LifeEnd.{LifeEnd}
 use Rattle.gateway_life.specs.declared.end.LifeEnd.TheVariants as ends
-use Rattle.gateway_life.specs.Ended.{end_of}
+use Rattle.gateway_life.specs.Ended.{end_of, end_by}
 use Rattle.wire_sends.specs.Sent.{AreSendable}
 use Rattle.wire_sends.specs.Again.{IsGiven, repeat_in}
 use Rattle.gateway_life.specs.State.{EngineState}
@@ -46,7 +50,12 @@ use Rattle.gateway_life.specs.Ready.{LeavesOf, IsReady, Behind, world_of}
 use Rattle.gateway_life.specs.Fails.{IsWhy}
 use Rattle.gateway_life.specs.Stepped.{MayStand}
 use Rattle.gateway_life.specs.Committed.{OldOrNew, IsFull}
-use Rattle.gateway_life.proofs.Today.{SameDay, sound_more, today_more}
+use Rattle.gateway_life.specs.Decided.{Decided, MayHold, IsWhyNot}
+use Rattle.gateway_life.specs.Rounds.{MayTurn}
+use Rattle.gateway_life.proofs.NewDay.{day_goes_on, may_turn, why_day}
+use Rattle.gateway_life.proofs.Telling.{err_is}
+use Rattle.gateway_life.proofs.Today.{GoesToday, SameDay, goes_today, past_same, sound_more}
+use Rattle.gateway_life.proofs.Today.{today_more}
 
 -- ---- an entry more
 
@@ -281,42 +290,139 @@ commit_why journal new entry (Err errors.NoMemory) is commits = absurd commits
 
 -- ---- a plan
 
--- what a plan of an engine that is ready decides, and that its journal goes on so
-pub record Planned (old : EngineState) (event : Event) (now : ℕ) (plan : Plan) : Type 0 where
-  pub decides : Decides Answers old.core.config.names old.core.config.window
-      (last_day old.journal.entries) (sessions_in old.core) event now (Ok (decision_of plan))
-  pub continues : Continues (sessions_in old.core) event (decision_of plan)
-  pub numbers :
-      numbers_of (sessions_in old.core) ≡ numbers_after first_numbers (last_day old.journal.entries)
-  pub goes : Goes (last_day old.journal.entries) (decision_of plan)
-  pub grows : Grows old.core (last_day old.journal.entries) plan
+-- the entries with its own
+abbrev pub with_plan : EngineState → Plan → List Entry
+with_plan old plan = old.journal.entries ++ option_to_list plan.entry
+
+-- What a plan of an engine that is ready is, and that its journal and its core go on so: the plan of
+-- an event of a side, or of a new day.
+pub record Planned (old : EngineState) (event : Option Event) (now : ℕ) (plan : Plan) : Type 0
+  where
+    pub plans : PlansEvent old.core (last_day old.journal.entries) event now (Ok plan)
+    pub same_day : IfSome event (λ e. SameDay plan.entry)
+    pub goes_on : GoesToday old.journal.entries plan.entry
+    pub chains : chains_of (last_day (with_plan old plan))
+        ≡ unwrap_or plan.fresh (old.core.chains ++ option_to_list plan.item)
+    pub sides : AreSides (decision_of plan).sessions
+    pub numbers : numbers_of (decision_of plan).sessions
+        ≡ numbers_after first_numbers (last_day (with_plan old plan))
+    pub given : IsGiven (last_day (with_plan old plan)) plan.resend
+    pub sendable : IfSome plan.entry IsEntry → IfSome plan.entry (λ e. AreSendable e.outs)
+
+-- the entries of the last day stand for the journal
+pub stands : (old : EngineState) (told : Option (List ℕ)) (journal : JournalState)
+    → journal.entries ≡ old.journal.entries → IsReady old told
+    → Stand old.core (last_day journal.entries) (last_day old.journal.entries)
+stands old told journal same ready = record {
+  chains = sym ready.chains;
+  sources = λ side number. ap (λ l. source_of side number (last_day l)) (sym same);
+}
+
+side_planned : DecisionsContinue → (old : EngineState) (told : Option (List ℕ)) (event : Event)
+    (now : ℕ) (plan : Plan) → IsReady old told
+    → PlansEvent old.core (last_day old.journal.entries) (Some event) now (Ok plan)
+    → Grows old.core (last_day old.journal.entries) plan → Planned old (Some event) now plan
+side_planned law old told event now plan ready plans grows =
+    let all = old.journal.entries in
+    let xs = last_day all in
+    let s = sessions_in old.core in
+    let d = decision_of plan in
+    let sound = last_is_sound all ready.sound in
+    let continues = decided law old.core.config xs s event now d ready.sides plans.0 in
+    let numbers = ready.numbers ∙ sym (last_numbers all ready.sound) in
+    let goes = goes xs s event d continues numbers in
+    let today = today_more all plan.entry goes.same_day in
+    record {
+      plans = plans;
+      same_day = goes.same_day;
+      goes_on = goes_today all plan.entry goes.same_day goes.goes_on;
+      chains = ap chains_of today ∙ grows ∙ sym (ap (λ (f : Option (List ChainItem)).
+          unwrap_or f (old.core.chains ++ option_to_list plan.item)) plans.1);
+      sides = goes.sides;
+      numbers = goes.numbers ∙ ap (numbers_after first_numbers) (sym today);
+      given = subst (λ l. IsGiven l plan.resend) (sym today)
+          (given_more xs s event d plan.resend continues refl numbers sound goes.goes_on);
+      sendable = λ bounds. entry_sendable xs plan.entry sound bounds goes.goes_on;
+    }
+
+day_planned : (old : EngineState) (now : ℕ) (plan : Plan) → plan ≡ plan_of_day old.core now
+    → Planned old None now plan
+day_planned old now plan is =
+    let all = old.journal.entries in
+    let anew = last_day-reset all (new_day now) refl in
+    subst (Planned old None now) (sym is) (record {
+      plans = refl;
+      same_day = tt;
+      goes_on = day_goes_on (numbers_after first_numbers (last_day all)) now;
+      chains = ap chains_of anew;
+      sides = record { client = refl; venue = refl };
+      numbers = sym (ap (numbers_after first_numbers) anew);
+      given = tt;
+      sendable = λ bounds. tt;
+    })
+
+-- an event of a side
+pub of_side : (event : Option Event) → is_some event ≡ true → (e : Event) × (event ≡ Some e)
+of_side None is = absurd (cc is)
+of_side (Some e) is = (e, refl)
 
 -- where it was made over a journal with the same entries
-pub planned : DecisionsContinue → (old : EngineState) (told : Option (List ℕ)) (event : Event)
-    (now : ℕ) (plan : Plan) (journal : JournalState) → journal.entries ≡ old.journal.entries
-    → IsReady old told
+pub planned : DecisionsContinue → (old : EngineState) (told : Option (List ℕ))
+    (event : Option Event) (now : ℕ) (plan : Plan) (journal : JournalState)
+    → journal.entries ≡ old.journal.entries → IsReady old told
     → ((entries : List Entry) → Stand old.core (last_day journal.entries) entries
-    → Decides Answers old.core.config.names old.core.config.window entries (sessions_in old.core)
-    event now (Ok (decision_of plan)))
+    → PlansEvent old.core entries event now (Ok plan))
     → ((entries : List Entry) → Stand old.core (last_day journal.entries) entries
     → Grows old.core entries plan) → Planned old event now plan
-planned law old told event now plan journal same ready plans grows =
+planned law old told (Some event) now plan journal same ready plans grows =
+    let xs = last_day old.journal.entries in
+    let stand = stands old told journal same ready in
+    side_planned law old told event now plan ready (plans xs stand) (grows xs stand)
+planned law old told None now plan journal same ready plans grows = day_planned old now plan
+    (plans (last_day old.journal.entries) (stands old told journal same ready))
+
+-- the core that holds its item, and the one behind it
+abbrev pub Holds : (old held : CoreState) → Plan → Type 0
+Holds old held plan = held ≡ record old { chains = old.chains ++ option_to_list plan.item }
+
+abbrev applied : CoreState → Plan → CoreState
+applied held plan = record held {
+  client = plan.client;
+  venue = plan.venue;
+  chains = unwrap_or plan.fresh held.chains;
+}
+
+abbrev pub IsApplied : (held core : CoreState) → Plan → Type 0
+IsApplied held core plan = core ≡ applied held plan
+
+-- what was decided with it
+pub decided_by : (old new : EngineState) (held : CoreState) (event : Option Event) (now : ℕ)
+    (plan : Plan) (entry : Option Entry) → Planned old event now plan → entry ≡ plan.entry
+    → new.journal.entries ≡ with_plan old plan → DaysGoOn first_numbers old.journal.entries
+    → DaysGoOn first_numbers (with_plan old plan) → Holds old.core held plan
+    → IsApplied held new.core plan
+    → Decided old new (record { entry = entry; resend = plan.resend; hang_up = plan.hang_up }) event
+    now
+decided_by old new held (Some event) now plan entry made is entries sound after is_held is_core =
     let all = old.journal.entries in
-    let stand : Stand old.core (last_day journal.entries) (last_day all) = record {
-      chains = sym ready.chains;
-      sources = λ side number. ap (λ l. source_of side number (last_day l)) (sym same);
-    } in
-    let decides = plans (last_day all) stand in
-    let continues = decided law old.core.config (last_day all) (sessions_in old.core) event now
-    (decision_of plan) ready.sides decides in
-    let numbers = ready.numbers ∙ sym (last_numbers all ready.sound) in
     record {
-      decides = decides;
-      continues = continues;
-      numbers = numbers;
-      goes = goes (last_day all) (sessions_in old.core) event (decision_of plan) continues numbers;
-      grows = grows (last_day all) stand;
+      decides = subst (λ (d : Decision). Decides Answers old.core.config.names
+          old.core.config.window (last_day all) (sessions_in old.core) event now (Ok d)) (λ i.
+          record {
+            entry = sym is i;
+            sessions = sym (ap sessions_in is_core) i;
+            repeat = repeat_in plan.resend;
+            hang_up = plan.hang_up;
+          }) made.plans.0;
+      today = ap last_day entries ∙ today_more all plan.entry made.same_day
+          ∙ ap (λ o. last_day all ++ option_to_list o) (sym is);
+      past = ap past_of entries ∙ past_same all plan.entry sound after made.same_day;
     }
+decided_by old new held None now plan entry made is entries sound after is_held is_core = (
+  is ∙ ap (λ (p : Plan). p.entry) made.plans,
+  is_core ∙ ap (λ (p : Plan). applied held p) made.plans
+      ∙ ap (λ (k : CoreState). applied k (plan_of_day old.core now)) is_held,
+)
 
 -- a disk whose one image stands for these entries, after some calls
 pub left_after : (t0 t1 : Option (List ℕ)) (i0 i1 : List ℕ → Type 0) (names names' : Names)
@@ -402,75 +508,127 @@ world_same old new entries sessions client venue = λ i. record {
 }
 
 -- nothing was written
+hold_before : (end : LifeEnd) (old : EngineState) (event : Option Event) (now : ℕ)
+    → DaysGoOn first_numbers old.journal.entries → MayHold end old event now old.journal.entries
+hold_before end old (Some event) now sound = (
+  last_day old.journal.entries,
+  sym (past-last old.journal.entries sound),
+  as_before end old.core.config (world_of old) event now,
+)
+hold_before end old None now sound = inl refl
+
 pub alone_left : {T : Type 0} (r : Result T LifeEnd) (told : Option (List ℕ))
-    (image : List ℕ → Type 0) (old : EngineState) (event : Event) (now : ℕ) → IsReady old told
-    → IfErr r (λ end. LeavesOf told image image old.core.config.names
-    (Behind (past_of old.journal.entries) (MayStand end old.core.config (world_of old) event now)))
+    (image : List ℕ → Type 0) (old : EngineState) (event : Option Event) (now : ℕ)
+    → IsReady old told → IfErr r (λ end. LeavesOf told image image old.core.config.names
+    (MayHold end old event now))
 alone_left (Ok value) told image old event now ready = tt
 alone_left (Err end) told image old event now ready =
-    let all = old.journal.entries in
-    left_alone told image old.journal.names old.core.config.names all
-    (Behind (past_of all) (MayStand end old.core.config (world_of old) event now)) ready.names
-    ready.stands (
-      last_day all,
-      sym (past-last all ready.sound),
-      as_before end old.core.config (world_of old) event now,
-    )
+    left_alone told image old.journal.names old.core.config.names old.journal.entries
+    (MayHold end old event now) ready.names ready.stands
+    (hold_before end old event now ready.sound)
 
 -- what a commit that was refused left, by what it answered
-pub refused_left : (told : Option (List ℕ)) (i0 i1 : List ℕ → Type 0) (names names' : Names)
-    (error : JournalError) (end : LifeEnd) (config : Config) (past : List Entry) (before : World)
-    (event : Event) (now : ℕ) (d : Decision) (whole : List Entry) → end ≡ end_of error
-    → names ≡ names' → past ++ before.entries ≡ whole
-    → Decides Answers config.names config.window before.entries before.sessions event now (Ok d)
-    → LeavesOf told i0 i1 names (OldOrNew error whole d.entry)
-    → LeavesOf told i0 i1 names' (Behind past (MayStand end config before event now))
-refused_left told i0 i1 names names' error end config past before event now d whole is same
-    entries decides left =
-    leaves_map told i0 i1 names names' (OldOrNew error whole d.entry)
-    (Behind past (MayStand end config before event now)) same
-    (λ found old. subst (λ e. Behind past (MayStand e config before event now) found) (sym is)
-    (may_behind error config past before event now d whole found entries decides old)) left
+may_hold : (error : JournalError) (old : EngineState) (event : Option Event) (now : ℕ)
+    (plan : Plan) (whole found : List Entry) → DaysGoOn first_numbers old.journal.entries
+    → whole ≡ old.journal.entries → Planned old event now plan
+    → OldOrNew error whole plan.entry found → MayHold (end_of error) old event now found
+may_hold error old (Some event) now plan whole found sound same made h =
+    may_behind error old.core.config (past_of old.journal.entries) (world_of old) event now
+    (decision_of plan) whole found (past-last old.journal.entries sound ∙ sym same) made.plans.0 h
+may_hold error old None now plan whole found sound same made h =
+    subst (λ l. MayTurn (end_of error) l now found) same (may_turn error whole now found
+    (subst (λ (p : Plan). OldOrNew error whole p.entry found) made.plans h))
 
-pub refused_why : (error : JournalError) (end : LifeEnd) (config : Config) (past : List Entry)
-    (before : World) (event : Event) (now : ℕ) (d : Decision) (journal : JournalState)
-    → end ≡ end_of error → journal.names ≡ config.names
-    → journal.entries ≡ past ++ before.entries
-    → Decides Answers config.names config.window before.entries before.sessions event now (Ok d)
-    → IsFull journal d.entry error → IsWhy end config past before event now
-refused_why error end config past before event now d journal is names entries decides full =
-    subst (λ e. IsWhy e config past before event now) (sym is)
-    (why_of error config past before event now d journal names entries decides full)
+pub refused_left : (told : Option (List ℕ)) (i0 i1 : List ℕ → Type 0) (names names' : Names)
+    (error : JournalError) (end : LifeEnd) (old : EngineState) (event : Option Event) (now : ℕ)
+    (plan : Plan) (whole : List Entry) → end ≡ end_of error → names ≡ names'
+    → DaysGoOn first_numbers old.journal.entries → whole ≡ old.journal.entries
+    → Planned old event now plan → LeavesOf told i0 i1 names (OldOrNew error whole plan.entry)
+    → LeavesOf told i0 i1 names' (MayHold end old event now)
+refused_left told i0 i1 names names' error end old event now plan whole is same sound entries made
+    left =
+    leaves_map told i0 i1 names names' (OldOrNew error whole plan.entry)
+    (MayHold end old event now) same
+    (λ found h. subst (λ e. MayHold e old event now found) (sym is)
+    (may_hold error old event now plan whole found sound entries made h)) left
+
+-- why, by what it answered
+why_not : (error : JournalError) (old : EngineState) (event : Option Event) (now : ℕ)
+    (plan : Plan) (journal : JournalState) → journal.names ≡ old.core.config.names
+    → DaysGoOn first_numbers old.journal.entries → journal.entries ≡ old.journal.entries
+    → Planned old event now plan → IsFull journal plan.entry error
+    → IsWhyNot (end_of error) old event now
+why_not error old (Some event) now plan journal names sound same made full =
+    why_of error old.core.config (past_of old.journal.entries) (world_of old) event now
+    (decision_of plan) journal names (same ∙ sym (past-last old.journal.entries sound))
+    made.plans.0 full
+why_not error old None now plan journal names sound same made full =
+    why_day error old.core.config.names old.journal.entries now journal names same
+    (subst (λ (p : Plan). IsFull journal p.entry error) made.plans full)
+
+pub refused_why : (error : JournalError) (end : LifeEnd) (old : EngineState)
+    (event : Option Event) (now : ℕ) (plan : Plan) (journal : JournalState)
+    → end ≡ end_of error → journal.names ≡ old.core.config.names
+    → DaysGoOn first_numbers old.journal.entries → journal.entries ≡ old.journal.entries
+    → Planned old event now plan → IsFull journal plan.entry error → IsWhyNot end old event now
+refused_why error end old event now plan journal is names sound same made full =
+    subst (λ e. IsWhyNot e old event now) (sym is)
+    (why_not error old event now plan journal names sound same made full)
+
+-- for want of memory
+no_memory : (old : EngineState) (event : Option Event) (now : ℕ)
+    → IsWhyNot ends.NoMemory old event now
+no_memory old (Some event) now = tt
+no_memory old None now = tt
+
+pub want_why : {T : Type 0} (r : Result T LifeEnd) (error : LifeEnd) (old : EngineState)
+    (event : Option Event) (now : ℕ) → IsErrAnd r (λ e. e ≡ error) → error ≡ ends.NoMemory
+    → IfErr r (λ e. IsWhyNot e old event now)
+want_why r error old event now is want = err_is r error (λ e. IsWhyNot e old event now) is
+    (subst (λ e. IsWhyNot e old event now) (sym want) (no_memory old event now))
+
+-- by the want of a plan
+no_plan : (error : PlanError) (old : EngineState) (event : Option Event) (now : ℕ)
+    → PlansEvent old.core (last_day old.journal.entries) event now (Err error)
+    → IsWhyNot (end_by error) old event now
+no_plan (plan_errors.NumbersSpent side) old (Some event) now plans = plans.0
+no_plan (plan_errors.NumbersSpent side) old None now plans = absurd plans
+no_plan plan_errors.NoMemory old event now plans = no_memory old event now
+
+pub plan_why : {T : Type 0} (r : Result T LifeEnd) (error : PlanError) (old : EngineState)
+    (told : Option (List ℕ)) (event : Option Event) (now : ℕ) (journal : JournalState)
+    → IsErrAnd r (λ e. e ≡ end_by error) → journal.entries ≡ old.journal.entries
+    → IsReady old told
+    → ((entries : List Entry) → Stand old.core (last_day journal.entries) entries
+    → PlansEvent old.core entries event now (Err error)) → IfErr r (λ e. IsWhyNot e old event now)
+plan_why r error old told event now journal is same ready plans =
+    err_is r (end_by error) (λ e. IsWhyNot e old event now) is (no_plan error old event now
+    (plans (last_day old.journal.entries) (stands old told journal same ready)))
 
 -- an engine that has decided
 pub ready_decided : (old : EngineState) (t0 t1 : Option (List ℕ)) (journal : JournalState)
-    (held core : CoreState) (event : Event) (now : ℕ) (plan : Plan) (cu vu : Bool)
-    → IsReady old t0
-    → journal.names ≡ old.journal.names → journal.broken ≡ false
-    → journal.entries ≡ old.journal.entries ++ option_to_list plan.entry
-    → IfSome plan.entry IsEntry → Planned old event now plan
-    → held ≡ record old.core { chains = old.core.chains ++ option_to_list plan.item }
-    → core ≡ record held { client = plan.client; venue = plan.venue }
+    (held core : CoreState) (event : Option Event) (now : ℕ) (plan : Plan) (cu vu : Bool)
+    → IsReady old t0 → journal.names ≡ old.journal.names → journal.broken ≡ false
+    → journal.entries ≡ with_plan old plan → IfSome plan.entry IsEntry
+    → Planned old event now plan → Holds old.core held plan → IsApplied held core plan
     → ForSome t1 (λ b. JournalOf b (Born journal.names journal.entries))
     → IsReady (record { journal = journal; core = core; client_up = cu; venue_up = vu }) t1
 ready_decided old t0 t1 journal held core event now plan cu vu ready names whole entries bounds made
     is_held is_core stands =
-    let goes = made.goes in
-    let today : last_day journal.entries
-    ≡ last_day old.journal.entries ++ option_to_list plan.entry =
-    ap last_day entries ∙ today_more old.journal.entries plan.entry goes.same_day in
     let sound : DaysGoOn first_numbers journal.entries =
-    subst (DaysGoOn first_numbers) (sym entries) (sound_more old.journal.entries plan.entry
-    ready.sound bounds goes.same_day goes.goes_on) in
+    subst (DaysGoOn first_numbers) (sym entries)
+    (sound_more old.journal.entries plan.entry ready.sound bounds made.goes_on) in
     record {
       names = names ∙ ready.names ∙ ap (λ (k : CoreState). k.config.names) (sym is_held)
           ∙ ap (λ (k : CoreState). k.config.names) (sym is_core);
       whole = whole;
       sound = sound;
-      chains = ap (λ (k : CoreState). k.chains) is_core ∙ ap (λ (k : CoreState). k.chains) is_held
-          ∙ sym made.grows ∙ ap chains_of (sym today);
-      sides = subst AreSides (sym (ap sessions_in is_core)) goes.sides;
-      numbers = ap (λ (k : CoreState). numbers_of (sessions_in k)) is_core ∙ goes.numbers
-          ∙ ap (numbers_after first_numbers) (sym today) ∙ last_numbers journal.entries sound;
+      chains = ap (λ (k : CoreState). k.chains) is_core
+          ∙ ap (λ (k : CoreState). unwrap_or plan.fresh k.chains) is_held ∙ sym made.chains
+          ∙ ap (λ l. chains_of (last_day l)) (sym entries);
+      sides = subst AreSides (sym (ap sessions_in is_core)) made.sides;
+      numbers = ap (λ (k : CoreState). numbers_of (sessions_in k)) is_core ∙ made.numbers
+          ∙ ap (λ l. numbers_after first_numbers (last_day l)) (sym entries)
+          ∙ last_numbers journal.entries sound;
       stands = stands;
     }

@@ -17,22 +17,24 @@ use Rattle.gateway_life.specs.Ready.{Behind}
 abbrev pub SameDay : Option Entry → Type 0
 SameDay entry = IfSome entry (λ e. e.reset ≡ false)
 
--- its numbers go on from those of the last day
+-- its numbers go on from those of the last day, which count from 1 where it begins a day itself
+abbrev pub GoesToday : List Entry → Option Entry → Type 0
+GoesToday xs entry =
+    IfSome entry (λ e. GoesOn (numbers_before (numbers_after first_numbers (last_day xs)) e) e)
+
 pub goes_today : (xs : List Entry) (entry : Option Entry) → SameDay entry
     → IfSome entry (GoesOn (numbers_after first_numbers (last_day xs)))
-    → IfSome entry (λ e. GoesOn (numbers_before (numbers_after first_numbers (last_day xs)) e) e)
+    → GoesToday xs entry
 goes_today xs None same goes = tt
 goes_today xs (Some e) same goes = subst (λ (n : Next). GoesOn n e)
     (sym (before_more (numbers_after first_numbers (last_day xs)) e same)) goes
 
 pub sound_more : (xs : List Entry) (entry : Option Entry) → DaysGoOn first_numbers xs
-    → IfSome entry IsEntry → SameDay entry
-    → IfSome entry (GoesOn (numbers_after first_numbers (last_day xs)))
+    → IfSome entry IsEntry → GoesToday xs entry
     → DaysGoOn first_numbers (xs ++ option_to_list entry)
-sound_more xs None on is same goes = subst (DaysGoOn first_numbers) (sym (append-nil xs)) on
-sound_more xs (Some e) on is same goes = DaysGoOn-push first_numbers xs e on is
-    (subst (λ (n : Next). GoesOn (numbers_before n e) e) (last_numbers xs on)
-    (goes_today xs (Some e) same goes))
+sound_more xs None on is goes = subst (DaysGoOn first_numbers) (sym (append-nil xs)) on
+sound_more xs (Some e) on is goes = DaysGoOn-push first_numbers xs e on is
+    (subst (λ (n : Next). GoesOn (numbers_before n e) e) (last_numbers xs on) goes)
 
 pub today_more : (xs : List Entry) (entry : Option Entry) → SameDay entry
     → last_day (xs ++ option_to_list entry) ≡ last_day xs ++ option_to_list entry

@@ -8,6 +8,7 @@ pub mod Committed
 pub mod Turned
 pub mod Life
 pub mod Rounds
+pub mod Decided
 pub mod Laws
 pub mod Lived
 pub mod Watched

@@ -18,7 +18,6 @@ ghost use Rattle.event_decisions.specs.Days.{new_day};
 ghost use Rattle.life_laws.specs.Sends.{hang_up_if};
 ghost use Rattle.event_decisions.specs.Event.{IsFramed, Tick};
 ghost use Rattle.event_decisions.specs.Decide.{Decides, with_session};
-ghost use Rattle.message_answers.specs.Answer.{Answers};
 ghost use Rattle.gateway_core.specs.State.{event_of, sessions_in, loaded};
 ghost use Rattle.life_laws.specs.Happens.{pieces_to, both_standing};
 ghost use Rattle.wire_sends.specs.Sent.{FrontSent, AreSendable, hung_side};
@@ -27,9 +26,10 @@ ghost use Rattle.wire_sends.specs.Again.{IsGiven};
 ghost use Rattle.gateway_life.specs.State.{seen};
 ghost use Rattle.gateway_life.specs.Ready.{IsReady, Ready, world_of, made_of, LeavesOf, IfTold};
 ghost use Rattle.gateway_life.specs.Ready.{Behind};
-ghost use Rattle.gateway_life.specs.Fails.{IsWhy, IsWhyOfDay};
-ghost use Rattle.gateway_life.specs.Stepped.{Stepped, MayStand, Broken, HasCauseOf, records};
+ghost use Rattle.gateway_life.specs.Fails.{IsWhyOfDay};
+ghost use Rattle.gateway_life.specs.Stepped.{Stepped, Broken, HasCauseOf, records};
 ghost use Rattle.gateway_life.specs.Committed.{OldOrNew, IsFull};
+ghost use Rattle.gateway_life.specs.Decided.{Decided, MayHold, IsWhyNot};
 ghost use Rattle.gateway_life.specs.Life.{IfRefused, begun};
 ghost use Rattle.gateway_life.specs.Rounds.{Begins, MayTurn, DayDone, DayBroken};
 ghost use Rattle.drop_taps.specs.Shown.{state_by};
@@ -41,7 +41,7 @@ use crate::LifeEnd;
 use crate::acts::{is_sent, standing};
 use drop_taps::{Tap, show};
 use event_decisions::laws::decisions_continue;
-use gateway_core::{Config, Core, Event, is_due, new_day};
+use gateway_core::{Config, Core, Event, is_due};
 use message_answers::Joining;
 use order_meaning::{Names, Side};
 use outside::Disk;
@@ -143,40 +143,6 @@ fn commit<D: Disk>(
     }
 }
 
-// Commits the entry with which a session day begins.
-fn commit_day<D: Disk>(
-    alloc: Global,
-    journal: &mut Journal,
-    disk: &mut D,
-    now: u64,
-) -> Result<Entry, LifeEnd>
-    requires whole { journal.old.broken ≡ false }
-    requires moment { now ≤ MAX_AT }
-    requires stands { ForSome (D.bytes disk.old) (λ b.
-        JournalOf b (Born journal.old.names journal.old.entries)) }
-    ensures names { journal.new.names ≡ journal.old.names }
-    ensures entry { IfOk result (λ entry. entry ≡ new_day now) }
-    ensures bounds { IfOk result IsEntry }
-    ensures entries { OnOk result
-        (journal.new.entries ≡ journal.old.entries ++ new_day now ∷ []) }
-    ensures whole { OnOk result (journal.new.broken ≡ false) }
-    ensures refused { OnErr result (journal.new.entries ≡ journal.old.entries) }
-    ensures stands { OnOk result (ForSome (D.bytes disk.new) (λ b.
-        JournalOf b (Born journal.new.names journal.new.entries))) }
-    ensures durable { OnOk result (HasOneImage (D.bytes disk.old) (D.image disk.old) →
-        HasOneImage (D.bytes disk.new) (D.image disk.new)) }
-    ensures images { IfErr result (λ end. LeavesOf (D.bytes disk.old) (D.image disk.old)
-        (D.image disk.new) journal.old.names (MayTurn end journal.old.entries now)) }
-    ensures why { IfErr result (λ end. IsWhyOfDay end journal.old.names journal.old.entries now) }
-    ensures told { is_some (D.bytes disk.new) ≡ is_some (D.bytes disk.old) }
-    ensures cause { HasCauseOf (D.faults disk.old) (D.faults disk.new) result }
-{
-    journal.reserve()?;
-    let prepared = new_day(alloc, now)?;
-    let entry = commit_one(journal, disk, prepared)?;
-    Ok(entry)
-}
-
 // The journal on a disk, and its core.
 fn load<D: Disk>(alloc: Global, config: &Config, disk: &mut D) -> Result<(Journal, Core), LifeEnd>
     ensures ready { IfOk result (λ loaded. IsReady (record {
@@ -259,7 +225,8 @@ impl Engine {
         })
     }
 
-    // Decides an event, commits its entry, and sets the sessions. Nothing is sent yet.
+    // Decides an event, commits its entry, and sets the sessions; and the chains, as a day begins.
+    // Nothing is sent yet.
     fn decide<D: Disk>(
         &mut self,
         disk: &mut D,
@@ -268,21 +235,15 @@ impl Engine {
     ) -> Result<Made, LifeEnd>
         requires ready { IsReady (seen self.old) (D.bytes disk.old) }
         requires moment { now ≤ MAX_AT }
-        requires body { IsFramed (event_of event.now) }
+        requires body { IfSome (event_of event.now) IsFramed }
         ensures up { (self.new.client_up ≡ self.old.client_up)
             × (self.new.venue_up ≡ self.old.venue_up) }
         ensures config { self.new.core.config ≡ self.old.core.config }
         ensures ready { OnOk result (IsReady (seen self.new) (D.bytes disk.new)) }
-        ensures decides { IfOk result (λ made. Decides Answers
-            self.old.core.config.names self.old.core.config.window
-            (last_day self.old.journal.entries) (sessions_in self.old.core) (event_of event.now) now
-            (Ok (made_of made self.new.core))) }
+        ensures decided { IfOk result (λ made.
+            Decided (seen self.old) (seen self.new) made (event_of event.now) now) }
         ensures entries { IfOk result (λ made. self.new.journal.entries
             ≡ self.old.journal.entries ++ option_to_list made.entry) }
-        ensures today { IfOk result (λ made. last_day self.new.journal.entries
-            ≡ last_day self.old.journal.entries ++ option_to_list made.entry) }
-        ensures past { OnOk result
-            (past_of self.new.journal.entries ≡ past_of self.old.journal.entries) }
         ensures bounds { IfOk result (λ made. IfSome made.entry IsEntry) }
         ensures sendable { IfOk result (λ made. IfSome made.entry (λ e. AreSendable e.outs)) }
         ensures given { IfOk result (λ made.
@@ -295,11 +256,9 @@ impl Engine {
             × (self.new.journal.entries ≡ self.old.journal.entries)) }
         ensures images { IfErr result (λ end. LeavesOf (D.bytes disk.old) (D.image disk.old)
             (D.image disk.new) self.old.core.config.names
-            (Behind (past_of self.old.journal.entries) (MayStand end self.old.core.config
-            (world_of (seen self.old)) (event_of event.now) now))) }
-        ensures why { IfErr result (λ end. IsWhy end self.old.core.config
-            (past_of self.old.journal.entries) (world_of (seen self.old))
-            (event_of event.now) now) }
+            (MayHold end (seen self.old) (event_of event.now) now)) }
+        ensures why { IfErr result (λ end.
+            IsWhyNot end (seen self.old) (event_of event.now) now) }
         ensures told { is_some (D.bytes disk.new) ≡ is_some (D.bytes disk.old) }
         ensures cause { HasCauseOf (D.faults disk.old) (D.faults disk.new) result }
     {
@@ -310,7 +269,7 @@ impl Engine {
         self.core.hold(plan.item)?;
         match commit(&mut self.journal, disk, plan.entry) {
             Ok(entry) => {
-                self.core.apply(plan.client, plan.venue);
+                self.core.apply(plan.client, plan.venue, plan.fresh);
                 Ok(Made {
                     entry,
                     resend: plan.resend,
@@ -345,30 +304,26 @@ impl Engine {
         ensures config { self.new.core.config ≡ self.old.core.config }
         ensures ready { OnOk result (Ready (seen self.new) (D.bytes disk.new)
             (C.recorded client.new) (V.recorded venue.new)) }
-        ensures client_acts { OnOk result (IfTold (D.bytes disk.old)
-            (Acted (C.recorded client.old) (C.recorded client.new) self.old.client_up
-            (pieces_to names.now Side.Client
-            (last_day self.old.journal.entries) (event_of event.now) now
-            (made_of made.now self.old.core)) (hung_side Side.Client made.now.hang_up)
-            self.new.client_up)) }
-        ensures venue_acts { OnOk result (IfTold (D.bytes disk.old)
-            (Acted (V.recorded venue.old) (V.recorded venue.new) self.old.venue_up
-            (pieces_to names.now Side.Venue
-            (last_day self.old.journal.entries) (event_of event.now) now
-            (made_of made.now self.old.core)) (hung_side Side.Venue made.now.hang_up)
-            self.new.venue_up)) }
+        ensures client_acts { ForSome (event_of event.now) (λ e. OnOk result
+            (IfTold (D.bytes disk.old) (Acted (C.recorded client.old) (C.recorded client.new)
+            self.old.client_up (pieces_to names.now Side.Client
+            (last_day self.old.journal.entries) e now (made_of made.now self.old.core))
+            (hung_side Side.Client made.now.hang_up) self.new.client_up))) }
+        ensures venue_acts { ForSome (event_of event.now) (λ e. OnOk result
+            (IfTold (D.bytes disk.old) (Acted (V.recorded venue.old) (V.recorded venue.new)
+            self.old.venue_up (pieces_to names.now Side.Venue
+            (last_day self.old.journal.entries) e now (made_of made.now self.old.core))
+            (hung_side Side.Venue made.now.hang_up) self.new.venue_up))) }
         ensures sessions { OnOk result (sessions_in self.new.core ≡ both_standing
             self.new.client_up self.new.venue_up (sessions_in self.old.core)) }
-        ensures client_part { OnErr result (IfTold (D.bytes disk.old)
-            (FrontSent (C.recorded client.old) (C.recorded client.new) self.old.client_up
-            (pieces_to names.now Side.Client
-            (last_day self.old.journal.entries) (event_of event.now) now
-            (made_of made.now self.old.core)))) }
-        ensures venue_part { OnErr result (IfTold (D.bytes disk.old)
-            (FrontSent (V.recorded venue.old) (V.recorded venue.new) self.old.venue_up
-            (pieces_to names.now Side.Venue
-            (last_day self.old.journal.entries) (event_of event.now) now
-            (made_of made.now self.old.core)))) }
+        ensures client_part { ForSome (event_of event.now) (λ e. OnErr result
+            (IfTold (D.bytes disk.old) (FrontSent (C.recorded client.old) (C.recorded client.new)
+            self.old.client_up (pieces_to names.now Side.Client
+            (last_day self.old.journal.entries) e now (made_of made.now self.old.core))))) }
+        ensures venue_part { ForSome (event_of event.now) (λ e. OnErr result
+            (IfTold (D.bytes disk.old) (FrontSent (V.recorded venue.old) (V.recorded venue.new)
+            self.old.venue_up (pieces_to names.now Side.Venue
+            (last_day self.old.journal.entries) e now (made_of made.now self.old.core))))) }
         ensures only_read { OnlyReads D.bytes D.image disk.old disk.new }
         ensures cause { HasDiskCause (D.faults disk.old) (D.faults disk.new) result }
         ensures only { RefusedUntold (D.bytes disk.old) result }
@@ -426,11 +381,11 @@ impl Engine {
         self.venue_up = hang_up_on(venue, venue_still, Side::Venue, made.hang_up);
         let client_session = standing(self.client_up, Side::Client, &self.core);
         let venue_session = standing(self.venue_up, Side::Venue, &self.core);
-        self.core.apply(client_session, venue_session);
+        self.core.apply(client_session, venue_session, None);
         Ok(())
     }
 
-    /// One event: what it decides is committed, shown to the taps, and then sent.
+    /// One event of a side: what it decides is committed, shown to the taps, and then sent.
     pub(crate) fn event<D: Disk, C: Wire, V: Wire>(
         &mut self,
         disk: &mut D,
@@ -443,28 +398,27 @@ impl Engine {
         requires ready { Ready (seen self.old) (D.bytes disk.old)
             (C.recorded client.old) (V.recorded venue.old) }
         requires moment { now ≤ MAX_AT }
-        requires body { IsFramed (event_of event.now) }
+        requires side { is_some (event_of event.now) ≡ true }
+        requires body { IfSome (event_of event.now) IsFramed }
         ensures config { self.new.core.config ≡ self.old.core.config }
         ensures ready { OnOk result (Ready (seen self.new) (D.bytes disk.new)
             (C.recorded client.new) (V.recorded venue.new)) }
-        ensures happens { OnOk result (IfTold (D.bytes disk.old)
-            (Stepped self.old.core.config (world_of (seen self.old))
-            (event_of event.now) now (world_of (seen self.new))
+        ensures happens { ForSome (event_of event.now) (λ e. OnOk result (IfTold (D.bytes disk.old)
+            (Stepped self.old.core.config (world_of (seen self.old)) e now
+            (world_of (seen self.new))
             (records (C.recorded client.old) (V.recorded venue.old))
-            (records (C.recorded client.new) (V.recorded venue.new)))) }
+            (records (C.recorded client.new) (V.recorded venue.new))))) }
         ensures past { OnOk result
             (past_of self.new.journal.entries ≡ past_of self.old.journal.entries) }
         ensures durable { OnOk result (HasOneImage (D.bytes disk.old) (D.image disk.old) →
             HasOneImage (D.bytes disk.new) (D.image disk.new)) }
-        ensures ends { IfErr result (λ end. LeavesOf (D.bytes disk.old) (D.image disk.old)
+        ensures ends { ForSome (event_of event.now) (λ e. IfErr result (λ end.
+            LeavesOf (D.bytes disk.old) (D.image disk.old)
             (D.image disk.new) self.old.core.config.names (Behind (past_of self.old.journal.entries)
             (Broken end self.old.core.config (past_of self.old.journal.entries)
-            (world_of (seen self.old)) (event_of event.now) now
+            (world_of (seen self.old)) e now
             (records (C.recorded client.old) (V.recorded venue.old))
-            (records (C.recorded client.new) (V.recorded venue.new))))) }
-        ensures why { IfErr result (λ end. IfTold (D.bytes disk.old) (IsWhy end self.old.core.config
-            (past_of self.old.journal.entries) (world_of (seen self.old))
-            (event_of event.now) now)) }
+            (records (C.recorded client.new) (V.recorded venue.new)))))) }
         ensures taps { Watched (state_by has_failed entries tally counts_all refused)
             taps.old.items taps.new.items self.old.journal.entries
             self.new.journal.entries }
@@ -489,8 +443,8 @@ impl Engine {
         Ok(())
     }
 
-    // A session day begins, behind the end of both sides: its entry is committed and shown to the
-    // taps; both sessions are down, and the chains are empty.
+    // A session day begins, behind the end of both sides: what still stands is hung up, and the
+    // event goes as any other; there is nothing to send.
     fn new_day<D: Disk, C: Wire, V: Wire>(
         &mut self,
         disk: &mut D,
@@ -538,9 +492,8 @@ impl Engine {
         // No connection stands behind the end of both sides.
         self.client_up = hang_up_on(client, self.client_up, Side::Client, Some(Side::Client));
         self.venue_up = hang_up_on(venue, self.venue_up, Side::Venue, Some(Side::Venue));
-        let entry = commit_day(self.alloc, &mut self.journal, disk, now)?;
-        self.core.begin_day();
-        show(taps, &Some(entry));
+        let day = self.decide(disk, &Event::NewDay, now)?;
+        show(taps, &day.entry);
         Ok(())
     }
 
@@ -605,7 +558,7 @@ impl Engine {
         self.core.set(side, next);
         let client = standing(self.client_up, Side::Client, &self.core);
         let venue = standing(self.venue_up, Side::Venue, &self.core);
-        self.core.apply(client, venue);
+        self.core.apply(client, venue, None);
     }
 
     /// A tick of a side: as the event, with a quick way for one at which nothing is to be done.

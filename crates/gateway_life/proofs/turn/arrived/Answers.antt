@@ -22,7 +22,8 @@ returns-in-Err-clause-arrived g c =
     ok_told c.event.result (g.D.Disk.bytes c.args.disk.now) _ _ (λ h.
     found_broken c.args.engine.now.core.config c.args.side c.args.framer.now _ c.args.now _ _
     (came_of c.args.found c.args.buf.now) c.event.result _
-    (ap (λ f. came_of f c.args.buf.now) c.in-Err.is) h) c.event.ensures.happens
+    (ap (λ f. came_of f c.args.buf.now) c.in-Err.is) h)
+    (c.event.ensures.happens (Closed c.args.side) refl)
 
 pub returns-in-Err-clause-ends : goal.returns-in-Err-clause-ends
 returns-in-Err-clause-ends g c =
@@ -37,7 +38,8 @@ returns-in-Err-clause-ends g c =
     (λ end. ArrivedFront end c.args.framer.now came config past w c.args.side c.args.now r0 r1)
     refl (λ one. one) refl refl
     (λ end xs. part_broken config c.args.side c.args.framer.now w c.args.now r0 r1 came end past xs
-    (ap (λ f. came_of f c.args.buf.now) c.in-Err.is)) c.event.ensures.ends
+    (ap (λ f. came_of f c.args.buf.now) c.in-Err.is))
+    (c.event.ensures.ends (Closed c.args.side) refl)
 
 pub take_frames-requires-clause-stands : goal.take_frames-requires-clause-stands
 take_frames-requires-clause-stands g c =
@@ -66,7 +68,7 @@ returns-in-Opened-clause-arrived g c =
     found_opened config c.args.side c.args.framer.now w c.args.now r0 _ came
     c.event-in-Opened.result c.restart.new.self _ is c.restart.ensures.stands
     (ap (λ (h : Held). h.kind) c.restart.ensures.fresh ∙ c.requires.drained.kind)
-    h) c.event-in-Opened.ensures.happens
+    h) (c.event-in-Opened.ensures.happens (Opened c.args.side) refl)
 
 pub returns-in-Opened-clause-ends : goal.returns-in-Opened-clause-ends
 returns-in-Opened-clause-ends g c =
@@ -85,7 +87,7 @@ returns-in-Opened-clause-ends g c =
     refl (λ one. one) refl refl
     (λ end xs. part_opened config c.args.side c.args.framer.now w c.args.now r0 r1 came end past xs
     is)
-    c.event-in-Opened.ensures.ends
+    (c.event-in-Opened.ensures.ends (Opened c.args.side) refl)
 
 pub returns-in-Closed-clause-arrived : goal.returns-in-Closed-clause-arrived
 returns-in-Closed-clause-arrived g c =
@@ -97,7 +99,8 @@ returns-in-Closed-clause-arrived g c =
     ∙ ap (λ a. came_by a c.args.buf.now) c.in-Closed.is in
     ok_told c.event-in-Closed.result (g.D.Disk.bytes c.args.disk.now) _ _ (λ h.
     found_closed config c.args.side c.args.framer.now w c.args.now r0 _ came
-    c.event-in-Closed.result _ is h) c.event-in-Closed.ensures.happens
+    c.event-in-Closed.result _ is h)
+    (c.event-in-Closed.ensures.happens (Closed c.args.side) refl)
 
 pub returns-in-Closed-clause-ends : goal.returns-in-Closed-clause-ends
 returns-in-Closed-clause-ends g c =
@@ -116,7 +119,7 @@ returns-in-Closed-clause-ends g c =
     refl (λ one. one) refl refl
     (λ end xs. part_closed config c.args.side c.args.framer.now w c.args.now r0 r1 came end past xs
     is)
-    c.event-in-Closed.ensures.ends
+    (c.event-in-Closed.ensures.ends (Closed c.args.side) refl)
 
 pub returns-in-Bytes-clause-arrived : goal.returns-in-Bytes-clause-arrived
 returns-in-Bytes-clause-arrived g c =

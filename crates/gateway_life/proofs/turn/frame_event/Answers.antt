@@ -27,7 +27,7 @@ returns-clause-ends g c =
     refl (λ one. one) refl refl (λ end xs broken. record {
       counted = sym c.is_up.ensures ∙ c.if-not-is_up.false;
       broken = broken;
-    }) c.event.ensures.ends
+    }) (c.event.ensures.ends (Frame c.args.side c.args.body.now) refl)
 
 pub returns-then-not-is_up-clause-taps : goal.returns-then-not-is_up-clause-taps
 returns-then-not-is_up-clause-taps g c = watched_none _ c.args.taps.now.items

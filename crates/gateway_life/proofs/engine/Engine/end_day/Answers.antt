@@ -43,7 +43,7 @@ returns-in_err-event-clause-ends g c =
     (λ one. one) refl (λ xs h. client_fails config old c.args.now r0 r1 error xs
     (day_due config.reset c.reset.result (day_at old.journal.entries) c.day_at.result c.args.now
     c.is_due.result _ c.is_due.ensures c.reset.ensures c.day_at.ensures.at c.if-not-is_due.false) h)
-    c.in_err-event.ensures.ends
+    (c.in_err-event.ensures.ends (End Client) refl)
 
 pub returns-in_err-event-2-clause-ends : goal.returns-in_err-event-2-clause-ends
 returns-in_err-event-2-clause-ends g c =
@@ -68,7 +68,7 @@ returns-in_err-event-2-clause-ends g c =
     (λ xs h. venue_fails config old c.args.now r0 r1 error (world_of mid) r2 xs
     (day_due config.reset c.reset.result (day_at old.journal.entries) c.day_at.result c.args.now
     c.is_due.result _ c.is_due.ensures c.reset.ensures c.day_at.ensures.at c.if-not-is_due.false)
-    (c.in_ok-event.ensures.happens t)
+    (c.in_ok-event.ensures.happens (End Client) refl t)
     (behind_map past past'
     (Broken error mid.core.config past' (world_of mid) (End Venue) c.args.now r1 r2)
     (Broken error config past (world_of mid) (End Venue) c.args.now r1 r2)
@@ -76,7 +76,7 @@ returns-in_err-event-2-clause-ends g c =
     subst (λ (k : Config). Broken error k past (world_of mid) (End Venue) c.args.now r1 r2 ys)
     c.event.ensures.config
     (subst (λ l. Broken error mid.core.config l (world_of mid) (End Venue) c.args.now r1 r2 ys)
-    c.in_ok-event.ensures.past broken)) xs h)) c.in_err-event-2.ensures.ends)
+    c.in_ok-event.ensures.past broken)) xs h)) (c.in_err-event-2.ensures.ends (End Venue) refl))
 
 pub returns-clause-turned : goal.returns-clause-turned
 returns-clause-turned g c =
@@ -95,9 +95,10 @@ returns-clause-turned g c =
     (day_due config.reset c.reset.result (day_at old.journal.entries) c.day_at.result c.args.now
     c.is_due.result _ c.is_due.ensures c.reset.ensures c.day_at.ensures.at c.if-not-is_due.false)
     (λ t. both_ended config old c.args.now r0 r1 (world_of mid) x r2
-    (c.in_ok-event.ensures.happens t)
+    (c.in_ok-event.ensures.happens (End Client) refl t)
     (subst (λ (k : Config). Stepped k (world_of mid) (End Venue) c.args.now (world_of x) r1 r2)
-    c.event.ensures.config (c.in_ok-event-2.ensures.happens (c.event.ensures.told ∙ t))))
+    c.event.ensures.config
+    (c.in_ok-event-2.ensures.happens (End Venue) refl (c.event.ensures.told ∙ t))))
     c.in_ok-event-2.ensures.ready.ready.sound
     (c.in_ok-event-2.ensures.past ∙ c.in_ok-event.ensures.past)
     (c.event-2.ensures.config ∙ c.event.ensures.config) c.new_day.ensures.entries
@@ -120,9 +121,10 @@ returns-clause-ends g c =
     (day_due config.reset c.reset.result (day_at old.journal.entries) c.day_at.result c.args.now
     c.is_due.result _ c.is_due.ensures c.reset.ensures c.day_at.ensures.at c.if-not-is_due.false)
     (λ t. both_ended config old c.args.now r0 r1 (world_of mid) x r2
-    (c.in_ok-event.ensures.happens t)
+    (c.in_ok-event.ensures.happens (End Client) refl t)
     (subst (λ (k : Config). Stepped k (world_of mid) (End Venue) c.args.now (world_of x) r1 r2)
-    c.event.ensures.config (c.in_ok-event-2.ensures.happens (c.event.ensures.told ∙ t))))
+    c.event.ensures.config
+    (c.in_ok-event-2.ensures.happens (End Venue) refl (c.event.ensures.told ∙ t))))
     c.in_ok-event-2.ensures.ready.ready.sound
     (c.in_ok-event-2.ensures.past ∙ c.in_ok-event.ensures.past)
     (c.event-2.ensures.config ∙ c.event.ensures.config)

@@ -1,5 +1,7 @@
 use Rattle.std.proofs.Common.{ap, refl}
+use Rattle.order_meaning.specs.declared.Side.TheVariants.{Client, Venue}
 use Rattle.pair_journal.specs.Days.{past_of}
+use Rattle.event_decisions.specs.Event.{End}
 use Rattle.gateway_config.specs.declared.config.Config.{Config}
 use Rattle.gateway_life.specs.State.{seen}
 use Rattle.gateway_life.specs.Ready.{world_of}
@@ -16,7 +18,7 @@ returns-in_err-event-clause-ends g c =
     c.self.inside.engine.core.config (past_of c.self.inside.engine.journal.entries)
     (world_of (seen c.self.inside.engine)) c.moment-now.result at.0
     _ _ (g.D.Disk.bytes c.args.disk.now) _ _ _ _ c.from_residual.ensures.1 at.1 at.2
-    c.in_err-event.ensures.ends)
+    (c.in_err-event.ensures.ends (End Client) refl))
 
 pub returns-clause-finish : goal.returns-clause-finish
 returns-clause-finish g c =
@@ -26,8 +28,8 @@ returns-clause-finish g c =
     (world_of (seen c.self.inside.engine)) (world_of (seen c.event.new.self))
     (world_of (seen c.event-2.new.self)) c.moment-now.result at.0 _ _
     (g.D.Disk.bytes c.args.disk.now) (g.D.Disk.bytes c.event.new.disk) _ _ _
-    c.event.ensures.config at.1 at.2 c.event.ensures.told c.in_ok-event.ensures.happens
-    c.event-2.ensures.happens)
+    c.event.ensures.config at.1 at.2 c.event.ensures.told (c.in_ok-event.ensures.happens (End Client) refl)
+    (c.event-2.ensures.happens (End Venue) refl))
 
 pub returns-in_err-event-clause-only : goal.returns-in_err-event-clause-only
 returns-in_err-event-clause-only g c =
@@ -48,7 +50,7 @@ returns-clause-ends g c =
     (world_of (seen c.event.new.self)) c.moment-now.result at.0 _ _
     (g.D.Disk.bytes c.args.disk.now) (g.D.Disk.bytes c.event.new.disk) _ _ _ _ _ _
     c.event.ensures.config c.in_ok-event.ensures.past at.1 at.2 c.event.ensures.told
-    c.in_ok-event.ensures.durable c.in_ok-event.ensures.happens c.event-2.ensures.ends)
+    c.in_ok-event.ensures.durable (c.in_ok-event.ensures.happens (End Client) refl) (c.event-2.ensures.ends (End Venue) refl))
 
 pub returns-clause-past : goal.returns-clause-past
 returns-clause-past g c = rw (← c.self.view_is) (past_on c.event-2.result
