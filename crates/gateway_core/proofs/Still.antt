@@ -1,13 +1,18 @@
 -- A step that does nothing and changes no number decides nothing but its session.
 use Rattle.std.proofs.Common.{◌≡◌, ℕ, Bool, true, List, [], Some, None, Result, Ok}
 use Rattle.std.proofs.Common.{if◌then◌else◌, ap, sym, ◌∙◌, ◌∷◌, ◌<◌, length}
-use Rattle.std.proofs.Common.{refl, arith, false, eq-eqb}
-use Rattle.std.specs.Prelude.{◌&&◌}
+use Rattle.std.proofs.Common.{refl, arith, false, eq-eqb, subst, nat_lt}
+use Rattle.std.specs.Prelude.{◌&&◌, ◌++◌, ◌+◌, ◌-◌, ◌*◌, nat_le}
+use Rattle.std.proofs.lemmas.Bool.Decides.{nat_tests}
 use Rattle.order_meaning.specs.declared.Side.{Side}
 use Rattle.order_meaning.specs.declared.Side.TheVariants.{Client, Venue}
 use Rattle.pair_entries.specs.declared.entry.Entry.{Entry}
 use Rattle.session_core.specs.declared.act.Act.{Act}
+use Rattle.session_core.specs.declared.act.Act.TheVariants.{Say}
+use Rattle.session_core.specs.declared.act.Admin.TheVariants as admin
+use Rattle.session_core.specs.declared.session.LinkState.TheVariants.{Active}
 use Rattle.session_core.specs.declared.session.Session.{Session}
+use Rattle.session_core.specs.declared.session.Spent.{Spent}
 use Rattle.session_core.specs.declared.session.Step.{Step}
 use Rattle.session_core.specs.Table as session
 use Rattle.event_decisions.specs.Event.{Tick}
@@ -103,3 +108,59 @@ ticks_on core entries side now step is nothing ins outs =
       fresh = None;
     })) tt (sym is)
     (still_comes s side step now after nothing refl (same_of s side step.next ins outs))
+
+-- ---- a session that rests
+
+false_behind : (a b : Bool) → b ≡ false → (a && b) ≡ false
+false_behind true b is = is
+false_behind false b is = refl
+
+module _ (s : Session) (now : ℕ) where
+  -- what a tick does, by what is due, where nothing is waited for
+  abbrev beats : (test : Bool) → Bool
+  beats test =
+      nat_lt 0 s.heart && nat_le (1000 * s.heart) (now - (if test then now else s.said))
+
+  abbrev ticks : (test beat : Bool) → Result Step Spent
+  ticks test beat = session.settled now (session.does (session.only test (Say admin.TestRequest)
+      ++ session.only beat (Say (admin.Heartbeat false)) ++ [])
+      (record s { link = Active; tested = if test then Some now else None; ask = None }))
+
+  abbrev calm : Session
+  calm = record s { link = Active; tested = None; ask = None }
+
+  calm_rests : nat_lt (now - s.seen) (1000 * s.heart) ≡ true
+      → nat_lt (now - s.said) (1000 * s.heart) ≡ true
+      → session.step calm session.Tick now ≡ Ok (session.does [] calm)
+  calm_rests seen said =
+      ap (λ b. ticks b (beats b)) test ∙ ap (ticks false) beat
+      ∙ (λ i. Ok (session.does [] (record calm {
+        numbers = record s.numbers { next_out = same i };
+      })))
+    where
+      same : s.numbers.next_out + 0 ≡ s.numbers.next_out
+      same = omega arith
+
+      early : (b : Bool) → nat_lt (1200 * s.heart) (now - s.seen) ≡ b → b ≡ false
+      early true is = absurd (grind (arith, nat_tests))
+      early false is = refl
+
+      unsaid : (b : Bool) → nat_le (1000 * s.heart) (now - s.said) ≡ b → b ≡ false
+      unsaid true is = absurd (grind (arith, nat_tests))
+      unsaid false is = refl
+
+      test : session.is_test_due now calm ≡ false
+      test = false_behind (nat_lt 0 s.heart) _ (early _ refl)
+
+      beat : beats false ≡ false
+      beat = false_behind (nat_lt 0 s.heart) _ (unsaid _ refl)
+
+-- a session that is logged on, waits for nothing and was not silent for long
+pub rests_on : (s : Session) (now : ℕ) → s.link ≡ Active → s.tested ≡ None → s.ask ≡ None
+    → nat_lt (now - s.seen) (1000 * s.heart) ≡ true
+    → nat_lt (now - s.said) (1000 * s.heart) ≡ true
+    → session.step s session.Tick now ≡ Ok (session.does [] s)
+rests_on s now link tested ask seen said =
+    subst (λ (x : Session). session.step x session.Tick now ≡ Ok (session.does [] x))
+    (λ i. record s { link = sym link i; tested = sym tested i; ask = sym ask i })
+    (calm_rests s now seen said)

@@ -1,7 +1,7 @@
 //! The core: what the gateway knows between events, and what it decides at one.
 
 ghost use Rattle.std.specs.Prelude.{◌≡◌, ℕ, ◌≤◌, ◌<◌, ◌-◌, ◌++◌, List, [], length, take};
-ghost use Rattle.std.specs.Prelude.{Some, None, Ok, IfOk, OnOk, OnErr, IfSome, unwrap_or};
+ghost use Rattle.std.specs.Prelude.{Some, None, Ok, IfOk, OnOk, OnErr, IfSome, unwrap_or, true};
 ghost use Rattle.std.specs.Option.{option_to_list};
 ghost use Rattle.message_tables.specs.Tables.{value_at};
 ghost use Rattle.frame_grammar.specs.Frame.{IsBody};
@@ -10,6 +10,7 @@ ghost use Rattle.pair_journal.specs.Numbers.{numbers_after, first_numbers};
 ghost use Rattle.pair_journal.specs.Days.{last_day};
 ghost use Rattle.pair_entries.specs.Payload.{IsTook, IsOut, AreOuts, AreNext};
 ghost use Rattle.session_core.specs.Numbers.{AreNextNumbers};
+ghost use Rattle.session_core.specs.Table as table;
 ghost use Rattle.session_core.specs.Table.{Message, step, number_of};
 ghost use Rattle.event_decisions.specs.Body.{reading_of, fields_of};
 ghost use Rattle.event_decisions.specs.Event.{IsFramed, Frame, Tick};
@@ -40,11 +41,14 @@ use pair_entries::{MAX_AT, Outs, Took};
 use pair_journal::Journal;
 use session_core::laws::{each_message_takes_a_number, two_messages_at_most};
 use session_core::tag::TEST_REQ_ID;
-use session_core::{ALL_USED, Act, Acts, Head, Numbers, Session, Spent, Step};
+use session_core::{ALL_USED, Act, Acts, Head, LinkState, Numbers, Session, Spent, Step};
 use session_logon::read_head;
 use std::alloc::{AllocError, Global};
 use std::marker::Model;
 use translation::msg_type;
+
+/// A second, in milliseconds.
+const SECOND: u64 = 1_000;
 
 /// What the gateway knows between events: its configuration, the two sessions, and the requests
 /// that it forwarded.
@@ -165,6 +169,9 @@ impl Core {
             × (next.numbers.next_out ≡ s.numbers.next_out)) }
     {
         let session = self.session(side);
+        if rests(session, now) {
+            return Some(*session);
+        }
         let Ok(step) = session.on_tick(now) else {
             return None;
         };
@@ -220,6 +227,21 @@ fn numbers(next_in: u32, next_out: u32) -> Numbers
     ensures { result ≡ record { next_in = next_in; next_out = next_out } }
 {
     Numbers { next_in, next_out }
+}
+
+// Whether a glance tells that a tick does nothing and changes nothing: the session is logged on, it
+// waits for nothing, and less than HeartBtInt(108) went by on both ways.
+fn rests(session: &Session, now: u64) -> bool
+    ensures { result ≡ true →
+        step session.now table.Tick now ≡ Ok (table.does [] session.now) }
+{
+    let heart = SECOND * u64::from(session.heart);
+    match (session.link, session.tested, session.ask) {
+        (LinkState::Active, None, None) => {
+            now.saturating_sub(session.seen) < heart && now.saturating_sub(session.said) < heart
+        }
+        _ => false,
+    }
 }
 
 // Each step says two messages at most, and there is a number for each.
