@@ -47,7 +47,7 @@ use Rattle.gateway_core.specs.declared.plan.PlanError.TheVariants as errors
 use Rattle.message_answers.specs.Answer.{Answers}
 use Rattle.message_answers.specs.Chains.{joining, joining_letter, if_new, item_said}
 use Rattle.gateway_core.specs.Planning.{concluded_by, resolved, quiet_by, Comes, JoinsWith}
-use Rattle.gateway_core.specs.Planning.{with_entry, IsSayable}
+use Rattle.gateway_core.specs.Planning.{with_entry}
 use Rattle.gateway_core.specs.Planning.{StepsAreSayable}
 use Rattle.gateway_core.specs.State.{CoreState, sessions_in, Plans, PlansEvent}
 
@@ -96,10 +96,6 @@ spare first sent most is = by (nat_lt 0 sent) (nat_lt 1_000_000_000 (first + sen
     by true false none over is = ltb-false 1_000_000_000 (first + sent) over
     by false b none over is = omega (arith, ltb-false 0 sent none, most)
 
-abbrev number_or : Result (ℕ × Session) Spent → ℕ
-number_or (Ok given) = given.0
-number_or (Err spent) = 0
-
 -- what is given out, where no number is left or one is
 abbrev given_by : Session → ℕ → Bool → Result (ℕ × Session) Spent
 given_by s now true = Err session.spent
@@ -114,21 +110,6 @@ given_as : (s : Session) (now : ℕ) (b : Bool) → (if b then Err session.spent
 )) ≡ given_by s now b
 given_as s now true = refl
 given_as s now false = refl
-
--- a number is given out below the last
-pub given_number : (s : Session) (now n : ℕ) (next : Session) → session.given s now ≡ Ok (n, next)
-    → n ≤ 999_999_999
-given_number s now n next is =
-    by (is_spent s.numbers.next_out 1) refl
-    (sym (given_as s now (is_spent s.numbers.next_out 1)) ∙ is)
-  where
-    by : (b : Bool) → is_spent s.numbers.next_out 1 ≡ b → given_by s now b ≡ Ok (n, next)
-        → n ≤ 999_999_999
-    by true at is = absurd (cc is)
-    by false at is =
-        let same : s.numbers.next_out ≡ n = ap number_or is in
-        let below : s.numbers.next_out + 1 ≤ 1_000_000_000 =
-        ltb-false 1_000_000_000 (s.numbers.next_out + 1) at in omega (arith, same, below)
 
 -- ---- each step may be said
 
@@ -403,16 +384,6 @@ pub side_plans : (core : CoreState) (entries : List Entry) (given : Option Event
     → IfOk r (λ plan. plan.fresh ≡ None) → PlansEvent core entries given now r
 side_plans core entries given event now r is plans fresh =
     subst (λ (o : Option Event). PlansEvent core entries o now r) (sym is) (plans, fresh)
-
--- the step of such an event may be said
-pub quiet_sayable : (s : Session) (input : session.Input) (now : ℕ) (r : Result Step Spent)
-    → ((t : Step) → session.step s input now ≡ Ok t
-    → (says t.acts ≤ 2) × (is_spent s.numbers.next_out (says t.acts) ≡ false))
-    → r ≡ session.step s input now → IfOk r (λ t. IsSayable s.numbers.next_out t.acts [])
-quiet_sayable s input now (Err spent) laws is = tt
-quiet_sayable s input now (Ok t) laws is =
-    let facts = laws t (sym is) in
-    record { few = facts.0; unspent = facts.1; fits = λ some. omega arith }
 
 -- ---- a frame
 

@@ -1,5 +1,5 @@
 -- From a frame, its head and what its session does with it to the plan.
-use Rattle.std.proofs.Common.{◌≡◌, ℕ, Bool, List, [], ◌∷◌, Option, Ok, Err, refl, sym, ap}
+use Rattle.std.proofs.Common.{◌≡◌, ℕ, Bool, List, [], ◌∷◌, Option, Ok, refl, sym, ap}
 use Rattle.std.proofs.Common.{subst, ◌∙◌, unwrap_or}
 use Rattle.std.specs.Prelude.{Result}
 use Rattle.field_groups.specs.declared.fault.SplitFault.{SplitFault}
@@ -11,7 +11,6 @@ use Rattle.order_meaning.specs.declared.names.Names.{Names}
 use Rattle.session_core.specs.declared.act.Act.{Act}
 use Rattle.session_core.specs.declared.head.Head.{Head}
 use Rattle.session_core.specs.declared.session.Session.{Session}
-use Rattle.session_core.specs.declared.session.Spent.{Spent}
 use Rattle.session_core.specs.declared.session.Step.{Step}
 use Rattle.session_core.specs.declared.tag.TheConstants.{TEST_REQ_ID}
 use Rattle.session_core.specs.Table as session
@@ -35,7 +34,7 @@ use Rattle.gateway_core.specs.Planning.{IsSayable, StepsAreSayable}
 use Rattle.gateway_core.specs.State.{CoreState, Stand, Plans, sessions_in}
 use Rattle.gateway_core.proofs.Asked.{answers_as, joins_as}
 use Rattle.gateway_core.proofs.Echoes.{echo_fits}
-use Rattle.gateway_core.proofs.Planned.{frame_plans, spent_plans}
+use Rattle.gateway_core.proofs.Planned.{frame_plans}
 
 -- ---- a body, its split and its head
 
@@ -67,18 +66,6 @@ head_is side names window msg_type fields fault body now head reading typed is =
     (sym reading)
 
 -- ---- the step
-
-pub frame_spent : (core : CoreState) (entries : List Entry) (side : Side) (body : List ℕ) (now : ℕ)
-    (head : Head) (s : Session) (r : Result Step Spent) (spent : Spent)
-    → head ≡ head_in core.config.names core.config.window side body now
-    → s ≡ session_of side (sessions_in core) → r ≡ session.step s (session.Message head) now
-    → r ≡ Err spent → Plans core entries (Frame side body) now (Err (errors.NumbersSpent side))
-frame_spent core entries side body now head s r spent named same does is =
-    spent_plans core entries (Frame side body) now spent
-    (ap (λ (h : Head). session.step (session_of side (sessions_in core)) (session.Message h) now)
-    (sym named)
-    ∙ ap (λ (x : Session). session.step x (session.Message head) now) (sym same)
-    ∙ sym does ∙ is)
 
 -- what a session says at a frame may stand in an entry
 pub frame_sayable : (core : CoreState) (side : Side) (body : List ℕ) (now : ℕ) (head : Head)

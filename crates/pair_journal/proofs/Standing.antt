@@ -1,11 +1,12 @@
 -- What a record that is read at a spot says, where the disk tells its bytes.
-use Rattle.std.proofs.Common.{◌≡◌, ℕ, zero, suc, ◌+◌, ◌-◌, ◌<◌, ◌≤◌, Bool, true}
+use Rattle.std.proofs.Common.{◌≡◌, ◌⊎◌, inl, inr, ℕ, zero, suc, ◌+◌, ◌-◌, ◌<◌, ◌≤◌, Bool, true}
 use Rattle.std.proofs.Common.{false, List, [], ◌∷◌, ◌++◌, length, take, drop, refl, sym, ◌∙◌, ap}
-use Rattle.std.proofs.Common.{subst, arith, Some, None, Ok, Err}
+use Rattle.std.proofs.Common.{subst, arith, Some, None, leb, leb-true, Ok, Err}
 use Rattle.std.specs.List.{slice_get}
 use Rattle.std.specs.Prelude.{Result, IsErrAnd}
 use Rattle.std.specs.Option.{ForSome}
 use Rattle.std.specs.declared.option.Option.{Option}
+use Rattle.std.proofs.lemmas.List.{take_all}
 use Rattle.order_meaning.specs.declared.Side.{Side}
 use Rattle.order_meaning.specs.declared.Side.TheVariants.{Client, Venue}
 use Rattle.order_meaning.specs.declared.names.Names.{Names}
@@ -30,11 +31,11 @@ use Rattle.pair_journal.specs.Loading.{HasExtent, Unread, IsPayload}
 use Rattle.pair_journal.specs.declared.error.JournalError.{JournalError}
 use Rattle.pair_journal.specs.declared.error.JournalError.TheVariants as errors
 use Rattle.pair_journal.specs.OutBuf.{OutAt, IsGivenAs}
-use Rattle.pair_journal.specs.Spots.{behind, IsSpot, StandsAt}
+use Rattle.pair_journal.specs.Spots.{behind, day_start, IsSpot, StandsAt, HoldsOut}
 use Rattle.pair_journal.specs.declared.spot.Spot.{Spot}
 use Rattle.pair_journal.proofs.Dating.{entry_at, dated-split, before_more, last_is_sound, entry_in}
 use Rattle.pair_journal.proofs.Dating.{numbers_at}
-use Rattle.pair_journal.proofs.Giving.{above_entry, among, goes, first_is_1}
+use Rattle.pair_journal.proofs.Giving.{not_past, above_entry, among, goes, first_is_1}
 use Rattle.pair_journal.proofs.Giving.{behind as behind_is, here as here_is}
 use Rattle.pair_journal.proofs.Marking.{place_is, behind_push, rise_take}
 use Rattle.pair_journal.proofs.Reading.{at_within}
@@ -283,6 +284,39 @@ given_today side number entries i entry what sound in_day here low tells =
 
 module _ (entries : List Entry) (side : Side) (number : ℕ)
     (below : number < next_out side (numbers_after first_numbers entries)) where
+  -- while the number is not passed, an entry stands there
+  pub walk_stands : (spot : Spot) → IsSpot entries spot → next_out side spot.next ≤ number
+      → (entry : Entry) × StandsAt entries spot entry
+  walk_stands spot at low = by (leb (length entries) spot.index) refl
+    where
+      by : (b : Bool) → leb (length entries) spot.index ≡ b
+          → (entry : Entry) × StandsAt entries spot entry
+      by true past =
+          let all = take_all spot.index entries (leb-true (length entries) spot.index past) in
+          absurd (omega (
+            arith,
+            ap (λ (s : Spot). next_out side s.next) at,
+            ap (λ (es : List Entry). next_out side (numbers_after first_numbers es)) all,
+            low,
+            below,
+          ))
+      by false within =
+          let here = get_some entries spot.index (not_past (length entries) spot.index within) in
+          (here.0, record { at = at; is = here.1 })
+
+-- where a walk to it begins
+pub walk_begins : (entries : List Entry) (side : Side) (number : ℕ) (mark spot there : Spot)
+    → HoldsOut entries side number mark → IsSpot entries there
+    → (day_start entries ≤ there.index → next_out side there.next ≤ number)
+    → (spot ≡ mark) ⊎ (spot ≡ there) → mark.index ≤ spot.index
+    → IsSpot entries spot × (next_out side spot.next ≤ number)
+walk_begins entries side number mark spot there holds is passed (inl at) from =
+    subst (λ (s : Spot). IsSpot entries s × (next_out side s.next ≤ number)) (sym at)
+    (holds.at, holds.from)
+walk_begins entries side number mark spot there holds is passed (inr at) from =
+    let index : spot.index ≡ there.index = ap (λ (s : Spot). s.index) at in
+    subst (λ (s : Spot). IsSpot entries s × (next_out side s.next ≤ number)) (sym at)
+    (is, passed (omega (arith, holds.in_day, from, index)))
 
 -- a read that another call handed on was refused, so no payload stands there
 pub unread_refused : {T : Type 0} (r : Result T JournalError) (error : JournalError)
