@@ -4,6 +4,7 @@ ghost use Rattle.std.specs.Prelude.{◌≡◌, ◌<◌, ◌≤◌, [], ◌∷◌
 ghost use Rattle.std.specs.Prelude.{IfOk, IfSome, IsNone, OnOk, OnErr};
 ghost use Rattle.outside.specs.Causes.{next_count};
 ghost use Rattle.frame_grammar.specs.Frame.{IsBody, frame_of};
+ghost use Rattle.kept_pieces.specs.Pieces.{bytes_of};
 ghost use Rattle.capture_text.specs.Capture.{kind_of};
 ghost use Rattle.capture_text.specs.Kept.{event_of};
 ghost use Rattle.capture_text.specs.Line.{IsBounded};
@@ -17,6 +18,7 @@ ghost use Rattle.capture_replay.specs.LifeWire.{unplayed};
 use crate::rounds::is_round;
 use capture_text::{Life, Line, Lines};
 use frame_grammar::{FrameError, Kind, write_frame};
+use kept_pieces::Piece;
 use order_meaning::Side;
 use outside::{Calls, Failed, fill};
 use replay_lines::{Call, CallLog};
@@ -57,16 +59,17 @@ impl<'a> Model for LifeWire<'a> {
 }
 
 /// The frame of a body that comes from a side.
-fn frame(alloc: Global, side: Side, body: &[u8]) -> Result<Vec<u8>, AllocError>
-    requires { IsBody body.now }
-    ensures { IfOk result (λ v. v.items ≡ frame_of (kind_of side) body.now) }
+fn frame(alloc: Global, side: Side, body: Piece<'_>) -> Result<Vec<u8>, AllocError>
+    requires { IsBody (bytes_of body) }
+    ensures { IfOk result (λ v. v.items ≡ frame_of (kind_of side) (bytes_of body.entry)) }
 {
     let kind = match side {
         Side::Client => Kind::Fix42,
         Side::Venue => Kind::Fixt11,
     };
+    let body = body.unpacked(alloc)?;
     let mut frame = Vec::new(alloc);
-    match write_frame(kind, body, &mut frame) {
+    match write_frame(kind, &body, &mut frame) {
         Ok(()) => Ok(frame),
         Err(FrameError::NoMemory) => Err(AllocError),
         // The body of a capture is never too long.
@@ -104,7 +107,7 @@ fn give_line(
     match line {
         Line::Opened(of) if of == side && !within => Ok(Arrival::Opened),
         Line::Closed(of) if of == side && within => Ok(Arrival::Closed),
-        Line::Text(of, bytes) if of == side => Ok(arrive(within, bytes, buf)),
+        Line::Text(of, bytes) if of == side => Ok(arrive(within, &bytes.unpacked(alloc)?, buf)),
         Line::Frame(of, body) if of == side => {
             Ok(arrive(within, &frame(alloc, side, body)?, buf))
         }

@@ -1,6 +1,6 @@
 -- Inside: the events of a life as they are kept, by marks, numbers and pieces.
 use Rattle.std.specs.Prelude.{ℕ, List, [], ◌∷◌, drop, ⊤}
-use Rattle.kept_pieces.specs.Pieces.{first_piece}
+use Rattle.kept_pieces.specs.Pieces.{bytes_of, first_piece}
 use Rattle.capture_text.specs.declared.capture.Event.{Event}
 use Rattle.capture_text.specs.declared.capture.Event.TheVariants as event
 use Rattle.capture_text.specs.declared.capture.Line.{Line}
@@ -15,8 +15,8 @@ event_of (line.At ms) = event.At ms
 event_of line.Tick = event.Tick
 event_of (line.Opened side) = event.Opened side
 event_of (line.Closed side) = event.Closed side
-event_of (line.Text side bytes) = event.Text side bytes.now
-event_of (line.Frame side body) = event.Frame side body.now
+event_of (line.Text side piece) = event.Text side (bytes_of piece)
+event_of (line.Frame side piece) = event.Frame side (bytes_of piece)
 
 abbrev pub first_number : List ℕ → ℕ
 first_number [] = 0

@@ -7,7 +7,7 @@ ghost use Rattle.capture_text.specs.declared.capture.Mark.{Mark};
 ghost use Rattle.capture_text.specs.Capture.{told_stop, stop_of};
 ghost use Rattle.capture_text.specs.Kept.{event_of, events_of, first_number, AreWhole};
 
-use kept_pieces::{Left, Pieces};
+use kept_pieces::{Left, Piece, Pieces};
 use order_meaning::{Bytes, Names, Side};
 use outside::Image;
 use std::alloc::{AllocError, Global};
@@ -33,7 +33,7 @@ pub enum Event {
     Frame(Side, Bytes),
 }
 
-/// An event of a life, as the life has it.
+/// An event of a life, as the life has it: its bytes are unpacked where they are asked for.
 #[derive(Clone, Copy, Debug)]
 pub enum Line<'a> {
     /// As [`Event::Stop`].
@@ -47,9 +47,9 @@ pub enum Line<'a> {
     /// As [`Event::Closed`].
     Closed(Side),
     /// As [`Event::Text`].
-    Text(Side, &'a [u8]),
+    Text(Side, Piece<'a>),
     /// As [`Event::Frame`].
-    Frame(Side, &'a [u8]),
+    Frame(Side, Piece<'a>),
 }
 
 /// What an event is, without its number and its bytes.

@@ -1,45 +1,58 @@
 //! Pieces of bytes, and what is left of them to a reader.
 
-ghost use Rattle.std.specs.Prelude.{◌≡◌, ◌++◌, ◌∷◌, [], drop, OnOk, OnErr};
-ghost use Rattle.kept_pieces.specs.Pieces.{first_piece};
+ghost use Rattle.std.specs.Prelude.{◌≡◌, ◌++◌, ◌∷◌, [], drop, IfOk, IfSome, IsNone, OnOk, OnErr};
+ghost use Rattle.std.specs.List.{flat_map};
+ghost use Rattle.kept_pieces.specs.Pieces.{first_piece, pieces_in, unpacked_piece, bytes_of};
 
+use crate::block::{Block, LeftPacked, PackedPiece, pack_pieces};
+use crate::whole::{LeftWhole, WholePieces};
 use std::alloc::{AllocError, Global};
 use std::marker::Model;
 
-/// Pieces of bytes, seen as their list.
+/// Pieces of bytes, seen as their list. All but the last of them are packed, 65,536 bytes at a
+/// time.
 #[derive(Debug, Drop)]
 pub struct Pieces {
-    lengths: Vec<usize>,
-    bytes: Vec<u8>,
+    alloc: Global,
+    blocks: Vec<Block>,
+    end: WholePieces,
 }
 
 impl Model for Pieces {
-    ghost use Rattle.std.specs.Prelude.{◌≡◌, ℕ, List, length, sum};
-    ghost use Rattle.kept_pieces.specs.Pieces.{cut_by};
+    ghost use Rattle.std.specs.Prelude.{ℕ, List, ◌++◌};
+    ghost use Rattle.std.specs.List.{flat_map};
+    ghost use Rattle.kept_pieces.specs.Pieces.{pieces_in};
 
     ghost Value = { List (List ℕ) };
 
-    ghost view = { λ p. cut_by p.lengths.items p.bytes.items };
+    ghost view = { λ p. flat_map pieces_in p.blocks.items ++ p.end };
+}
 
-    ghost invariant = { λ p. sum p.lengths.items ≡ length p.bytes.items };
+/// A piece, as it is kept.
+#[derive(Clone, Copy, Debug)]
+pub enum Piece<'a> {
+    /// In its bytes.
+    Whole(&'a [u8]),
+    /// Packed.
+    Packed(PackedPiece<'a>),
 }
 
 /// Pieces that a reader has still to come, seen as their list.
 #[derive(Debug, Drop)]
 pub struct Left<'a> {
-    lengths: &'a [usize],
-    bytes: &'a [u8],
+    now: LeftPacked<'a>,
+    blocks: &'a [Block],
+    end: LeftWhole<'a>,
 }
 
 impl<'a> Model for Left<'a> {
-    ghost use Rattle.std.specs.Prelude.{◌≡◌, ℕ, List, length, sum};
-    ghost use Rattle.kept_pieces.specs.Pieces.{cut_by};
+    ghost use Rattle.std.specs.Prelude.{ℕ, List, ◌++◌};
+    ghost use Rattle.std.specs.List.{flat_map};
+    ghost use Rattle.kept_pieces.specs.Pieces.{pieces_in};
 
     ghost Value = { List (List ℕ) };
 
-    ghost view = { λ l. cut_by l.lengths.now l.bytes.now };
-
-    ghost invariant = { λ l. sum l.lengths.now ≡ length l.bytes.now };
+    ghost view = { λ l. (l.now ++ flat_map pieces_in l.blocks.now) ++ l.end };
 }
 
 impl Pieces {
@@ -48,8 +61,9 @@ impl Pieces {
         ensures { result ≡ [] }
     {
         Pieces {
-            lengths: Vec::new(alloc),
-            bytes: Vec::new(alloc),
+            alloc,
+            blocks: Vec::new(alloc),
+            end: WholePieces::new(alloc),
         }
     }
 
@@ -61,9 +75,20 @@ impl Pieces {
         ensures ok { OnOk result (self.new ≡ self.old ++ piece.now ∷ []) }
         ensures err { OnErr result (self.new ≡ self.old) }
     {
-        self.lengths.reserve(1)?;
-        self.bytes.extend_from_slice(piece)?;
-        self.lengths.push_reserved(piece.len());
+        self.pack_long()?;
+        self.end.push(piece)
+    }
+
+    // Packs the end, where it is long.
+    fn pack_long(&mut self) -> Result<(), AllocError>
+        ensures { self.new ≡ self.old }
+    {
+        if !self.end.is_long() {
+            return Ok(());
+        }
+        let block = pack_pieces(self.alloc, &self.end)?;
+        self.blocks.push(block)?;
+        self.end = WholePieces::new(self.alloc);
         Ok(())
     }
 
@@ -72,24 +97,56 @@ impl Pieces {
         ensures { result ≡ self.now }
     {
         Left {
-            lengths: &self.lengths,
-            bytes: &self.bytes,
+            now: LeftPacked::none(),
+            blocks: &self.blocks,
+            end: self.end.left(),
         }
+    }
+}
+
+impl<'a> Piece<'a> {
+    /// The bytes of the piece.
+    ///
+    /// # Errors
+    /// `AllocError` for want of memory.
+    pub fn unpacked(self, alloc: Global) -> Result<Vec<u8>, AllocError>
+        ensures { IfOk result (λ bytes. bytes.items ≡ bytes_of self.entry) }
+    {
+        match self {
+            Piece::Whole(bytes) => Vec::from_slice(alloc, bytes),
+            Piece::Packed(piece) => piece.unpacked(alloc),
+        }
+    }
+}
+
+/// The next of packed pieces, of those that are left of a block and of the blocks behind it. It is
+/// then behind.
+fn next_packed<'a>(now: &mut LeftPacked<'a>, blocks: &mut &'a [Block]) -> Option<PackedPiece<'a>>
+    ensures some { IfSome result (λ piece. now.old ++ flat_map pieces_in blocks.old.now
+        ≡ unpacked_piece piece ∷ now.new ++ flat_map pieces_in blocks.new.now) }
+    ensures none { IsNone result → now.old ++ flat_map pieces_in blocks.old.now ≡ [] }
+    ensures stays { IsNone result → now.new ++ flat_map pieces_in blocks.new.now ≡ [] }
+{
+    loop {
+        if let Some(piece) = now.next() {
+            return Some(piece);
+        }
+        let Some(block) = blocks.split_off_first() else {
+            return None;
+        };
+        *now = block.left();
     }
 }
 
 impl<'a> Left<'a> {
     /// The next piece, which is then behind; no bytes where none is left.
-    pub fn next_or_empty(&mut self) -> &'a [u8]
-        ensures value { result.now ≡ first_piece self.old }
+    pub fn next_or_empty(&mut self) -> Piece<'a>
+        ensures value { bytes_of result ≡ first_piece self.old }
         ensures rest { self.new ≡ drop 1 self.old }
     {
-        let Some((length, lengths)) = self.lengths.split_first() else {
-            return &[];
-        };
-        let (piece, bytes) = self.bytes.split_at(*length);
-        self.lengths = lengths;
-        self.bytes = bytes;
-        piece
+        match next_packed(&mut self.now, &mut self.blocks) {
+            Some(piece) => Piece::Packed(piece),
+            None => Piece::Whole(self.end.next().unwrap_or(&[])),
+        }
     }
 }

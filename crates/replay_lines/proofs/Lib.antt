@@ -1,4 +1,3 @@
-pub mod Copies
 pub mod Kept
 pub mod OneMore
 pub mod Pieces

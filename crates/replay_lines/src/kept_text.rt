@@ -3,11 +3,12 @@
 ghost use Rattle.std.specs.Prelude.{◌≡◌, ◌++◌, [], OnOk, OnErr};
 ghost use Rattle.std.specs.List.{concat};
 
-use crate::packing::{Packed, pack};
+use kept_pieces::{Packed, pack};
 use std::alloc::{AllocError, Global};
 use std::marker::Model;
 
-/// How many bytes of a text are packed at a time, and a line more.
+/// From how many bytes on a text is long: what waits of the calls is packed then, up to a line more,
+/// and what waits to be put is put.
 pub(crate) const LONG_TEXT: usize = 65_536;
 
 /// A text that grows, seen as its bytes. All of it but its end is packed.

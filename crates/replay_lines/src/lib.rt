@@ -6,7 +6,6 @@ mod call_log;
 mod kept_text;
 pub mod laws;
 mod lines;
-mod packing;
 mod past;
 mod played;
 mod printing;

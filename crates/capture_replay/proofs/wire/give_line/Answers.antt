@@ -1,5 +1,6 @@
 use Rattle.std.proofs.Common.{◌≡◌, ◌∙◌, ◌∷◌, [], rules, List, ℕ, length, ap, sym}
 use Rattle.frame_grammar.specs.Frame.{frame_of}
+use Rattle.kept_pieces.specs.Pieces.{bytes_of}
 use Rattle.wires.specs.Wire.{Came, Bytes}
 use Rattle.wires.specs.Script.{next_of}
 use Rattle.capture_text.specs.Capture.{kind_of}
@@ -12,7 +13,7 @@ use Rattle.capture_replay.proofs.wire.give_line.Goals as goal
 pub returns-in_ok-frame-in-Frame-clause-came : goal.returns-in_ok-frame-in-Frame-clause-came
 returns-in_ok-frame-in-Frame-clause-came c =
     let side = c.args.side in
-    let body = c.in-Frame.body.now in
+    let body = bytes_of c.in-Frame.body in
     let room = length c.args.buf.now in
     let same : c.in-Frame.of ≡ side = search rules in
     let frame : c.deref.result.now ≡ frame_of (kind_of side) body = search rules in

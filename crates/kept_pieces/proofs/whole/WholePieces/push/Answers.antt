@@ -1,7 +1,7 @@
 use Rattle.std.proofs.Common.{◌≡◌, ◌∙◌, ◌++◌, ◌∷◌, [], rules, length, ap}
 use Rattle.kept_pieces.specs.Pieces.{cut_by}
 use Rattle.kept_pieces.proofs.OneMore.{one_more}
-use Rattle.kept_pieces.proofs.pieces.Pieces.push.Goals as goal
+use Rattle.kept_pieces.proofs.whole.WholePieces.push.Goals as goal
 
 pub returns-clause-ok : goal.returns-clause-ok
 returns-clause-ok c =
