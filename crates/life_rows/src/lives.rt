@@ -1,12 +1,13 @@
 //! Lives that the command `serve` lives, with taps and without, and what `show` shows of one.
 
+use crate::runs::{unfed, words_of};
 use crate::scripts::{Plan, failing};
 use drop_taps::{KeepTap, Tap, TotalsTap, clear};
 use gateway_top::{Status, run};
 use outside::{MemDisk, MemSink, MemSource};
 use row_words::shown;
 use std::alloc::{AllocError, Global};
-use wires::{ListClock, MemWire, QuietWire};
+use wires::{ListClock, MemWire};
 
 /// 2024-01-02 10:00:00.
 const NOW: u64 = 1_704_189_600_000;
@@ -45,15 +46,6 @@ pub(crate) fn input_of(alloc: Global, bytes: Vec<u8>, read: &str) -> Result<Inpu
 /// How a life ended, and the client's wire and the venue's after it.
 pub(crate) type Lived = (Status, MemWire, MemWire);
 
-// The words of a command.
-fn words(alloc: Global, command: &str) -> Result<Vec<String>, AllocError> {
-    let mut words = Vec::new(alloc);
-    for word in command.split(' ') {
-        words.push(String::from_str(alloc, word)?)?;
-    }
-    Ok(words)
-}
-
 // A life with this clock, whose entries these taps see.
 fn served(
     alloc: Global,
@@ -83,8 +75,8 @@ fn served(
 
 // The words of a command that serves for so many rounds.
 fn serve_words(alloc: Global, rounds: u64) -> Result<Vec<String>, AllocError> {
-    let command = format!(in alloc; "serve {rounds}")?;
-    words(alloc, &command)
+    let command = format!(in alloc; "fixgate serve {rounds}")?;
+    words_of(alloc, &command)
 }
 
 // A life whose entries these taps see.
@@ -113,32 +105,12 @@ fn lines(alloc: Global, bytes: &[u8], is_last: bool) -> Result<String, AllocErro
     Ok(lines)
 }
 
-// How these words end that show a disk.
-fn showed(alloc: Global, words: &[String], disk: &mut MemDisk, out: &mut MemSink) -> Status {
-    let mut input = MemSource::new(Vec::new(alloc), Vec::new(alloc));
-    let mut client = QuietWire::new();
-    let mut venue = QuietWire::new();
-    let mut clock = ListClock::new(Vec::new(alloc));
-    let mut taps: Vec<Box<dyn Tap>> = Vec::new(alloc);
-    run(
-        alloc,
-        words,
-        &mut input,
-        out,
-        disk,
-        &mut client,
-        &mut venue,
-        &mut clock,
-        &mut taps,
-    )
-}
-
 /// How `show` ends over a disk, and what it shows: ` ~ ` and a line each, or for `last` the last
 /// alone. Of a word `2` the second put fails.
 pub(crate) fn shows(alloc: Global, disk: &mut MemDisk, word: &str) -> Result<String, AllocError> {
-    let words = words(alloc, "show")?;
+    let words = words_of(alloc, "fixgate show")?;
     let mut out = MemSink::new(alloc, failing(alloc, word)?);
-    let status = showed(alloc, &words, disk, &mut out);
+    let status = unfed(alloc, &words, &mut out, disk);
     let text = lines(alloc, out.bytes(), word == "last")?;
     format!(in alloc; "{status:?}{text}")
 }

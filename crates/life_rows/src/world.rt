@@ -5,10 +5,11 @@ use crate::lives::{Given, Input, input_of, quiet, shows, tapped};
 use crate::outs::outs;
 use crate::peers::Peer;
 use crate::scripts::{Plan, Poll, stream, written};
+use crate::texts::SIGNS;
 use crate::wire_calls::{clock_text, quiet_text, wire_answer, wire_of};
 use gateway_top::Status;
 use outside::{Image, MemDisk};
-use row_words::{Answers, SOH, behind, long_number, put, shown, word};
+use row_words::{Answers, behind, long_number, put, shown, word};
 use std::alloc::{AllocError, Global};
 use wires::MemWire;
 
@@ -322,7 +323,7 @@ impl Answers for World {
     fn answer(&mut self, alloc: Global, call: &str, given: &str) -> Result<Vec<u8>, AllocError> {
         let text = self.text(alloc, call, given)?;
         let mut bytes = Vec::new(alloc);
-        put(&mut bytes, &[SOH], &text)?;
+        put(&mut bytes, &SIGNS, &text)?;
         Ok(bytes)
     }
 }

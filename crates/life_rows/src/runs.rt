@@ -31,7 +31,7 @@ const LOGON: &[u8] = b"\x01\0\0\0\x39\0\0\x01\x8c\xc9\x9d\xa1\0\0\0\0\0\x01\0\0\
 const OPEN: u8 = 1;
 
 /// The words of a command line behind the program's name.
-fn words_of(alloc: Global, command: &str) -> Result<Vec<String>, AllocError> {
+pub(crate) fn words_of(alloc: Global, command: &str) -> Result<Vec<String>, AllocError> {
     let mut words = Vec::new(alloc);
     for word in command.split(' ').skip(1) {
         words.push(String::from_str(alloc, word)?)?;
@@ -119,6 +119,17 @@ fn ran(
     )
 }
 
+/// The same over an input of no bytes.
+pub(crate) fn unfed(
+    alloc: Global,
+    words: &[String],
+    sink: &mut MemSink,
+    disk: &mut MemDisk,
+) -> Status {
+    let mut source = MemSource::new(Vec::new(alloc), Vec::new(alloc));
+    ran(alloc, words, &mut source, sink, disk)
+}
+
 /// A status, and ` : ` and what was put where something was: how many bytes, where it is a journal.
 fn ended(alloc: Global, status: &Status, put: &[u8]) -> Result<Vec<u8>, AllocError> {
     let words = if put.first() == Some(&OPEN) {
@@ -184,9 +195,8 @@ impl Answers for Runs {
 /// What `--help` puts.
 pub(crate) fn help(alloc: Global) -> Result<String, AllocError> {
     let words = words_of(alloc, "fixgate --help")?;
-    let mut source = MemSource::new(Vec::new(alloc), Vec::new(alloc));
     let mut sink = MemSink::new(alloc, Vec::new(alloc));
     let mut disk = MemDisk::new(alloc, Vec::new(alloc), Vec::new(alloc));
-    let _ = ran(alloc, &words, &mut source, &mut sink, &mut disk);
+    unfed(alloc, &words, &mut sink, &mut disk);
     shown(alloc, sink.bytes())
 }
