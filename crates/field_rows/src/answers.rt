@@ -1,6 +1,6 @@
 //! The answer of each call.
 
-use crate::{framed, grouped, judged, tabled, typed};
+use crate::{framed, grouped, judged, laws, said, tabled, typed, written};
 use row_words::{Answers, SOH, bytes_of, put};
 use std::alloc::{AllocError, Global};
 
@@ -26,6 +26,9 @@ fn answer(out: &mut String, alloc: Global, call: &str, given: &[u8]) -> Result<(
     grouped::answer(out, alloc, call, given)?;
     framed::answer(out, alloc, call, given)?;
     tabled::answer(out, alloc, call, given)?;
+    said::answer(out, alloc, call, given)?;
+    written::answer(out, alloc, call, given)?;
+    laws::answer(out, call)?;
     if out.is_empty() {
         out.push_str("nothing")?;
     }

@@ -3,6 +3,7 @@
 ghost use Rattle.std.specs.Prelude.{IsTrue};
 ghost use Rattle.frame_grammar.specs.Frame.{IsWritable};
 
+use crate::texts::tell;
 use frame_grammar::{Framer, Garble, Kind, Next, Rest, SOH, write_frame};
 use row_words::show;
 use std::alloc::{AllocError, Global};
@@ -141,6 +142,45 @@ fn frame(out: &mut String, alloc: Global, given: &[u8]) -> Result<(), AllocError
     show(out, &bytes)
 }
 
+/// How many of these bytes, fed one by one, make no piece whole.
+fn waiting(framer: &mut Framer, bytes: &[u8]) -> u32 {
+    let mut waiting = 0u32;
+    for byte in bytes.chunks(1) {
+        framer.feed(byte);
+        if framer.next() == Next::More {
+            waiting = waiting.saturating_add(1);
+        }
+    }
+    waiting
+}
+
+/// The same of a stream, and how it ends.
+fn byte_by_byte(out: &mut String, alloc: Global, given: &[u8]) -> Result<(), AllocError> {
+    let mut framer = Framer::new(alloc, Kind::Fix42)?;
+    let waiting = waiting(&mut framer, given);
+    write!(out, "{waiting} {:?}", framer.finish())
+}
+
+/// The place and the length of the frame that comes next.
+fn next_frame(framer: &mut Framer) -> Option<(u64, u32)> {
+    match framer.next() {
+        Next::Frame { at, len, body: _ } => Some((at, len)),
+        _ => None,
+    }
+}
+
+/// The frame that comes in a stream of FIXT 1.1 behind garbage, and then alone once the framer has
+/// begun again, with how it ended in between.
+fn restarted(out: &mut String, alloc: Global, given: &[u8]) -> Result<(), AllocError> {
+    let mut framer = Framer::new(alloc, Kind::Fixt11)?;
+    framer.feed(b"garbage");
+    tell(out, &next_frame(&mut framer))?;
+    framer.restart();
+    write!(out, " {:?} ", framer.finish())?;
+    framer.feed(given);
+    tell(out, &next_frame(&mut framer))
+}
+
 /// Appends the answer to a call of this crate.
 pub(crate) fn answer(
     out: &mut String,
@@ -151,6 +191,8 @@ pub(crate) fn answer(
     match call {
         "Framer" => framer(out, alloc, given),
         "Framer::part" => part(out, alloc, given),
+        "Framer::feed" => byte_by_byte(out, alloc, given),
+        "Framer::restart" => restarted(out, alloc, given),
         "write_frame" => frame(out, alloc, given),
         _ => Ok(()),
     }

@@ -1,6 +1,6 @@
 //! Bodies with their fields and groups.
 
-use crate::texts::halves;
+use crate::texts::{numbered, tell, u32_in};
 use field_groups::{Fields, Group, Shape, put_field, put_number, read_group, split};
 use row_words::show;
 use std::alloc::{AllocError, Global};
@@ -13,14 +13,17 @@ const PARTIES: Shape = Shape {
     skip: &[802, 523, 803],
 };
 
+/// Appends a field.
+pub(crate) fn show_tagged(out: &mut String, tag: u32, value: &[u8]) -> Result<(), AllocError> {
+    write!(out, "[{tag}=")?;
+    show(out, value)?;
+    out.push(']')
+}
+
 /// Appends the field at a place; `end` where there is none.
 fn show_field(out: &mut String, fields: &Fields<'_>, place: usize) -> Result<(), AllocError> {
     match fields.at(place) {
-        Some((tag, value)) => {
-            write!(out, "[{tag}=")?;
-            show(out, value)?;
-            out.push(']')
-        }
+        Some((tag, value)) => show_tagged(out, tag, value),
         None => out.push_str("end"),
     }
 }
@@ -45,30 +48,40 @@ fn count(out: &mut String, alloc: Global, given: &[u8]) -> Result<(), AllocError
     write!(out, "{count} {fault:?}")
 }
 
-/// The number of digits.
-fn u32_in(digits: &[u8]) -> Option<u32> {
-    std::str::from_utf8(digits).ok()?.parse::<u32>().ok()
+/// How many fields have a tag and a value.
+fn filled(fields: &Fields<'_>) -> u32 {
+    let mut filled = 0u32;
+    for (tag, value) in fields {
+        if *tag > 0 && !value.is_empty() {
+            filled = filled.saturating_add(1);
+        }
+    }
+    filled
 }
 
-/// The tag of the digits before the first space, and what stands behind that.
-fn tagged(given: &[u8]) -> Option<(u32, &[u8])> {
-    let (digits, rest) = halves(given)?;
-    Some((u32_in(digits)?, rest))
+/// How many fields have a tag and a value, and how many a tag below 40; and the last field.
+fn all(out: &mut String, alloc: Global, given: &[u8]) -> Result<(), AllocError> {
+    let split = split(alloc, given)?;
+    let low = split.fields.iter().filter(|field| field.0 < 40).count();
+    tell(out, &(filled(&split.fields), low))?;
+    match split.fields.as_slice().last() {
+        Some((tag, value)) => show_tagged(out, *tag, value),
+        None => Ok(()),
+    }
 }
 
 /// The place of a tag in a body.
 fn find(out: &mut String, alloc: Global, given: &[u8]) -> Result<(), AllocError> {
-    let Some((tag, body)) = tagged(given) else {
+    let Some((tag, body)) = numbered(given) else {
         return Ok(());
     };
     let split = split(alloc, body)?;
-    let place = split.fields.find(tag);
-    write!(out, "{place:?}")
+    tell(out, &split.fields.find(tag))
 }
 
 /// A field with a value.
 fn field(out: &mut String, alloc: Global, given: &[u8]) -> Result<(), AllocError> {
-    let Some((tag, value)) = tagged(given) else {
+    let Some((tag, value)) = numbered(given) else {
         return Ok(());
     };
     let mut bytes = Vec::new(alloc);
@@ -78,12 +91,12 @@ fn field(out: &mut String, alloc: Global, given: &[u8]) -> Result<(), AllocError
 
 /// The tag and the number of a field with a number.
 fn two_numbers(given: &[u8]) -> Option<(u32, u32)> {
-    let (tag, digits) = tagged(given)?;
+    let (tag, digits) = numbered(given)?;
     Some((tag, u32_in(digits)?))
 }
 
 /// A field with a number.
-fn numbered(out: &mut String, alloc: Global, given: &[u8]) -> Result<(), AllocError> {
+fn field_with_number(out: &mut String, alloc: Global, given: &[u8]) -> Result<(), AllocError> {
     let Some((tag, number)) = two_numbers(given) else {
         return Ok(());
     };
@@ -131,7 +144,7 @@ fn group(out: &mut String, alloc: Global, given: &[u8], lines: bool) -> Result<(
                 show_count(out, &group)
             }
         }
-        Err(fault) => write!(out, "{fault:?}"),
+        Err(fault) => tell(out, &fault),
     }
 }
 
@@ -146,8 +159,9 @@ pub(crate) fn answer(
         "split" => fields(out, alloc, given),
         "Fields::len" => count(out, alloc, given),
         "Fields::find" => find(out, alloc, given),
+        "Fields::iter" => all(out, alloc, given),
         "put_field" => field(out, alloc, given),
-        "put_number" => numbered(out, alloc, given),
+        "put_number" => field_with_number(out, alloc, given),
         "read_group" => group(out, alloc, given, true),
         "Group::len" => group(out, alloc, given, false),
         _ => Ok(()),

@@ -1,4 +1,4 @@
-//! Rows of the crates of fields, frames and tables: a call, what it is given, and what it must
+//! Rows of the crates of fields, frames, tables and values of rows: a call, what it is given, and what it must
 //! answer.
 #![tactic(auto)]
 
@@ -6,9 +6,12 @@ mod answers;
 mod framed;
 mod grouped;
 mod judged;
+mod laws;
+mod said;
 mod tabled;
 mod texts;
 mod typed;
+mod written;
 
 use answers::Calls;
 use row_words::{SOH, try_rows};

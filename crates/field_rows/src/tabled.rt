@@ -1,9 +1,14 @@
 //! Fields beside a table with a header, rows of each need and a group.
 
-use crate::texts::halves;
+use crate::grouped::show_tagged;
+use crate::texts::{halves, tell};
 use Need::{Fixed, Lenient, Optional, Required, When};
 use field_groups::{Field, split};
-use message_tables::{Found, Item, Mark, Need, RepeatingGroup, Row, Table, TableFault, Test};
+use message_tables::{
+    Found, Item, Mark, Need, RepeatingGroup, Row, Table, TableFault, Test, field_at, line,
+    line_end, stands, value,
+};
+use row_words::number;
 use std::alloc::{AllocError, Global};
 
 /// A row, whose kind is the most bytes of its values.
@@ -34,6 +39,8 @@ const PARTIES: RepeatingGroup<u8> = RepeatingGroup {
     rows: PARTY_ROWS,
     skipped: &[802, 523, 803],
 };
+
+static GROUP: RepeatingGroup<u8> = PARTIES;
 
 /// What asks for an ExpireTime(126): an OrderQty2(192) with the TimeInForce(59) 6, or any 7.
 const EXPIRES: &[&[Test]] = &[
@@ -106,23 +113,96 @@ fn fault(
     table: &Table<u8>,
 ) -> Result<(), AllocError> {
     let split = split(alloc, body)?;
-    let fault = first_fault(table, split.fields.as_slice());
-    write!(out, "{fault:?}")
+    tell(out, &first_fault(table, split.fields.as_slice()))
 }
 
-/// Appends the answer to the call of this crate, which is given the table before the body.
+/// Whether a tag stands in a body, and its value.
+fn looked_up(out: &mut String, alloc: Global, tag: u32, body: &[u8]) -> Result<(), AllocError> {
+    let split = split(alloc, body)?;
+    let fields = split.fields.as_slice();
+    tell(out, &stands(fields, tag))?;
+    show_tagged(out, tag, value(fields, tag).unwrap_or(b"none".as_slice()))
+}
+
+/// The field of a place.
+fn placed(out: &mut String, alloc: Global, place: u32, body: &[u8]) -> Result<(), AllocError> {
+    let split = split(alloc, body)?;
+    let fields = split.fields.as_slice();
+    let place = place as usize;
+    if place >= fields.len() {
+        return Ok(());
+    }
+    let (tag, value) = field_at(fields, place);
+    show_tagged(out, tag, value)
+}
+
+/// The first of some lines, and where the second one ends.
+fn first_line<'f, 'a>(lines: &'f [Field<'a>]) -> Option<(&'f [Field<'a>], usize)> {
+    if lines.is_empty() {
+        return None;
+    }
+    let end = line_end(lines, 0, 448);
+    if end >= lines.len() {
+        return None;
+    }
+    Some((line(lines, 0, end), line_end(lines, end, 448)))
+}
+
+/// Appends fields.
+fn show_all(out: &mut String, fields: &[Field<'_>]) -> Result<(), AllocError> {
+    for (tag, value) in fields {
+        show_tagged(out, *tag, value)?;
+    }
+    Ok(())
+}
+
+/// The lines of the group of a body, the first of them, and where the second one ends.
+fn lines(out: &mut String, alloc: Global, body: &[u8]) -> Result<(), AllocError> {
+    let split = split(alloc, body)?;
+    let lines = GROUP.lines(split.fields.as_slice());
+    show_all(out, lines)?;
+    match first_line(lines) {
+        Some((line, end)) => {
+            out.push(' ')?;
+            show_all(out, line)?;
+            write!(out, " {end}")
+        }
+        None => Ok(()),
+    }
+}
+
+/// The answer to a call with a number.
+fn with_number(
+    out: &mut String,
+    alloc: Global,
+    call: &str,
+    number: u32,
+    body: &[u8],
+) -> Result<(), AllocError> {
+    match call {
+        "value" => looked_up(out, alloc, number, body),
+        "field_at" => placed(out, alloc, number, body),
+        "Table::row" => tell(out, &STRICT.row(number).map(|row| row.kind)),
+        _ => Ok(()),
+    }
+}
+
+/// Appends the answer to a call of this crate; `Table::first_fault` is given the table before the
+/// body.
 pub(crate) fn answer(
     out: &mut String,
     alloc: Global,
     call: &str,
     given: &[u8],
 ) -> Result<(), AllocError> {
-    if call != "Table::first_fault" {
-        return Ok(());
-    }
-    match halves(given) {
-        Some((b"strict", body)) => fault(out, alloc, body, &STRICT),
-        Some((b"open", body)) => fault(out, alloc, body, &OPEN),
+    match (call, halves(given)) {
+        ("Table::first_fault", Some(("strict", body))) => fault(out, alloc, body, &STRICT),
+        ("Table::first_fault", Some(("open", body))) => fault(out, alloc, body, &OPEN),
+        ("RepeatingGroup::lines", _) => lines(out, alloc, given),
+        (_, Some((word, body))) => match number(word) {
+            Some(number) => with_number(out, alloc, call, number, body),
+            None => Ok(()),
+        },
         _ => Ok(()),
     }
 }

@@ -2,11 +2,12 @@
 
 ghost use Rattle.typed_fields.specs.Stamp.{IsFine};
 
+use crate::texts::{halves, tell};
 use row_words::show;
 use std::alloc::{AllocError, Global};
 use typed_fields::{
-    Day, Dec, FieldFault, FieldValue, Flag, MAX_MILLIS, MAX_SPELLING, MonthYear, Number, Stamp,
-    are_digits, point_in,
+    Day, Dec, FieldValue, Flag, MAX_MILLIS, MAX_SPELLING, MonthYear, Number, Stamp, are_digits,
+    point_in,
 };
 
 /// Appends the canonical spelling of a value.
@@ -18,11 +19,6 @@ fn spell<T: FieldValue>(out: &mut String, alloc: Global, value: &T) -> Result<()
     show(out, &text)
 }
 
-/// Appends a fault.
-fn tell(out: &mut String, fault: FieldFault) -> Result<(), AllocError> {
-    write!(out, "{fault:?}")
-}
-
 fn dec(out: &mut String, alloc: Global, given: &[u8]) -> Result<(), AllocError> {
     match Dec::read(given) {
         Ok(dec) => {
@@ -30,7 +26,7 @@ fn dec(out: &mut String, alloc: Global, given: &[u8]) -> Result<(), AllocError> 
             write!(out, "{units} ")?;
             spell(out, alloc, &dec)
         }
-        Err(fault) => tell(out, fault),
+        Err(fault) => tell(out, &fault),
     }
 }
 
@@ -40,7 +36,7 @@ fn respelled(out: &mut String, alloc: Global, given: &[u8]) -> Result<(), AllocE
     text.reserve(MAX_SPELLING)?;
     match Dec::respell(given, &mut text) {
         Ok(()) => show(out, &text),
-        Err(fault) => tell(out, fault),
+        Err(fault) => tell(out, &fault),
     }
 }
 
@@ -51,7 +47,7 @@ fn number(out: &mut String, alloc: Global, given: &[u8]) -> Result<(), AllocErro
             write!(out, "{value} ")?;
             spell(out, alloc, &number)
         }
-        Err(fault) => tell(out, fault),
+        Err(fault) => tell(out, &fault),
     }
 }
 
@@ -62,7 +58,7 @@ fn flag(out: &mut String, alloc: Global, given: &[u8]) -> Result<(), AllocError>
             write!(out, "{yes} ")?;
             spell(out, alloc, &flag)
         }
-        Err(fault) => tell(out, fault),
+        Err(fault) => tell(out, &fault),
     }
 }
 
@@ -73,7 +69,7 @@ fn month_year(out: &mut String, alloc: Global, given: &[u8]) -> Result<(), Alloc
             write!(out, "{year} {number} ")?;
             spell(out, alloc, &month)
         }
-        Err(fault) => tell(out, fault),
+        Err(fault) => tell(out, &fault),
     }
 }
 
@@ -84,7 +80,7 @@ fn day(out: &mut String, alloc: Global, given: &[u8]) -> Result<(), AllocError> 
             write!(out, "{number} ")?;
             spell(out, alloc, &day)
         }
-        Err(fault) => tell(out, fault),
+        Err(fault) => tell(out, &fault),
     }
 }
 
@@ -102,7 +98,7 @@ fn stamp_is(out: &mut String, alloc: Global, stamp: &Stamp) -> Result<(), AllocE
 fn stamp(out: &mut String, alloc: Global, given: &[u8]) -> Result<(), AllocError> {
     match Stamp::read(given) {
         Ok(stamp) => stamp_is(out, alloc, &stamp),
-        Err(fault) => tell(out, fault),
+        Err(fault) => tell(out, &fault),
     }
 }
 
@@ -116,7 +112,7 @@ fn fine_stamp(out: &mut String, alloc: Global, given: &[u8]) -> Result<(), Alloc
             let millis = stamp.millis();
             write!(out, " {millis}")
         }
-        Err(fault) => tell(out, fault),
+        Err(fault) => tell(out, &fault),
     }
 }
 
@@ -144,20 +140,34 @@ fn millis(out: &mut String, given: &[u8]) -> Result<(), AllocError> {
             let millis = stamp.millis();
             write!(out, "{millis}")
         }
-        Err(fault) => tell(out, fault),
+        Err(fault) => tell(out, &fault),
     }
 }
 
-/// Whether bytes are digits.
-fn digits(out: &mut String, given: &[u8]) -> Result<(), AllocError> {
-    let answer = are_digits(given);
-    write!(out, "{answer}")
+/// The canonical spelling of a value of any type; nothing where the bytes are none.
+fn spelled<T: FieldValue + Drop>(
+    out: &mut String,
+    alloc: Global,
+    given: &[u8],
+) -> Result<(), AllocError> {
+    T::laws();
+    match T::read(given) {
+        Ok(value) => spell(out, alloc, &value),
+        Err(_) => Ok(()),
+    }
 }
 
-/// The place of a point.
-fn point(out: &mut String, given: &[u8]) -> Result<(), AllocError> {
-    let place = point_in(given);
-    write!(out, "{place:?}")
+/// The same of the type that comes first.
+fn of_type(out: &mut String, alloc: Global, given: &[u8]) -> Result<(), AllocError> {
+    match halves(given) {
+        Some(("Dec", value)) => spelled::<Dec>(out, alloc, value),
+        Some(("Number", value)) => spelled::<Number>(out, alloc, value),
+        Some(("Flag", value)) => spelled::<Flag>(out, alloc, value),
+        Some(("Day", value)) => spelled::<Day>(out, alloc, value),
+        Some(("MonthYear", value)) => spelled::<MonthYear>(out, alloc, value),
+        Some((_, value)) => spelled::<Stamp>(out, alloc, value),
+        None => Ok(()),
+    }
 }
 
 /// Appends the answer to a call of this crate.
@@ -178,8 +188,9 @@ pub(crate) fn answer(
         "Stamp::read_fine" => fine_stamp(out, alloc, given),
         "Stamp::of_millis" => of_millis(out, alloc, given),
         "Stamp::millis" => millis(out, given),
-        "are_digits" => digits(out, given),
-        "point_in" => point(out, given),
+        "are_digits" => tell(out, &are_digits(given)),
+        "point_in" => tell(out, &point_in(given)),
+        "FieldValue" => of_type(out, alloc, given),
         _ => Ok(()),
     }
 }
