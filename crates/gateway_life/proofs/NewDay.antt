@@ -3,6 +3,7 @@ use Rattle.std.proofs.Common.{◌≡◌, ℕ, ◌+◌, ◌≤◌, Bool, true, fa
 use Rattle.std.proofs.Common.{refl}
 use Rattle.std.proofs.Common.{sym, ◌∙◌, ap, subst, arith, Some, inl, inr}
 use Rattle.std.specs.declared.option.Option.{Option}
+use Rattle.std.specs.Option.{option_to_list}
 use Rattle.outside.specs.declared.disk.TheConstants.{MAX_DISK}
 use Rattle.gate_log.specs.Records.{blocks}
 use Rattle.order_meaning.specs.declared.names.Names.{Names}
@@ -80,16 +81,19 @@ ready_hung old told cu vu ready = record {
 }
 
 pub world_fresh : (new : EngineState) (config : Config) (before : List Entry) (now : ℕ)
-    → new.journal.entries ≡ before ++ new_day now ∷ [] → new.core ≡ loaded config []
-    → new.client_up ≡ false → new.venue_up ≡ false → world_of new ≡ begun config []
-world_fresh new config before now entries is client venue =
+    (entry : Option Entry) → new.journal.entries ≡ before ++ option_to_list entry
+    → entry ≡ Some (new_day now) → new.core ≡ loaded config [] → (cu vu : Bool)
+    → new.client_up ≡ cu → new.venue_up ≡ vu → cu ≡ false → vu ≡ false
+    → world_of new ≡ begun config []
+world_fresh new config before now entry all its is cu vu same_client same_venue client venue =
+    let entries = all ∙ ap (λ o. before ++ option_to_list o) its in
     let anew : last_day new.journal.entries ≡ [] =
     ap last_day entries ∙ last_day-reset before (new_day now) refl in
     λ i. record {
       entries = anew i;
       sessions = sessions_in (is i);
-      client_up = client i;
-      venue_up = venue i;
+      client_up = (same_client ∙ client) i;
+      venue_up = (same_venue ∙ venue) i;
     }
 
 -- a connection that stands is hung up

@@ -36,6 +36,11 @@ pub ok_told : {T E : Type 0} (r : Result T E) (told : Option (List ℕ)) (P Q : 
 ok_told (Ok value) told P Q f h = λ t. f (h t)
 ok_told (Err error) told P Q f h = tt
 
+pub told_map : {T E : Type 0} (r : Result T E) (told : Option (List ℕ)) (P Q : Type 0) → (P → Q)
+    → OnOk r (IfTold told P) → OnOk r (IfTold told Q)
+told_map (Ok value) told P Q f h = λ t. f (h t)
+told_map (Err error) told P Q f h = tt
+
 pub on_err_told : {T E : Type 0} (r : Result T E) (told : Option (List ℕ)) (P : Type 0)
     → IfTold told P → OnErr r (IfTold told P)
 on_err_told (Ok value) told P h = tt

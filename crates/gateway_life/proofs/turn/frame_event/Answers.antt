@@ -4,7 +4,8 @@ use Rattle.gateway_life.specs.State.{seen}
 use Rattle.gateway_life.specs.Ready.{world_of}
 use Rattle.event_decisions.specs.Event.{Frame}
 use Rattle.gateway_life.specs.Stepped.{records, Broken, BrokenIf}
-use Rattle.gateway_life.proofs.Turning.{not_counted}
+use Rattle.gateway_life.proofs.Turning.{counted, not_counted}
+use Rattle.gateway_life.proofs.Telling.{told_map}
 use Rattle.gateway_life.proofs.Polling.{last_behind}
 use Rattle.gateway_life.proofs.Watching.{watched_none}
 use Rattle.gateway_life.proofs.turn.frame_event.Goals as goal
@@ -13,6 +14,14 @@ pub returns-then-not-is_up-clause-happens : goal.returns-then-not-is_up-clause-h
 returns-then-not-is_up-clause-happens g c = λ t.
     not_counted c.args.engine.now.core.config (world_of (seen c.args.engine.now)) c.args.side
     c.args.body.now c.args.now _ (sym c.is_up.ensures ∙ c.if-not-is_up.true)
+
+pub returns-clause-happens : goal.returns-clause-happens
+returns-clause-happens g c =
+    let event = Frame c.args.side c.args.body.now in
+    told_map c.event.result (g.D.Disk.bytes c.args.disk.now) _ _
+    (counted c.args.engine.now.core.config (world_of (seen c.args.engine.now))
+    (world_of (seen c.event.new.self)) event c.args.now _ _
+    (sym c.is_up.ensures ∙ c.if-not-is_up.false)) (c.event.ensures.happens event refl)
 
 pub returns-clause-ends : goal.returns-clause-ends
 returns-clause-ends g c =

@@ -25,12 +25,11 @@ returns-clause-entries g c = c.in_ok-day.ensures.entries
 
 pub returns-clause-fresh : goal.returns-clause-fresh
 returns-clause-fresh g c =
-    let old = c.args.self.now in
-    let day = c.in_ok-day.ensures in
-    world_fresh (seen c.decide.new.self) old.core.config old.journal.entries c.args.now
-    (day.entries ∙ ap (λ o. old.journal.entries ++ option_to_list o) day.decided.0)
-    day.decided.1 (day.up.0 ∙ c.hang_up_on-self.ensures.hung.ends)
-    (day.up.1 ∙ c.hang_up_on-self-2.ensures.hung.ends)
+    world_fresh (seen c.decide.new.self) c.args.self.now.core.config
+    c.args.self.now.journal.entries c.args.now c.in_ok-day.day.entry c.in_ok-day.ensures.entries
+    c.in_ok-day.ensures.decided.0 c.in_ok-day.ensures.decided.1 _ _ c.in_ok-day.ensures.up.0
+    c.in_ok-day.ensures.up.1 c.hang_up_on-self.ensures.hung.ends
+    c.hang_up_on-self-2.ensures.hung.ends
 
 pub returns-clause-client_hung : goal.returns-clause-client_hung
 returns-clause-client_hung g c = hung_whole _ _ c.args.self.now.client_up _
