@@ -1,5 +1,5 @@
 -- Own: the forms of the command line; docs/DECISIONS.md, "Commands".
-use Rattle.std.specs.Prelude.{ℕ, ◌≤◌, Bool, true, false, ◌&&◌, nat_le, List, [], ◌∷◌, codes}
+use Rattle.std.specs.Prelude.{ℕ, ◌≤◌, Bool, ◌&&◌, nat_le, List, [], ◌∷◌, codes}
 use Rattle.std.specs.Prelude.{Some, None, if◌then◌else◌}
 use Rattle.std.specs.Fmt.{decimal}
 use Rattle.std.specs.Option.{option_map}
@@ -69,32 +69,15 @@ command_of (first ∷ second ∷ third ∷ []) =
     if bytes_eq first (codes "drill") then drill_of second third else None
 command_of words = None
 
--- ---- what of the outside a command calls; the words of none call nothing
-
-abbrev pub calls_input : Option Command → Bool
-calls_input (Some (Stream task)) = true
-calls_input (Some (Serve rounds)) = true
-calls_input (Some Replay) = true
-calls_input command = false
-
-abbrev pub calls_output : Option Command → Bool
-calls_output None = false
-calls_output (Some (Serve rounds)) = false
-calls_output command = true
-
-abbrev pub calls_disk : Option Command → Bool
-calls_disk (Some (Serve rounds)) = true
-calls_disk (Some Show) = true
-calls_disk (Some Migrate) = true
-calls_disk command = false
-
-abbrev pub calls_taps : Option Command → Bool
-calls_taps (Some (Serve rounds)) = true
-calls_taps (Some Replay) = true
-calls_taps (Some (Drill first count)) = true
-calls_taps command = false
-
--- the wires and the clock
-abbrev pub calls_wires : Option Command → Bool
-calls_wires (Some (Serve rounds)) = true
-calls_wires command = false
+-- WHAT A COMMAND LEAVES ALONE of the input, the output, the disk, the wires with the clock, and the
+-- taps, which are then as they were; the words of none leave all.
+abbrev pub LeavesAlone : Option Command → (input output disk wires taps : Type 0) → Type 0
+LeavesAlone (Some Help) input output disk wires taps = input × disk × wires × taps
+LeavesAlone (Some Version) input output disk wires taps = input × disk × wires × taps
+LeavesAlone (Some (Stream task)) input output disk wires taps = disk × wires × taps
+LeavesAlone (Some (Serve rounds)) input output disk wires taps = output
+LeavesAlone (Some Show) input output disk wires taps = input × wires × taps
+LeavesAlone (Some Migrate) input output disk wires taps = input × wires × taps
+LeavesAlone (Some Replay) input output disk wires taps = disk × wires
+LeavesAlone (Some (Drill first count)) input output disk wires taps = input × disk × wires
+LeavesAlone None input output disk wires taps = input × output × disk × wires × taps

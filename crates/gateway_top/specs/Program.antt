@@ -5,6 +5,7 @@ use Rattle.std.specs.Prelude.{◌⊎◌, Some, None, Result, IfSome, OnErr, ⊤}
 use Rattle.std.specs.declared.option.Option.{Option}
 use Rattle.std.specs.Io.KnownBytes.{Appends, Consumes, IsAtEnd}
 use Rattle.outside.specs.Bytes.{AppendsFront}
+use Rattle.outside.specs.Causes.{Rose}
 use Rattle.frame_grammar.specs.declared.pieces.Rest.{Rest}
 use Rattle.frame_grammar.specs.Cut.{Piece, ComeFirst, Cut}
 use Rattle.frame_grammar.specs.Places.{place_after, EndsIn}
@@ -186,3 +187,10 @@ IfDrill command holds = Unit {0}
 abbrev pub DrilledBy : Status → (Result ⊤ PrintError → Type 0) → Type 0
 DrilledBy status drilled =
     (answer : Result ⊤ PrintError) × (status ≡ drilled_status answer) × drilled answer
+
+-- ---- faults
+
+-- A FAULT OF A DEVICE IS TOLD: the status of such a fault comes only where the count of faults rose,
+-- and at each other status it stands still.
+abbrev pub TellsFault : (told : Type 0) → (before now : ℕ) → Type 0
+TellsFault told before now = (told → Rose before now) × ((told → ⊥) → now ≡ before)

@@ -12,11 +12,10 @@ ghost use Rattle.gateway_life.specs.Watched.{TapsSaw};
 ghost use Rattle.gateway_life.specs.Lived.{Lived, told};
 ghost use Rattle.capture_replay.specs.Input.{Replayed};
 ghost use Rattle.capture_replay.specs.Drills.{Drills};
-ghost use Rattle.gateway_top.specs.Command.{command_of, calls_input, calls_output, calls_disk};
-ghost use Rattle.gateway_top.specs.Command.{calls_taps, calls_wires};
+ghost use Rattle.gateway_top.specs.Command.{command_of, LeavesAlone};
 ghost use Rattle.gateway_top.specs.Program.{Wrote, Does, ReadsToEnd, IfServe, ServedBy, IfShow};
 ghost use Rattle.gateway_top.specs.Program.{ShownBy, IfMigrate, MigratedBy, IfReplay, ReplayedBy};
-ghost use Rattle.gateway_top.specs.Program.{IfDrill, DrilledBy};
+ghost use Rattle.gateway_top.specs.Program.{IfDrill, DrilledBy, TellsFault};
 ghost use Rattle.gateway_top.specs.Status.{served_status, shown_status, migrated_status};
 ghost use Rattle.gateway_top.specs.Status.{replayed_status};
 ghost use Rattle.gateway_top.specs.Status.{drilled_status};
@@ -242,31 +241,18 @@ pub fn run<I: Source, O: Sink, D: Disk, C: Wire, V: Wire, K: Clock>(
         first count taps.old.items taps.new.items answer (O.bytes out.old) (O.bytes out.new))) }
 
     // What a command does not call is as it was.
-    ensures input_alone { calls_input (command_of (map string_bytes words.now)) ≡ false
-        → input.new ≡ input.old }
-    ensures output_alone { calls_output (command_of (map string_bytes words.now)) ≡ false
-        → out.new ≡ out.old }
-    ensures disk_alone { calls_disk (command_of (map string_bytes words.now)) ≡ false
-        → disk.new ≡ disk.old }
-    ensures client_alone { calls_wires (command_of (map string_bytes words.now)) ≡ false
-        → client.new ≡ client.old }
-    ensures venue_alone { calls_wires (command_of (map string_bytes words.now)) ≡ false
-        → venue.new ≡ venue.old }
-    ensures clock_alone { calls_wires (command_of (map string_bytes words.now)) ≡ false
-        → clock.new ≡ clock.old }
-    ensures taps_alone { calls_taps (command_of (map string_bytes words.now)) ≡ false
-        → taps.new ≡ taps.old }
+    ensures alone { LeavesAlone (command_of (map string_bytes words.now))
+        (input.new ≡ input.old) (out.new ≡ out.old) (disk.new ≡ disk.old)
+        ((client.new ≡ client.old) × (venue.new ≡ venue.old) × (clock.new ≡ clock.old))
+        (taps.new ≡ taps.old) }
 
-    ensures input_fault { result ≡ Status.InputFault
-        → Rose (I.faults input.old) (I.faults input.new) }
-    ensures output_fault { result ≡ Status.OutputFault
-        → Rose (O.faults out.old) (O.faults out.new) }
-    ensures disk_fault { result ≡ Status.DiskFault
-        → Rose (D.faults disk.old) (D.faults disk.new) }
-    // A fault that was counted is told.
-    ensures input_still { result ≢ Status.InputFault → I.faults input.new ≡ I.faults input.old }
-    ensures output_still { result ≢ Status.OutputFault → O.faults out.new ≡ O.faults out.old }
-    ensures disk_still { result ≢ Status.DiskFault → D.faults disk.new ≡ D.faults disk.old }
+    // A fault that was counted is told, and no other.
+    ensures input_fault { TellsFault (result ≡ Status.InputFault)
+        (I.faults input.old) (I.faults input.new) }
+    ensures output_fault { TellsFault (result ≡ Status.OutputFault)
+        (O.faults out.old) (O.faults out.new) }
+    ensures disk_fault { TellsFault (result ≡ Status.DiskFault)
+        (D.faults disk.old) (D.faults disk.new) }
 {
     match read_command(words) {
         Some(Command::Stream(task)) => run_stream(alloc, task, input, out),
