@@ -16,7 +16,7 @@ returns-in_ok-frame-in-Frame-clause-came c =
     let body = bytes_of c.in-Frame.body in
     let room = length c.args.buf.now in
     let same : c.in-Frame.of ≡ side = search rules in
-    let frame : c.deref.result.now ≡ frame_of (kind_of side) body = search rules in
+    let frame : c.deref-in-Frame.result.now ≡ frame_of (kind_of side) body = search rules in
     c.arrive-in-Frame.ensures.came
     ∙ ap (λ (bytes : List ℕ). next_of c.args.within room (Bytes bytes ∷ [])) frame
     ∙ ap (λ (came : Came). next_of c.args.within room (came ∷ []))
