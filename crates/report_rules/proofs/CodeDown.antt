@@ -35,9 +35,9 @@ use Rattle.rule_rows.specs.Texts.{Facts, Has, OfKind, OfKinds, Own as OwnText, i
 use Rattle.rule_rows.specs.Texts.{is_reason, kept, number_of as number_read}
 use Rattle.rule_rows.proofs.FieldsSaid.{IsRead, decimal_said, kept_said, reason_said, row_says}
 use Rattle.rule_rows.proofs.FieldsSaid.{text_said}
-use Rattle.rule_writing.specs.declared.rules.Rule.TheVariants as carried
-use Rattle.rule_writing.specs.CodeRules.{table_of}
-use Rattle.rule_writing.proofs.Written.{AreSaid, Goes, moved}
+use Rattle.rule_rows.specs.declared.rules.Rule.TheVariants as carried
+use Rattle.rule_rows.specs.CodeRules.{table_of}
+use Rattle.rule_rows.proofs.Written.{AreSaid, Goes, moved}
 use Rattle.report_rules.specs.declared.rules.Own.{Own as CodeOwn}
 use Rattle.report_rules.specs.declared.rules.Own.TheVariants as rules
 use Rattle.report_rules.specs.declared.source.Codes.{Codes}

@@ -18,7 +18,7 @@ use Rattle.sound_laws.proofs.ContentAgain.{read_again}
 use Rattle.sound_laws.proofs.Each.{◌&◌}
 use Rattle.rule_rows.specs.ByRules.{by_rules, content_by, lack_by}
 use Rattle.rule_rows.proofs.Made.{content_made}
-use Rattle.rule_rows.proofs.Source as source
+use Rattle.rule_rows.proofs.Said as source
 use Rattle.rule_rows.proofs.Looked.{AreOwn}
 use Rattle.report_rules.specs.Rules.{Rule, Same, Original, down_message, down_rules, kinds}
 use Rattle.report_rules.specs.Rules.{rules_for, table_at}

@@ -17,7 +17,7 @@ use Rattle.sound_laws.specs.Sound.{IsSaid}
 use Rattle.sound_laws.proofs.Each.{all_true, one_of}
 use Rattle.sound_laws.proofs.RowsSaid.{row_said}
 use Rattle.rule_rows.specs.ByRules.{by_rules, lack_by, lack_if, or_lack}
-use Rattle.rule_rows.proofs.Source as source
+use Rattle.rule_rows.proofs.Said as source
 use Rattle.report_rules.specs.Rules.{Same, Original, at, down_rules, kinds, lacks_type}
 use Rattle.report_rules.specs.Rules.{down_message, rules_for, trans_type}
 use Rattle.report_rules.specs.Down.{Lacks, LacksMean, NoSense, NoOriginal, Reports50, Rejects50}

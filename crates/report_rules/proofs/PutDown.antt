@@ -19,10 +19,10 @@ use Rattle.reports_fix50.specs.Message.{report_table_of}
 use Rattle.reports_fix50.specs.Reports.{cancel_reject, execution_report}
 use Rattle.rule_rows.specs.ByRules.{by_rules, content_by, lack_by, or_lack}
 use Rattle.rule_rows.proofs.Made.{content_made}
-use Rattle.rule_writing.specs.declared.rules.Rule.{Rule as CodeRule}
-use Rattle.rule_writing.specs.CodeRules.{AreFor, IsLackOf, lacked, table_of}
-use Rattle.rule_writing.specs.CodeRules.{writes as all_write}
-use Rattle.rule_writing.proofs.Written.{all_lacked, all_written}
+use Rattle.rule_rows.specs.declared.rules.Rule.{Rule as CodeRule}
+use Rattle.rule_rows.specs.CodeRules.{AreFor, IsLackOf, lacked, table_of}
+use Rattle.rule_rows.specs.CodeRules.{writes as all_write}
+use Rattle.rule_rows.proofs.Written.{all_lacked, all_written}
 use Rattle.report_rules.specs.declared.rules.Own.{Own as CodeOwn}
 use Rattle.report_rules.specs.CodeRules.{Source, code, known_of, lacks, reject_codes, report_codes}
 use Rattle.report_rules.specs.CodeRules.{writes}

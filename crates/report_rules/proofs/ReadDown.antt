@@ -27,7 +27,7 @@ use Rattle.sound_laws.proofs.PlainRows.{contras_apart, contras_plain, parties_ap
 use Rattle.sound_laws.proofs.PlainRows.{plain_items, plain_stables, spelled}
 use Rattle.sound_laws.proofs.ReadSound.{IsClearField, read_sound}
 use Rattle.sound_laws.proofs.SpelledAgain.{own_bytes}
-use Rattle.rule_rows.proofs.Source as source
+use Rattle.rule_rows.proofs.Said as source
 use Rattle.report_rules.specs.Down.{IsReport50, IsReportType, Reports50, Rejects50, Type8, Type9}
 use Rattle.report_rules.specs.Down.{WritesDown}
 use Rattle.sound_laws.proofs.CompletedSound.{KeepsType, completed_month, completed_sound}

@@ -34,8 +34,8 @@ use Rattle.sound_laws.proofs.Each.{either}
 use Rattle.sound_laws.proofs.RowsSaid.{optional_said, required_said, same_value}
 use Rattle.sound_laws.proofs.PlainRows.{spelled}
 use Rattle.sound_laws.proofs.SpelledAgain.{clear_front, clear_joined, digits_clear}
-use Rattle.rule_rows.proofs.Source as source
-use Rattle.rule_rows.proofs.Source.{IsSpelled}
+use Rattle.rule_rows.proofs.Said as source
+use Rattle.rule_rows.proofs.Said.{IsSpelled}
 use Rattle.rule_rows.specs.ByRules.{has_place, lack_if, outline_of}
 use Rattle.rule_rows.specs.Rows.{group_at}
 use Rattle.rule_rows.proofs.Looked.{none_at}

@@ -27,8 +27,8 @@ use Rattle.sound_laws.proofs.RowsSaid.{code_said, codes_said, among, is_code_of}
 use Rattle.rule_rows.specs.ByRules.{At, by_rules, lack_by}
 use Rattle.rule_rows.proofs.Items.{has_one, has_row, item_if, turned, can_go, is_value, IsRow}
 use Rattle.rule_rows.proofs.Looked.{AreOwn, IsFound, each_rule}
-use Rattle.rule_rows.proofs.Source as source
-use Rattle.rule_rows.proofs.Source.{IsSpelled}
+use Rattle.rule_rows.proofs.Said as source
+use Rattle.rule_rows.proofs.Said.{IsSpelled}
 use Rattle.rule_rows.proofs.Sound.{AreGroups, Goes, IsGood, RuleGood, carried_good, has_of, may_fit}
 use Rattle.rule_rows.proofs.Sound.{own_good, sound_made, turned_good, value_is}
 use Rattle.rule_rows.specs.Rules.{By, Moved, Group}

@@ -28,7 +28,7 @@ use Rattle.rule_rows.specs.Texts.{Has, OfKind, OfKinds, Own, decimal_of, decimal
 use Rattle.rule_rows.specs.Texts.{is_kept, kept}
 use Rattle.sound_laws.proofs.RowsSaid.{row_of_tag}
 use Rattle.rule_rows.proofs.FieldsSaid.{decimal_said, kept_said, row_says, said_is, text_said}
-use Rattle.rule_writing.proofs.Written.{AreSaid}
+use Rattle.rule_rows.proofs.Written.{AreSaid}
 use Rattle.report_rules.specs.declared.source.Codes.{Codes}
 use Rattle.report_rules.specs.CodeRules.{Source, is_month, known_of, reject_codes, report_codes}
 use Rattle.report_rules.specs.CodeRules.{times, types, zero}

@@ -26,8 +26,8 @@ use Rattle.rule_rows.specs.Rules.{By}
 use Rattle.rule_rows.specs.Texts.{Besides as Asks, OfKind, OfKinds, Own as OwnText, Reading}
 use Rattle.rule_rows.specs.Texts.{decimal_of, decimal_text, is_amount, is_kept, is_reason, kept}
 use Rattle.rule_rows.specs.Texts.{number_of as number_in}
-use Rattle.rule_writing.specs.declared.source.Source.{Source as ReadSource}
-use Rattle.rule_writing.specs.CodeRules.{Code as Direction, stands}
+use Rattle.rule_rows.specs.declared.source.Source.{Source as ReadSource}
+use Rattle.rule_rows.specs.CodeRules.{Code as Direction, stands}
 use Rattle.report_rules.specs.declared.rules.Own.{Own as CodeOwn}
 use Rattle.report_rules.specs.declared.rules.Own.TheVariants as rules
 use Rattle.report_rules.specs.declared.source.Besides.{Besides}

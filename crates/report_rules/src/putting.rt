@@ -12,7 +12,7 @@ use field_groups::{Fields, is_type};
 use order_meaning::{Lack, Lines};
 use reports_fix50::{cancel_reject, execution_report};
 use row_values::read_lines;
-use rule_writing::put_rules;
+use rule_rows::put_rules;
 use std::alloc::Global;
 
 /// Appends the content of FIX 4.2 of a report of FIX 5.0 SP2, 8 or 9, whose fields are at no fault,

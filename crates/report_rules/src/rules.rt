@@ -1,14 +1,14 @@
 //! The rules by which a report goes down, as the code has them.
 
 ghost use Rattle.message_tables.specs.Tables.{Said};
-ghost use Rattle.rule_writing.specs.CodeRules.{AreFor};
+ghost use Rattle.rule_rows.specs.CodeRules.{AreFor};
 ghost use Rattle.report_rules.specs.CodeRules.{code};
 ghost use Rattle.report_rules.specs.Rules as rules;
 ghost use Rattle.report_rules.specs.Rules.{down_rules};
 ghost use Rattle.reports_fix50.specs.Message.{cancel_reject_table, report_table};
 
 use row_values::Kind::Value;
-use rule_writing::Rule::{By, Decimal, Kept, Lines, Moment, Same};
+use rule_rows::Rule::{By, Decimal, Kept, Lines, Moment, Same};
 use value_kinds::ValueKind::{Code, Word};
 
 /// How FIX 4.2 says one line of its table otherwise than FIX 5.0 SP2.
@@ -50,7 +50,7 @@ use Own::{
 };
 
 /// A rule by which a report goes down.
-pub(crate) type Rule = rule_writing::Rule<Own>;
+pub(crate) type Rule = rule_rows::Rule<Own>;
 
 /// The rules of an execution report, in the order of writing: those that its table has a place for.
 #[rattlefmt::skip]

@@ -94,4 +94,4 @@ pub(crate) struct Besides<'k> {
 }
 
 /// What the rules read of a report.
-pub(crate) type Source<'f, 'k, 'a> = rule_writing::Source<'f, 'a, Besides<'k>>;
+pub(crate) type Source<'f, 'k, 'a> = rule_rows::Source<'f, 'a, Besides<'k>>;

@@ -9,7 +9,7 @@ ghost use Rattle.field_groups.specs.Field.{body_of, field_bytes};
 ghost use Rattle.message_tables.specs.Content.{cell_fields};
 ghost use Rattle.message_tables.specs.Tables.{Tag, value_at};
 ghost use Rattle.reports_fix50.specs.Sense.{most_before_reasons, reason_told, telling};
-ghost use Rattle.rule_writing.specs.CodeRules.{IsLackOf};
+ghost use Rattle.rule_rows.specs.CodeRules.{IsLackOf};
 ghost use Rattle.report_rules.specs.CodeRules.{close_code, exec_type_in, lacks, month, number_of};
 ghost use Rattle.report_rules.specs.CodeRules.{tells_of, told, told_text, within_text, writes};
 ghost use Rattle.report_rules.specs.declared.rules.Own.TheVariants as rules;
@@ -23,8 +23,7 @@ use message_tables::Lookup;
 use order_meaning::Lack;
 use row_values::{Part, Value};
 use rows_fix50::maturity;
-use rule_rows::{kept, number_of, put_decimal, put_one, put_text};
-use rule_writing::OwnRule;
+use rule_rows::{OwnRule, kept, number_of, put_decimal, put_one, put_text};
 use std::alloc::{AllocError, Global};
 use typed_fields::{FieldValue, Number};
 

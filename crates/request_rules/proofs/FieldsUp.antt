@@ -9,9 +9,9 @@ use Rattle.row_values.specs.Kinds.{DayOf, Kind, Value, said}
 use Rattle.rule_rows.proofs.FieldsSaid.{IsRead, kind_said}
 use Rattle.rule_rows.specs.ByRules.{lack_if, rule_fields}
 use Rattle.rule_rows.specs.Texts.{Has, OfKind, Own as OwnText, is_any}
-use Rattle.rule_writing.specs.declared.rules.Rule.TheVariants as carried
-use Rattle.rule_writing.specs.CodeRules.{stands, table_of}
-use Rattle.rule_writing.proofs.Written.{AreSaid, Goes, moved, text as text_of}
+use Rattle.rule_rows.specs.declared.rules.Rule.TheVariants as carried
+use Rattle.rule_rows.specs.CodeRules.{stands, table_of}
+use Rattle.rule_rows.proofs.Written.{AreSaid, Goes, moved, text as text_of}
 use Rattle.request_rules.specs.declared.rules.Own.{Own as CodeOwn}
 use Rattle.request_rules.specs.declared.rules.Own.TheVariants as rules
 use Rattle.request_rules.specs.CodeRules.{Source, code, is_apart, lacks, reading, rule_of, writes}

@@ -26,7 +26,7 @@ use Rattle.sound_laws.proofs.Stages.{item_tags}
 use Rattle.sound_laws.proofs.TableFits.{table_fits}
 use Rattle.rule_rows.proofs.Looked.{has_lines_of, says}
 use Rattle.rule_rows.proofs.Made.{content_made}
-use Rattle.rule_rows.proofs.Source as source
+use Rattle.rule_rows.proofs.Said as source
 use Rattle.request_rules.specs.Canonical.{IsCanonical, IsRequest}
 use Rattle.request_rules.specs.Canonical as canonical
 use Rattle.request_rules.specs.Lack.{lack42, lack_of}

@@ -14,10 +14,10 @@ use Rattle.rule_rows.proofs.FieldsSaid.{IsRead, each_read, said_is}
 use Rattle.rule_rows.specs.ByRules.{content_by, outline, outline_of}
 use Rattle.rule_rows.specs.Rows.{have_written_lines}
 use Rattle.rule_rows.specs.Texts.{Has, Own}
-use Rattle.rule_writing.specs.declared.rules.Rule.{Rule as CodeRule}
-use Rattle.rule_writing.specs.CodeRules.{AreRead, IsLackOf, lacked, reading, rule_of, table_of}
-use Rattle.rule_writing.specs.CodeRules.{writes as all_write}
-use Rattle.rule_writing.proofs.Written.{AreSaid, rules_lacked, rules_written}
+use Rattle.rule_rows.specs.declared.rules.Rule.{Rule as CodeRule}
+use Rattle.rule_rows.specs.CodeRules.{AreRead, IsLackOf, lacked, reading, rule_of, table_of}
+use Rattle.rule_rows.specs.CodeRules.{writes as all_write}
+use Rattle.rule_rows.proofs.Written.{AreSaid, rules_lacked, rules_written}
 use Rattle.dict_fix42.specs.Message.{table_of as table_of42}
 use Rattle.dict_fix42.specs.Sense.{request_of}
 use Rattle.request_rules.specs.declared.rules.Own.{Own as CodeOwn}

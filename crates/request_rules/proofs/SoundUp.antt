@@ -22,8 +22,8 @@ use Rattle.rule_rows.specs.Rows.{group_at}
 use Rattle.rule_rows.proofs.Carried.{carried, row_carried}
 use Rattle.rule_rows.proofs.Items.{has_row, row_there, can_go, IsRow}
 use Rattle.rule_rows.proofs.Looked.{IsFound, each_rule, no_lack}
-use Rattle.rule_rows.proofs.Source as source
-use Rattle.rule_rows.proofs.Source.{IsSpelled}
+use Rattle.rule_rows.proofs.Said as source
+use Rattle.rule_rows.proofs.Said.{IsSpelled}
 use Rattle.rule_rows.proofs.Sound.{AreGroups, Goes, RuleGood, after, before, carried_good, has_of}
 use Rattle.rule_rows.proofs.Sound.{lines_are, lines_good, may_fit, own_good, party_good, said_is}
 use Rattle.rule_rows.proofs.Sound.{sound_made, turned_good, value_is, w, whatever}

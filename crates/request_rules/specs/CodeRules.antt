@@ -12,8 +12,8 @@ use Rattle.value_kinds.specs.ValueKind.{MonthYear}
 use Rattle.rule_rows.specs.ByRules.{lack_if}
 use Rattle.rule_rows.specs.Rules.{By}
 use Rattle.rule_rows.specs.Texts.{OfKind, Own as OwnText, Reading, is_any}
-use Rattle.rule_writing.specs.declared.source.Source.{Source as ReadSource}
-use Rattle.rule_writing.specs.CodeRules.{Code, stands}
+use Rattle.rule_rows.specs.declared.source.Source.{Source as ReadSource}
+use Rattle.rule_rows.specs.CodeRules.{Code, stands}
 use Rattle.request_rules.specs.declared.reading.Good.{Good}
 use Rattle.request_rules.specs.declared.rules.Own.{Own as CodeOwn}
 use Rattle.request_rules.specs.declared.rules.Own.TheVariants as rules

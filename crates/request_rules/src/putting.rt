@@ -10,7 +10,7 @@ use crate::reading::Good;
 use crate::rules::up_rules;
 use crate::writing::{Source, first_lack};
 use order_meaning::Lack;
-use rule_writing::put_rules;
+use rule_rows::put_rules;
 
 /// Appends the content of FIX 5.0 SP2 of a request, rule by rule.
 ///

@@ -4,11 +4,11 @@ ghost use Rattle.std.specs.Prelude.{◌≡◌, map};
 ghost use Rattle.rows_fix42.specs.Header.{table};
 ghost use Rattle.dict_fix42.specs.Requests.{cancel_request, new_order, replace_request};
 ghost use Rattle.dict_fix42.specs.Requests.{status_request};
-ghost use Rattle.rule_writing.specs.CodeRules.{AreRead, rule_of};
+ghost use Rattle.rule_rows.specs.CodeRules.{AreRead, rule_of};
 ghost use Rattle.request_rules.specs.CodeRules.{code};
 ghost use Rattle.request_rules.specs.Rules.{up_rules};
 
-use rule_writing::Rule::{By, Decimal, Lines, Same};
+use rule_rows::Rule::{By, Decimal, Lines, Same};
 
 /// How FIX 5.0 SP2 says one line of its table otherwise than FIX 4.2.
 #[derive(Clone, Copy, Debug)]
@@ -32,7 +32,7 @@ pub(crate) enum Own {
 use Own::{Date, Listed, Month, OrdType, Parties, PartyOf, Time};
 
 /// A rule by which a request goes up.
-pub(crate) type Rule = rule_writing::Rule<Own>;
+pub(crate) type Rule = rule_rows::Rule<Own>;
 
 /// The rules, in the order of writing.
 #[rattlefmt::skip]

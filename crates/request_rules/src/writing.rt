@@ -17,12 +17,11 @@ use field_groups::{Fields, put_byte, put_field, put_number};
 use message_tables::Lookup;
 use order_meaning::Lack;
 use row_values::{Part, Value, month_and_day};
-use rule_rows::{code_of, put_count, put_one, put_text};
-use rule_writing::OwnRule;
+use rule_rows::{OwnRule, code_of, put_count, put_one, put_text};
 use std::alloc::AllocError;
 
 /// What the rules read.
-pub(crate) type Source<'f, 'a> = rule_writing::Source<'f, 'a, ()>;
+pub(crate) type Source<'f, 'a> = rule_rows::Source<'f, 'a, ()>;
 
 /// TimeInForce(59): at the close.
 const AT_CLOSE: u8 = b'7';

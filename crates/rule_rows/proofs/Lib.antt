@@ -7,5 +7,7 @@ pub mod Made
 pub mod Own
 pub mod Parts
 pub mod Placed
+pub mod Said
 pub mod Sound
-pub mod Source
+pub mod Steps
+pub mod Written

@@ -20,7 +20,7 @@ use Rattle.rule_rows.proofs.Items.{turned, turned_group}
 use Rattle.rule_rows.proofs.Looked.{AreKinds, AreOwn, IsFound, has_lines_of, lines_by, rule_at}
 use Rattle.rule_rows.proofs.Looked.{said_by, says}
 use Rattle.rule_rows.proofs.Made.{IsMade, groups_made, items_made, made, outline_made}
-use Rattle.rule_rows.proofs.Source as source
+use Rattle.rule_rows.proofs.Said as source
 
 -- a row that may go, where there is one
 pub may_fit : (row : Option (Row Kind)) → may_go row ≡ true → IfSome row (λ row. can_go row ≡ true)

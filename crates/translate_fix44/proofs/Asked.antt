@@ -2,8 +2,8 @@
 use Rattle.std.proofs.Common.{◌≡◌, List, ap, map}
 use Rattle.order_meaning.specs.Request.{RequestKind, New, Cancel, Replace, Status}
 use Rattle.rule_rows.specs.ByRules.{placed}
-use Rattle.rule_writing.specs.declared.rules.Rule.{Rule as CodeRule}
-use Rattle.rule_writing.specs.CodeRules.{AreFor, AreRead, rule_of}
+use Rattle.rule_rows.specs.declared.rules.Rule.{Rule as CodeRule}
+use Rattle.rule_rows.specs.CodeRules.{AreFor, AreRead, rule_of}
 use Rattle.translate_fix44.specs.declared.rules.Own.{Own as CodeOwn}
 use Rattle.translate_fix44.specs.CodeRules.{code}
 use Rattle.translate_fix44.specs.Put.{asked44, items_of}

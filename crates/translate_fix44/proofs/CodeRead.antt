@@ -13,9 +13,9 @@ use Rattle.rule_rows.specs.ByRules.{Outline, has_place, lack_if, outline, rule_f
 use Rattle.rule_rows.specs.Texts.{Facts, Has, Own as OwnText}
 use Rattle.rule_rows.proofs.FieldsSaid.{IsRead}
 use Rattle.rule_rows.proofs.Items.{row_there}
-use Rattle.rule_writing.specs.declared.rules.Rule.TheVariants as carried
-use Rattle.rule_writing.specs.CodeRules.{stands, table_of}
-use Rattle.rule_writing.proofs.Written.{AreSaid, Goes, moved, text}
+use Rattle.rule_rows.specs.declared.rules.Rule.TheVariants as carried
+use Rattle.rule_rows.specs.CodeRules.{stands, table_of}
+use Rattle.rule_rows.proofs.Written.{AreSaid, Goes, moved, text}
 use Rattle.request_rules.specs.Rules.{is_unlisted, party_lines}
 use Rattle.report_rules.specs.CodeRules.{has_row, is_month, month}
 use Rattle.report_rules.specs.Rules.{at}

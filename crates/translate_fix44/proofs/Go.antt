@@ -39,7 +39,7 @@ use Rattle.rule_rows.specs.ByRules.{At, by_rules, content_by, has_place, lack_by
 use Rattle.rule_rows.proofs.Looked as looked
 use Rattle.rule_rows.proofs.Looked.{AreOwn, rule_at, said_by, no_lack}
 use Rattle.rule_rows.proofs.Made.{content_made}
-use Rattle.rule_rows.proofs.Source as source
+use Rattle.rule_rows.proofs.Said as source
 use Rattle.request_rules.specs.Canonical.{IsCanonical, IsRequest}
 use Rattle.request_rules.specs.Canonical as canonical
 use Rattle.request_rules.specs.Rules.{party_lines}

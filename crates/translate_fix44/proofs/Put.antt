@@ -18,10 +18,10 @@ use Rattle.first_faults.proofs.Given.{given}
 use Rattle.dict_fix44.specs.Message.{message44_by, request_message44, request_table_of}
 use Rattle.reports_fix50.specs.Message.{cancel_reject_table, message50, report_table}
 use Rattle.rule_rows.specs.ByRules.{by_rules, content_by, lack_by, lack_if, or_lack}
-use Rattle.rule_writing.specs.declared.rules.Rule.{Rule as CodeRule}
-use Rattle.rule_writing.specs.CodeRules.{AreFor, IsLackOf, lacked, table_of}
-use Rattle.rule_writing.specs.CodeRules.{writes as all_write}
-use Rattle.rule_writing.proofs.Written.{all_lacked, all_written}
+use Rattle.rule_rows.specs.declared.rules.Rule.{Rule as CodeRule}
+use Rattle.rule_rows.specs.CodeRules.{AreFor, IsLackOf, lacked, table_of}
+use Rattle.rule_rows.specs.CodeRules.{writes as all_write}
+use Rattle.rule_rows.proofs.Written.{all_lacked, all_written}
 use Rattle.request_rules.proofs.ByType.{letter_of}
 use Rattle.report_rules.proofs.PutDown.{good_eight, is_eight, nine as is_nine}
 use Rattle.report_rules.proofs.SourceDown.{read_by}

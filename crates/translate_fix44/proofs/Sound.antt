@@ -32,8 +32,8 @@ use Rattle.rule_rows.specs.Rules.{By, Moved, Group}
 use Rattle.rule_rows.proofs.Items.{has_row, item_if, row_there, IsRow, is_plain}
 use Rattle.rule_rows.proofs.Looked.{AreOwn, IsFound, each_rule, rule_at, said_by, no_lack}
 use Rattle.rule_rows.proofs.Looked as looked
-use Rattle.rule_rows.proofs.Source as source
-use Rattle.rule_rows.proofs.Source.{IsSpelled, says_nothing}
+use Rattle.rule_rows.proofs.Said as source
+use Rattle.rule_rows.proofs.Said.{IsSpelled, says_nothing}
 use Rattle.rule_rows.proofs.Sound.{AreGroups, Goes, IsGood, RuleGood, carried_good, lines_are}
 use Rattle.rule_rows.proofs.Sound.{lines_good, own_good, party_good, said_is, sound_made, target}
 use Rattle.rule_rows.proofs.Sound.{turned_good, w, whatever, with_there}

@@ -18,8 +18,8 @@ use Rattle.reports_fix50.specs.Sense.{telling}
 use Rattle.rule_rows.specs.ByRules.{lack_if}
 use Rattle.rule_rows.specs.Rules.{By, Same}
 use Rattle.rule_rows.specs.Texts.{Besides as Asks, OfKinds, Own as OwnText, Reading, is_reason}
-use Rattle.rule_writing.specs.declared.source.Source.{Source as ReadSource}
-use Rattle.rule_writing.specs.CodeRules.{Code, stands}
+use Rattle.rule_rows.specs.declared.source.Source.{Source as ReadSource}
+use Rattle.rule_rows.specs.CodeRules.{Code, stands}
 use Rattle.request_rules.specs.CodeRules.{who_of}
 use Rattle.request_rules.specs.Rules.{is_unlisted, party_lines}
 use Rattle.report_rules.specs.CodeRules.{has_row, is_month, month, numbered, told, told_reading}

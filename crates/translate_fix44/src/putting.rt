@@ -17,7 +17,7 @@ use message_tables::Table;
 use order_meaning::{Lack, Lines, PartyLine};
 use reports_fix50::{cancel_reject, execution_report};
 use row_values::{Kind, read_lines};
-use rule_writing::put_rules;
+use rule_rows::put_rules;
 use std::alloc::Global;
 use translation::msg_type;
 

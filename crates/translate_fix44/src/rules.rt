@@ -4,14 +4,14 @@ ghost use Rattle.std.specs.Prelude.{◌≡◌, None};
 ghost use Rattle.order_meaning.specs.Request.{RequestKind};
 ghost use Rattle.reports_fix50.specs.Message.{cancel_reject_table, report_table};
 ghost use Rattle.rule_rows.specs.Rules.{By as Is};
-ghost use Rattle.rule_writing.specs.CodeRules.{AreFor};
+ghost use Rattle.rule_rows.specs.CodeRules.{AreFor};
 ghost use Rattle.translate_fix44.specs.CodeRules.{code};
 ghost use Rattle.translate_fix44.specs.Put.{asked44};
 ghost use Rattle.translate_fix44.specs.Rules as rules;
 ghost use Rattle.translate_fix44.specs.Rules.{down_rules, up_rules};
 
 use row_values::Kind::{TimeBeside, Value};
-use rule_writing::Rule::{By, Decimal, Kept, Lines, Moment, Same};
+use rule_rows::Rule::{By, Decimal, Kept, Lines, Moment, Same};
 use value_kinds::ValueKind::{Code, Word};
 
 /// How the target says one line of its table otherwise than the source.
@@ -40,7 +40,7 @@ pub(crate) enum Own {
 use Own::{AtClose, HandlInst, Month, Original, Parties, PartyOf, Told, Turned, Within};
 
 /// A rule of either direction.
-pub(crate) type Rule = rule_writing::Rule<Own>;
+pub(crate) type Rule = rule_rows::Rule<Own>;
 
 /// The rules of a request, in the order of writing.
 #[rattlefmt::skip]

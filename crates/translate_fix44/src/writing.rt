@@ -14,8 +14,7 @@ use message_tables::Lookup;
 use order_meaning::{Lack, Lines};
 use report_rules::{party, put_code_if, put_month, put_told, put_within};
 use request_rules::{is_unlisted, put_parties};
-use rule_rows::{code_of, number_of, put_text};
-use rule_writing::OwnRule;
+use rule_rows::{OwnRule, code_of, number_of, put_text};
 use std::alloc::AllocError;
 
 /// What the rules read beside the fields.
@@ -28,7 +27,7 @@ pub(crate) struct Besides {
 }
 
 /// What the rules read.
-pub(crate) type Source<'f, 'a> = rule_writing::Source<'f, 'a, Besides>;
+pub(crate) type Source<'f, 'a> = rule_rows::Source<'f, 'a, Besides>;
 
 /// What a call answers that appends: an error only for want of memory. What stood there stays.
 type Appended = Result<(), AllocError>;

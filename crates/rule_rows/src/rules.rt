@@ -4,8 +4,8 @@ ghost use Rattle.std.specs.Prelude.{◌≡◌, ◌++◌, ℕ, List, IfErr, None,
 ghost use Rattle.std.specs.declared.option.Option.{Option};
 ghost use Rattle.std.specs.Io.{StartsWith};
 ghost use Rattle.field_groups.specs.Field.{Field, body_of};
-ghost use Rattle.rule_writing.specs.CodeRules.{IsLackOf};
-ghost use Rattle.rule_writing.specs.declared.source.Source.{Source as Read};
+ghost use Rattle.rule_rows.specs.CodeRules.{IsLackOf};
+ghost use Rattle.rule_rows.specs.declared.source.Source.{Source as Read};
 
 use crate::source::Source;
 use order_meaning::Lack;

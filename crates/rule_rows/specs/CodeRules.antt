@@ -16,9 +16,9 @@ use Rattle.rule_rows.specs.ByRules.{Kinds, placed}
 use Rattle.rule_rows.specs.Rules.{Rule, Group, Moved, Same, with_own}
 use Rattle.rule_rows.specs.Texts.{AreRead as AreReadBy, OfKind, OfKinds, Own as OwnText, Reading}
 use Rattle.rule_rows.specs.Texts.{decimal_text, is_amount, is_kept, is_moment, kept}
-use Rattle.rule_writing.specs.declared.rules.Rule.{Rule as CodeRule}
-use Rattle.rule_writing.specs.declared.rules.Rule.TheVariants as rules
-use Rattle.rule_writing.specs.declared.source.Source.{Source}
+use Rattle.rule_rows.specs.declared.rules.Rule.{Rule as CodeRule}
+use Rattle.rule_rows.specs.declared.rules.Rule.TheVariants as rules
+use Rattle.rule_rows.specs.declared.source.Source.{Source}
 
 -- ---- what it writes
 

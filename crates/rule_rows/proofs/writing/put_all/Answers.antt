@@ -1,8 +1,8 @@
 use Rattle.std.proofs.Common.{append-nil, refl, sym}
 use Rattle.std.proofs.lemmas.Result.{err_from_is_err_and}
-use Rattle.rule_writing.specs.CodeRules.{lacked, writes}
-use Rattle.rule_writing.proofs.Steps.{lack_ended, lack_found, lack_passed, next_written}
-use Rattle.rule_writing.proofs.writing.put_all.Goals as goal
+use Rattle.rule_rows.specs.CodeRules.{lacked, writes}
+use Rattle.rule_rows.proofs.Steps.{lack_ended, lack_found, lack_passed, next_written}
+use Rattle.rule_rows.proofs.writing.put_all.Goals as goal
 
 pub loop-rule-init : goal.loop-rule-init
 loop-rule-init g c = record { written = sym (append-nil c.args.out.now.items); left = refl }

@@ -18,11 +18,11 @@ use Rattle.rule_rows.proofs.FieldsSaid.{IsRead, decimal_said, each_read, kept_sa
 use Rattle.rule_rows.proofs.FieldsSaid.{row_says, text_said}
 use Rattle.rule_rows.proofs.Looked.{AreKinds}
 use Rattle.rule_rows.proofs.Placed.{placed_content, placed_lack}
-use Rattle.rule_writing.specs.declared.rules.Rule.{Rule as CodeRule}
-use Rattle.rule_writing.specs.declared.rules.Rule.TheVariants as rules
-use Rattle.rule_writing.specs.declared.source.Source.{Source}
-use Rattle.rule_writing.specs.CodeRules.{AreFor, Code, lacked, reading, rule_of, stands, table_of}
-use Rattle.rule_writing.specs.CodeRules.{writes}
+use Rattle.rule_rows.specs.declared.rules.Rule.{Rule as CodeRule}
+use Rattle.rule_rows.specs.declared.rules.Rule.TheVariants as rules
+use Rattle.rule_rows.specs.declared.source.Source.{Source}
+use Rattle.rule_rows.specs.CodeRules.{AreFor, Code, lacked, reading, rule_of, stands, table_of}
+use Rattle.rule_rows.specs.CodeRules.{writes}
 
 -- FIELDS AT NO FAULT ARE A MESSAGE: at each tag but those apart it says what they say by the row of
 -- the tag, and it has the groups that they have, and the places of its table.

@@ -9,7 +9,7 @@ use Rattle.message_tables.specs.Tables.{first_of, or_else}
 use Rattle.order_meaning.specs.declared.fault.Lack.{Lack}
 use Rattle.order_meaning.specs.declared.fault.Lack.TheVariants as faults
 use Rattle.row_values.proofs.Contents.{body-append}
-use Rattle.rule_writing.specs.CodeRules.{IsLackOf}
+use Rattle.rule_rows.specs.CodeRules.{IsLackOf}
 
 module _ {Rule : Type 0} (rules : List Rule) (i : ℕ) (rule : Rule) (is : rule ≡ get_or rules i rule)
     (within : i < length rules) where

@@ -6,13 +6,14 @@ ghost use Rattle.std.specs.List.{flat_map};
 ghost use Rattle.field_groups.specs.Field.{body_of};
 ghost use Rattle.message_tables.specs.Tables.{first_of};
 ghost use Rattle.rule_rows.specs.Rows.{have_written_lines};
-ghost use Rattle.rule_writing.specs.CodeRules.{IsLackOf, lacked, table_of, writes};
+ghost use Rattle.rule_rows.specs.CodeRules.{IsLackOf, lacked, table_of, writes};
 
+use crate::group_lines::{put_lines, put_text};
 use crate::rules::{OwnRule, Rule};
 use crate::source::Source;
+use crate::texts::{kept, put_decimal, put_moment};
 use message_tables::Lookup;
 use order_meaning::Lack;
-use rule_rows::{kept, put_decimal, put_lines, put_moment, put_text};
 
 /// Appends what a rule says, if it says anything, unless it cannot.
 fn put_rule<B, O: OwnRule<B>>(
