@@ -37,9 +37,8 @@ use Rattle.event_decisions.specs.Decide.{Sessions, Words, Given, Heard, Asked, D
 use Rattle.event_decisions.specs.Decide.{session_of, with_session, is_active, head_in}
 use Rattle.event_decisions.specs.Decide.{input_of, stepped, heard_in, out_of, says_of, takes}
 use Rattle.event_decisions.specs.Decide.{took_if, took_of, asks, asked_if, asked_by, asked_of}
-use Rattle.event_decisions.specs.Decide.{numbered, give, concluded, decide, decide_by}
+use Rattle.event_decisions.specs.Decide.{give, concluded, decide, decide_by}
 use Rattle.event_decisions.specs.Event.{Event, Opened, Frame, Closed, Tick, End, side_of}
-use Rattle.event_decisions.specs.Laws.{AreWords}
 use Rattle.event_decisions.proofs.Bodies.{bodies_are_read}
 use Rattle.gateway_core.specs.declared.plan.Plan.{Plan}
 use Rattle.gateway_core.specs.declared.plan.PlanError.{PlanError}
@@ -147,31 +146,6 @@ steps_sayable two counts s input now t is =
     let h : Session = heard input now s in
     let e : Step = effect_of (row_of h input now) (session.number_of input) now h in
     (few, unspent now e t s.numbers.next_out is count)
-
--- ---- what is given out
-
-abbrev or_given : {T E : Type 0} → T → Result T E → T
-or_given other (Ok x) = x
-or_given other (Err e) = other
-
-same_ok : {T E : Type 0} (x y : T) (r : Result T E) → r ≡ Ok y → or_given x r ≡ y
-same_ok x y r is = ap (or_given x) is
-
-pub gives_words : (s : Sessions) (words : Option Words) (now : ℕ) (g : Given)
-    → give now s words ≡ Ok g → AreWords words g.outs
-gives_words s None now g is = subst (λ (x : Given). AreWords None x.outs)
-    (same_ok g g (give now s None) is) refl
-gives_words s (Some words) now g is = by (session.given (session_of words.to s) now) is
-  where
-    by : (r : Result (ℕ × Session) Spent) → numbered s words r ≡ Ok g → AreWords (Some words) g.outs
-    by (Err spent) is = absurd (cc is)
-    by (Ok (number, next)) is =
-        let one : Given = record {
-          outs = out_of words.to number words.resend words.said ∷ [];
-          sessions = with_session words.to next s;
-        } in
-        subst (λ (x : Given). AreWords (Some words) x.outs) (same_ok g g (Ok one) is)
-        (number, refl)
 
 -- ---- no request goes on where a session speaks
 
@@ -393,20 +367,6 @@ read_as body fields fault splits =
     let one = determined body (reading_of body).fields fields (reading_of body).fault fault
     (bodies_are_read body) splits in
     λ i. record { fields = one.0 i; fault = one.1 i }
-
-pub spent_plans : (core : CoreState) (entries : List Entry) (event : Event) (now : ℕ)
-    (spent : Spent)
-    → stepped core.config.names core.config.window (sessions_in core) event now ≡ Err spent
-    → Plans core entries event now (Err (errors.NumbersSpent (side_of event)))
-spent_plans core entries event now spent is =
-    let names : Names = core.config.names in
-    let window : ℕ = core.config.window in
-    let s : Sessions = sessions_in core in
-    let input : session.Input = input_of names window event now in
-    plans_by core entries event now None (Err (errors.NumbersSpent (side_of event)))
-    (subst (λ (asked : Option Asked). Answers entries (is_active core.venue.link) asked None)
-    (sym (ap (asked_by event input) is)) refl)
-    (ap (decide_by names window s event now None) is)
 
 -- where a session does this at a frame of this head, and these words answer it
 abbrev pub FramePlans : CoreState → List Entry → Side → List ℕ → ℕ → Option Words
