@@ -19,7 +19,7 @@ use Rattle.gateway_core.specs.declared.plan.PlanError.{PlanError}
 use Rattle.gateway_core.specs.declared.plan.PlanError.TheVariants as errors
 use Rattle.message_answers.specs.Chains.{chains_of, new_item}
 use Rattle.event_decisions.specs.Days.{new_day}
-use Rattle.event_decisions.specs.Decide.{Sessions, Decision, Decides, with_session}
+use Rattle.event_decisions.specs.Decide.{Sessions, Decision, Decides}
 use Rattle.message_answers.specs.Answer.{Answers}
 use Rattle.event_decisions.specs.Event.{Event, Opened, Frame, Closed, Tick, End}
 use Rattle.gateway_core.specs.declared.event.Event.{Event as GivenEvent}
@@ -72,14 +72,10 @@ pub record Stand (core : CoreState) (journal entries : List Entry) : Type 0 wher
   pub sources : (side : Side) (number : ℕ) →
       source_of side number entries ≡ source_of side number journal
 
--- a decision of nothing but that the session of this side goes on so
-abbrev pub going_on : CoreState → Side → Session → Decision
-going_on core side next = record {
-  entry = None;
-  sessions = with_session side next (sessions_in core);
-  repeat = None;
-  hang_up = None;
-}
+-- a decision of nothing: both sessions stay as they are
+abbrev pub no_change : CoreState → Decision
+no_change core =
+    record { entry = None; sessions = sessions_in core; repeat = None; hang_up = None }
 
 -- an item whose id is not in the chains
 abbrev pub IsNew : List ChainItem → Option ChainItem → Type 0

@@ -15,7 +15,6 @@ ghost use Rattle.session_core.specs.Table.{Message, step, number_of};
 ghost use Rattle.event_decisions.specs.Body.{reading_of, fields_of};
 ghost use Rattle.event_decisions.specs.Event.{IsFramed, Frame, Tick};
 ghost use Rattle.event_decisions.specs.Decide.{session_of, says_of, head_in, Decides};
-ghost use Rattle.event_decisions.specs.Decide.{with_session};
 ghost use Rattle.message_answers.specs.Answer.{Answers};
 ghost use Rattle.message_answers.specs.Chains.{chains_of, new_item};
 ghost use Rattle.message_answers.specs.Seen.{IsFit};
@@ -25,7 +24,7 @@ ghost use Rattle.gateway_core.specs.Planning.{quiet_by, silent, Comes, JoinsWith
 ghost use Rattle.message_answers.specs.Seen.{IsSplit};
 ghost use Rattle.gateway_core.specs.State.{loaded, Stand, IsNew, Plans, PlansEvent, HasItem};
 ghost use Rattle.gateway_core.specs.State.{Grows, plan_of_day, event_of, sessions_in};
-ghost use Rattle.gateway_core.specs.State.{decision_of, going_on};
+ghost use Rattle.gateway_core.specs.State.{decision_of, no_change};
 
 use crate::acting::{hangs_up, is_active, is_asked, repeat_of, took_of};
 use crate::entries::{committed, entry_of, new_day, same_numbers, with_entry};
@@ -157,45 +156,14 @@ impl Core {
         }
     }
 
-    /// The session of a side after a tick at this moment that does nothing else: no message is
-    /// said, nothing is hung up, and no number changes. None where the tick does more. It takes no
-    /// memory, and is a quick [`Core::plan`].
-    pub fn after_tick(&self, side: Side, now: u64) -> Option<Session>
-        ensures decides { IfSome result (λ next. (entries : List Entry) →
+    /// Whether a tick of a side at this moment does nothing: no message is said, nothing is hung
+    /// up, and both sessions stay as they are. It takes no memory, and is a quick [`Core::plan`].
+    pub fn rests(&self, side: Side, now: u64) -> bool
+        ensures { result ≡ true → (entries : List Entry) →
             Decides Answers self.now.config.names self.now.config.window entries
-            (sessions_in self.now) (Tick side) now (Ok (going_on self.now side next))) }
-        ensures same { IfSome result (λ next. let s = session_of side (sessions_in self.now) in
-            (next.side ≡ s.side) × (next.numbers.next_in ≡ s.numbers.next_in)
-            × (next.numbers.next_out ≡ s.numbers.next_out)) }
+            (sessions_in self.now) (Tick side) now (Ok (no_change self.now)) }
     {
-        let session = self.session(side);
-        if rests(session, now) {
-            return Some(*session);
-        }
-        let Ok(step) = session.on_tick(now) else {
-            return None;
-        };
-        let Step { acts, next } = step;
-        let (before, after) = (&session.numbers, &next.numbers);
-        if after.next_in != before.next_in || after.next_out != before.next_out {
-            return None;
-        }
-        match acts.as_slice() {
-            [] => Some(next),
-            _ => None,
-        }
-    }
-
-    /// Sets the session of a side. It takes no memory.
-    pub fn set(&mut self, side: Side, next: Session)
-        ensures sessions { sessions_in self.new ≡ with_session side next (sessions_in self.old) }
-        ensures config { self.new.config ≡ self.old.config }
-        ensures chains { self.new.chains ≡ self.old.chains }
-    {
-        match side {
-            Side::Client => self.client = next,
-            Side::Venue => self.venue = next,
-        }
+        rests(self.session(side), now)
     }
 
     /// The minute of the UTC day at which a session day begins; none where no day ends.
@@ -229,9 +197,10 @@ fn numbers(next_in: u32, next_out: u32) -> Numbers
     Numbers { next_in, next_out }
 }
 
-// Whether a glance tells that a tick does nothing and changes nothing: the session is logged on, it
-// waits for nothing, and less than HeartBtInt(108) went by on both ways.
-fn rests(session: &Session, now: u64) -> bool
+// Whether a glance tells that a tick does nothing and changes nothing: there is no connection, or
+// the session is logged on, it waits for nothing, and less than HeartBtInt(108) went by on both
+// ways.
+fn is_calm(session: &Session, now: u64) -> bool
     ensures { result ≡ true →
         step session.now table.Tick now ≡ Ok (table.does [] session.now) }
 {
@@ -240,7 +209,22 @@ fn rests(session: &Session, now: u64) -> bool
         (LinkState::Active, None, None) => {
             now.saturating_sub(session.seen) < heart && now.saturating_sub(session.said) < heart
         }
+        (LinkState::Down, _, None) => true,
         _ => false,
+    }
+}
+
+// Whether a tick does nothing and changes nothing.
+fn rests(session: &Session, now: u64) -> bool
+    ensures { result ≡ true →
+        step session.now table.Tick now ≡ Ok (table.does [] session.now) }
+{
+    if is_calm(session, now) {
+        return true;
+    }
+    match session.on_tick(now) {
+        Ok(step) => step.acts.as_slice().is_empty() && step.next == *session,
+        Err(_) => false,
     }
 }
 

@@ -1,6 +1,6 @@
 //! Which outs of an event are sent, and which sessions stand behind it.
 
-ghost use Rattle.std.specs.Prelude.{◌≡◌, false};
+ghost use Rattle.std.specs.Prelude.{◌≡◌, false, true};
 ghost use Rattle.std.specs.Option.{ForSome, option_map, option_map_or};
 ghost use Rattle.pair_journal.specs.Numbers.{is_side};
 ghost use Rattle.event_decisions.specs.Event.{side_of};
@@ -51,4 +51,16 @@ pub(crate) fn standing(up: bool, side: Side, core: &Core) -> Session
 {
     let session = core.session(side);
     if up { *session } else { session.on_closed() }
+}
+
+/// Whether the session of a side stands or is down already, as its connection does.
+pub(crate) fn stands(up: bool, side: Side, core: &Core) -> bool
+    ensures { result ≡ true → standing up (session_of side (sessions_in core.now))
+        ≡ session_of side (sessions_in core.now) }
+{
+    let session = core.session(side);
+    up || matches!(
+        (session.link, session.tested, session.ask),
+        (LinkState::Down, None, None)
+    )
 }

@@ -17,7 +17,7 @@ ghost use Rattle.pair_journal.specs.Days.{last_day, past_of};
 ghost use Rattle.event_decisions.specs.Days.{new_day};
 ghost use Rattle.life_laws.specs.Sends.{hang_up_if};
 ghost use Rattle.event_decisions.specs.Event.{IsFramed, Tick};
-ghost use Rattle.event_decisions.specs.Decide.{Decides, with_session};
+ghost use Rattle.event_decisions.specs.Decide.{Decides};
 ghost use Rattle.gateway_core.specs.State.{event_of, sessions_in, loaded};
 ghost use Rattle.life_laws.specs.Happens.{pieces_to, both_standing};
 ghost use Rattle.wire_sends.specs.Sent.{FrontSent, AreSendable, hung_side};
@@ -27,7 +27,7 @@ ghost use Rattle.gateway_life.specs.State.{seen};
 ghost use Rattle.gateway_life.specs.Ready.{IsReady, Ready, world_of, made_of, LeavesOf, IfTold};
 ghost use Rattle.gateway_life.specs.Ready.{Behind};
 ghost use Rattle.gateway_life.specs.Fails.{IsWhyOfDay};
-ghost use Rattle.gateway_life.specs.Stepped.{Stepped, Broken, HasCauseOf, records};
+ghost use Rattle.gateway_life.specs.Stepped.{Stepped, Broken, HasCauseOf, Records, records};
 ghost use Rattle.gateway_life.specs.Committed.{OldOrNew, IsFull};
 ghost use Rattle.gateway_life.specs.Decided.{Decided, MayHold, IsWhyNot};
 ghost use Rattle.gateway_life.specs.Life.{IfRefused, begun};
@@ -38,7 +38,7 @@ ghost use Rattle.gateway_life.specs.Causes.{IsCauseIn};
 ghost use Rattle.gateway_life.specs.Stepped.{EndsEvent, IsNotDone};
 
 use crate::LifeEnd;
-use crate::acts::{is_sent, standing};
+use crate::acts::{is_sent, standing, stands};
 use drop_taps::{Tap, show};
 use event_decisions::laws::decisions_continue;
 use gateway_core::{Config, Core, Event, is_due};
@@ -47,7 +47,6 @@ use order_meaning::{Names, Side};
 use outside::Disk;
 use pair_entries::{Entry, MAX_AT, Prepared};
 use pair_journal::{Journal, JournalError, OutBuf};
-use session_core::Session;
 use session_core::laws::{each_message_takes_a_number, two_numbers_are_enough};
 use session_frames::FrameBuf;
 use std::alloc::Global;
@@ -545,23 +544,17 @@ impl Engine {
         self.new_day(disk, client, venue, taps, now)
     }
 
-    // The session of a side goes on so, and those without a connection are down.
-    fn pass(&mut self, side: Side, next: Session)
-        ensures journal { self.new.journal ≡ self.old.journal }
-        ensures up { (self.new.client_up ≡ self.old.client_up)
-            × (self.new.venue_up ≡ self.old.venue_up) }
-        ensures config { self.new.core.config ≡ self.old.core.config }
-        ensures chains { self.new.core.chains ≡ self.old.core.chains }
-        ensures sessions { sessions_in self.new.core ≡ both_standing self.old.client_up
-            self.old.venue_up (with_session side next (sessions_in self.old.core)) }
+    /// Whether a tick of a side does nothing, as far as is seen without a plan.
+    pub(crate) fn rests(&self, side: Side, now: u64) -> bool
+        ensures { result ≡ true → (told : Records) → Stepped self.now.core.config
+            (world_of (seen self.now)) (Tick side) now (world_of (seen self.now)) told told }
     {
-        self.core.set(side, next);
-        let client = standing(self.client_up, Side::Client, &self.core);
-        let venue = standing(self.venue_up, Side::Venue, &self.core);
-        self.core.apply(client, venue, None);
+        self.core.rests(side, now)
+            && stands(self.client_up, Side::Client, &self.core)
+            && stands(self.venue_up, Side::Venue, &self.core)
     }
 
-    /// A tick of a side: as the event, with a quick way for one at which nothing is to be done.
+    /// A tick of a side: the event, where it does anything.
     pub(crate) fn tick<D: Disk, C: Wire, V: Wire>(
         &mut self,
         disk: &mut D,
@@ -607,12 +600,9 @@ impl Engine {
         ensures client_plays { Keeps (C.plays client.old) (C.plays client.new) }
         ensures venue_plays { Keeps (V.plays venue.old) (V.plays venue.new) }
     {
-        match self.core.after_tick(side, now) {
-            Some(next) => {
-                self.pass(side, next);
-                Ok(())
-            }
-            None => self.event(disk, client, venue, taps, &Event::Tick(side), now),
+        if self.rests(side, now) {
+            return Ok(());
         }
+        self.event(disk, client, venue, taps, &Event::Tick(side), now)
     }
 }

@@ -12,7 +12,7 @@ ghost use Rattle.frame_grammar.specs.declared.framer.TheConstants.{LEAST_ROOM};
 ghost use Rattle.event_decisions.specs.Event.{Frame};
 ghost use Rattle.wires.specs.Told.{Keeps};
 ghost use Rattle.wires.specs.declared.wire.TheConstants.{POLL_LEN};
-ghost use Rattle.wires.specs.Wire.{Poll, Fits, came_of, may_come};
+ghost use Rattle.wires.specs.Wire.{Poll, Nothing, Fits, came_of, may_come};
 ghost use Rattle.life_laws.specs.Happens.{up_on};
 ghost use Rattle.life_laws.specs.Turn.{on_side, with_up, up_after};
 ghost use Rattle.wire_sends.specs.Sent.{Agrees};
@@ -257,6 +257,13 @@ fn up_after(up: bool, found: Result<Arrival, Failed>) -> bool
     }
 }
 
+// Whether a poll found nothing.
+fn is_nothing(found: Result<Arrival, Failed>) -> bool
+    ensures { result ≡ true → (buf : List ℕ) → came_of found buf ≡ Nothing }
+{
+    matches!(found, Ok(Arrival::Nothing))
+}
+
 // Looks for what is new from a side.
 fn poll<C: Wire, V: Wire>(
     engine: &mut Engine,
@@ -354,6 +361,9 @@ pub(crate) fn turn<D: Disk, C: Wire, V: Wire>(
     ensures venue_plays { Keeps (V.plays venue.old) (V.plays venue.new) }
 {
     let found = poll(engine, client, venue, side, &mut *buf);
+    if is_nothing(found) && engine.rests(side, now) {
+        return Ok(());
+    }
     arrived(
         engine, disk, client, venue, taps, framer, side, found, buf, now,
     )?;

@@ -2,7 +2,7 @@ use Rattle.std.proofs.Common.{◌∙◌, ap, refl, subst}
 use Rattle.event_decisions.specs.Event.{Tick}
 use Rattle.gateway_config.specs.declared.config.Config.{Config}
 use Rattle.gateway_core.specs.State.{CoreState}
-use Rattle.wires.specs.Wire.{came_of}
+use Rattle.wires.specs.Wire.{came_of, Nothing}
 use Rattle.pair_journal.specs.Days.{past_of}
 use Rattle.gateway_life.specs.State.{seen}
 use Rattle.gateway_life.specs.Ready.{world_of, IfTold, Behind}
@@ -13,7 +13,9 @@ use Rattle.gateway_life.proofs.Polling.{err_behind, last_behind, ok_map, turned}
 use Rattle.gateway_life.proofs.Polling.{turn_part, durable_on}
 use Rattle.pair_journal.specs.State.{JournalState}
 use Rattle.gateway_life.proofs.Polling.{turn_tick}
-use Rattle.gateway_life.proofs.Watching.{watched_from, watched_append, kept_err, kept_last}
+use Rattle.gateway_life.proofs.Turning.{arrived_as, arrived_nothing}
+use Rattle.gateway_life.proofs.Watching.{watched_from, watched_append, watched_none}
+use Rattle.gateway_life.proofs.Watching.{kept_err, kept_last}
 use Rattle.gateway_life.proofs.turn.turn.Goals as goal
 
 pub returns-in_err-arrived-clause-ends : goal.returns-in_err-arrived-clause-ends
@@ -164,3 +166,28 @@ returns-clause-kept g c =
 pub returns-clause-durable : goal.returns-clause-durable
 returns-clause-durable g c =
     durable_on c.tick.result _ _ _ c.in_ok-arrived.ensures.durable c.tick.ensures.durable
+
+-- ---- nothing came, and the side rests
+
+pub returns-then-rests-clause-turn : goal.returns-then-rests-clause-turn
+returns-then-rests-clause-turn g c = λ t.
+    let config = c.args.engine.now.core.config in
+    let poll = c.poll-found in
+    let polled = world_of (seen poll.new.engine) in
+    let came = came_of poll.result poll.new.buf in
+    let side = c.args.side in
+    let held = c.args.framer.now in
+    let r0 = records (g.C.Wire.recorded c.args.client.now) (g.V.Wire.recorded c.args.venue.now) in
+    let r1 = records (g.C.Wire.recorded poll.new.client) (g.V.Wire.recorded poll.new.venue) in
+    turned config side came (world_of (seen c.args.engine.now)) polled c.args.now r0 r1
+    poll.ensures.may poll.ensures.grew poll.ensures.world held held polled polled r1 r1
+    (arrived_as came Nothing held held config polled polled side c.args.now r1 r1
+    (c.is_nothing.ensures c.if-is_nothing.true poll.new.buf)
+    (arrived_nothing config held polled side c.args.now r1))
+    (subst (λ (k : Config). Stepped k polled (Tick side) c.args.now polled r1 r1)
+    (ap (λ (k : CoreState). k.config) poll.ensures.same.1) (c.rests.ensures c.if-rests.true r1))
+
+pub returns-then-rests-clause-taps : goal.returns-then-rests-clause-taps
+returns-then-rests-clause-taps g c =
+    watched_none _ c.args.taps.now.items c.args.engine.now.journal.entries _
+    (ap (λ (j : JournalState). j.entries) c.poll-found.ensures.same.0)
