@@ -4,7 +4,7 @@ ghost use Rattle.std.specs.Prelude.{◌≡◌};
 ghost use Rattle.edge_logic.specs.EndTime.{long_end};
 
 /// How many rounds at least go by in a second behind a stop file, as was measured.
-pub const ROUNDS_A_SECOND: u64 = 2_000_000;
+pub const ROUNDS_A_SECOND: u64 = 5_000_000;
 
 /// The seconds past which an end is told of at the start.
 pub const LONG_END: u64 = 5;

@@ -47,7 +47,7 @@ Usage: fixgate [OPTIONS] COMMAND
   serve ROUNDS    reads a configuration from standard input and serves both
                   sessions for so many rounds, 1 to 1,000,000,000: an hour in
                   which nothing comes has 72,000, and behind a stop file
-                  2,000,000 or more go by in a second
+                  5,000,000 or more go by in a second
   show            prints a line for each entry of the journal
   migrate         writes the journal of format 1, as fixgate 0.12 kept it, to
                   standard output as one of format 2; the file is only read
