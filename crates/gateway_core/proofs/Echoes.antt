@@ -1,6 +1,6 @@
 -- A Heartbeat with a TestReqID(112) answers a TestRequest alone, whose TestReqID is no longer than
 -- a text may be.
-use Rattle.std.proofs.Common.{◌≡◌, ℕ, ◌+◌, ◌≤◌, ◌==◌, Bool, true, false, List, [], ◌∷◌, ◌++◌}
+use Rattle.std.proofs.Common.{◌≡◌, ℕ, ◌≤◌, ◌==◌, Bool, true, false, List, [], ◌∷◌, ◌++◌}
 use Rattle.std.proofs.Common.{length, Option, Some, None, refl, sym, ap, subst, ◌∙◌, arith, codes}
 use Rattle.std.proofs.Common.{unwrap_or, if◌then◌else◌, Ok, Err, nat_lt, nat_le}
 use Rattle.std.specs.Prelude.{Result}

@@ -28,7 +28,6 @@ use Rattle.message_answers.specs.Answer.{Answers}
 use Rattle.message_answers.specs.Seen.{IsSplit}
 use Rattle.gateway_core.specs.declared.plan.Plan.{Plan}
 use Rattle.gateway_core.specs.declared.plan.PlanError.{PlanError}
-use Rattle.gateway_core.specs.declared.plan.PlanError.TheVariants as errors
 use Rattle.gateway_core.specs.Planning.{is_asked, words_by, IsAnswered, JoinsWith, Comes, resolved}
 use Rattle.gateway_core.specs.Planning.{IsSayable, StepsAreSayable}
 use Rattle.gateway_core.specs.State.{CoreState, Stand, Plans, sessions_in}
