@@ -43,15 +43,3 @@ impl HungUp {
         self.link.drain()
     }
 }
-
-/// Goes on with a connection that was ended, where one is left, and answers whether it is over.
-pub fn is_gone(hung_up: &mut Option<HungUp>, now: u64) -> bool {
-    let over = match hung_up {
-        Some(hung_up) => hung_up.go_on(now),
-        None => true,
-    };
-    if over {
-        *hung_up = None;
-    }
-    over
-}

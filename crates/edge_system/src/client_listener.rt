@@ -6,13 +6,11 @@ ghost use Rattle.std.specs.Prelude.{None, true};
 ghost use Rattle.wires.specs.Wire.{Fits, may_come, came_of};
 ghost use Rattle.edge_logic.specs.Order.{InOrder};
 
-use crate::teller::Teller;
-use edge_links::{HungUp, Link, System, Visitor, is_gone};
+use edge_links::{Contact, Link, Parting, System, Teller, Visitor};
 use edge_logic::{
-    ClosedNth, Ending, Fault, NextTry, Notice, Pace, Peer, PeerName, RefusedNth, Shared, moment,
-    ticks,
+    ClosedNth, Fault, NextTry, Notice, Pace, Peer, PeerName, RefusedNth, Shared, ticks,
 };
-use edge_waits::{Held, Lobby, PutOff, Standing, Stranger, Talk, put_closing};
+use edge_waits::{Held, Lobby, Standing, Stranger, put_closing};
 use frame_grammar::Framer;
 use mio::net::{TcpListener, TcpStream};
 use mio::{Interest, Registry, Token};
@@ -31,7 +29,7 @@ pub struct ClientListener<'a, R: System, W: Write + Drop> {
     address: SocketAddr,
     registry: Registry,
     shared: &'a Shared,
-    teller: Teller<W>,
+    contact: Contact<'a, R, W>,
     listener: Option<TcpListener>,
     /// When the port is tried again.
     tries: Pace,
@@ -44,12 +42,8 @@ pub struct ClientListener<'a, R: System, W: Write + Drop> {
     strangers: u64,
     /// When a line says again that a connection was closed that was no client's.
     stranger_lines: Pace,
-    /// How long no client may come, since its numbers were of another day.
-    put_off: PutOff,
-    hung_up: Option<HungUp>,
     /// What the client said before it had the place.
     held: Held,
-    talk: Talk,
     link: Option<Link>,
 }
 
@@ -71,7 +65,7 @@ impl<'a, R: System, W: Write + Drop> ClientListener<'a, R, W> {
             address,
             registry,
             shared,
-            teller,
+            contact: Contact::new(rt, PeerName::Client, teller),
             listener: None,
             tries: Pace::new(),
             refused: 0,
@@ -80,101 +74,24 @@ impl<'a, R: System, W: Write + Drop> ClientListener<'a, R, W> {
             framer,
             strangers: 0,
             stranger_lines: Pace::new(),
-            put_off: PutOff::new(),
-            hung_up: None,
             held: Held::none(rt.alloc()),
-            talk: Talk::new(rt.alloc()),
             link: None,
         }
-    }
-
-    fn tell(&mut self, notice: Notice<'_>)
-        ensures { self.new.link ≡ self.old.link }
-    {
-        self.teller.tell(self.rt, notice);
-    }
-
-    // Why the client is put off, where it is: its numbers, or ours, were too low.
-    fn numbers_low(&self) -> Option<Notice<'static>> {
-        if let Some(low) = self.talk.too_low() {
-            return Some(Notice::NumbersLow(PeerName::Client, low));
-        }
-        let low = self.talk.own_too_low()?;
-        Some(Notice::OwnNumbersLow(PeerName::Client, low))
-    }
-
-    // Puts the client off where it has to be, and answers why.
-    fn put_off(&mut self, now: u64) -> Notice<'static>
-        ensures { self.new.link ≡ self.old.link }
-    {
-        let low = self.numbers_low();
-        if low.is_some() {
-            self.put_off.begin(now);
-        }
-        if let Some(since) = self.talk.late_since(false) {
-            self.put_off.hold(since);
-        }
-        low.unwrap_or(Notice::Late(PeerName::Client))
     }
 
     // The connection has ended so. Where numbers were of another day the port is closed for a
     // while: of a client that has not begun the day each try takes numbers of the gateway, up to
     // its own.
-    fn end(&mut self, ending: Ending<'_>)
+    fn end(&mut self, parting: Parting<'_>)
         ensures { self.new.link ≡ self.old.link }
     {
         let now = ticks(self.rt);
-        let why = self.put_off(now);
-        let left = self.put_off.left(now);
-        if left == 0 {
-            self.tell(Notice::Ended(PeerName::Client, ending, NextTry::Never));
-            return;
-        }
-        let next = NextTry::OpensAfter(left.div_ceil(1_000));
-        self.tell(why);
-        self.tell(Notice::Ended(PeerName::Client, ending, next));
-    }
-
-    // Says that the connection failed.
-    fn tell_fault(&mut self, fault: &Fault)
-        ensures { self.new.link ≡ self.old.link }
-    {
-        match format!(in self.rt.alloc(); "{fault}") {
-            Ok(reason) => self.end(Ending::ByFailure(reason.as_str())),
-            Err(_) => self.end(Ending::ByFailure("out of memory")),
-        }
-    }
-
-    // Why a connection ended before a session stood.
-    fn why(&self) -> Vec<u8> {
-        let mut why = Vec::new(self.rt.alloc());
-        let now = moment(self.rt).unwrap_or(0);
-        let _ = self.talk.put_why(&mut why, now); // as far as there is memory
-        why
-    }
-
-    // Says that the peer closed the connection.
-    fn tell_closed(&mut self)
-        ensures { self.new.link ≡ self.old.link }
-    {
-        if self.talk.is_active() {
-            self.end(Ending::ByPeer);
-            return;
-        }
-        let why = self.why();
-        self.end(Ending::ByPeerBehind(str::from_utf8(&why).unwrap_or("")));
-    }
-
-    // Says that the gateway has ended the connection.
-    fn tell_hung_up(&mut self)
-        ensures { self.new.link ≡ self.old.link }
-    {
-        if self.talk.is_active() {
-            self.end(Ending::ByUs);
-            return;
-        }
-        let why = self.why();
-        self.end(Ending::ByUsBehind(str::from_utf8(&why).unwrap_or("")));
+        self.contact.put_off(now, false);
+        let next = match self.contact.left(now) {
+            0 => NextTry::Never,
+            left => NextTry::OpensAfter(left.div_ceil(1_000)),
+        };
+        self.contact.tell_end(parting, next);
     }
 
     fn bind(&self) -> io::Result<TcpListener> {
@@ -190,8 +107,12 @@ impl<'a, R: System, W: Write + Drop> ClientListener<'a, R, W> {
     {
         self.listener = None;
         match format!(in self.rt.alloc(); "{error}") {
-            Ok(reason) => self.tell(Notice::NotListening(self.address, reason.as_str())),
-            Err(_) => self.tell(Notice::NotListening(self.address, "out of memory")),
+            Ok(reason) => self
+                .contact
+                .tell(Notice::NotListening(self.address, reason.as_str())),
+            Err(_) => self
+                .contact
+                .tell(Notice::NotListening(self.address, "out of memory")),
         }
         Fault::System(error)
     }
@@ -206,7 +127,7 @@ impl<'a, R: System, W: Write + Drop> ClientListener<'a, R, W> {
         match self.bind() {
             Ok(listener) => {
                 self.listener = Some(listener);
-                self.tell(Notice::Listening(self.address));
+                self.contact.tell(Notice::Listening(self.address));
                 Ok(())
             }
             Err(error) => Err(self.leave(error)),
@@ -235,7 +156,8 @@ impl<'a, R: System, W: Write + Drop> ClientListener<'a, R, W> {
     {
         self.refused = self.refused.saturating_add(1);
         if self.lines.take(ticks(self.rt)) {
-            self.tell(Notice::Refused(from, RefusedNth(self.refused)));
+            self.contact
+                .tell(Notice::Refused(from, RefusedNth(self.refused)));
         }
     }
 
@@ -268,7 +190,8 @@ impl<'a, R: System, W: Write + Drop> ClientListener<'a, R, W> {
         let _ = put_closing(&mut text, why, &visitor.heard); // as far as there is memory
         let why = str::from_utf8(&text).unwrap_or("");
         let nth = self.strangers;
-        self.tell(Notice::Closed(visitor.from, ClosedNth { why, nth }));
+        self.contact
+            .tell(Notice::Closed(visitor.from, ClosedNth { why, nth }));
     }
 
     // Lets a connection wait; the one that has waited longest goes where there are too many.
@@ -351,9 +274,8 @@ impl<'a, R: System, W: Write + Drop> ClientListener<'a, R, W> {
                 self.refuse(other.from);
             }
         }
-        self.tell(Notice::Connected(PeerName::Client, visitor.from));
+        self.contact.connect(visitor.from);
         self.shared.note_activity();
-        self.talk = Talk::new(self.rt.alloc());
         self.held = Held::new(visitor.heard);
         self.link = Some(visitor.link);
     }
@@ -371,7 +293,7 @@ impl<'a, R: System, W: Write + Drop> ClientListener<'a, R, W> {
     fn next(&mut self) -> Result<Option<Visitor>, Fault>
         ensures { self.new.link ≡ self.old.link }
     {
-        if !self.put_off.is_over(ticks(self.rt)) {
+        if self.contact.left(ticks(self.rt)) > 0 {
             self.shut();
             return Ok(None);
         }
@@ -418,22 +340,12 @@ impl<'a, R: System, W: Write + Drop> ClientListener<'a, R, W> {
     {
         let count = self.held.hand_on(buf);
         self.shared.note_activity();
-        let _ = self.talk.hear(&buf[..count]); // what there is no memory for is not told
+        self.contact.hear(&buf[..count]);
         self.link = Some(link);
         if count == 0 {
             return Ok(Arrival::Nothing);
         }
         Ok(Arrival::Bytes(count))
-    }
-
-    // The connection stands behind its Logon.
-    fn stand(&mut self)
-        ensures { self.new.link ≡ self.old.link }
-    {
-        if !self.talk.is_active() {
-            self.talk.stand();
-            self.put_off.forget();
-        }
     }
 
     // What came on the connection, which is kept but at its end.
@@ -446,14 +358,14 @@ impl<'a, R: System, W: Write + Drop> ClientListener<'a, R, W> {
         if !self.held.is_empty() {
             return self.hand_on(link, buf);
         }
-        self.stand();
+        self.contact.stand();
         match link.receive(buf, ticks(self.rt)) {
             Ok(Arrival::Closed) => {
-                self.tell_closed();
+                self.end(Parting::ByPeer);
                 Ok(Arrival::Closed)
             }
             Ok(Arrival::Bytes(count)) => {
-                self.talk.note(&buf[..count]);
+                self.contact.note(&buf[..count]);
                 self.shared.note_activity();
                 self.link = Some(link);
                 Ok(Arrival::Bytes(count))
@@ -463,7 +375,7 @@ impl<'a, R: System, W: Write + Drop> ClientListener<'a, R, W> {
                 Ok(Arrival::Nothing)
             }
             Err(fault) => {
-                self.tell_fault(&fault);
+                self.end(Parting::Failed(&fault));
                 Err(fault)
             }
         }
@@ -493,14 +405,14 @@ impl<'a, R: System, W: Write + Drop> Peer for ClientListener<'a, R, W> {
             return Err(Fault::NotConnected);
         };
         let now = ticks(self.rt);
-        let _ = self.talk.say(piece, now); // what there is no memory for is not told
+        self.contact.say(piece, now);
         match link.send(piece, now) {
             Ok(()) => {
                 self.hold(link);
                 Ok(())
             }
             Err(fault) => {
-                self.tell_fault(&fault);
+                self.end(Parting::Failed(&fault));
                 Err(fault)
             }
         }
@@ -508,13 +420,12 @@ impl<'a, R: System, W: Write + Drop> Peer for ClientListener<'a, R, W> {
 
     fn hang_up(&mut self) {
         if let Some(link) = mem::replace(&mut self.link, None) {
-            self.hung_up = Some(HungUp::new(link, ticks(self.rt)));
-            self.is_gone();
-            self.tell_hung_up();
+            self.contact.hang_up(link);
+            self.end(Parting::ByUs);
         }
     }
 
     fn is_gone(&mut self) -> bool {
-        is_gone(&mut self.hung_up, ticks(self.rt))
+        self.contact.is_gone()
     }
 }

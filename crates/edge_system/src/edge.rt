@@ -2,10 +2,9 @@
 
 use crate::client_listener::ClientListener;
 use crate::stop_file::StopFile;
-use crate::teller::Teller;
 use crate::venue_connector::VenueConnector;
 use crate::waiting_clock::WaitingClock;
-use edge_links::System;
+use edge_links::{System, Teller};
 use edge_logic::{Counted, Shared, ticks};
 use frame_grammar::{Framer, Kind};
 use mio::{Events, Poll, Registry};

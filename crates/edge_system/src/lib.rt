@@ -15,16 +15,14 @@ mod edge;
 mod journal_file;
 mod stop_file;
 mod streams;
-mod teller;
 mod venue_connector;
 mod waiting_clock;
 
 pub use client_listener::ClientListener;
 pub use edge::{Addresses, ClientWire, Edge, VenueWire};
-pub use edge_links::System;
+pub use edge_links::{System, Teller};
 pub use journal_file::JournalFile;
 pub use stop_file::StopFile;
 pub use streams::{Reading, Writing};
-pub use teller::Teller;
 pub use venue_connector::VenueConnector;
 pub use waiting_clock::WaitingClock;

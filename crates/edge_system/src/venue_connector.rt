@@ -5,13 +5,10 @@ ghost use Rattle.wires.specs.Wire.{Fits};
 ghost use Rattle.edge_logic.specs.Order.{InOrder};
 ghost use Rattle.edge_system.specs.Stage.{is_on};
 
-use crate::teller::Teller;
-use edge_links::{HungUp, Link, System, is_gone};
+use edge_links::{Contact, Link, Parting, System, Teller};
 use edge_logic::{
-    BackOff, Ending, Fault, LogonMark, Missed, NextTry, Notice, Peer, PeerName, Shared, moment,
-    ticks,
+    BackOff, Fault, LogonMark, Missed, NextTry, Notice, Peer, PeerName, Shared, ticks,
 };
-use edge_waits::{PutOff, Talk};
 use mio::net::TcpStream;
 use mio::{Interest, Registry, Token};
 use std::io::Write;
@@ -40,15 +37,11 @@ pub struct VenueConnector<'a, R: System, W: Write + Drop> {
     address: SocketAddr,
     registry: Registry,
     shared: &'a Shared,
-    teller: Teller<W>,
+    contact: Contact<'a, R, W>,
     back_off: BackOff,
-    /// How long the venue is not tried, since its numbers were of another day.
-    put_off: PutOff,
-    mark: LogonMark,
     /// A session stands once a Logon has come and the connection stood at the next poll: a Logon
     /// that is refused is answered by a hang up before that.
-    talk: Talk,
-    hung_up: Option<HungUp>,
+    mark: LogonMark,
     stage: Stage,
 }
 
@@ -86,12 +79,9 @@ impl<'a, R: System, W: Write + Drop> VenueConnector<'a, R, W> {
             address,
             registry,
             shared,
-            teller,
+            contact: Contact::new(rt, PeerName::Venue, teller),
             back_off: BackOff::new(),
-            put_off: PutOff::new(),
             mark: LogonMark::new(),
-            talk: Talk::new(rt.alloc()),
-            hung_up: None,
             stage: Stage::Off,
         }
     }
@@ -99,98 +89,28 @@ impl<'a, R: System, W: Write + Drop> VenueConnector<'a, R, W> {
     // When the next try comes, in whole seconds.
     fn next_try(&self) -> NextTry {
         let now = ticks(self.rt);
-        match self.back_off.left(now).max(self.put_off.left(now)) {
+        match self.back_off.left(now).max(self.contact.left(now)) {
             0 => NextTry::AtOnce,
             left => NextTry::After(left.div_ceil(1_000)),
         }
     }
 
-    fn tell(&mut self, notice: Notice<'_>)
-        ensures { self.new.stage ≡ self.old.stage }
-    {
-        self.teller.tell(self.rt, notice);
-    }
-
-    // Puts the venue off where it may be in the day before.
-    fn put_off_late(&mut self, now: u64, was_closed: bool)
-        ensures { self.new.stage ≡ self.old.stage }
-    {
-        let Some(since) = self.talk.late_since(was_closed) else {
-            return;
-        };
-        self.put_off.hold(since);
-        if !self.put_off.is_over(now) {
-            self.tell(Notice::Late(PeerName::Venue));
-        }
-    }
-
     // The connection has ended so, in order by the venue or not.
-    fn end(&mut self, ending: Ending<'_>, was_closed: bool)
+    fn end(&mut self, parting: Parting<'_>, was_closed: bool)
         ensures { self.new.stage ≡ self.old.stage }
     {
         let now = ticks(self.rt);
-        self.back_off.end(now, self.talk.link_end(was_closed));
-        if let Some(low) = self.talk.too_low() {
-            self.put_off.begin(now);
-            self.tell(Notice::NumbersLow(PeerName::Venue, low));
-        }
-        self.put_off_late(now, was_closed);
+        self.back_off.end(now, self.contact.link_end(was_closed));
+        self.contact.put_off(now, was_closed);
         let next = self.next_try();
-        self.tell(Notice::Ended(PeerName::Venue, ending, next));
-    }
-
-    // Why a connection ended before a session stood.
-    fn why(&self) -> Vec<u8> {
-        let mut why = Vec::new(self.rt.alloc());
-        let now = moment(self.rt).unwrap_or(0);
-        let _ = self.talk.put_why(&mut why, now); // as far as there is memory
-        why
-    }
-
-    // The venue has closed the connection, in order or not.
-    fn end_closed(&mut self, was_closed: bool)
-        ensures { self.new.stage ≡ self.old.stage }
-    {
-        if self.talk.is_active() {
-            self.end(Ending::ByPeer, was_closed);
-            return;
-        }
-        let why = self.why();
-        self.end(
-            Ending::ByPeerBehind(str::from_utf8(&why).unwrap_or("")),
-            was_closed,
-        );
-    }
-
-    // The gateway has ended the connection.
-    fn end_hung_up(&mut self)
-        ensures { self.new.stage ≡ self.old.stage }
-    {
-        if self.talk.is_active() {
-            self.end(Ending::ByUs, false);
-            return;
-        }
-        let why = self.why();
-        self.end(
-            Ending::ByUsBehind(str::from_utf8(&why).unwrap_or("")),
-            false,
-        );
-    }
-
-    // The connection has failed.
-    fn fail(&mut self, fault: &Fault)
-        ensures { self.new.stage ≡ self.old.stage }
-    {
-        match format!(in self.rt.alloc(); "{fault}") {
-            Ok(reason) => self.end(Ending::ByFailure(reason.as_str()), false),
-            Err(_) => self.end(Ending::ByFailure("out of memory"), false),
-        }
+        self.contact.tell_end(parting, next);
     }
 
     fn tell_missed(&mut self, reason: &str, next: NextTry)
         ensures { self.new.stage ≡ self.old.stage }
     {
-        self.tell(Notice::NotReached(self.address, Missed { reason, next }));
+        self.contact
+            .tell(Notice::NotReached(self.address, Missed { reason, next }));
     }
 
     // A try has failed.
@@ -223,7 +143,7 @@ impl<'a, R: System, W: Write + Drop> VenueConnector<'a, R, W> {
         ensures order { InOrder false (is_on self.new.stage) result buf.now }
     {
         let now = ticks(self.rt);
-        if !self.back_off.is_due(now) || !self.put_off.is_over(now) {
+        if !self.back_off.is_due(now) || self.contact.left(now) > 0 {
             return Ok(Arrival::Nothing);
         }
         self.back_off.begin(now);
@@ -250,9 +170,8 @@ impl<'a, R: System, W: Write + Drop> VenueConnector<'a, R, W> {
             Ok(link) => {
                 self.stage = Stage::On(link);
                 self.mark = LogonMark::new();
-                self.talk = Talk::new(self.rt.alloc());
                 self.shared.note_activity();
-                self.tell(Notice::Connected(PeerName::Venue, self.address));
+                self.contact.connect(self.address);
                 Ok(Arrival::Opened)
             }
             Err(fault) => {
@@ -295,9 +214,8 @@ impl<'a, R: System, W: Write + Drop> VenueConnector<'a, R, W> {
     fn stand(&mut self)
         ensures { self.new.stage ≡ self.old.stage }
     {
-        if self.mark.has_come() && !self.talk.is_active() {
-            self.talk.stand();
-            self.put_off.forget();
+        if self.mark.has_come() {
+            self.contact.stand();
         }
     }
 
@@ -307,7 +225,7 @@ impl<'a, R: System, W: Write + Drop> VenueConnector<'a, R, W> {
     {
         self.shared.note_activity();
         self.mark.note(bytes);
-        let _ = self.talk.hear(bytes); // what there is no memory for is not told
+        self.contact.hear(bytes);
     }
 
     // What came on the connection, which is kept but at its end.
@@ -320,7 +238,7 @@ impl<'a, R: System, W: Write + Drop> VenueConnector<'a, R, W> {
         self.stand();
         match link.receive(buf, ticks(self.rt)) {
             Ok(Arrival::Closed) => {
-                self.end_closed(!link.was_reset());
+                self.end(Parting::ByPeer, !link.was_reset());
                 Ok(Arrival::Closed)
             }
             Ok(Arrival::Bytes(count)) => {
@@ -333,7 +251,7 @@ impl<'a, R: System, W: Write + Drop> VenueConnector<'a, R, W> {
                 Ok(Arrival::Nothing)
             }
             Err(fault) => {
-                self.fail(&fault);
+                self.end(Parting::Failed(&fault), false);
                 Err(fault)
             }
         }
@@ -358,7 +276,7 @@ impl<'a, R: System, W: Write + Drop> Peer for VenueConnector<'a, R, W> {
 
     fn say(&mut self, piece: &[u8]) -> Result<(), Fault> {
         let now = ticks(self.rt);
-        let _ = self.talk.say(piece, now); // what there is no memory for is not told
+        self.contact.say(piece, now);
         match mem::replace(&mut self.stage, Stage::Off) {
             Stage::On(mut link) => match link.send(piece, now) {
                 Ok(()) => {
@@ -366,7 +284,7 @@ impl<'a, R: System, W: Write + Drop> Peer for VenueConnector<'a, R, W> {
                     Ok(())
                 }
                 Err(fault) => {
-                    self.fail(&fault);
+                    self.end(Parting::Failed(&fault), false);
                     Err(fault)
                 }
             },
@@ -380,15 +298,14 @@ impl<'a, R: System, W: Write + Drop> Peer for VenueConnector<'a, R, W> {
     fn hang_up(&mut self) {
         match mem::replace(&mut self.stage, Stage::Off) {
             Stage::On(link) => {
-                self.hung_up = Some(HungUp::new(link, ticks(self.rt)));
-                self.is_gone();
-                self.end_hung_up();
+                self.contact.hang_up(link);
+                self.end(Parting::ByUs, false);
             }
             stage => self.stage = stage,
         }
     }
 
     fn is_gone(&mut self) -> bool {
-        is_gone(&mut self.hung_up, ticks(self.rt))
+        self.contact.is_gone()
     }
 }

@@ -3,8 +3,7 @@
 ghost use Rattle.std.specs.Prelude.{None};
 
 use crate::stop_file::StopFile;
-use crate::teller::Teller;
-use edge_links::System;
+use edge_links::{System, Teller};
 use edge_logic::{Notice, Pace, Shared, moment, ticks, wait_after};
 use mio::{Events, Poll};
 use std::alloc::Global;

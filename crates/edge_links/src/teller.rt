@@ -1,6 +1,6 @@
 //! Lines for the operator, which never wait for their reader.
 
-use edge_links::System;
+use crate::system::System;
 use edge_logic::{Lost, Notice, line, moment};
 use mio::unix::SourceFd;
 use mio::{Events, Interest, Poll, Token};

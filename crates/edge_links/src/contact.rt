@@ -1,0 +1,178 @@
+//! What the edge keeps of a peer beside its connection: what was said, how long the peer is put
+//! off, the lines on it, and its last connection's last words.
+
+use crate::hung_up::HungUp;
+use crate::link::Link;
+use crate::system::System;
+use crate::teller::Teller;
+use edge_logic::{Ending, Fault, LinkEnd, NextTry, Notice, PeerName, moment, ticks};
+use edge_waits::{PutOff, Talk};
+use std::io::Write;
+use std::net::SocketAddr;
+use std::str;
+
+/// How a connection ended.
+#[derive(Clone, Copy)]
+pub enum Parting<'a> {
+    /// The peer closed it.
+    ByPeer,
+    /// The gateway hung up.
+    ByUs,
+    /// It failed.
+    Failed(&'a Fault),
+}
+
+/// What the edge keeps of a peer beside its connection.
+#[derive(Drop)]
+pub struct Contact<'a, R: System, W: Write + Drop> {
+    rt: &'a R,
+    peer: PeerName,
+    teller: Teller<W>,
+    talk: Talk,
+    /// How long the peer is put off, since its numbers were of another day.
+    put_off: PutOff,
+    hung_up: Option<HungUp>,
+}
+
+impl<'a, R: System, W: Write + Drop> Contact<'a, R, W> {
+    /// A peer that was not connected yet, with the lines on it to this teller.
+    pub fn new(rt: &'a R, peer: PeerName, teller: Teller<W>) -> Contact<'a, R, W> {
+        Contact {
+            rt,
+            peer,
+            teller,
+            talk: Talk::new(rt.alloc()),
+            put_off: PutOff::new(),
+            hung_up: None,
+        }
+    }
+
+    /// Writes the line of a notice, or loses it.
+    pub fn tell(&mut self, notice: Notice<'_>) {
+        self.teller.tell(self.rt, notice);
+    }
+
+    /// A connection with this address begins.
+    pub fn connect(&mut self, address: SocketAddr) {
+        self.talk = Talk::new(self.rt.alloc());
+        self.tell(Notice::Connected(self.peer, address));
+    }
+
+    /// These bytes came, maybe before a session stood.
+    pub fn hear(&mut self, bytes: &[u8]) {
+        let _ = self.talk.hear(bytes); // what there is no memory for is not told
+    }
+
+    /// These bytes came where a session stands.
+    pub fn note(&mut self, bytes: &[u8]) {
+        self.talk.note(bytes);
+    }
+
+    /// The gateway sends this frame.
+    pub fn say(&mut self, frame: &[u8], now: u64) {
+        let _ = self.talk.say(frame, now); // what there is no memory for is not told
+    }
+
+    /// A session stands.
+    pub fn stand(&mut self) {
+        if !self.talk.is_active() {
+            self.talk.stand();
+            self.put_off.forget();
+        }
+    }
+
+    /// How the connection ended, for the venue's next try.
+    pub fn link_end(&self, was_closed: bool) -> LinkEnd {
+        self.talk.link_end(was_closed)
+    }
+
+    /// For how many milliseconds the peer is put off.
+    pub fn left(&self, now: u64) -> u64 {
+        self.put_off.left(now)
+    }
+
+    // Whose numbers were too low, if any were.
+    fn numbers_low(&self) -> Option<Notice<'static>> {
+        if let Some(low) = self.talk.too_low() {
+            return Some(Notice::NumbersLow(self.peer, low));
+        }
+        let low = self.talk.own_too_low()?;
+        Some(Notice::OwnNumbersLow(self.peer, low))
+    }
+
+    /// Puts the peer off behind a connection on which numbers were of another day, and says why.
+    /// `was_closed` says that the peer closed it in order.
+    pub fn put_off(&mut self, now: u64, was_closed: bool) {
+        let low = self.numbers_low();
+        if low.is_some() {
+            self.put_off.begin(now);
+        }
+        if let Some(since) = self.talk.late_since(was_closed) {
+            self.put_off.hold(since);
+        }
+        if !self.put_off.is_over(now) {
+            self.tell(low.unwrap_or(Notice::Late(self.peer)));
+        }
+    }
+
+    fn tell_ended(&mut self, ending: Ending<'_>, next: NextTry) {
+        self.tell(Notice::Ended(self.peer, ending, next));
+    }
+
+    fn tell_failed(&mut self, fault: &Fault, next: NextTry) {
+        match format!(in self.rt.alloc(); "{fault}") {
+            Ok(reason) => self.tell_ended(Ending::ByFailure(reason.as_str()), next),
+            Err(_) => self.tell_ended(Ending::ByFailure("out of memory"), next),
+        }
+    }
+
+    // Why a connection ended before a session stood.
+    fn why(&self) -> Vec<u8> {
+        let mut why = Vec::new(self.rt.alloc());
+        let now = moment(self.rt).unwrap_or(0);
+        let _ = self.talk.put_why(&mut why, now); // as far as there is memory
+        why
+    }
+
+    /// Says that the connection ended so, and why where no session had stood.
+    pub fn tell_end(&mut self, parting: Parting<'_>, next: NextTry) {
+        if let Parting::Failed(fault) = parting {
+            return self.tell_failed(fault, next);
+        }
+        let is_ours = matches!(parting, Parting::ByUs);
+        if self.talk.is_active() {
+            let ending = if is_ours {
+                Ending::ByUs
+            } else {
+                Ending::ByPeer
+            };
+            return self.tell_ended(ending, next);
+        }
+        let why = self.why();
+        let text = str::from_utf8(&why).unwrap_or("");
+        let ending = if is_ours {
+            Ending::ByUsBehind(text)
+        } else {
+            Ending::ByPeerBehind(text)
+        };
+        self.tell_ended(ending, next);
+    }
+
+    /// The gateway has ended this connection, of which the peer is to have the last words.
+    pub fn hang_up(&mut self, link: Link) {
+        self.hung_up = Some(HungUp::new(link, ticks(self.rt)));
+        self.is_gone();
+    }
+
+    /// Goes on with a connection that was ended, and answers whether nothing of it is left.
+    pub fn is_gone(&mut self) -> bool {
+        let over = match &mut self.hung_up {
+            Some(hung_up) => hung_up.go_on(ticks(self.rt)),
+            None => true,
+        };
+        if over {
+            self.hung_up = None;
+        }
+        over
+    }
+}
