@@ -11,7 +11,7 @@ use std::io::Write;
 use std::net::SocketAddr;
 use std::str;
 
-/// How a connection ended.
+/// By whom a connection ended; what its line says is an [`Ending`].
 #[derive(Clone, Copy)]
 pub enum Parting<'a> {
     /// The peer closed it.
@@ -22,7 +22,8 @@ pub enum Parting<'a> {
     Failed(&'a Fault),
 }
 
-/// What the edge keeps of a peer beside its connection.
+/// What the edge keeps of a peer beside its connection. Where a moment is `now`, it is in
+/// milliseconds of the clock that never goes back.
 #[derive(Drop)]
 pub struct Contact<'a, R: System, W: Write + Drop> {
     rt: &'a R,
@@ -58,17 +59,17 @@ impl<'a, R: System, W: Write + Drop> Contact<'a, R, W> {
         self.tell(Notice::Connected(self.peer, address));
     }
 
-    /// These bytes came, maybe before a session stood.
+    /// These bytes came. They are kept before a session stands, as [`Talk::hear`] says.
     pub fn hear(&mut self, bytes: &[u8]) {
         let _ = self.talk.hear(bytes); // what there is no memory for is not told
     }
 
-    /// These bytes came where a session stands.
+    /// These bytes came where a session stands: maybe a Logout over the gateway's numbers.
     pub fn note(&mut self, bytes: &[u8]) {
         self.talk.note(bytes);
     }
 
-    /// The gateway sends this frame.
+    /// The gateway sends this frame at this moment.
     pub fn say(&mut self, frame: &[u8], now: u64) {
         let _ = self.talk.say(frame, now); // what there is no memory for is not told
     }
@@ -81,12 +82,13 @@ impl<'a, R: System, W: Write + Drop> Contact<'a, R, W> {
         }
     }
 
-    /// How the connection ended, for the venue's next try.
+    /// How the connection ended, for the venue's next try. `was_closed` says that the peer closed it
+    /// in order.
     pub fn link_end(&self, was_closed: bool) -> LinkEnd {
         self.talk.link_end(was_closed)
     }
 
-    /// For how many milliseconds the peer is put off.
+    /// For how many milliseconds from now on the peer is put off.
     pub fn left(&self, now: u64) -> u64 {
         self.put_off.left(now)
     }
@@ -136,24 +138,14 @@ impl<'a, R: System, W: Write + Drop> Contact<'a, R, W> {
 
     /// Says that the connection ended so, and why where no session had stood.
     pub fn tell_end(&mut self, parting: Parting<'_>, next: NextTry) {
-        if let Parting::Failed(fault) = parting {
-            return self.tell_failed(fault, next);
-        }
-        let is_ours = matches!(parting, Parting::ByUs);
-        if self.talk.is_active() {
-            let ending = if is_ours {
-                Ending::ByUs
-            } else {
-                Ending::ByPeer
-            };
-            return self.tell_ended(ending, next);
-        }
         let why = self.why();
-        let text = str::from_utf8(&why).unwrap_or("");
-        let ending = if is_ours {
-            Ending::ByUsBehind(text)
-        } else {
-            Ending::ByPeerBehind(text)
+        let why = str::from_utf8(&why).unwrap_or("");
+        let ending = match (parting, self.talk.is_active()) {
+            (Parting::ByPeer, true) => Ending::ByPeer,
+            (Parting::ByPeer, false) => Ending::ByPeerBehind(why),
+            (Parting::ByUs, true) => Ending::ByUs,
+            (Parting::ByUs, false) => Ending::ByUsBehind(why),
+            (Parting::Failed(fault), _) => return self.tell_failed(fault, next),
         };
         self.tell_ended(ending, next);
     }
