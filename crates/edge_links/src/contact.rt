@@ -1,6 +1,10 @@
 //! What the edge keeps of a peer beside its connection: what was said, how long the peer is put
 //! off, the lines on it, and its last connection's last words.
 
+ghost use Rattle.std.specs.Prelude.{◌≡◌, ◌-◌, is_some};
+ghost use Rattle.edge_waits.specs.Talk.{began_next, low_said, link_end_of};
+ghost use Rattle.edge_links.specs.Contact.{silent, is_low, delay_behind, stood};
+
 use crate::hung_up::HungUp;
 use crate::link::Link;
 use crate::system::System;
@@ -8,6 +12,7 @@ use crate::teller::Teller;
 use edge_logic::{Ending, Fault, LinkEnd, NextTry, Notice, PeerName, moment, ticks};
 use edge_waits::{PutOff, Talk};
 use std::io::Write;
+use std::marker::Model;
 use std::net::SocketAddr;
 use std::str;
 
@@ -35,9 +40,19 @@ pub struct Contact<'a, R: System, W: Write + Drop> {
     hung_up: Option<HungUp>,
 }
 
+impl<'a, R: System, W: Write + Drop> Model for Contact<'a, R, W> {
+    ghost use Rattle.edge_links.specs.Contact.{Known};
+
+    ghost Value = { Known };
+
+    ghost view = { λ c. record { talk = c.talk; delay = c.put_off } };
+}
+
 impl<'a, R: System, W: Write + Drop> Contact<'a, R, W> {
     /// A peer that was not connected yet, with the lines on it to this teller.
-    pub fn new(rt: &'a R, peer: PeerName, teller: Teller<W>) -> Contact<'a, R, W> {
+    pub fn new(rt: &'a R, peer: PeerName, teller: Teller<W>) -> Contact<'a, R, W>
+        ensures { result ≡ record { talk = silent; delay = record { times = 0; until = 0 } } }
+    {
         Contact {
             rt,
             peer,
@@ -49,12 +64,16 @@ impl<'a, R: System, W: Write + Drop> Contact<'a, R, W> {
     }
 
     /// Writes the line of a notice, or loses it.
-    pub fn tell(&mut self, notice: Notice<'_>) {
+    pub fn tell(&mut self, notice: Notice<'_>)
+        ensures { self.new ≡ self.old }
+    {
         self.teller.tell(self.rt, notice);
     }
 
     /// A connection with this address begins.
-    pub fn connect(&mut self, address: SocketAddr) {
+    pub fn connect(&mut self, address: SocketAddr)
+        ensures { self.new ≡ record self.old { talk = silent } }
+    {
         self.talk = Talk::new(self.rt.alloc());
         self.tell(Notice::Connected(self.peer, address));
     }
@@ -65,17 +84,27 @@ impl<'a, R: System, W: Write + Drop> Contact<'a, R, W> {
     }
 
     /// These bytes came where a session stands: maybe a Logout over the gateway's numbers.
-    pub fn note(&mut self, bytes: &[u8]) {
+    pub fn note(&mut self, bytes: &[u8])
+        ensures { self.new ≡ record self.old {
+          talk = record self.old.talk {
+            own_low = low_said bytes.now;
+          };
+        } }
+    {
         self.talk.note(bytes);
     }
 
     /// The gateway sends this frame at this moment.
-    pub fn say(&mut self, frame: &[u8], now: u64) {
+    pub fn say(&mut self, frame: &[u8], now: u64)
+        ensures { self.new.talk.began ≡ began_next self.old.talk frame.now now }
+    {
         let _ = self.talk.say(frame, now); // what there is no memory for is not told
     }
 
     /// A session stands.
-    pub fn stand(&mut self) {
+    pub fn stand(&mut self)
+        ensures { self.new ≡ stood self.old }
+    {
         if !self.talk.is_active() {
             self.talk.stand();
             self.put_off.forget();
@@ -84,17 +113,23 @@ impl<'a, R: System, W: Write + Drop> Contact<'a, R, W> {
 
     /// How the connection ended, for the venue's next try. `was_closed` says that the peer closed it
     /// in order.
-    pub fn link_end(&self, was_closed: bool) -> LinkEnd {
+    pub fn link_end(&self, was_closed: bool) -> LinkEnd
+        ensures { result ≡ link_end_of self.now.talk was_closed }
+    {
         self.talk.link_end(was_closed)
     }
 
     /// For how many milliseconds from now on the peer is put off.
-    pub fn left(&self, now: u64) -> u64 {
+    pub fn left(&self, now: u64) -> u64
+        ensures { result ≡ self.now.delay.until - now }
+    {
         self.put_off.left(now)
     }
 
     // Whose numbers were too low, if any were.
-    fn numbers_low(&self) -> Option<Notice<'static>> {
+    fn numbers_low(&self) -> Option<Notice<'static>>
+        ensures { is_some result ≡ is_low self.now.talk }
+    {
         if let Some(low) = self.talk.too_low() {
             return Some(Notice::NumbersLow(self.peer, low));
         }
@@ -104,7 +139,9 @@ impl<'a, R: System, W: Write + Drop> Contact<'a, R, W> {
 
     /// Puts the peer off behind a connection on which numbers were of another day, and says why.
     /// `was_closed` says that the peer closed it in order.
-    pub fn put_off(&mut self, now: u64, was_closed: bool) {
+    pub fn put_off(&mut self, now: u64, was_closed: bool)
+        ensures { self.new ≡ record self.old { delay = delay_behind self.old now was_closed } }
+    {
         let low = self.numbers_low();
         if low.is_some() {
             self.put_off.begin(now);

@@ -2,7 +2,8 @@
 //! its wait for a Logon; what is kept of a peer beside it, and the lines for the operator.
 //!
 //! What the system does with its calls is trusted: no clause can speak of it. Proved is that what
-//! comes on a connection is some bytes or its end, within the buffer, whatever the system answers.
+//! comes on a connection is some bytes or its end, within the buffer, whatever the system answers;
+//! and for how long a peer is put off behind its connection.
 #![tactic(auto)]
 
 mod contact;

@@ -1,0 +1,46 @@
+-- Own: how long a peer is put off behind its connection; docs/DECISIONS.md, "The edge".
+use Rattle.std.specs.Prelude.{ℕ, Bool, true, false, Some, None, [], ◌+◌, ◌||◌, min, is_some}
+use Rattle.std.specs.Prelude.{if◌then◌else◌}
+use Rattle.std.specs.declared.option.Option.{Option}
+use Rattle.edge_logic.specs.BackOff.{later, not_before}
+use Rattle.edge_waits.specs.PutOff.{Delay, pause_of}
+use Rattle.edge_waits.specs.Talk.{Spoken, low_of, late_since}
+
+-- what is kept of a peer's connection, and how long the peer is put off
+pub record Known : Type 0 where
+  pub talk : Spoken
+  pub delay : Delay
+
+-- a connection on which nothing was said
+abbrev pub silent : Spoken
+silent = record { heard = []; farewell = None; active = false; own_low = None; began = None }
+
+-- whether the gateway said of the peer, or the peer of the gateway, that its number is too low
+abbrev pub is_low : Spoken → Bool
+is_low spoken = is_some (low_of spoken) || is_some spoken.own_low
+
+-- the delay behind one more connection on which a number was too low
+abbrev pub lengthened : Delay → ℕ → Delay
+lengthened delay now =
+    let times = min (delay.times + 1) 6 in
+    record { times = times; until = later now (pause_of times) }
+
+-- the delay of a peer that may have been in the day before at a moment: two minutes from it on
+abbrev pub held_since : Delay → Option ℕ → Delay
+held_since delay (Some since) = record delay { until = not_before delay.until since 120_000 }
+held_since delay None = delay
+
+-- the delay behind a connection that ended now, closed by the peer in order or not
+abbrev pub delay_behind : Known → ℕ → Bool → Delay
+delay_behind known now was_closed =
+    held_since (if is_low known.talk then lengthened known.delay now else known.delay)
+    (late_since known.talk was_closed)
+
+-- A session stands: the next pause is the shortest one again.
+abbrev pub stood : Known → Known
+stood known =
+    if known.talk.active then known
+    else record {
+      talk = record known.talk { active = true };
+      delay = record known.delay { times = 0 };
+    }
