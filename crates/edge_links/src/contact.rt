@@ -27,8 +27,8 @@ pub enum Parting<'a> {
     Failed(&'a Fault),
 }
 
-/// What the edge keeps of a peer beside its connection. Where a moment is `now`, it is in
-/// milliseconds of the clock that never goes back.
+/// What the edge keeps of a peer beside its connection. Moments are in milliseconds of the clock
+/// that never goes back.
 #[derive(Drop)]
 pub struct Contact<'a, R: System, W: Write + Drop> {
     rt: &'a R,
@@ -111,8 +111,8 @@ impl<'a, R: System, W: Write + Drop> Contact<'a, R, W> {
         }
     }
 
-    /// How the connection ended, for the venue's next try. `was_closed` says that the peer closed it
-    /// in order.
+    /// How the connection ended, for the venue's next try. `was_closed` says that the peer closed
+    /// it in order.
     pub fn link_end(&self, was_closed: bool) -> LinkEnd
         ensures { result ≡ link_end_of self.now.talk was_closed }
     {

@@ -9,15 +9,15 @@ const FAREWELL: u64 = 2_000;
 /// shut, and what the peer says is read off until it ends its own: a socket that is closed over
 /// bytes that were not read resets, and the peer may lose what it has not read itself.
 #[derive(Drop)]
-pub struct HungUp {
+pub(crate) struct HungUp {
     link: Link,
     until: u64,
     is_shut: bool,
 }
 
 impl HungUp {
-    /// A connection that ends now.
-    pub fn new(link: Link, now: u64) -> HungUp {
+    /// A connection that ends now, in milliseconds of the clock that never goes back.
+    pub(crate) fn new(link: Link, now: u64) -> HungUp {
         HungUp {
             link,
             until: now.saturating_add(FAREWELL),
@@ -26,7 +26,7 @@ impl HungUp {
     }
 
     /// Goes on with what is to be written and read off, and answers whether the connection is over.
-    pub fn go_on(&mut self, now: u64) -> bool {
+    pub(crate) fn go_on(&mut self, now: u64) -> bool {
         if now >= self.until {
             return true;
         }

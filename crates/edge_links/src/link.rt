@@ -10,7 +10,8 @@ use std::io::{ErrorKind, Read};
 use std::net::Shutdown;
 use wires::Arrival;
 
-/// A connection that does not block.
+/// A connection that does not block. Moments are in milliseconds of the clock that never goes
+/// back.
 #[derive(Drop)]
 pub struct Link {
     stream: TcpStream,
@@ -47,7 +48,7 @@ impl Link {
     ///
     /// # Errors
     /// The system's error.
-    pub fn flush(&mut self, now: u64) -> Result<bool, Fault> {
+    pub(crate) fn flush(&mut self, now: u64) -> Result<bool, Fault> {
         self.outbox.flush(&mut &self.stream, now)?;
         Ok(self.outbox.is_empty())
     }
@@ -83,12 +84,12 @@ impl Link {
     }
 
     /// Says that nothing more comes.
-    pub fn shut(&self) {
+    pub(crate) fn shut(&self) {
         let _ = self.stream.shutdown(Shutdown::Write); // where it fails the connection is gone
     }
 
     /// Reads off what is there, and answers whether the peer has ended its side.
-    pub fn drain(&self) -> bool {
+    pub(crate) fn drain(&self) -> bool {
         let mut buf = [0u8; 4096];
         for _ in 0..64u32 {
             match (&self.stream).read(&mut buf) {

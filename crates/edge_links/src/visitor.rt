@@ -13,12 +13,15 @@ use wires::Arrival;
 /// So many bytes are read at a time.
 const PIECE: usize = 4_096;
 
-/// A connection that waits for its Logon.
+/// A connection that waits for its Logon. Moments are in milliseconds of the clock that never goes
+/// back.
 #[derive(Drop)]
 pub struct Visitor {
+    /// The connection.
     pub link: Link,
+    /// The address at its other end.
     pub from: SocketAddr,
-    /// What it has said.
+    /// What it has said, all bytes so far.
     pub heard: Vec<u8>,
     since: u64,
     is_closed: bool,

@@ -30,8 +30,11 @@ pub type VenueWire<'a, R, W> = Counted<VenueConnector<'a, R, W>>;
 #[derive(Drop)]
 pub struct Edge<'a, R: System + Files, W: Write + Copy + Drop> {
     rt: &'a R,
+    /// The client's wire.
     pub client: ClientWire<'a, R, W>,
+    /// The venue's wire.
     pub venue: VenueWire<'a, R, W>,
+    /// The clock, which waits for both.
     pub clock: WaitingClock<'a, R, W>,
 }
 
