@@ -7,13 +7,13 @@ use Rattle.edge_waits.specs.PutOff.{Delay, pause_of}
 use Rattle.edge_waits.specs.Talk.{Spoken, low_of, late_since}
 
 -- what is kept of a peer's connection, and how long the peer is put off
-pub record Known : Type 0 where
+pub record Dealings : Type 0 where
   pub talk : Spoken
   pub delay : Delay
 
 -- a connection on which nothing was said
-abbrev pub silent : Spoken
-silent = record { heard = []; farewell = None; active = false; own_low = None; began = None }
+abbrev pub unsaid : Spoken
+unsaid = record { heard = []; farewell = None; active = false; own_low = None; began = None }
 
 -- whether the gateway said of the peer, or the peer of the gateway, that its number is too low
 abbrev pub is_low : Spoken → Bool
@@ -31,16 +31,16 @@ held_since delay (Some since) = record delay { until = not_before delay.until si
 held_since delay None = delay
 
 -- the delay behind a connection that ended now, closed by the peer in order or not
-abbrev pub delay_behind : Known → ℕ → Bool → Delay
-delay_behind known now was_closed =
-    held_since (if is_low known.talk then lengthened known.delay now else known.delay)
-    (late_since known.talk was_closed)
+abbrev pub delay_behind : Dealings → ℕ → Bool → Delay
+delay_behind dealings now was_closed =
+    held_since (if is_low dealings.talk then lengthened dealings.delay now else dealings.delay)
+    (late_since dealings.talk was_closed)
 
 -- A session stands: the next pause is the shortest one again.
-abbrev pub stood : Known → Known
-stood known =
-    if known.talk.active then known
+abbrev pub stood : Dealings → Dealings
+stood dealings =
+    if dealings.talk.active then dealings
     else record {
-      talk = record known.talk { active = true };
-      delay = record known.delay { times = 0 };
+      talk = record dealings.talk { active = true };
+      delay = record dealings.delay { times = 0 };
     }

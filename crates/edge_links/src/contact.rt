@@ -3,7 +3,7 @@
 
 ghost use Rattle.std.specs.Prelude.{◌≡◌, ◌-◌, is_some};
 ghost use Rattle.edge_waits.specs.Talk.{began_next, low_said, link_end_of};
-ghost use Rattle.edge_links.specs.Contact.{silent, is_low, delay_behind, stood};
+ghost use Rattle.edge_links.specs.Contact.{unsaid, is_low, delay_behind, stood};
 
 use crate::hung_up::HungUp;
 use crate::link::Link;
@@ -41,9 +41,9 @@ pub struct Contact<'a, R: System, W: Write + Drop> {
 }
 
 impl<'a, R: System, W: Write + Drop> Model for Contact<'a, R, W> {
-    ghost use Rattle.edge_links.specs.Contact.{Known};
+    ghost use Rattle.edge_links.specs.Contact.{Dealings};
 
-    ghost Value = { Known };
+    ghost Value = { Dealings };
 
     ghost view = { λ c. record { talk = c.talk; delay = c.put_off } };
 }
@@ -51,7 +51,7 @@ impl<'a, R: System, W: Write + Drop> Model for Contact<'a, R, W> {
 impl<'a, R: System, W: Write + Drop> Contact<'a, R, W> {
     /// A peer that was not connected yet, with the lines on it to this teller.
     pub fn new(rt: &'a R, peer: PeerName, teller: Teller<W>) -> Contact<'a, R, W>
-        ensures { result ≡ record { talk = silent; delay = record { times = 0; until = 0 } } }
+        ensures { result ≡ record { talk = unsaid; delay = record { times = 0; until = 0 } } }
     {
         Contact {
             rt,
@@ -72,7 +72,7 @@ impl<'a, R: System, W: Write + Drop> Contact<'a, R, W> {
 
     /// A connection with this address begins.
     pub fn connect(&mut self, address: SocketAddr)
-        ensures { self.new ≡ record self.old { talk = silent } }
+        ensures { self.new ≡ record self.old { talk = unsaid } }
     {
         self.talk = Talk::new(self.rt.alloc());
         self.tell(Notice::Connected(self.peer, address));
