@@ -1,7 +1,7 @@
 //! Who waits to be the client: whose first message is a whole Logon, and who has to go.
 
 ghost use Rattle.std.specs.Prelude.{◌≡◌, ◌<◌, ◌==◌, ◌++◌, ◌∷◌, [], IfOk, length, is_some, nat_le};
-ghost use Rattle.std.specs.Prelude.{◌≤◌, take};
+ghost use Rattle.std.specs.Prelude.{◌≤◌, OnErr, take, vec_capacity, vec_len};
 ghost use Rattle.std.specs.Option.{option_to_list};
 ghost use Rattle.frame_grammar.specs.Found.{found};
 ghost use Rattle.frame_grammar.specs.declared.buffer.TheConstants.{CAPACITY};
@@ -148,6 +148,20 @@ pub fn first_in(framer: &mut Framer, bytes: &[u8]) -> First
     }
 }
 
+// Takes out the first, where there are so many.
+#[tactic(auto, using(crate::proofs::Parts::first_out))]
+fn take_first<V: Drop>(visitors: &mut Vec<V>, enough: usize) -> Option<V>
+    requires { 1 ≤ enough }
+    ensures one { visitors.old.items ≡ option_to_list result ++ visitors.new.items }
+    ensures some { is_some result ≡ nat_le enough (vec_len visitors.old) }
+    ensures capacity { vec_capacity visitors.new ≡ vec_capacity visitors.old }
+{
+    if visitors.len() >= enough {
+        return Some(visitors.remove(0));
+    }
+    None
+}
+
 /// Those who wait, at most eight, in the order in which they came.
 #[derive(Drop)]
 pub struct Lobby<V: Drop> {
@@ -190,42 +204,26 @@ impl<V: Drop> Lobby<V> {
     }
 
     /// Takes out the one that has waited longest.
-    #[tactic(auto, using(crate::proofs::Parts::first_out))]
     pub fn take_oldest(&mut self) -> Option<V>
         ensures one { self.old ≡ option_to_list result ++ self.new }
         ensures some { is_some result ≡ nat_le 1 (length self.old) }
     {
-        if self.visitors.is_empty() {
-            return None;
-        }
-        Some(self.visitors.remove(0))
-    }
-
-    // Takes out the one that has waited longest, where eight wait.
-    #[tactic(auto, using(crate::proofs::Parts::of_len))]
-    fn make_room(&mut self) -> Option<V>
-        ensures one { self.old ≡ option_to_list result ++ self.new }
-        ensures some { is_some result ≡ nat_le 8 (length self.old) }
-        ensures room { length self.new < 8 }
-    {
-        if self.visitors.len() >= LOBBY {
-            self.take_oldest()
-        } else {
-            None
-        }
+        take_first(&mut self.visitors, 1)
     }
 
     /// Lets one more wait, and answers the one that has waited longest where eight wait already.
     ///
     /// # Errors
-    /// For want of memory alone.
+    /// For want of memory alone; then all wait as before, and the new one is dropped.
     pub fn admit(&mut self, visitor: V) -> Result<Option<V>, AllocError>
         ensures one { IfOk result (λ oldest.
             option_to_list oldest ++ self.new ≡ self.old ++ visitor ∷ []) }
         ensures eight { IfOk result (λ oldest. is_some oldest ≡ nat_le 8 (length self.old)) }
+        ensures err { OnErr result (self.new ≡ self.old) }
     {
-        let oldest = self.make_room();
-        self.visitors.push(visitor)?;
+        self.visitors.reserve(1)?;
+        let oldest = take_first(&mut self.visitors, LOBBY);
+        self.visitors.push_reserved(visitor);
         Ok(oldest)
     }
 }
