@@ -1,8 +1,10 @@
 //! What the journal's file needs beside the file: how it may begin, its counts, why a call on it
 //! failed, and the lines of that.
 
-ghost use Rattle.std.specs.Prelude.{◌≡◌, ◌++◌, IfOk, MatchResult, IsErr, codes, string_bytes};
+ghost use Rattle.std.specs.Prelude.{◌≡◌, ◌++◌, ℕ, List, IfOk, MatchResult, IsErr, codes};
+ghost use Rattle.std.specs.Prelude.{string_bytes};
 ghost use Rattle.std.specs.Io.{ReadsAtMost};
+ghost use Rattle.std.specs.declared.io.Error.{Error};
 ghost use Rattle.outside.specs.Causes.{HasCause, next_count, faults_after};
 ghost use Rattle.edge_logic.specs.Head.{may_be_journal, is_of_format_1};
 ghost use Rattle.edge_logic.specs.declared.journal.Denial.TheVariants as denial;
@@ -153,6 +155,9 @@ impl Denial {
         ensures no_journal { self.now ≡ denial.NoJournal → IfOk result (λ line. string_bytes line
             ≡ codes "fixgate: journal " ++ path.now
             ++ codes ": is no journal: it begins with neither byte 0 nor byte 1") }
+        ensures system { (error : Error) → self.now ≡ denial.System error → IfOk result (λ line.
+            (reason : List ℕ) × (string_bytes line
+            ≡ codes "fixgate: journal " ++ path.now ++ codes ": " ++ reason)) }
     {
         match self {
             Denial::InUse => format!(in alloc; "fixgate: journal {path} is in use"),
