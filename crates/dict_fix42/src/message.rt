@@ -21,11 +21,12 @@ use crate::requests::Msg42;
 use crate::tables;
 use crate::writing::{cancel_parts, new_parts, replace_parts, status_parts};
 use field_groups::{Fields, Split, is_type};
-use first_faults::good_fields;
+use first_faults::{Indexed, good_fields};
 use message_tables::Table;
 use order_meaning::Fault;
 use row_values::{Kind, put_content};
 use std::alloc::{AllocError, Global};
+use std::marker::Model;
 
 /// The letter of a message's type, as MsgType(35) has it; it takes no memory.
 pub fn type42(msg: &Msg42) -> &'static [u8]
@@ -53,6 +54,60 @@ pub fn request_table(msg_type: &[u8]) -> Option<&'static Table<Kind>>
         Some(tables::status_request())
     } else {
         None
+    }
+}
+
+/// The tables of requests, whose rows are found by their tags.
+#[derive(Drop)]
+pub struct RequestTables {
+    new_order: Indexed,
+    cancel_request: Indexed,
+    replace_request: Indexed,
+    status_request: Indexed,
+}
+
+impl Model for RequestTables {
+    ghost use Rattle.std.specs.Prelude.{◌≡◌};
+    ghost use Rattle.dict_fix42.specs.Requests.{cancel_request, new_order, replace_request};
+    ghost use Rattle.dict_fix42.specs.Requests.{status_request};
+    ghost use Rattle.rows_fix42.specs.Header.{table};
+
+    ghost Value = { Unit {0} };
+
+    ghost view = { λ _. tt };
+
+    ghost invariant = { λ t. (t.new_order ≡ table 68 new_order)
+        × (t.cancel_request ≡ table 70 cancel_request)
+        × (t.replace_request ≡ table 71 replace_request)
+        × (t.status_request ≡ table 72 status_request) };
+}
+
+impl RequestTables {
+    /// The tables.
+    pub fn new() -> RequestTables {
+        RequestTables {
+            new_order: Indexed::new(tables::new_order()),
+            cancel_request: Indexed::new(tables::cancel_request()),
+            replace_request: Indexed::new(tables::replace_request()),
+            status_request: Indexed::new(tables::status_request()),
+        }
+    }
+
+    /// The table of a type, where it is one of D, F, G and H.
+    pub fn get(&self, msg_type: &[u8]) -> Option<&Indexed>
+        ensures { option_map (λ table. table.now) result ≡ table_of msg_type.now }
+    {
+        if is_type(msg_type, b'D') {
+            Some(&self.new_order)
+        } else if is_type(msg_type, b'F') {
+            Some(&self.cancel_request)
+        } else if is_type(msg_type, b'G') {
+            Some(&self.replace_request)
+        } else if is_type(msg_type, b'H') {
+            Some(&self.status_request)
+        } else {
+            None
+        }
     }
 }
 

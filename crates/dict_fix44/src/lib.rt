@@ -7,4 +7,4 @@ mod refusals;
 mod requests;
 
 pub use refusals::refusal_table;
-pub use requests::request_table;
+pub use requests::RequestTables;

@@ -10,11 +10,13 @@ ghost use Rattle.dict_fix44.specs.Requests.{status_request};
 ghost use Rattle.row_values.specs.CodeKinds.{kind_of};
 
 use field_groups::is_type;
+use first_faults::Indexed;
 use message_tables::Need::{Optional, Required};
 use message_tables::{Item, Row, Table};
 use row_values::Kind::{MonthBeside, Value};
 use row_values::{ALLOCS, Kind, PARTIES, SESSIONS};
 use rows_fix42::HEADER;
+use std::marker::Model;
 use value_kinds::ValueKind::{
     Code, Codes, Currency, Day, Flag, Id, OneByte, Price, Qty, Stamp, Text, Word,
 };
@@ -193,20 +195,56 @@ fn status_request() -> &'static Table<Kind>
     &STATUS_REQUEST_TABLE
 }
 
-/// The table of a MsgType(35) that is a request.
-pub fn request_table(msg_type: &[u8]) -> Option<&'static Table<Kind>>
-    ensures { option_map (λ table. code_table kind_of table.now) result
-        ≡ request_table_of msg_type.now }
-{
-    if is_type(msg_type, b'D') {
-        Some(new_order())
-    } else if is_type(msg_type, b'F') {
-        Some(cancel_request())
-    } else if is_type(msg_type, b'G') {
-        Some(replace_request())
-    } else if is_type(msg_type, b'H') {
-        Some(status_request())
-    } else {
-        None
+/// The tables of requests, whose rows are found by their tags.
+#[derive(Drop)]
+pub struct RequestTables {
+    new_order: Indexed,
+    cancel_request: Indexed,
+    replace_request: Indexed,
+    status_request: Indexed,
+}
+
+impl Model for RequestTables {
+    ghost use Rattle.std.specs.Prelude.{◌≡◌};
+    ghost use Rattle.dict_fix44.specs.Requests.{cancel_request, new_order, replace_request};
+    ghost use Rattle.dict_fix44.specs.Requests.{status_request};
+    ghost use Rattle.rows_fix42.specs.Header.{table};
+
+    ghost Value = { Unit {0} };
+
+    ghost view = { λ _. tt };
+
+    ghost invariant = { λ t. (t.new_order ≡ table 68 new_order)
+        × (t.cancel_request ≡ table 70 cancel_request)
+        × (t.replace_request ≡ table 71 replace_request)
+        × (t.status_request ≡ table 72 status_request) };
+}
+
+impl RequestTables {
+    /// The tables.
+    pub fn new() -> RequestTables {
+        RequestTables {
+            new_order: Indexed::new(new_order()),
+            cancel_request: Indexed::new(cancel_request()),
+            replace_request: Indexed::new(replace_request()),
+            status_request: Indexed::new(status_request()),
+        }
+    }
+
+    /// The table of a type, where it is one of D, F, G and H.
+    pub fn get(&self, msg_type: &[u8]) -> Option<&Indexed>
+        ensures { option_map (λ table. table.now) result ≡ request_table_of msg_type.now }
+    {
+        if is_type(msg_type, b'D') {
+            Some(&self.new_order)
+        } else if is_type(msg_type, b'F') {
+            Some(&self.cancel_request)
+        } else if is_type(msg_type, b'G') {
+            Some(&self.replace_request)
+        } else if is_type(msg_type, b'H') {
+            Some(&self.status_request)
+        } else {
+            None
+        }
     }
 }

@@ -1,3 +1,4 @@
 pub mod OnePass
 pub mod FirstFaults
 pub mod Given
+pub mod ByTags

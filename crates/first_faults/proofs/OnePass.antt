@@ -37,7 +37,7 @@ use Rattle.first_faults.proofs.FirstFaults.{with_none, with_row}
 -- ---- a loop over rows, and one over items
 
 -- one more of those of which something holds
-one_more : {A : Type 0} (P : A → Type 0) (xs : List A) (x : A) → AllByRecursion P xs → P x
+pub one_more : {A : Type 0} (P : A → Type 0) (xs : List A) (x : A) → AllByRecursion P xs → P x
     → AllByRecursion P (xs ++ x ∷ [])
 one_more P [] x all last = (last, tt)
 one_more P (y ∷ xs) x all last = (all.0, one_more P xs x all.1 last)

@@ -1,3 +1,4 @@
 pub mod Faults
 pub mod Gives
+pub mod Indexed
 pub mod OnePass

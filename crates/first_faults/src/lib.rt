@@ -2,5 +2,7 @@
 #![tactic(auto)]
 
 mod faults;
+mod indexed;
 
-pub use faults::good_fields;
+pub use faults::{good_fields, good_fields_by};
+pub use indexed::Indexed;

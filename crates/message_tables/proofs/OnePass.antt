@@ -28,7 +28,7 @@ use Rattle.message_tables.specs.FirstFault.{fault_if, by_row, is_passed, first_f
 use Rattle.message_tables.specs.FirstFault.{Placed, place_in}
 use Rattle.message_tables.specs.Plain.{IsLoose, IsWhole, ItemFits, fits, fits_at, is_good, lacks}
 use Rattle.message_tables.specs.Plain.{lacks_group, member_fits, member_fits_at, placed_at}
-use Rattle.message_tables.specs.Plain.{with_place, with_places}
+use Rattle.message_tables.specs.Plain.{IsSaidItem, with_place, with_places}
 use Rattle.message_tables.proofs.ByPlace.{no_lines, value_by_place}
 use Rattle.message_tables.proofs.Placed.{none, at, rest_at, passed, ended, has_tag-reverse}
 use Rattle.message_tables.proofs.Clean.{value_at-none}
@@ -370,7 +370,7 @@ module _ {Kind : Type 0} (fields : List Field) (group : RepeatingGroup Kind)
           absurd (let no : not (has_tag p.field.0 fields) ≡ true = rw same absent in
           let yes : not true ≡ true = rw there at no in cc)
 
-  absent_is_whole : IsWhole fields group
+  pub absent_is_whole : IsWhole fields group
   unfolding first_of
   absent_is_whole = record {
     placed = λ place lt. misplaced_none (placed_at fields place) (tag_there fields place lt);
@@ -470,16 +470,6 @@ module _ {Kind : Type 0} (judge : Judge Kind) (table : Table Kind) (fields : Lis
         by (Rowed r) = rowed_once i r
         by (Loose l) = l.once
 
-    groups_none : (i : ℕ) → i < length fields → (items : List (Item Kind))
-        → AllByRecursion (ItemFits judge fields) items
-        → first_of (misplaced (at fields i)) (flat_map group_tags_of items) ≡ None
-    unfolding first_of
-    groups_none i lt [] h = refl
-    groups_none i lt (One row ∷ items) h = groups_none i lt items h.1
-    groups_none i lt (Party role ∷ items) h = groups_none i lt items h.1
-    groups_none i lt (Lines group ∷ items) h =
-        rw (h.0.0.placed i lt) (groups_none i lt items h.1)
-
     missing_none : (row : Row Kind) → fits judge fields row ≡ true → missing fields row ≡ None
     missing_none row h = by (has_tag row.tag fields) refl
       where
@@ -494,27 +484,56 @@ module _ {Kind : Type 0} (judge : Judge Kind) (table : Table Kind) (fields : Lis
             let absent = value_at-none row.tag fields e in
             rw e (no (is_needed row.need fields) (faults.Reason row.tag 1) (rw absent at h))
 
-    items_none : (items : List (Item Kind)) → AllByRecursion (ItemFits judge fields) items
-        → first_of (missing_of fields) items ≡ None
-    unfolding first_of
-    items_none [] h = refl
-    items_none (One row ∷ items) h = rw (missing_none row h.0) (items_none items h.1)
-    items_none (Party role ∷ items) h = items_none items h.1
-    items_none (Lines group ∷ items) h = rw h.0.0.said (items_none items h.1)
+    items_said : (items : List (Item Kind)) → AllByRecursion (ItemFits judge fields) items
+        → AllByRecursion (IsSaidItem fields) items
+    items_said [] h = tt
+    items_said (One row ∷ items) h = (missing_none row h.0, items_said items h.1)
+    items_said (Party role ∷ items) h = (tt, items_said items h.1)
+    items_said (Lines group ∷ items) h = (h.0.0, items_said items h.1)
 
-  -- fields that one pass shows to be at no fault have none
-  pub plain_is_clean : IsPlain → None ≡ first_fault judge table fields
+  -- fields of which each is good where it stands, whose groups are whole, and that lack no row
+  pub record AreSound : Type 0 where
+    pub loose : (place : ℕ) → place < length fields → IsLoose judge fields table place
+    pub said : AllByRecursion (IsSaidItem fields) table.items
+
+  groups_none : (i : ℕ) → i < length fields → (items : List (Item Kind))
+      → AllByRecursion (IsSaidItem fields) items
+      → first_of (misplaced (at fields i)) (flat_map group_tags_of items) ≡ None
+  unfolding first_of
+  groups_none i lt [] h = refl
+  groups_none i lt (One row ∷ items) h = groups_none i lt items h.1
+  groups_none i lt (Party role ∷ items) h = groups_none i lt items h.1
+  groups_none i lt (Lines group ∷ items) h = rw (h.0.placed i lt) (groups_none i lt items h.1)
+
+  items_none : (items : List (Item Kind)) → AllByRecursion (IsSaidItem fields) items
+      → first_of (missing_of fields) items ≡ None
+  unfolding first_of
+  items_none [] h = refl
+  items_none (One row ∷ items) h = rw h.0 (items_none items h.1)
+  items_none (Party role ∷ items) h = items_none items h.1
+  items_none (Lines group ∷ items) h = rw h.0.said (items_none items h.1)
+
+  -- such fields are at no fault
+  pub sound_is_clean : AreSound → None ≡ first_fault judge table fields
   unfolding first_fault
-  plain_is_clean plain =
+  sound_is_clean sound =
+      let good = λ (i : ℕ) (lt : i < length fields). (sound.loose i lt).good in
       rw (
-        placed_none (twice (once_in table)) fields (twice_none plain),
-        marks_none wrong_version (λ _. refl) (marked judge table fields) fields (mark_at plain),
+        placed_none (twice (once_in table)) fields (λ i lt. (sound.loose i lt).once),
+        marks_none wrong_version (λ _. refl) (marked judge table fields) fields good,
         placed_none (in_groups (group_tags_in table)) fields
-            (λ i lt. groups_none plain i lt table.items plain.items),
-        marks_none wrong (λ _. refl) (marked judge table fields) fields (mark_at plain),
-        items_none plain table.items plain.items,
-        marks_none beyond (λ _. refl) (marked judge table fields) fields (mark_at plain),
+            (λ i lt. groups_none i lt table.items sound.said),
+        marks_none wrong (λ _. refl) (marked judge table fields) fields good,
+        items_none table.items sound.said,
+        marks_none beyond (λ _. refl) (marked judge table fields) fields good,
       ) refl
+
+  -- fields that one pass over the rows shows to be at no fault have none
+  pub plain_is_clean : IsPlain → None ≡ first_fault judge table fields
+  plain_is_clean plain = sound_is_clean (record {
+    loose = λ i lt. record { once = twice_none plain i lt; good = mark_at plain i lt };
+    said = items_said plain table.items plain.items;
+  })
 
 -- a field whose tag has not stood before, or may stand again, does not stand twice
 pub once_if : (once : List ℕ) (fields : List Field) (place : ℕ) (f : Field)

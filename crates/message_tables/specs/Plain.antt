@@ -9,7 +9,7 @@ use Rattle.field_groups.specs.Field.{Field}
 use Rattle.message_tables.specs.Tables.{Row, RepeatingGroup, GroupTags, Item, One, Party, Lines}
 use Rattle.message_tables.specs.Tables.{Table, Judge, value_at, has_tag, is_needed, tags_in}
 use Rattle.message_tables.specs.FirstFault.{Placed, allowed, mark_of, marked, misplaced, missing_of}
-use Rattle.message_tables.specs.FirstFault.{once_in, place_in, twice}
+use Rattle.message_tables.specs.FirstFault.{missing, once_in, place_in, twice}
 
 abbrev pub is_good : Mark → Bool
 is_good marks.Good = true
@@ -35,6 +35,12 @@ pub record IsWhole {Kind : Type 0} (fields : List Field) (group : RepeatingGroup
     pub placed : (place : ℕ) → place < length fields
         → misplaced (placed_at fields place) (tags_in group) ≡ None
     pub said : missing_of fields (Lines group) ≡ None
+
+-- a row that says what it has to, or a whole group
+abbrev pub IsSaidItem : {Kind : Type 0} → List Field → Item Kind → Type 0
+IsSaidItem fields (One row) = missing fields row ≡ None
+IsSaidItem fields (Party role) = Unit {0}
+IsSaidItem fields (Lines group) = IsWhole fields group
 
 module _ {Kind : Type 0} (judge : Judge Kind) (fields : List Field) where
   abbrev pub fits_at : Row Kind → Option (List ℕ) → Bool

@@ -7,7 +7,8 @@ ghost use Rattle.std.specs.Option.{option_map};
 ghost use Rattle.std.specs.List.{find, list_all, list_any};
 ghost use Rattle.message_tables.specs.Tables.{passes, is_one_of, is_needed, is_inside, row_at};
 ghost use Rattle.message_tables.specs.Tables.{rows_of, all_rows};
-ghost use Rattle.message_tables.specs.FirstFault.{allowed, group_tags_of, once_of, once_in};
+ghost use Rattle.message_tables.specs.FirstFault.{allowed, group_tags_in, group_tags_of};
+ghost use Rattle.message_tables.specs.FirstFault.{once_in, once_of};
 ghost use Rattle.message_tables.specs.FirstFault.{is_of_group, is_passed, without_row};
 ghost use Rattle.message_tables.specs.CodeTables.{seen, test_of, need_of, row_of, own_tags};
 ghost use Rattle.message_tables.specs.CodeTables.{item_of, table_of};
@@ -302,20 +303,25 @@ impl<K> Table<K> {
         }
     }
 
-    /// Whether a field without a row may be passed over: in a table that is not strict, and where
-    /// it is of a group: its count, or a tag that says nothing.
-    pub(crate) fn is_passed(&self, tag: u32) -> bool
-        ensures { result ≡ is_passed (table_of (λ k. k) self.now) tag }
+    /// Whether a tag is of a group of the table: that of its count, or inside it.
+    pub fn is_in_groups(&self, tag: u32) -> bool
+        ensures { result
+            ≡ list_any (is_of_group tag) (group_tags_in (table_of (λ k. k) self.now)) }
     {
-        if !self.strict {
-            return true;
-        }
         for item in self.items {
             if item.is_in_group(tag) {
                 return true;
             }
         }
         false
+    }
+
+    /// Whether a field without a row may be passed over: in a table that is not strict, and where
+    /// it is of a group: its count, or a tag that says nothing.
+    pub(crate) fn is_passed(&self, tag: u32) -> bool
+        ensures { result ≡ is_passed (table_of (λ k. k) self.now) tag }
+    {
+        !self.strict || self.is_in_groups(tag)
     }
 
     /// What a field without a row is.

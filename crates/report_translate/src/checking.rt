@@ -10,17 +10,20 @@ ghost use Rattle.translation.specs.Judged.{AreGood, AreGoodBy};
 
 use field_groups::{Fields, Split, is_type};
 use report_rules::has_trans_type;
-use reports_fix50::{exec_type, good_report};
+use reports_fix50::{ReportTables, exec_type};
 use translation::{TranslateError, faulty, msg_type};
 
 /// The fields of a body, where they are whole and a report at no fault.
 #[tactic(auto, using(crate::proofs::GoodFields::judged))]
-pub(crate) fn good<'s, 'a>(split: &'s Split<'a>) -> Result<&'s Fields<'a>, TranslateError>
+pub(crate) fn good<'s, 'a>(
+    tables: &ReportTables,
+    split: &'s Split<'a>,
+) -> Result<&'s Fields<'a>, TranslateError>
     ensures ok { IfOk result (λ good. AreGood (report_table_of (type_of split.now.fields))
         split.now.fields split.now.fault good.now) }
     ensures refused { IfErr result (RefusesCheck split.now.fields split.now.fault) }
 {
-    match good_report(msg_type(&split.fields), split) {
+    match tables.good(msg_type(&split.fields), split) {
         Ok(fields) => Ok(fields),
         Err(fault) => Err(faulty(fault)),
     }
@@ -57,9 +60,9 @@ fn check_good(fields: &Fields<'_>) -> Result<(), TranslateError>
 
 /// Whether the fields of a body are a report at no fault that has a counterpart in FIX 4.2.
 #[tactic(auto, using(crate::proofs::GoodFields::of_judged))]
-pub(crate) fn check_fields(split: &Split<'_>) -> Result<(), TranslateError>
+pub(crate) fn check_fields(tables: &ReportTables, split: &Split<'_>) -> Result<(), TranslateError>
     ensures ok { OnOk result (IsCheckedOf split.now.fields split.now.fault) }
     ensures refused { IfErr result (RefusesCheck split.now.fields split.now.fault) }
 {
-    check_good(good(split)?)
+    check_good(good(tables, split)?)
 }

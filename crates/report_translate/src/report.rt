@@ -9,6 +9,7 @@ ghost use Rattle.translation.specs.Judged.{AreGoodBy};
 
 use crate::checking::good;
 use field_groups::{Fields, Split};
+use reports_fix50::ReportTables;
 use std::alloc::Global;
 use translation::{HeadDown, TranslateError, check_lengths, lacking, msg_type, write_head};
 
@@ -27,18 +28,24 @@ fn put_good(alloc: Global, fields: &Fields<'_>, out: &mut Vec<u8>) -> Result<(),
 
 /// Appends the content of the report that stands for the fields of a body.
 #[tactic(auto, using(crate::proofs::Appended::of_good_fields))]
-fn put_down(alloc: Global, split: &Split<'_>, out: &mut Vec<u8>) -> Result<(), TranslateError>
+fn put_down(
+    alloc: Global,
+    tables: &ReportTables,
+    split: &Split<'_>,
+    out: &mut Vec<u8>,
+) -> Result<(), TranslateError>
     ensures ok { OnOk result
         (Appends down split.now.fields split.now.fault out.old.items out.new.items) }
     ensures refused { IfErr result (StayBack down split.now.fields split.now.fault) }
 {
-    put_good(alloc, good(split)?, out)
+    put_good(alloc, good(tables, split)?, out)
 }
 
 /// Writes to `body`, in place of what it has, the body that stands for the fields of a body.
 #[tactic(auto, using(translation::proofs::Going::grows))]
 pub(crate) fn write_down(
     alloc: Global,
+    tables: &ReportTables,
     split: &Split<'_>,
     body: &mut Vec<u8>,
 ) -> Result<(), TranslateError>
@@ -51,7 +58,7 @@ pub(crate) fn write_down(
     };
     write_head(header.msg_type(), &header, body)?;
     let head = body.len();
-    put_down(alloc, split, body)?;
+    put_down(alloc, tables, split, body)?;
     let whole = body.len();
     check_lengths(whole - head, whole)
 }

@@ -9,13 +9,15 @@ use crate::checking::check_fields;
 use crate::report::write_down;
 use field_groups::{Split, split_into};
 use frame_grammar::{FrameError, Kind, write_frame};
+use reports_fix50::ReportTables;
 use std::alloc::Global;
 use translation::TranslateError;
 
 /// Translates bodies of reports. It keeps the memory for one body from each call to the next.
-#[derive(Debug, Drop)]
+#[derive(Drop)]
 pub struct ReportTranslator {
     alloc: Global,
+    tables: ReportTables,
     down: Vec<u8>,
 }
 
@@ -24,6 +26,7 @@ impl ReportTranslator {
     pub fn new(alloc: Global) -> ReportTranslator {
         ReportTranslator {
             alloc,
+            tables: ReportTables::new(),
             down: Vec::new(alloc),
         }
     }
@@ -50,7 +53,7 @@ impl ReportTranslator {
     {
         let mut split = Split::new(self.alloc);
         split_into(body, &mut split)?;
-        write_down(self.alloc, &split, &mut self.down)?;
+        write_down(self.alloc, &self.tables, &split, &mut self.down)?;
         match write_frame(Kind::Fix42, &self.down, out) {
             Ok(()) => Ok(()),
             Err(FrameError::NoMemory) => Err(TranslateError::NoMemory),
@@ -70,6 +73,6 @@ impl ReportTranslator {
     {
         let mut split = Split::new(self.alloc);
         split_into(body, &mut split)?;
-        check_fields(&split)
+        check_fields(&self.tables, &split)
     }
 }

@@ -12,9 +12,9 @@ mod tables;
 mod writing;
 
 pub use message::{
-    good_report, read_business_reject, read_cancel_reject, read_report, read_session_reject,
-    write_business_reject, write_cancel_reject, write_report, write_session_reject,
-    write_without_parties,
+    ReportTables, good_report, read_business_reject, read_cancel_reject, read_report,
+    read_session_reject, write_business_reject, write_cancel_reject, write_report,
+    write_session_reject, write_without_parties,
 };
 pub use reading::exec_type;
 pub use reports::{CancelReject50, Report50};

@@ -9,5 +9,5 @@ mod rules;
 mod writing;
 
 pub use putting::{lack_up, put_up};
-pub use reading::{Good, good_request};
+pub use reading::{Good, good_request, good_request_by};
 pub use writing::{is_unlisted, put_parties};

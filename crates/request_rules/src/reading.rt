@@ -4,9 +4,9 @@ ghost use Rattle.std.specs.Prelude.{◌≡◌, Err, IfErr, IfOk};
 ghost use Rattle.dict_fix42.specs.Message.{message42};
 ghost use Rattle.request_rules.specs.Good.{IsGood, IsRead, said};
 
-use dict_fix42::request_table;
+use dict_fix42::{RequestTables, request_table};
 use field_groups::{Fields, Split};
-use first_faults::good_fields;
+use first_faults::{good_fields, good_fields_by};
 use message_tables::Table;
 use order_meaning::Fault;
 use row_values::Kind;
@@ -38,6 +38,35 @@ pub fn good_request<'s, 'a>(msg_type: &[u8], split: &'s Split<'a>) -> Result<Goo
         None => Err(Fault::NotSupported),
         Some(table) => match good_fields(table, split) {
             Ok(fields) => Ok(Good { table, fields }),
+            Err(fault) => Err(fault),
+        },
+    }
+}
+
+/// The same by tables whose rows are found by their tags, in less time.
+///
+/// # Errors
+///
+/// As [`good_request`] has them.
+#[tactic(auto, using(crate::proofs::GoodFields::of_good))]
+pub fn good_request_by<'s, 'a>(
+    tables: &RequestTables,
+    msg_type: &[u8],
+    split: &'s Split<'a>,
+) -> Result<Good<'s, 'a>, Fault>
+    ensures good { IfOk result IsGood }
+    ensures read { IfOk result (λ good.
+        IsRead msg_type.now split.now.fields split.now.fault (said good)) }
+    ensures fault { IfErr result (λ fault.
+        message42 msg_type.now split.now.fields split.now.fault ≡ Err fault) }
+{
+    match tables.get(msg_type) {
+        None => Err(Fault::NotSupported),
+        Some(indexed) => match good_fields_by(indexed, split) {
+            Ok(fields) => Ok(Good {
+                table: indexed.table(),
+                fields,
+            }),
             Err(fault) => Err(fault),
         },
     }

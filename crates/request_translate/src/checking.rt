@@ -7,19 +7,23 @@ ghost use Rattle.request_translate.specs.Translation.{up};
 ghost use Rattle.translation.specs.Going.{AreGone, StayBack};
 ghost use Rattle.translation.specs.Header.{type_of};
 
+use dict_fix42::RequestTables;
 use field_groups::Split;
-use request_rules::{Good, good_request, lack_up};
+use request_rules::{Good, good_request_by, lack_up};
 use translation::{TranslateError, faulty, msg_type};
 
 /// The fields of a body, where they are whole and at no fault beside the table of their type.
 #[tactic(auto, using(crate::proofs::GoodFields::judged))]
-pub(crate) fn good<'s, 'a>(split: &'s Split<'a>) -> Result<Good<'s, 'a>, TranslateError>
+pub(crate) fn good<'s, 'a>(
+    tables: &RequestTables,
+    split: &'s Split<'a>,
+) -> Result<Good<'s, 'a>, TranslateError>
     ensures good { IfOk result IsGood }
     ensures read { IfOk result (λ good.
         IsRead (type_of split.now.fields) split.now.fields split.now.fault (said good)) }
     ensures refused { IfErr result (StayBack up split.now.fields split.now.fault) }
 {
-    match good_request(msg_type(&split.fields), split) {
+    match good_request_by(tables, msg_type(&split.fields), split) {
         Ok(good) => Ok(good),
         Err(fault) => Err(faulty(fault)),
     }
@@ -27,11 +31,11 @@ pub(crate) fn good<'s, 'a>(split: &'s Split<'a>) -> Result<Good<'s, 'a>, Transla
 
 /// Whether the fields of a body are at no fault and lack nothing.
 #[tactic(auto, using(crate::proofs::GoodFields::lacking))]
-pub(crate) fn check_fields(split: &Split<'_>) -> Result<(), TranslateError>
+pub(crate) fn check_fields(tables: &RequestTables, split: &Split<'_>) -> Result<(), TranslateError>
     ensures ok { OnOk result (AreGone up split.now.fields split.now.fault) }
     ensures refused { IfErr result (StayBack up split.now.fields split.now.fault) }
 {
-    let good = good(split)?;
+    let good = good(tables, split)?;
     match lack_up(&good) {
         None => Ok(()),
         Some(tag) => Err(TranslateError::Lacking(tag)),

@@ -8,6 +8,7 @@ ghost use Rattle.translation.specs.Bodies.{Goes};
 ghost use Rattle.translation.specs.Going.{Appends, IsOtherOf, Refuses, StayBack};
 
 use crate::checking::{check_fields, good};
+use dict_fix42::RequestTables;
 use field_groups::{Split, split_into};
 use frame_grammar::{FrameError, Kind, write_frame};
 use request_rules::put_up as put_content;
@@ -16,12 +17,16 @@ use translation::{TranslateError, check_lengths, lacking, msg_type, write_head};
 
 /// Appends the content of the request that stands for the fields of a body.
 #[tactic(auto, using(crate::proofs::GoodFields::put))]
-fn put_up(split: &Split<'_>, out: &mut Vec<u8>) -> Result<(), TranslateError>
+fn put_up(
+    tables: &RequestTables,
+    split: &Split<'_>,
+    out: &mut Vec<u8>,
+) -> Result<(), TranslateError>
     ensures ok { OnOk result
         (Appends way split.now.fields split.now.fault out.old.items out.new.items) }
     ensures refused { IfErr result (StayBack way split.now.fields split.now.fault) }
 {
-    let good = good(split)?;
+    let good = good(tables, split)?;
     match put_content(&good, out) {
         Ok(()) => Ok(()),
         Err(lack) => Err(lacking(lack)),
@@ -30,22 +35,27 @@ fn put_up(split: &Split<'_>, out: &mut Vec<u8>) -> Result<(), TranslateError>
 
 /// Writes to `up`, in place of what it has, the body that stands for the fields of a body.
 #[tactic(auto, using(translation::proofs::Going::grows))]
-fn write_up(split: &Split<'_>, up: &mut Vec<u8>) -> Result<(), TranslateError>
+fn write_up(
+    tables: &RequestTables,
+    split: &Split<'_>,
+    up: &mut Vec<u8>,
+) -> Result<(), TranslateError>
     ensures ok { OnOk result (IsOtherOf way split.now.fields split.now.fault up.new.items) }
     ensures refused { IfErr result (Refuses way split.now.fields split.now.fault) }
 {
     up.clear();
     write_head(msg_type(&split.fields), &split.fields, up)?;
     let head = up.len();
-    put_up(split, up)?;
+    put_up(tables, split, up)?;
     let body = up.len();
     check_lengths(body - head, body)
 }
 
 /// Translates bodies. It keeps the memory for one body from each call to the next.
-#[derive(Debug, Drop)]
+#[derive(Drop)]
 pub struct Translator {
     alloc: Global,
+    tables: RequestTables,
     up: Vec<u8>,
 }
 
@@ -54,6 +64,7 @@ impl Translator {
     pub fn new(alloc: Global) -> Translator {
         Translator {
             alloc,
+            tables: RequestTables::new(),
             up: Vec::new(alloc),
         }
     }
@@ -80,7 +91,7 @@ impl Translator {
     {
         let mut split = Split::new(self.alloc);
         split_into(body, &mut split)?;
-        write_up(&split, &mut self.up)?;
+        write_up(&self.tables, &split, &mut self.up)?;
         match write_frame(Kind::Fixt11, &self.up, out) {
             Ok(()) => Ok(()),
             Err(FrameError::NoMemory) => Err(TranslateError::NoMemory),
@@ -99,6 +110,6 @@ impl Translator {
     {
         let mut split = Split::new(self.alloc);
         split_into(body, &mut split)?;
-        check_fields(&split)
+        check_fields(&self.tables, &split)
     }
 }

@@ -15,13 +15,13 @@ ghost use Rattle.translate_fix44.specs.Put.{IsAsked, IsReport};
 ghost use Rattle.translate_fix44.specs.Translation.{IsRefusedByCheck, direction, down, up};
 
 use crate::putting::{put_down, put_up};
-use dict_fix44::{refusal_table, request_table};
+use dict_fix44::{RequestTables, refusal_table};
 use field_groups::{Fields, Split, split};
-use first_faults::good_fields;
+use first_faults::{Indexed, good_fields, good_fields_by};
 use frame_grammar::{FrameError, Kind, write_frame};
 use message_tables::Table;
 use order_meaning::Fault;
-use reports_fix50::good_report;
+use reports_fix50::ReportTables;
 use row_values::Kind as RowKind;
 use std::alloc::{AllocError, Global};
 use translation::{HeadDown, TranslateError, check_lengths, faulty, lacking, msg_type, write_head};
@@ -69,29 +69,34 @@ fn put_asked(
 #[tactic(auto, using(crate::proofs::Judged::of_table))]
 fn put_by(
     alloc: Global,
-    table: &'static Table<RowKind>,
+    table: &Indexed,
     split: &Split<'_>,
     out: &mut Vec<u8>,
 ) -> Result<(), TranslateError>
-    requires { Some (code_table kind_of table.now) ≡ request_table_of (type_of split.now.fields) }
+    requires { Some table.now ≡ request_table_of (type_of split.now.fields) }
     ensures ok { OnOk result
         (Appends up split.now.fields split.now.fault out.old.items out.new.items) }
     ensures refused { IfErr result (StayBack up split.now.fields split.now.fault) }
 {
-    match good_fields(table, split) {
+    match good_fields_by(table, split) {
         Err(fault) => Err(faulty(fault)),
-        Ok(fields) => put_asked(alloc, table, fields, out),
+        Ok(fields) => put_asked(alloc, table.table(), fields, out),
     }
 }
 
 /// Appends the content of FIX 5.0 SP2 of the request that stands for the fields of a body.
 #[tactic(auto, using(crate::proofs::Judged::of_request))]
-fn put_request(alloc: Global, split: &Split<'_>, out: &mut Vec<u8>) -> Result<(), TranslateError>
+fn put_request(
+    alloc: Global,
+    tables: &RequestTables,
+    split: &Split<'_>,
+    out: &mut Vec<u8>,
+) -> Result<(), TranslateError>
     ensures ok { OnOk result
         (Appends up split.now.fields split.now.fault out.old.items out.new.items) }
     ensures refused { IfErr result (StayBack up split.now.fields split.now.fault) }
 {
-    match request_table(msg_type(&split.fields)) {
+    match tables.get(msg_type(&split.fields)) {
         None => Err(TranslateError::Faulty(Fault::NotSupported)),
         Some(table) => put_by(alloc, table, split, out),
     }
@@ -111,27 +116,45 @@ fn put_told(alloc: Global, fields: &Fields<'_>, out: &mut Vec<u8>) -> Result<(),
 
 /// Appends the content of FIX 4.4 of the report that stands for the fields of a body.
 #[tactic(auto, using(crate::proofs::Judged::of_report))]
-fn put_report(alloc: Global, split: &Split<'_>, out: &mut Vec<u8>) -> Result<(), TranslateError>
+fn put_report(
+    alloc: Global,
+    tables: &ReportTables,
+    split: &Split<'_>,
+    out: &mut Vec<u8>,
+) -> Result<(), TranslateError>
     ensures ok { OnOk result
         (Appends down split.now.fields split.now.fault out.old.items out.new.items) }
     ensures refused { IfErr result (StayBack down split.now.fields split.now.fault) }
 {
-    match good_report(msg_type(&split.fields), split) {
+    match tables.good(msg_type(&split.fields), split) {
         Err(fault) => Err(faulty(fault)),
         Ok(fields) => put_told(alloc, fields, out),
     }
 }
 
+/// The tables of the messages of both ways.
+#[derive(Drop)]
+struct Tables {
+    requests: RequestTables,
+    reports: ReportTables,
+}
+
 /// Appends the content that stands for the fields of a body.
-fn put(way: Way, alloc: Global, split: &Split<'_>, out: &mut Vec<u8>) -> Result<(), TranslateError>
+fn put(
+    way: Way,
+    alloc: Global,
+    tables: &Tables,
+    split: &Split<'_>,
+    out: &mut Vec<u8>,
+) -> Result<(), TranslateError>
     ensures ok { OnOk result (Appends (direction way) split.now.fields split.now.fault
         out.old.items out.new.items) }
     ensures refused { IfErr result
         (StayBack (direction way) split.now.fields split.now.fault) }
 {
     match way {
-        Way::Up => put_request(alloc, split, out),
-        Way::Down => put_report(alloc, split, out),
+        Way::Up => put_request(alloc, &tables.requests, split, out),
+        Way::Down => put_report(alloc, &tables.reports, split, out),
     }
 }
 
@@ -155,6 +178,7 @@ fn put_head(way: Way, fields: &Fields<'_>, out: &mut Vec<u8>) -> Result<(), Allo
 fn write(
     way: Way,
     alloc: Global,
+    tables: &Tables,
     split: &Split<'_>,
     other: &mut Vec<u8>,
 ) -> Result<(), TranslateError>
@@ -165,7 +189,7 @@ fn write(
     other.clear();
     put_head(way, &split.fields, other)?;
     let head = other.len();
-    put(way, alloc, split, other)?;
+    put(way, alloc, tables, split, other)?;
     let whole = other.len();
     check_lengths(whole - head, whole)
 }
@@ -201,9 +225,10 @@ pub fn check_refusal(alloc: Global, body: &[u8]) -> Result<(), TranslateError>
 
 /// Translates bodies between FIX 4.4 and FIX 5.0 SP2. It keeps the memory for one body from each
 /// call to the next.
-#[derive(Debug, Drop)]
+#[derive(Drop)]
 pub struct Translator44 {
     alloc: Global,
+    tables: Tables,
     other: Vec<u8>,
 }
 
@@ -212,6 +237,10 @@ impl Translator44 {
     pub fn new(alloc: Global) -> Translator44 {
         Translator44 {
             alloc,
+            tables: Tables {
+                requests: RequestTables::new(),
+                reports: ReportTables::new(),
+            },
             other: Vec::new(alloc),
         }
     }
@@ -241,7 +270,7 @@ impl Translator44 {
         ensures err { OnErr result (out.new.items ≡ out.old.items) }
     {
         let split = split(self.alloc, body)?;
-        write(way, self.alloc, &split, &mut self.other)?;
+        write(way, self.alloc, &self.tables, &split, &mut self.other)?;
         match write_frame(way.kind(), &self.other, out) {
             Ok(()) => Ok(()),
             Err(FrameError::NoMemory) => Err(TranslateError::NoMemory),
@@ -261,6 +290,6 @@ impl Translator44 {
     {
         let split = split(self.alloc, body)?;
         self.other.clear();
-        put_request(self.alloc, &split, &mut self.other)
+        put_request(self.alloc, &self.tables.requests, &split, &mut self.other)
     }
 }

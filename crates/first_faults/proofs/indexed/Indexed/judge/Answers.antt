@@ -1,0 +1,28 @@
+use Rattle.std.proofs.Common.{false, true, sym, subst, ◌∙◌}
+use Rattle.message_tables.specs.Tables.{Table}
+use Rattle.row_values.specs.Kinds.{Kind}
+use Rattle.first_faults.specs.Indexed.{IsGoodField}
+use Rattle.first_faults.proofs.ByTags.{other_good, own_good}
+use Rattle.first_faults.proofs.OnePass.{member_loose}
+use Rattle.first_faults.proofs.indexed.Indexed.judge.Goals as goal
+
+pub returns-then-value_fits : goal.returns-then-value_fits
+returns-then-value_fits c =
+    subst (λ (t : Table Kind). IsGoodField t c.args.fields.now c.args.place true) c.self.view_is
+    (own_good c.self.inside.table.now c.args.fields.now c.args.place c.in_ok-tag.tag
+    c.in_ok-tag.value.now c.in-Own.row.now c.in_ok-tag.ensures c.in-Own.ensures.0
+    c.in-Own.ensures.1 (c.is_first.ensures c.if-is_first.true)
+    (sym c.value_fits.ensures ∙ c.if-value_fits.true))
+
+pub returns-then-value_fits-2 : goal.returns-then-value_fits-2
+returns-then-value_fits-2 c =
+    subst (λ (t : Table Kind). IsGoodField t c.args.fields.now c.args.place false) c.self.view_is
+    (other_good _ c.args.fields.now c.args.place
+    (member_loose c.self.inside.table.now c.args.fields.now c.args.place c.in_ok-tag.tag
+    c.in_ok-tag.value.now c.in_ok-tag.ensures c.in-Member.ensures.1 c.in-Member.row.now
+    c.in-Member.ensures.0 (sym c.value_fits-in-Member.ensures ∙ c.if-value_fits-2.true)))
+
+pub returns-then-is_loose : goal.returns-then-is_loose
+returns-then-is_loose c =
+    subst (λ (t : Table Kind). IsGoodField t c.args.fields.now c.args.place false) c.self.view_is
+    (other_good _ c.args.fields.now c.args.place (c.is_loose.ensures c.if-is_loose.true))

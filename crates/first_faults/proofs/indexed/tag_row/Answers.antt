@@ -1,0 +1,13 @@
+use Rattle.std.proofs.Common.{sym, ◌∙◌}
+use Rattle.first_faults.proofs.ByTags.{member_row, own_row}
+use Rattle.first_faults.proofs.indexed.tag_row.Goals as goal
+
+pub returns-then-not-is_in_groups : goal.returns-then-not-is_in_groups
+returns-then-not-is_in_groups c =
+    own_row c.args.table.now c.args.tag c.in-Some.row c.in-Some.ensures
+    (sym c.is_in_groups.ensures ∙ c.if-not-is_in_groups.true)
+
+pub returns-then-not-is_once : goal.returns-then-not-is_once
+returns-then-not-is_once c =
+    member_row c.args.table.now c.args.tag c.in-Some.row c.in-Some.ensures
+    (sym c.is_once.ensures ∙ c.if-not-is_once.true)

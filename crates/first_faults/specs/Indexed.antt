@@ -1,0 +1,104 @@
+-- Inside: a table of the code whose rows are found by their tags, and what a pass by it shows.
+use Rattle.std.specs.Prelude.{◌≡◌, ◌==◌, ◌<◌, ◌||◌, ℕ, Bool, true, false, not, List, [], ◌∷◌, map}
+use Rattle.std.specs.Prelude.{Some, None, slice_index_or, if◌then◌else◌}
+use Rattle.std.specs.Borrow.{Bor}
+use Rattle.std.specs.List.{flat_map, list_all, list_any}
+use Rattle.std.specs.declared.option.Option.{Option}
+use Rattle.field_groups.specs.Field.{Field}
+use Rattle.message_tables.specs.declared.table.Row.{Row as CodeRow}
+use Rattle.message_tables.specs.declared.table.Item.{Item as CodeItem}
+use Rattle.message_tables.specs.declared.table.Table.{Table as CodeTable}
+use Rattle.message_tables.specs.Tables.{Item, Need, One, Party, Lines, Required, Row, Table, When}
+use Rattle.message_tables.specs.Tables.{all_rows, has_tag, is_needed, is_one_of, row_at}
+use Rattle.message_tables.specs.FirstFault.{group_tags_in, is_of_group, once_in}
+use Rattle.message_tables.specs.CodeTables.{item_of, row_of, table_of}
+use Rattle.message_tables.specs.Plain.{IsLoose, IsWhole}
+use Rattle.row_values.specs.declared.kinds.Kind.{Kind as CodeKind}
+use Rattle.row_values.specs.CodeKinds.{kind_of}
+use Rattle.row_values.specs.Kinds.{Kind, judge}
+use Rattle.first_faults.specs.declared.indexed.TagRow.{TagRow}
+use Rattle.first_faults.specs.declared.indexed.TagRow.TheVariants.{Absent, Own, Member}
+
+-- ---- rows by their tags
+
+-- a table of the code with the kinds of the code
+abbrev pub own : CodeTable CodeKind → Table CodeKind
+own table = table_of (λ (k : CodeKind). k) table
+
+-- the first row of a tag
+abbrev pub IsFirstRow : CodeTable CodeKind → ℕ → CodeRow CodeKind → Type 0
+IsFirstRow table tag row =
+    Some (row_of (λ (k : CodeKind). k) row) ≡ row_at tag (all_rows (own table))
+
+-- a tag that is in no group
+abbrev pub IsAlone : {Kind : Type 0} → Table Kind → ℕ → Type 0
+IsAlone table tag = list_any (is_of_group tag) (group_tags_in table) ≡ false
+
+-- what is found of a tag: no row, or the first one, with how the tag may stand
+abbrev pub IsRowOf : CodeTable CodeKind → ℕ → TagRow → Type 0
+IsRowOf table tag Absent = Unit {0}
+IsRowOf table tag (Own row) = IsFirstRow table tag row.now × IsAlone (own table) tag
+IsRowOf table tag (Member row) =
+    IsFirstRow table tag row.now × (is_one_of (once_in (own table)) tag ≡ false)
+
+-- the same of the row's own tag
+abbrev pub IsTagRow : CodeTable CodeKind → TagRow → Type 0
+IsTagRow table Absent = Unit {0}
+IsTagRow table (Own row) = IsRowOf table row.now.tag (Own row)
+IsTagRow table (Member row) = IsRowOf table row.now.tag (Member row)
+
+abbrev pub AreTagRows : CodeTable CodeKind → List TagRow → Type 0
+AreTagRows table rows = (place : ℕ) → IsTagRow table (slice_index_or rows place Absent)
+
+-- the row, where it is that of a tag
+abbrev pub of_tag : ℕ → TagRow → TagRow
+of_tag tag Absent = Absent
+of_tag tag (Own row) = if row.now.tag == tag then Own row else Absent
+of_tag tag (Member row) = if row.now.tag == tag then Member row else Absent
+
+-- ---- rows that a message may have to say
+
+abbrev pub may_be_needed : Need → Bool
+may_be_needed Required = true
+may_be_needed (When condition) = true
+may_be_needed need = false
+
+abbrev pub needed_of : Item Kind → List (Row Kind)
+needed_of (One row) = if may_be_needed row.need then row ∷ [] else []
+needed_of (Party role) = []
+needed_of (Lines group) = []
+
+abbrev pub row_in : Option (Bor (CodeRow CodeKind)) → List (Row Kind)
+row_in None = []
+row_in (Some row) = row_of kind_of row.now ∷ []
+
+abbrev pub AreNeeded : List (CodeItem CodeKind) → List (Option (Bor (CodeRow CodeKind))) → Type 0
+AreNeeded items rows = flat_map row_in rows ≡ flat_map needed_of (map (item_of kind_of) items)
+
+-- a row that has a field, or needs none
+abbrev pub is_said : List Field → Row Kind → Bool
+is_said fields row = has_tag row.tag fields || not (is_needed row.need fields)
+
+abbrev pub AreSaid : List Field → List (Item Kind) → Type 0
+AreSaid fields items = list_all (is_said fields) (flat_map needed_of items) ≡ true
+
+-- ---- the pass
+
+-- an item that is no group, or a whole one
+abbrev pub IsWholeItem : List Field → Item Kind → Type 0
+IsWholeItem fields (One row) = Unit {0}
+IsWholeItem fields (Party role) = Unit {0}
+IsWholeItem fields (Lines group) = IsWhole fields group
+
+-- a good field, and whether it is known to be in no group
+pub record IsGoodField (table : Table Kind) (fields : List Field) (place : ℕ) (apart : Bool)
+    : Type 0 where
+  pub loose : IsLoose judge fields table place
+  pub alone : apart ≡ true → IsAlone table (slice_index_or fields place (0, [])).0
+
+-- the same of the fields before a place
+pub record AreGoodFields (table : Table Kind) (fields : List Field) (count : ℕ) (apart : Bool)
+    : Type 0 where
+  pub loose : (place : ℕ) → place < count → IsLoose judge fields table place
+  pub alone : apart ≡ true → (place : ℕ) → place < count
+      → IsAlone table (slice_index_or fields place (0, [])).0

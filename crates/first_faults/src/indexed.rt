@@ -1,0 +1,426 @@
+//! A table whose rows are found by their tags, and one pass over the fields of a message by it.
+
+ghost use Rattle.std.specs.Prelude.{◌≡◌, ◌&&◌, IfSome, IsTrue, None, false, map, take, true};
+ghost use Rattle.std.specs.List.{AllByRecursion, flat_map, list_all};
+ghost use Rattle.message_tables.specs.declared.table.Table.{Table as CodeTable};
+ghost use Rattle.message_tables.specs.CodeTables.{group_of, item_of, need_of, row_of};
+ghost use Rattle.message_tables.specs.CodeTables.{table_of as code_table};
+ghost use Rattle.message_tables.specs.Tables.{has_tag, is_one_of};
+ghost use Rattle.message_tables.specs.FirstFault.{first_fault, marked, once_in};
+ghost use Rattle.message_tables.specs.Plain.{IsLoose, IsWhole};
+ghost use Rattle.message_tables.specs.Stages.{IsFound};
+ghost use Rattle.row_values.specs.declared.kinds.Kind.{Kind as CodeKind};
+ghost use Rattle.row_values.specs.CodeKinds.{kind_of};
+ghost use Rattle.row_values.specs.Kinds.{judge};
+ghost use Rattle.first_faults.specs.Indexed.{AreNeeded, AreSaid, AreTagRows, IsGoodField};
+ghost use Rattle.first_faults.specs.Indexed.{IsRowOf, IsTagRow, IsWholeItem, is_said};
+ghost use Rattle.first_faults.specs.Indexed.{may_be_needed, needed_of, of_tag, row_in};
+
+use crate::faults::{is_first, is_good, mark, value_fits};
+use arrayvec::ArrayVec;
+use field_groups::Fields;
+use message_tables::{Found, Item, Mark, Need, RepeatingGroup, Row, Table, TableFault};
+use row_values::Kind;
+use std::marker::Model;
+
+/// How many remainders of tags there are.
+const REMAINDERS: usize = 512;
+
+/// The most rows of a table that are found by their tags; further ones are searched.
+const MAX_ROWS: usize = 96;
+
+/// The most rows that a message may have to say.
+const MAX_NEEDED: usize = 32;
+
+/// The first row of a tag in a table.
+#[derive(Clone, Copy)]
+enum TagRow {
+    /// It is not known.
+    Absent,
+    /// It and its tag are in no group.
+    Own(&'static Row<Kind>),
+    /// Its tag may stand again and again, as those of the members of groups.
+    Member(&'static Row<Kind>),
+}
+
+impl TagRow {
+    /// The row, where it is that of a tag.
+    #[inline(always)]
+    fn of(self, tag: u32) -> TagRow
+        ensures { result ≡ of_tag tag self }
+    {
+        match self {
+            TagRow::Absent => TagRow::Absent,
+            TagRow::Own(row) => if row.tag == tag {
+                TagRow::Own(row)
+            } else {
+                TagRow::Absent
+            },
+            TagRow::Member(row) => if row.tag == tag {
+                TagRow::Member(row)
+            } else {
+                TagRow::Absent
+            },
+        }
+    }
+}
+
+/// Rows that are found by their tags.
+#[derive(Drop)]
+struct TagRows {
+    // For each remainder of tags by 512 the place of the last row whose tag has it.
+    places: [u8; REMAINDERS],
+    rows: [TagRow; MAX_ROWS],
+    count: usize,
+}
+
+/// The first row of a tag.
+fn tag_row(table: &'static Table<Kind>, tag: u32) -> TagRow
+    ensures { IsTagRow table.now result }
+{
+    match table.row(tag) {
+        None => TagRow::Absent,
+        Some(row) => if !table.is_in_groups(tag) {
+            TagRow::Own(row)
+        } else if !table.is_once(tag) {
+            TagRow::Member(row)
+        } else {
+            TagRow::Absent
+        },
+    }
+}
+
+impl TagRows {
+    /// No rows.
+    fn new() -> TagRows
+        ensures { (table : CodeTable CodeKind) → AreTagRows table result.rows }
+    {
+        TagRows {
+            places: [0; REMAINDERS],
+            rows: [TagRow::Absent; MAX_ROWS],
+            count: 0,
+        }
+    }
+
+    /// Keeps the row of a tag, where there is room for it.
+    fn keep(&mut self, table: &'static Table<Kind>, tag: u32)
+        requires { AreTagRows table.now self.old.rows }
+        ensures { AreTagRows table.now self.new.rows }
+    {
+        let place = self.count;
+        if place < MAX_ROWS {
+            self.rows[place] = tag_row(table, tag);
+            self.places[tag as usize % REMAINDERS] = place as u8;
+            self.count = place + 1;
+        }
+    }
+
+    /// Keeps the rows of these tags.
+    fn keep_all(&mut self, table: &'static Table<Kind>, rows: &[Row<Kind>])
+        requires { AreTagRows table.now self.old.rows }
+        ensures { AreTagRows table.now self.new.rows }
+    {
+        for row in rows {
+            self.keep(table, row.tag);
+        }
+    }
+
+    /// Keeps the rows of an item.
+    fn keep_item(&mut self, table: &'static Table<Kind>, item: &Item<Kind>)
+        requires { AreTagRows table.now self.old.rows }
+        ensures { AreTagRows table.now self.new.rows }
+    {
+        match item {
+            Item::One(row) => self.keep(table, row.tag),
+            Item::Party(_) => {}
+            Item::Lines(group) => self.keep_all(table, group.rows),
+        }
+    }
+
+    /// The rows of a table.
+    fn of(table: &'static Table<Kind>) -> TagRows
+        ensures { AreTagRows table.now result.rows }
+    {
+        let mut rows = TagRows::new();
+        rows.keep_all(table, table.header);
+        for item in table.items {
+            rows.keep_item(table, item);
+        }
+        rows
+    }
+
+    /// The first row of a tag, where it is found.
+    #[inline(always)]
+    fn get(&self, table: &'static Table<Kind>, tag: u32) -> TagRow
+        requires { AreTagRows table.now self.now.rows }
+        ensures { IsRowOf table.now tag result }
+    {
+        match self
+            .rows
+            .get(self.places[tag as usize % REMAINDERS] as usize)
+        {
+            None => TagRow::Absent,
+            Some(row) => row.of(tag),
+        }
+    }
+}
+
+/// Rows that a message may have to say.
+type Needed = ArrayVec<Option<&'static Row<Kind>>, MAX_NEEDED>;
+
+/// Whether fields may have to say a row with this need.
+fn may_be_needed(need: &Need) -> bool
+    ensures { result ≡ may_be_needed (need_of need.now) }
+{
+    match need {
+        Need::Required | Need::When(_) => true,
+        _ => false,
+    }
+}
+
+/// The row of an item, where a message may have to say it.
+fn needed_row(item: &'static Item<Kind>) -> Option<&'static Row<Kind>>
+    ensures { row_in result ≡ needed_of (item_of kind_of item.now) }
+{
+    match item {
+        Item::One(row) => if may_be_needed(&row.need) {
+            Some(row)
+        } else {
+            None
+        },
+        _ => None,
+    }
+}
+
+/// The rows of items that a message may have to say; `None` where there are more than 32.
+fn needed_rows(items: &'static [Item<Kind>]) -> Option<Needed>
+    ensures { IfSome result (λ needed. AreNeeded items.now needed.items) }
+{
+    let mut needed = ArrayVec::new();
+    for item in items {
+        if let Some(row) = needed_row(item) {
+            match needed.try_push(Some(row)) {
+                Ok(()) => {}
+                Err(_) => return None,
+            }
+        }
+    }
+    Some(needed)
+}
+
+/// Whether a row has a field, or needs none.
+#[inline(always)]
+fn is_said(row: &Row<Kind>, fields: &Fields<'_>) -> bool
+    ensures { result ≡ is_said fields.now (row_of kind_of row.now) }
+{
+    match fields.find(row.tag) {
+        Some(_) => true,
+        None => !row.need.is_needed(fields),
+    }
+}
+
+/// The same of a row that there may be.
+#[inline(always)]
+fn is_said_if(row: &Option<&'static Row<Kind>>, fields: &Fields<'_>) -> bool
+    ensures { IsTrue result → list_all (is_said fields.now) (row_in row.now) ≡ true }
+{
+    match row {
+        None => true,
+        Some(row) => is_said(row, fields),
+    }
+}
+
+/// Whether each of these rows has a field, or needs none.
+fn are_said(rows: &[Option<&'static Row<Kind>>], fields: &Fields<'_>) -> bool
+    ensures { IsTrue result → list_all (is_said fields.now) (flat_map row_in rows.now) ≡ true }
+{
+    for row in rows {
+        if !is_said_if(row, fields) {
+            return false;
+        }
+    }
+    true
+}
+
+/// Whether a group has no field, or is whole.
+fn is_whole(group: &RepeatingGroup<Kind>, fields: &Fields<'_>) -> bool
+    ensures { IsTrue result → IsWhole fields.now (group_of kind_of group.now) }
+{
+    group.is_absent(fields) || group.is_whole(fields)
+}
+
+/// Whether an item is no group, or a group that has no field or is whole.
+fn is_whole_item(item: &Item<Kind>, fields: &Fields<'_>) -> bool
+    ensures { IsTrue result → IsWholeItem fields.now (item_of kind_of item.now) }
+{
+    match item {
+        Item::Lines(group) => is_whole(group, fields),
+        _ => true,
+    }
+}
+
+/// Whether each group has no field, or is whole.
+#[inline(never)]
+fn are_whole(items: &[Item<Kind>], fields: &Fields<'_>) -> bool
+    ensures { IsTrue result
+        → AllByRecursion (IsWholeItem fields.now) (map (item_of kind_of) items.now) }
+{
+    for item in items {
+        if !is_whole_item(item, fields) {
+            return false;
+        }
+    }
+    true
+}
+
+/// Whether the field at a place is the first of its tag, or the tag may stand again.
+fn stands_once(table: &Table<Kind>, fields: &Fields<'_>, tag: u32, place: usize) -> bool
+    ensures { IsTrue result → (is_one_of (once_in (code_table (λ k. k) table.now)) tag
+        && has_tag tag (take place fields.now)) ≡ false }
+{
+    is_first(fields, tag, place) || !table.is_once(tag)
+}
+
+/// Whether a field is good, whose row is searched in the table. Such fields are few: counts of
+/// groups, and those without a row.
+#[inline(never)]
+fn is_loose(table: &Table<Kind>, fields: &Fields<'_>, place: usize) -> bool
+    ensures { IsTrue result → IsLoose judge fields.now (code_table kind_of table.now) place }
+{
+    match fields.at(place) {
+        None => false,
+        Some((tag, value)) => stands_once(table, fields, tag, place)
+            && is_good(mark(table, fields, tag, value)),
+    }
+}
+
+/// A table whose rows are found by their tags.
+#[derive(Drop)]
+pub struct Indexed {
+    table: &'static Table<Kind>,
+    rows: TagRows,
+    needed: Option<Needed>,
+}
+
+impl Model for Indexed {
+    ghost use Rattle.std.specs.Prelude.{IfSome};
+    ghost use Rattle.message_tables.specs.Tables.{Table};
+    ghost use Rattle.message_tables.specs.CodeTables.{table_of};
+    ghost use Rattle.row_values.specs.CodeKinds.{kind_of};
+    ghost use Rattle.row_values.specs.Kinds.{Kind};
+    ghost use Rattle.first_faults.specs.Indexed.{AreNeeded, AreTagRows};
+
+    ghost Value = { Table Kind };
+
+    ghost view = { λ i. table_of kind_of i.table.now };
+
+    ghost invariant = { λ i. AreTagRows i.table.now i.rows.rows
+        × IfSome i.needed (λ needed. AreNeeded i.table.now.items.now needed.items) };
+}
+
+impl Indexed {
+    /// A table with its rows by their tags.
+    pub fn new(table: &'static Table<Kind>) -> Indexed
+        ensures { result ≡ code_table kind_of table.now }
+    {
+        Indexed {
+            table,
+            rows: TagRows::of(table),
+            needed: needed_rows(table.items),
+        }
+    }
+
+    /// The table.
+    #[inline(always)]
+    pub fn table(&self) -> &'static Table<Kind>
+        ensures { code_table kind_of result.now ≡ self.now }
+    {
+        self.table
+    }
+
+    /// Whether the field at a place is in no group; `None` where it is not good.
+    #[inline(always)]
+    fn judge(&self, fields: &Fields<'_>, place: usize) -> Option<bool>
+        ensures { IfSome result (IsGoodField self.now fields.now place) }
+    {
+        let (tag, value) = fields.at(place)?;
+        match self.rows.get(self.table, tag) {
+            TagRow::Own(row) => if is_first(fields, tag, place) && value_fits(row, fields, value) {
+                Some(true)
+            } else {
+                None
+            },
+            TagRow::Member(row) => if value_fits(row, fields, value) {
+                Some(false)
+            } else {
+                None
+            },
+            TagRow::Absent => if is_loose(self.table, fields, place) {
+                Some(false)
+            } else {
+                None
+            },
+        }
+    }
+
+    /// Whether each row that is needed has a field.
+    #[inline(always)]
+    fn are_said(&self, fields: &Fields<'_>) -> bool
+        ensures { IsTrue result → AreSaid fields.now self.now.items }
+    {
+        match &self.needed {
+            None => false,
+            Some(needed) => are_said(needed.as_slice(), fields),
+        }
+    }
+
+    /// Whether one pass over the fields shows that they are at no fault.
+    fn is_plain(&self, fields: &Fields<'_>) -> bool
+        ensures { IsTrue result → first_fault judge self.now fields.now ≡ None }
+    {
+        let mut own = true;
+        for place in 0..fields.len() {
+            match self.judge(fields, place) {
+                None => return false,
+                Some(alone) => if !alone {
+                    own = false;
+                },
+            }
+        }
+        self.are_said(fields) && (own || are_whole(self.table.items, fields))
+    }
+    /// What a field is beside its row.
+    fn mark(&self, fields: &Fields<'_>, tag: u32, value: &[u8]) -> Mark
+        ensures { (tag, result) ≡ marked judge self.now fields.now (tag, value.now) }
+    {
+        match self.rows.get(self.table, tag) {
+            TagRow::Own(row) => row.need.allows(row.kind.judge(fields, value)),
+            TagRow::Member(row) => row.need.allows(row.kind.judge(fields, value)),
+            TagRow::Absent => mark(self.table, fields, tag, value),
+        }
+    }
+
+    /// The first faults of the values of these fields.
+    #[inline(never)]
+    fn found(&self, fields: &Fields<'_>) -> Found
+        ensures { IsFound (map (marked judge self.now fields.now) fields.now) result }
+    {
+        let mut found = Found::new();
+        let parts = fields.as_slice();
+        for (tag, value) in parts {
+            found = found.with(*tag, self.mark(fields, *tag, value));
+        }
+        found
+    }
+
+    /// The first fault of these fields.
+    pub(crate) fn first_fault(&self, fields: &Fields<'_>) -> Option<TableFault>
+        ensures { result ≡ first_fault judge self.now fields.now }
+    {
+        if self.is_plain(fields) {
+            return None;
+        }
+        self.table
+            .first_fault(fields.as_slice(), &self.found(fields))
+    }
+}
