@@ -60,10 +60,10 @@ pub fn request_table(msg_type: &[u8]) -> Option<&'static Table<Kind>>
 /// The tables of requests, whose rows are found by their tags.
 #[derive(Drop)]
 pub struct RequestTables {
-    new_order: Indexed,
-    cancel_request: Indexed,
-    replace_request: Indexed,
-    status_request: Indexed,
+    new: Indexed,
+    cancel: Indexed,
+    replace: Indexed,
+    status: Indexed,
 }
 
 impl Model for RequestTables {
@@ -76,20 +76,20 @@ impl Model for RequestTables {
 
     ghost view = { λ _. tt };
 
-    ghost invariant = { λ t. (t.new_order ≡ table 68 new_order)
-        × (t.cancel_request ≡ table 70 cancel_request)
-        × (t.replace_request ≡ table 71 replace_request)
-        × (t.status_request ≡ table 72 status_request) };
+    ghost invariant = { λ t. (t.new ≡ table 68 new_order)
+        × (t.cancel ≡ table 70 cancel_request)
+        × (t.replace ≡ table 71 replace_request)
+        × (t.status ≡ table 72 status_request) };
 }
 
 impl RequestTables {
     /// The tables.
     pub fn new() -> RequestTables {
         RequestTables {
-            new_order: Indexed::new(tables::new_order()),
-            cancel_request: Indexed::new(tables::cancel_request()),
-            replace_request: Indexed::new(tables::replace_request()),
-            status_request: Indexed::new(tables::status_request()),
+            new: Indexed::new(tables::new_order()),
+            cancel: Indexed::new(tables::cancel_request()),
+            replace: Indexed::new(tables::replace_request()),
+            status: Indexed::new(tables::status_request()),
         }
     }
 
@@ -98,13 +98,13 @@ impl RequestTables {
         ensures { option_map (λ table. table.now) result ≡ table_of msg_type.now }
     {
         if is_type(msg_type, b'D') {
-            Some(&self.new_order)
+            Some(&self.new)
         } else if is_type(msg_type, b'F') {
-            Some(&self.cancel_request)
+            Some(&self.cancel)
         } else if is_type(msg_type, b'G') {
-            Some(&self.replace_request)
+            Some(&self.replace)
         } else if is_type(msg_type, b'H') {
-            Some(&self.status_request)
+            Some(&self.status)
         } else {
             None
         }

@@ -198,10 +198,10 @@ fn status_request() -> &'static Table<Kind>
 /// The tables of requests, whose rows are found by their tags.
 #[derive(Drop)]
 pub struct RequestTables {
-    new_order: Indexed,
-    cancel_request: Indexed,
-    replace_request: Indexed,
-    status_request: Indexed,
+    new: Indexed,
+    cancel: Indexed,
+    replace: Indexed,
+    status: Indexed,
 }
 
 impl Model for RequestTables {
@@ -214,20 +214,20 @@ impl Model for RequestTables {
 
     ghost view = { λ _. tt };
 
-    ghost invariant = { λ t. (t.new_order ≡ table 68 new_order)
-        × (t.cancel_request ≡ table 70 cancel_request)
-        × (t.replace_request ≡ table 71 replace_request)
-        × (t.status_request ≡ table 72 status_request) };
+    ghost invariant = { λ t. (t.new ≡ table 68 new_order)
+        × (t.cancel ≡ table 70 cancel_request)
+        × (t.replace ≡ table 71 replace_request)
+        × (t.status ≡ table 72 status_request) };
 }
 
 impl RequestTables {
     /// The tables.
     pub fn new() -> RequestTables {
         RequestTables {
-            new_order: Indexed::new(new_order()),
-            cancel_request: Indexed::new(cancel_request()),
-            replace_request: Indexed::new(replace_request()),
-            status_request: Indexed::new(status_request()),
+            new: Indexed::new(new_order()),
+            cancel: Indexed::new(cancel_request()),
+            replace: Indexed::new(replace_request()),
+            status: Indexed::new(status_request()),
         }
     }
 
@@ -236,13 +236,13 @@ impl RequestTables {
         ensures { option_map (λ table. table.now) result ≡ request_table_of msg_type.now }
     {
         if is_type(msg_type, b'D') {
-            Some(&self.new_order)
+            Some(&self.new)
         } else if is_type(msg_type, b'F') {
-            Some(&self.cancel_request)
+            Some(&self.cancel)
         } else if is_type(msg_type, b'G') {
-            Some(&self.replace_request)
+            Some(&self.replace)
         } else if is_type(msg_type, b'H') {
-            Some(&self.status_request)
+            Some(&self.status)
         } else {
             None
         }
