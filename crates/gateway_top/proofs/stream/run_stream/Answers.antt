@@ -7,6 +7,7 @@ use Rattle.outside.proofs.Fronts.{appended_front}
 use Rattle.frame_grammar.specs.declared.frame.Kind.{Kind}
 use Rattle.frame_grammar.specs.Cut.{Cut}
 use Rattle.frame_grammar.specs.Places.{EndsIn, place_after}
+use Rattle.gateway_top.specs.declared.status.Status.{Status}
 use Rattle.gateway_top.specs.declared.task.Task.{Task}
 use Rattle.gateway_top.specs.Pass.{Advances, Ends}
 use Rattle.gateway_top.specs.Task.{has_ended, stops}
@@ -45,6 +46,16 @@ returns-in-Ok-eq0-clause-ran g c =
           e.0 (c.in-Ok-eq0.ensures.end c.in-Ok-eq0.field-0-test) c.loop-pass.invariant.limit ends
           c.end.result (g.O.Sink.bytes c.end.new.out) said,
     )
+
+-- an end is no fault of the input
+pub returns-in-Ok-eq0-clause-input_fault : goal.returns-in-Ok-eq0-clause-input_fault
+returns-in-Ok-eq0-clause-input_fault g c = λ is.
+    let m = c.loop-pass.invariant.midway in
+    let kind = c.loop-pass.invariant.kind in
+    let cut = subst (λ (k : Kind). Cut k m.bytes m.answered m.rest) (sym kind) m.cut in
+    let e = c.end.ensures.ends m.bytes m.rest m.answered m.stands cut in
+    absurd (subst (λ (s : Status). Ends c.loop-pass.pass.task e.0 c.loop-pass.pass.refused s
+    (g.O.Sink.bytes c.loop-pass.out) (g.O.Sink.bytes c.end.new.out)) is e.2)
 
 pub returns-in-Err-clause-ran : goal.returns-in-Err-clause-ran
 returns-in-Err-clause-ran g c =
