@@ -30,23 +30,24 @@ module _ {Rule : Type 0} (rules : List Rule) (i : ℕ) (rule : Rule) (is : rule 
       ∙ ap body_of (sym (flat_map-append writes (take i rules) (rule ∷ []))
       ∙ ap (flat_map writes) (sym one_more)))
 
-  -- where what is left lacks this
-  module _ (lack : Rule → Option ℕ) (all : Option ℕ)
-      (left : first_of lack (drop i rules) ≡ all) where
+  module _ (lack : Rule → Option ℕ)
+      (left : first_of lack (drop i rules) ≡ first_of lack rules) where
     next : first_of lack (drop i rules)
         ≡ or_else (lack rule) (first_of lack (drop (i + 1) rules))
     unfolding first_of
     next = at_drop_more (first_of lack) rules i rule within
         ∙ ap (λ (r : Rule). or_else (lack r) (first_of lack (drop (i + 1) rules))) (sym is)
 
-    -- the rule lacks nothing, and what is left behind it is so
-    pub lack_passed : lack rule ≡ None → first_of lack (drop (i + 1) rules) ≡ all
+    -- it lacks nothing, and what is left is so
+    pub lack_passed : lack rule ≡ None
+        → first_of lack (drop (i + 1) rules) ≡ first_of lack rules
     lack_passed none =
         ap (λ (o : Option ℕ). or_else o (first_of lack (drop (i + 1) rules))) (sym none)
         ∙ sym next ∙ left
 
-    -- its lack is that of all that was left
-    pub lack_found : (e : Lack) → IsLackOf (lack rule) e → IsLackOf all e
+    -- its lack is that of all
+    pub lack_found : (e : Lack) → IsLackOf (lack rule) e
+        → IsLackOf (first_of lack rules) e
     lack_found faults.NoMemory lacking = tt
     lack_found (faults.Tag tag) lacking =
         sym left ∙ next

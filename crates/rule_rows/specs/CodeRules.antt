@@ -1,11 +1,9 @@
 -- Inside: the rules of a direction as the code has them, what it reads by them, and what it writes
 -- by each of what it has read, whatever the kinds of the direction's own are.
-use Rattle.std.specs.Prelude.{◌≡◌, ℕ, Bool, List, [], ◌∷◌, ◌++◌, map, take}
-use Rattle.std.specs.Prelude.{Option, Some, None}
-use Rattle.std.specs.List.{flat_map}
+use Rattle.std.specs.Prelude.{◌≡◌, ℕ, Bool, List, [], ◌∷◌, map, Option, Some, None}
 use Rattle.std.specs.Option.{option_map}
 use Rattle.typed_fields.specs.Stamp.{cut_text}
-use Rattle.field_groups.specs.Field.{Field, body_of}
+use Rattle.field_groups.specs.Field.{Field}
 use Rattle.message_tables.specs.CodeTables.{table_of as code_table}
 use Rattle.message_tables.specs.Content.{cell_fields, group_fields}
 use Rattle.message_tables.specs.FirstFault.{message_in}
@@ -42,12 +40,6 @@ writes own s (rules.Kept from to kind) =
 writes own s (rules.Lines count) =
     group_fields count (lines_of count (message_in judge (table_of s) s.fields.now).groups)
 writes own s (rules.By rule) = own s rule
-
--- a text, and behind it what is written by the rules before a place
-abbrev pub written_up_to : {B O : Type 0} → (Source B → O → List Field) → Source B
-    → List (CodeRule O) → List ℕ → ℕ → List ℕ
-written_up_to own s rules start place =
-    start ++ body_of (flat_map (writes own s) (take place rules))
 
 -- the tag that it cannot say
 abbrev pub lacked : {B O : Type 0} → (Source B → O → Option ℕ) → Source B → CodeRule O → Option ℕ

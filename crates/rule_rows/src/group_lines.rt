@@ -294,7 +294,6 @@ fn put_found(
 /// # Errors
 ///
 /// `AllocError` for want of memory; what stood in `out` stays, and a part may stand behind it.
-#[inline(always)]
 pub fn put_lines(
     out: &mut Vec<u8>,
     fields: &Fields<'_>,

@@ -1,16 +1,14 @@
-use Rattle.std.proofs.Common.{◌≡◌, ◌≤◌, ◌-◌, drop, length}
+use Rattle.std.proofs.Common.{◌≡◌, ◌++◌, drop, take}
+use Rattle.std.specs.List.{flat_map}
+use Rattle.field_groups.specs.Field.{body_of}
 use Rattle.message_tables.specs.Tables.{first_of}
-use Rattle.rule_rows.specs.CodeRules.{lacked, written_up_to}
+use Rattle.rule_rows.specs.CodeRules.{lacked, writes}
 use Rattle.rule_rows.proofs.writing.put_all.Given as goal
 
-abbrev pub invariant-loop-at : goal.invariant-loop-at
-invariant-loop-at g l = record {
-  within : l.at ≤ length l.rules;
-  written : l.out.items
-      ≡ written_up_to g.O.OwnRule.writes l.source l.rules l.fn.out.items l.at;
-  left : first_of (lacked g.O.OwnRule.lacks l.source) (drop l.at l.rules)
+abbrev pub invariant-loop-rule : goal.invariant-loop-rule
+invariant-loop-rule g l = record {
+  written : l.out.items ≡ l.fn.out.items
+      ++ body_of (flat_map (writes g.O.OwnRule.writes l.source) (take l.rule-index l.rules));
+  left : first_of (lacked g.O.OwnRule.lacks l.source) (drop l.rule-index l.rules)
       ≡ first_of (lacked g.O.OwnRule.lacks l.source) l.rules;
 }
-
-abbrev pub decreases-loop-at : goal.decreases-loop-at
-decreases-loop-at g l = length l.rules - l.at
