@@ -11,7 +11,7 @@ use Rattle.pair_journal.specs.Numbers.{is_side}
 use Rattle.pair_journal.specs.Given.{source_in}
 use Rattle.drop_taps.specs.declared.tap.Seen.{Seen}
 use Rattle.drop_taps.specs.declared.tap.TapFailed.{TapFailed}
-use Rattle.drop_taps.specs.declared.tap.TapFailed.TheVariants.{Fault, NoMemory}
+use Rattle.drop_taps.specs.declared.tap.TapFailed.TheVariants.{Fault}
 
 -- the entries seen, after an entry was shown: with it at `Ok`, the same at `Err`
 abbrev pub seen_after : {T E : Type 0}
@@ -58,11 +58,10 @@ tally_after true (Ok value) entry tally = all_counted entry tally
 tally_after false (Ok value) entry tally = record tally { entries = next_count tally.entries }
 tally_after counts_all (Err error) entry tally = tally
 
--- a fault comes only where the count of faults rose; it never falls, and stands still at `Ok`
+-- a fault comes only where the count of faults rose, and else the count stands still
 abbrev pub HasTapCause : {T : Type 0} → ℕ → ℕ → Result T TapFailed → Type 0
-HasTapCause before now (Ok value) = now ≡ before
 HasTapCause before now (Err Fault) = (before ≤ now) × Rose before now
-HasTapCause before now (Err NoMemory) = before ≤ now
+HasTapCause before now answer = now ≡ before
 
 -- the count of faults after this answer: one more at a fault
 abbrev pub faults_after : {T : Type 0} → Result T TapFailed → ℕ → ℕ
