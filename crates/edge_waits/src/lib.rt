@@ -20,4 +20,4 @@ pub use lobby::{First, LOBBY, Lobby, Standing, Stranger, first_in, standing_of};
 pub use put_off::PutOff;
 pub use said::{logout_text, too_low};
 pub use talk::Talk;
-pub use why::{put_closing, put_why};
+pub use why::put_closing;

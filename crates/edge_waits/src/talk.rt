@@ -235,10 +235,11 @@ impl Talk {
     /// milliseconds since 1970-01-01 00:00 UTC.
     ///
     /// # Errors
-    /// For want of memory alone.
+    /// For want of memory alone; then nothing is appended.
     pub fn put_why(&self, out: &mut Vec<u8>, now: u64) -> Result<(), AllocError>
-        ensures { OnOk result (out.new.items
+        ensures ok { OnOk result (out.new.items
             ≡ out.old.items ++ why_text self.now.heard self.now.farewell now) }
+        ensures err { OnErr result (out.new.items ≡ out.old.items) }
     {
         match &self.farewell {
             Some(text) => put_why(out, &self.heard, Some(text.as_slice()), now),

@@ -1,6 +1,6 @@
 //! Why a connection ended before a session stood, as a text.
 
-ghost use Rattle.std.specs.Prelude.{◌≡◌, ◌++◌, map, take, decimal, OnOk};
+ghost use Rattle.std.specs.Prelude.{◌≡◌, ◌++◌, map, take, decimal, IfOk, OnOk, OnErr};
 ghost use Rattle.std.specs.Option.{option_map};
 ghost use Rattle.edge_waits.specs.Fields.{value_in};
 ghost use Rattle.edge_waits.specs.Why.{shown, named_text, shown_field, off_by, has_number};
@@ -12,7 +12,7 @@ ghost use Rattle.edge_waits.specs.Why.{message_text, why_text, came_text, closin
 use crate::fields::value_of;
 use crate::lobby::{Stranger, stranger_text};
 use itoa::Buffer;
-use std::alloc::AllocError;
+use std::alloc::{AllocError, Global};
 use typed_fields::{FieldFault, Number, Stamp};
 
 /// A value is shown up to so many bytes.
@@ -269,28 +269,46 @@ fn put_message(out: &mut Vec<u8>, heard: &[u8]) -> Result<(), AllocError>
     put_field(out, b"58=", heard)
 }
 
+// Why a connection ended on which this came, and this was said last by a Logout.
+fn why_text(
+    alloc: Global,
+    heard: &[u8],
+    farewell: Option<&[u8]>,
+    now: u64,
+) -> Result<Vec<u8>, AllocError>
+    ensures { IfOk result (λ text. text.items
+        ≡ why_text heard.now (option_map (λ text. text.now) farewell.entry) now) }
+{
+    let mut text = Vec::new(alloc);
+    if value_of(b"35=", heard).is_none() {
+        text.extend_from_slice(b"no message came")?;
+        return Ok(text);
+    }
+    text.extend_from_slice(b"it sent")?;
+    put_message(&mut text, heard)?;
+    put_told(&mut text, heard, farewell, now)?;
+    Ok(text)
+}
+
 /// Appends why a connection ended before a session stood: what came on it, by the fields of the
 /// first message, and what the gateway said to it by a Logout, or which field was wrong. `now` is
 /// the moment, in milliseconds since 1970-01-01 00:00 UTC.
 ///
 /// # Errors
-/// For want of memory alone.
-pub fn put_why(
+/// For want of memory alone; then nothing is appended.
+pub(crate) fn put_why(
     out: &mut Vec<u8>,
     heard: &[u8],
     farewell: Option<&[u8]>,
     now: u64,
 ) -> Result<(), AllocError>
-    ensures { OnOk result (out.new.items ≡ out.old.items
+    ensures ok { OnOk result (out.new.items ≡ out.old.items
         ++ why_text heard.now (option_map (λ text. text.now) farewell.entry) now) }
+    ensures err { OnErr result (out.new.items ≡ out.old.items) }
 {
-    if value_of(b"35=", heard).is_none() {
-        out.extend_from_slice(b"no message came")?;
-        return Ok(());
-    }
-    out.extend_from_slice(b"it sent")?;
-    put_message(out, heard)?;
-    put_told(out, heard, farewell, now)
+    let text = why_text(*out.allocator(), heard, farewell, now)?;
+    out.extend_from_slice(&text)?;
+    Ok(())
 }
 
 // Appends the first message that came, with its BeginString(8), where its type came.
@@ -305,13 +323,25 @@ fn put_came(out: &mut Vec<u8>, heard: &[u8]) -> Result<(), AllocError>
     put_message(out, heard)
 }
 
+// Why a connection is closed that is no client's, and what came on it.
+fn closing_text(alloc: Global, stranger: Stranger, heard: &[u8]) -> Result<Vec<u8>, AllocError>
+    ensures { IfOk result (λ text. text.items ≡ closing_text stranger heard.now) }
+{
+    let mut text = Vec::new(alloc);
+    text.extend_from_slice(stranger_text(stranger))?;
+    put_came(&mut text, heard)?;
+    Ok(text)
+}
+
 /// Appends why a connection is closed that is no client's, and the first message that came on it.
 ///
 /// # Errors
-/// For want of memory alone.
+/// For want of memory alone; then nothing is appended.
 pub fn put_closing(out: &mut Vec<u8>, stranger: Stranger, heard: &[u8]) -> Result<(), AllocError>
-    ensures { OnOk result (out.new.items ≡ out.old.items ++ closing_text stranger heard.now) }
+    ensures ok { OnOk result (out.new.items ≡ out.old.items ++ closing_text stranger heard.now) }
+    ensures err { OnErr result (out.new.items ≡ out.old.items) }
 {
-    out.extend_from_slice(stranger_text(stranger))?;
-    put_came(out, heard)
+    let text = closing_text(*out.allocator(), stranger, heard)?;
+    out.extend_from_slice(&text)?;
+    Ok(())
 }
