@@ -1,11 +1,11 @@
 //! Lives that the command `serve` lives, with taps and without, and what `show` shows of one.
 
 use crate::runs::{unfed, words_of};
-use crate::scripts::{Plan, failing};
+use crate::scripts::{Plan, Poll, failing, stream};
 use drop_taps::{KeepTap, Tap, TotalsTap, clear};
 use gateway_top::{Status, run};
 use outside::{MemDisk, MemSink, MemSource};
-use row_words::shown;
+use row_words::{long_number, shown, word};
 use std::alloc::{AllocError, Global};
 use wires::{ListClock, MemWire};
 
@@ -18,23 +18,35 @@ const CONFIGURATION: &str =
 
 /// The bytes of an input, and which reads of it fail.
 #[derive(Drop)]
-pub(crate) struct Input {
+struct Input {
     bytes: Vec<u8>,
     fail: Vec<u64>,
 }
 
-/// What a life is given: its input, what both wires give, and its rounds.
+/// What is asked of a life.
+#[derive(Clone, Copy)]
+pub(crate) struct Asked<'a> {
+    /// The scripts.
+    pub(crate) polls: &'a [Poll],
+    /// The words `client-script venue-script rounds disk client venue`: of the last three, which
+    /// calls fail.
+    pub(crate) words: &'a str,
+    /// The name of its input, and which read of that fails; nothing for the configuration of each
+    /// life.
+    pub(crate) input: &'a str,
+}
+
+/// What a life is given: its input, and what both wires give.
 #[derive(Drop)]
-pub(crate) struct Given {
-    pub(crate) input: Input,
-    pub(crate) client: Plan,
-    pub(crate) venue: Plan,
-    pub(crate) rounds: u64,
+struct Given {
+    input: Input,
+    client: Plan,
+    venue: Plan,
 }
 
 /// An input of these bytes, or of the configuration of each life where there are none; of a number
 /// that read fails.
-pub(crate) fn input_of(alloc: Global, bytes: Vec<u8>, read: &str) -> Result<Input, AllocError> {
+fn input_of(alloc: Global, bytes: Vec<u8>, read: &str) -> Result<Input, AllocError> {
     let fail = failing(alloc, read)?;
     if bytes.is_empty() {
         let bytes = Vec::from_slice(alloc, CONFIGURATION.as_bytes())?;
@@ -73,6 +85,23 @@ fn served(
     (status, client, venue)
 }
 
+fn given_by(alloc: Global, asked: &Asked<'_>) -> Result<Given, AllocError> {
+    let Asked {
+        polls,
+        words,
+        input,
+    } = *asked;
+    let client = Plan::new(alloc, polls, word(words, 0), word(words, 4))?;
+    let venue = Plan::new(alloc, polls, word(words, 1), word(words, 5))?;
+    let bytes = stream(alloc, polls, word(input, 0))?;
+    let input = input_of(alloc, bytes, word(input, 1))?;
+    Ok(Given {
+        input,
+        client,
+        venue,
+    })
+}
+
 // The words of a command that serves for so many rounds.
 fn serve_words(alloc: Global, rounds: u64) -> Result<Vec<String>, AllocError> {
     let command = format!(in alloc; "fixgate serve {rounds}")?;
@@ -83,12 +112,14 @@ fn serve_words(alloc: Global, rounds: u64) -> Result<Vec<String>, AllocError> {
 fn timed(
     alloc: Global,
     disk: &mut MemDisk,
-    given: Given,
+    asked: &Asked<'_>,
     taps: &mut Vec<Box<dyn Tap>>,
 ) -> Result<Lived, AllocError> {
-    let words = serve_words(alloc, given.rounds)?;
+    let rounds = long_number(word(asked.words, 2)).unwrap_or(0);
+    let command = serve_words(alloc, rounds)?;
     let mut clock = ListClock::new(vec![in alloc; NOW]?);
-    Ok(served(alloc, &words, &mut clock, disk, given, taps))
+    let given = given_by(alloc, asked)?;
+    Ok(served(alloc, &command, &mut clock, disk, given, taps))
 }
 
 // Lines as a text, with ` ~ ` before each; or the last alone.
@@ -116,9 +147,13 @@ pub(crate) fn shows(alloc: Global, disk: &mut MemDisk, word: &str) -> Result<Str
 }
 
 /// A life without taps.
-pub(crate) fn quiet(alloc: Global, disk: &mut MemDisk, given: Given) -> Result<Lived, AllocError> {
+pub(crate) fn quiet(
+    alloc: Global,
+    disk: &mut MemDisk,
+    asked: &Asked<'_>,
+) -> Result<Lived, AllocError> {
     let mut taps: Vec<Box<dyn Tap>> = Vec::new(alloc);
-    timed(alloc, disk, given, &mut taps)
+    timed(alloc, disk, asked, &mut taps)
 }
 
 // What a tap counted: entries, requests, reports and refusals, and whether it failed.
@@ -126,7 +161,7 @@ fn tap_words(alloc: Global, tap: &Box<dyn Tap>) -> Result<String, AllocError> {
     let seen = tap.seen();
     let failed = if tap.failed() { " failed" } else { "" };
     format!(in alloc;
-        "{} {} {} {}{failed}; ",
+        " {} {} {} {}{failed};",
         seen.entries, seen.requests, seen.reports, seen.refusals
     )
 }
@@ -140,22 +175,37 @@ fn taps_words(alloc: Global, taps: &[Box<dyn Tap>]) -> Result<String, AllocError
     Ok(text)
 }
 
+// What taps counted, and those that are left once those that failed are cleared away.
+fn counts(alloc: Global, taps: &mut Vec<Box<dyn Tap>>) -> Result<String, AllocError> {
+    let words = taps_words(alloc, taps)?;
+    clear(taps);
+    let left = taps_words(alloc, taps)?;
+    format!(in alloc; "{words} left{left}")
+}
+
+// A life whose entries these taps see, and behind it the same.
+fn seen(
+    alloc: Global,
+    disk: &mut MemDisk,
+    asked: &Asked<'_>,
+    taps: &mut Vec<Box<dyn Tap>>,
+) -> Result<(Lived, String), AllocError> {
+    let lived = timed(alloc, disk, asked, taps)?;
+    Ok((lived, counts(alloc, taps)?))
+}
+
 /// The same of a life with three taps: one that keeps the entries, one of which this call fails,
-/// and one that counts totals. Behind it stands what they counted, and how many are left once those
-/// that failed are cleared away.
+/// and one that counts totals. Behind it stands what they counted, and what those that are left
+/// once those that failed are cleared away.
 pub(crate) fn tapped(
     alloc: Global,
     disk: &mut MemDisk,
-    given: Given,
+    asked: &Asked<'_>,
     call: u64,
 ) -> Result<(Lived, String), AllocError> {
     let mut taps: Vec<Box<dyn Tap>> = Vec::new(alloc);
     taps.push(Box::new(alloc, KeepTap::new(alloc, Vec::new(alloc)))?)?;
     taps.push(Box::new(alloc, KeepTap::new(alloc, vec![in alloc; call]?))?)?;
     taps.push(Box::new(alloc, TotalsTap::new())?)?;
-    let lived = timed(alloc, disk, given, &mut taps)?;
-    let words = taps_words(alloc, &taps)?;
-    clear(&mut taps);
-    let text = format!(in alloc; "{words}{} left", taps.len())?;
-    Ok((lived, text))
+    seen(alloc, disk, asked, &mut taps)
 }

@@ -15,6 +15,7 @@ mod wire_calls;
 mod world;
 
 use ends::{STATUSES, status_lines};
+use gateway_top::Status;
 use row_words::{Answers, try_rows};
 use runs::{Runs, help};
 use std::alloc::{AllocError, Global};
@@ -39,17 +40,29 @@ impl Answers for Calls {
     }
 }
 
-fn main(rt: HostRuntime) -> io::Result<()> {
+fn try_calls(rt: &HostRuntime) -> io::Result<()> {
     let mut calls = Calls {
         world: World::new(rt.alloc()),
         runs: Runs::new(rt.alloc()),
     };
-    try_rows(&rt, &SIGNS, &mut calls)?;
+    try_rows(rt, &SIGNS, &mut calls)
+}
+
+fn print_help(rt: &HostRuntime) -> io::Result<()> {
     let help = help(rt.alloc())?;
-    print!(rt; "{help}")?;
-    for status in STATUSES {
-        let lines = status_lines(rt.alloc(), status)?;
+    print!(rt; "{help}")
+}
+
+fn print_statuses(rt: &HostRuntime, statuses: &[Status]) -> io::Result<()> {
+    for status in statuses {
+        let lines = status_lines(rt.alloc(), *status)?;
         print!(rt; "{lines}")?;
     }
     Ok(())
+}
+
+fn main(rt: HostRuntime) -> io::Result<()> {
+    try_calls(&rt)?;
+    print_help(&rt)?;
+    print_statuses(&rt, &STATUSES)
 }

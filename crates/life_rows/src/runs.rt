@@ -145,8 +145,54 @@ fn ended(alloc: Global, status: &Status, put: &[u8]) -> Result<Vec<u8>, AllocErr
     Ok(answer)
 }
 
-/// How the run of a command ends where these calls fail. What it puts stands in `put` then, where
-/// what the run before put stood.
+/// How a run ends where these calls fail. What it puts stands in `put` then, where what the run
+/// before put stood.
+fn ran_over(
+    alloc: Global,
+    words: &[String],
+    fault: &str,
+    source: &mut MemSource,
+    disk: &mut MemDisk,
+    put: &mut Vec<u8>,
+) -> Result<Status, AllocError>
+    requires { source.old.ended ≡ false }
+{
+    let mut sink = MemSink::new(alloc, failing(alloc, fault, "write")?);
+    let status = ran(alloc, words, source, &mut sink, disk);
+    put.clear();
+    put.extend_from_slice(sink.bytes())?;
+    Ok(status)
+}
+
+/// The same over the disk that these words ask for.
+fn ran_from(
+    alloc: Global,
+    words: &[String],
+    fault: &str,
+    source: &mut MemSource,
+    put: &mut Vec<u8>,
+) -> Result<Status, AllocError>
+    requires { source.old.ended ≡ false }
+{
+    let on_disk = content(alloc, fault, put)?;
+    let mut disk = MemDisk::new(alloc, on_disk, failing(alloc, fault, "disk")?);
+    ran_over(alloc, words, fault, source, &mut disk, put)
+}
+
+/// The same over this input.
+fn fed(
+    alloc: Global,
+    words: &[String],
+    fault: &str,
+    input: &str,
+    put: &mut Vec<u8>,
+) -> Result<Status, AllocError> {
+    let input = bytes_of(alloc, &SIGNS, input)?;
+    let mut source = MemSource::new(input, failing(alloc, fault, "read")?);
+    ran_from(alloc, words, fault, &mut source, put)
+}
+
+/// The same of the words of a command.
 fn answer(
     alloc: Global,
     command: &str,
@@ -155,15 +201,7 @@ fn answer(
     put: &mut Vec<u8>,
 ) -> Result<Status, AllocError> {
     let words = words_of(alloc, command)?;
-    let input = bytes_of(alloc, &SIGNS, input)?;
-    let mut source = MemSource::new(input, failing(alloc, fault, "read")?);
-    let mut sink = MemSink::new(alloc, failing(alloc, fault, "write")?);
-    let on_disk = content(alloc, fault, put)?;
-    let mut disk = MemDisk::new(alloc, on_disk, failing(alloc, fault, "disk")?);
-    let status = ran(alloc, &words, &mut source, &mut sink, &mut disk);
-    put.clear();
-    put.extend_from_slice(sink.bytes())?;
-    Ok(status)
+    fed(alloc, &words, fault, input, put)
 }
 
 /// The runs of the program, each a call `fixgate` of which are given the other words of the command

@@ -1,10 +1,10 @@
 //! What the rows before have made: scripts, the bytes of a disk, and the wires after a life.
 
 use crate::disks::{disk, pick};
-use crate::lives::{Given, Input, input_of, quiet, shows, tapped};
+use crate::lives::{Asked, quiet, shows, tapped};
 use crate::outs::outs;
 use crate::peers::Peer;
-use crate::scripts::{Plan, Poll, stream, written};
+use crate::scripts::{Poll, stream, written};
 use crate::texts::SIGNS;
 use crate::wire_calls::{clock_text, quiet_text, wire_answer, wire_of};
 use gateway_top::Status;
@@ -32,27 +32,15 @@ pub(crate) struct World {
     wire: Option<MemWire>,
 }
 
-// What the words `client-script venue-script rounds disk client venue` give a life: of the last
-// three, which calls fail. Behind them may stand the name of its input, and which read fails.
-fn given(alloc: Global, polls: &[Poll], words: &str, input: Input) -> Result<Given, AllocError> {
-    let client = Plan::new(alloc, polls, word(words, 0), word(words, 4))?;
-    let venue = Plan::new(alloc, polls, word(words, 1), word(words, 5))?;
-    let rounds = long_number(word(words, 2)).unwrap_or(0);
-    Ok(Given {
-        input,
-        client,
-        venue,
-        rounds,
-    })
-}
-
 // A life over these bytes of a disk.
 fn lived(alloc: Global, polls: &[Poll], image: &[u8], words: &str) -> Result<Left, AllocError> {
-    let bytes = stream(alloc, polls, word(words, 6))?;
-    let input = input_of(alloc, bytes, word(words, 7))?;
-    let given = given(alloc, polls, words, input)?;
+    let asked = Asked {
+        polls,
+        words,
+        input: behind(words, 6),
+    };
     let mut disk = disk(alloc, image, word(words, 3))?;
-    let (end, client, venue) = quiet(alloc, &mut disk, given)?;
+    let (end, client, venue) = quiet(alloc, &mut disk, &asked)?;
     Ok(Left {
         end,
         disk,
@@ -69,11 +57,14 @@ fn watched(
     image: &[u8],
     words: &str,
 ) -> Result<(Left, String), AllocError> {
-    let input = input_of(alloc, Vec::new(alloc), "-")?;
-    let given = given(alloc, polls, words, input)?;
+    let asked = Asked {
+        polls,
+        words,
+        input: "",
+    };
     let call = long_number(word(words, 6)).unwrap_or(0);
     let mut disk = disk(alloc, image, word(words, 3))?;
-    let (lived, words) = tapped(alloc, &mut disk, given, call)?;
+    let (lived, words) = tapped(alloc, &mut disk, &asked, call)?;
     let (end, client, venue) = lived;
     let left = Left {
         end,
@@ -178,7 +169,7 @@ impl World {
     fn tapped(&mut self, alloc: Global, given: &str) -> Result<String, AllocError> {
         let (left, words) = watched(alloc, &self.polls, &self.image, given)?;
         let end = self.keep(left);
-        format!(in alloc; "{end:?} {words}")
+        format!(in alloc; "{end:?}{words}")
     }
 
     // The next life begins with what a crash leaves of the last one's disk.
@@ -241,15 +232,26 @@ impl World {
         self.live(alloc, &words)
     }
 
+    // The same between these peers.
+    fn between(
+        &mut self,
+        alloc: Global,
+        given: &str,
+        client: &mut Peer,
+        venue: &mut Peer,
+    ) -> Result<String, AllocError> {
+        let first = self.first(alloc, given)?;
+        self.taken(alloc, client, venue)?;
+        let second = self.second(alloc, client, venue)?;
+        verdict(alloc, word(given, 0), (first, second), venue, client)
+    }
+
     // A life of which one call fails, and a second life, in which both peers say all again and ask
     // for all.
     fn two_lives(&mut self, alloc: Global, given: &str) -> Result<String, AllocError> {
-        let first = self.first(alloc, given)?;
         let mut client = Peer::new(alloc);
         let mut venue = Peer::new(alloc);
-        self.taken(alloc, &mut client, &mut venue)?;
-        let second = self.second(alloc, &mut client, &mut venue)?;
-        verdict(alloc, word(given, 0), (first, second), &venue, &client)
+        self.between(alloc, given, &mut client, &mut venue)
     }
 
     // What is shown of the present bytes.
