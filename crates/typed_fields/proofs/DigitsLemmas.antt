@@ -19,7 +19,8 @@ use Rattle.std.proofs.lemmas.Bool.{cases_lt}
 use Rattle.std.proofs.lemmas.Bool.Decides.{nat_tests}
 use Rattle.std.proofs.Math.Nat.{div-one, pow-suc}
 use Rattle.std.proofs.lemmas.List.Folds.{list_all-append}
-use Rattle.typed_fields.specs.Digits.{has_mark, have_marks, has_pattern, are_digits, number_of}
+use Rattle.typed_fields.specs.Digits.{has_mark, have_marks, has_pattern, is_point}
+use Rattle.typed_fields.specs.Digits.{are_digits, number_of}
 use Rattle.typed_fields.specs.Digits.{zero_padded, without_leading_zeros, before_others}
 use Rattle.typed_fields.specs.Digits.{without_trailing_zeros}
 
@@ -156,6 +157,31 @@ letters_have_digits (m ∷ ms) (b ∷ bs) e letters h =
     let first = both_true (is_ascii_alphabetic m) (list_all is_ascii_alphabetic ms) letters in
     let rest = letters_have_digits ms bs (omega arith) first.1 marks.1 in
     rw (letter_mark m b first.0 marks.0, rest)
+
+letters_are_digits : (ms bs : List ℕ) → length bs ≡ length ms
+    → list_all is_ascii_alphabetic ms ≡ true → have_marks ms bs ≡ are_digits bs
+unfolding are_digits
+letters_are_digits [] [] e letters = refl
+letters_are_digits [] (b ∷ bs) e letters = absurd (omega arith)
+letters_are_digits (m ∷ ms) [] e letters = absurd (omega arith)
+letters_are_digits (m ∷ ms) (b ∷ bs) e letters =
+    let first = both_true (is_ascii_alphabetic m) (list_all is_ascii_alphabetic ms) letters in
+    let rest = letters_are_digits ms bs (omega arith) first.1 in
+    let here : has_mark m b ≡ is_ascii_digit b = rw first.0 refl in
+    rw (here, rest) refl
+
+-- a pattern of a point and letters
+pub point_is : (ms bs : List ℕ) → is_point ms ≡ true → length bs ≡ length ms
+    → (get_or bs 0 0 == 46 && are_digits (drop 1 bs)) ≡ has_pattern ms bs
+unfolding has_pattern
+point_is [] bs point e = absurd cc
+point_is (m ∷ ms) [] point e = absurd (omega arith)
+point_is (m ∷ ms) (b ∷ bs) point e =
+    let parts = both_true (m == 46) (list_all is_ascii_alphabetic ms) point in
+    let mark : m ≡ 46 = grind (arith, nat_tests, parts.0) in
+    let long : (length (m ∷ ms) == length (b ∷ bs)) ≡ true = grind (arith, nat_tests, e) in
+    let here : has_mark m b ≡ (b == 46) = rw mark refl in
+    rw (long, here, letters_are_digits ms bs (omega arith) parts.1) refl
 
 -- the marks of a part of the bytes
 pub have_marks-slice : (ms bs : List ℕ) (i j : ℕ)

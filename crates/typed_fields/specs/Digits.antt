@@ -1,7 +1,7 @@
 -- Own: what the forms of the types say of digits: the number that they spell, the digits of a
 -- number, zeros that are needless, and the patterns of dates and times.
-use Rattle.std.specs.Prelude.{ℕ, zero, suc, ◌+◌, ◌/◌, ◌%◌, ◌^◌, Bool, List, [], ◌∷◌, length, ◌==◌}
-use Rattle.std.specs.Prelude.{◌&&◌, if◌then◌else◌}
+use Rattle.std.specs.Prelude.{ℕ, zero, suc, ◌+◌, ◌/◌, ◌%◌, ◌^◌, Bool, false, List, [], ◌∷◌, length}
+use Rattle.std.specs.Prelude.{◌==◌, ◌&&◌, if◌then◌else◌}
 use Rattle.std.specs.Char.{is_ascii_digit, is_ascii_alphabetic}
 use Rattle.std.specs.List.{list_all, zip}
 use Rattle.std.specs.Str.Parse.{digits_value}
@@ -31,6 +31,11 @@ have_marks marks bytes = list_all (λ pair. has_mark pair.0 pair.1) (zip marks b
 -- its mark
 unfoldable pub has_pattern : List ℕ → List ℕ → Bool
 has_pattern marks bytes = (length marks == length bytes) && have_marks marks bytes
+
+-- whether marks are a point and letters behind it
+abbrev pub is_point : List ℕ → Bool
+is_point [] = false
+is_point (mark ∷ marks) = (mark == 46) && list_all is_ascii_alphabetic marks
 
 -- digits without the zeros in front of the first other digit
 unfoldable pub without_leading_zeros : List ℕ → List ℕ

@@ -1,9 +1,9 @@
 //! Days.
 
-ghost use Rattle.std.specs.Prelude.{◌≡◌, ◌≤◌, ◌<◌, ◌++◌, take, length, IsTrue};
+ghost use Rattle.std.specs.Prelude.{◌≡◌, ◌≤◌, ◌<◌, ◌++◌, codes, take, length, IsTrue};
 ghost use Rattle.std.specs.Prelude.{◌+◌, vec_capacity, vec_len};
 ghost use Rattle.std.specs.Prelude.{IfOk, if◌then◌else◌};
-ghost use Rattle.typed_fields.specs.Digits.{are_digits};
+ghost use Rattle.typed_fields.specs.Digits.{are_digits, has_pattern};
 ghost use Rattle.typed_fields.specs.Day.{read_day, spells_date, day_number, day_digits, day_text};
 ghost use Rattle.typed_fields.specs.Day.{IsDayNumber, IsDay};
 
@@ -20,6 +20,15 @@ use jiff::civil::Date;
 pub struct Day {
     /// The days since 1 January 1970.
     pub day: i32,
+}
+
+/// Whether bytes have the form of a day. It stands once, so that its loop over a pattern of known
+/// length is unrolled.
+#[inline(never)]
+fn has_day(bytes: &[u8]) -> bool
+    ensures { result ≡ has_pattern (codes "YYYYMMDD") bytes.now }
+{
+    has_pattern(b"YYYYMMDD", bytes)
 }
 
 /// The number of the day that `YYYYMMDD..` spells, if the calendar has it.
@@ -57,6 +66,7 @@ impl Day {
     ///
     /// `Empty` for no bytes, `Form` for anything but eight digits, and `Range` for a date that the
     /// calendar lacks.
+    #[inline(always)]
     pub fn read(value: &[u8]) -> Result<Day, FieldFault>
         ensures value { result ≡ read_day value.now }
         ensures bound { IfOk result IsDay }
@@ -64,7 +74,7 @@ impl Day {
         if value.is_empty() {
             return Err(FieldFault::Empty);
         }
-        if !has_pattern(b"YYYYMMDD", value) {
+        if !has_day(value) {
             return Err(FieldFault::Form);
         }
         match day_number(value) {

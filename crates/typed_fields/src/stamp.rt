@@ -3,7 +3,8 @@
 ghost use Rattle.std.specs.Prelude.{◌≡◌, ◌^◌, ◌<◌, ◌≤◌, ◌++◌, codes, length, take, IsTrue};
 ghost use Rattle.std.specs.Prelude.{◌+◌, vec_capacity, vec_len};
 ghost use Rattle.std.specs.Prelude.{OnOk, OnErr, IfOk, Some, None, ◌∷◌, if◌then◌else◌};
-ghost use Rattle.typed_fields.specs.Digits.{are_digits, has_pattern, number_of, zero_padded};
+ghost use Rattle.typed_fields.specs.Digits.{are_digits, has_pattern, is_point, number_of};
+ghost use Rattle.typed_fields.specs.Digits.{zero_padded};
 ghost use Rattle.typed_fields.specs.Stamp.{behind_point, fraction_of, fraction_text, number_in};
 ghost use Rattle.typed_fields.specs.Stamp.{cut, cut_fraction, is_fine_form, read_fine, read_stamp};
 ghost use Rattle.typed_fields.specs.Stamp.{spells_moment, stamp_in};
@@ -11,7 +12,7 @@ ghost use Rattle.typed_fields.specs.Stamp.{seconds_text, stamp_text, millis_of_d
 ghost use Rattle.typed_fields.specs.Stamp.{cut_text, stamp_at, width, IsFine, IsStamp};
 
 use crate::day::{day_digits, day_number};
-use crate::digits::{has_pattern, number, number_at, three_digits, two_digits};
+use crate::digits::{are_digits, has_pattern, number, number_at, three_digits, two_digits};
 use crate::fault::FieldFault;
 use crate::value::MAX_SPELLING;
 use std::alloc::AllocError;
@@ -94,13 +95,24 @@ fn has_seconds(bytes: &[u8]) -> bool
         && (has_pattern(b"YYYYMMDD", &bytes[..8]) && has_pattern(b"-HH:MM:SS", &bytes[8..]))
 }
 
+/// Whether bytes have a pattern of a point and letters: a point, and digits behind it.
+#[inline(always)]
+fn has_point(pattern: &[u8], bytes: &[u8]) -> bool
+    requires pattern { IsTrue (is_point pattern.now) }
+    requires len { length bytes.now ≡ length pattern.now }
+    ensures { result ≡ has_pattern pattern.now bytes.now }
+{
+    bytes[0] == b'.' && are_digits(&bytes[1..])
+}
+
 /// Whether bytes have the form of whole seconds and a fraction of this pattern.
 #[inline(always)]
 fn has_fraction(pattern: &[u8], bytes: &[u8]) -> bool
+    requires { IsTrue (is_point pattern.now) }
     ensures { result ≡ has_pattern (codes "YYYYMMDD-HH:MM:SS" ++ pattern.now) bytes.now }
 {
     bytes.len() == 17 + pattern.len()
-        && (has_seconds(&bytes[..17]) && has_pattern(pattern, &bytes[17..]))
+        && (has_seconds(&bytes[..17]) && has_point(pattern, &bytes[17..]))
 }
 
 /// The number that at most nine digits behind a point spell.
@@ -163,6 +175,7 @@ impl Stamp {
     ///
     /// `Empty` for no bytes, `Form` for anything but the two forms, and `Range` for a date that the
     /// calendar lacks or a time past hour 23, minute 59 or second 60.
+    #[inline(always)]
     pub fn read(value: &[u8]) -> Result<Stamp, FieldFault>
         ensures value { result ≡ read_stamp value.now }
         ensures bound { IfOk result IsStamp }

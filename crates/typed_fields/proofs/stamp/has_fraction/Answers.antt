@@ -7,13 +7,19 @@ use Rattle.typed_fields.specs.Digits.{has_pattern}
 use Rattle.typed_fields.proofs.StampLemmas.{pattern_apart, no_pattern}
 use Rattle.typed_fields.proofs.stamp.has_fraction.Goals as goal
 
+pub has_point-requires-clause-len : goal.has_point-requires-clause-len
+has_point-requires-clause-len c =
+    let bytes = c.args.bytes.now in
+    ap length (take_all (length bytes - 17) (drop 17 bytes) (omega (arith, length-drop 17 bytes)))
+    ∙ omega (arith, length-drop 17 bytes, c.if-bytes-pattern.true)
+
 pub returns-then-has_seconds : goal.returns-then-has_seconds
 returns-then-has_seconds c =
     let bytes = c.args.bytes.now in
     let more = c.args.pattern.now in
     let whole : has_pattern (codes "YYYYMMDD-HH:MM:SS") (take 17 bytes) ≡ true =
     sym c.has_seconds.ensures ∙ c.if-has_seconds.true in
-    c.has_pattern.ensures
+    c.has_point.ensures
     ∙ ap (λ (bs : List ℕ). has_pattern more bs)
     (take_all (length bytes - 17) (drop 17 bytes) (omega (arith, length-drop 17 bytes)))
     ∙ (rw whole at (pattern_apart (codes "YYYYMMDD-HH:MM:SS") more bytes c.if-bytes-pattern.true))
