@@ -3,7 +3,7 @@
 use crate::grouped::show_tagged;
 use crate::texts::{halves, tell};
 use Need::{Fixed, Lenient, Optional, Required, When};
-use field_groups::{Field, split};
+use field_groups::{Field, Fields, split};
 use message_tables::{
     Found, Item, Mark, Need, RepeatingGroup, Row, Table, TableFault, Test, field_at, line,
     line_end, stands, value,
@@ -93,7 +93,7 @@ fn judge(most: u8, value: &[u8]) -> Mark {
 }
 
 /// The first fault of fields, with what is found of each value.
-fn first_fault(table: &Table<u8>, fields: &[Field<'_>]) -> Option<TableFault> {
+fn first_fault(table: &Table<u8>, fields: &Fields<'_>) -> Option<TableFault> {
     let mut found = Found::new();
     for (tag, value) in fields {
         let mark = match table.row(*tag) {
@@ -113,7 +113,7 @@ fn fault(
     table: &Table<u8>,
 ) -> Result<(), AllocError> {
     let split = split(alloc, body)?;
-    tell(out, &first_fault(table, split.fields.as_slice()))
+    tell(out, &first_fault(table, &split.fields))
 }
 
 /// Whether a tag stands in a body, and its value.

@@ -16,26 +16,31 @@ use Rattle.message_tables.specs.declared.table.Row.{Row as CodeRow}
 use Rattle.message_tables.specs.declared.table.Item.{Item as CodeItem}
 use Rattle.message_tables.specs.declared.table.Table.{Table as CodeTable}
 use Rattle.message_tables.specs.declared.table_fault.Mark.{Mark}
+use Rattle.message_tables.specs.declared.table_fault.Mark.TheVariants as marks
 use Rattle.message_tables.specs.declared.table_fault.TableFault.TheVariants as faults
 use Rattle.message_tables.specs.Tables.{Item, Need, One, Party, Lines, Required, Optional, Lenient}
 use Rattle.message_tables.specs.Tables.{Fixed, When, Row, Table, all_rows, has_tag}
 use Rattle.message_tables.specs.Tables.{is_needed, is_one_of, row_at, tags_in}
 use Rattle.message_tables.specs.FirstFault.{fault_if, first_fault, group_tags_in, group_tags_of}
 use Rattle.message_tables.specs.FirstFault.{is_of_group, marked, missing, once_in}
+use Rattle.message_tables.specs.FirstFault.{without_row}
 use Rattle.message_tables.specs.CodeTables.{item_of, row_of, table_of}
 use Rattle.message_tables.specs.Plain.{IsLoose, IsSaidItem, fits_at, is_good, lacks}
 use Rattle.message_tables.proofs.Mapped.{groups_mapped, once_mapped}
 use Rattle.message_tables.proofs.OnePass.{absent_is_whole, first_is_once, good_mark, is_first}
 use Rattle.message_tables.proofs.OnePass.{lacks_none, sound_is_clean}
+use Rattle.message_tables.proofs.Placed.{turned}
 use Rattle.row_values.specs.declared.kinds.Kind.{Kind as CodeKind}
 use Rattle.row_values.specs.CodeKinds.{kind_of}
 use Rattle.row_values.specs.Kinds.{Kind, judge}
 use Rattle.first_faults.specs.declared.indexed.TagRow.{TagRow}
-use Rattle.first_faults.specs.declared.indexed.TagRow.TheVariants.{Absent, Own, Member}
+use Rattle.first_faults.specs.declared.indexed.TagRow.TheVariants.{Absent, Own, Member, Passed}
+use Rattle.first_faults.specs.declared.indexed.Span.{Span}
 use Rattle.first_faults.specs.Indexed.{AreGoodFields, AreNeeded, AreSaid, AreTagRows, IsAlone}
-use Rattle.first_faults.specs.Indexed.{IsFirstRow, IsGoodField, IsRowOf, IsTagRow, IsWholeItem}
-use Rattle.first_faults.specs.Indexed.{is_said, may_be_needed, needed_of, of_tag, own, row_in}
-use Rattle.first_faults.proofs.FirstFaults.{with_row}
+use Rattle.first_faults.specs.Indexed.{IsApartItem, IsFirstRow, IsGoodField, IsRowOf, IsTagRow}
+use Rattle.first_faults.specs.Indexed.{IsWholeItem, is_said, may_be_needed, needed_of, of_tag}
+use Rattle.first_faults.specs.Indexed.{own, row_in, with_place}
+use Rattle.first_faults.proofs.FirstFaults.{with_none, with_row}
 use Rattle.first_faults.proofs.OnePass.{loose, one_more}
 
 -- ---- rows by their tags
@@ -100,6 +105,16 @@ module _ (table : CodeTable CodeKind) where
       by : (b : Bool) → eqb row.now.tag tag ≡ b → IsRowOf table tag (cond b (Member row) Absent)
       by true e = let same : row.now.tag ≡ tag = grind (arith, nat_tests) in rw (← same) is
       by false e = tt
+  of_tag_is tag (Passed one) is = by (one == tag) refl
+    where
+      by : (b : Bool) → eqb one tag ≡ b → IsRowOf table tag (cond b (Passed one) Absent)
+      by true e = let same : one ≡ tag = grind (arith, nat_tests) in rw (← same) is
+      by false e = tt
+
+-- a tag of a group is passed over
+pub is_passed_in : (strict groups : Bool) → groups ≡ true → (not strict || groups) ≡ true
+is_passed_in true groups h = h
+is_passed_in false groups h = refl
 
 -- ---- rows that a message may have to say
 
@@ -242,14 +257,6 @@ or_right : (a b : Bool) → (a || b) ≡ false → b ≡ false
 or_right true b h = absurd cc
 or_right false b h = h
 
--- a test of numbers turned round
-turned : (m n : ℕ) → eqb m n ≡ false → eqb n m ≡ false
-turned m n h = by (eqb n m) refl
-  where
-    by : (b : Bool) → eqb n m ≡ b → b ≡ false
-    by false e = refl
-    by true e = absurd (grind (arith, nat_tests))
-
 pub is_off : (b : Bool) → not b ≡ true → b ≡ false
 is_off true h = absurd cc
 is_off false h = refl
@@ -334,49 +341,129 @@ marked_loose table fields place tag value mark at once is fit =
     (ap (λ (tags : List ℕ). is_one_of tags tag && has_tag tag (take place fields))
     (once_mapped kind_of table) ∙ once) is (good_mark mark fit)
 
-pub no_fields : (table : Table Kind) (fields : List Field) → AreGoodFields table fields 0 true
+-- a field without a row that is the first of its tag, and passed over
+pub passed_good : (table : CodeTable CodeKind) (fields : List Field) (place tag : ℕ)
+    → (value : List ℕ) → Some (tag, value) ≡ slice_get fields place
+    → IsRowOf table tag (Passed tag)
+    → Some place ≡ position (λ (f : Field). f.0 == tag) fields → (length value == 0) ≡ false
+    → IsGoodField (table_of kind_of table) fields place false
+passed_good table fields place tag value at is first filled =
+    other_good (table_of kind_of table) fields place
+    (loose (table_of kind_of table) fields place (tag, value) _ at
+    (first_is_once (once_in (table_of kind_of table)) fields tag place first)
+    (with_none table fields tag value is.0)
+    (ap (λ (passed : Bool). without_row passed value) is.1 ∙ good value filled))
+  where
+    good : (value : List ℕ) → (length value == 0) ≡ false → without_row true value ≡ marks.Good
+    good [] h = absurd cc
+    good (byte ∷ bytes) h = refl
+
+pub no_fields : (table : Table Kind) (fields : List Field)
+    → AreGoodFields table fields 0 (record { from = 0; to = 0 })
 no_fields table fields = record {
+  ordered = omega arith;
+  within = omega arith;
   loose = λ place lt. absurd (omega (arith, lt));
-  alone = λ _ place lt. absurd (omega (arith, lt));
+  before = λ place lt. absurd (omega (arith, lt));
+  behind = λ place le lt. absurd (omega (arith, lt));
 }
 
 -- one more field
-pub more_fields : (table : Table Kind) (fields : List Field) (i : ℕ) (old one new : Bool)
-    → AreGoodFields table fields i old → IsGoodField table fields i one
-    → (new ≡ true → (old ≡ true) × (one ≡ true))
-    → AreGoodFields table fields (i + 1) new
-more_fields table fields i old one new so_far good both = record {
-  loose = λ place lt. by_loose place lt (place == i) refl;
-  alone = λ known place lt. by_alone known place lt (place == i) refl;
-}
+pub more_fields : (table : Table Kind) (fields : List Field) (i : ℕ) (span : Span) (alone : Bool)
+    → AreGoodFields table fields i span → IsGoodField table fields i alone
+    → AreGoodFields table fields (i + 1) (with_place span i alone)
+more_fields table fields i span alone so_far good = by alone good.alone (span.to == 0) refl
   where
-    by_loose : (place : ℕ) → place < i + 1 → (b : Bool) → (place == i) ≡ b
-        → IsLoose judge fields table place
-    by_loose place lt true e =
-        let same : place ≡ i = grind (arith, nat_tests, e) in rw same good.loose
-    by_loose place lt false e = so_far.loose place (grind (arith, nat_tests, lt, e))
+    at_last : {P : ℕ → Type 0} → ((place : ℕ) → place < i → P place) → P i
+        → (place : ℕ) → place < i + 1 → P place
+    at_last {P} before here place lt = by_place (place == i) refl
+      where
+        by_place : (b : Bool) → (place == i) ≡ b → P place
+        by_place true e = let same : place ≡ i = grind (arith, nat_tests, e) in rw same here
+        by_place false e = before place (grind (arith, nat_tests, lt, e))
 
-    by_alone : new ≡ true → (place : ℕ) → place < i + 1 → (b : Bool) → (place == i) ≡ b
-        → IsAlone table (get_or fields place (0, [])).0
-    by_alone known place lt true e =
-        let same : place ≡ i = grind (arith, nat_tests, e) in rw same (good.alone (both known).1)
-    by_alone known place lt false e =
-        so_far.alone (both known).0 place (grind (arith, nat_tests, lt, e))
+    more_loose : (place : ℕ) → place < i + 1 → IsLoose judge fields table place
+    more_loose = at_last so_far.loose good.loose
+
+    by : (alone : Bool)
+        → (alone ≡ true → IsAlone table (get_or fields i (0, [])).0)
+        → (first : Bool) → (span.to == 0) ≡ first
+        → AreGoodFields table fields (i + 1) (with_place span i alone)
+    by true here first e = record {
+      ordered = so_far.ordered;
+      within = omega (arith, so_far.within);
+      loose = more_loose;
+      before = so_far.before;
+      behind = λ place le lt.
+          at_last {P = λ n. span.to ≤ n → IsAlone table (get_or fields n (0, [])).0}
+          (λ n below past. so_far.behind n past below) (λ past. here refl) place lt le;
+    }
+    by false here true e =
+        let none : span.to ≡ 0 = grind (arith, nat_tests, e) in
+        rw e (record {
+          ordered = omega arith;
+          within = omega arith;
+          loose = more_loose;
+          before = λ place lt. so_far.behind place (omega (arith, none)) lt;
+          behind = λ place le lt. absurd (omega (arith, le, lt));
+        })
+    by false here false e =
+        rw e (record {
+          ordered = omega (arith, so_far.ordered, so_far.within);
+          within = omega arith;
+          loose = more_loose;
+          before = so_far.before;
+          behind = λ place le lt. absurd (omega (arith, le, lt));
+        })
 
 -- good fields that lack no row are at no fault, where each group is whole
-pub whole_fields : (table : Table Kind) (fields : List Field) (count : ℕ) (alone : Bool)
-    → length fields ≤ count → AreGoodFields table fields count alone → AreSaid fields table.items
+pub whole_fields : (table : Table Kind) (fields : List Field) (count : ℕ) (span : Span)
+    → length fields ≤ count → AreGoodFields table fields count span → AreSaid fields table.items
     → AllByRecursion (IsWholeItem fields) table.items → first_fault judge table fields ≡ None
-whole_fields table fields count alone all good said whole =
+whole_fields table fields count span all good said whole =
     sym (sound_is_clean judge table fields (record {
       loose = λ place lt. good.loose place (omega (arith, lt, all));
       said = said_items fields table.items said whole;
     }))
 
 -- the same where each field is known to be in no group
-pub alone_fields : (table : Table Kind) (fields : List Field) (count : ℕ) (alone : Bool)
-    → length fields ≤ count → AreGoodFields table fields count alone → AreSaid fields table.items
-    → alone ≡ true → first_fault judge table fields ≡ None
-alone_fields table fields count alone all good said known =
-    whole_fields table fields count alone all good said
-    (absent fields table.items (λ i lt. good.alone known i (omega (arith, lt, all))))
+pub alone_fields : (table : Table Kind) (fields : List Field) (count : ℕ) (span : Span)
+    → length fields ≤ count → AreGoodFields table fields count span → AreSaid fields table.items
+    → span.to ≡ 0 → first_fault judge table fields ≡ None
+alone_fields table fields count span all good said none =
+    whole_fields table fields count span all good said
+    (absent fields table.items
+    (λ i lt. good.behind i (omega (arith, none)) (omega (arith, lt, all))))
+
+-- items of whose groups no field stands outside of a span
+pub apart_items : (fields : List Field) (span : Span) (items : List (Item Kind))
+    → span.from ≤ span.to → span.to ≤ length fields
+    → ((i : ℕ) → i < span.from → list_any (is_of_group (get_or fields i (0, [])).0)
+    (flat_map group_tags_of items) ≡ false)
+    → ((i : ℕ) → span.to ≤ i → i < length fields
+    → list_any (is_of_group (get_or fields i (0, [])).0) (flat_map group_tags_of items) ≡ false)
+    → AllByRecursion (IsApartItem fields span) items
+apart_items fields span [] ordered within before behind = tt
+apart_items fields span (One row ∷ items) ordered within before behind =
+    (tt, apart_items fields span items ordered within before behind)
+apart_items fields span (Party role ∷ items) ordered within before behind =
+    (tt, apart_items fields span items ordered within before behind)
+apart_items fields span (Lines group ∷ items) ordered within before behind = (
+  record {
+    ordered = ordered;
+    within = within;
+    before = λ i lt. or_left _ _ (before i lt);
+    behind = λ i le lt. or_left _ _ (behind i le lt);
+  },
+  apart_items fields span items ordered within (λ i lt. or_right _ _ (before i lt))
+      (λ i le lt. or_right _ _ (behind i le lt)),
+)
+
+-- what holds of each item holds of one of them
+pub at_item : (P : Item Kind → Type 0) (items : List (CodeItem CodeKind)) (i : ℕ)
+    → (item : CodeItem CodeKind) → item ≡ get_or items i item → i < length items
+    → AllByRecursion P (map (item_of kind_of) items) → P (item_of kind_of item)
+at_item P [] i item at lt all = absurd (omega (arith, lt))
+at_item P (one ∷ items) zero item at lt all = rw at all.0
+at_item P (one ∷ items) (suc i) item at lt all =
+    at_item P items i item at (omega (arith, lt)) all.1

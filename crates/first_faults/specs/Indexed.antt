@@ -1,6 +1,6 @@
 -- Inside: a table of the code whose rows are found by their tags, and what a pass by it shows.
-use Rattle.std.specs.Prelude.{◌≡◌, ◌==◌, ◌<◌, ◌||◌, ℕ, Bool, true, false, not, List, [], ◌∷◌, map}
-use Rattle.std.specs.Prelude.{Some, None, slice_index_or, if◌then◌else◌}
+use Rattle.std.specs.Prelude.{◌≡◌, ◌==◌, ◌<◌, ◌≤◌, ◌+◌, ◌||◌, ℕ, Bool, true, false, not, List, []}
+use Rattle.std.specs.Prelude.{◌∷◌, map, Some, None, slice_index_or, if◌then◌else◌}
 use Rattle.std.specs.Borrow.{Bor}
 use Rattle.std.specs.List.{flat_map, list_all, list_any}
 use Rattle.std.specs.declared.option.Option.{Option}
@@ -9,15 +9,16 @@ use Rattle.message_tables.specs.declared.table.Row.{Row as CodeRow}
 use Rattle.message_tables.specs.declared.table.Item.{Item as CodeItem}
 use Rattle.message_tables.specs.declared.table.Table.{Table as CodeTable}
 use Rattle.message_tables.specs.Tables.{Item, Need, One, Party, Lines, Required, Row, Table, When}
-use Rattle.message_tables.specs.Tables.{all_rows, has_tag, is_needed, is_one_of, row_at}
-use Rattle.message_tables.specs.FirstFault.{group_tags_in, is_of_group, once_in}
+use Rattle.message_tables.specs.Tables.{all_rows, has_tag, is_needed, is_one_of, row_at, tags_in}
+use Rattle.message_tables.specs.FirstFault.{group_tags_in, is_of_group, is_passed, once_in}
 use Rattle.message_tables.specs.CodeTables.{item_of, row_of, table_of}
-use Rattle.message_tables.specs.Plain.{IsLoose, IsWhole}
+use Rattle.message_tables.specs.Plain.{IsApart, IsLoose, IsWhole}
 use Rattle.row_values.specs.declared.kinds.Kind.{Kind as CodeKind}
 use Rattle.row_values.specs.CodeKinds.{kind_of}
 use Rattle.row_values.specs.Kinds.{Kind, judge}
 use Rattle.first_faults.specs.declared.indexed.TagRow.{TagRow}
-use Rattle.first_faults.specs.declared.indexed.TagRow.TheVariants.{Absent, Own, Member}
+use Rattle.first_faults.specs.declared.indexed.TagRow.TheVariants.{Absent, Own, Member, Passed}
+use Rattle.first_faults.specs.declared.indexed.Span.{Span}
 
 -- ---- rows by their tags
 
@@ -34,18 +35,22 @@ IsFirstRow table tag row =
 abbrev pub IsAlone : {Kind : Type 0} → Table Kind → ℕ → Type 0
 IsAlone table tag = list_any (is_of_group tag) (group_tags_in table) ≡ false
 
--- what is found of a tag: no row, or the first one, with how the tag may stand
+-- what is found of a tag: nothing; the first row, with how the tag may stand; or that it has no row
+-- and is passed over
 abbrev pub IsRowOf : CodeTable CodeKind → ℕ → TagRow → Type 0
 IsRowOf table tag Absent = Unit {0}
 IsRowOf table tag (Own row) = IsFirstRow table tag row.now × IsAlone (own table) tag
 IsRowOf table tag (Member row) =
     IsFirstRow table tag row.now × (is_one_of (once_in (own table)) tag ≡ false)
+IsRowOf table tag (Passed one) =
+    (None ≡ row_at tag (all_rows (own table))) × (is_passed (own table) tag ≡ true)
 
 -- the same of the row's own tag
 abbrev pub IsTagRow : CodeTable CodeKind → TagRow → Type 0
 IsTagRow table Absent = Unit {0}
 IsTagRow table (Own row) = IsRowOf table row.now.tag (Own row)
 IsTagRow table (Member row) = IsRowOf table row.now.tag (Member row)
+IsTagRow table (Passed tag) = IsRowOf table tag (Passed tag)
 
 abbrev pub AreTagRows : CodeTable CodeKind → List TagRow → Type 0
 AreTagRows table rows = (place : ℕ) → IsTagRow table (slice_index_or rows place Absent)
@@ -55,6 +60,7 @@ abbrev pub of_tag : ℕ → TagRow → TagRow
 of_tag tag Absent = Absent
 of_tag tag (Own row) = if row.now.tag == tag then Own row else Absent
 of_tag tag (Member row) = if row.now.tag == tag then Member row else Absent
+of_tag tag (Passed one) = if one == tag then Passed one else Absent
 
 -- ---- rows that a message may have to say
 
@@ -96,9 +102,25 @@ pub record IsGoodField (table : Table Kind) (fields : List Field) (place : ℕ) 
   pub loose : IsLoose judge fields table place
   pub alone : apart ≡ true → IsAlone table (slice_index_or fields place (0, [])).0
 
--- the same of the fields before a place
-pub record AreGoodFields (table : Table Kind) (fields : List Field) (count : ℕ) (apart : Bool)
+-- a span of places, with one more behind it
+abbrev pub with_place : Span → ℕ → Bool → Span
+with_place span place true = span
+with_place span place false =
+    record { from = if span.to == 0 then place else span.from; to = place + 1 }
+
+-- the same of the fields before a place, of which those outside of a span are in no group
+pub record AreGoodFields (table : Table Kind) (fields : List Field) (count : ℕ) (span : Span)
     : Type 0 where
+  pub ordered : span.from ≤ span.to
+  pub within : span.to ≤ count
   pub loose : (place : ℕ) → place < count → IsLoose judge fields table place
-  pub alone : apart ≡ true → (place : ℕ) → place < count
+  pub before : (place : ℕ) → place < span.from
       → IsAlone table (slice_index_or fields place (0, [])).0
+  pub behind : (place : ℕ) → span.to ≤ place → place < count
+      → IsAlone table (slice_index_or fields place (0, [])).0
+
+-- an item that is no group, or one of which no field stands outside of a span
+abbrev pub IsApartItem : List Field → Span → Item Kind → Type 0
+IsApartItem fields span (One row) = Unit {0}
+IsApartItem fields span (Party role) = Unit {0}
+IsApartItem fields span (Lines group) = IsApart fields (tags_in group) span.from span.to

@@ -325,7 +325,7 @@ fn first_fault(table: &Table<Kind>, fields: &Fields<'_>) -> Option<TableFault>
     if is_plain(table, fields) {
         return None;
     }
-    table.first_fault(fields.as_slice(), &found(table, fields))
+    table.first_fault(fields, &found(table, fields))
 }
 
 /// The fields of a body, where they are whole and at no fault beside their table. It takes no

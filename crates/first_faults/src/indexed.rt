@@ -1,20 +1,21 @@
 //! A table whose rows are found by their tags, and one pass over the fields of a message by it.
 
-ghost use Rattle.std.specs.Prelude.{◌≡◌, ◌&&◌, IfSome, IsTrue, None, false, map, take, true};
+ghost use Rattle.std.specs.Prelude.{◌≡◌, ◌<◌, ◌&&◌, IfSome, IsTrue, None, false, map, take, true};
 ghost use Rattle.std.specs.List.{AllByRecursion, flat_map, list_all};
 ghost use Rattle.message_tables.specs.declared.table.Table.{Table as CodeTable};
 ghost use Rattle.message_tables.specs.CodeTables.{group_of, item_of, need_of, row_of};
 ghost use Rattle.message_tables.specs.CodeTables.{table_of as code_table};
-ghost use Rattle.message_tables.specs.Tables.{has_tag, is_one_of};
+ghost use Rattle.message_tables.specs.Tables.{has_tag, is_one_of, tags_in};
 ghost use Rattle.message_tables.specs.FirstFault.{first_fault, marked, once_in};
-ghost use Rattle.message_tables.specs.Plain.{IsLoose, IsWhole};
+ghost use Rattle.message_tables.specs.Plain.{IsApart, IsLoose, IsWhole};
 ghost use Rattle.message_tables.specs.Stages.{IsFound};
 ghost use Rattle.row_values.specs.declared.kinds.Kind.{Kind as CodeKind};
 ghost use Rattle.row_values.specs.CodeKinds.{kind_of};
 ghost use Rattle.row_values.specs.Kinds.{judge};
-ghost use Rattle.first_faults.specs.Indexed.{AreNeeded, AreSaid, AreTagRows, IsGoodField};
-ghost use Rattle.first_faults.specs.Indexed.{IsRowOf, IsTagRow, IsWholeItem, is_said};
-ghost use Rattle.first_faults.specs.Indexed.{may_be_needed, needed_of, of_tag, row_in};
+ghost use Rattle.first_faults.specs.Indexed.{AreNeeded, AreSaid, AreTagRows, IsApartItem};
+ghost use Rattle.first_faults.specs.Indexed.{IsGoodField, IsRowOf, IsTagRow, IsWholeItem};
+ghost use Rattle.first_faults.specs.Indexed.{is_said, may_be_needed, needed_of, of_tag, row_in};
+ghost use Rattle.first_faults.specs.Indexed.{with_place};
 
 use crate::faults::{is_first, is_good, mark, value_fits};
 use arrayvec::ArrayVec;
@@ -41,6 +42,8 @@ enum TagRow {
     Own(&'static Row<Kind>),
     /// Its tag may stand again and again, as those of the members of groups.
     Member(&'static Row<Kind>),
+    /// There is none of this tag, which is of a group, as that of a count.
+    Passed(u32),
 }
 
 impl TagRow {
@@ -58,6 +61,11 @@ impl TagRow {
             },
             TagRow::Member(row) => if row.tag == tag {
                 TagRow::Member(row)
+            } else {
+                TagRow::Absent
+            },
+            TagRow::Passed(one) => if one == tag {
+                TagRow::Passed(one)
             } else {
                 TagRow::Absent
             },
@@ -79,7 +87,11 @@ fn tag_row(table: &'static Table<Kind>, tag: u32) -> TagRow
     ensures { IsTagRow table.now result }
 {
     match table.row(tag) {
-        None => TagRow::Absent,
+        None => if table.is_in_groups(tag) {
+            TagRow::Passed(tag)
+        } else {
+            TagRow::Absent
+        },
         Some(row) => if !table.is_in_groups(tag) {
             TagRow::Own(row)
         } else if !table.is_once(tag) {
@@ -133,7 +145,10 @@ impl TagRows {
         match item {
             Item::One(row) => self.keep(table, row.tag),
             Item::Party(_) => {}
-            Item::Lines(group) => self.keep_all(table, group.rows),
+            Item::Lines(group) => {
+                self.keep(table, group.count);
+                self.keep_all(table, group.rows);
+            }
         }
     }
 
@@ -242,31 +257,60 @@ fn are_said(rows: &[Option<&'static Row<Kind>>], fields: &Fields<'_>) -> bool
     true
 }
 
-/// Whether a group has no field, or is whole.
-fn is_whole(group: &RepeatingGroup<Kind>, fields: &Fields<'_>) -> bool
+/// The places of fields from the first to the last one that may be of a group.
+#[derive(Clone, Copy)]
+struct Span {
+    /// The first place.
+    from: usize,
+    /// The place behind the last one; 0 where there is none.
+    to: usize,
+}
+
+impl Span {
+    /// With one more place behind it, whose field is in no group or may be of one.
+    #[inline(always)]
+    fn with(self, place: usize, alone: bool) -> Span
+        requires { place < 256 }
+        ensures { result ≡ with_place self place alone }
+    {
+        if alone {
+            return self;
+        }
+        Span {
+            from: if self.to == 0 { place } else { self.from },
+            to: place + 1,
+        }
+    }
+}
+
+/// Whether a group has no field, or is whole. Its fields stand within a span.
+fn is_whole(group: &RepeatingGroup<Kind>, fields: &Fields<'_>, span: Span) -> bool
+    requires { IsApart fields.now (tags_in (group_of kind_of group.now)) span.from span.to }
     ensures { IsTrue result → IsWhole fields.now (group_of kind_of group.now) }
 {
-    group.is_absent(fields) || group.is_whole(fields)
+    group.is_absent(fields) || group.is_whole_between(fields, span.from, span.to)
 }
 
 /// Whether an item is no group, or a group that has no field or is whole.
-fn is_whole_item(item: &Item<Kind>, fields: &Fields<'_>) -> bool
+fn is_whole_item(item: &Item<Kind>, fields: &Fields<'_>, span: Span) -> bool
+    requires { IsApartItem fields.now span (item_of kind_of item.now) }
     ensures { IsTrue result → IsWholeItem fields.now (item_of kind_of item.now) }
 {
     match item {
-        Item::Lines(group) => is_whole(group, fields),
+        Item::Lines(group) => is_whole(group, fields, span),
         _ => true,
     }
 }
 
 /// Whether each group has no field, or is whole.
 #[inline(never)]
-fn are_whole(items: &[Item<Kind>], fields: &Fields<'_>) -> bool
+fn are_whole(items: &[Item<Kind>], fields: &Fields<'_>, span: Span) -> bool
+    requires { AllByRecursion (IsApartItem fields.now span) (map (item_of kind_of) items.now) }
     ensures { IsTrue result
         → AllByRecursion (IsWholeItem fields.now) (map (item_of kind_of) items.now) }
 {
     for item in items {
-        if !is_whole_item(item, fields) {
+        if !is_whole_item(item, fields, span) {
             return false;
         }
     }
@@ -355,6 +399,11 @@ impl Indexed {
             } else {
                 None
             },
+            TagRow::Passed(_) => if is_first(fields, tag, place) && !value.is_empty() {
+                Some(false)
+            } else {
+                None
+            },
             TagRow::Absent => if is_loose(self.table, fields, place) {
                 Some(false)
             } else {
@@ -378,17 +427,16 @@ impl Indexed {
     fn is_plain(&self, fields: &Fields<'_>) -> bool
         ensures { IsTrue result → first_fault judge self.now fields.now ≡ None }
     {
-        let mut own = true;
+        let mut span = Span { from: 0, to: 0 };
         for place in 0..fields.len() {
             match self.judge(fields, place) {
                 None => return false,
-                Some(alone) => if !alone {
-                    own = false;
-                },
+                Some(alone) => span = span.with(place, alone),
             }
         }
-        self.are_said(fields) && (own || are_whole(self.table.items, fields))
+        self.are_said(fields) && (span.to == 0 || are_whole(self.table.items, fields, span))
     }
+
     /// What a field is beside its row.
     fn mark(&self, fields: &Fields<'_>, tag: u32, value: &[u8]) -> Mark
         ensures { (tag, result) ≡ marked judge self.now fields.now (tag, value.now) }
@@ -396,6 +444,7 @@ impl Indexed {
         match self.rows.get(self.table, tag) {
             TagRow::Own(row) => row.need.allows(row.kind.judge(fields, value)),
             TagRow::Member(row) => row.need.allows(row.kind.judge(fields, value)),
+            TagRow::Passed(_) => self.table.without_row(tag, value),
             TagRow::Absent => mark(self.table, fields, tag, value),
         }
     }
@@ -420,7 +469,6 @@ impl Indexed {
         if self.is_plain(fields) {
             return None;
         }
-        self.table
-            .first_fault(fields.as_slice(), &self.found(fields))
+        self.table.first_fault(fields, &self.found(fields))
     }
 }

@@ -1,7 +1,8 @@
 -- The first answer of the items of a list, and whether one passes a test, as a loop finds it.
 use Rattle.std.proofs.Common.{◌≡◌, ℕ, suc, ◌+◌, ◌<◌, ◌≤◌, List, [], ◌∷◌, ◌++◌, length}
 use Rattle.std.proofs.Common.{get_or, take, drop, Option, Some, None, Bool, true, false, refl, sym}
-use Rattle.std.proofs.Common.{ap, ◌∙◌}
+use Rattle.std.proofs.Common.{ap, ◌∙◌, arith, leb, leb-false, leb-true, min}
+use Rattle.std.proofs.Math.Nat.{min-eq_left, min-eq_right}
 use Rattle.std.proofs.Math.Seq.{split_at}
 use Rattle.std.proofs.lemmas.List.{take_all, take_more}
 use Rattle.std.proofs.lemmas.List.Folds.{list_any-append}
@@ -75,3 +76,23 @@ pub one_more : {X A : Type 0} (f : X → Option A) (xs : List X) (x : X) (o : Op
 unfolding first_of
 one_more {A = A} f xs x o h = ap (λ (p : Option A). or_else p (f x)) h
     ∙ ap (or_else (first_of f xs)) (alone (f x)) ∙ sym (first_of-append f xs (x ∷ []))
+
+-- what the least of two numbers is below, and at most
+pub least : (m n : ℕ) → ((i : ℕ) → i < min m n → (i < m) × (i < n))
+    × ((most : ℕ) → m ≤ most → min m n ≤ most)
+least m n = by (leb m n) refl
+  where
+    by : (b : Bool) → leb m n ≡ b → ((i : ℕ) → i < min m n → (i < m) × (i < n))
+        × ((most : ℕ) → m ≤ most → min m n ≤ most)
+    by true test =
+        let low : m ≤ n = leb-true m n test in
+        let is : min m n ≡ m = min-eq_left low in (
+          λ i lt. (let below : i < m = rw is at lt in below, omega (arith, rw is at lt, low)),
+          λ most le. rw is le,
+        )
+    by false test =
+        let low : n < m = leb-false m n test in
+        let is : min m n ≡ n = min-eq_right (omega (arith, low)) in (
+          λ i lt. (omega (arith, rw is at lt, low), let below : i < n = rw is at lt in below),
+          λ most le. rw is (omega (arith, low, le)),
+        )

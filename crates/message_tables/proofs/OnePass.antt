@@ -134,6 +134,47 @@ pub lacks_some : (tag : ℕ) (fs : List Field) (place : ℕ)
     → Some place ≡ position (has tag) fs → false ≡ lacks fs tag
 lacks_some tag fs place e = rw (is_first tag fs place (sym e)).there refl
 
+-- whether a first place stands before another one
+abbrev pub is_before : Option ℕ → ℕ → Bool
+is_before None place = false
+is_before (Some first) place = nat_lt first place
+
+pub stands_before : (tag : ℕ) (fs : List Field) (place : ℕ)
+    → is_before (position (has tag) fs) place ≡ has_tag tag (take place fs)
+stands_before tag fs zero = nowhere (position (has tag) fs)
+  where
+    nowhere : (o : Option ℕ) → is_before o 0 ≡ false
+    nowhere None = refl
+    nowhere (Some first) = by (nat_lt first 0) refl
+      where
+        by : (b : Bool) → nat_lt first 0 ≡ b → b ≡ false
+        by false e = refl
+        by true e = absurd (grind (arith, nat_tests))
+stands_before tag [] (suc place) = refl
+stands_before tag (f ∷ fs) (suc place) =
+    ap (λ (o : Option ℕ). is_before o (suc place)) (position-cons tag f fs)
+    ∙ here (f.0 == tag) (stands_before tag fs place)
+  where
+    next : (o : Option ℕ) → is_before (option_map suc o) (suc place) ≡ is_before o place
+    next None = refl
+    next (Some first) = by (nat_lt first place) (nat_lt (suc first) (suc place)) refl refl
+      where
+        by : (a b : Bool) → nat_lt first place ≡ a → nat_lt (suc first) (suc place) ≡ b → b ≡ a
+        by true true i o = refl
+        by true false i o = absurd (grind (arith, nat_tests))
+        by false true i o = absurd (grind (arith, nat_tests))
+        by false false i o = refl
+
+    at_once : (b : Bool) → nat_lt 0 (suc place) ≡ b → b ≡ true
+    at_once true e = refl
+    at_once false e = absurd (grind (arith, nat_tests))
+
+    here : (b : Bool) → is_before (position (has tag) fs) place ≡ has_tag tag (take place fs)
+        → is_before (cond {A = Option ℕ} b (Some 0) (option_map suc (position (has tag) fs)))
+        (suc place) ≡ (b || has_tag tag (take place fs))
+    here true e = at_once _ refl
+    here false e = next (position (has tag) fs) ∙ e
+
 -- ---- marked places
 
 module _ {Kind : Type 0} (fields : List Field) where

@@ -1,6 +1,8 @@
 -- The first answer over the places of fields, and what stands before a place, as loops find them.
 use Rattle.std.proofs.Common.{◌≡◌, ℕ, ◌+◌, ◌<◌, ◌≤◌, List, [], ◌∷◌, ◌++◌, length, get_or}
 use Rattle.std.proofs.Common.{take, drop, Option, Some, None, refl, sym, ap, ◌∙◌, arith, zero-add}
+use Rattle.std.proofs.Common.{zero, suc}
+use Rattle.std.proofs.lemmas.Bool.Decides.{nat_tests}
 use Rattle.std.proofs.Common.{cond, ◌-◌, take_while, count_by, not, Bool, true, false, eqb}
 use mathlib.Core.List.{reverse_aux}
 use Rattle.std.proofs.lemmas.List.{drop_all, drop_more, take_more}
@@ -10,8 +12,10 @@ use Rattle.message_tables.specs.declared.table_fault.TableFault.{TableFault}
 use Rattle.message_tables.specs.declared.table_fault.TableFault.TheVariants as faults
 use Rattle.field_groups.specs.Field.{Field}
 use Rattle.message_tables.specs.Tables.{GroupTags, first_of, has_tag, is_inside, is_one_of, run}
+use Rattle.message_tables.specs.Tables.{after_tag, from_tag, in_lines, lines_in}
 use Rattle.message_tables.specs.FirstFault.{Placed, placed_from, place_in, fault_if, is_opened}
-use Rattle.message_tables.specs.FirstFault.{lines_begun, twice}
+use Rattle.message_tables.specs.FirstFault.{is_of_group, lines_begun, misplaced, twice}
+use Rattle.message_tables.specs.Plain.{IsApart}
 
 abbrev pub none : Field
 none = (0, [])
@@ -173,3 +177,83 @@ pub few_more : (inside begins : Bool) (n lines i : ℕ)
 few_more true true n lines i is le = omega (arith, is, le)
 few_more true false n lines i is le = omega (arith, is, le)
 few_more false begins n lines i is le = omega (arith, is)
+
+-- ---- a group whose fields stand between two places
+
+or_none : (a b : Bool) → (a || b) ≡ false → (a ≡ false) × (b ≡ false)
+or_none true b h = absurd cc
+or_none false b h = (refl, h)
+
+-- a test of numbers turned round
+pub turned : (m n : ℕ) → eqb m n ≡ false → eqb n m ≡ false
+turned m n h = by (eqb n m) refl
+  where
+    by : (b : Bool) → eqb n m ≡ b → b ≡ false
+    by false e = refl
+    by true e = absurd (grind (arith, nat_tests))
+
+-- a tag that is not of the group is neither that of its count nor inside it
+apart : (group : GroupTags) (tag : ℕ) → is_of_group tag group ≡ false
+    → (eqb tag group.count ≡ false) × (is_inside group tag ≡ false)
+apart group tag h =
+    let both = or_none (eqb group.count tag) (is_inside group tag) h in
+    (turned group.count tag both.0, both.1)
+
+-- its field has no fault
+pub apart_none : (group : GroupTags) (p : Placed) → is_of_group p.field.0 group ≡ false
+    → misplaced p group ≡ None
+apart_none group p h = let out = apart group p.field.0 h in rw (out.0, out.1) refl
+
+-- what the fields before the first of these places say of the group
+pub closed : (fs : List Field) (group : GroupTags) (from to : ℕ) → IsApart fs group from to
+    → (false ≡ is_opened group (reverse (take from fs)))
+    × (0 ≡ lines_begun group (reverse (take from fs)))
+closed fs group zero to is = (refl, refl)
+closed fs group (suc n) to is =
+    let lt : n < length fs = omega (arith, is.ordered, is.within) in
+    let out = apart group (get_or fs n none).0 (is.before n (omega arith)) in
+    let same : suc n ≡ n + 1 = omega arith in
+    let last : reverse (take (suc n) fs) ≡ get_or fs n none ∷ reverse (take n fs) =
+    ap (λ (i : ℕ). reverse (take i fs)) same ∙ back fs n lt in
+    let opened : false ≡ is_opened group (get_or fs n none ∷ reverse (take n fs)) =
+    rw (out.0, out.1) refl in
+    let lines : 0 ≡ lines_begun group (get_or fs n none ∷ reverse (take n fs)) =
+    lines_more group (get_or fs n none) (reverse (take n fs))
+    (lines_begun group (reverse (take n fs))) false (eqb (get_or fs n none).0 group.first)
+    out.1 refl refl in (
+      opened ∙ sym (ap (is_opened group) last),
+      lines ∙ sym (ap (lines_begun group) last),
+    )
+
+-- its lines stand behind the fields before the first of these places
+pub lines_behind : (group : GroupTags) (fs : List Field) (from : ℕ)
+    → ((place : ℕ) → place < from → is_of_group (get_or fs place none).0 group ≡ false)
+    → lines_in group (drop from fs) ≡ lines_in group fs
+lines_behind group fs from before =
+    ap (λ (behind : List Field). in_lines group.first (from_tag group.first (run group behind)))
+    (after fs from before)
+  where
+    after : (fs : List Field) (n : ℕ)
+        → ((place : ℕ) → place < n → is_of_group (get_or fs place none).0 group ≡ false)
+        → after_tag group.count (drop n fs) ≡ after_tag group.count fs
+    after fs zero before = refl
+    after [] (suc n) before = refl
+    after (f ∷ fs) (suc n) before =
+        let other = (apart group f.0 (before 0 (omega arith))).0 in
+        let on : after_tag group.count (f ∷ fs) ≡ after_tag group.count fs = rw other refl in
+        after fs n (λ place lt. before (suc place) (omega (arith, lt))) ∙ sym on
+
+-- a search may begin behind places that give no answer
+pub begun : {A : Type 0} (judge : Placed → Option A) (fs : List Field) (from : ℕ)
+    → from ≤ length fs → ((i : ℕ) → i < from → judge (at fs i) ≡ None)
+    → first_of judge (rest_at fs from) ≡ first_of judge (placed_from [] fs)
+begun judge fs from le before = sym (on from 0 (omega arith))
+  where
+    on : (n i : ℕ) → n + i ≡ from → first_of judge (rest_at fs i) ≡ first_of judge (rest_at fs from)
+    on zero i e =
+        let same : i ≡ from = omega (arith, e) in
+        ap (λ (place : ℕ). first_of judge (rest_at fs place)) same
+    on (suc n) i e =
+        let lt : i < from = omega (arith, e) in
+        let within : i < length fs = omega (arith, lt, le) in
+        sym (passed judge fs i _ within (before i lt) refl) ∙ on n (i + 1) (omega (arith, e))

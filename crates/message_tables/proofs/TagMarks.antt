@@ -10,12 +10,11 @@ use Rattle.std.proofs.lemmas.Nat.{mod_below}
 use Rattle.std.proofs.lemmas.Bool.Decides.{nat_tests}
 use Rattle.message_tables.specs.declared.table.Row.{Row as CodeRow}
 use Rattle.message_tables.specs.declared.table.Item.{Item as CodeItem}
-use Rattle.message_tables.specs.declared.table.RepeatingGroup.{RepeatingGroup as CodeGroup}
 use Rattle.message_tables.specs.declared.table.Table.{Table as CodeTable}
 use Rattle.message_tables.specs.Tables.{Table, is_one_of, tags_of}
 use Rattle.message_tables.specs.FirstFault.{once_in, once_of}
-use Rattle.message_tables.specs.CodeTables.{item_of, own_tags, row_of, table_of}
-use Rattle.message_tables.specs.TagMarks.{AreMarked, AreOnceMarked, is_marked, with_tags}
+use Rattle.message_tables.specs.CodeTables.{item_of, row_of, table_of}
+use Rattle.message_tables.specs.TagMarks.{AreOnceMarked, is_marked, with_tags}
 
 -- ---- lists of tags
 
@@ -39,12 +38,6 @@ with_tags-keeps [] marks j h = h
 with_tags-keeps (tag ∷ tags) marks j h =
     with_tags-keeps tags (set marks (tag % 512) true) j (set_keeps marks (tag % 512) j h)
 
-with_tags-length : (tags : List ℕ) (marks : List Bool)
-    → length (with_tags tags marks) ≡ length marks
-with_tags-length [] marks = refl
-with_tags-length (tag ∷ tags) marks =
-    with_tags-length tags (set marks (tag % 512) true) ∙ length-set marks (tag % 512) true
-
 -- a tag of the list is marked
 tag_marked : (tags : List ℕ) (marks : List Bool) (tag : ℕ) → length marks ≡ 512
     → is_one_of tags tag ≡ true → is_marked (with_tags tags marks) tag ≡ true
@@ -67,15 +60,7 @@ tag_marked (one ∷ tags) marks tag whole there =
         with_tags-keeps tags more (tag % 512) (rw (← same) here)
     by false e later there = later there
 
--- ---- a loop over tags, and one over rows
-
-pub next_tag : (tags : List ℕ) (i : ℕ) (old mid new : List Bool) → i < length tags
-    → mid ≡ with_tags (take i tags) old → new ≡ with_tags (get_or tags i 0 ∷ []) mid
-    → new ≡ with_tags (take (i + 1) tags) old
-next_tag tags i old mid new lt so_far is =
-    is ∙ ap (with_tags (get_or tags i 0 ∷ [])) so_far
-    ∙ sym (with_tags-append (take i tags) (get_or tags i 0 ∷ []) old)
-    ∙ ap (λ (more : List ℕ). with_tags more old) (sym (take_more tags i 0 lt))
+-- ---- a loop over rows
 
 module _ {K : Type 0} where
   abbrev tag_of : CodeRow K → ℕ
@@ -93,35 +78,10 @@ module _ {K : Type 0} where
       (sym (map_more tag_of rows i row lt
       ∙ ap (λ (r : CodeRow K). map tag_of (take i rows) ++ r.tag ∷ []) (sym at)))
 
-  -- ---- the tags of a group
-
   row_tags : (rows : List (CodeRow K))
       → map tag_of rows ≡ tags_of (map (row_of (λ (k : K). k)) rows)
   row_tags [] = refl
   row_tags (row ∷ rows) = ap (λ (tags : List ℕ). row.tag ∷ tags) (row_tags rows)
-
-  pub are_marked : (group : CodeGroup K) (rows marks : List Bool)
-      → rows ≡ with_tags (map tag_of group.rows.now) (replicate 512 false)
-      → marks ≡ with_tags group.skipped.now rows → AreMarked (own_tags group) marks
-  are_marked group rows marks rows_are marks_are tag inside =
-      by (is_one_of (own_tags group).members tag) refl inside
-    where
-      whole : length rows ≡ 512
-      whole = ap length rows_are
-          ∙ with_tags-length (map tag_of group.rows.now) (replicate 512 false)
-
-      as_members : rows ≡ with_tags (own_tags group).members (replicate 512 false)
-      as_members = rows_are ∙ ap (λ (tags : List ℕ). with_tags tags (replicate 512 false))
-          (row_tags group.rows.now)
-
-      by : (b : Bool) → is_one_of (own_tags group).members tag ≡ b
-          → (b || is_one_of group.skipped.now tag) ≡ true → is_marked marks tag ≡ true
-      by true member inside =
-          rw marks_are (with_tags-keeps group.skipped.now rows (tag % 512)
-          (rw as_members
-          (tag_marked (own_tags group).members (replicate 512 false) tag refl member)))
-      by false member inside =
-          rw marks_are (tag_marked group.skipped.now rows tag whole inside)
 
   -- ---- the tags that stand at most once in a message
 

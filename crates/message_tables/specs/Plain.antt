@@ -1,5 +1,5 @@
 -- Inside: fields that one pass over the rows of their table shows to be at no fault.
-use Rattle.std.specs.Prelude.{◌≡◌, ℕ, ◌==◌, ◌<◌, ◌&&◌, Bool, true, false, not, List, [], ◌∷◌}
+use Rattle.std.specs.Prelude.{◌≡◌, ℕ, ◌==◌, ◌<◌, ◌≤◌, ◌&&◌, Bool, true, false, not, List, [], ◌∷◌}
 use Rattle.std.specs.Prelude.{Some, None, length, position, slice_index_or, slice_set}
 use Rattle.std.specs.declared.option.Option.{Option}
 use Rattle.std.specs.List.{list_all}
@@ -9,7 +9,7 @@ use Rattle.field_groups.specs.Field.{Field}
 use Rattle.message_tables.specs.Tables.{Row, RepeatingGroup, GroupTags, Item, One, Party, Lines}
 use Rattle.message_tables.specs.Tables.{Table, Judge, value_at, has_tag, is_needed, tags_in}
 use Rattle.message_tables.specs.FirstFault.{Placed, allowed, mark_of, marked, misplaced, missing_of}
-use Rattle.message_tables.specs.FirstFault.{missing, once_in, place_in, twice}
+use Rattle.message_tables.specs.FirstFault.{is_of_group, missing, once_in, place_in, twice}
 
 abbrev pub is_good : Mark → Bool
 is_good marks.Good = true
@@ -28,6 +28,15 @@ lacks_group fields group =
 -- the field at a place, with those before and behind it
 abbrev pub placed_at : List Field → ℕ → Placed
 placed_at fields place = place_in fields place (slice_index_or fields place (0, []))
+
+-- no field of a group stands before one place, or from another one on
+pub record IsApart (fields : List Field) (group : GroupTags) (from to : ℕ) : Type 0 where
+  pub ordered : from ≤ to
+  pub within : to ≤ length fields
+  pub before : (place : ℕ) → place < from
+      → is_of_group (slice_index_or fields place (0, [])).0 group ≡ false
+  pub behind : (place : ℕ) → to ≤ place → place < length fields
+      → is_of_group (slice_index_or fields place (0, [])).0 group ≡ false
 
 -- a group of which no field stands at a wrong place, and each line says what it has to
 pub record IsWhole {Kind : Type 0} (fields : List Field) (group : RepeatingGroup Kind) : Type 0

@@ -1,7 +1,7 @@
 -- Inside: marks of tags, by their remainders; no clause of run rests on them.
 use Rattle.std.specs.Prelude.{◌≡◌, ℕ, ◌%◌, Bool, true, false, IsTrue, List, [], ◌∷◌}
 use Rattle.std.specs.Prelude.{slice_index_or, slice_set}
-use Rattle.message_tables.specs.Tables.{GroupTags, Table, is_inside, is_one_of}
+use Rattle.message_tables.specs.Tables.{Table, is_one_of}
 use Rattle.message_tables.specs.FirstFault.{once_in}
 
 -- marks, with those of these tags, by their remainders by 512
@@ -12,11 +12,6 @@ with_tags (tag ∷ tags) marks = with_tags tags (slice_set marks (tag % 512) tru
 -- whether the remainder of a tag is marked
 abbrev pub is_marked : List Bool → ℕ → Bool
 is_marked marks tag = slice_index_or marks (tag % 512) false
-
--- each tag inside a group is marked
-abbrev pub AreMarked : GroupTags → List Bool → Type 0
-AreMarked group marks =
-    (tag : ℕ) → IsTrue (is_inside group tag) → is_marked marks tag ≡ true
 
 -- each tag that stands at most once in a message is marked
 abbrev pub AreOnceMarked : {Kind : Type 0} → Table Kind → List Bool → Type 0

@@ -1,11 +1,12 @@
 //! The faults of groups: counts, members that stand elsewhere, and too many lines.
 
-ghost use Rattle.std.specs.Prelude.{◌≡◌, ◌==◌, ◌+◌, ◌^◌, ◌<◌, ℕ, [], None, IsTrue, length, take};
-ghost use Rattle.std.specs.Prelude.{reverse, count_by, false, true, if◌then◌else◌};
+ghost use Rattle.std.specs.Prelude.{◌≡◌, ◌==◌, ◌+◌, ◌^◌, ◌<◌, ◌≤◌, ℕ, [], None, IsTrue, length};
+ghost use Rattle.std.specs.Prelude.{take, reverse, count_by, false, true, if◌then◌else◌};
 ghost use Rattle.message_tables.specs.Tables.{has_tag, first_of, is_inside};
 ghost use Rattle.message_tables.specs.FirstFault.{group_tags_of, group_tags_in, placed_from};
 ghost use Rattle.message_tables.specs.FirstFault.{in_groups, misplaced, misplaced_member, place_in};
 ghost use Rattle.message_tables.specs.FirstFault.{lines_begun, line_before, is_opened, is_count};
+ghost use Rattle.message_tables.specs.Plain.{IsApart, placed_at};
 ghost use Rattle.field_groups.specs.HeadValues.{number_in};
 ghost use Rattle.message_tables.specs.CodeTables.{seen, seen_at, own_tags, item_of, table_of};
 
@@ -13,7 +14,7 @@ use crate::lookup::{field_at, front, is_among, rest};
 use crate::stages::fault_if;
 use crate::table::{Item, RepeatingGroup, Table};
 use crate::table_fault::TableFault;
-use field_groups::{Field, number_in};
+use field_groups::{Field, Fields, number_in};
 
 /// The most lines of a group.
 const MAX_LINES: usize = field_groups::MAX_LINES;
@@ -221,26 +222,50 @@ impl<K> RepeatingGroup<K> {
         self.misplaced_by(fields, place, self.has(tag), said)
     }
 
-    /// Whether the group has no fault at any place.
-    pub(crate) fn is_placed(&self, fields: &[Field<'_>]) -> bool
-        ensures { IsTrue result → (place : ℕ) → place < length fields.now → misplaced
+    /// How many fields stand at the front before the first at which the group has a fault. Its
+    /// fields stand between two places.
+    fn placed_between(&self, fields: &[Field<'_>], from: usize, to: usize) -> usize
+        requires apart { IsApart (seen fields.now) (own_tags self.now) from to }
+        ensures within { result ≤ length fields.now }
+        ensures placed { (place : ℕ) → place < result → misplaced
             (place_in (seen fields.now) place (seen_at fields.now place)) (own_tags self.now)
             ≡ None }
     {
-        let marks = self.marks();
         let mut said = Before {
             opened: false,
             lines: 0,
         };
-        for place in 0..fields.len() {
+        for place in from..to {
             let (tag, _) = field_at(fields, place);
-            let inside = self.has_marked(&marks, tag);
+            let inside = self.has(tag);
             if let Some(_) = self.misplaced_by(fields, place, inside, said) {
-                return false;
+                return place;
             }
             said = self.with(said, tag, inside);
         }
-        true
+        fields.len()
+    }
+
+    /// Whether the group has no fault at any place. Its fields stand between two places.
+    pub(crate) fn is_placed(&self, fields: &[Field<'_>], from: usize, to: usize) -> bool
+        requires apart { IsApart (seen fields.now) (own_tags self.now) from to }
+        ensures { IsTrue result → (place : ℕ) → place < length fields.now → misplaced
+            (place_in (seen fields.now) place (seen_at fields.now place)) (own_tags self.now)
+            ≡ None }
+    {
+        self.placed_between(fields, from, to) == fields.len()
+    }
+
+    /// How many fields stand at the front before the first at which the group has a fault.
+    fn placed_len(&self, fields: &Fields<'_>) -> usize
+        ensures within { result ≤ length fields.now }
+        ensures placed { (place : ℕ) → place < result
+            → misplaced (placed_at fields.now place) (own_tags self.now) ≡ None }
+    {
+        if self.is_absent(fields) {
+            return fields.len();
+        }
+        self.placed_between(fields.as_slice(), 0, fields.len())
     }
 }
 
@@ -257,34 +282,35 @@ impl<K> Item<K> {
             Item::Lines(group) => group.misplaced(fields, place),
         }
     }
-}
 
-impl<K> Item<K> {
-    /// Whether the item's group, if it has one, has no fault at any place.
-    fn is_placed(&self, fields: &[Field<'_>]) -> bool
-        ensures { IsTrue result → (place : ℕ) → place < length fields.now
-            → in_groups (group_tags_of (item_of (λ k. k) self.now))
-            (place_in (seen fields.now) place (seen_at fields.now place)) ≡ None }
+    /// How many fields stand at the front before the first at which the item's group, if it has
+    /// one, has a fault.
+    fn placed_len(&self, fields: &Fields<'_>) -> usize
+        ensures within { result ≤ length fields.now }
+        ensures placed { (place : ℕ) → place < result
+            → in_groups (group_tags_of (item_of (λ k. k) self.now)) (placed_at fields.now place)
+            ≡ None }
     {
         match self {
-            Item::One(_) => true,
-            Item::Party(_) => true,
-            Item::Lines(group) => group.is_placed(fields),
+            Item::One(_) => fields.len(),
+            Item::Party(_) => fields.len(),
+            Item::Lines(group) => group.placed_len(fields),
         }
     }
 }
 
-/// Whether no group of the table has a fault.
-fn are_placed<K>(table: &Table<K>, fields: &[Field<'_>]) -> bool
-    ensures { IsTrue result → first_of (in_groups (group_tags_in (table_of (λ k. k) table.now)))
-        (placed_from [] (seen fields.now)) ≡ None }
+/// How many fields stand at the front before the first at which a group of the table has a fault.
+fn placed_len<K>(table: &Table<K>, fields: &Fields<'_>) -> usize
+    ensures within { result ≤ length fields.now }
+    ensures placed { (place : ℕ) → place < result
+        → in_groups (group_tags_in (table_of (λ k. k) table.now)) (placed_at fields.now place)
+        ≡ None }
 {
+    let mut len = fields.len();
     for item in table.items {
-        if !item.is_placed(fields) {
-            return false;
-        }
+        len = len.min(item.placed_len(fields));
     }
-    true
+    len
 }
 
 /// The fault of a group of the table at a place.
@@ -301,18 +327,27 @@ fn misplaced_at<K>(table: &Table<K>, fields: &[Field<'_>], place: usize) -> Opti
     None
 }
 
-/// The first fault of a group of the table.
-pub(crate) fn first_misplaced<K>(table: &Table<K>, fields: &[Field<'_>]) -> Option<TableFault>
+/// The first fault of a group of the table, where none has one so far at the front.
+fn misplaced_from<K>(table: &Table<K>, fields: &[Field<'_>], from: usize) -> Option<TableFault>
+    requires within { from ≤ length fields.now }
+    requires placed { (place : ℕ) → place < from
+        → in_groups (group_tags_in (table_of (λ k. k) table.now))
+        (place_in (seen fields.now) place (seen_at fields.now place)) ≡ None }
     ensures { result ≡ first_of (in_groups (group_tags_in (table_of (λ k. k) table.now)))
         (placed_from [] (seen fields.now)) }
 {
-    if are_placed(table, fields) {
-        return None;
-    }
-    for place in 0..fields.len() {
+    for place in from..fields.len() {
         if let Some(fault) = misplaced_at(table, fields, place) {
             return Some(fault);
         }
     }
     None
+}
+
+/// The first fault of a group of the table.
+pub(crate) fn first_misplaced<K>(table: &Table<K>, fields: &Fields<'_>) -> Option<TableFault>
+    ensures { result ≡ first_of (in_groups (group_tags_in (table_of (λ k. k) table.now)))
+        (placed_from [] fields.now) }
+{
+    misplaced_from(table, fields.as_slice(), placed_len(table, fields))
 }

@@ -69,6 +69,15 @@ impl<'a> Lookup for Fields<'a> {
     }
 }
 
+/// Whether a field has this tag.
+#[inline(always)]
+#[tactic(auto, using(crate::proofs::Seen::stands_by_value))]
+pub(crate) fn stands_in<L: Lookup>(fields: &L, tag: u32) -> bool
+    ensures { result ≡ has_tag tag (L.fields fields.now) }
+{
+    fields.value(tag).is_some()
+}
+
 /// The fields of a line of a group.
 #[derive(Clone, Copy, Debug)]
 pub struct Line<'a> {
@@ -92,6 +101,17 @@ pub(crate) fn lacks(fields: &Fields<'_>, tag: u32) -> bool
     match fields.find(tag) {
         None => true,
         Some(_) => false,
+    }
+}
+
+/// Whether a field before a place has this tag.
+#[inline(always)]
+pub(crate) fn stands_before(fields: &Fields<'_>, tag: u32, place: usize) -> bool
+    ensures { result ≡ has_tag tag (take place fields.now) }
+{
+    match fields.find(tag) {
+        None => false,
+        Some(first) => first < place,
     }
 }
 

@@ -7,17 +7,19 @@ ghost use Rattle.message_tables.specs.FirstFault.{once_in, twice, placed_from, f
 ghost use Rattle.message_tables.specs.FirstFault.{missing_of, in_groups, wrong_version, wrong};
 ghost use Rattle.message_tables.specs.FirstFault.{beyond};
 ghost use Rattle.message_tables.specs.Tables.{lines_in};
-ghost use Rattle.message_tables.specs.FirstFault.{Marked, group_tags_in, place_in};
-ghost use Rattle.message_tables.specs.Plain.{IsWhole};
+ghost use Rattle.message_tables.specs.FirstFault.{Marked, group_tags_in};
+ghost use Rattle.message_tables.specs.Plain.{IsApart, IsWhole, placed_at};
 ghost use Rattle.message_tables.specs.Stages.{IsFound};
-ghost use Rattle.message_tables.specs.CodeTables.{seen, seen_at, row_of, group_of, own_tags};
+ghost use Rattle.message_tables.specs.TagMarks.{AreOnceMarked};
+ghost use Rattle.message_tables.specs.CodeTables.{seen, row_of, group_of, own_tags};
 ghost use Rattle.message_tables.specs.CodeTables.{item_of, table_of};
 
 use crate::group_lines::{line, line_end};
 use crate::group_stage::first_misplaced;
-use crate::lookup::{Line, field_at, front, stands};
+use crate::lookup::{Line, Lookup, field_at, rest, stands_before, stands_in};
 use crate::table::{Item, RepeatingGroup, Row, Table};
 use crate::table_fault::{Mark, TableFault};
+use crate::tag_marks::TagMarks;
 use field_groups::{Field, Fields};
 
 /// SessionRejectReason(373): tag appears more than once.
@@ -36,29 +38,37 @@ pub(crate) fn fault_if(is_there: bool, fault: TableFault) -> Option<TableFault>
     if is_there { Some(fault) } else { None }
 }
 
-/// The fault of a tag of the profile that stands again at a place.
-fn twice_at<K>(table: &Table<K>, fields: &[Field<'_>], place: usize) -> Option<TableFault>
-    requires { place < length fields.now }
-    ensures { result ≡ twice (once_in (table_of (λ k. k) table.now))
-        (place_in (seen fields.now) place (seen_at fields.now place)) }
+/// The fault of a tag of the profile that stands again at a place. The tags that stand at most once
+/// are marked.
+fn twice_at<K>(
+    table: &Table<K>,
+    once: &TagMarks,
+    fields: &Fields<'_>,
+    place: usize,
+) -> Option<TableFault>
+    requires marks { AreOnceMarked (table_of (λ k. k) table.now) once.now }
+    requires within { place < length fields.now }
+    ensures { result
+        ≡ twice (once_in (table_of (λ k. k) table.now)) (placed_at fields.now place) }
 {
-    let (tag, _) = field_at(fields, place);
-    if !stands(front(fields, place), tag) {
+    let (tag, _) = field_at(fields.as_slice(), place);
+    if !stands_before(fields, tag, place) {
         return None;
     }
     fault_if(
-        table.is_once(tag),
+        table.is_once_marked(once, tag),
         TableFault::Reason { tag, reason: TWICE },
     )
 }
 
 /// The first tag of the profile that stands again.
-fn first_twice<K>(table: &Table<K>, fields: &[Field<'_>]) -> Option<TableFault>
+fn first_twice<K>(table: &Table<K>, fields: &Fields<'_>) -> Option<TableFault>
     ensures { result ≡ first_of
-        (twice (once_in (table_of (λ k. k) table.now))) (placed_from [] (seen fields.now)) }
+        (twice (once_in (table_of (λ k. k) table.now))) (placed_from [] fields.now) }
 {
+    let once = table.once_marks();
     for place in 0..fields.len() {
-        if let Some(fault) = twice_at(table, fields, place) {
+        if let Some(fault) = twice_at(table, &once, fields, place) {
             return Some(fault);
         }
     }
@@ -66,10 +76,10 @@ fn first_twice<K>(table: &Table<K>, fields: &[Field<'_>]) -> Option<TableFault>
 }
 
 /// The fault of a row that has to be said and is not.
-fn missing_row<K>(row: &Row<K>, fields: &[Field<'_>]) -> Option<TableFault>
-    ensures { result ≡ missing (seen fields.now) (row_of (λ k. k) row.now) }
+fn missing_row<K, L: Lookup>(row: &Row<K>, fields: &L) -> Option<TableFault>
+    ensures { result ≡ missing (L.fields fields.now) (row_of (λ k. k) row.now) }
 {
-    if row.need.is_needed(&Line { fields }) && !stands(fields, row.tag) {
+    if row.need.is_needed(fields) && !stands_in(fields, row.tag) {
         Some(TableFault::Reason {
             tag: row.tag,
             reason: MISSING,
@@ -84,7 +94,7 @@ fn missing_in<K>(rows: &[Row<K>], line: &[Field<'_>]) -> Option<TableFault>
     ensures { result ≡ first_of (missing (seen line.now)) (map (row_of (λ k. k)) rows.now) }
 {
     for row in rows {
-        if let Some(fault) = missing_row(row, line) {
+        if let Some(fault) = missing_row(row, &Line { fields: &*line }) {
             return Some(fault);
         }
     }
@@ -114,17 +124,27 @@ impl<K> RepeatingGroup<K> {
     pub fn is_whole(&self, fields: &Fields<'_>) -> bool
         ensures { IsTrue result → IsWhole fields.now (group_of (λ k. k) self.now) }
     {
-        self.is_whole_in(fields.as_slice())
+        self.is_whole_between(fields, 0, fields.len())
+    }
+
+    /// The same of a group whose fields stand between two places, the first of which may be one of
+    /// them.
+    pub fn is_whole_between(&self, fields: &Fields<'_>, from: usize, to: usize) -> bool
+        requires apart { IsApart fields.now (own_tags self.now) from to }
+        ensures { IsTrue result → IsWhole fields.now (group_of (λ k. k) self.now) }
+    {
+        self.is_whole_in(fields.as_slice(), from, to)
     }
 
     /// The same of fields as a slice.
-    fn is_whole_in(&self, fields: &[Field<'_>]) -> bool
+    fn is_whole_in(&self, fields: &[Field<'_>], from: usize, to: usize) -> bool
+        requires apart { IsApart (seen fields.now) (own_tags self.now) from to }
         ensures { IsTrue result → IsWhole (seen fields.now) (group_of (λ k. k) self.now) }
     {
-        if !self.is_placed(fields) {
+        if !self.is_placed(fields, from, to) {
             return false;
         }
-        match missing_line(self, fields) {
+        match missing_line(self, rest(fields, from)) {
             Some(_) => false,
             None => true,
         }
@@ -132,19 +152,19 @@ impl<K> RepeatingGroup<K> {
 }
 
 /// The fault of an item that has to be said and is not.
-fn missing_item<K>(item: &Item<K>, fields: &[Field<'_>]) -> Option<TableFault>
-    ensures { result ≡ missing_of (seen fields.now) (item_of (λ k. k) item.now) }
+fn missing_item<K>(item: &Item<K>, fields: &Fields<'_>) -> Option<TableFault>
+    ensures { result ≡ missing_of fields.now (item_of (λ k. k) item.now) }
 {
     match item {
         Item::One(row) => missing_row(row, fields),
         Item::Party(_) => None,
-        Item::Lines(group) => missing_line(group, fields),
+        Item::Lines(group) => missing_line(group, fields.as_slice()),
     }
 }
 
 /// The first item that has to be said and is not.
-fn first_missing<K>(table: &Table<K>, fields: &[Field<'_>]) -> Option<TableFault>
-    ensures { result ≡ first_of (missing_of (seen fields.now)) (table_of (λ k. k) table.now).items }
+fn first_missing<K>(table: &Table<K>, fields: &Fields<'_>) -> Option<TableFault>
+    ensures { result ≡ first_of (missing_of fields.now) (table_of (λ k. k) table.now).items }
 {
     for item in table.items {
         if let Some(fault) = missing_item(item, fields) {
@@ -236,21 +256,29 @@ fn beyond(tag: u32, mark: Mark) -> Option<TableFault>
 
 impl<K> Table<K> {
     /// The first fault of these fields, by stage and place, with what was found of their values.
-    pub fn first_fault(&self, fields: &[Field<'_>], found: &Found) -> Option<TableFault>
+    pub fn first_fault(&self, fields: &Fields<'_>, found: &Found) -> Option<TableFault>
         ensures { result ≡
             or_else (first_of (twice (once_in (table_of (λ k. k) self.now)))
-            (placed_from [] (seen fields.now)))
+            (placed_from [] fields.now))
             (or_else found.now.version
             (or_else (first_of (in_groups (group_tags_in (table_of (λ k. k) self.now)))
-            (placed_from [] (seen fields.now)))
+            (placed_from [] fields.now))
             (or_else found.now.wrong
-            (or_else (first_of (missing_of (seen fields.now)) (table_of (λ k. k) self.now).items)
+            (or_else (first_of (missing_of fields.now) (table_of (λ k. k) self.now).items)
             found.now.outside)))) }
     {
-        let late = first(first_missing(self, fields), found.outside);
-        let form = first(found.wrong, late);
-        let groups = first(first_misplaced(self, fields), form);
-        let version = first(found.version, groups);
-        first(first_twice(self, fields), version)
+        if let Some(fault) = first_twice(self, fields) {
+            return Some(fault);
+        }
+        if let Some(fault) = found.version {
+            return Some(fault);
+        }
+        if let Some(fault) = first_misplaced(self, fields) {
+            return Some(fault);
+        }
+        if let Some(fault) = found.wrong {
+            return Some(fault);
+        }
+        first(first_missing(self, fields), found.outside)
     }
 }

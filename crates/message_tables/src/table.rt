@@ -14,7 +14,7 @@ ghost use Rattle.message_tables.specs.CodeTables.{seen, test_of, need_of, row_of
 ghost use Rattle.message_tables.specs.CodeTables.{item_of, table_of};
 ghost use Rattle.message_tables.specs.Plain.{lacks, lacks_group};
 
-use crate::lookup::{Lookup, is_among, lacks};
+use crate::lookup::{Lookup, is_among, lacks, stands_in};
 use crate::table_fault::Mark;
 use crate::tag_marks::TagMarks;
 use field_groups::{Field, Fields};
@@ -91,12 +91,11 @@ pub struct Table<K: 'static> {
 
 impl Test {
     /// Whether it holds of these fields.
-    #[tactic(auto, using(crate::proofs::Seen::stands_by_value))]
     pub(crate) fn passes<L: Lookup>(&self, fields: &L) -> bool
         ensures { result ≡ passes (L.fields fields.now) (test_of self.now) }
     {
         match self {
-            Test::Stands(tag) => fields.value(*tag).is_some(),
+            Test::Stands(tag) => stands_in(fields, *tag),
             Test::Is(tag, listed) => match fields.value(*tag) {
                 Some([byte]) => is_byte(listed, *byte),
                 _ => false,
@@ -109,7 +108,7 @@ impl Test {
 fn is_byte(listed: &[u8], byte: u8) -> bool
     ensures { result ≡ is_one_of listed.now byte }
 {
-    listed.contains(&byte)
+    listed.iter().any(|one| *one == byte)
 }
 
 /// Whether all these tests hold.

@@ -1,14 +1,13 @@
-//! Marks of tags, those of a group or those that stand once in a message, which tell of most other
-//! tags that they are none of these.
+//! Marks of the tags that stand once in a message, which tell of most other tags that they do not.
 
 ghost use Rattle.std.specs.Prelude.{◌≡◌, [], ◌∷◌, map};
 ghost use Rattle.std.specs.List.{flat_map};
-ghost use Rattle.message_tables.specs.Tables.{is_inside, is_one_of};
+ghost use Rattle.message_tables.specs.Tables.{is_one_of};
 ghost use Rattle.message_tables.specs.FirstFault.{once_in, once_of};
-ghost use Rattle.message_tables.specs.CodeTables.{item_of, own_tags, table_of};
-ghost use Rattle.message_tables.specs.TagMarks.{AreMarked, AreOnceMarked, is_marked, with_tags};
+ghost use Rattle.message_tables.specs.CodeTables.{item_of, table_of};
+ghost use Rattle.message_tables.specs.TagMarks.{AreOnceMarked, is_marked, with_tags};
 
-use crate::table::{Item, RepeatingGroup, Row, Table};
+use crate::table::{Item, Row, Table};
 
 /// How many remainders there are.
 const REMAINDERS: usize = 512;
@@ -32,16 +31,6 @@ fn mark_rows<K>(rows: &[Row<K>], marks: &mut TagMarks)
 {
     for row in rows {
         mark(marks, row.tag);
-    }
-}
-
-/// Marks these tags.
-#[inline(always)]
-fn mark_all(tags: &[u32], marks: &mut TagMarks)
-    ensures { marks.new ≡ with_tags tags.now marks.old }
-{
-    for tag in tags {
-        mark(marks, *tag);
     }
 }
 
@@ -72,27 +61,6 @@ fn is_marked(marks: &TagMarks, tag: u32) -> bool
     ensures { result ≡ is_marked marks.now tag }
 {
     marks[tag as usize % REMAINDERS]
-}
-
-impl<K> RepeatingGroup<K> {
-    /// The marks of the tags inside the group.
-    pub(crate) fn marks(&self) -> TagMarks
-        ensures { AreMarked (own_tags self.now) result }
-    {
-        let mut marks = [false; REMAINDERS];
-        mark_rows(self.rows, &mut marks);
-        mark_all(self.skipped, &mut marks);
-        marks
-    }
-
-    /// Whether a tag is inside the group, whose tags are marked.
-    #[inline(always)]
-    pub(crate) fn has_marked(&self, marks: &TagMarks, tag: u32) -> bool
-        requires { AreMarked (own_tags self.now) marks.now }
-        ensures { result ≡ is_inside (own_tags self.now) tag }
-    {
-        is_marked(marks, tag) && self.has(tag)
-    }
 }
 
 impl<K> Table<K> {

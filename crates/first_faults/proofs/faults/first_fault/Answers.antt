@@ -4,5 +4,5 @@ use Rattle.first_faults.proofs.faults.first_fault.Goals as goal
 
 pub returns : goal.returns
 returns c =
-    rw c.as_slice.ensures at c.first_fault.ensures
+    c.first_fault.ensures
     ∙ by_table c.args.table.now c.args.fields.now c.found.result c.found.ensures

@@ -1,6 +1,8 @@
-use Rattle.std.proofs.Common.{sym, ◌∙◌}
+use Rattle.std.proofs.Common.{sym, subst, ◌∙◌}
+use Rattle.message_tables.specs.Tables.{GroupTags}
+use Rattle.message_tables.specs.Plain.{IsApart}
 use Rattle.message_tables.specs.CodeTables.{group_of}
-use Rattle.message_tables.proofs.Mapped.{lacks_mapped, whole_mapped}
+use Rattle.message_tables.proofs.Mapped.{group_tags_mapped, lacks_mapped, whole_mapped}
 use Rattle.message_tables.proofs.OnePass.{absent_is_whole}
 use Rattle.row_values.specs.CodeKinds.{kind_of}
 use Rattle.first_faults.proofs.indexed.is_whole.Goals as goal
@@ -13,4 +15,10 @@ returns-then-is_absent c = λ yes.
 
 pub returns-else-is_absent : goal.returns-else-is_absent
 returns-else-is_absent c = λ yes.
-    whole_mapped kind_of c.args.fields.now c.args.group.now (c.is_whole.ensures yes)
+    whole_mapped kind_of c.args.fields.now c.args.group.now (c.is_whole_between.ensures yes)
+
+pub is_whole_between-requires-clause-apart : goal.is_whole_between-requires-clause-apart
+is_whole_between-requires-clause-apart c = λ κs.
+    subst (λ (tags : GroupTags).
+    IsApart c.args.fields.now tags c.args.span.from c.args.span.to)
+    (group_tags_mapped kind_of c.args.group.now) c.requires

@@ -9,7 +9,7 @@ use Rattle.first_faults.proofs.indexed.Indexed.first_fault.Goals as goal
 pub returns : goal.returns
 returns c =
     let fields = c.args.fields.now in
-    rw c.as_slice.ensures at c.first_fault.ensures
+    c.first_fault.ensures
     ∙ by_table c.self.inside.table.now fields c.found.result
     (subst (λ (t : Table Kind). IsFound (map (marked judge t fields) fields) c.found.result)
     (sym c.self.view_is) c.found.ensures)

@@ -2,7 +2,7 @@ use Rattle.std.proofs.Common.{false, true, sym, subst, ◌∙◌}
 use Rattle.message_tables.specs.Tables.{Table}
 use Rattle.row_values.specs.Kinds.{Kind}
 use Rattle.first_faults.specs.Indexed.{IsGoodField}
-use Rattle.first_faults.proofs.ByTags.{other_good, own_good}
+use Rattle.first_faults.proofs.ByTags.{other_good, own_good, passed_good}
 use Rattle.first_faults.proofs.OnePass.{member_loose}
 use Rattle.first_faults.proofs.indexed.Indexed.judge.Goals as goal
 
@@ -26,3 +26,11 @@ pub returns-then-is_loose : goal.returns-then-is_loose
 returns-then-is_loose c =
     subst (λ (t : Table Kind). IsGoodField t c.args.fields.now c.args.place false) c.self.view_is
     (other_good _ c.args.fields.now c.args.place (c.is_loose.ensures c.if-is_loose.true))
+
+pub returns-then-not-is_empty : goal.returns-then-not-is_empty
+returns-then-not-is_empty c =
+    subst (λ (t : Table Kind). IsGoodField t c.args.fields.now c.args.place false) c.self.view_is
+    (passed_good c.self.inside.table.now c.args.fields.now c.args.place c.in_ok-tag.tag
+    c.in_ok-tag.value.now c.in_ok-tag.ensures c.in-Passed.ensures
+    (c.is_first-in-Passed.ensures c.if-is_first-2.true)
+    (sym c.is_empty.ensures ∙ c.if-not-is_empty.true))

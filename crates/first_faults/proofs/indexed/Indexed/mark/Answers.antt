@@ -3,7 +3,7 @@ use Rattle.message_tables.specs.Tables.{Table}
 use Rattle.message_tables.specs.FirstFault.{allowed, marked}
 use Rattle.message_tables.specs.CodeTables.{need_of, row_of}
 use Rattle.row_values.specs.Kinds.{Kind, judge}
-use Rattle.first_faults.proofs.FirstFaults.{with_row}
+use Rattle.first_faults.proofs.FirstFaults.{with_none, with_row}
 use Rattle.first_faults.proofs.indexed.Indexed.mark.Goals as goal
 
 pub returns-in-Own : goal.returns-in-Own
@@ -22,6 +22,14 @@ returns-in-Member c =
     (λ i. (c.args.tag, e i))
     ∙ with_row c.self.inside.table.now c.args.fields.now c.args.tag c.args.value.now
     (row_of (λ k. k) c.in-Member.row.now) c.in-Member.ensures.0
+    ∙ ap (λ (t : Table Kind). marked judge t c.args.fields.now (c.args.tag, c.args.value.now))
+    c.self.view_is
+
+pub returns-in-Passed : goal.returns-in-Passed
+returns-in-Passed c =
+    (λ i. (c.args.tag, c.without_row.ensures i))
+    ∙ with_none c.self.inside.table.now c.args.fields.now c.args.tag c.args.value.now
+    c.in-Passed.ensures.0
     ∙ ap (λ (t : Table Kind). marked judge t c.args.fields.now (c.args.tag, c.args.value.now))
     c.self.view_is
 

@@ -1,36 +1,7 @@
-use Rattle.std.proofs.Common.{◌≡◌, ◌∙◌, ℕ, ◌+◌, ◌<◌, ◌==◌, None, sym, subst, ⊎_elim, length, arith}
-use Rattle.std.proofs.lemmas.Bool.{cases_lt}
-use Rattle.field_groups.specs.Field.{Field}
-use Rattle.message_tables.specs.FirstFault.{misplaced, place_in}
-use Rattle.message_tables.specs.CodeTables.{seen, seen_at, own_tags}
-use Rattle.message_tables.proofs.Seen.{seen_most}
-use Rattle.message_tables.proofs.Placed.{few_more, said_more}
+use Rattle.std.proofs.Common.{arith}
+use Rattle.std.proofs.lemmas.Bool.Decides.{nat_tests}
 use Rattle.message_tables.proofs.table.RepeatingGroup.is_placed.Goals as goal
 
-pub loop-place-preserved : goal.loop-place-preserved
-loop-place-preserved g c =
-    let fs = seen c.args.fields.now in
-    let group = own_tags c.args.self.now in
-    let f : Field = (c.field_at-tag.result.0, c.field_at-tag.result.1.now) in
-    let i = c.loop-place.place in
-    let said = c.loop-place.said in
-    let known = c.loop-place.invariant in
-    let lt : i < length fs =
-    let most = seen_most c.args.fields.now (i + 1) (omega (arith, c.loop-place-test.true)) in
-    omega (arith, most) in
-    let more = said_more group fs i f said.opened said.lines lt c.field_at-tag.ensures
-    known.opened known.lines in
-    let none : misplaced (place_in fs i (seen_at c.args.fields.now i)) group ≡ None =
-    rw c.in_default.is at (sym c.misplaced_by.ensures) in
-    record {
-      placed = λ place before.
-          ⊎_elim (λ there. known.placed place there)
-          (λ le. let same : i ≡ place = omega (arith, before, le) in
-          subst (λ (p : ℕ). misplaced (place_in fs p (seen_at c.args.fields.now p)) group ≡ None)
-          same none)
-          (cases_lt place i);
-      opened = (rw c.has_marked-inside.ensures at c.with-said.ensures.opened) ∙ more.0;
-      lines = (rw c.has_marked-inside.ensures at c.with-said.ensures.lines) ∙ more.1;
-      few = few_more c.has_marked-inside.result (f.0 == group.first) c.with-said.result.lines
-          said.lines i c.with-said.ensures.lines known.few;
-    }
+pub returns : goal.returns
+returns g c = λ yes place lt.
+    c.placed_between.ensures.placed place (grind (arith, nat_tests, yes, lt))

@@ -3,7 +3,7 @@ use Rattle.message_tables.specs.Tables.{first_of}
 use Rattle.message_tables.specs.FirstFault.{placed_from, in_groups, group_tags_in}
 use Rattle.message_tables.specs.CodeTables.{seen, table_of}
 use Rattle.message_tables.proofs.Placed.{rest_at}
-use Rattle.message_tables.proofs.group_stage.first_misplaced.Given as goal
+use Rattle.message_tables.proofs.group_stage.misplaced_from.Given as goal
 
 abbrev pub invariant-loop-place : goal.invariant-loop-place
 invariant-loop-place g l =
