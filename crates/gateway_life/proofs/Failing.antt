@@ -1,11 +1,11 @@
 -- An event that ended a life: what led up to it, and what stands of it.
-use Rattle.std.proofs.Common.{◌≡◌, ℕ, List, ◌∷◌, ◌++◌, ◌∙◌, ap, append_assoc, inl}
+use Rattle.std.proofs.Common.{◌≡◌, List, ◌∷◌, ◌++◌, ◌∙◌, ap, append_assoc, inl, ℕ}
 use Rattle.pair_entries.specs.declared.entry.Entry.{Entry}
 use Rattle.event_decisions.specs.Event.{Event}
 use Rattle.message_answers.specs.Answer.{Answers}
-use Rattle.gateway_config.specs.declared.config.Config.{Config}
 use Rattle.life_laws.specs.Happens.{World, Added, Fails}
 use Rattle.life_laws.specs.Ends.{UpTo}
+use Rattle.gateway_config.specs.declared.config.Config.{Config}
 use Rattle.gateway_life.specs.declared.end.LifeEnd.{LifeEnd}
 use Rattle.gateway_life.specs.declared.end.LifeEnd.TheVariants as ends
 use Rattle.gateway_life.specs.Fails.{FailsBy}
@@ -30,9 +30,4 @@ module _ (config : Config) where
       (entries : List Entry) → FailsBy end config w event now added entries
       → Fails Answers config.names config.window w event now added entries
   fails_by ends.DiskFault w event now added entries by = by
-  fails_by ends.Done w event now added entries by = inl by
-  fails_by (ends.JournalRefused at) w event now added entries by = inl by
-  fails_by (ends.NamesDiffer kept given) w event now added entries by = inl by
-  fails_by ends.JournalFull w event now added entries by = inl by
-  fails_by (ends.NumbersSpent side) w event now added entries by = inl by
-  fails_by ends.NoMemory w event now added entries by = inl by
+  fails_by end w event now added entries by = inl by

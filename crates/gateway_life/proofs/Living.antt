@@ -261,8 +261,9 @@ module _ (one : (image : List ℕ) → HasOneReading image) where
                 told_added km0 km1 (given ++ last ∷ []) k0 k1 did.moments moments ek0 ek1 dk;
             most = most;
             fails = λ reads. days_begun (λ es. LastFails end config (went_on es life.days [])
-                (moment_of last) life.left (length given ≡ rounds)) xs old reads (map moment_of (given ++ last ∷ []))
-                life.days begins (life.fails told reads (stood_none xs old reads begins));
+                (moment_of last) life.left (length given ≡ rounds)) xs old reads
+                (map moment_of (given ++ last ∷ [])) life.days begins
+                (life.fails told reads (stood_none xs old reads begins));
             client = hung_added rc0 rcm rc1 all.client c0 c1 did.client life.grew.client ch cd ec0
                 ec1 dc;
             venue = hung_added rv0 rvm rv1 all.venue v0 v1 did.venue life.grew.venue vh vd ev0 ev1
@@ -323,15 +324,13 @@ module _ (one : (image : List ℕ) → HasOneReading image) where
         at : (e : LifeEnd) → Begins {T = LifeState} (λ life. life.engine.journal.entries)
             config.names bytes (Err e)
             → Found e config before rounds did image
-        at ends.Done begins = absurd begins
         at (ends.JournalRefused place) begins =
             absurd (not_refused config.names bytes before place journal begins)
         at (ends.NamesDiffer kept given) begins =
             absurd (begins.1 (same_names config.names kept bytes before begins.2 journal begins.3))
         at ends.DiskFault begins = not_begun ends.DiskFault tt (λ done. absurd (cc done))
-        at ends.JournalFull begins = absurd begins
-        at (ends.NumbersSpent side) begins = absurd begins
         at ends.NoMemory begins = not_begun ends.NoMemory tt (λ done. absurd (cc done))
+        at e begins = absurd begins
 
 -- ---- the answer of a life
 
@@ -551,13 +550,11 @@ answered_done names (Some bytes) entries h = (entries, h)
 by_begin : (end : LifeEnd) (names : Names) (bytes : List ℕ)
     → Begins {T = LifeState} (λ life. life.engine.journal.entries) names bytes (Err end)
     → IsAnswered end names bytes
-by_begin ends.Done names bytes h = absurd h
 by_begin (ends.JournalRefused at) names bytes h = h
 by_begin (ends.NamesDiffer kept given) names bytes h = h
 by_begin ends.DiskFault names bytes h = tt
-by_begin ends.JournalFull names bytes h = absurd h
-by_begin (ends.NumbersSpent side) names bytes h = absurd h
 by_begin ends.NoMemory names bytes h = tt
+by_begin end names bytes h = absurd h
 
 by_event : (end : LifeEnd) (names : Names) (bytes : List ℕ) (entries : List Entry) → IsOfEvent end
     → IsJournal names entries bytes → IsAnswered end names bytes
@@ -565,9 +562,8 @@ by_event ends.Done names bytes entries of h = absurd of
 by_event (ends.JournalRefused at) names bytes entries of h = absurd of
 by_event (ends.NamesDiffer kept given) names bytes entries of h = absurd of
 by_event ends.DiskFault names bytes entries of h = tt
-by_event ends.JournalFull names bytes entries of h = (entries, h)
-by_event (ends.NumbersSpent side) names bytes entries of h = (entries, h)
 by_event ends.NoMemory names bytes entries of h = tt
+by_event end names bytes entries of h = (entries, h)
 
 pub answered_ended : (end : LifeEnd) (config : Config) (rounds : ℕ) (told : Option (List ℕ))
     (i0 i1 : List ℕ → Type 0) (r0 r1 : Records) (k0 k1 : Option (List ℕ))
@@ -609,32 +605,20 @@ pub not_done : (end : LifeEnd) (P : Type 0) → IsNotDone end → end ≡ ends.D
 not_done end P not is = let none : ⊥ = subst IsNotDone is not in absurd none
 
 pub if_refused : (P Q : Type 0) (end : LifeEnd) → (P → Q) → IfRefused end P → IfRefused end Q
-if_refused P Q ends.Done f p = tt
 if_refused P Q (ends.JournalRefused place) f p = f p
 if_refused P Q (ends.NamesDiffer kept given) f p = f p
-if_refused P Q ends.DiskFault f p = tt
-if_refused P Q ends.JournalFull f p = tt
-if_refused P Q (ends.NumbersSpent side) f p = tt
-if_refused P Q ends.NoMemory f p = tt
+if_refused P Q end f p = tt
 
 pub refused_if : (P : Type 0) (end : LifeEnd) → P → IfRefused end P
-refused_if P ends.Done p = tt
 refused_if P (ends.JournalRefused place) p = p
 refused_if P (ends.NamesDiffer kept given) p = p
-refused_if P ends.DiskFault p = tt
-refused_if P ends.JournalFull p = tt
-refused_if P (ends.NumbersSpent side) p = tt
-refused_if P ends.NoMemory p = tt
+refused_if P end p = tt
 
 -- no event is what a disk is refused by
 pub refused_not : (P : Type 0) (end : LifeEnd) → IsOfEvent end → IfRefused end P
-refused_not P ends.Done of = tt
 refused_not P (ends.JournalRefused place) of = absurd of
 refused_not P (ends.NamesDiffer kept given) of = absurd of
-refused_not P ends.DiskFault of = tt
-refused_not P ends.JournalFull of = tt
-refused_not P (ends.NumbersSpent side) of = tt
-refused_not P ends.NoMemory of = tt
+refused_not P end of = tt
 
 pub refused_events : {T : Type 0} (P : Type 0) (r : Result T LifeEnd) (t0 t1 : Option (List ℕ))
     → is_some t1 ≡ is_some t0 → IfErr r (EndsEvent t1)
