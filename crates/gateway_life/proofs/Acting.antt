@@ -1,16 +1,15 @@
 -- What an event does on the wires, part after part.
-use Rattle.std.proofs.Common.{◌≡◌, ℕ, Bool, true, false, List, [], ◌++◌, refl, sym, ◌∙◌, ap}
-use Rattle.std.proofs.Common.{subst, append_assoc, Some, None, inl, inr, Ok, Err}
-use Rattle.std.specs.Prelude.{map, ◌&&◌, Result, IfErr, IsErrAnd}
+use Rattle.std.proofs.Common.{◌≡◌, Bool, true, false, List, ◌++◌, refl, sym, ◌∙◌, ap, ◌∷◌, [], ℕ}
+use Rattle.std.proofs.Common.{subst, append_assoc, Some, None, inl, inr, Ok}
+use Rattle.std.specs.Prelude.{map, ◌&&◌}
 use Rattle.std.specs.declared.option.Option.{Option}
 use Rattle.std.specs.Option.{option_to_list, ForSome}
 use Rattle.std.proofs.lemmas.List.{map-append}
+use Rattle.wires.specs.Wire.{WireCall}
 use Rattle.order_meaning.specs.declared.Side.{Side}
 use Rattle.order_meaning.specs.declared.Side.TheVariants.{Client, Venue}
 use Rattle.order_meaning.specs.declared.names.Names.{Names}
 use Rattle.session_core.specs.declared.session.Session.{Session}
-use Rattle.pair_journal.specs.declared.error.JournalError.{JournalError}
-use Rattle.pair_journal.specs.declared.error.JournalError.TheVariants as errors
 use Rattle.pair_entries.specs.declared.entry.Entry.{Entry}
 use Rattle.pair_journal.specs.Numbers.{numbers_after, first_numbers}
 use Rattle.pair_journal.specs.Days.{last_day}
@@ -19,25 +18,24 @@ use Rattle.event_decisions.specs.Event.{Event}
 use Rattle.event_decisions.specs.Decide.{Sessions, AreSides, numbers_of, Decision, Decides}
 use Rattle.message_answers.specs.Answer.{Answers}
 use Rattle.message_answers.specs.Chains.{chains_of}
-use Rattle.gateway_core.specs.State.{sessions_in}
-use Rattle.gateway_config.specs.declared.config.Config.{Config}
-use Rattle.wires.specs.Wire.{WireCall}
 use Rattle.life_laws.specs.Forms.{Form}
 use Rattle.life_laws.specs.Sends.{Sends, Front, hang_up_if}
-use Rattle.life_laws.specs.Happens.{World, nothing, pieces_to, hangs}
-use Rattle.life_laws.specs.Happens.{standing, both_standing}
+use Rattle.life_laws.specs.Happens.{World, nothing, pieces_to, hangs, standing, both_standing}
+use Rattle.life_laws.specs.Turn.{counts}
+use Rattle.gateway_config.specs.declared.config.Config.{Config}
+use Rattle.gateway_core.specs.State.{sessions_in}
+use Rattle.wire_sends.specs.Sent.{Agrees, Sent, FrontSent, Hung}
+use Rattle.wire_sends.proofs.Sendings.{sent_append, sent_none, grows_append, sends_none}
 use Rattle.gateway_life.specs.declared.end.LifeEnd.{LifeEnd}
 use Rattle.gateway_life.specs.declared.end.LifeEnd.TheVariants as ends
-use Rattle.gateway_life.specs.Ended.{end_of}
-use Rattle.wire_sends.specs.Sent.{Agrees, Sent, FrontSent, Hung}
 use Rattle.gateway_life.specs.Acted.{Acted}
 use Rattle.gateway_life.specs.State.{EngineState}
 use Rattle.gateway_life.specs.Ready.{LeavesOf, IsReady, Ready, Behind}
 use Rattle.gateway_life.specs.Fails.{IsWhy, FailsBy}
-use Rattle.gateway_life.specs.Stepped.{Records, records, Grew, Stepped, MayStand, Broken}
+use Rattle.gateway_life.specs.Stepped.{Records, records, Stepped, MayStand, Broken, Failed}
 use Rattle.gateway_life.proofs.Today.{behind_map}
-use Rattle.wire_sends.proofs.Sendings.{sent_append, sent_none, grows_append, grows_none}
-use Rattle.wire_sends.proofs.Sendings.{sends_none}
+use Rattle.gateway_life.proofs.Turning.{grew_none, failed_one}
+use Rattle.gateway_life.proofs.Telling.{leaves_map}
 
 pub acted : (a b c d : Option (List WireCall)) (up mid still after hang_up : Bool)
     (frame : Form → List ℕ) (xs ys : List Form) → Sent a b up (map frame xs) mid
@@ -156,11 +154,7 @@ stepped config before after event now d names entries cu vu c0 c1 v0 v1 sn sc sv
       };
     }
 
--- nothing was added yet
-grew_none : (r : Records) → Grew r r nothing
-grew_none r = record { client = grows_none r.client; venue = grows_none r.venue }
-
-pub broken_none : (end : LifeEnd) (config : Config) (past : List Entry) (before : World)
+broken_none : (end : LifeEnd) (config : Config) (past : List Entry) (before : World)
     (event : Event) (now : ℕ) (r : Records) (found : List Entry)
     → IsWhy end config past before event now → MayStand end config before event now found
     → Broken end config past before event now r r found
@@ -189,17 +183,13 @@ broken_none end config past before event now r found why may =
         sends = sends_none before.venue_up;
       };
     })
-    at ends.Done same = (same, refl)
-    at (ends.JournalRefused place) same = (same, refl)
-    at (ends.NamesDiffer kept given) same = (same, refl)
-    at ends.JournalFull same = (same, refl)
-    at (ends.NumbersSpent side) same = (same, refl)
-    at ends.NoMemory same = (same, refl)
+    at end same = (same, refl)
 
 -- a part was sent, and the entry stands
-pub broken_parts : (told : Option (List ℕ)) (before' after' : List ℕ → Type 0) (config : Config)
+pub parts_fail : (told : Option (List ℕ)) (before' after' : List ℕ → Type 0) (config : Config)
     (past : List Entry) (before : World) (event : Event) (now : ℕ) (d : Decision) (names : Names)
-    (entries whole : List Entry) → whole ≡ past ++ entries → (cu vu : Bool)
+    (entries whole : List Entry) (end : LifeEnd) → end ≡ ends.DiskFault
+    → counts before event ≡ true → whole ≡ past ++ entries → (cu vu : Bool)
     (c0 c1 v0 v1 : Option (List WireCall))
     → names ≡ config.names → cu ≡ before.client_up → vu ≡ before.venue_up
     → entries ≡ before.entries ++ option_to_list d.entry
@@ -210,44 +200,49 @@ pub broken_parts : (told : Option (List ℕ)) (before' after' : List ℕ → Typ
     → (image0 : List ℕ → Type 0)
     → LeavesOf told image0 before' config.names (λ found. found ≡ whole)
     → LeavesOf told image0 after' config.names (Behind past
-    (Broken ends.DiskFault config past before event now (records c0 v0) (records c1 v1)))
-broken_parts told before' after' config past before event now d names entries whole all cu vu c0 c1
-    v0 v1 sn sc sv se decides among client' venue' image0 only = at told only
+    (Failed end config past before (event ∷ []) now (records c0 v0) (records c1 v1)))
+parts_fail told before' after' config past before event now d names entries whole end is counted
+    all cu vu c0 c1 v0 v1 sn sc sv se decides among client' venue' image0 only = at told only
   where
+    part : (side : Side) (a b : Option (List WireCall)) (up up' : Bool) → up' ≡ up
+        → FrontSent a b up' (pieces_to names side entries event now d)
+        → FrontSent a b up (pieces_to config.names side entries event now d)
+    part side a b up up' same sent =
+        subst (λ n. FrontSent a b up (pieces_to n side entries event now d)) sn
+        (subst (λ u. FrontSent a b u (pieces_to names side entries event now d)) same sent)
+
     client : FrontSent c0 c1 before.client_up (pieces_to config.names Client entries event now d)
-    client = subst (λ n. FrontSent c0 c1 before.client_up
-        (pieces_to n Client entries event now d)) sn
-        (subst (λ u. FrontSent c0 c1 u (pieces_to names Client entries event now d)) sc client')
+    client = part Client c0 c1 before.client_up cu sc client'
 
     venue : FrontSent v0 v1 before.venue_up (pieces_to config.names Venue entries event now d)
-    venue = subst (λ n. FrontSent v0 v1 before.venue_up
-        (pieces_to n Venue entries event now d)) sn
-        (subst (λ u. FrontSent v0 v1 u (pieces_to names Venue entries event now d)) sv venue')
+    venue = part Venue v0 v1 before.venue_up vu sv venue'
 
-    broken : Broken ends.DiskFault config past before event now (records c0 v0) (records c1 v1)
-        entries
-    broken = record {
-      why = tt;
-      added = record { client = client.sent.calls; venue = venue.sent.calls };
-      grew = record { client = client.sent.grows; venue = venue.sent.grows };
-      fails = inr (record {
-        decision = d;
-        decides = decides;
-        is = se;
-        client = part_of c0 c1 before.client_up
-            (pieces_to config.names Client entries event now d) client;
-        venue = part_of v0 v1 before.venue_up
-            (pieces_to config.names Venue entries event now d) venue;
-      });
-    }
+    failed : Failed end config past before (event ∷ []) now (records c0 v0) (records c1 v1) entries
+    failed = subst (λ (e : LifeEnd). Failed e config past before (event ∷ []) now (records c0 v0)
+        (records c1 v1) entries) (sym is)
+        (failed_one config ends.DiskFault past before event now (records c0 v0) (records c1 v1)
+        entries counted (record {
+          why = tt;
+          added = record { client = client.sent.calls; venue = venue.sent.calls };
+          grew = record { client = client.sent.grows; venue = venue.sent.grows };
+          fails = inr (record {
+            decision = d;
+            decides = decides;
+            is = se;
+            client = part_of c0 c1 before.client_up
+                (pieces_to config.names Client entries event now d) client;
+            venue = part_of v0 v1 before.venue_up
+                (pieces_to config.names Venue entries event now d) venue;
+          });
+        }))
 
     at : (t : Option (List ℕ)) → LeavesOf t image0 before' config.names (λ found. found ≡ whole)
         → LeavesOf t image0 after' config.names (Behind past
-        (Broken ends.DiskFault config past before event now (records c0 v0) (records c1 v1)))
+        (Failed end config past before (event ∷ []) now (records c0 v0) (records c1 v1)))
     at None h = tt
     at (Some b) h = λ left bytes here.
         let found = h left bytes (among bytes here) in
-        (found.0, found.1, (entries, found.2 ∙ all, broken))
+        (found.0, found.1, (entries, found.2 ∙ all, failed))
 
 -- ---- an engine that has acted
 
@@ -276,48 +271,17 @@ ready_acted old new t0 t1 c1 v1 ready told journal config chains sessions client
   venue = venue;
 }
 
-pub all_broken : (told : Option (List ℕ)) (image0 image : List ℕ → Type 0) (end : LifeEnd)
+-- nothing of it stands, or its entry
+pub made_fails : (end : LifeEnd) (told : Option (List ℕ)) (i0 i1 : List ℕ → Type 0)
     (config : Config) (past : List Entry) (before : World) (event : Event) (now : ℕ) (r : Records)
-    → IsWhy end config past before event now
-    → LeavesOf told image0 image config.names
-    (Behind past (MayStand end config before event now))
-    → LeavesOf told image0 image config.names
-    (Behind past (Broken end config past before event now r r))
-all_broken None image0 image end config past before event now r why may = tt
-all_broken (Some b) image0 image end config past before event now r why may = λ only bytes left.
-    let found = may only bytes left in (
-      found.0,
-      found.1,
-      behind_map past past (MayStand end config before event now)
-          (Broken end config past before event now r r) refl
-          (λ xs h. broken_none end config past before event now r xs why h) found.0 found.2,
-    )
-
--- ---- an event that ended the life, by its answer
-
-pub made_ends : {T : Type 0} (r : Result T LifeEnd) (error : LifeEnd) (told : Option (List ℕ))
-    (i0 i1 : List ℕ → Type 0) (config : Config) (past : List Entry) (before : World)
-    (event : Event) (now : ℕ) (r0 : Records) → IsErrAnd r (λ e. e ≡ error)
-    → IsWhy error config past before event now
-    → LeavesOf told i0 i1 config.names (Behind past (MayStand error config before event now))
-    → IfErr r (λ end. LeavesOf told i0 i1 config.names
-    (Behind past (Broken end config past before event now r0 r0)))
-made_ends (Ok value) error told i0 i1 config past before event now r0 is why may = tt
-made_ends (Err end) error told i0 i1 config past before event now r0 is why may =
-    subst (λ (e : LifeEnd). LeavesOf told i0 i1 config.names
-    (Behind past (Broken e config past before event now r0 r0))) (sym is)
-    (all_broken told i0 i1 error config past before event now r0 why may)
-
-pub act_ends : {T : Type 0} (r : Result T LifeEnd) (error : JournalError) (told : Option (List ℕ))
-    (i0 i1 : List ℕ → Type 0) (config : Config) (past : List Entry) (before : World)
-    (event : Event) (now : ℕ) (r0 r1 : Records) → IsErrAnd r (λ e. e ≡ end_of error)
-    → error ≡ errors.DiskFault
+    → counts before event ≡ true → IsWhy end config past before event now
+    → LeavesOf told i0 i1 config.names (Behind past (MayStand end config before event now))
     → LeavesOf told i0 i1 config.names
-    (Behind past (Broken ends.DiskFault config past before event now r0 r1))
-    → IfErr r (λ end. LeavesOf told i0 i1 config.names
-    (Behind past (Broken end config past before event now r0 r1)))
-act_ends (Ok value) error told i0 i1 config past before event now r0 r1 is fault left = tt
-act_ends (Err end) error told i0 i1 config past before event now r0 r1 is fault left =
-    subst (λ (e : LifeEnd). LeavesOf told i0 i1 config.names
-    (Behind past (Broken e config past before event now r0 r1)))
-    (sym (is ∙ ap end_of fault)) left
+    (Behind past (Failed end config past before (event ∷ []) now r r))
+made_fails end told i0 i1 config past before event now r counted why =
+    leaves_map told i0 i1 config.names (Behind past (MayStand end config before event now))
+    (Behind past (Failed end config past before (event ∷ []) now r r))
+    (behind_map past past (MayStand end config before event now)
+    (Failed end config past before (event ∷ []) now r r) refl (λ xs may.
+    failed_one config end past before event now r r xs counted
+    (broken_none end config past before event now r xs why may)))

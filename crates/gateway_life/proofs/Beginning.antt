@@ -7,6 +7,8 @@ use Rattle.std.specs.declared.option.Option.{Option}
 use Rattle.std.specs.Option.{ForSome}
 use Rattle.order_meaning.specs.declared.names.Names.{Names}
 use Rattle.pair_entries.specs.declared.entry.Entry.{Entry}
+use Rattle.pair_journal.specs.declared.error.JournalError.{JournalError}
+use Rattle.pair_journal.specs.declared.error.JournalError.TheVariants as errors
 use Rattle.pair_journal.specs.Calls.{Loads, BornOrNot}
 use Rattle.pair_journal.specs.Days.{last_day}
 use Rattle.pair_journal.proofs.Dating.{last_numbers}
@@ -16,6 +18,7 @@ use Rattle.pair_journal.specs.State.{JournalState}
 use Rattle.gateway_config.specs.declared.config.Config.{Config}
 use Rattle.gateway_core.specs.State.{CoreState, loaded}
 use Rattle.gateway_life.specs.declared.end.LifeEnd.{LifeEnd}
+use Rattle.gateway_life.specs.Ended.{end_of}
 use Rattle.gateway_life.specs.Ready.{IsReady}
 use Rattle.gateway_life.specs.Life.{IfRefused, IsForeign}
 use Rattle.gateway_life.specs.Rounds.{Begins}
@@ -27,6 +30,22 @@ pub begins_ok : {T : Type 0} (entries : T → List Entry) (names : Names) (told 
 begins_ok entries names None now journal made same h = tt
 begins_ok entries names (Some b) now journal made same h =
     subst (λ l. JournalOf b (Born names l) ⊎ (JournalOf b Unborn × (l ≡ []))) (sym same) h.1
+
+pub begins_err : {T : Type 0} (entries : T → List Entry) (names : Names) (told : Option (List ℕ))
+    (now : Option (List ℕ)) (r : Result T LifeEnd) (error : JournalError)
+    → IsErrAnd r (λ e. e ≡ end_of error) → IfSome told (λ b. Loads names b (Err error) now)
+    → IfSome told (λ b. Begins entries names b r)
+begins_err entries names None now r error is h = tt
+begins_err entries names (Some b) now (Ok made) error is h = absurd is
+begins_err {T = T} entries names (Some b) now (Err end) error is h =
+    subst (λ (e : LifeEnd). Begins entries names b (Err e)) (sym is) (at error h)
+  where
+    at : (e : JournalError) → Loads names b (Err e) now
+        → Begins {T = T} entries names b (Err (end_of e))
+    at (errors.Refused place) loads = loads.0
+    at (errors.NamesDiffer kept given) loads = (loads.0, loads.1, loads.2, loads.3)
+    at errors.Full loads = absurd loads
+    at error loads = tt
 
 -- a disk that was left alone, or was only read behind
 pub born_same : (told : Option (List ℕ)) (image : List ℕ → Type 0) (names : Names)

@@ -1,10 +1,10 @@
 -- Why a journal is full and numbers are spent, by the journal alone.
-use Rattle.std.proofs.Common.{◌≡◌, ℕ, ◌+◌, ◌≤◌, Bool, true, false, List, [], ◌∷◌, ◌++◌, refl, sym}
+use Rattle.std.proofs.Common.{◌≡◌, ◌+◌, ◌≤◌, Bool, true, false, List, ◌∷◌, ◌++◌, refl, sym, [], ℕ}
 use Rattle.std.proofs.Common.{◌∙◌, ap, subst, arith, Some, None, Ok, Err, inl, length}
-use Rattle.std.specs.Prelude.{Result, IfErr, IsErrAnd, IsOk, nat_le, nat_lt, ◌&&◌}
-use Rattle.std.specs.Prelude.{if◌then◌else◌, is_ok, IfOk}
+use Rattle.std.specs.Prelude.{Result, IsOk, nat_le, nat_lt, ◌&&◌, if◌then◌else◌, is_ok, IfOk}
 use Rattle.std.specs.declared.option.Option.{Option}
 use Rattle.std.proofs.lemmas.Bool.Decides.{nat_tests}
+use Rattle.outside.specs.declared.disk.TheConstants.{MAX_DISK}
 use Rattle.order_meaning.specs.declared.Side.{Side}
 use Rattle.order_meaning.specs.declared.Side.TheVariants.{Client, Venue}
 use Rattle.order_meaning.specs.declared.names.Names.{Names}
@@ -17,7 +17,6 @@ use Rattle.session_core.specs.declared.act.Act.TheVariants.{Take, Skip, Say, Res
 use Rattle.session_core.specs.Laws.{Always}
 use Rattle.session_core.specs.Table as session
 use Rattle.session_core.specs.Table.{says}
-use Rattle.outside.specs.declared.disk.TheConstants.{MAX_DISK}
 use Rattle.gate_log.specs.Records.{blocks}
 use Rattle.pair_entries.specs.declared.TheConstants.{MAX_NUMBER}
 use Rattle.pair_entries.specs.declared.entry.Entry.{Entry}
@@ -35,8 +34,8 @@ use Rattle.event_decisions.specs.Decide.{asked_by, asked_if, asks, took_of, inpu
 use Rattle.event_decisions.specs.Decide.{decide, decide_by, concluded, numbered, give}
 use Rattle.event_decisions.proofs.Continues.{by, entry_by, entry_is}
 use Rattle.message_answers.specs.Answer.{Answers}
-use Rattle.gateway_config.specs.declared.config.Config.{Config}
 use Rattle.life_laws.specs.Happens.{World}
+use Rattle.gateway_config.specs.declared.config.Config.{Config}
 use Rattle.gateway_life.specs.declared.end.LifeEnd.{LifeEnd}
 use Rattle.gateway_life.specs.declared.end.LifeEnd.TheVariants as ends
 use Rattle.gateway_life.specs.Ended.{end_of}
@@ -258,45 +257,25 @@ module _ (enough : IsEnough) (counted : IsCounted) where
         last = subst (λ n. MAX_NUMBER ≤ next_out side n) all (spent_last enough counted
             config.names config.window before.entries before.sessions event now side why);
       }
-  cause_of ends.Done config past before event now entries today whole sides numbers all why = tt
-  cause_of (ends.JournalRefused at) config past before event now entries today whole sides numbers
-      all why = tt
-  cause_of (ends.NamesDiffer kept given) config past before event now entries today whole sides
-      numbers all why = tt
-  cause_of ends.DiskFault config past before event now entries today whole sides numbers all why =
-      tt
-  cause_of ends.NoMemory config past before event now entries today whole sides numbers all why = tt
+  cause_of end config past before event now entries today whole sides numbers all why = tt
 
   -- an event that was refused
-  pub made_cause : {T : Type 0} (r : Result T LifeEnd) (error : LifeEnd) (config config' : Config)
-      (old new : EngineState) (disk : Option (List ℕ)) (event : Event) (now : ℕ)
-      → IsErrAnd r (λ e. e ≡ error) → config' ≡ config
+  pub made_cause : (error : LifeEnd) (config config' : Config) (old new : EngineState)
+      (disk : Option (List ℕ)) (event : Event) (now : ℕ) → config' ≡ config
       → new.journal.entries ≡ old.journal.entries → IsReady old disk
       → IsWhy error config (past_of old.journal.entries) (world_of old) event now
-      → IfErr r (λ end. IsCause end config'.names new.journal.entries)
-  made_cause (Ok value) error config config' old new disk event now is same entries ready why = tt
-  made_cause (Err end) error config config' old new disk event now is same entries ready why =
+      → IsCause error config'.names new.journal.entries
+  made_cause error config config' old new disk event now same entries ready why =
       let all = old.journal.entries in
-      subst (λ (e : LifeEnd). IsCause e config'.names new.journal.entries) (sym is)
-      (subst (λ (k : Config). IsCause error k.names new.journal.entries) (sym same)
+      subst (λ (k : Config). IsCause error k.names new.journal.entries) (sym same)
       (subst (λ l. IsCause error config.names l) (sym entries)
       (cause_of error config (past_of all) (world_of old) event now all refl
       (past-last all ready.sound) ready.sides
-      (ready.numbers ∙ sym (last_numbers all ready.sound)) ready.numbers why)))
+      (ready.numbers ∙ sym (last_numbers all ready.sound)) ready.numbers why))
 
 -- an event of which not all could be read fails by the disk
-pub act_cause : {T : Type 0} (r : Result T LifeEnd) (error : JournalError) (names : Names)
-    (entries : List Entry) (told : Option (List ℕ)) → IsErrAnd r (λ e. e ≡ end_of error)
-    → RefusedUntold {T = Unit {0}} told (Err error)
-    → IfErr r (λ end. IsCause end names entries)
-act_cause (Ok value) error names entries told is only = tt
-act_cause (Err end) error names entries told is only =
-    subst (λ (e : LifeEnd). IsCause e names entries) (sym is) (at error only)
-  where
-    at : (e : JournalError) → RefusedUntold {T = Unit {0}} told (Err e)
-        → IsCause (end_of e) names entries
-    at errors.DiskFault only = tt
-    at (errors.Refused place) only = tt
-    at (errors.NamesDiffer kept given) only = tt
-    at errors.Full only = absurd only
-    at errors.NoMemory only = tt
+pub act_cause : (error : JournalError) (names : Names) (entries : List Entry)
+    (told : Option (List ℕ)) → RefusedUntold {T = Unit {0}} told (Err error)
+    → IsCause (end_of error) names entries
+act_cause errors.Full names entries told only = absurd only
+act_cause error names entries told only = tt

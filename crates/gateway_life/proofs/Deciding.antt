@@ -1,24 +1,22 @@
 -- What an event decides and commits, and what a commit that fails leaves.
-use Rattle.std.proofs.Common.{◌≡◌, ℕ, ◌+◌, ◌-◌, ◌≤◌, Bool, false, true, List, [], ◌∷◌, ◌++◌}
-use Rattle.std.proofs.Common.{take, length-append, length, refl, sym, ◌∙◌, ap, subst, arith}
-use Rattle.std.proofs.Common.{append_assoc, append-nil, Some, None, inl}
-use Rattle.std.proofs.Common.{inr, ◌⊎◌, IfSome, Ok, Err}
+use Rattle.std.proofs.Common.{◌≡◌, ℕ, ◌+◌, ◌-◌, ◌≤◌, Bool, false, true, List, ◌∷◌, ◌++◌, [], take}
+use Rattle.std.proofs.Common.{length-append, length, refl, sym, ◌∙◌, ap, subst, arith, append_assoc}
+use Rattle.std.proofs.Common.{append-nil, Some, None, inl, inr, ◌⊎◌, IfSome, Ok, Err}
 use Rattle.std.specs.Prelude.{Result, IfErr, IsErrAnd, if◌then◌else◌, is_some, unwrap_or}
 use Rattle.std.specs.declared.option.Option.{Option}
 use Rattle.std.specs.Option.{option_to_list, ForSome}
 use Rattle.outside.specs.Disk.{HasOneImage}
 use Rattle.outside.specs.declared.disk.TheConstants.{MAX_DISK}
-use Rattle.gate_log.specs.Records.{blocks}
 use Rattle.order_meaning.specs.declared.Side.{Side}
 use Rattle.order_meaning.specs.declared.Side.TheVariants.{Client, Venue}
 use Rattle.order_meaning.specs.declared.names.Names.{Names}
-use Rattle.order_chains.specs.declared.item.ChainItem.{ChainItem}
+use Rattle.gate_log.specs.Records.{blocks}
 use Rattle.pair_entries.specs.declared.TheConstants.{MAX_NEXT}
-use Rattle.pair_journal.specs.declared.error.JournalError.{JournalError}
-use Rattle.pair_journal.specs.declared.error.JournalError.TheVariants as errors
 use Rattle.pair_entries.specs.declared.entry.Out.{Out}
 use Rattle.pair_entries.specs.declared.entry.Entry.{Entry}
 use Rattle.pair_entries.specs.Payload.{Next, AreNext, IsEntry, AreOuts}
+use Rattle.pair_journal.specs.declared.error.JournalError.{JournalError}
+use Rattle.pair_journal.specs.declared.error.JournalError.TheVariants as errors
 use Rattle.pair_journal.specs.Numbers.{next_out, outs_to, Numbered, OutsGoOn, GoesOn, is_side}
 use Rattle.pair_journal.specs.Numbers.{numbers_after, first_numbers}
 use Rattle.pair_journal.specs.Journal.{JournalOf, Born, AreEntries, DaysGoOn}
@@ -27,24 +25,25 @@ use Rattle.pair_journal.proofs.Dating.{last_numbers, last_day-reset, last_is_sou
 use Rattle.pair_journal.specs.Given.{source_of}
 use Rattle.pair_journal.specs.State.{JournalState}
 use Rattle.pair_journal.specs.Calls.{Commits, KeepsJournal, payloads_of}
+use Rattle.order_chains.specs.declared.item.ChainItem.{ChainItem}
 use Rattle.event_decisions.specs.Event.{Event}
 use Rattle.event_decisions.specs.Days.{new_day}
 use Rattle.event_decisions.specs.Decide.{Sessions, AreSides, numbers_of, Decision, Decides, Repeat}
 use Rattle.event_decisions.specs.Laws.{Continues, DecisionsContinue}
 use Rattle.message_answers.specs.Answer.{Answers}
 use Rattle.message_answers.specs.Chains.{chains_of}
+use Rattle.life_laws.specs.Happens.{World}
 use Rattle.gateway_config.specs.declared.config.Config.{Config}
 use Rattle.gateway_core.specs.declared.plan.Plan.{Plan}
 use Rattle.gateway_core.specs.declared.plan.PlanError.{PlanError}
 use Rattle.gateway_core.specs.declared.plan.PlanError.TheVariants as plan_errors
-use Rattle.gateway_core.specs.State.{CoreState, Stand, Grows, PlansEvent, plan_of_day}
-use Rattle.gateway_core.specs.State.{sessions_in, decision_of}
-use Rattle.life_laws.specs.Happens.{World}
+use Rattle.gateway_core.specs.State.{CoreState, Stand, Grows, PlansEvent, plan_of_day, sessions_in}
+use Rattle.gateway_core.specs.State.{decision_of}
+use Rattle.wire_sends.specs.Sent.{AreSendable}
+use Rattle.wire_sends.specs.Again.{IsGiven, repeat_in}
 use Rattle.gateway_life.specs.declared.end.LifeEnd.{LifeEnd}
 use Rattle.gateway_life.specs.declared.end.LifeEnd.TheVariants as ends
 use Rattle.gateway_life.specs.Ended.{end_of, end_by}
-use Rattle.wire_sends.specs.Sent.{AreSendable}
-use Rattle.wire_sends.specs.Again.{IsGiven, repeat_in}
 use Rattle.gateway_life.specs.State.{EngineState}
 use Rattle.gateway_life.specs.Ready.{LeavesOf, IsReady, Behind, world_of}
 use Rattle.gateway_life.specs.Fails.{IsWhy}
@@ -53,7 +52,7 @@ use Rattle.gateway_life.specs.Committed.{OldOrNew, IsFull}
 use Rattle.gateway_life.specs.Decided.{Decided, MayHold, IsWhyNot}
 use Rattle.gateway_life.specs.Rounds.{MayTurn}
 use Rattle.gateway_life.proofs.NewDay.{day_goes_on, may_turn, why_day}
-use Rattle.gateway_life.proofs.Telling.{err_is}
+use Rattle.gateway_life.proofs.Telling.{err_is, leaves_from}
 use Rattle.gateway_life.proofs.Today.{GoesToday, SameDay, goes_today, past_same, sound_more}
 use Rattle.gateway_life.proofs.Today.{today_more}
 
@@ -207,12 +206,7 @@ left_alone (Some b) image names names' xs P same stands p = λ only bytes left. 
 pub as_before : (end : LifeEnd) (config : Config) (before : World) (event : Event) (now : ℕ)
     → MayStand end config before event now before.entries
 as_before ends.DiskFault config before event now = inl refl
-as_before ends.Done config before event now = refl
-as_before (ends.JournalRefused at) config before event now = refl
-as_before (ends.NamesDiffer kept given) config before event now = refl
-as_before ends.JournalFull config before event now = refl
-as_before (ends.NumbersSpent side) config before event now = refl
-as_before ends.NoMemory config before event now = refl
+as_before end config before event now = refl
 
 -- what a commit that failed left, behind the days before
 pub may_behind : (error : JournalError) (config : Config) (past : List Entry) (before : World)
@@ -229,22 +223,8 @@ may_behind errors.DiskFault config past before event now d whole xs is decides (
       ∙ append_assoc past before.entries (option_to_list d.entry),
   inr (d, decides, refl),
 )
-may_behind (errors.Refused at) config past before event now d whole xs is decides same =
+may_behind error config past before event now d whole xs is decides same =
     (before.entries, same ∙ sym is, refl)
-may_behind (errors.NamesDiffer kept given) config past before event now d whole xs is decides
-    same = (before.entries, same ∙ sym is, refl)
-may_behind errors.Full config past before event now d whole xs is decides same =
-    (before.entries, same ∙ sym is, refl)
-may_behind errors.NoMemory config past before event now d whole xs is decides same =
-    (before.entries, same ∙ sym is, refl)
-
-pub leaves_map : (told : Option (List ℕ)) (before after : List ℕ → Type 0) (names names' : Names)
-    (P Q : List Entry → Type 0) → names ≡ names' → ((xs : List Entry) → P xs → Q xs)
-    → LeavesOf told before after names P → LeavesOf told before after names' Q
-leaves_map None before after names names' P Q same to h = tt
-leaves_map (Some b) before after names names' P Q same to h = λ only bytes left.
-    let found = h only bytes left in
-    (found.0, subst (λ n. JournalOf bytes (Born n found.0)) same found.1, to found.0 found.2)
 
 -- ---- a commit that fails
 
@@ -272,21 +252,14 @@ commit_left told before after journal new entry (Err errors.DiskFault) commits k
     at None h = tt
     at (Some b) h = λ only bytes left. found bytes (h only bytes left)
 commit_left told before after journal new entry (Err errors.Full) commits keeps full = full refl
-commit_left told before after journal new entry (Err (errors.Refused place)) commits keeps full =
-    absurd commits
-commit_left told before after journal new entry (Err (errors.NamesDiffer kept given)) commits keeps
-    full = absurd commits
-commit_left told before after journal new entry (Err errors.NoMemory) commits keeps full =
-    absurd commits
+commit_left told before after journal new entry (Err error) commits keeps full = absurd commits
 
 pub commit_why : (journal new : JournalState) (entry : Entry) (result : Result Entry JournalError)
     → IsEntry entry → Commits entry journal new result → IfErr result (IsFull journal (Some entry))
 commit_why journal new entry (Ok answer) is commits = tt
 commit_why journal new entry (Err errors.DiskFault) is commits = tt
 commit_why journal new entry (Err errors.Full) is commits = (entry, refl, is, commits.0)
-commit_why journal new entry (Err (errors.Refused at)) is commits = absurd commits
-commit_why journal new entry (Err (errors.NamesDiffer kept given)) is commits = absurd commits
-commit_why journal new entry (Err errors.NoMemory) is commits = absurd commits
+commit_why journal new entry (Err error) is commits = absurd commits
 
 -- ---- a plan
 
@@ -472,12 +445,7 @@ why_of errors.Full config past before event now d journal names entries decides 
       (subst (λ n. MAX_DISK ≤ length (blocks (payloads_of n journal.entries)) + 5
       + length (payload_behind journal.entries why.0)) names why.3),
 )
-why_of (errors.Refused at) config past before event now d journal names entries decides why =
-    absurd why
-why_of (errors.NamesDiffer kept given) config past before event now d journal names entries
-    decides why = absurd why
-why_of errors.NoMemory config past before event now d journal names entries decides why =
-    absurd why
+why_of error config past before event now d journal names entries decides why = absurd why
 
 -- the chains and the sessions after an event that was refused
 pub undone : (old held new : CoreState) (item : Option ChainItem) (flag : Bool)
@@ -547,8 +515,8 @@ pub refused_left : (told : Option (List ℕ)) (i0 i1 : List ℕ → Type 0) (nam
     → LeavesOf told i0 i1 names' (MayHold end old event now)
 refused_left told i0 i1 names names' error end old event now plan whole is same sound entries made
     left =
-    leaves_map told i0 i1 names names' (OldOrNew error whole plan.entry)
-    (MayHold end old event now) same
+    leaves_from told told i0 i0 i1 names' names (OldOrNew error whole plan.entry)
+    (MayHold end old event now) refl (λ one. one) same
     (λ found h. subst (λ e. MayHold e old event now found) (sym is)
     (may_hold error old event now plan whole found sound entries made h)) left
 

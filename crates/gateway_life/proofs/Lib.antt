@@ -23,3 +23,4 @@ mod TapsShown
 mod Caused
 mod CausedWhole
 pub mod Telling
+mod Dealing

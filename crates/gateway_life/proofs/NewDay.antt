@@ -1,12 +1,13 @@
 -- A session day that begins: its entry, and what stands where it was not committed.
-use Rattle.std.proofs.Common.{◌≡◌, ℕ, ◌+◌, ◌≤◌, Bool, true, false, List, [], ◌∷◌, ◌++◌, length}
-use Rattle.std.proofs.Common.{refl}
-use Rattle.std.proofs.Common.{sym, ◌∙◌, ap, subst, arith, Some, inl, inr}
+use Rattle.std.proofs.Common.{◌≡◌, ◌+◌, ◌≤◌, Bool, true, false, List, ◌∷◌, ◌++◌, length, [], ℕ}
+use Rattle.std.proofs.Common.{refl, sym, ◌∙◌, ap, subst, arith, Some, inl, inr}
 use Rattle.std.specs.declared.option.Option.{Option}
 use Rattle.std.specs.Option.{option_to_list}
 use Rattle.outside.specs.declared.disk.TheConstants.{MAX_DISK}
-use Rattle.gate_log.specs.Records.{blocks}
+use Rattle.wires.specs.Told.{GrowsBy}
+use Rattle.wires.specs.Wire.{WireCall}
 use Rattle.order_meaning.specs.declared.names.Names.{Names}
+use Rattle.gate_log.specs.Records.{blocks}
 use Rattle.pair_entries.specs.declared.TheConstants.{MAX_AT}
 use Rattle.pair_entries.specs.declared.entry.Entry.{Entry}
 use Rattle.pair_entries.specs.Payload.{Next, IsEntry}
@@ -18,11 +19,9 @@ use Rattle.pair_journal.specs.Numbers.{GoesOn, numbers_before}
 use Rattle.pair_journal.specs.State.{JournalState}
 use Rattle.pair_journal.proofs.Dating.{last_day-reset}
 use Rattle.event_decisions.specs.Days.{new_day}
-use Rattle.gateway_config.specs.declared.config.Config.{Config}
-use Rattle.gateway_core.specs.State.{loaded, sessions_in}
-use Rattle.wires.specs.Told.{GrowsBy}
-use Rattle.wires.specs.Wire.{WireCall}
 use Rattle.life_laws.specs.Sends.{hang_up_if}
+use Rattle.gateway_config.specs.declared.config.Config.{Config}
+use Rattle.gateway_core.specs.State.{loaded, sessions_in, CoreState}
 use Rattle.wire_sends.specs.Sent.{Hung}
 use Rattle.gateway_life.specs.declared.end.LifeEnd.{LifeEnd}
 use Rattle.gateway_life.specs.declared.end.LifeEnd.TheVariants as ends
@@ -80,6 +79,13 @@ ready_hung old told cu vu ready = record {
   stands = ready.stands;
 }
 
+pub ready_same : (old new : EngineState) (told : Option (List ℕ)) → new.journal ≡ old.journal
+    → new.core ≡ old.core → IsReady old told → IsReady new told
+ready_same old new told journal core ready =
+    subst (λ (j : JournalState). IsReady (record new { journal = j }) told) (sym journal)
+    (subst (λ (k : CoreState). IsReady (record new { journal = old.journal; core = k }) told)
+    (sym core) (ready_hung old told new.client_up new.venue_up ready))
+
 pub world_fresh : (new : EngineState) (config : Config) (before : List Entry) (now : ℕ)
     (entry : Option Entry) → new.journal.entries ≡ before ++ option_to_list entry
     → entry ≡ Some (new_day now) → new.core ≡ loaded config [] → (cu vu : Bool)
@@ -108,10 +114,7 @@ pub may_turn : (error : JournalError) (before : List Entry) (now : ℕ) (found :
     → OldOrNew error before (Some (new_day now)) found → MayTurn (end_of error) before now found
 may_turn errors.DiskFault before now found (inl same) = inl same
 may_turn errors.DiskFault before now found (inr more) = inr (refl, more)
-may_turn (errors.Refused at) before now found same = inl same
-may_turn (errors.NamesDiffer kept given) before now found same = inl same
-may_turn errors.Full before now found same = inl same
-may_turn errors.NoMemory before now found same = inl same
+may_turn error before now found same = inl same
 
 pub why_day : (error : JournalError) (names : Names) (whole : List Entry) (now : ℕ)
     (journal : JournalState) → journal.names ≡ names → journal.entries ≡ whole
@@ -125,9 +128,7 @@ why_day errors.Full names whole now journal same all full =
     + length (payload_behind l (new_day now))) all
     (subst (λ (e : Entry). MAX_DISK ≤ length (blocks (payloads_of journal.names journal.entries))
     + 5 + length (payload_behind journal.entries e)) here full.3))
-why_day (errors.Refused at) names whole now journal same all full = absurd full
-why_day (errors.NamesDiffer kept given) names whole now journal same all full = absurd full
-why_day errors.NoMemory names whole now journal same all full = absurd full
+why_day error names whole now journal same all full = absurd full
 
 -- ---- what it says of the journal that is left
 
@@ -144,10 +145,7 @@ why_event ends.JournalFull told names whole now why =
     record { not_done = tt; of_event = λ t. tt }
 why_event ends.DiskFault told names whole now why = record { not_done = tt; of_event = λ t. tt }
 why_event ends.NoMemory told names whole now why = record { not_done = tt; of_event = λ t. tt }
-why_event ends.Done told names whole now why = absurd why
-why_event (ends.JournalRefused at) told names whole now why = absurd why
-why_event (ends.NamesDiffer kept given) told names whole now why = absurd why
-why_event (ends.NumbersSpent side) told names whole now why = absurd why
+why_event end told names whole now why = absurd why
 
 cause_by : (end : LifeEnd) (names : Names) (whole : List Entry) (now : ℕ) → now ≤ MAX_AT
     → IsWhyOfDay end names whole now → IsCause end names whole
@@ -159,10 +157,7 @@ cause_by ends.JournalFull names whole now bound why = record {
 }
 cause_by ends.DiskFault names whole now bound why = tt
 cause_by ends.NoMemory names whole now bound why = tt
-cause_by ends.Done names whole now bound why = absurd why
-cause_by (ends.JournalRefused at) names whole now bound why = absurd why
-cause_by (ends.NamesDiffer kept given) names whole now bound why = absurd why
-cause_by (ends.NumbersSpent side) names whole now bound why = absurd why
+cause_by end names whole now bound why = absurd why
 
 pub why_cause : (end : LifeEnd) (names names' : Names) (whole kept : List Entry) (now : ℕ)
     → now ≤ MAX_AT → names ≡ names' → kept ≡ whole → IsWhyOfDay end names whole now

@@ -1,29 +1,26 @@
 -- What the taps saw of a whole life.
-use Rattle.std.proofs.Common.{◌≡◌, ℕ, true, List, [], ◌++◌, sym, ◌∙◌, ap, subst, append-nil}
-use Rattle.std.proofs.Common.{refl, Some, None, Ok, Err, inl}
-use Rattle.std.specs.Prelude.{Result, OnOk, IfErr, IfSome, is_some}
+use Rattle.std.proofs.Common.{◌≡◌, true, List, ◌++◌, sym, ◌∙◌, ap, subst, append-nil, [], ℕ, refl}
+use Rattle.std.proofs.Common.{Some, None, Ok, Err, inl}
+use Rattle.std.specs.Prelude.{Result, IfErr, IfSome, is_some}
 use Rattle.std.specs.declared.option.Option.{Option}
-use Rattle.std.specs.Option.{ForSome}
 use Rattle.outside.specs.Disk.{Only, HasOneImage}
 use Rattle.order_meaning.specs.declared.names.Names.{Names}
 use Rattle.pair_entries.specs.declared.entry.Entry.{Entry}
 use Rattle.pair_journal.specs.Calls.{BornOrNot}
 use Rattle.pair_journal.specs.Journal.{JournalOf, Born}
 use Rattle.pair_journal.specs.Laws.{HasOneReading}
+use Rattle.drop_taps.specs.Shown.{TapState}
+use Rattle.drop_taps.proofs.Showing.{seen_none}
 use Rattle.gateway_life.specs.declared.end.LifeEnd.{LifeEnd}
-use Rattle.gateway_life.specs.State.{LifeState}
-use Rattle.gateway_life.specs.Ready.{LeavesOf}
 use Rattle.gateway_life.specs.Stepped.{EndsEvent}
 use Rattle.gateway_life.specs.Life.{IsJournal, IsForeign, IfRefused}
-use Rattle.gateway_life.specs.Rounds.{Begins}
-use Rattle.drop_taps.specs.Shown.{TapState}
-use Rattle.gateway_life.specs.Watched.{Watched, WereCommitted, end_in}
-use Rattle.gateway_life.specs.Watched.{TapsSaw}
-use Rattle.drop_taps.proofs.Showing.{seen_none}
+use Rattle.gateway_life.specs.Watched.{WereCommitted, end_in, TapsSaw}
+use Rattle.gateway_life.specs.Dealt.{Around, Kept}
 use Rattle.gateway_life.proofs.Watching.{were_same}
 use Rattle.gateway_life.proofs.Telling.{leaves_from}
-use Rattle.gateway_life.proofs.Living.{unbegun_image, same_journal, image_of}
-use Rattle.gateway_life.proofs.Living.{refused_if, refused_not}
+use Rattle.gateway_life.proofs.Living.{unbegun_image, same_journal, image_of, refused_if}
+use Rattle.gateway_life.proofs.Living.{refused_not}
+use Rattle.gateway_life.proofs.Joining.{stands_kept}
 
 abbrev no_entries : List Entry
 no_entries = []
@@ -34,36 +31,36 @@ whole_shown P (Ok value) told t of = tt
 whole_shown P (Err end) told t of = refused_not P end (of.of_event t)
 
 -- each image of a life that began is the journal of what was committed
-pub left_whole : {V : Type 0} (one : (image : List ℕ) → HasOneReading image)
-    (r : Result V LifeEnd) (names names' : Names) (b : List ℕ) (t1 t2 : Option (List ℕ))
-    (i0 i1 i2 : List ℕ → Type 0) (old new : LifeState) (more : List Entry) → names' ≡ names
-    → IsJournal names old.engine.journal.entries b → is_some t1 ≡ true
-    → (Only b i0 → HasOneImage t1 i1) → is_some t2 ≡ is_some t1
-    → OnOk r (HasOneImage t1 i1 → HasOneImage t2 i2)
-    → OnOk r (ForSome t2 (λ c. JournalOf c (Born names' new.engine.journal.entries)))
-    → IfErr r (λ end. LeavesOf t1 i1 i2 names' (WereCommitted end new.engine.journal.entries))
-    → new.engine.journal.entries ≡ old.engine.journal.entries ++ more
-    → Only b i0 → (before : List Entry) → IsJournal names before b → (image : List ℕ) → i2 image
+pub left_whole : {T V : Type 0} (one : (image : List ℕ) → HasOneReading image)
+    (state : T → TapState) (r : Result V LifeEnd) (names : Names) (b : List ℕ)
+    (i0 : List ℕ → Type 0) (olds news : List T) (a z : Around)
+    (kept : Kept state olds news a z r) → a.engine.core.config.names ≡ names
+    → IsJournal names a.engine.journal.entries b → is_some a.disk ≡ true
+    → (Only b i0 → HasOneImage a.disk a.image) → Only b i0 → (before : List Entry)
+    → IsJournal names before b → (image : List ℕ) → z.image image
     → (found : List Entry) × IsJournal names found image
-    × WereCommitted (end_in r) (before ++ more) found
-left_whole one (Ok value) names names' b t1 t2 i0 i1 i2 old new more same begins told kept told'
-    durable here left goes_on only before journal image at_exit = (
-      new.engine.journal.entries,
-      inl (subst (λ n. JournalOf image (Born n new.engine.journal.entries)) same
-          (image_of t2 i2 (λ c. JournalOf c (Born names' new.engine.journal.entries)) image
-          (told' ∙ told) here (durable (kept only)) at_exit)),
-      goes_on ∙ ap (λ l. l ++ more)
-          (same_journal one names b old.engine.journal.entries before begins journal),
+    × WereCommitted (end_in r) (before ++ kept.taps.more) found
+left_whole one state (Ok value) names b i0 olds news a z kept same begins told began only before
+    journal image at_exit =
+    let entries = z.engine.journal.entries in (
+      entries,
+      inl (subst (λ n. JournalOf image (Born n entries)) same
+          (image_of z.disk z.image
+          (λ c. JournalOf c (Born a.engine.core.config.names entries)) image (kept.told ∙ told)
+          (stands_kept state olds news a z (Ok value) kept) (kept.durable (began only)) at_exit)),
+      kept.taps.goes_on ∙ ap (λ l. l ++ kept.taps.more)
+          (same_journal one names b a.engine.journal.entries before begins journal),
     )
-left_whole one (Err end) names names' b t1 t2 i0 i1 i2 old new more same begins told kept told'
-    durable here left goes_on only before journal image at_exit =
-    let found = leaves_from (Some b) t1 i0 i1 i2 names names'
-    (WereCommitted end new.engine.journal.entries) (WereCommitted end new.engine.journal.entries)
-    told kept same (λ xs h. h) left only image at_exit in (
+left_whole one state (Err end) names b i0 olds news a z kept same begins told began only before
+    journal image at_exit =
+    let were = WereCommitted end z.engine.journal.entries in
+    let found = leaves_from (Some b) a.disk i0 a.image z.image names a.engine.core.config.names
+    were were told began same (λ xs h. h) kept.left only image at_exit in (
       found.0,
       inl found.1,
-      subst (λ l. WereCommitted end l found.0) (goes_on ∙ ap (λ l. l ++ more)
-          (same_journal one names b old.engine.journal.entries before begins journal)) found.2,
+      subst (λ l. WereCommitted end l found.0) (kept.taps.goes_on
+          ∙ ap (λ l. l ++ kept.taps.more)
+          (same_journal one names b a.engine.journal.entries before begins journal)) found.2,
     )
 
 module _ (one : (image : List ℕ) → HasOneReading image) {T : Type 0} (state : T → TapState) where
@@ -101,31 +98,23 @@ module _ (one : (image : List ℕ) → HasOneReading image) {T : Type 0} (state 
           )
 
   -- one that did
-  pub taps_whole : {V : Type 0} (r : Result V LifeEnd) (olds news : List T) (names names' : Names)
-      (t0 t1 t2 : Option (List ℕ)) (i0 i1 i2 : List ℕ → Type 0) (old new : LifeState)
-      → names' ≡ names
-      → IfSome t0 (λ b. Begins {T = LifeState} (λ life. life.engine.journal.entries) names b
-      (Ok old)) → is_some t1 ≡ is_some t0 → (HasOneImage t0 i0 → HasOneImage t1 i1)
-      → is_some t2 ≡ is_some t1 → OnOk r (HasOneImage t1 i1 → HasOneImage t2 i2)
-      → OnOk r (ForSome t2 (λ b. JournalOf b (Born names' new.engine.journal.entries)))
-      → IfErr r (λ end. LeavesOf t1 i1 i2 names' (WereCommitted end new.engine.journal.entries))
-      → IfErr r (EndsEvent t1)
-      → Watched state olds news old.engine.journal.entries new.engine.journal.entries
-      → TapsSaw state olds news names t0 i0 i2 (end_in r)
-  taps_whole r olds news names names' None t1 t2 i0 i1 i2 old new same begins told kept told' kept'
-      stands left of watched = record {
-        more = watched.more;
-        seen = watched.seen;
-        refused = tt;
-        foreign = tt;
-        left = tt;
-      }
-  taps_whole r olds news names names' (Some b) t1 t2 i0 i1 i2 old new same begins told kept told'
-      kept' stands left of watched = record {
-        more = watched.more;
-        seen = watched.seen;
-        refused = whole_shown (watched.more ≡ []) r t1 told of;
-        foreign = λ foreign. absurd (foreign old.engine.journal.entries begins);
-        left = left_whole one r names names' b t1 t2 i0 i1 i2 old new watched.more same begins told
-            kept told' kept' stands left watched.goes_on;
-      }
+  pub taps_whole : {V : Type 0} (r : Result V LifeEnd) (olds news : List T) (names : Names)
+      (told : Option (List ℕ)) (i0 : List ℕ → Type 0) (a z : Around)
+      → Kept state olds news a z r → a.engine.core.config.names ≡ names
+      → IfSome told (IsJournal names a.engine.journal.entries) → is_some a.disk ≡ is_some told
+      → (HasOneImage told i0 → HasOneImage a.disk a.image)
+      → TapsSaw state olds news names told i0 z.image (end_in r)
+  taps_whole r olds news names None i0 a z kept same begins told began = record {
+    more = kept.taps.more;
+    seen = kept.taps.seen;
+    refused = tt;
+    foreign = tt;
+    left = tt;
+  }
+  taps_whole r olds news names (Some b) i0 a z kept same begins told began = record {
+    more = kept.taps.more;
+    seen = kept.taps.seen;
+    refused = whole_shown (kept.taps.more ≡ []) r a.disk told kept.only;
+    foreign = λ foreign. absurd (foreign a.engine.journal.entries begins);
+    left = left_whole one state r names b i0 olds news a z kept same begins told began;
+  }

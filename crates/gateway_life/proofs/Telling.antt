@@ -1,6 +1,6 @@
 -- What holds where a disk tells its bytes.
-use Rattle.std.proofs.Common.{◌≡◌, true, List, ℕ, refl, sym, ◌∙◌, subst, Some, None, Ok, Err}
-use Rattle.std.specs.Prelude.{Result, OnOk, OnErr, IfErr, IfSome, IsErrAnd, is_some}
+use Rattle.std.proofs.Common.{◌≡◌, true, List, refl, sym, ◌∙◌, subst, Some, None, Ok, Err, ℕ}
+use Rattle.std.specs.Prelude.{Result, OnErr, IfErr, IfSome, IsErrAnd, is_some}
 use Rattle.std.specs.declared.option.Option.{Option}
 use Rattle.std.specs.Option.{ForSome}
 use Rattle.outside.specs.Disk.{HasOneImage}
@@ -11,8 +11,8 @@ use Rattle.pair_journal.specs.declared.error.JournalError.TheVariants as errors
 use Rattle.pair_journal.specs.Calls.{RefusedUntold}
 use Rattle.pair_journal.specs.Journal.{JournalOf, Born}
 use Rattle.event_decisions.specs.Event.{Event}
-use Rattle.gateway_config.specs.declared.config.Config.{Config}
 use Rattle.life_laws.specs.Happens.{World}
+use Rattle.gateway_config.specs.declared.config.Config.{Config}
 use Rattle.gateway_life.specs.declared.end.LifeEnd.{LifeEnd}
 use Rattle.gateway_life.specs.declared.end.LifeEnd.TheVariants as ends
 use Rattle.gateway_life.specs.Ended.{end_of}
@@ -31,16 +31,6 @@ pub some_told : (told : Option (List ℕ)) (P : Type 0) → ForSome told (λ b. 
 some_told None P h t = absurd (cc t)
 some_told (Some b) P h t = h b refl
 
-pub ok_told : {T E : Type 0} (r : Result T E) (told : Option (List ℕ)) (P Q : Type 0)
-    → (OnOk r P → OnOk r Q) → OnOk r (IfTold told P) → OnOk r (IfTold told Q)
-ok_told (Ok value) told P Q f h = λ t. f (h t)
-ok_told (Err error) told P Q f h = tt
-
-pub told_map : {T E : Type 0} (r : Result T E) (told : Option (List ℕ)) (P Q : Type 0) → (P → Q)
-    → OnOk r (IfTold told P) → OnOk r (IfTold told Q)
-told_map (Ok value) told P Q f h = λ t. f (h t)
-told_map (Err error) told P Q f h = tt
-
 pub on_err_told : {T E : Type 0} (r : Result T E) (told : Option (List ℕ)) (P : Type 0)
     → IfTold told P → OnErr r (IfTold told P)
 on_err_told (Ok value) told P h = tt
@@ -51,13 +41,6 @@ pub leaves_told : (told : Option (List ℕ)) (i0 i1 : List ℕ → Type 0) (name
     → LeavesOf told i0 i1 names P
 leaves_told None i0 i1 names P h = tt
 leaves_told (Some b) i0 i1 names P h = h refl
-
-pub err_told : {T : Type 0} (r : Result T LifeEnd) (told : Option (List ℕ))
-    (i0 i1 : List ℕ → Type 0) (names : Names) (P : LifeEnd → List Entry → Type 0)
-    → (is_some told ≡ true → IfErr r (λ end. LeavesOf told i0 i1 names (P end)))
-    → IfErr r (λ end. LeavesOf told i0 i1 names (P end))
-err_told (Ok value) told i0 i1 names P h = tt
-err_told (Err end) told i0 i1 names P h = leaves_told told i0 i1 names (P end) h
 
 pub if_told : (told : Option (List ℕ)) (Q : List ℕ → Type 0)
     → (is_some told ≡ true → IfSome told Q) → IfSome told Q
@@ -74,6 +57,12 @@ leaves_from (Some b) None i0 i1 i2 names names' P Q told one same to h = absurd 
 leaves_from (Some b) (Some c) i0 i1 i2 names names' P Q told one same to h = λ only bytes left.
     let found = h (one only) bytes left in
     (found.0, subst (λ n. JournalOf bytes (Born n found.0)) same found.1, to found.0 found.2)
+
+pub leaves_map : (told : Option (List ℕ)) (i0 i1 : List ℕ → Type 0) (names : Names)
+    (P Q : List Entry → Type 0) → ((xs : List Entry) → P xs → Q xs) → LeavesOf told i0 i1 names P
+    → LeavesOf told i0 i1 names Q
+leaves_map told i0 i1 names P Q =
+    leaves_from told told i0 i0 i1 names names P Q refl (λ one. one) refl
 
 -- ---- how an event ends a life
 
@@ -92,52 +81,29 @@ only_fault told errors.Full t only memory = absurd only
 only_fault told errors.NoMemory t only memory = absurd (memory refl)
 
 -- by a read, over any disk
-pub act_event : {T : Type 0} (r : Result T LifeEnd) (told : Option (List ℕ)) (error : JournalError)
-    → IsErrAnd r (λ e. e ≡ end_of error) → RefusedUntold {T = Unit {0}} told (Err error)
-    → IfErr r (EndsEvent told)
-act_event (Ok value) told error is only = tt
-act_event (Err end) told error is only = subst (EndsEvent told) (sym is) (at error only)
-  where
-    at : (e : JournalError) → RefusedUntold {T = Unit {0}} told (Err e)
-        → EndsEvent told (end_of e)
-    at errors.DiskFault only = record { not_done = tt; of_event = λ t. tt }
-    at (errors.Refused place) only =
-        record { not_done = tt; of_event = λ t. absurd (no_bytes told t only) }
-    at (errors.NamesDiffer kept given) only = absurd only
-    at errors.Full only = absurd only
-    at errors.NoMemory only = record { not_done = tt; of_event = λ t. tt }
+pub act_event : (told : Option (List ℕ)) (error : JournalError)
+    → RefusedUntold {T = Unit {0}} told (Err error) → EndsEvent told (end_of error)
+act_event told (errors.Refused place) only =
+    record { not_done = tt; of_event = λ t. absurd (no_bytes told t only) }
+act_event told errors.DiskFault only = record { not_done = tt; of_event = λ t. tt }
+act_event told errors.NoMemory only = record { not_done = tt; of_event = λ t. tt }
+act_event told error only = absurd only
 
 -- by what was decided
-pub made_event : {T : Type 0} (r : Result T LifeEnd) (told : Option (List ℕ)) (error : LifeEnd)
-    (config : Config) (past : List Entry) (before : World) (event : Event) (now : ℕ)
-    → IsErrAnd r (λ e. e ≡ error) → IsWhy error config past before event now
-    → IfErr r (EndsEvent told)
-made_event (Ok value) told error config past before event now is why = tt
-made_event (Err end) told error config past before event now is why =
-    subst (EndsEvent told) (sym is) (at error why)
-  where
-    at : (e : LifeEnd) → IsWhy e config past before event now → EndsEvent told e
-    at ends.Done why = absurd why
-    at (ends.JournalRefused place) why = absurd why
-    at (ends.NamesDiffer kept given) why = absurd why
-    at ends.DiskFault why = record { not_done = tt; of_event = λ t. tt }
-    at ends.JournalFull why = record { not_done = tt; of_event = λ t. tt }
-    at (ends.NumbersSpent side) why = record { not_done = tt; of_event = λ t. tt }
-    at ends.NoMemory why = record { not_done = tt; of_event = λ t. tt }
+pub made_event : (told : Option (List ℕ)) (end : LifeEnd) (config : Config) (past : List Entry)
+    (before : World) (event : Event) (now : ℕ) → IsWhy end config past before event now
+    → EndsEvent told end
+made_event told ends.Done config past before event now why = absurd why
+made_event told (ends.JournalRefused place) config past before event now why = absurd why
+made_event told (ends.NamesDiffer kept given) config past before event now why = absurd why
+made_event told end config past before event now why =
+    record { not_done = tt; of_event = λ t. tt }
 
 -- the same of a disk that tells as much
-pub same_event : {T : Type 0} (r : Result T LifeEnd) (t0 t1 : Option (List ℕ))
-    → is_some t1 ≡ is_some t0 → IfErr r (EndsEvent t1) → IfErr r (EndsEvent t0)
-same_event (Ok value) t0 t1 same h = tt
-same_event (Err end) t0 t1 same h =
+pub same_event : (t0 t1 : Option (List ℕ)) (end : LifeEnd) → is_some t1 ≡ is_some t0
+    → EndsEvent t1 end → EndsEvent t0 end
+same_event t0 t1 end same h =
     record { not_done = h.not_done; of_event = λ t. h.of_event (same ∙ t) }
-
-pub error_event : {T : Type 0} (r : Result T LifeEnd) (error : LifeEnd) (t0 t1 : Option (List ℕ))
-    → IsErrAnd r (λ e. e ≡ error) → is_some t1 ≡ is_some t0 → EndsEvent t1 error
-    → IfErr r (EndsEvent t0)
-error_event (Ok value) error t0 t1 is same h = tt
-error_event (Err end) error t0 t1 is same h = subst (EndsEvent t0) (sym is)
-    (record { not_done = h.not_done; of_event = λ t. h.of_event (same ∙ t) })
 
 -- ---- of a whole life
 

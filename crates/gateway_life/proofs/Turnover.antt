@@ -1,9 +1,10 @@
 -- The turn of a day: both sides end, and a new day begins.
-use Rattle.std.proofs.Common.{◌≡◌, ℕ, Bool, true, List, [], ◌∷◌, ◌++◌, refl, sym, ◌∙◌, ap}
-use Rattle.std.proofs.Common.{subst, Ok, Err, inl}
+use Rattle.std.proofs.Common.{◌≡◌, Bool, true, List, ◌∷◌, ◌++◌, sym, ◌∙◌, ap, [], ℕ, subst, Ok, Err}
+use Rattle.std.proofs.Common.{inl}
 use Rattle.std.specs.Prelude.{Result, OnOk, IfErr, is_some}
 use Rattle.std.specs.declared.option.Option.{Option}
 use Rattle.outside.specs.Disk.{HasOneImage}
+use Rattle.wires.specs.Told.{GrowsBy}
 use Rattle.order_meaning.specs.declared.names.Names.{Names}
 use Rattle.pair_entries.specs.declared.entry.Entry.{Entry}
 use Rattle.pair_journal.specs.Days.{last_day, past_of, day_at}
@@ -11,22 +12,17 @@ use Rattle.pair_journal.specs.Journal.{DaysGoOn}
 use Rattle.pair_journal.specs.Numbers.{first_numbers}
 use Rattle.pair_journal.proofs.Dating.{past-last}
 use Rattle.event_decisions.specs.Days.{is_due, new_day}
-use Rattle.event_decisions.specs.Event.{End}
-use Rattle.order_meaning.specs.declared.Side.TheVariants.{Client, Venue}
-use Rattle.gateway_config.specs.declared.config.Config.{Config}
-use Rattle.wires.specs.Told.{GrowsBy}
 use Rattle.life_laws.specs.Sends.{hang_up_if}
 use Rattle.life_laws.specs.Happens.{World}
 use Rattle.life_laws.specs.Days.{hung}
+use Rattle.gateway_config.specs.declared.config.Config.{Config}
 use Rattle.gateway_life.specs.declared.end.LifeEnd.{LifeEnd}
 use Rattle.gateway_life.specs.State.{EngineState}
-use Rattle.gateway_life.specs.Ready.{Behind, IfTold, LeavesOf, world_of}
+use Rattle.gateway_life.specs.Ready.{IfTold, LeavesOf, world_of}
 use Rattle.gateway_life.specs.Fails.{IsWhyOfDay}
 use Rattle.gateway_life.specs.Life.{begun}
-use Rattle.gateway_life.specs.Stepped.{Records, Grew, Stepped, AllStepped, Broken}
-use Rattle.gateway_life.specs.Rounds.{ends_of, DayDone, DayTurned, DayBroken, AtEnd}
-use Rattle.gateway_life.specs.Rounds.{AtEntry, MayTurn}
-use Rattle.gateway_life.proofs.Turning.{all_none, all_one, all_more, counted, failed_at}
+use Rattle.gateway_life.specs.Stepped.{Records, Grew, AllStepped}
+use Rattle.gateway_life.specs.Rounds.{ends_of, DayDone, DayTurned, DayBroken, AtEntry, MayTurn}
 use Rattle.gateway_life.proofs.Turning.{grew_append}
 use Rattle.gateway_life.proofs.Telling.{leaves_from, leaves_told}
 
@@ -37,55 +33,11 @@ day_due minute minute' began began' now r b is same at test =
     ap (λ m. is_due m began now) (sym same) ∙ ap (λ o. is_due minute' o now) (sym at) ∙ sym is
     ∙ test
 
-module _ (config : Config) (old : EngineState) (now : ℕ) (r0 r1 : Records) where
-  abbrev w : World
-  w = world_of old
-
-  abbrev past : List Entry
-  past = past_of old.journal.entries
-
-  -- both sides ended
-  pub both_ended : (mid : World) (x : EngineState) (r2 : Records)
-      → Stepped config w (End Client) now mid r0 r1
-      → Stepped config mid (End Venue) now (world_of x) r1 r2
-      → AllStepped config w ends_of now (world_of x) r0 r2
-  both_ended mid x r2 client venue =
-      all_more config w mid (world_of x) (End Client ∷ []) (End Venue) now r0 r1 r2
-      (all_one config w mid (End Client) now r0 r1 refl client)
-      (counted config mid (world_of x) (End Venue) now r1 r2 refl venue)
-
-  -- what stands before the new day
-  pub stood : (x : EngineState) → DaysGoOn first_numbers x.journal.entries
-      → past_of x.journal.entries ≡ past
-      → past ++ last_day x.journal.entries ≡ x.journal.entries
-  stood x sound same = ap (λ l. l ++ last_day x.journal.entries) (sym same)
-      ∙ past-last x.journal.entries sound
-
-  -- the client's end failed
-  pub client_fails : (end : LifeEnd) (entries : List Entry)
-      → is_due config.reset (day_at old.journal.entries) now ≡ true
-      → Behind past (Broken end config past w (End Client) now r0 r1) entries
-      → DayBroken end config old now r0 r1 entries
-  client_fails end entries due h = AtEnd due (
-    h.0,
-    h.1,
-    failed_at config end past w w [] (End Venue ∷ []) (End Client) now r0 r0 r1 h.0
-        (all_none config w now r0) (record { counted = refl; broken = h.2 }),
-  )
-
-  -- the venue's did
-  pub venue_fails : (end : LifeEnd) (mid : World) (r2 : Records) (entries : List Entry)
-      → is_due config.reset (day_at old.journal.entries) now ≡ true
-      → Stepped config w (End Client) now mid r0 r1
-      → Behind past (Broken end config past mid (End Venue) now r1 r2) entries
-      → DayBroken end config old now r0 r2 entries
-  venue_fails end mid r2 entries due client h = AtEnd due (
-    h.0,
-    h.1,
-    failed_at config end past w mid (End Client ∷ []) [] (End Venue) now r0 r1 r2 h.0
-        (all_one config w mid (End Client) now r0 r1 refl client)
-        (record { counted = refl; broken = h.2 }),
-  )
+-- what stands before the new day
+stood : (past : List Entry) (x : EngineState) → DaysGoOn first_numbers x.journal.entries
+    → past_of x.journal.entries ≡ past → past ++ last_day x.journal.entries ≡ x.journal.entries
+stood past x sound same = ap (λ l. l ++ last_day x.journal.entries) (sym same)
+    ∙ past-last x.journal.entries sound
 
 -- both sides ended, and what still stood was hung up
 grew_hung : (config : Config) (w : World) (x : EngineState) (now : ℕ) (r0 r2 r3 : Records)
@@ -98,7 +50,7 @@ grew_hung config w x now r0 r2 r3 all client venue = grew_append r0 r2 r3 all.ad
 }) all.grew (record { client = client; venue = venue })
 
 -- a new day began
-pub day_turned : (config : Config) (old x new : EngineState) (now : ℕ) (r0 r2 r3 : Records)
+day_turned : (config : Config) (old x new : EngineState) (now : ℕ) (r0 r2 r3 : Records)
     → is_due config.reset (day_at old.journal.entries) now ≡ true
     → AllStepped config (world_of old) ends_of now (world_of x) r0 r2
     → DaysGoOn first_numbers x.journal.entries
@@ -114,12 +66,12 @@ day_turned config old x new now r0 r2 r3 due all sound same entries client venue
   ends = all.happen;
   grew = grew_hung config (world_of old) x now r0 r2 r3 all client venue;
   entries = entries ∙ ap (λ l. l ++ new_day now ∷ [])
-      (sym (stood config old now r0 r2 x sound same));
+      (sym (stood (past_of old.journal.entries) x sound same));
   fresh = fresh;
 }
 
 -- its entry was not committed
-pub entry_fails : (end : LifeEnd) (config : Config) (old x : EngineState) (now : ℕ)
+entry_fails : (end : LifeEnd) (config : Config) (old x : EngineState) (now : ℕ)
     (r0 r2 r3 : Records) (entries : List Entry)
     → is_due config.reset (day_at old.journal.entries) now ≡ true
     → AllStepped config (world_of old) ends_of now (world_of x) r0 r2
@@ -130,7 +82,7 @@ pub entry_fails : (end : LifeEnd) (config : Config) (old x : EngineState) (now :
     → IsWhyOfDay end config.names x.journal.entries now
     → MayTurn end x.journal.entries now entries → DayBroken end config old now r0 r3 entries
 entry_fails end config old x now r0 r2 r3 entries due all sound same client venue why may =
-    let here = sym (stood config old now r0 r2 x sound same) in
+    let here = sym (stood (past_of old.journal.entries) x sound same) in
     AtEntry due all.added (world_of x) all.happen
     (grew_hung config (world_of old) x now r0 r2 r3 all client venue)
     (subst (λ l. IsWhyOfDay end config.names l now) here why)

@@ -1,23 +1,21 @@
 -- What the taps saw between lists of entries, and what a disk may hold behind it.
-use Rattle.std.proofs.Common.{◌≡◌, ℕ, List, [], ◌++◌, refl, sym, ◌∙◌, ap, subst, append_assoc}
-use Rattle.std.proofs.Common.{append-nil, Some, None, Ok, Err, inl, inr}
-use Rattle.std.specs.Prelude.{Result, IfErr, IsErrAnd, is_some}
+use Rattle.std.proofs.Common.{◌≡◌, List, ◌++◌, sym, ◌∙◌, ap, subst, append_assoc, [], ℕ, append-nil}
+use Rattle.std.proofs.Common.{Some, None, inl, inr}
 use Rattle.std.specs.declared.option.Option.{Option}
 use Rattle.std.specs.Option.{option_to_list}
-use Rattle.outside.specs.Disk.{HasOneImage}
 use Rattle.order_meaning.specs.declared.names.Names.{Names}
 use Rattle.pair_entries.specs.declared.entry.Entry.{Entry}
 use Rattle.drop_taps.specs.Shown.{TapState}
 use Rattle.drop_taps.proofs.Showing.{seen_none, seen_append}
 use Rattle.event_decisions.specs.Event.{Event}
-use Rattle.gateway_config.specs.declared.config.Config.{Config}
 use Rattle.life_laws.specs.Happens.{World}
+use Rattle.gateway_config.specs.declared.config.Config.{Config}
 use Rattle.gateway_life.specs.declared.end.LifeEnd.{LifeEnd}
 use Rattle.gateway_life.specs.declared.end.LifeEnd.TheVariants as ends
 use Rattle.gateway_life.specs.Ready.{LeavesOf, Behind}
 use Rattle.gateway_life.specs.Stepped.{MayStand}
 use Rattle.gateway_life.specs.Watched.{Watched, WereCommitted}
-use Rattle.gateway_life.proofs.Polling.{err_leaves, last_leaves}
+use Rattle.gateway_life.proofs.Telling.{leaves_map}
 
 module _ {T : Type 0} (state : T → TapState) where
   pub watched_none : (taps : List T) (xs ys : List Entry) → ys ≡ xs
@@ -35,23 +33,12 @@ module _ {T : Type 0} (state : T → TapState) where
     seen = seen_append state olds mids news one.more two.more one.seen two.seen;
   }
 
-pub watched_from : {T : Type 0} (state : T → TapState) (olds news : List T)
-    (xs xs' ys : List Entry) → xs' ≡ xs → Watched state olds news xs' ys
-    → Watched state olds news xs ys
-watched_from state olds news xs xs' ys same watched =
-    subst (λ (l : List Entry). Watched state olds news l ys) same watched
-
 -- ---- what a disk may hold after an error
 
 pub were_same : (end : LifeEnd) (kept found : List Entry) → found ≡ kept
     → WereCommitted end kept found
 were_same ends.DiskFault kept found is = (None, is ∙ sym (append-nil kept))
-were_same ends.Done kept found is = is
-were_same (ends.JournalRefused at) kept found is = is
-were_same (ends.NamesDiffer kept' given) kept found is = is
-were_same ends.JournalFull kept found is = is
-were_same (ends.NumbersSpent side) kept found is = is
-were_same ends.NoMemory kept found is = is
+were_same end kept found is = is
 
 -- of the last day
 may_were : (end : LifeEnd) (config : Config) (before : World) (event : Event) (now : ℕ)
@@ -60,68 +47,35 @@ may_were : (end : LifeEnd) (config : Config) (before : World) (event : Event) (n
 may_were ends.DiskFault config before event now found (inl same) =
     (None, same ∙ sym (append-nil before.entries))
 may_were ends.DiskFault config before event now found (inr made) = (made.0.entry, made.2)
-may_were ends.Done config before event now found same = same
-may_were (ends.JournalRefused at) config before event now found same = same
-may_were (ends.NamesDiffer kept given) config before event now found same = same
-may_were ends.JournalFull config before event now found same = same
-may_were (ends.NumbersSpent side) config before event now found same = same
-may_were ends.NoMemory config before event now found same = same
+may_were end config before event now found same = same
 
 -- and of all
 were_behind : (end : LifeEnd) (past today found : List Entry) → WereCommitted end today found
     → WereCommitted end (past ++ today) (past ++ found)
 were_behind ends.DiskFault past today found were =
     (were.0, ap (λ l. past ++ l) were.1 ∙ sym (append_assoc past today (option_to_list were.0)))
-were_behind ends.Done past today found were = ap (λ l. past ++ l) were
-were_behind (ends.JournalRefused at) past today found were = ap (λ l. past ++ l) were
-were_behind (ends.NamesDiffer kept given) past today found were = ap (λ l. past ++ l) were
-were_behind ends.JournalFull past today found were = ap (λ l. past ++ l) were
-were_behind (ends.NumbersSpent side) past today found were = ap (λ l. past ++ l) were
-were_behind ends.NoMemory past today found were = ap (λ l. past ++ l) were
+were_behind end past today found were = ap (λ l. past ++ l) were
 
 -- an event that was refused
-pub made_kept : {V : Type 0} (r : Result V LifeEnd) (error : LifeEnd) (told : Option (List ℕ))
-    (i0 i1 : List ℕ → Type 0) (config : Config) (past : List Entry) (before : World)
-    (event : Event) (now : ℕ) (kept : List Entry) → IsErrAnd r (λ e. e ≡ error)
-    → past ++ before.entries ≡ kept
+pub made_left : (error : LifeEnd) (told : Option (List ℕ)) (i0 i1 : List ℕ → Type 0)
+    (config : Config) (past : List Entry) (before : World) (event : Event) (now : ℕ)
+    (kept : List Entry) → past ++ before.entries ≡ kept
     → LeavesOf told i0 i1 config.names (Behind past (MayStand error config before event now))
-    → IfErr r (λ end. LeavesOf told i0 i1 config.names (WereCommitted end kept))
-made_kept r error told i0 i1 config past before event now kept is same may =
-    err_leaves r error told told i0 i0 i1 config.names config.names
-    (Behind past (MayStand error config before event now)) (λ end. WereCommitted end kept) is refl
-    (λ one. one) refl (λ xs h. subst (λ l. WereCommitted error kept l) (sym h.1)
+    → LeavesOf told i0 i1 config.names (WereCommitted error kept)
+made_left error told i0 i1 config past before event now kept same =
+    leaves_map told i0 i1 config.names (Behind past (MayStand error config before event now))
+    (WereCommitted error kept) (λ xs h. subst (λ l. WereCommitted error kept l) (sym h.1)
     (subst (λ l. WereCommitted error l (past ++ h.0)) same
     (were_behind error past before.entries h.0
-    (may_were error config before event now h.0 h.2)))) may
+    (may_were error config before event now h.0 h.2))))
 
 -- one whose messages could not all be read
-pub act_kept : {V : Type 0} (r : Result V LifeEnd) (told : Option (List ℕ))
-    (i0 i1 i2 : List ℕ → Type 0) (names : Names) (entries kept : List Entry) → kept ≡ entries
+pub act_left : (end : LifeEnd) (told : Option (List ℕ)) (i0 i1 i2 : List ℕ → Type 0)
+    (names : Names) (entries kept : List Entry) → kept ≡ entries
     → ((bytes : List ℕ) → i2 bytes → i1 bytes)
     → LeavesOf told i0 i1 names (λ found. found ≡ entries)
-    → IfErr r (λ end. LeavesOf told i0 i2 names (WereCommitted end kept))
-act_kept (Ok value) told i0 i1 i2 names entries kept same among left = tt
-act_kept (Err end) None i0 i1 i2 names entries kept same among left = tt
-act_kept (Err end) (Some b) i0 i1 i2 names entries kept same among left = λ only bytes here.
+    → LeavesOf told i0 i2 names (WereCommitted end kept)
+act_left end None i0 i1 i2 names entries kept same among left = tt
+act_left end (Some b) i0 i1 i2 names entries kept same among left = λ only bytes here.
     let found = left only bytes (among bytes here) in
     (found.0, found.1, were_same end kept found.0 (found.2 ∙ sym same))
-
--- what was kept, behind what was done before
-pub kept_err : {V : Type 0} (r : Result V LifeEnd) (error : LifeEnd) (t0 t1 : Option (List ℕ))
-    (i0 i1 i2 : List ℕ → Type 0) (names names' : Names) (kept : List Entry)
-    → IsErrAnd r (λ e. e ≡ error) → is_some t1 ≡ is_some t0
-    → (HasOneImage t0 i0 → HasOneImage t1 i1) → names' ≡ names
-    → LeavesOf t1 i1 i2 names' (WereCommitted error kept)
-    → IfErr r (λ end. LeavesOf t0 i0 i2 names (WereCommitted end kept))
-kept_err r error t0 t1 i0 i1 i2 names names' kept is told one same left =
-    err_leaves r error t0 t1 i0 i1 i2 names names' (WereCommitted error kept)
-    (λ end. WereCommitted end kept) is told one same (λ xs h. h) left
-
-pub kept_last : {V : Type 0} (r : Result V LifeEnd) (t0 t1 : Option (List ℕ))
-    (i0 i1 i2 : List ℕ → Type 0) (names names' : Names) (kept : List Entry)
-    → is_some t1 ≡ is_some t0 → (HasOneImage t0 i0 → HasOneImage t1 i1) → names' ≡ names
-    → IfErr r (λ end. LeavesOf t1 i1 i2 names' (WereCommitted end kept))
-    → IfErr r (λ end. LeavesOf t0 i0 i2 names (WereCommitted end kept))
-kept_last r t0 t1 i0 i1 i2 names names' kept told one same left =
-    last_leaves r t0 t1 i0 i1 i2 names names' (λ end. WereCommitted end kept)
-    (λ end. WereCommitted end kept) told one same (λ end xs h. h) left

@@ -13,3 +13,4 @@ pub mod Laws
 pub mod Lived
 pub mod Watched
 pub mod Causes
+pub mod Dealt

@@ -3,15 +3,15 @@ use Rattle.std.specs.Prelude.{◌≡◌, ◌⊎◌, ℕ, ◌≤◌, List, ◌∷
 use Rattle.std.specs.declared.option.Option.{Option}
 use Rattle.std.specs.Option.{option_to_list}
 use Rattle.outside.specs.Causes.{Rose}
+use Rattle.wires.specs.Told.{GrowsBy}
+use Rattle.wires.specs.Wire.{WireCall}
 use Rattle.pair_entries.specs.declared.entry.Entry.{Entry}
 use Rattle.event_decisions.specs.Event.{Event}
 use Rattle.event_decisions.specs.Decide.{Decision, Decides}
 use Rattle.message_answers.specs.Answer.{Answers}
-use Rattle.gateway_config.specs.declared.config.Config.{Config}
-use Rattle.wires.specs.Told.{GrowsBy}
-use Rattle.wires.specs.Wire.{WireCall}
 use Rattle.life_laws.specs.Happens.{World, Added, Happens}
-use Rattle.life_laws.specs.Turn.{HappensOrNot, AllHappen, counts}
+use Rattle.life_laws.specs.Turn.{AllHappen, counts}
+use Rattle.gateway_config.specs.declared.config.Config.{Config}
 use Rattle.gateway_life.specs.declared.end.LifeEnd.{LifeEnd}
 use Rattle.gateway_life.specs.declared.end.LifeEnd.TheVariants as ends
 use Rattle.gateway_life.specs.Fails.{IsWhy, FailsBy}
@@ -36,13 +36,6 @@ pub record Stepped (config : Config) (before : World) (event : Event) (now : ℕ
   pub added : Added
   pub grew : Grew old new added
   pub happens : Happens Answers config.names config.window before event now added after
-
--- the same of an event that counts or not
-pub record SteppedOrNot (config : Config) (before : World) (event : Event) (now : ℕ)
-    (after : World) (old new : Records) : Type 0 where
-  pub added : Added
-  pub grew : Grew old new added
-  pub happens : HappensOrNot Answers config.names config.window before event now added after
 
 -- events one after another
 pub record AllStepped (config : Config) (before : World) (events : List Event) (now : ℕ)
@@ -86,12 +79,6 @@ pub record Broken (end : LifeEnd) (config : Config) (past : List Entry) (before 
   pub added : Added
   pub grew : Grew old new added
   pub fails : FailsBy end config before event now added entries
-
--- the same of an event that counted
-pub record BrokenIf (end : LifeEnd) (config : Config) (past : List Entry) (before : World)
-    (event : Event) (now : ℕ) (old new : Records) (entries : List Entry) : Type 0 where
-  pub counted : counts before event ≡ true
-  pub broken : Broken end config past before event now old new entries
 
 -- of these events the first happened, one counted and ended the life, and no more did
 pub record Failed (end : LifeEnd) (config : Config) (past : List Entry) (before : World)

@@ -1,27 +1,26 @@
 -- Inside: what a side's turn did, for each stream of bytes that its framer stood for.
-use Rattle.std.specs.Prelude.{◌≡◌, ℕ, ◌≤◌, true, List, [], ◌∷◌, ◌++◌, map}
-use Rattle.std.specs.Prelude.{is_some}
+use Rattle.std.specs.Prelude.{◌≡◌, ℕ, ◌≤◌, true, List, [], ◌∷◌, ◌++◌, is_some, Result, OnOk, OnErr}
 use Rattle.std.specs.declared.option.Option.{Option}
 use Rattle.std.specs.List.{filter_map}
 use Rattle.outside.specs.Causes.{next_count}
+use Rattle.wires.specs.Wire.{Came, WireCall, Poll, Opened, Bytes, may_come}
+use Rattle.order_meaning.specs.declared.Side.{Side}
+use Rattle.order_meaning.specs.declared.Side.TheVariants.{Client, Venue}
 use Rattle.frame_grammar.specs.Held.{Held, room}
 use Rattle.frame_grammar.specs.Cut.{Piece, ComeFirst, Cut}
 use Rattle.frame_grammar.specs.Framer.{StandsFor}
 use Rattle.frame_grammar.specs.declared.framer.TheConstants.{LEAST_ROOM}
-use Rattle.order_meaning.specs.declared.Side.{Side}
-use Rattle.order_meaning.specs.declared.Side.TheVariants.{Client, Venue}
 use Rattle.session_frames.specs.Frames.{kind_of}
 use Rattle.pair_entries.specs.declared.entry.Entry.{Entry}
-use Rattle.event_decisions.specs.Event.{Event, Frame, Tick}
+use Rattle.event_decisions.specs.Event.{Event, Tick}
 use Rattle.message_answers.specs.Answer.{Answers}
-use Rattle.gateway_config.specs.declared.config.Config.{Config}
-use Rattle.wires.specs.Wire.{Came, WireCall, Poll, Opened, Bytes, may_come}
 use Rattle.life_laws.specs.Bodies.{body_of}
 use Rattle.life_laws.specs.Happens.{World, Added, up_on}
 use Rattle.life_laws.specs.Turn.{on_side, both, with_up, up_after, AreNew, events_of, read_after}
 use Rattle.life_laws.specs.Turn.{AllHappen}
+use Rattle.gateway_config.specs.declared.config.Config.{Config}
 use Rattle.gateway_life.specs.declared.end.LifeEnd.{LifeEnd}
-use Rattle.gateway_life.specs.Stepped.{Records, Grew, AllStepped, Failed}
+use Rattle.gateway_life.specs.Stepped.{Records, Grew, Failed}
 
 -- the framer has taken this stream, and answered all of it that has come whole
 pub record StandsWhole (held : Held) (read : List ℕ) : Type 0 where
@@ -44,29 +43,15 @@ AnsweredAll old new bodies = (stream : List ℕ) (answered : List Piece)
     → (more : List Piece) × (rest : List ℕ) × StandsFor new stream (answered ++ more)
     × Cut new.kind stream (answered ++ more) rest × (filter_map body_of more ≡ bodies)
 
--- the frames of a side that were dealt with so far
-pub record Taken (old new : Held) (config : Config) (before : World) (side : Side) (now : ℕ)
-    (after : World) (r0 r1 : Records) : Type 0 where
-  pub bodies : List (List ℕ)
-  pub all : AllStepped config before (map (Frame side) bodies) now after r0 r1
-  pub answered : Answered old new bodies
-
--- all of them were
-pub record TakenAll (old new : Held) (config : Config) (before : World) (side : Side) (now : ℕ)
-    (after : World) (r0 r1 : Records) : Type 0 where
-  pub bodies : List (List ℕ)
-  pub all : AllStepped config before (map (Frame side) bodies) now after r0 r1
-  pub answered : AnsweredAll old new bodies
-
--- a frame ended the life: behind it there may have been more
-pub record TakenFront (end : LifeEnd) (old : Held) (config : Config) (past : List Entry)
-    (before : World) (side : Side) (now : ℕ) (r0 r1 : Records) (entries : List Entry)
+-- what a framer answered while frames were dealt with: these bodies, and no more where all were;
+-- behind one that ended the life there may have been more
+pub record Took {V : Type 0} (old new : Held) (bodies : List (List ℕ)) (result : Result V LifeEnd)
     : Type 0 where
-  pub first : List (List ℕ)
-  pub failed : Failed end config past before (map (Frame side) first) now r0 r1 entries
-  pub answered : (stream : List ℕ) (answered : List Piece) → StandsFor old stream answered
+  pub all : OnOk result (AnsweredAll old new bodies)
+  pub first : OnErr result ((stream : List ℕ) (answered : List Piece)
+      → StandsFor old stream answered
       → (more : List Piece) × (left : List ℕ) × ComeFirst old.kind stream (answered ++ more) left
-      × (filter_map body_of more ≡ first)
+      × (filter_map body_of more ≡ bodies))
 
 -- it matters where bytes came
 abbrev pub IfBytes : Came → Type 0 → Type 0
@@ -78,23 +63,16 @@ abbrev pub UnlessOpened : Came → Type 0 → Type 0
 UnlessOpened Opened P = Unit {0}
 UnlessOpened came P = P
 
--- What a poll found was dealt with: its events happened, and the framer stands for what was read.
-pub record Arrived (old next : Held) (came : Came) (config : Config) (before : World) (side : Side)
-    (now : ℕ) (after : World) (r0 r1 : Records) : Type 0 where
-  pub bodies : List (List ℕ)
-  pub all : AllStepped config before (events_of side came bodies) now after r0 r1
-  pub new : (read : List ℕ) → IfBytes came (StandsWhole old read) → AreNew side read came bodies
-  pub stands : (read : List ℕ) → UnlessOpened came (StandsWhole old read)
-      → StandsWhole next (read_after read came)
-
--- One of its events ended the life.
-pub record ArrivedFront (end : LifeEnd) (old : Held) (came : Came) (config : Config)
-    (past : List Entry) (before : World) (side : Side) (now : ℕ) (r0 r1 : Records)
-    (entries : List Entry) : Type 0 where
-  pub first : List (List ℕ)
-  pub failed : Failed end config past before (events_of side came first) now r0 r1 entries
-  pub new : (read : List ℕ) → IfBytes came (StandsWhole old read)
-      → (more : List (List ℕ)) × AreNew side read came (first ++ more)
+-- What a poll found was dealt with: these bodies came, and the framer stands for what was read; or
+-- these came first, where one of its events ended the life.
+pub record Arrived {V : Type 0} (side : Side) (old next : Held) (came : Came)
+    (bodies : List (List ℕ)) (result : Result V LifeEnd) : Type 0 where
+  pub new : OnOk result ((read : List ℕ) → IfBytes came (StandsWhole old read)
+      → AreNew side read came bodies)
+  pub stands : OnOk result ((read : List ℕ) → UnlessOpened came (StandsWhole old read)
+      → StandsWhole next (read_after read came))
+  pub first : OnErr result ((read : List ℕ) → IfBytes came (StandsWhole old read)
+      → (more : List (List ℕ)) × AreNew side read came (bodies ++ more))
 
 -- a framer between polls: it is of this side, stands for some stream, and has room for a poll
 pub record IsDrained (side : Side) (held : Held) : Type 0 where

@@ -1,9 +1,8 @@
 //! One event: what it decides is committed, and then it is sent.
 
 ghost use Rattle.std.specs.Prelude.{◌≡◌, ◌⊎◌, ◌≤◌, ◌++◌, Some, Ok, IfOk, IfErr, IfSome, OnOk};
-ghost use Rattle.std.specs.Prelude.{OnErr, ◌≢◌, Err, false, is_some};
-ghost use Rattle.std.specs.Prelude.{[], ◌∷◌, true, ◌<◌, ◌-◌, length, take};
-ghost use Rattle.std.specs.Prelude.{if◌then◌else◌};
+ghost use Rattle.std.specs.Prelude.{OnErr, ◌≢◌, Err, false, is_some, [], ◌∷◌, true, ◌<◌, ◌-◌};
+ghost use Rattle.std.specs.Prelude.{length, take, if◌then◌else◌};
 ghost use Rattle.std.specs.Option.{ForSome, option_to_list};
 ghost use Rattle.outside.specs.Disk.{HasOneImage};
 ghost use Rattle.wires.specs.Told.{GrowsBy, Keeps};
@@ -13,29 +12,27 @@ ghost use Rattle.pair_journal.specs.Calls.{HasDiskCause, BornOrNot, RefusedUntol
 ghost use Rattle.pair_journal.specs.Journal.{JournalOf, Unborn, Born};
 ghost use Rattle.pair_journal.specs.Numbers.{GoesOn, numbers_before, numbers_after, first_numbers};
 ghost use Rattle.pair_entries.specs.Payload.{IsEntry};
-ghost use Rattle.pair_journal.specs.Days.{last_day, past_of};
+ghost use Rattle.pair_journal.specs.Days.{last_day};
 ghost use Rattle.event_decisions.specs.Days.{new_day};
 ghost use Rattle.life_laws.specs.Sends.{hang_up_if};
 ghost use Rattle.event_decisions.specs.Event.{IsFramed, Tick};
 ghost use Rattle.event_decisions.specs.Decide.{Decides};
 ghost use Rattle.gateway_core.specs.State.{event_of, sessions_in, loaded};
 ghost use Rattle.life_laws.specs.Happens.{pieces_to, both_standing};
+ghost use Rattle.life_laws.specs.Turn.{counts};
 ghost use Rattle.wire_sends.specs.Sent.{FrontSent, AreSendable, hung_side};
 ghost use Rattle.gateway_life.specs.Acted.{Acted};
 ghost use Rattle.wire_sends.specs.Again.{IsGiven};
 ghost use Rattle.gateway_life.specs.State.{seen};
 ghost use Rattle.gateway_life.specs.Ready.{IsReady, Ready, world_of, made_of, LeavesOf, IfTold};
-ghost use Rattle.gateway_life.specs.Ready.{Behind};
 ghost use Rattle.gateway_life.specs.Fails.{IsWhyOfDay};
-ghost use Rattle.gateway_life.specs.Stepped.{Stepped, Broken, HasCauseOf, Records, records};
+ghost use Rattle.gateway_life.specs.Stepped.{Stepped, HasCauseOf, IsNotDone, Records, records};
+ghost use Rattle.gateway_life.specs.Dealt.{Kept, Dealt, around};
 ghost use Rattle.gateway_life.specs.Committed.{OldOrNew, IsFull};
 ghost use Rattle.gateway_life.specs.Decided.{Decided, MayHold, IsWhyNot};
 ghost use Rattle.gateway_life.specs.Life.{IfRefused, begun};
-ghost use Rattle.gateway_life.specs.Rounds.{Begins, MayTurn, DayDone, DayBroken};
+ghost use Rattle.gateway_life.specs.Rounds.{Begins, MayTurn, DayDone, DayBroken, ends_of};
 ghost use Rattle.drop_taps.specs.Shown.{state_by};
-ghost use Rattle.gateway_life.specs.Watched.{Watched, WereCommitted};
-ghost use Rattle.gateway_life.specs.Causes.{IsCauseIn};
-ghost use Rattle.gateway_life.specs.Stepped.{EndsEvent, IsNotDone};
 
 use crate::LifeEnd;
 use crate::acts::{is_sent, standing, stands};
@@ -142,35 +139,6 @@ fn commit<D: Disk>(
     }
 }
 
-// The journal on a disk, and its core.
-fn load<D: Disk>(alloc: Global, config: &Config, disk: &mut D) -> Result<(Journal, Core), LifeEnd>
-    ensures ready { IfOk result (λ loaded. IsReady (record {
-      journal = loaded.0;
-      core = loaded.1;
-      client_up = false;
-      venue_up = false;
-    }) (D.bytes disk.new)) }
-    ensures core { IfOk result (λ made. made.1 ≡ loaded config.now (last_day made.0.entries)) }
-    ensures durable { OnOk result (HasOneImage (D.bytes disk.old) (D.image disk.old) →
-        HasOneImage (D.bytes disk.new) (D.image disk.new)) }
-    ensures begins { IfSome (D.bytes disk.old) (λ b.
-        Begins (λ made. made.0.entries) config.now.names b result) }
-    ensures images { BornOrNot (D.bytes disk.old) (D.image disk.old) (D.image disk.new)
-        config.now.names }
-    ensures only_unborn_is_written { IfSome (D.bytes disk.old) (λ b.
-        JournalOf b Unborn ⊎ OnlyReads D.bytes D.image disk.old disk.new) }
-    ensures refused_only_reads { IfErr result (λ end.
-        IfRefused end (OnlyReads D.bytes D.image disk.old disk.new)) }
-    ensures only { IfErr result IsNotDone }
-    ensures told { is_some (D.bytes disk.new) ≡ is_some (D.bytes disk.old) }
-    ensures cause { HasCauseOf (D.faults disk.old) (D.faults disk.new) result }
-{
-    let mut joining = Joining::new(alloc)?;
-    let journal = Journal::load(alloc, disk, &config.names, &mut joining)?;
-    let core = Core::new(config, journal.next(), joining.into_chains());
-    Ok((journal, core))
-}
-
 // Takes the last request out of the chains again, if it was held.
 fn undo_if(core: &mut Core, held: bool)
     requires { held ≡ true → 0 < length core.old.chains }
@@ -212,7 +180,9 @@ impl Engine {
     {
         let buf = OutBuf::new(alloc)?;
         let frame = FrameBuf::new(alloc)?;
-        let (journal, core) = load(alloc, config, disk)?;
+        let mut joining = Joining::new(alloc)?;
+        let journal = Journal::load(alloc, disk, &config.names, &mut joining)?;
+        let core = Core::new(config, journal.next(), joining.into_chains());
         Ok(Engine {
             alloc,
             journal,
@@ -399,35 +369,14 @@ impl Engine {
         requires moment { now ≤ MAX_AT }
         requires side { is_some (event_of event.now) ≡ true }
         requires body { IfSome (event_of event.now) IsFramed }
-        ensures config { self.new.core.config ≡ self.old.core.config }
-        ensures ready { OnOk result (Ready (seen self.new) (D.bytes disk.new)
-            (C.recorded client.new) (V.recorded venue.new)) }
-        ensures happens { ForSome (event_of event.now) (λ e. OnOk result (IfTold (D.bytes disk.old)
-            (Stepped self.old.core.config (world_of (seen self.old)) e now
-            (world_of (seen self.new))
-            (records (C.recorded client.old) (V.recorded venue.old))
-            (records (C.recorded client.new) (V.recorded venue.new))))) }
-        ensures past { OnOk result
-            (past_of self.new.journal.entries ≡ past_of self.old.journal.entries) }
-        ensures durable { OnOk result (HasOneImage (D.bytes disk.old) (D.image disk.old) →
-            HasOneImage (D.bytes disk.new) (D.image disk.new)) }
-        ensures ends { ForSome (event_of event.now) (λ e. IfErr result (λ end.
-            LeavesOf (D.bytes disk.old) (D.image disk.old)
-            (D.image disk.new) self.old.core.config.names (Behind (past_of self.old.journal.entries)
-            (Broken end self.old.core.config (past_of self.old.journal.entries)
-            (world_of (seen self.old)) e now
-            (records (C.recorded client.old) (V.recorded venue.old))
-            (records (C.recorded client.new) (V.recorded venue.new)))))) }
-        ensures taps { Watched (state_by has_failed entries tally counts_all refused)
-            taps.old.items taps.new.items self.old.journal.entries
-            self.new.journal.entries }
-        ensures kept { IfErr result (λ end. LeavesOf (D.bytes disk.old) (D.image disk.old)
-            (D.image disk.new) self.old.core.config.names
-            (WereCommitted end self.new.journal.entries)) }
-        ensures only { IfErr result (EndsEvent (D.bytes disk.old)) }
-        ensures journal_cause { IfErr result (λ end. IsCauseIn end (seen self.new)) }
-        ensures told { is_some (D.bytes disk.new) ≡ is_some (D.bytes disk.old) }
-        ensures cause { HasCauseOf (D.faults disk.old) (D.faults disk.new) result }
+        ensures dealt { ForSome (event_of event.now) (λ e.
+            counts (world_of (seen self.old)) e ≡ true →
+            Dealt (state_by has_failed entries tally counts_all refused) taps.old.items
+            taps.new.items
+            (around (seen self.old) (D.bytes disk.old) (D.image disk.old) (D.faults disk.old)
+            (C.recorded client.old) (V.recorded venue.old))
+            (around (seen self.new) (D.bytes disk.new) (D.image disk.new) (D.faults disk.new)
+            (C.recorded client.new) (V.recorded venue.new)) (e ∷ []) now result) }
         ensures client_polls { C.polls client.new ≡ C.polls client.old }
         ensures venue_polls { V.polls venue.new ≡ V.polls venue.old }
         ensures client_plays { Keeps (C.plays client.old) (C.plays client.new) }
@@ -440,6 +389,33 @@ impl Engine {
         let names = self.journal.names();
         self.act(disk, client, venue, &names, event, &made, now)?;
         Ok(())
+    }
+
+    /// The end of both sides, the client's first.
+    pub(crate) fn end_both<D: Disk, C: Wire, V: Wire>(
+        &mut self,
+        disk: &mut D,
+        client: &mut C,
+        venue: &mut V,
+        taps: &mut Vec<Box<dyn Tap>>,
+        now: u64,
+    ) -> Result<(), LifeEnd>
+        requires ready { Ready (seen self.old) (D.bytes disk.old)
+            (C.recorded client.old) (V.recorded venue.old) }
+        requires moment { now ≤ MAX_AT }
+        ensures dealt { Dealt (state_by has_failed entries tally counts_all refused) taps.old.items
+            taps.new.items
+            (around (seen self.old) (D.bytes disk.old) (D.image disk.old) (D.faults disk.old)
+            (C.recorded client.old) (V.recorded venue.old))
+            (around (seen self.new) (D.bytes disk.new) (D.image disk.new) (D.faults disk.new)
+            (C.recorded client.new) (V.recorded venue.new)) ends_of now result }
+        ensures client_polls { C.polls client.new ≡ C.polls client.old }
+        ensures venue_polls { V.polls venue.new ≡ V.polls venue.old }
+        ensures client_plays { Keeps (C.plays client.old) (C.plays client.new) }
+        ensures venue_plays { Keeps (V.plays venue.old) (V.plays venue.new) }
+    {
+        self.event(disk, client, venue, taps, &Event::End(Side::Client), now)?;
+        self.event(disk, client, venue, taps, &Event::End(Side::Venue), now)
     }
 
     // A session day begins, behind the end of both sides: what still stands is hung up, and the
@@ -455,9 +431,12 @@ impl Engine {
         requires ready { Ready (seen self.old) (D.bytes disk.old)
             (C.recorded client.old) (V.recorded venue.old) }
         requires moment { now ≤ MAX_AT }
-        ensures config { self.new.core.config ≡ self.old.core.config }
-        ensures ready { OnOk result (Ready (seen self.new) (D.bytes disk.new)
-            (C.recorded client.new) (V.recorded venue.new)) }
+        ensures kept { Kept (state_by has_failed entries tally counts_all refused) taps.old.items
+            taps.new.items
+            (around (seen self.old) (D.bytes disk.old) (D.image disk.old) (D.faults disk.old)
+            (C.recorded client.old) (V.recorded venue.old))
+            (around (seen self.new) (D.bytes disk.new) (D.image disk.new) (D.faults disk.new)
+            (C.recorded client.new) (V.recorded venue.new)) result }
         ensures entries { OnOk result (self.new.journal.entries
             ≡ self.old.journal.entries ++ new_day now ∷ []) }
         ensures fresh { OnOk result (world_of (seen self.new) ≡ begun self.old.core.config []) }
@@ -465,24 +444,12 @@ impl Engine {
             (hang_up_if self.old.client_up) }
         ensures venue_hung { GrowsBy (V.recorded venue.old) (V.recorded venue.new)
             (hang_up_if self.old.venue_up) }
-        ensures durable { OnOk result (HasOneImage (D.bytes disk.old) (D.image disk.old) →
-            HasOneImage (D.bytes disk.new) (D.image disk.new)) }
         ensures refused { OnErr result (self.new.journal.entries ≡ self.old.journal.entries) }
         ensures images { IfErr result (λ end. LeavesOf (D.bytes disk.old) (D.image disk.old)
             (D.image disk.new) self.old.core.config.names
             (MayTurn end self.old.journal.entries now)) }
         ensures why { IfErr result (λ end. IsWhyOfDay end self.old.core.config.names
             self.old.journal.entries now) }
-        ensures kept { IfErr result (λ end. LeavesOf (D.bytes disk.old) (D.image disk.old)
-            (D.image disk.new) self.old.core.config.names
-            (WereCommitted end self.new.journal.entries)) }
-        ensures only { IfErr result (EndsEvent (D.bytes disk.old)) }
-        ensures journal_cause { IfErr result (λ end. IsCauseIn end (seen self.new)) }
-        ensures taps { Watched (state_by has_failed entries tally counts_all refused)
-            taps.old.items taps.new.items self.old.journal.entries
-            self.new.journal.entries }
-        ensures told { is_some (D.bytes disk.new) ≡ is_some (D.bytes disk.old) }
-        ensures cause { HasCauseOf (D.faults disk.old) (D.faults disk.new) result }
         ensures client_polls { C.polls client.new ≡ C.polls client.old }
         ensures venue_polls { V.polls venue.new ≡ V.polls venue.old }
         ensures client_plays { Keeps (C.plays client.old) (C.plays client.new) }
@@ -508,29 +475,20 @@ impl Engine {
         requires ready { Ready (seen self.old) (D.bytes disk.old)
             (C.recorded client.old) (V.recorded venue.old) }
         requires moment { now ≤ MAX_AT }
-        ensures config { self.new.core.config ≡ self.old.core.config }
-        ensures ready { OnOk result (Ready (seen self.new) (D.bytes disk.new)
-            (C.recorded client.new) (V.recorded venue.new)) }
+        ensures kept { Kept (state_by has_failed entries tally counts_all refused) taps.old.items
+            taps.new.items
+            (around (seen self.old) (D.bytes disk.old) (D.image disk.old) (D.faults disk.old)
+            (C.recorded client.old) (V.recorded venue.old))
+            (around (seen self.new) (D.bytes disk.new) (D.image disk.new) (D.faults disk.new)
+            (C.recorded client.new) (V.recorded venue.new)) result }
         ensures turned { OnOk result (IfTold (D.bytes disk.old) (DayDone self.old.core.config
             (seen self.old) (seen self.new) now
             (records (C.recorded client.old) (V.recorded venue.old))
             (records (C.recorded client.new) (V.recorded venue.new)))) }
-        ensures durable { OnOk result (HasOneImage (D.bytes disk.old) (D.image disk.old) →
-            HasOneImage (D.bytes disk.new) (D.image disk.new)) }
         ensures ends { IfErr result (λ end. LeavesOf (D.bytes disk.old) (D.image disk.old)
             (D.image disk.new) self.old.core.config.names (DayBroken end self.old.core.config
             (seen self.old) now (records (C.recorded client.old) (V.recorded venue.old))
             (records (C.recorded client.new) (V.recorded venue.new)))) }
-        ensures taps { Watched (state_by has_failed entries tally counts_all refused)
-            taps.old.items taps.new.items self.old.journal.entries
-            self.new.journal.entries }
-        ensures kept { IfErr result (λ end. LeavesOf (D.bytes disk.old) (D.image disk.old)
-            (D.image disk.new) self.old.core.config.names
-            (WereCommitted end self.new.journal.entries)) }
-        ensures only { IfErr result (EndsEvent (D.bytes disk.old)) }
-        ensures journal_cause { IfErr result (λ end. IsCauseIn end (seen self.new)) }
-        ensures told { is_some (D.bytes disk.new) ≡ is_some (D.bytes disk.old) }
-        ensures cause { HasCauseOf (D.faults disk.old) (D.faults disk.new) result }
         ensures client_polls { C.polls client.new ≡ C.polls client.old }
         ensures venue_polls { V.polls venue.new ≡ V.polls venue.old }
         ensures client_plays { Keeps (C.plays client.old) (C.plays client.new) }
@@ -539,8 +497,7 @@ impl Engine {
         if !is_due(self.core.reset(), self.journal.day_at(), now) {
             return Ok(());
         }
-        self.event(disk, client, venue, taps, &Event::End(Side::Client), now)?;
-        self.event(disk, client, venue, taps, &Event::End(Side::Venue), now)?;
+        self.end_both(disk, client, venue, taps, now)?;
         self.new_day(disk, client, venue, taps, now)
     }
 
@@ -567,34 +524,12 @@ impl Engine {
         requires ready { Ready (seen self.old) (D.bytes disk.old)
             (C.recorded client.old) (V.recorded venue.old) }
         requires moment { now ≤ MAX_AT }
-        ensures config { self.new.core.config ≡ self.old.core.config }
-        ensures ready { OnOk result (Ready (seen self.new) (D.bytes disk.new)
-            (C.recorded client.new) (V.recorded venue.new)) }
-        ensures happens { OnOk result (IfTold (D.bytes disk.old)
-            (Stepped self.old.core.config (world_of (seen self.old))
-            (Tick side) now (world_of (seen self.new))
-            (records (C.recorded client.old) (V.recorded venue.old))
-            (records (C.recorded client.new) (V.recorded venue.new)))) }
-        ensures past { OnOk result
-            (past_of self.new.journal.entries ≡ past_of self.old.journal.entries) }
-        ensures durable { OnOk result (HasOneImage (D.bytes disk.old) (D.image disk.old) →
-            HasOneImage (D.bytes disk.new) (D.image disk.new)) }
-        ensures ends { IfErr result (λ end. LeavesOf (D.bytes disk.old) (D.image disk.old)
-            (D.image disk.new) self.old.core.config.names (Behind (past_of self.old.journal.entries)
-            (Broken end self.old.core.config (past_of self.old.journal.entries)
-            (world_of (seen self.old)) (Tick side) now
-            (records (C.recorded client.old) (V.recorded venue.old))
-            (records (C.recorded client.new) (V.recorded venue.new))))) }
-        ensures taps { Watched (state_by has_failed entries tally counts_all refused)
-            taps.old.items taps.new.items self.old.journal.entries
-            self.new.journal.entries }
-        ensures kept { IfErr result (λ end. LeavesOf (D.bytes disk.old) (D.image disk.old)
-            (D.image disk.new) self.old.core.config.names
-            (WereCommitted end self.new.journal.entries)) }
-        ensures only { IfErr result (EndsEvent (D.bytes disk.old)) }
-        ensures journal_cause { IfErr result (λ end. IsCauseIn end (seen self.new)) }
-        ensures told { is_some (D.bytes disk.new) ≡ is_some (D.bytes disk.old) }
-        ensures cause { HasCauseOf (D.faults disk.old) (D.faults disk.new) result }
+        ensures dealt { Dealt (state_by has_failed entries tally counts_all refused) taps.old.items
+            taps.new.items
+            (around (seen self.old) (D.bytes disk.old) (D.image disk.old) (D.faults disk.old)
+            (C.recorded client.old) (V.recorded venue.old))
+            (around (seen self.new) (D.bytes disk.new) (D.image disk.new) (D.faults disk.new)
+            (C.recorded client.new) (V.recorded venue.new)) (Tick side ∷ []) now result }
         ensures client_polls { C.polls client.new ≡ C.polls client.old }
         ensures venue_polls { V.polls venue.new ≡ V.polls venue.old }
         ensures client_plays { Keeps (C.plays client.old) (C.plays client.new) }

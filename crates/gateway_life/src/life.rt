@@ -9,17 +9,17 @@ ghost use Rattle.wires.specs.Told.{GrowsBy, Keeps};
 ghost use Rattle.wires.specs.Wire.{is_within};
 ghost use Rattle.pair_journal.specs.Calls.{BornOrNot};
 ghost use Rattle.pair_journal.specs.Days.{last_day, past_of};
-ghost use Rattle.pair_journal.specs.Journal.{JournalOf, Unborn, Born};
+ghost use Rattle.pair_journal.specs.Journal.{JournalOf, Unborn};
 ghost use Rattle.wire_sends.specs.Sent.{Agrees};
 ghost use Rattle.gateway_life.specs.Stepped.{HasCauseOf, AllStepped, Failed, records};
+ghost use Rattle.gateway_life.specs.Dealt.{Kept, around};
 ghost use Rattle.gateway_life.specs.Life.{ended, counted_on, begun, moment_of, IfRefused};
 ghost use Rattle.gateway_life.specs.Life.{IsForeign};
 ghost use Rattle.gateway_life.specs.Lived.{Lived, told};
 ghost use Rattle.gate_log.specs.Log.{OnlyReads};
 ghost use Rattle.gateway_life.specs.Ready.{Behind, LeavesOf, IfTold, world_of};
 ghost use Rattle.gateway_life.specs.Rounds.{IsLive, RoundOver, RoundFails, ends_of, Begins};
-ghost use Rattle.gateway_life.specs.Rounds.{RoundsDone, LifeDone, LifeBroken, LifeWhole};
-ghost use Rattle.gateway_life.specs.Rounds.{LifeStopped};
+ghost use Rattle.gateway_life.specs.Rounds.{LifeDone, LifeBroken, LifeWhole, LifeStopped};
 ghost use Rattle.gateway_life.specs.Stepped.{EndsEvent, IsNotDone};
 ghost use Rattle.drop_taps.specs.Shown.{state_by};
 ghost use Rattle.gateway_life.specs.Watched.{Watched, WereCommitted, TapsSaw, end_in};
@@ -33,7 +33,6 @@ use crate::turn::turn;
 use drop_taps::Tap;
 use frame_grammar::{Framer, Kind};
 use gateway_config::Config;
-use gateway_core::Event;
 use order_meaning::Side;
 use outside::Disk;
 use pair_entries::MAX_AT;
@@ -165,6 +164,47 @@ impl Life {
         ensures told { is_some (D.bytes disk.new) ≡ is_some (D.bytes disk.old) }
         ensures cause { HasCauseOf (D.faults disk.old) (D.faults disk.new) result }
     {
+        self.round_over(disk, client, venue, clock, taps)
+    }
+
+    // A round; what it keeps is said as of each part of a life.
+    fn round_over<D: Disk, C: Wire, V: Wire, K: Clock>(
+        &mut self,
+        disk: &mut D,
+        client: &mut C,
+        venue: &mut V,
+        clock: &mut K,
+        taps: &mut Vec<Box<dyn Tap>>,
+    ) -> Result<(), LifeEnd>
+        requires live { IsLive self.old (D.bytes disk.old)
+            (C.recorded client.old) (V.recorded venue.old) }
+        ensures kept { Kept (state_by has_failed entries tally counts_all refused) taps.old.items
+            taps.new.items
+            (around self.old.engine (D.bytes disk.old) (D.image disk.old) (D.faults disk.old)
+            (C.recorded client.old) (V.recorded venue.old))
+            (around self.new.engine (D.bytes disk.new) (D.image disk.new) (D.faults disk.new)
+            (C.recorded client.new) (V.recorded venue.new)) result }
+        ensures live { OnOk result (IsLive self.new (D.bytes disk.new)
+            (C.recorded client.new) (V.recorded venue.new)) }
+        ensures round { OnOk result ((m : ℕ)
+            × GrowsBy (K.moments clock.old) (K.moments clock.new) (m ∷ [])
+            × IfTold (D.bytes disk.old)
+            (RoundOver self.old.engine.core.config self.old self.new (moment_of m)
+            (records (C.recorded client.old) (V.recorded venue.old))
+            (records (C.recorded client.new) (V.recorded venue.new)))) }
+        ensures ends { IfErr result (λ end. (m : ℕ)
+            × GrowsBy (K.moments clock.old) (K.moments clock.new) (m ∷ [])
+            × LeavesOf (D.bytes disk.old) (D.image disk.old) (D.image disk.new)
+            self.old.engine.core.config.names (RoundFails end self.old.engine.core.config self.old
+            (moment_of m) (records (C.recorded client.old) (V.recorded venue.old))
+            (records (C.recorded client.new) (V.recorded venue.new)))) }
+        ensures client_polls { OnOk result
+            (C.polls client.new ≡ next_count (C.polls client.old)) }
+        ensures venue_polls { OnOk result (V.polls venue.new ≡ next_count (V.polls venue.old)) }
+        ensures client_plays { Keeps (C.plays client.old) (C.plays client.new) }
+        ensures venue_plays { Keeps (V.plays venue.old) (V.plays venue.new) }
+        ensures follows { Keeps (K.follows clock.old) (K.follows clock.new) }
+    {
         let now = moment(clock);
         self.engine.end_day(disk, client, venue, taps, now)?;
         turn(
@@ -245,66 +285,7 @@ impl Life {
         ensures cause { HasCauseOf (D.faults disk.old) (D.faults disk.new) result }
     {
         let now = moment(clock);
-        self.engine
-            .event(disk, client, venue, taps, &Event::End(Side::Client), now)?;
-        self.engine
-            .event(disk, client, venue, taps, &Event::End(Side::Venue), now)
-    }
-
-    // So many rounds.
-    fn rounds<D: Disk, C: Wire, V: Wire, K: Clock>(
-        &mut self,
-        disk: &mut D,
-        client: &mut C,
-        venue: &mut V,
-        clock: &mut K,
-        taps: &mut Vec<Box<dyn Tap>>,
-        rounds: u64,
-    ) -> Result<(), LifeEnd>
-        requires live { IsLive self.old (D.bytes disk.old)
-            (C.recorded client.old) (V.recorded venue.old) }
-        ensures config { self.new.engine.core.config ≡ self.old.engine.core.config }
-        ensures live { OnOk result (IsLive self.new (D.bytes disk.new)
-            (C.recorded client.new) (V.recorded venue.new)) }
-        ensures done { OnOk result ((given : List ℕ) × (length given ≡ rounds)
-            × GrowsBy (K.moments clock.old) (K.moments clock.new) given
-            × IfTold (D.bytes disk.old)
-            (RoundsDone self.old.engine.core.config self.old self.new given
-            (records (C.recorded client.old) (V.recorded venue.old))
-            (records (C.recorded client.new) (V.recorded venue.new)))) }
-        ensures ends { IfErr result (λ end. (given : List ℕ) × (last : ℕ)
-            × (length given ≤ rounds)
-            × GrowsBy (K.moments clock.old) (K.moments clock.new) (given ++ last ∷ [])
-            × LeavesOf (D.bytes disk.old) (D.image disk.old) (D.image disk.new)
-            self.old.engine.core.config.names (LifeBroken end self.old.engine.core.config self.old
-            rounds given last (records (C.recorded client.old) (V.recorded venue.old))
-            (records (C.recorded client.new) (V.recorded venue.new)))) }
-        ensures client_polls { OnOk result
-            (C.polls client.new ≡ counted_on rounds (C.polls client.old)) }
-        ensures venue_polls { OnOk result
-            (V.polls venue.new ≡ counted_on rounds (V.polls venue.old)) }
-        ensures client_plays { Keeps (C.plays client.old) (C.plays client.new) }
-        ensures venue_plays { Keeps (V.plays venue.old) (V.plays venue.new) }
-        ensures follows { Keeps (K.follows clock.old) (K.follows clock.new) }
-        ensures durable { OnOk result (HasOneImage (D.bytes disk.old) (D.image disk.old) →
-            HasOneImage (D.bytes disk.new) (D.image disk.new)) }
-        ensures taps { Watched (state_by has_failed entries tally counts_all refused)
-            taps.old.items taps.new.items self.old.engine.journal.entries
-            self.new.engine.journal.entries }
-        ensures kept { IfErr result (λ end. LeavesOf (D.bytes disk.old) (D.image disk.old)
-            (D.image disk.new) self.old.engine.core.config.names
-            (WereCommitted end self.new.engine.journal.entries)) }
-        ensures only { IfErr result (EndsEvent (D.bytes disk.old)) }
-        ensures journal_cause { IfErr result (λ end. IsCauseIn end self.new.engine) }
-        ensures told { is_some (D.bytes disk.new) ≡ is_some (D.bytes disk.old) }
-        ensures cause { HasCauseOf (D.faults disk.old) (D.faults disk.new) result }
-    {
-        let mut left = rounds;
-        'rounds: while left > 0 {
-            self.round(disk, client, venue, clock, taps)?;
-            left -= 1;
-        }
-        Ok(())
+        self.engine.end_both(disk, client, venue, taps, now)
     }
 
     // So many rounds, and then the end.
@@ -319,9 +300,12 @@ impl Life {
     ) -> Result<(), LifeEnd>
         requires live { IsLive self.old (D.bytes disk.old)
             (C.recorded client.old) (V.recorded venue.old) }
-        ensures config { self.new.engine.core.config ≡ self.old.engine.core.config }
-        ensures stands { OnOk result (ForSome (D.bytes disk.new) (λ b. JournalOf b
-            (Born self.old.engine.core.config.names self.new.engine.journal.entries))) }
+        ensures kept { Kept (state_by has_failed entries tally counts_all refused) taps.old.items
+            taps.new.items
+            (around self.old.engine (D.bytes disk.old) (D.image disk.old) (D.faults disk.old)
+            (C.recorded client.old) (V.recorded venue.old))
+            (around self.new.engine (D.bytes disk.new) (D.image disk.new) (D.faults disk.new)
+            (C.recorded client.new) (V.recorded venue.new)) result }
         ensures done { OnOk result ((given : List ℕ) × (last : ℕ) × (length given ≡ rounds)
             × GrowsBy (K.moments clock.old) (K.moments clock.new) (given ++ last ∷ [])
             × IfTold (D.bytes disk.old) (LifeDone self.old.engine.core.config self.old given last
@@ -342,20 +326,12 @@ impl Life {
         ensures client_plays { Keeps (C.plays client.old) (C.plays client.new) }
         ensures venue_plays { Keeps (V.plays venue.old) (V.plays venue.new) }
         ensures follows { Keeps (K.follows clock.old) (K.follows clock.new) }
-        ensures durable { OnOk result (HasOneImage (D.bytes disk.old) (D.image disk.old) →
-            HasOneImage (D.bytes disk.new) (D.image disk.new)) }
-        ensures taps { Watched (state_by has_failed entries tally counts_all refused)
-            taps.old.items taps.new.items self.old.engine.journal.entries
-            self.new.engine.journal.entries }
-        ensures kept { IfErr result (λ end. LeavesOf (D.bytes disk.old) (D.image disk.old)
-            (D.image disk.new) self.old.engine.core.config.names
-            (WereCommitted end self.new.engine.journal.entries)) }
-        ensures only { IfErr result (EndsEvent (D.bytes disk.old)) }
-        ensures journal_cause { IfErr result (λ end. IsCauseIn end self.new.engine) }
-        ensures told { is_some (D.bytes disk.new) ≡ is_some (D.bytes disk.old) }
-        ensures cause { HasCauseOf (D.faults disk.old) (D.faults disk.new) result }
     {
-        self.rounds(disk, client, venue, clock, taps, rounds)?;
+        let mut left = rounds;
+        'rounds: while left > 0 {
+            self.round_over(disk, client, venue, clock, taps)?;
+            left -= 1;
+        }
         self.finish(disk, client, venue, clock, taps)
     }
 }

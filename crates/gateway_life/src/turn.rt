@@ -1,9 +1,7 @@
 //! A side's turn in a round: its poll, what came, and its tick.
 
-ghost use Rattle.std.specs.Prelude.{◌≡◌, ◌≤◌, ◌<◌, [], ◌∷◌, length, is_some, true, IfOk, IfErr};
-ghost use Rattle.std.specs.Prelude.{OnOk};
-ghost use Rattle.outside.specs.Disk.{HasOneImage};
-ghost use Rattle.std.specs.Prelude.{ℕ, List};
+ghost use Rattle.std.specs.Prelude.{◌≡◌, ◌≤◌, ◌<◌, ℕ, List, [], ◌∷◌, length, map, is_some, true};
+ghost use Rattle.std.specs.Prelude.{IfOk, IfErr, OnOk};
 ghost use Rattle.frame_grammar.specs.Cut.{Piece};
 ghost use Rattle.frame_grammar.specs.Frame.{IsBody};
 ghost use Rattle.frame_grammar.specs.Framer.{StandsFor};
@@ -14,18 +12,15 @@ ghost use Rattle.wires.specs.Told.{Keeps};
 ghost use Rattle.wires.specs.declared.wire.TheConstants.{POLL_LEN};
 ghost use Rattle.wires.specs.Wire.{Poll, Nothing, Fits, came_of, may_come};
 ghost use Rattle.life_laws.specs.Happens.{up_on};
-ghost use Rattle.life_laws.specs.Turn.{on_side, with_up, up_after};
+ghost use Rattle.life_laws.specs.Turn.{on_side, with_up, up_after, events_of};
 ghost use Rattle.wire_sends.specs.Sent.{Agrees};
 ghost use Rattle.pair_journal.specs.Days.{past_of};
 ghost use Rattle.gateway_life.specs.Ready.{Ready, world_of, LeavesOf, IfTold, Behind};
 ghost use Rattle.gateway_life.specs.State.{seen};
-ghost use Rattle.gateway_life.specs.Stepped.{SteppedOrNot, BrokenIf, HasCauseOf, Grew, records};
-ghost use Rattle.gateway_life.specs.Turned.{IsDrained, TakenAll, TakenFront, Arrived, ArrivedFront};
-ghost use Rattle.gateway_life.specs.Turned.{Turned, TurnBroken, record_on, polls_after};
-ghost use Rattle.gateway_life.specs.Stepped.{EndsEvent};
+ghost use Rattle.gateway_life.specs.Stepped.{Grew, records};
+ghost use Rattle.gateway_life.specs.Dealt.{Dealt, TurnOver, around};
+ghost use Rattle.gateway_life.specs.Turned.{IsDrained, Took, Arrived, record_on, polls_after};
 ghost use Rattle.drop_taps.specs.Shown.{state_by};
-ghost use Rattle.gateway_life.specs.Watched.{Watched, WereCommitted};
-ghost use Rattle.gateway_life.specs.Causes.{IsCauseIn};
 
 use crate::LifeEnd;
 use crate::engine::Engine;
@@ -62,34 +57,12 @@ fn frame_event<D: Disk, C: Wire, V: Wire>(
         (C.recorded client.old) (V.recorded venue.old) }
     requires moment { now ≤ MAX_AT }
     requires body { IsBody body.now }
-    ensures config { engine.new.core.config ≡ engine.old.core.config }
-    ensures past { OnOk result
-        (past_of engine.new.journal.entries ≡ past_of engine.old.journal.entries) }
-    ensures ready { OnOk result (Ready (seen engine.new) (D.bytes disk.new)
-        (C.recorded client.new) (V.recorded venue.new)) }
-    ensures happens { OnOk result (IfTold (D.bytes disk.old)
-        (SteppedOrNot engine.old.core.config (world_of (seen engine.old))
-        (Frame side body.now) now (world_of (seen engine.new))
-        (records (C.recorded client.old) (V.recorded venue.old))
-        (records (C.recorded client.new) (V.recorded venue.new)))) }
-    ensures durable { OnOk result (HasOneImage (D.bytes disk.old) (D.image disk.old) →
-        HasOneImage (D.bytes disk.new) (D.image disk.new)) }
-    ensures ends { IfErr result (λ end. LeavesOf (D.bytes disk.old) (D.image disk.old)
-        (D.image disk.new) engine.old.core.config.names (Behind (past_of engine.old.journal.entries)
-        (BrokenIf end engine.old.core.config (past_of engine.old.journal.entries)
-        (world_of (seen engine.old)) (Frame side body.now) now
-        (records (C.recorded client.old) (V.recorded venue.old))
-        (records (C.recorded client.new) (V.recorded venue.new))))) }
-    ensures taps { Watched (state_by has_failed entries tally counts_all refused)
-        taps.old.items taps.new.items engine.old.journal.entries
-        engine.new.journal.entries }
-    ensures kept { IfErr result (λ end. LeavesOf (D.bytes disk.old) (D.image disk.old)
-        (D.image disk.new) engine.old.core.config.names
-        (WereCommitted end engine.new.journal.entries)) }
-    ensures only { IfErr result (EndsEvent (D.bytes disk.old)) }
-    ensures journal_cause { IfErr result (λ end. IsCauseIn end (seen engine.new)) }
-    ensures told { is_some (D.bytes disk.new) ≡ is_some (D.bytes disk.old) }
-    ensures cause { HasCauseOf (D.faults disk.old) (D.faults disk.new) result }
+    ensures dealt { Dealt (state_by has_failed entries tally counts_all refused) taps.old.items
+        taps.new.items
+        (around (seen engine.old) (D.bytes disk.old) (D.image disk.old) (D.faults disk.old)
+        (C.recorded client.old) (V.recorded venue.old))
+        (around (seen engine.new) (D.bytes disk.new) (D.image disk.new) (D.faults disk.new)
+        (C.recorded client.new) (V.recorded venue.new)) (Frame side body.now ∷ []) now result }
     ensures client_polls { C.polls client.new ≡ C.polls client.old }
     ensures venue_polls { V.polls venue.new ≡ V.polls venue.old }
     ensures client_plays { Keeps (C.plays client.old) (C.plays client.new) }
@@ -117,38 +90,17 @@ fn take_frames<D: Disk, C: Wire, V: Wire>(
     requires moment { now ≤ MAX_AT }
     requires stands { (stream : List ℕ) × (answered : List Piece)
         × StandsFor framer.old stream answered }
-    ensures config { engine.new.core.config ≡ engine.old.core.config }
-    ensures past { OnOk result
-        (past_of engine.new.journal.entries ≡ past_of engine.old.journal.entries) }
-    ensures ready { OnOk result (Ready (seen engine.new) (D.bytes disk.new)
-        (C.recorded client.new) (V.recorded venue.new)) }
     ensures kind { framer.new.kind ≡ framer.old.kind }
     ensures stands { OnOk result ((stream : List ℕ) × (answered : List Piece)
         × StandsFor framer.new stream answered) }
     ensures room { OnOk result (LEAST_ROOM ≤ room framer.new) }
-    ensures taken { OnOk result (IfTold (D.bytes disk.old)
-        (TakenAll framer.old framer.new engine.old.core.config
-        (world_of (seen engine.old)) side now (world_of (seen engine.new))
-        (records (C.recorded client.old) (V.recorded venue.old))
-        (records (C.recorded client.new) (V.recorded venue.new)))) }
-    ensures durable { OnOk result (HasOneImage (D.bytes disk.old) (D.image disk.old) →
-        HasOneImage (D.bytes disk.new) (D.image disk.new)) }
-    ensures ends { IfErr result (λ end. LeavesOf (D.bytes disk.old) (D.image disk.old)
-        (D.image disk.new) engine.old.core.config.names (Behind (past_of engine.old.journal.entries)
-        (TakenFront end framer.old engine.old.core.config (past_of engine.old.journal.entries)
-        (world_of (seen engine.old)) side now
-        (records (C.recorded client.old) (V.recorded venue.old))
-        (records (C.recorded client.new) (V.recorded venue.new))))) }
-    ensures taps { Watched (state_by has_failed entries tally counts_all refused)
-        taps.old.items taps.new.items engine.old.journal.entries
-        engine.new.journal.entries }
-    ensures kept { IfErr result (λ end. LeavesOf (D.bytes disk.old) (D.image disk.old)
-        (D.image disk.new) engine.old.core.config.names
-        (WereCommitted end engine.new.journal.entries)) }
-    ensures only { IfErr result (EndsEvent (D.bytes disk.old)) }
-    ensures journal_cause { IfErr result (λ end. IsCauseIn end (seen engine.new)) }
-    ensures told { is_some (D.bytes disk.new) ≡ is_some (D.bytes disk.old) }
-    ensures cause { HasCauseOf (D.faults disk.old) (D.faults disk.new) result }
+    ensures dealt { (bodies : List (List ℕ)) × Took framer.old framer.new bodies result
+        × Dealt (state_by has_failed entries tally counts_all refused) taps.old.items
+        taps.new.items
+        (around (seen engine.old) (D.bytes disk.old) (D.image disk.old) (D.faults disk.old)
+        (C.recorded client.old) (V.recorded venue.old))
+        (around (seen engine.new) (D.bytes disk.new) (D.image disk.new) (D.faults disk.new)
+        (C.recorded client.new) (V.recorded venue.new)) (map (Frame side) bodies) now result }
     ensures client_polls { C.polls client.new ≡ C.polls client.old }
     ensures venue_polls { V.polls venue.new ≡ V.polls venue.old }
     ensures client_plays { Keeps (C.plays client.old) (C.plays client.new) }
@@ -191,35 +143,16 @@ fn arrived<D: Disk, C: Wire, V: Wire>(
     requires fits { IfOk found (λ arrived. Fits arrived buf.now) }
     requires short { length buf.now ≤ LEAST_ROOM }
     requires drained { IsDrained side framer.old }
-    ensures config { engine.new.core.config ≡ engine.old.core.config }
-    ensures past { OnOk result
-        (past_of engine.new.journal.entries ≡ past_of engine.old.journal.entries) }
-    ensures ready { OnOk result (Ready (seen engine.new) (D.bytes disk.new)
-        (C.recorded client.new) (V.recorded venue.new)) }
     ensures drained { OnOk result (IsDrained side framer.new) }
-    ensures arrived { OnOk result (IfTold (D.bytes disk.old)
-        (Arrived framer.old framer.new (came_of found buf.now)
-        engine.old.core.config (world_of (seen engine.old)) side now (world_of (seen engine.new))
-        (records (C.recorded client.old) (V.recorded venue.old))
-        (records (C.recorded client.new) (V.recorded venue.new)))) }
-    ensures durable { OnOk result (HasOneImage (D.bytes disk.old) (D.image disk.old) →
-        HasOneImage (D.bytes disk.new) (D.image disk.new)) }
-    ensures ends { IfErr result (λ end. LeavesOf (D.bytes disk.old) (D.image disk.old)
-        (D.image disk.new) engine.old.core.config.names (Behind (past_of engine.old.journal.entries)
-        (ArrivedFront end framer.old (came_of found buf.now) engine.old.core.config
-        (past_of engine.old.journal.entries) (world_of (seen engine.old)) side now
-        (records (C.recorded client.old) (V.recorded venue.old))
-        (records (C.recorded client.new) (V.recorded venue.new))))) }
-    ensures taps { Watched (state_by has_failed entries tally counts_all refused)
-        taps.old.items taps.new.items engine.old.journal.entries
-        engine.new.journal.entries }
-    ensures kept { IfErr result (λ end. LeavesOf (D.bytes disk.old) (D.image disk.old)
-        (D.image disk.new) engine.old.core.config.names
-        (WereCommitted end engine.new.journal.entries)) }
-    ensures only { IfErr result (EndsEvent (D.bytes disk.old)) }
-    ensures journal_cause { IfErr result (λ end. IsCauseIn end (seen engine.new)) }
-    ensures told { is_some (D.bytes disk.new) ≡ is_some (D.bytes disk.old) }
-    ensures cause { HasCauseOf (D.faults disk.old) (D.faults disk.new) result }
+    ensures dealt { (bodies : List (List ℕ))
+        × Arrived side framer.old framer.new (came_of found buf.now) bodies result
+        × Dealt (state_by has_failed entries tally counts_all refused) taps.old.items
+        taps.new.items
+        (around (seen engine.old) (D.bytes disk.old) (D.image disk.old) (D.faults disk.old)
+        (C.recorded client.old) (V.recorded venue.old))
+        (around (seen engine.new) (D.bytes disk.new) (D.image disk.new) (D.faults disk.new)
+        (C.recorded client.new) (V.recorded venue.new))
+        (events_of side (came_of found buf.now) bodies) now result }
     ensures client_polls { C.polls client.new ≡ C.polls client.old }
     ensures venue_polls { V.polls venue.new ≡ V.polls venue.old }
     ensures client_plays { Keeps (C.plays client.old) (C.plays client.new) }
@@ -325,35 +258,14 @@ pub(crate) fn turn<D: Disk, C: Wire, V: Wire>(
     requires moment { now ≤ MAX_AT }
     requires drained { IsDrained side framer.old }
     requires room { length buf.old ≡ POLL_LEN }
-    ensures config { engine.new.core.config ≡ engine.old.core.config }
-    ensures past { OnOk result
-        (past_of engine.new.journal.entries ≡ past_of engine.old.journal.entries) }
-    ensures ready { OnOk result (Ready (seen engine.new) (D.bytes disk.new)
-        (C.recorded client.new) (V.recorded venue.new)) }
+    ensures turn { TurnOver (state_by has_failed entries tally counts_all refused) taps.old.items
+        taps.new.items
+        (around (seen engine.old) (D.bytes disk.old) (D.image disk.old) (D.faults disk.old)
+        (C.recorded client.old) (V.recorded venue.old))
+        (around (seen engine.new) (D.bytes disk.new) (D.image disk.new) (D.faults disk.new)
+        (C.recorded client.new) (V.recorded venue.new)) side framer.old framer.new now
+        result }
     ensures drained { OnOk result (IsDrained side framer.new) }
-    ensures turn { OnOk result (IfTold (D.bytes disk.old)
-        (Turned side framer.old framer.new engine.old.core.config
-        (world_of (seen engine.old)) now (world_of (seen engine.new))
-        (records (C.recorded client.old) (V.recorded venue.old))
-        (records (C.recorded client.new) (V.recorded venue.new)))) }
-    ensures durable { OnOk result (HasOneImage (D.bytes disk.old) (D.image disk.old) →
-        HasOneImage (D.bytes disk.new) (D.image disk.new)) }
-    ensures ends { IfErr result (λ end. LeavesOf (D.bytes disk.old) (D.image disk.old)
-        (D.image disk.new) engine.old.core.config.names (Behind (past_of engine.old.journal.entries)
-        (TurnBroken end side framer.old engine.old.core.config
-        (past_of engine.old.journal.entries) (world_of (seen engine.old)) now
-        (records (C.recorded client.old) (V.recorded venue.old))
-        (records (C.recorded client.new) (V.recorded venue.new))))) }
-    ensures taps { Watched (state_by has_failed entries tally counts_all refused)
-        taps.old.items taps.new.items engine.old.journal.entries
-        engine.new.journal.entries }
-    ensures kept { IfErr result (λ end. LeavesOf (D.bytes disk.old) (D.image disk.old)
-        (D.image disk.new) engine.old.core.config.names
-        (WereCommitted end engine.new.journal.entries)) }
-    ensures only { IfErr result (EndsEvent (D.bytes disk.old)) }
-    ensures journal_cause { IfErr result (λ end. IsCauseIn end (seen engine.new)) }
-    ensures told { is_some (D.bytes disk.new) ≡ is_some (D.bytes disk.old) }
-    ensures cause { HasCauseOf (D.faults disk.old) (D.faults disk.new) result }
     ensures client_polls { C.polls client.new
         ≡ polls_after Side.Client side (C.polls client.old) }
     ensures venue_polls { V.polls venue.new ≡ polls_after Side.Venue side (V.polls venue.old) }

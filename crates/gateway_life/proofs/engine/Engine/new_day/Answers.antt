@@ -1,17 +1,17 @@
-use Rattle.std.proofs.Common.{◌∙◌, ◌++◌, ap, refl, sym}
+use Rattle.std.proofs.Common.{◌∙◌, ◌++◌, ap, sym, subst}
 use Rattle.std.specs.Option.{option_to_list}
+use Rattle.wire_sends.specs.Sent.{Agrees}
+use Rattle.gateway_life.specs.declared.engine.Made.{Made}
 use Rattle.gateway_life.specs.State.{seen}
 use Rattle.gateway_life.specs.Fails.{IsWhyOfDay}
 use Rattle.gateway_life.specs.Ready.{LeavesOf}
 use Rattle.gateway_life.specs.Rounds.{MayTurn}
-use Rattle.gateway_life.specs.Stepped.{EndsEvent}
 use Rattle.gateway_life.specs.Watched.{WereCommitted}
-use Rattle.gateway_life.specs.Causes.{IsCause}
-use Rattle.gateway_life.proofs.NewDay.{ready_hung, world_fresh, hung_whole, were_turned}
-use Rattle.gateway_life.proofs.NewDay.{why_event, why_cause}
-use Rattle.gateway_life.proofs.Polling.{err_leaves}
-use Rattle.gateway_life.proofs.Telling.{err_is}
+use Rattle.gateway_life.proofs.NewDay.{ready_hung, world_fresh, hung_whole, were_turned, why_event}
+use Rattle.gateway_life.proofs.NewDay.{why_cause}
+use Rattle.gateway_life.proofs.Telling.{err_is, leaves_map}
 use Rattle.gateway_life.proofs.Watching.{watched_none}
+use Rattle.gateway_life.proofs.Dealing.{cause_err, kept_err}
 use Rattle.gateway_life.proofs.engine.Engine.new_day.Goals as goal
 
 pub decide-requires-clause-ready : goal.decide-requires-clause-ready
@@ -39,12 +39,30 @@ pub returns-clause-venue_hung : goal.returns-clause-venue_hung
 returns-clause-venue_hung g c = hung_whole _ _ c.args.self.now.venue_up _
     c.hang_up_on-self-2.ensures.hung
 
-pub returns-clause-taps : goal.returns-clause-taps
-returns-clause-taps g c = record {
-  more = option_to_list c.in_ok-day.day.entry;
-  goes_on = c.in_ok-day.ensures.entries;
-  seen = c.show.ensures;
-}
+pub returns-clause-kept : goal.returns-clause-kept
+returns-clause-kept g c =
+    let day = c.in_ok-day.ensures in
+    record {
+      config = day.config;
+      ready = record {
+        ready = day.ready;
+        client = subst (λ u. Agrees (g.C.Wire.recorded c.hang_up_on-self.new.wire) u)
+            (sym day.up.0) c.hang_up_on-self.ensures.agrees;
+        venue = subst (λ u. Agrees (g.V.Wire.recorded c.hang_up_on-self-2.new.wire) u)
+            (sym day.up.1) c.hang_up_on-self-2.ensures.agrees;
+      };
+      durable = day.durable;
+      taps = record {
+        more = option_to_list c.in_ok-day.day.entry;
+        goes_on = day.entries;
+        seen = c.show.ensures;
+      };
+      left = tt;
+      only = tt;
+      journal_cause = tt;
+      told = day.told;
+      cause = day.cause;
+    }
 
 pub returns-in_err-day-clause-client_hung : goal.returns-in_err-day-clause-client_hung
 returns-in_err-day-clause-client_hung g c = hung_whole _ _ c.args.self.now.client_up _
@@ -72,33 +90,24 @@ returns-in_err-day-clause-why g c =
 
 pub returns-in_err-day-clause-kept : goal.returns-in_err-day-clause-kept
 returns-in_err-day-clause-kept g c =
-    let old = c.args.self.now in
-    err_leaves c.from_residual.result c.in_err-day.field-0.0 (g.D.Disk.bytes c.args.disk.now)
-    (g.D.Disk.bytes c.args.disk.now) _ _ _ old.core.config.names old.core.config.names
-    (MayTurn c.in_err-day.field-0.0 old.journal.entries c.args.now)
-    (λ end. WereCommitted end c.decide.new.self.journal.entries) c.from_residual.ensures.1 refl
-    (λ one. one) refl (λ xs. were_turned c.in_err-day.field-0.0 old.journal.entries
-    c.decide.new.self.journal.entries c.args.now xs c.in_err-day.ensures.refused.2)
-    c.in_err-day.ensures.images
-
-pub returns-in_err-day-clause-only : goal.returns-in_err-day-clause-only
-returns-in_err-day-clause-only g c =
-    err_is c.from_residual.result c.in_err-day.field-0.0
-    (EndsEvent (g.D.Disk.bytes c.args.disk.now)) c.from_residual.ensures.1
-    (why_event c.in_err-day.field-0.0 _ _ _ _ c.in_err-day.ensures.why)
-
-pub returns-in_err-day-clause-journal_cause : goal.returns-in_err-day-clause-journal_cause
-returns-in_err-day-clause-journal_cause g c =
-    let old = c.args.self.now in
-    err_is c.from_residual.result c.in_err-day.field-0.0
-    (λ end. IsCause end c.decide.new.self.core.config.names c.decide.new.self.journal.entries)
-    c.from_residual.ensures.1
-    (why_cause c.in_err-day.field-0.0 old.core.config.names c.decide.new.self.core.config.names
-    old.journal.entries c.decide.new.self.journal.entries c.args.now c.requires.moment
-    (ap (λ k. k.names) (sym c.decide.ensures.config)) c.in_err-day.ensures.refused.2
-    c.in_err-day.ensures.why)
-
-pub returns-in_err-day-clause-taps : goal.returns-in_err-day-clause-taps
-returns-in_err-day-clause-taps g c = watched_none _ c.args.taps.now.items
-    c.args.self.now.journal.entries c.decide.new.self.journal.entries
-    c.in_err-day.ensures.refused.2
+    let old = seen c.args.self.now in
+    let error = c.in_err-day.field-0.0 in
+    let day = c.in_err-day.ensures in
+    let entries = c.decide.new.self.journal.entries in
+    let told = g.D.Disk.bytes c.args.disk.now in
+    kept_err _ c.from_residual.result error _ _ _ _ c.from_residual.ensures.1 (record {
+      config = c.decide.ensures.config;
+      ready = tt;
+      durable = tt;
+      taps = watched_none _ c.args.taps.now.items old.journal.entries entries day.refused.2;
+      left = leaves_map told _ _ old.core.config.names
+          (MayTurn error old.journal.entries c.args.now) (WereCommitted error entries)
+          (λ xs. were_turned error old.journal.entries entries c.args.now xs day.refused.2)
+          day.images;
+      only = why_event error _ _ _ _ day.why;
+      journal_cause = why_cause error old.core.config.names c.decide.new.self.core.config.names
+          old.journal.entries entries c.args.now c.requires.moment
+          (ap (λ k. k.names) (sym c.decide.ensures.config)) day.refused.2 day.why;
+      told = c.decide.ensures.told;
+      cause = cause_err Made (Unit {0}) _ _ error day.cause;
+    })
