@@ -210,14 +210,11 @@ all_taken : (take : MessagesAreTaken) (names : Names) → AreShown names → (da
     (client venue : List (List Connection)) → AllEntries days
     → AllLeave Answers names days client venue → AllTaken names days client venue
 all_taken take names shown [] [] [] sound all = tt
-all_taken take names shown [] [] (v ∷ vs) sound all = absurd all
-all_taken take names shown [] (c ∷ cs) venue sound all = absurd all
-all_taken take names shown (day ∷ days) [] venue sound all = absurd all
-all_taken take names shown (day ∷ days) (c ∷ cs) [] sound all = absurd all
 all_taken take names shown (day ∷ days) (c ∷ cs) (v ∷ vs) sound all = (
   take names day c v all.0 shown sound.0,
   all_taken take names shown days cs vs sound.1 all.1,
 )
+all_taken take names shown days client venue sound all = absurd all
 
 pub accounted : MessagesAreTaken → (names : Names) (entries : List Entry)
     (client venue : Transcript) → DaysGoOn first_numbers entries

@@ -50,15 +50,7 @@ use Rattle.gateway_life.specs.Causes.{IsCause}
 asks_says : (input : session.Input) (acts : List Act) → asks input acts ≡ true → says acts ≡ 0
 asks_says (session.Message head) [] is = refl
 asks_says (session.Message head) (Take ∷ []) is = refl
-asks_says (session.Message head) (Take ∷ (act ∷ acts)) is = absurd (cc is)
-asks_says (session.Message head) (Skip ∷ acts) is = absurd (cc is)
-asks_says (session.Message head) (Say a ∷ acts) is = absurd (cc is)
-asks_says (session.Message head) (Resend from to ∷ acts) is = absurd (cc is)
-asks_says (session.Message head) (HangUp ∷ acts) is = absurd (cc is)
-asks_says session.Opened acts is = absurd (cc is)
-asks_says session.Closed acts is = absurd (cc is)
-asks_says session.Tick acts is = absurd (cc is)
-asks_says session.End acts is = absurd (cc is)
+asks_says input acts is = absurd (cc is)
 
 -- words answer what was asked alone
 asked_says : (before : List Entry) (active : Bool) (input : session.Input) (acts : List Act)

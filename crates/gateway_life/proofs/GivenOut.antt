@@ -175,13 +175,9 @@ low_clear expected got =
 
 logout_clear : (reason : Why) → IsClear (logout_text reason)
 logout_clear (why.TooLow expected got) = low_clear expected got
-logout_clear why.NoNumber = refl
 logout_clear (why.Logon tag) =
     both_clear (codes "Logon refused, tag ") (decimal tag) refl (decimal_clear tag)
-logout_clear why.CompId = refl
-logout_clear why.Clock = refl
-logout_clear why.Answer = refl
-logout_clear why.End = refl
+logout_clear reason = refl
 
 logout_is : (text : List ℕ) → IsClear text → IsContent (logout_fields text)
 logout_is text clear = by (length text == 0)
@@ -291,11 +287,7 @@ record IsAdminType (a : Admin) : Type 0 where
 
 admin_type : (a : Admin) → IsAdminType a
 admin_type (admin.Logon reset) = record { plain = refl; no_reset = refl; admin = refl }
-admin_type (admin.Logout reason) = record { plain = refl; no_reset = refl; admin = refl }
-admin_type (admin.Heartbeat echo) = record { plain = refl; no_reset = refl; admin = refl }
-admin_type admin.TestRequest = record { plain = refl; no_reset = refl; admin = refl }
-admin_type (admin.ResendRequest from) = record { plain = refl; no_reset = refl; admin = refl }
-admin_type (admin.Reject tag reason) = record { plain = refl; no_reset = refl; admin = refl }
+admin_type a = record { plain = refl; no_reset = refl; admin = refl }
 
 session_said : (side : Side) (a : Admin) (heart n number : ℕ) (msg_type echo : List ℕ)
     → IsClear msg_type → IsClear echo
@@ -321,11 +313,7 @@ says_said side heart h n (Say a ∷ acts) clear also = (
   session_said side a heart n h.number h.msg_type h.echo clear also,
   says_said side heart h (n + 1) acts clear also,
 )
-says_said side heart h n (Take ∷ acts) clear also = says_said side heart h n acts clear also
-says_said side heart h n (Skip ∷ acts) clear also = says_said side heart h n acts clear also
-says_said side heart h n (Resend from to ∷ acts) clear also =
-    says_said side heart h n acts clear also
-says_said side heart h n (HangUp ∷ acts) clear also = says_said side heart h n acts clear also
+says_said side heart h n (act ∷ acts) clear also = says_said side heart h n acts clear also
 
 both_said : (xs ys : List Out) → AreSaid xs → AreSaid ys → AreSaid (xs ++ ys)
 both_said [] ys a b = b

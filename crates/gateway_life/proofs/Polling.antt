@@ -49,15 +49,12 @@ part_tail : (side : Side) (read : List ℕ) (came : Came) (first more : List (Li
     → AreNew side read came (first ++ more)
     → (rest : List Event)
     × (events_of side came (first ++ more) ++ Tick side ∷ [] ≡ events_of side came first ++ rest)
-part_tail side read wire.Nothing first more new = (Tick side ∷ [], refl)
-part_tail side read wire.Opened first more new = (Tick side ∷ [], refl)
 part_tail side read (wire.Bytes bytes) first more new = (
   map (Frame side) more ++ Tick side ∷ [],
   ap (λ l. l ++ Tick side ∷ []) (map-append (Frame side) first more)
       ∙ append_assoc (map (Frame side) first) (map (Frame side) more) (Tick side ∷ []),
 )
-part_tail side read wire.Closed first more new = (Tick side ∷ [], refl)
-part_tail side read wire.Broken first more new = (Tick side ∷ [], refl)
+part_tail side read came first more new = (Tick side ∷ [], refl)
 
 module _ {T : Type 0} (state : T → TapState) (taps0 taps1 : List T) (old polled : EngineState)
     (disk : Option (List ℕ)) (image : List ℕ → Type 0) (faults : ℕ) (r0 r1 : Records)

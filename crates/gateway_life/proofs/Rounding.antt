@@ -79,20 +79,16 @@ module _ (config : Config) where
 
 if_bytes : (came : Came) (up : Bool) (P : Type 0) → may_come up came ≡ true → (up ≡ true → P)
     → IfBytes came P
-if_bytes wire.Nothing up P may to = tt
-if_bytes wire.Opened up P may to = tt
 if_bytes (wire.Bytes []) up P may to = absurd (cc may)
 if_bytes (wire.Bytes (byte ∷ bytes)) up P may to = to may
-if_bytes wire.Closed up P may to = tt
-if_bytes wire.Broken up P may to = tt
+if_bytes came up P may to = tt
 
 unless_opened : (came : Came) (up : Bool) (P : Type 0) → up_after up came ≡ true → (up ≡ true → P)
     → UnlessOpened came P
 unless_opened wire.Nothing up P still to = to still
 unless_opened wire.Opened up P still to = tt
 unless_opened (wire.Bytes bytes) up P still to = to still
-unless_opened wire.Closed up P still to = absurd (cc still)
-unless_opened wire.Broken up P still to = absurd (cc still)
+unless_opened came up P still to = absurd (cc still)
 
 up_with : (side : Side) (b : Bool) (w : World) → up_on side (with_up side b w) ≡ b
 up_with Client b w = refl
