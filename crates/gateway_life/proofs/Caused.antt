@@ -13,7 +13,7 @@ use Rattle.session_core.specs.declared.session.Session.{Session}
 use Rattle.session_core.specs.declared.session.Spent.{Spent}
 use Rattle.session_core.specs.declared.session.Step.{Step}
 use Rattle.session_core.specs.declared.act.Act.{Act}
-use Rattle.session_core.specs.declared.act.Act.TheVariants.{Take, Skip, Say, Resend, HangUp}
+use Rattle.session_core.specs.declared.act.Act.TheVariants.{Take}
 use Rattle.session_core.specs.Laws.{Always}
 use Rattle.session_core.specs.Table as session
 use Rattle.session_core.specs.Table.{says}

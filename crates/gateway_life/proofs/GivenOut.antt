@@ -23,7 +23,7 @@ use Rattle.field_groups.specs.Field.{Field, AreFields, IsPlainField, body_of, is
 use Rattle.field_groups.proofs.Plain.{plain_is, is_plain}
 use Rattle.message_tables.specs.Tables.{value_at}
 use Rattle.session_core.specs.declared.act.Act.{Act}
-use Rattle.session_core.specs.declared.act.Act.TheVariants.{Take, Skip, Say, Resend, HangUp}
+use Rattle.session_core.specs.declared.act.Act.TheVariants.{Say}
 use Rattle.session_core.specs.declared.act.Admin.{Admin}
 use Rattle.session_core.specs.declared.act.Admin.TheVariants as admin
 use Rattle.session_core.specs.declared.act.Why.{Why}
