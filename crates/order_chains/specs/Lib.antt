@@ -1,2 +1,2 @@
 pub mod Chains
-pub mod Kept
+pub mod Id

@@ -3,45 +3,36 @@
 ghost use Rattle.std.specs.Prelude.{◌≡◌, ◌-◌, ◌<◌, [], length, take, IfOk, OnOk};
 ghost use Rattle.std.specs.Prelude.{OnErr};
 ghost use Rattle.std.specs.Option.{option_map};
-ghost use Rattle.order_chains.specs.Chains.{has_id, orig_of, number_of, with_item, AreDistinct};
+ghost use Rattle.order_chains.specs.Chains.{has_id, item_with, orig_of, number_of, with_item};
+ghost use Rattle.order_chains.specs.Chains.{AreDistinct};
 
 use crate::ItemRef;
-use crate::item::copied;
-use indexmap::IndexMap;
-use order_meaning::Bytes;
+use crate::held::Held;
+use indexmap::IndexSet;
 use std::alloc::{AllocError, Global};
 use std::marker::Model;
 
 /// How many items have room from the start.
 const FIRST_ROOM: usize = 64;
 
-/// What is kept of an item beside its id.
-#[derive(Debug, Drop)]
-struct Kept {
-    orig: Option<Bytes>,
-    number: u32,
-    letter: u8,
-}
-
 /// The requests of type D, F and G that were forwarded, in order, seen as the list of them. No two
 /// have one id.
 #[derive(Drop)]
 pub struct Chains {
-    items: IndexMap<Vec<u8>, Kept>,
+    items: IndexSet<Held<'static>>,
 }
 
 impl Model for Chains {
-    ghost use Rattle.std.specs.Prelude.{List, map};
+    ghost use Rattle.std.specs.Prelude.{List};
     ghost use Rattle.order_chains.specs.declared.item.ChainItem.{ChainItem};
-    ghost use Rattle.order_chains.specs.Kept.{item_of};
 
     ghost Value = { List ChainItem };
 
-    ghost view = { λ c. map item_of c.items.entries };
+    ghost view = { λ c. c.items.keys };
 
     ghost use Rattle.order_chains.specs.Chains.{AreDistinct};
 
-    ghost invariant = { λ c. AreDistinct (map item_of c.items.entries) };
+    ghost invariant = { λ c. AreDistinct c.items.keys };
 }
 
 impl Chains {
@@ -54,7 +45,7 @@ impl Chains {
         ensures { IfOk result (λ chains. chains ≡ []) }
     {
         Ok(Chains {
-            items: IndexMap::with_capacity(alloc, FIRST_ROOM)?,
+            items: IndexSet::with_capacity(alloc, FIRST_ROOM)?,
         })
     }
 
@@ -69,14 +60,8 @@ impl Chains {
         ensures err { OnErr result (self.new ≡ self.old) }
     {
         let alloc = *self.items.allocator();
-        let key = Vec::from_slice(alloc, item.id)?;
-        let orig = copied(alloc, item.orig)?;
-        let kept = Kept {
-            orig,
-            number: item.number,
-            letter: item.letter,
-        };
-        let _ = self.items.entry(key)?.or_insert(kept);
+        let held = Held::of(alloc, item)?;
+        let _ = self.items.insert(held)?;
         Ok(())
     }
 
@@ -96,15 +81,21 @@ impl Chains {
         self.items.clear();
     }
 
+    // The item with this ClOrdID(11). It is found by its place, since the id is lent for the look-up
+    // alone.
+    fn held(&self, id: &[u8]) -> Option<&Held<'static>>
+        ensures { option_map (λ held. held.now) result ≡ item_with self.now id.now }
+    {
+        let (place, _) = self.items.get_full(&Held::with_id(id))?;
+        self.items.get_index(place)
+    }
+
     /// The OrigClOrdID(41) of the item with this ClOrdID(11): none where no item has the id, and
     /// where the item has none, as that of a D. It takes no memory.
     pub fn orig_of(&self, id: &[u8]) -> Option<&[u8]>
         ensures { option_map (λ orig. orig.now) result ≡ orig_of self.now id.now }
     {
-        match &self.items.get(id)?.orig {
-            Some(orig) => Some(orig.as_slice()),
-            None => None,
-        }
+        self.held(id)?.orig()
     }
 
     /// MsgSeqNum(34) of the client's message and MsgType(35) of the item with this ClOrdID(11),
@@ -112,8 +103,7 @@ impl Chains {
     pub fn number_of(&self, id: &[u8]) -> Option<(u32, u8)>
         ensures { result ≡ number_of self.now id.now }
     {
-        let kept = self.items.get(id)?;
-        Some((kept.number, kept.letter))
+        Some(self.held(id)?.number())
     }
 
     /// Whether an item has this ClOrdID(11). It takes no memory.
@@ -121,6 +111,7 @@ impl Chains {
         ensures has { result ≡ has_id self.now id.now }
         ensures distinct { AreDistinct self.now }
     {
-        self.items.contains_key(id)
+        let _ = &self.items; // brings the invariant into scope
+        self.held(id).is_some()
     }
 }

@@ -5,6 +5,8 @@
 #![tactic(auto)]
 
 mod chains;
+mod held;
+mod id;
 mod item;
 
 pub use chains::Chains;
