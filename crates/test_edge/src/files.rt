@@ -38,12 +38,16 @@ fn is_private(rt: &HostRuntime, path: &str) -> io::Result<bool> {
     Ok(fs::metadata(rt, path)?.mode() & 0o777 == 0o600)
 }
 
+/// Whether a new journal at this path takes six bytes, and its file is the owner's alone.
+fn is_made(rt: &HostRuntime, path: &str) -> io::Result<bool> {
+    let mut disk = JournalFile::new(rt, path);
+    Ok(takes(&mut disk) && is_private(rt, path)?)
+}
+
 #[test]
 fn a_journal_is_made_for_its_owner_alone(rt: HostRuntime) -> Result<(), Fail> {
     let path = own_path(&rt, ".made")?;
-    let mut disk = JournalFile::new(&rt, path.as_str());
-    assert!(rt; takes(&mut disk));
-    assert!(rt; is_private(&rt, path.as_str())?);
+    assert!(rt; is_made(&rt, path.as_str())?);
     fs::remove_file(&rt, path.as_str())?;
     Ok(())
 }
@@ -79,12 +83,16 @@ fn is_kept<R: Files<File = File>>(
     Ok(disk.len() == Ok(6) && reads(disk, 3, b"def") && disk.refusal(alloc)?.is_none())
 }
 
+/// Whether a second journal at this path is refused so, and keeps the six bytes then.
+fn is_locked_and_kept(rt: &HostRuntime, path: &str) -> Result<bool, AllocError> {
+    let mut second = JournalFile::new(rt, path);
+    Ok(is_locked(rt, path, &mut second)? && is_kept(rt.alloc(), &mut second)?)
+}
+
 #[test]
 fn a_journal_is_locked_and_kept(rt: HostRuntime) -> Result<(), Fail> {
     let path = own_path(&rt, ".kept")?;
-    let mut second = JournalFile::new(&rt, path.as_str());
-    assert!(rt; is_locked(&rt, path.as_str(), &mut second)?);
-    assert!(rt; is_kept(rt.alloc(), &mut second)?);
+    assert!(rt; is_locked_and_kept(&rt, path.as_str())?);
     fs::remove_file(&rt, path.as_str())?;
     Ok(())
 }

@@ -142,14 +142,26 @@ fn serves_a_client<P: Peer + Drop, K: Clock + Drop>(
     )
 }
 
+/// The edge of a test, which it hands on whole: what it leaves of it would be dropped at each return.
+type OwnEdge<'a> = Edge<'a, HostRuntime, &'a Printed>;
+
+/// Whether the client's wire of an edge does.
+fn edge_serves_a_client(
+    rt: &HostRuntime,
+    edge: OwnEdge<'_>,
+    address: SocketAddr,
+    lines: &Printed,
+) -> io::Result<bool> {
+    serves_a_client(rt, edge.client, edge.clock, address, lines)
+}
+
 #[test]
 fn a_client_opens_speaks_and_closes(rt: HostRuntime) -> Result<(), Fail> {
     let shared = Shared::new();
     let lines = Printed::new(&rt);
     let at = free_pair(&rt)?;
     let edge = Edge::new(&rt, &shared, at, StopFile::new("no-such-file"), &lines)?;
-    let serves = serves_a_client(&rt, edge.client, edge.clock, at.listen, &lines)?;
-    assert!(rt; serves);
+    assert!(rt; edge_serves_a_client(&rt, edge, at.listen, &lines)?);
     Ok(())
 }
 
@@ -197,14 +209,23 @@ fn calls_a_venue<P: Peer + Drop, K: Clock + Drop>(
     )
 }
 
+/// Whether the venue's wire of an edge does.
+fn edge_calls_a_venue(
+    rt: &HostRuntime,
+    edge: OwnEdge<'_>,
+    address: SocketAddr,
+    lines: &Printed,
+) -> io::Result<bool> {
+    calls_a_venue(rt, edge.venue, edge.clock, address, lines)
+}
+
 #[test]
 fn a_venue_is_called_and_hung_up(rt: HostRuntime) -> Result<(), Fail> {
     let shared = Shared::new();
     let lines = Printed::new(&rt);
     let at = free_pair(&rt)?;
     let edge = Edge::new(&rt, &shared, at, StopFile::new("no-such-file"), &lines)?;
-    let calls = calls_a_venue(&rt, edge.venue, edge.clock, at.connect, &lines)?;
-    assert!(rt; calls);
+    assert!(rt; edge_calls_a_venue(&rt, edge, at.connect, &lines)?);
     Ok(())
 }
 
@@ -219,12 +240,17 @@ fn misses_a_venue<P: Peer + Drop, K: Clock + Drop>(
         && cannot_say(&mut venue)
 }
 
+/// Whether the venue's wire of an edge does.
+fn edge_misses_a_venue(edge: OwnEdge<'_>, lines: &Printed) -> bool {
+    misses_a_venue(edge.venue, edge.clock, lines)
+}
+
 #[test]
 fn a_venue_that_is_not_there_is_told(rt: HostRuntime) -> Result<(), Fail> {
     let shared = Shared::new();
     let lines = Printed::new(&rt);
     let at = free_pair(&rt)?;
     let edge = Edge::new(&rt, &shared, at, StopFile::new("no-such-file"), &lines)?;
-    assert!(rt; misses_a_venue(edge.venue, edge.clock, &lines));
+    assert!(rt; edge_misses_a_venue(edge, &lines));
     Ok(())
 }

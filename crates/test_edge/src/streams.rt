@@ -1,6 +1,8 @@
 //! Readers and writers of few bytes, which fail, as sources, as sinks, and below what waits for a
 //! peer.
 
+ghost use Rattle.std.specs.Prelude.{◌≡◌, false};
+
 use crate::narrow::Narrow;
 use edge_logic::Outbox;
 use edge_system::{Reading, Writing};
@@ -41,22 +43,34 @@ fn a_piece_is_written_whole_or_the_fault_is_counted(rt: HostRuntime) {
     assert!(rt; takes_ten(rt.alloc(), Some(ErrorKind::Other)));
 }
 
+/// Whether a source gives one byte, and its next read fails.
+fn gives_and_fails(source: &mut Reading<Broken>) -> bool
+    requires { source.old.ended ≡ false }
+{
+    let mut buf = [0u8; 4];
+    let gives = source.read(&mut buf) == Ok(1) && buf[0] == b'8' && source.faults == 0;
+    gives && source.read(&mut buf) == Err(Failed) && source.faults == 1 && !source.ended
+}
+
 #[test]
 fn a_read_gives_what_came_or_counts_the_fault(rt: HostRuntime) {
     let mut source = Reading::new(Broken { calls: 0 });
+    assert!(rt; gives_and_fails(&mut source));
+}
+
+/// Whether a source gives one byte, and then its end.
+fn gives_and_ends(source: &mut Reading<&[u8]>) -> bool
+    requires { source.old.ended ≡ false }
+{
     let mut buf = [0u8; 4];
-    assert_eq!(rt; source.read(&mut buf), Ok(1));
-    assert_eq!(rt; (buf[0], source.faults), (b'8', 0));
-    assert_eq!(rt; source.read(&mut buf), Err(Failed));
-    assert_eq!(rt; (source.faults, source.ended), (1, false));
+    let gives = source.read(&mut buf) == Ok(1) && !source.ended;
+    gives && source.read(&mut buf) == Ok(0) && source.ended
 }
 
 #[test]
 fn a_read_tells_the_end(rt: HostRuntime) {
     let mut source = Reading::new(b"8".as_slice());
-    let mut buf = [0u8; 4];
-    assert_eq!(rt; (source.read(&mut buf), source.ended), (Ok(1), false));
-    assert_eq!(rt; (source.read(&mut buf), source.ended), (Ok(0), true));
+    assert!(rt; gives_and_ends(&mut source));
 }
 
 /// Whether two pieces wait in order where five bytes of them are taken.
@@ -76,12 +90,15 @@ fn goes_out(outbox: &mut Outbox, out: &mut Narrow) -> bool {
     outbox.is_empty() && out.taken.as_slice() == b"8=FIX.4.29=5".as_slice()
 }
 
+/// Whether it does both, and says for how long nothing was taken.
+fn waits_and_goes_out(outbox: &mut Outbox, out: &mut Narrow) -> bool {
+    let waits = waits(outbox, out) && outbox.took_nothing(5_011);
+    waits && goes_out(outbox, out) && !outbox.took_nothing(20_000)
+}
+
 #[test]
 fn what_is_not_taken_waits_in_order(rt: HostRuntime) {
     let mut out = Narrow::new(rt.alloc(), 5, Some(ErrorKind::WouldBlock));
     let mut outbox = Outbox::new(rt.alloc());
-    assert!(rt; waits(&mut outbox, &mut out));
-    assert!(rt; outbox.took_nothing(5_011));
-    assert!(rt; goes_out(&mut outbox, &mut out));
-    assert!(rt; !outbox.took_nothing(20_000));
+    assert!(rt; waits_and_goes_out(&mut outbox, &mut out));
 }
