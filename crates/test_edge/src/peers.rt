@@ -142,7 +142,8 @@ fn serves_a_client<P: Peer + Drop, K: Clock + Drop>(
     )
 }
 
-/// The edge of a test, which it hands on whole: what it leaves of it would be dropped at each return.
+/// The edge of a test, which it hands on whole: what it left of it would be dropped at each
+/// return.
 type OwnEdge<'a> = Edge<'a, HostRuntime, &'a Printed>;
 
 /// Whether the client's wire of an edge does.
