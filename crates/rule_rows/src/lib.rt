@@ -7,13 +7,15 @@
 #![tactic(auto)]
 
 mod group_lines;
+mod lacks;
 mod rules;
 mod source;
 mod texts;
 mod writing;
 
 pub use group_lines::{put_count, put_lines, put_one, put_text};
-pub use rules::{OwnRule, Rule};
+pub use lacks::first_lack;
+pub use rules::{Lacking, OwnRule, Rule};
 pub use source::Source;
 pub use texts::{code_of, decimal_of, kept, number_of, put_decimal, put_moment};
 pub use writing::put_rules;

@@ -49,3 +49,13 @@ pub trait OwnRule<B> {
         ensures lack { IfErr result (IsLackOf (lacks source.now self.now)) }
         ensures kept { StartsWith out.new.items out.old.items };
 }
+
+/// A kind of rule of a direction's own that tells what it cannot say, and writes nothing.
+pub trait Lacking<B> {
+    /// The tag that it cannot say, if any.
+    ghost lacks: { Read B → Self → Option ℕ };
+
+    /// The tag that it cannot say, if any. It takes no memory.
+    fn lack(&self, source: &Source<'_, '_, B>) -> Option<u32>
+        ensures { result ≡ lacks source.now self.now };
+}
