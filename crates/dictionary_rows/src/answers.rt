@@ -1,14 +1,15 @@
 //! The calls of rows.
 
 use crate::requests::Asked::{Content, Type};
+use crate::wires::SIGNS;
 use crate::words::answered;
 use crate::{downward, refusals, reports42, reports50, requests, upward};
-use row_words::Answers;
+use row_words::{Answers, Sign};
 use std::alloc::{AllocError, Global};
 
 /// The calls of the dictionaries, the translators and the refusals.
 #[derive(Drop)]
-pub(crate) struct Calls;
+pub struct Calls;
 
 impl Answers for Calls {
     fn answer(&mut self, alloc: Global, call: &str, given: &str) -> Result<Vec<u8>, AllocError> {
@@ -31,5 +32,9 @@ impl Answers for Calls {
             "away" => refusals::of_away(alloc, given),
             _ => answered(alloc, "no such call"),
         }
+    }
+
+    fn signs(&self) -> &'static [Sign] {
+        &SIGNS
     }
 }

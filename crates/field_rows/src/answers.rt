@@ -1,12 +1,12 @@
 //! The answer of each call.
 
 use crate::{framed, grouped, judged, laws, said, tabled, typed, written};
-use row_words::{Answers, SOH, bytes_of, put};
+use row_words::{Answers, SOH, Sign, bytes_of, put};
 use std::alloc::{AllocError, Global};
 
 /// The calls of the crates of fields, frames and tables.
 #[derive(Drop)]
-pub(crate) struct Calls;
+pub struct Calls;
 
 impl Answers for Calls {
     fn answer(&mut self, alloc: Global, call: &str, given: &str) -> Result<Vec<u8>, AllocError> {
@@ -16,6 +16,10 @@ impl Answers for Calls {
         let mut bytes = Vec::new(alloc);
         put(&mut bytes, &[SOH], &text)?;
         Ok(bytes)
+    }
+
+    fn signs(&self) -> &'static [Sign] {
+        &[SOH]
     }
 }
 

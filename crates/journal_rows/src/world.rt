@@ -2,21 +2,22 @@
 
 use crate::entries::entry_of;
 use crate::images::{Piece, bytes_of};
-use crate::texts::told;
+use crate::texts::{SIGNS, told};
 use crate::{disks, journals, logs, migrating, payloads, taps};
-use row_words::{Answers, behind, word};
+use row_words::{Answers, Sign, behind, word};
 use std::alloc::{AllocError, Global};
 
 /// Bytes of names, entries, and the bytes of a disk.
 #[derive(Drop)]
-pub(crate) struct World {
+pub struct World {
     pieces: Vec<Piece>,
     entries: Vec<Vec<u8>>,
     bytes: Vec<u8>,
 }
 
 impl World {
-    pub(crate) fn new(alloc: Global) -> World {
+    /// No bytes, and no entries.
+    pub fn new(alloc: Global) -> World {
         World {
             pieces: Vec::new(alloc),
             entries: Vec::new(alloc),
@@ -77,5 +78,9 @@ impl Answers for World {
     fn answer(&mut self, alloc: Global, call: &str, given: &str) -> Result<Vec<u8>, AllocError> {
         let text = self.text(alloc, call, given)?;
         Vec::from_slice(alloc, text.as_bytes())
+    }
+
+    fn signs(&self) -> &'static [Sign] {
+        &SIGNS
     }
 }

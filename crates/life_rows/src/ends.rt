@@ -6,7 +6,7 @@ use order_meaning::Side;
 use std::alloc::{AllocError, Global};
 
 /// One of each status but that of other names, which a row shows.
-pub(crate) const STATUSES: [Status; 13] = [
+const STATUSES: [Status; 13] = [
     Status::Done,
     Status::Refused { at: 143 },
     Status::Usage,
@@ -25,10 +25,24 @@ pub(crate) const STATUSES: [Status; 13] = [
 ];
 
 /// The code of a status, that of its end, how it is shown and what is printed at its end.
-pub(crate) fn status_lines(alloc: Global, status: Status) -> Result<String, AllocError> {
+fn status_lines(alloc: Global, status: Status) -> Result<String, AllocError> {
     let number = code(&status);
     let words = format!(in alloc; "{status}")?;
     let end = End::new(status);
     let ended = end.code();
     format!(in alloc; "{number} {ended} {words}\n{end}")
+}
+
+/// The lines of one of each status but that of other names.
+///
+/// # Errors
+///
+/// `AllocError` for want of memory.
+pub fn all_statuses(alloc: Global) -> Result<String, AllocError> {
+    let mut text = String::new(alloc);
+    for status in &STATUSES {
+        let lines = status_lines(alloc, *status)?;
+        text.push_str(&lines)?;
+    }
+    Ok(text)
 }

@@ -6,7 +6,7 @@ use crate::texts::SIGNS;
 use drop_taps::Tap;
 use gateway_top::{Status, run};
 use outside::{MemDisk, MemSink, MemSource};
-use row_words::{Answers, bytes_of, number_behind, shown};
+use row_words::{bytes_of, number_behind, shown};
 use std::alloc::{AllocError, Global};
 use wires::{ListClock, QuietWire};
 
@@ -220,8 +220,14 @@ impl Runs {
     }
 }
 
-impl Answers for Runs {
-    fn answer(&mut self, alloc: Global, call: &str, given: &str) -> Result<Vec<u8>, AllocError> {
+impl Runs {
+    // The answer to a row.
+    pub(crate) fn answer(
+        &mut self,
+        alloc: Global,
+        call: &str,
+        given: &str,
+    ) -> Result<Vec<u8>, AllocError> {
         let line = format!(in alloc; "{call} {given}")?;
         let (command, input) = line.split_once(" : ").unwrap_or((line.as_str(), ""));
         let (command, fault) = command.split_once(", ").unwrap_or((command, ""));
@@ -231,7 +237,7 @@ impl Answers for Runs {
 }
 
 /// What `--help` puts.
-pub(crate) fn help(alloc: Global) -> Result<String, AllocError> {
+pub fn help(alloc: Global) -> Result<String, AllocError> {
     let words = words_of(alloc, "fixgate --help")?;
     let mut sink = MemSink::new(alloc, Vec::new(alloc));
     let mut disk = MemDisk::new(alloc, Vec::new(alloc), Vec::new(alloc));

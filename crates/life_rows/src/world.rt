@@ -9,7 +9,7 @@ use crate::texts::SIGNS;
 use crate::wire_calls::{clock_text, quiet_text, wire_answer, wire_of};
 use gateway_top::Status;
 use outside::{Image, MemDisk};
-use row_words::{Answers, behind, long_number, put, shown, word};
+use row_words::{behind, long_number, put, shown, word};
 use std::alloc::{AllocError, Global};
 use wires::MemWire;
 
@@ -321,8 +321,14 @@ impl World {
     }
 }
 
-impl Answers for World {
-    fn answer(&mut self, alloc: Global, call: &str, given: &str) -> Result<Vec<u8>, AllocError> {
+impl World {
+    // The answer to a row.
+    pub(crate) fn answer(
+        &mut self,
+        alloc: Global,
+        call: &str,
+        given: &str,
+    ) -> Result<Vec<u8>, AllocError> {
         let text = self.text(alloc, call, given)?;
         let mut bytes = Vec::new(alloc);
         put(&mut bytes, &SIGNS, &text)?;

@@ -13,36 +13,38 @@ pub trait Answers {
     ///
     /// `AllocError` for want of memory.
     fn answer(&mut self, alloc: Global, call: &str, given: &str) -> Result<Vec<u8>, AllocError>;
+
+    /// What the bytes of the answer that is expected stand for.
+    fn signs(&self) -> &'static [Sign];
 }
 
-/// The answer to a row, where it is another than what is expected by these signs.
+/// The answer to a row, where it is another than what is expected.
 fn another<A: Answers>(
     alloc: Global,
-    signs: &[Sign],
     answers: &mut A,
     row: &Row<'_>,
 ) -> Result<Option<String>, AllocError> {
     let answer = answers.answer(alloc, row.call, row.given)?;
-    if answer == bytes_of(alloc, signs, row.expected)? {
+    if answer == bytes_of(alloc, answers.signs(), row.expected)? {
         return Ok(None);
     }
     Ok(Some(shown(alloc, &answer)?))
 }
 
-/// Tries the rows of standard input. Prints each whose answer is not what is expected by these
-/// signs, with the answer, and at the end how many rows there were, and how many of them differ.
+/// Tries the rows of standard input. Prints each whose answer is not what is expected, with the
+/// answer, and at the end how many rows there were, and how many of them differ.
 ///
 /// # Errors
 ///
 /// Those of the reads and writes, and want of memory.
-pub fn try_rows<A: Answers>(rt: &HostRuntime, signs: &[Sign], answers: &mut A) -> io::Result<()> {
+pub fn try_rows<A: Answers>(rt: &HostRuntime, answers: &mut A) -> io::Result<()> {
     let mut rows: u64 = 0;
     let mut differ: u64 = 0;
     for line in rt.lines(rt.alloc()) {
         let line = line?;
         if let Some(row) = row_of(line.as_str()) {
             rows = rows.saturating_add(1);
-            if let Some(answer) = another(rt.alloc(), signs, answers, &row)? {
+            if let Some(answer) = another(rt.alloc(), answers, &row)? {
                 differ = differ.saturating_add(1);
                 println!(rt; "{line}\n    is {answer}")?;
             }

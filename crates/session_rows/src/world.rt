@@ -7,13 +7,13 @@ use crate::{frames, logons, sessions};
 use gateway_core::Core;
 use order_meaning::Side;
 use pair_journal::Journal;
-use row_words::{Answers, SOH, behind, bytes_of, side_of, word};
+use row_words::{Answers, SOH, Sign, behind, bytes_of, side_of, word};
 use std::alloc::{AllocError, Global};
 
 /// The records of a journal and the number of its last day, and the journal and the core that were
 /// loaded from them.
 #[derive(Drop)]
-pub(crate) struct World {
+pub struct World {
     image: Vec<u8>,
     day: u32,
     loaded: Option<(Journal, Core)>,
@@ -69,7 +69,8 @@ fn session_answer(alloc: Global, call: &str, given: &str) -> Result<String, Allo
 }
 
 impl World {
-    pub(crate) fn new(alloc: Global) -> World {
+    /// No journal, and no records of one.
+    pub fn new(alloc: Global) -> World {
         World {
             image: Vec::new(alloc),
             day: 0,
@@ -140,5 +141,9 @@ impl Answers for World {
             "fill" => frames::gap_fill(alloc, given),
             _ => bytes_of(alloc, &[SOH], &self.text(alloc, call, given)?),
         }
+    }
+
+    fn signs(&self) -> &'static [Sign] {
+        &[SOH]
     }
 }
