@@ -48,30 +48,46 @@ asked42 kind = table42 (letter_of kind) (items42 kind)
 abbrev pub asked50 : RequestKind → Table Kind
 asked50 kind = table50 (letter_of kind) (items50 kind)
 
-module _ (P : List ℕ → Option (Table Kind) → Option (Table Kind) → Type 0)
+-- the table of a type, of those of what is asked for
+abbrev pub table_by : (RequestKind → Table Kind) → List ℕ → Option (Table Kind)
+table_by asked msg_type =
+    if bytes_eq msg_type (codes "D") then Some (asked New) else
+    (if bytes_eq msg_type (codes "F") then Some (asked Cancel) else
+    (if bytes_eq msg_type (codes "G") then Some (asked Replace) else
+    (if bytes_eq msg_type (codes "H") then Some (asked Status) else None)))
+
+module _ (one other : RequestKind → Table Kind)
+    (P : List ℕ → Option (Table Kind) → Option (Table Kind) → Type 0)
     (none : (msg_type : List ℕ) → P msg_type None None)
-    (each : (kind : RequestKind)
-    → P (letter_of kind ∷ []) (Some (asked42 kind)) (Some (asked50 kind)))
+    (each : (kind : RequestKind) → P (letter_of kind ∷ []) (Some (one kind)) (Some (other kind)))
     (msg_type : List ℕ) where
   of_kind : (kind : RequestKind) → bytes_eq msg_type (letter_of kind ∷ []) ≡ true
-      → P msg_type (Some (asked42 kind)) (Some (asked50 kind))
+      → P msg_type (Some (one kind)) (Some (other kind))
   of_kind kind e =
-      let Q : List ℕ → Type 0 = λ t. P t (Some (asked42 kind)) (Some (asked50 kind)) in
+      let Q : List ℕ → Type 0 = λ t. P t (Some (one kind)) (Some (other kind)) in
       subst Q (sym ((bytes_eq-Decides msg_type (letter_of kind ∷ [])).0 e)) (each kind)
 
-  pub by_type : P msg_type (message42.table_of msg_type) (message50.table_of msg_type)
-  by_type = by (bytes_eq msg_type (codes "D")) (bytes_eq msg_type (codes "F"))
+  pub by_tables : P msg_type (table_by one msg_type) (table_by other msg_type)
+  by_tables = by (bytes_eq msg_type (codes "D")) (bytes_eq msg_type (codes "F"))
       (bytes_eq msg_type (codes "G")) (bytes_eq msg_type (codes "H")) refl refl refl refl
     where
       by : (d f g h : Bool) → bytes_eq msg_type (codes "D") ≡ d → bytes_eq msg_type (codes "F") ≡ f
           → bytes_eq msg_type (codes "G") ≡ g → bytes_eq msg_type (codes "H") ≡ h
           → P msg_type
-          (if d then Some (asked42 New) else (if f then Some (asked42 Cancel) else
-          (if g then Some (asked42 Replace) else (if h then Some (asked42 Status) else None))))
-          (if d then Some (asked50 New) else (if f then Some (asked50 Cancel) else
-          (if g then Some (asked50 Replace) else (if h then Some (asked50 Status) else None))))
+          (if d then Some (one New) else (if f then Some (one Cancel) else
+          (if g then Some (one Replace) else (if h then Some (one Status) else None))))
+          (if d then Some (other New) else (if f then Some (other Cancel) else
+          (if g then Some (other Replace) else (if h then Some (other Status) else None))))
       by true f g h d' f' g' h' = of_kind New d'
       by false true g h d' f' g' h' = of_kind Cancel f'
       by false false true h d' f' g' h' = of_kind Replace g'
       by false false false true d' f' g' h' = of_kind Status h'
       by false false false false d' f' g' h' = none msg_type
+
+-- of the tables of FIX 4.2 and FIX 5.0 SP2
+pub by_type : (P : List ℕ → Option (Table Kind) → Option (Table Kind) → Type 0)
+    → ((msg_type : List ℕ) → P msg_type None None)
+    → ((kind : RequestKind)
+    → P (letter_of kind ∷ []) (Some (asked42 kind)) (Some (asked50 kind)))
+    → (msg_type : List ℕ) → P msg_type (message42.table_of msg_type) (message50.table_of msg_type)
+by_type = by_tables asked42 asked50

@@ -77,14 +77,6 @@ month_of_date (Some month) (Some day) six =
 
 -- the tables of the four requests go up
 table_goes : (kind : RequestKind) → GoesUp (items42 kind)
-table_goes New = record {
-  carried = refl;
-  rows = refl & refl & refl & refl & refl & refl & refl & refl & tt;
-  month_alone = refl;
-  date_alone = refl;
-  timed = refl;
-  type_alone = λ e. refl;
-}
 table_goes Cancel = record {
   carried = refl;
   rows = refl & refl & tt & tt & tt & refl & refl & tt & tt;
@@ -93,14 +85,6 @@ table_goes Cancel = record {
   timed = refl;
   type_alone = λ e. absurd cc;
 }
-table_goes Replace = record {
-  carried = refl;
-  rows = refl & refl & refl & refl & refl & refl & refl & refl & tt;
-  month_alone = refl;
-  date_alone = refl;
-  timed = refl;
-  type_alone = λ e. refl;
-}
 table_goes Status = record {
   carried = refl;
   rows = refl & refl & tt & tt & tt & refl & refl & tt & tt;
@@ -108,6 +92,14 @@ table_goes Status = record {
   date_alone = refl;
   timed = refl;
   type_alone = λ e. absurd cc;
+}
+table_goes kind = record {
+  carried = refl;
+  rows = refl & refl & refl & refl & refl & refl & refl & refl & tt;
+  month_alone = refl;
+  date_alone = refl;
+  timed = refl;
+  type_alone = λ e. refl;
 }
 
 -- ---- a message of a table that goes up

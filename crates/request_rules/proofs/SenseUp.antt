@@ -1,5 +1,5 @@
 -- What goes up by the rules means what it meant.
-use Rattle.std.proofs.Common.{◌≡◌, ℕ, [], ◌∷◌, map, Bool, true, false, Option, Some, None, refl}
+use Rattle.std.proofs.Common.{◌≡◌, ℕ, List, [], ◌∷◌, map, Bool, true, false, Option, Some, None, refl}
 use Rattle.std.proofs.Common.{sym, ap, subst, ◌∙◌, codes, unwrap_or, option_map, length}
 use Rattle.std.proofs.lemmas.Bool.{eqb-true}
 use Rattle.std.proofs.lemmas.List.{drop_at}
@@ -7,9 +7,9 @@ use Rattle.std.specs.Prelude.{IfSome, ◌==◌, ◌||◌, if◌then◌else◌}
 use Rattle.std.specs.Str.Parse.{digits_value}
 use Rattle.value_kinds.specs.ValueKind.{number_of_two}
 use Rattle.message_tables.specs.Tables.{Place, Tag, Role, Said, Message, ◌>>=◌, code_of, flag_of}
-use Rattle.message_tables.specs.Tables.{lines_of, said_at, code_if}
+use Rattle.message_tables.specs.Tables.{Cell, lines_of, said_at, code_if}
 use Rattle.order_meaning.specs.Request.{Request, RequestKind, New, Cancel, Replace, Status}
-use Rattle.order_meaning.specs.Request.{OrderType, MarketOnClose, LimitOnClose}
+use Rattle.order_meaning.specs.Request.{OrderType, MarketOnClose, LimitOnClose, NeutralMaturity}
 use Rattle.row_values.specs.Amounts.{amount_of, alloc_of, session_of}
 use Rattle.rows_fix42.specs.Meaning as meaning42
 use Rattle.rows_fix50.specs.Meaning as meaning50
@@ -35,7 +35,7 @@ same_maturity (Some month) (Some day) six two =
 
 -- ---- the terms of an order
 
-abbrev Terms : Type 0
+abbrev pub Terms : Type 0
 Terms = Option OrderType × Option ℕ
 
 -- what they mean in either version
@@ -121,6 +121,53 @@ module _ (time : Said) (other : IfSome (time >>= code_of) (λ code. (code == 55)
 
 -- ---- any request
 
+-- A REQUEST by what is said at the places of FIX 5.0 SP2, and by what is read otherwise
+abbrev pub request_by : RequestKind → (resend : Bool) → (Place → Said)
+    → (ℕ → List (List Cell)) → (inst : Option ℕ) → Option NeutralMaturity → Terms
+    → (capacity : Option ℕ) → Request
+request_by kind resend says lines inst mature term capacity = record {
+  kind = kind;
+  resend = resend;
+  cl_ord_id = unwrap_or (says (Tag 11)) [];
+  orig_id = says (Tag 41);
+  order_id = says (Tag 37);
+  client_id = says (Role 3);
+  exec_broker = says (Role 1);
+  clearing_firm = says (Role 4);
+  account = says (Tag 1);
+  allocs = map alloc_of (lines 78);
+  settl_type = says (Tag 63) >>= code_of;
+  settl_date = says (Tag 64);
+  hand_inst = inst;
+  exec_inst = says (Tag 18);
+  min_qty = says (Tag 110) >>= amount_of;
+  max_floor = says (Tag 1138) >>= amount_of;
+  ex_destination = says (Tag 100);
+  sessions = map session_of (lines 386);
+  symbol = unwrap_or (says (Tag 55)) [];
+  symbol_sfx = says (Tag 65);
+  security_id = says (Tag 48);
+  id_source = says (Tag 22) >>= code_of;
+  security_type = says (Tag 167);
+  maturity = mature;
+  security_exchange = says (Tag 207);
+  side = unwrap_or (says (Tag 54) >>= code_of) 0;
+  locate = option_map flag_of (says (Tag 114));
+  transact_time = says (Tag 60);
+  order_qty = says (Tag 38) >>= amount_of;
+  ord_type = term.0;
+  price = says (Tag 44) >>= amount_of;
+  stop_px = says (Tag 99) >>= amount_of;
+  currency = says (Tag 15);
+  time_in_force = term.1;
+  effective_time = says (Tag 168);
+  expire_date = says (Tag 432);
+  expire_time = says (Tag 126);
+  capacity = capacity;
+  open_close = says (Tag 77) >>= code_of;
+  text = says (Tag 58);
+}
+
 -- it lacks no time
 says_time : (ord_type : Option OrderType) (time capacity : Option ℕ)
     → lack_in ord_type time capacity ≡ None → lacks_time ord_type time ≡ false
@@ -160,48 +207,8 @@ module _ (m : Message) where
       (code_if m.cells 47) lack in
       let mature = maturity h in
       let term = terms h timed in
-      λ i. record {
-        kind = kind;
-        resend = m.resend;
-        cl_ord_id = unwrap_or (says (Tag 11) i) [];
-        orig_id = says (Tag 41) i;
-        order_id = says (Tag 37) i;
-        client_id = says (Role 3) i;
-        exec_broker = says (Role 1) i;
-        clearing_firm = says (Role 4) i;
-        account = says (Tag 1) i;
-        allocs = map alloc_of (has_lines_of 78 i);
-        settl_type = says (Tag 63) i >>= code_of;
-        settl_date = says (Tag 64) i;
-        hand_inst = says (Tag 21) i >>= code_of;
-        exec_inst = says (Tag 18) i;
-        min_qty = says (Tag 110) i >>= amount_of;
-        max_floor = says (Tag 1138) i >>= amount_of;
-        ex_destination = says (Tag 100) i;
-        sessions = map session_of (has_lines_of 386 i);
-        symbol = unwrap_or (says (Tag 55) i) [];
-        symbol_sfx = says (Tag 65) i;
-        security_id = says (Tag 48) i;
-        id_source = says (Tag 22) i >>= code_of;
-        security_type = says (Tag 167) i;
-        maturity = mature i;
-        security_exchange = says (Tag 207) i;
-        side = unwrap_or (says (Tag 54) i >>= code_of) 0;
-        locate = option_map flag_of (says (Tag 114) i);
-        transact_time = says (Tag 60) i;
-        order_qty = says (Tag 38) i >>= amount_of;
-        ord_type = (term i).0;
-        price = says (Tag 44) i >>= amount_of;
-        stop_px = says (Tag 99) i >>= amount_of;
-        currency = says (Tag 15) i;
-        time_in_force = (term i).1;
-        effective_time = says (Tag 168) i;
-        expire_date = says (Tag 432) i;
-        expire_time = says (Tag 126) i;
-        capacity = says (Tag 528) i >>= code_of;
-        open_close = says (Tag 77) i >>= code_of;
-        text = says (Tag 58) i;
-      }
+      λ i. request_by kind m.resend (λ place. says place i) (λ count. has_lines_of count i)
+      (says (Tag 21) i >>= code_of) (mature i) (term i) (says (Tag 528) i >>= code_of)
 
 -- the request of a letter
 by_letter : (f g : RequestKind → Request)

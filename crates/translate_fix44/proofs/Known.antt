@@ -35,18 +35,12 @@ pub few_asked : (fields : List Field) (kind : RequestKind)
     → first_fault judge (asked44 kind) fields ≡ None
     → length (lines_in (tags_in parties) fields) ≤ 32
 few_asked fields New h = few judge (asked44 New) fields 0 (tags_in parties) plain_parties refl h
-few_asked fields Cancel h =
-    few judge (asked44 Cancel) fields 0 (tags_in parties) plain_parties refl h
-few_asked fields Replace h =
-    few judge (asked44 Replace) fields 0 (tags_in parties) plain_parties refl h
-few_asked fields Status h =
-    few judge (asked44 Status) fields 0 (tags_in parties) plain_parties refl h
+few_asked fields kind h =
+    few judge (asked44 kind) fields 0 (tags_in parties) plain_parties refl h
 
 pub lines_written : (kind : RequestKind) → have_written_lines (asked44 kind).items ≡ true
 lines_written New = refl
-lines_written Cancel = refl
-lines_written Replace = refl
-lines_written Status = refl
+lines_written kind = refl
 
 module _ (s : Source) (t : Table Kind) (none : first_fault judge t s.fields.now ≡ None) where
   abbrev fields : List Field

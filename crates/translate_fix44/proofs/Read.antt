@@ -44,14 +44,6 @@ is_asked msg_type fields m = by (request_table_of msg_type) refl
 module _ (fields : List Field) (clear : AllByRecursion (IsClearField judge) fields) where
   dated : (kind : RequestKind) → IsDated fields (asked44 kind) false
   unfolding is_data_tag
-  dated New = record {
-    fits = refl;
-    apart = (parties_apart, (allocs_apart, (sessions_apart, tt)));
-    plain = (parties_plain, (allocs_plain, (sessions_plain, tt)));
-    date = refl;
-    types = λ untrue. absurd cc;
-    kept = untyped fields (asked44 New) refl;
-  }
   dated Cancel = record {
     fits = refl;
     apart = (parties_apart, tt);
@@ -60,14 +52,6 @@ module _ (fields : List Field) (clear : AllByRecursion (IsClearField judge) fiel
     types = λ untrue. absurd cc;
     kept = untyped fields (asked44 Cancel) refl;
   }
-  dated Replace = record {
-    fits = refl;
-    apart = (parties_apart, (allocs_apart, (sessions_apart, tt)));
-    plain = (parties_plain, (allocs_plain, (sessions_plain, tt)));
-    date = refl;
-    types = λ untrue. absurd cc;
-    kept = untyped fields (asked44 Replace) refl;
-  }
   dated Status = record {
     fits = refl;
     apart = (parties_apart, tt);
@@ -75,6 +59,14 @@ module _ (fields : List Field) (clear : AllByRecursion (IsClearField judge) fiel
     date = refl;
     types = λ untrue. absurd cc;
     kept = untyped fields (asked44 Status) refl;
+  }
+  dated kind = record {
+    fits = refl;
+    apart = (parties_apart, (allocs_apart, (sessions_apart, tt)));
+    plain = (parties_plain, (allocs_plain, (sessions_plain, tt)));
+    date = refl;
+    types = λ untrue. absurd cc;
+    kept = untyped fields (asked44 kind) refl;
   }
 
   -- WHAT IS READ IS SOUND, AND COMPLETE.

@@ -1,15 +1,13 @@
 -- What goes up or down by the rules means what it meant.
-use Rattle.std.proofs.Common.{◌≡◌, ℕ, [], map, Bool, true, false, Option, Some, None, refl, sym, ap}
+use Rattle.std.proofs.Common.{◌≡◌, ℕ, [], Bool, true, false, Option, Some, None, refl, sym, ap}
 use Rattle.std.proofs.Common.{◌∙◌, codes, unwrap_or, option_map, if◌then◌else◌}
 use Rattle.std.specs.Prelude.{◌==◌, IfSome, IsSome}
 use Rattle.field_groups.specs.HeadValues.{number_in}
 use Rattle.value_kinds.specs.ValueKind.{code_text}
-use Rattle.message_tables.specs.Tables.{Place, Tag, Role, Said, Message, ◌>>=◌, code_of, flag_of}
+use Rattle.message_tables.specs.Tables.{Place, Tag, Role, Said, Message, ◌>>=◌, code_of}
 use Rattle.message_tables.specs.Tables.{code_in, lines_of, said_at}
-use Rattle.order_meaning.specs.Meant.{none_done}
 use Rattle.order_meaning.specs.Report.{ExecutionReport, Executed, NotCanceled, filled, or_known}
 use Rattle.order_meaning.specs.Request.{RequestKind}
-use Rattle.row_values.specs.Amounts.{alloc_of, amount_of, contra_of, session_of}
 use Rattle.rows_fix50.specs.Meaning.{maturity_of, terms_of}
 use Rattle.dict_fix50.specs.Sense as request50
 use Rattle.dict_fix44.specs.Sense as sense44
@@ -20,6 +18,8 @@ use Rattle.rule_rows.proofs.Looked as looked
 use Rattle.rule_rows.proofs.Looked.{rule_at, said_by, lines_by}
 use Rattle.request_rules.specs.Rules.{is_unlisted}
 use Rattle.report_rules.specs.Rules.{at}
+use Rattle.request_rules.proofs.SenseUp.{request_by}
+use Rattle.report_rules.proofs.SenseDown.{executed_by}
 use Rattle.report_rules.proofs.ValuesDown.{other_0, other_2, other_4, reason_kept, report_told}
 use Rattle.report_rules.proofs.ValuesDown.{reject_told}
 use Rattle.translate_fix44.specs.Rules.{Same, Else, down_rules, else_said, kinds, turn, turned_code}
@@ -55,48 +55,9 @@ module _ (m : Message) where
       ∙ inst_kept kind (has_place (outline m) (Tag 21)) (at m 21) there coded in
       let type = (λ i. asks (Tag 40) i >>= code_of) ∙ same_code (at m 40) in
       let capacity = (λ i. asks (Tag 528) i >>= code_of) ∙ same_code (at m 528) in
-      λ i. record {
-        kind = kind;
-        resend = m.resend;
-        cl_ord_id = unwrap_or (asks (Tag 11) i) [];
-        orig_id = asks (Tag 41) i;
-        order_id = asks (Tag 37) i;
-        client_id = asks (Role 3) i;
-        exec_broker = asks (Role 1) i;
-        clearing_firm = asks (Role 4) i;
-        account = asks (Tag 1) i;
-        allocs = map alloc_of (asked_lines 78 i);
-        settl_type = asks (Tag 63) i >>= code_of;
-        settl_date = asks (Tag 64) i;
-        hand_inst = inst i;
-        exec_inst = asks (Tag 18) i;
-        min_qty = asks (Tag 110) i >>= amount_of;
-        max_floor = asks (Tag 1138) i >>= amount_of;
-        ex_destination = asks (Tag 100) i;
-        sessions = map session_of (asked_lines 386 i);
-        symbol = unwrap_or (asks (Tag 55) i) [];
-        symbol_sfx = asks (Tag 65) i;
-        security_id = asks (Tag 48) i;
-        id_source = asks (Tag 22) i >>= code_of;
-        security_type = asks (Tag 167) i;
-        maturity = maturity_of (asks (Tag 200) i) (asks (Tag 541) i);
-        security_exchange = asks (Tag 207) i;
-        side = unwrap_or (asks (Tag 54) i >>= code_of) 0;
-        locate = option_map flag_of (asks (Tag 114) i);
-        transact_time = asks (Tag 60) i;
-        order_qty = asks (Tag 38) i >>= amount_of;
-        ord_type = (terms_of (type i) (asks (Tag 59) i >>= code_of)).0;
-        price = asks (Tag 44) i >>= amount_of;
-        stop_px = asks (Tag 99) i >>= amount_of;
-        currency = asks (Tag 15) i;
-        time_in_force = (terms_of (type i) (asks (Tag 59) i >>= code_of)).1;
-        effective_time = asks (Tag 168) i;
-        expire_date = asks (Tag 432) i;
-        expire_time = asks (Tag 126) i;
-        capacity = capacity i;
-        open_close = asks (Tag 77) i >>= code_of;
-        text = asks (Tag 58) i;
-      }
+      λ i. request_by kind m.resend (λ place. asks place i) (λ count. asked_lines count i)
+      (inst i) (maturity_of (asks (Tag 200) i) (asks (Tag 541) i))
+      (terms_of (type i) (asks (Tag 59) i >>= code_of)) (capacity i)
 
 -- ---- an execution report
 
@@ -136,54 +97,12 @@ module _ (m : Message) where
       let restate = (λ i. says (Tag 378) i >>= number_in)
       ∙ reason_kept 5 4 (codes "4") other_4 (at m 378) in
       let text = says (Tag 58) ∙ report_told (at m 58) (at m 103) (at m 378) (at m 102) no_reason in
-      λ i. record {
-        resend = m.resend;
-        order_id = unwrap_or (says (Tag 37) i) [];
-        secondary_id = says (Tag 198) i;
-        cl_ord_id = says (Tag 11) i;
-        orig_id = says (Tag 41) i;
-        client_id = says (Role 3) i;
-        exec_broker = says (Role 1) i;
-        clearing_firm = says (Role 4) i;
-        contras = map contra_of (has_lines_of 382 i);
-        exec_id = exec_id i;
-        ref_id = says (Tag 19) i;
-        exec = sense44.exec_of (code_in w.cells 150);
-        ord_status = status i;
-        rej_reason = rej i;
-        restate_reason = restate i;
-        account = says (Tag 1) i;
-        settl_type = says (Tag 63) i >>= code_of;
-        settl_date = says (Tag 64) i;
-        symbol = unwrap_or (says (Tag 55) i) [];
-        symbol_sfx = says (Tag 65) i;
-        security_id = says (Tag 48) i;
-        id_source = says (Tag 22) i >>= code_of;
-        security_type = says (Tag 167) i;
-        maturity = maturity_of (says (Tag 200) i) (says (Tag 541) i);
-        security_exchange = says (Tag 207) i;
-        side = unwrap_or (says (Tag 54) i >>= code_of) 0;
-        order_qty = says (Tag 38) i >>= amount_of;
-        ord_type = (terms_of (says (Tag 40) i >>= code_of) (says (Tag 59) i >>= code_of)).0;
-        price = says (Tag 44) i >>= amount_of;
-        stop_px = says (Tag 99) i >>= amount_of;
-        currency = says (Tag 15) i;
-        time_in_force = (terms_of (says (Tag 40) i >>= code_of) (says (Tag 59) i >>= code_of)).1;
-        expire_date = says (Tag 432) i;
-        expire_time = says (Tag 126) i;
-        capacity = says (Tag 528) i >>= code_of;
-        last_qty = says (Tag 32) i >>= amount_of;
-        last_px = says (Tag 31) i >>= amount_of;
-        last_mkt = says (Tag 30) i;
-        leaves = unwrap_or (says (Tag 151) i >>= amount_of) none_done;
-        cum = unwrap_or (says (Tag 14) i >>= amount_of) none_done;
-        avg = unwrap_or (says (Tag 6) i >>= amount_of) none_done;
-        trade_date = says (Tag 75) i;
-        transact_time = says (Tag 60) i;
-        min_qty = says (Tag 110) i >>= amount_of;
-        max_floor = says (Tag 111) i >>= amount_of;
-        text = text i;
-      }
+      λ i. executed_by m.resend (λ place. says place i) (λ count. has_lines_of count i)
+      (says (Role 3) i, says (Role 1) i, says (Role 4) i) (exec_id i)
+      (sense44.exec_of (code_in w.cells 150)) (status i) (rej i, restate i)
+      (maturity_of (says (Tag 200) i) (says (Tag 541) i))
+      (terms_of (says (Tag 40) i >>= code_of) (says (Tag 59) i >>= code_of))
+      (says (Tag 528) i >>= code_of) (text i)
 
   pub report_kept : at m 102 ≡ None
       → is_unlisted types (turned_code status_turns (at m 150)) ≡ false
