@@ -7,7 +7,7 @@ use Rattle.field_groups.specs.Fields.{SplitsInto}
 use Rattle.translation.specs.declared.error.TranslateError.{TranslateError}
 use Rattle.translation.specs.declared.error.TranslateError.TheVariants as errors
 use Rattle.translation.specs.Bodies.{Goes}
-use Rattle.translation.specs.Going.{Appends, StayBack}
+use Rattle.translation.specs.Going.{AreGone, StayBack}
 use Rattle.translation.proofs.Going.{IsFair, goes, refused}
 use Rattle.translate_fix44.specs.declared.translate.Way.{Way}
 use Rattle.translate_fix44.specs.declared.translate.Way.TheVariants.{Down, Up}
@@ -21,11 +21,10 @@ fair Down = down_fair
 
 module _ (body : List ℕ) (fields : List Field) (stopped : Option SplitFault)
     (split : SplitsInto body fields stopped) where
-  pub checked : (before after : List ℕ) (r : Result (Unit {0}) TranslateError)
-      → OnOk r (Appends up fields stopped before after)
+  pub checked : (r : Result (Unit {0}) TranslateError) → OnOk r (AreGone up fields stopped)
       → OnOk r ((others : List Field) × Goes up body others)
-  checked before after (Ok done) h = (fields, goes up fields stopped body split up_fair h.gone)
-  checked before after (Err error) h = tt
+  checked (Ok done) h = (fields, goes up fields stopped body split up_fair h)
+  checked (Err error) h = tt
 
   by_check : (error : TranslateError) → StayBack up fields stopped error
       → IsRefusedByCheck body error

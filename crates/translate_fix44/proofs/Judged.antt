@@ -1,8 +1,7 @@
 -- What is appended of the fields that were judged is appended of the fields of the body, and why
 -- nothing is.
-use Rattle.std.proofs.Common.{◌≡◌, ◌∙◌, ℕ, List, Option, Some, None, Result, Ok, Err, ap, subst}
-use Rattle.std.proofs.Common.{sym}
-use Rattle.std.specs.Prelude.{IfErr, OnOk}
+use Rattle.std.proofs.Common.{◌≡◌, ◌∙◌, ℕ, List, [], Option, Some, None, Ok, Err, ap}
+use Rattle.std.proofs.Common.{refl, subst, sym}
 use Rattle.std.specs.Borrow.{Bor}
 use Rattle.field_groups.specs.declared.fault.SplitFault.{SplitFault}
 use Rattle.field_groups.specs.Field.{Field}
@@ -17,16 +16,19 @@ use Rattle.rows_fix50.specs.Header.{completed_by}
 use Rattle.reports_fix50.specs.Message.{report_table_of}
 use Rattle.dict_fix44.specs.Message.{message44_by, request_message44, request_table_of}
 use Rattle.translation.specs.Errors.{error_of_fault}
-use Rattle.translation.specs.Going.{Appends, StayBack}
+use Rattle.translation.specs.Going.{Appends, AreGone, StayBack}
 use Rattle.translation.specs.Header.{type_of}
 use Rattle.translation.specs.Judged.{AreGood, AreGoodBy}
 use Rattle.translation.specs.declared.error.TranslateError.{TranslateError}
 use Rattle.translation.specs.declared.error.TranslateError.TheVariants as errors
 use Rattle.translation.proofs.Going.{appends_of, stays_of}
 use Rattle.report_translate.proofs.GoodFields.{fault_is, good_is}
-use Rattle.translate_fix44.specs.Put.{IsAsked, IsGoodBy, IsReport}
+use Rattle.translate_fix44.specs.CodeRules.{Source}
+use Rattle.translate_fix44.specs.Put.{IsAsked, IsGoodBy, IsRead, IsReport, message}
+use Rattle.translate_fix44.specs.Rules.{up_lack}
 use Rattle.translate_fix44.specs.Translation.{down, up}
 use Rattle.translate_fix44.proofs.ByType.{kind_of}
+use Rattle.translate_fix44.proofs.Put.{up_gone, up_lacks}
 
 -- ---- a request
 
@@ -57,29 +59,37 @@ module _ (fields : List Field) (stopped : Option SplitFault) where
     asked_fault (faults.Session tag reason) h = told (faults.Session tag reason) h
     asked_fault (faults.NoCounterpart tag) h = told (faults.NoCounterpart tag) h
 
-    module _ (good : List Field) (clean : (good ≡ fields) × (stopped ≡ None)
-        × (first_fault judge t fields ≡ None)) where
-      pub asked_is : IsAsked t good
-      asked_is =
-          let k = kind_of (type_of fields) t is in record {
-            kind = k.kind;
-            its = k.its;
-            type = ap type_of clean.0 ∙ k.type;
-            none = ap (first_fault judge t) clean.0 ∙ clean.2;
-          }
+    pub asked_is : (good : List Field) → (good ≡ fields) × (stopped ≡ None)
+        × (first_fault judge t fields ≡ None) → IsAsked t good
+    asked_is good clean =
+        let k = kind_of (type_of fields) t is in record {
+          kind = k.kind;
+          its = k.its;
+          type = ap type_of clean.0 ∙ k.type;
+          none = ap (first_fault judge t) clean.0 ∙ clean.2;
+        }
 
-      module _ (r : Result (Unit {0}) TranslateError) where
-        pub asked_appends : (before after : List ℕ) → OnOk r (Appends up good None before after)
-            → OnOk r (Appends up fields stopped before after)
-        asked_appends before after h =
-            appends_of up fields good stopped clean.0 clean.1 r before after h
+pub ruleset of_request = (not_supported, table_is, asked_fault, asked_is)
 
-        pub asked_stays : IfErr r (StayBack up good None) → IfErr r (StayBack up fields stopped)
-        asked_stays h = stays_of up fields good stopped clean.0 clean.1 r h
+-- what is said of the fields that the rules read is so of those of the body
+module _ (fields : List Field) (stopped : Option SplitFault) (s : Source) (has : IsRead s)
+    (same : (s.fields.now ≡ fields) × (stopped ≡ None)) where
+  pub up_put : (before after : List ℕ) → Appends up s.fields.now None before after
+      → Appends up fields stopped before after
+  up_put = appends_of up fields s.fields.now stopped same.0 same.1 (Ok tt)
 
-pub ruleset of_request = (not_supported, table_is)
+  pub up_stays : (error : TranslateError) → StayBack up s.fields.now None error
+      → StayBack up fields stopped error
+  up_stays error h = stays_of up fields s.fields.now stopped same.0 same.1 (Err error) h
 
-pub ruleset of_table = (asked_fault, asked_is, asked_appends, asked_stays)
+  pub is_gone : None ≡ up_lack (message s) → AreGone up fields stopped
+  is_gone none = (up_put [] _ (record { gone = up_gone s has none; bytes = refl })).gone
+
+  pub is_lacking : (tag : ℕ) → Some tag ≡ up_lack (message s)
+      → StayBack up fields stopped (errors.Lacking tag)
+  is_lacking tag some = up_stays (errors.Lacking tag) (up_lacks s has tag some)
+
+pub ruleset of_source = (up_put, up_stays, is_gone, is_lacking)
 
 -- ---- a report
 
@@ -106,14 +116,13 @@ module _ (fields : List Field) (stopped : Option SplitFault) where
         by None h = h
         by (Some table) h = h
 
-    module _ (r : Result (Unit {0}) TranslateError) where
-      pub told_appends : (before after : List ℕ) → OnOk r (Appends down good.now None before after)
-          → OnOk r (Appends down fields stopped before after)
-      told_appends before after h =
-          appends_of down fields good.now stopped are.same are.whole r before after h
+    pub told_put : (before after : List ℕ) → Appends down good.now None before after
+        → Appends down fields stopped before after
+    told_put = appends_of down fields good.now stopped are.same are.whole (Ok tt)
 
-      pub told_stays : IfErr r (StayBack down good.now None)
-          → IfErr r (StayBack down fields stopped)
-      told_stays h = stays_of down fields good.now stopped are.same are.whole r h
+    pub told_stays : (error : TranslateError) → StayBack down good.now None error
+        → StayBack down fields stopped error
+    told_stays error h =
+        stays_of down fields good.now stopped are.same are.whole (Err error) h
 
-pub ruleset of_report = (told_fault, told_is, told_appends, told_stays)
+pub ruleset of_report = (told_fault, told_is, told_put, told_stays)

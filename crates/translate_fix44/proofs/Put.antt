@@ -8,10 +8,9 @@ use Rattle.std.specs.Str.{bytes_eq}
 use Rattle.field_groups.specs.Field.{Field, body_of}
 use Rattle.message_tables.specs.FirstFault.{first_fault}
 use Rattle.message_tables.specs.Tables.{Message, Table, first_of, is_one_of, or_else}
-use Rattle.order_meaning.specs.Request.{RequestKind, New, Cancel, Replace, Status}
+use Rattle.order_meaning.specs.Request.{RequestKind, New}
 use Rattle.order_meaning.specs.declared.fault.Lack.{Lack}
 use Rattle.order_meaning.specs.declared.fault.Lack.TheVariants as faults
-use Rattle.row_values.specs.Groups.{AreParties}
 use Rattle.row_values.specs.Kinds.{Kind, judge}
 use Rattle.rows_fix50.specs.Header.{completed_by}
 use Rattle.first_faults.proofs.Given.{given}
@@ -26,13 +25,14 @@ use Rattle.request_rules.proofs.ByType.{letter_of}
 use Rattle.report_rules.proofs.PutDown.{good_eight, is_eight, nine as is_nine}
 use Rattle.report_rules.proofs.SourceDown.{read_by}
 use Rattle.translation.specs.Bodies.{Direction}
-use Rattle.translation.specs.Going.{Appends, AreRead as IsReadAs}
+use Rattle.translation.specs.Going.{Appends, AreGone, AreRead as IsReadAs}
 use Rattle.translation.specs.Header.{type_of}
 use Rattle.report_translate.specs.Reading.{report_message}
 use Rattle.translate_fix44.specs.declared.rules.Own.{Own as CodeOwn}
 use Rattle.translate_fix44.specs.CodeRules.{Source, code, has_terms, lacks, lacks_role_in, writes}
-use Rattle.translate_fix44.specs.Put.{IsReport, Lacks, asked44}
-use Rattle.translate_fix44.specs.Rules.{Rule, kinds, lacks_role, up_rules}
+use Rattle.translate_fix44.specs.Put.{IsRead, IsReport, Lacks, asked44, message}
+use Rattle.translate_fix44.specs.Rules.{Rule, kinds, lacks_role, up_lack, up_message}
+use Rattle.translate_fix44.specs.Rules.{up_rules}
 use Rattle.translate_fix44.specs.Translation.{up}
 use Rattle.translate_fix44.proofs.CodeRead.{IsKnown, own_goes}
 use Rattle.translate_fix44.proofs.KindsSay.{are_kinds, lacks_none}
@@ -54,130 +54,128 @@ module _ (s : Source) (t : Table Kind) (its : table_of s ≡ t) (m : Message) (k
   lack_is = all_lacked code s m here.0.said (own_goes s m here.0) are_kinds all rules here.1
       (lacks_none m)
 
-  -- in a direction in which the message becomes what all rules make of it, or has this lack
-  module _ (d : Direction) (read : d.source (type_of s.fields.now) s.fields.now None ≡ Ok m)
-      (content : d.content m (by_rules kinds all m) ≡ content_by kinds all m) (lack : Option ℕ)
-      (goes : d.goes m ≡ or_lack lack (by_rules kinds all m)) where
-    are_read : IsReadAs d s.fields.now None m
-    are_read = record { whole = refl; read = read }
-
-    pub appends : (before after : List ℕ) → lack ≡ None
-        → after ≡ before ++ body_of (flat_map (all_write writes s) rules)
-        → Appends d s.fields.now None before after
-    appends before after none put = record {
-      gone = record {
-        m = m;
-        w = by_rules kinds all m;
-        read = are_read;
-        goes = goes ∙ ap (λ (o : Option ℕ). or_lack o (by_rules kinds all m)) none;
-      };
-      bytes = put ∙ ap (λ (fs : List Field). before ++ body_of fs) (content_is ∙ sym content);
-    }
-
-    pub lacking : (tag : ℕ) → lack ≡ Some tag → Lacks d s.fields.now (faults.Tag tag)
-    lacking tag is = (
-      m,
-      are_read,
-      goes ∙ ap (λ (o : Option ℕ). or_lack o (by_rules kinds all m)) is,
-    )
-
-  -- where the lack is that of all rules
+  -- in a direction in which the message becomes what all rules make of it, or has their lack
   module _ (d : Direction) (read : d.source (type_of s.fields.now) s.fields.now None ≡ Ok m)
       (content : d.content m (by_rules kinds all m) ≡ content_by kinds all m)
       (goes : d.goes m ≡ or_lack (lack_by kinds all m) (by_rules kinds all m)) where
+    becomes : (lack : Option ℕ) → first_of (lacked lacks s) rules ≡ lack
+        → d.goes m ≡ or_lack lack (by_rules kinds all m)
+    becomes lack is =
+        goes ∙ ap (λ (o : Option ℕ). or_lack o (by_rules kinds all m)) (sym lack_is ∙ is)
+
     pub on_ok : {E : Type 0} (r : Result (Unit {0}) E) (before after : List ℕ)
         → OnOk r (first_of (lacked lacks s) rules ≡ None)
         → OnOk r (after ≡ before ++ body_of (flat_map (all_write writes s) rules))
         → OnOk r (Appends d s.fields.now None before after)
     on_ok (Err e) before after none put = tt
-    on_ok (Ok done) before after none put =
-        appends d read content (lack_by kinds all m) goes before after (sym lack_is ∙ none) put
+    on_ok (Ok done) before after none put = record {
+      gone = record {
+        m = m;
+        w = by_rules kinds all m;
+        read = record { whole = refl; read = read };
+        goes = becomes None none;
+      };
+      bytes = put ∙ ap (λ (fs : List Field). before ++ body_of fs) (content_is ∙ sym content);
+    }
 
     pub on_err : (r : Result (Unit {0}) Lack)
         → IfErr r (IsLackOf (first_of (lacked lacks s) rules)) → IfErr r (Lacks d s.fields.now)
     on_err (Ok done) h = tt
     on_err (Err faults.NoMemory) h = tt
     on_err (Err (faults.Tag tag)) h =
-        lacking d read content (lack_by kinds all m) goes tag (sym lack_is ∙ h)
+        (m, record { whole = refl; read = read }, becomes (Some tag) h)
 
 -- ---- a request
 
 table_is : (kind : RequestKind) → request_table_of (letter_of kind ∷ []) ≡ Some (asked44 kind)
 table_is New = refl
-table_is Cancel = refl
-table_is Replace = refl
-table_is Status = refl
+table_is kind = refl
 
 terms_are : (kind : RequestKind)
     → is_one_of (codes "DG") (letter_of kind) ≡ has_terms (asked44 kind)
 terms_are New = refl
-terms_are Cancel = refl
-terms_are Replace = refl
-terms_are Status = refl
+terms_are kind = refl
 
-module _ (s : Source) (kind : RequestKind) (its : table_of s ≡ asked44 kind)
-    (type : type_of s.fields.now ≡ letter_of kind ∷ [])
-    (none : first_fault judge (table_of s) s.fields.now ≡ None)
-    (are : AreParties s.fields.now s.besides.parties)
-    (terms : s.besides.has_terms ≡ is_one_of (codes "DG") (table_of s).letter)
-    (rules : List (CodeRule CodeOwn))
-    (for : (kind : RequestKind) → AreFor code (asked44 kind) up_rules rules) where
+module _ (s : Source) (has : IsRead s) where
+  abbrev kind : RequestKind
+  kind = has.asked.kind
+
   abbrev x : Message
   x = read_by (asked44 kind) s.fields.now
 
+  same : x ≡ message s
+  same = ap (λ (t : Table Kind). read_by t s.fields.now) (sym has.asked.its)
+
   good : first_fault judge (asked44 kind) s.fields.now ≡ None
-  good = ap (λ (t : Table Kind). first_fault judge t s.fields.now) (sym its) ∙ none
+  good = ap (λ (t : Table Kind). first_fault judge t s.fields.now) (sym has.asked.its)
+      ∙ has.asked.none
+
+  read : IsReadAs up s.fields.now None x
+  unfolding request_message44
+  read = record {
+    whole = refl;
+    read = ap (λ (t : List ℕ). message44_by (request_table_of t) s.fields.now None) has.asked.type
+        ∙ ap (λ (t : Option (Table Kind)). message44_by t s.fields.now None) (table_is kind)
+        ∙ ap completed_by (given (asked44 kind) s.fields.now None refl good);
+  }
+
+  becomes_up : (lack : Option ℕ) → lack ≡ up_lack (message s)
+      → up_message x ≡ or_lack lack (by_rules kinds up_rules x)
+  becomes_up lack is =
+      ap (λ (o : Option ℕ). or_lack o (by_rules kinds up_rules x)) (ap up_lack same ∙ sym is)
+
+  -- its lack tells whether it goes
+  pub up_gone : None ≡ up_lack (message s) → AreGone up s.fields.now None
+  up_gone none =
+      record { m = x; w = by_rules kinds up_rules x; read = read; goes = becomes_up None none }
+
+  pub up_lacks : (tag : ℕ) → Some tag ≡ up_lack (message s) → Lacks up s.fields.now (faults.Tag tag)
+  up_lacks tag some = (x, read, becomes_up (Some tag) some)
 
   own_terms : s.besides.has_terms ≡ has_terms (asked44 kind)
-  own_terms =
-      terms ∙ ap (λ (t : Table Kind). is_one_of (codes "DG") t.letter) its ∙ terms_are kind
+  own_terms = has.terms
+      ∙ ap (λ (t : Table Kind). is_one_of (codes "DG") t.letter) has.asked.its ∙ terms_are kind
 
-  has : IsKnownRequest s kind
-  has = known_request s are kind good own_terms
-
-  read : request_message44 (type_of s.fields.now) s.fields.now None ≡ Ok x
-  unfolding request_message44
-  read =
-      ap (λ (t : List ℕ). message44_by (request_table_of t) s.fields.now None) type
-      ∙ ap (λ (t : Option (Table Kind)). message44_by t s.fields.now None) (table_is kind)
-      ∙ ap completed_by (given (asked44 kind) s.fields.now None refl good)
-
-  abbrev lack : Option ℕ
-  lack = or_else (lack_by kinds up_rules x) (lack_if (lacks_role x) 452)
+  is : IsKnownRequest s kind
+  is = known_request s has.are kind good own_terms
 
   abbrev found : Bool
   found = lacks_role_in s.besides.has_terms s.besides.parties
 
   role_is : found ≡ lacks_role x
   role_is = ap (λ (b : Bool). lacks_role_in b s.besides.parties) own_terms
-      ∙ roles_lack (has_terms (asked44 kind)) x has.roles s.fields.now s.besides.parties are
-      has.lines
+      ∙ roles_lack (has_terms (asked44 kind)) x is.roles s.fields.now s.besides.parties has.are
+      is.lines
 
-  lack_found : (a : Option ℕ) (b : Bool) → first_of (lacked lacks s) rules ≡ a → found ≡ b
-      → lack ≡ or_else a (lack_if b 452)
-  lack_found a b none of = λ i. or_else
-      ((sym (lack_is s (asked44 kind) its x has.known up_rules rules (for kind)) ∙ none) i)
-      (lack_if ((sym role_is ∙ of) i) 452)
+  module _ (rules : List (CodeRule CodeOwn))
+      (for : (kind : RequestKind) → AreFor code (asked44 kind) up_rules rules) where
+    -- the lack is that of the rules, or else that of the roles
+    pub lack_told : (of_rules of_roles : Option ℕ) → of_rules ≡ first_of (lacked lacks s) rules
+        → of_roles ≡ lack_if found 452 → or_else of_rules of_roles ≡ up_lack (message s)
+    lack_told of_rules of_roles a b =
+        (λ i. or_else
+        ((a ∙ lack_is s (asked44 kind) has.asked.its x is.known up_rules rules (for kind)) i)
+        ((b ∙ ap (λ (l : Bool). lack_if l 452) role_is) i)) ∙ ap up_lack same
 
-  pub up_appends : (before after : List ℕ) → first_of (lacked lacks s) rules ≡ None
-      → found ≡ false → after ≡ before ++ body_of (flat_map (all_write writes s) rules)
-      → Appends up s.fields.now None before after
-  up_appends before after none of put =
-      appends s (asked44 kind) its x has.known up_rules rules (for kind) up read refl lack refl
-      before after (lack_found None false none of) put
+    pub up_appends : (before after : List ℕ) → first_of (lacked lacks s) rules ≡ None
+        → None ≡ lack_if found 452 → after ≡ before ++ body_of (flat_map (all_write writes s) rules)
+        → Appends up s.fields.now None before after
+    unfolding up_gone
+    up_appends before after none roles put = record {
+      gone = up_gone (lack_told None None (sym none) roles);
+      bytes = put ∙ ap (λ (fs : List Field). before ++ body_of fs)
+          (content_is s (asked44 kind) has.asked.its x is.known up_rules rules (for kind));
+    }
 
-  pub up_lacks : (e : Lack) → IsLackOf (first_of (lacked lacks s) rules) e
-      → Lacks up s.fields.now e
-  up_lacks faults.NoMemory is = tt
-  up_lacks (faults.Tag tag) is =
-      lacking s (asked44 kind) its x has.known up_rules rules (for kind) up read refl lack refl
-      tag (lack_found (Some tag) found is refl)
+    pub rules_lack : (e : Lack) → IsLackOf (first_of (lacked lacks s) rules) e
+        → Lacks up s.fields.now e
+    rules_lack faults.NoMemory h = tt
+    rules_lack (faults.Tag tag) h =
+        up_lacks tag (lack_told (Some tag) (lack_if found 452) (sym h) refl)
 
-  pub role_lacks : first_of (lacked lacks s) rules ≡ None → found ≡ true
-      → Lacks up s.fields.now (faults.Tag 452)
-  role_lacks none of =
-      lacking s (asked44 kind) its x has.known up_rules rules (for kind) up read refl lack refl
-      452 (lack_found None true none of)
+    pub role_lacks : (tag : ℕ) → first_of (lacked lacks s) rules ≡ None
+        → Some tag ≡ lack_if found 452 → Lacks up s.fields.now (faults.Tag tag)
+    role_lacks tag none some = up_lacks tag (lack_told None (Some tag) (sym none) some)
 
 -- ---- a report
 

@@ -2,6 +2,7 @@
 //! 4.4, each by one list of rules.
 #![tactic(auto)]
 
+mod asking;
 pub mod laws;
 mod putting;
 mod rules;

@@ -1,23 +1,21 @@
 //! The content of a request of FIX 4.4 in FIX 5.0 SP2, and that of a report of FIX 5.0 SP2 in FIX
 //! 4.4, straight from the fields of a body.
 
-ghost use Rattle.std.specs.Prelude.{◌≡◌, IfErr, None, OnErr, OnOk, codes};
-ghost use Rattle.message_tables.specs.CodeTables.{table_of as code_table};
-ghost use Rattle.message_tables.specs.Tables.{is_one_of};
-ghost use Rattle.row_values.specs.CodeKinds.{kind_of};
+ghost use Rattle.std.specs.Prelude.{◌≡◌, IfErr, None, OnErr, OnOk};
+ghost use Rattle.rule_rows.specs.ByRules.{lack_if};
 ghost use Rattle.translation.specs.Going.{Appends};
 ghost use Rattle.translate_fix44.specs.CodeRules.{has_role, lacks_role_in};
-ghost use Rattle.translate_fix44.specs.Put.{IsAsked, IsReport, Lacks};
+ghost use Rattle.translate_fix44.specs.Put.{IsRead, IsReport, Lacks, message};
+ghost use Rattle.translate_fix44.specs.Rules.{up_lack};
 ghost use Rattle.translate_fix44.specs.Translation.{down, up};
 
 use crate::rules::{reject_rules, report_rules, request_rules};
 use crate::writing::{Besides, Source};
 use field_groups::{Fields, is_type};
-use message_tables::Table;
 use order_meaning::{Lack, Lines, PartyLine};
 use reports_fix50::{cancel_reject, execution_report};
-use row_values::{Kind, read_lines};
-use rule_rows::put_rules;
+use row_values::read_lines;
+use rule_rows::{first_lack, put_rules};
 use std::alloc::Global;
 use translation::msg_type;
 
@@ -35,46 +33,46 @@ fn lacks_role(terms: bool, lines: &[PartyLine]) -> bool
     lines.iter().any(|line| !has_role(terms, line.role))
 }
 
-/// Whether a request of this type has the terms of an order.
-fn has_terms(letter: u8) -> bool
-    ensures { result ≡ is_one_of (codes "DG") letter }
+/// PartyRole(452), where a line is of a party whose role has no place.
+fn lack_of_roles(source: &Source<'_, '_>) -> Option<u32>
+    ensures { result
+        ≡ lack_if (lacks_role_in source.now.besides.has_terms source.now.besides.parties) 452 }
 {
-    letter == b'D' || letter == b'G'
+    if lacks_role(source.besides.has_terms, source.besides.parties.as_slice()) {
+        Some(452)
+    } else {
+        None
+    }
 }
 
-/// Appends the content of FIX 5.0 SP2 of a request of FIX 4.4 whose fields are at no fault beside
-/// the table of its type.
+/// The tag of what FIX 5.0 SP2 cannot say of a request: OrdType(40), TimeInForce(59),
+/// OrderCapacity(528), and last PartyRole(452). It takes no memory.
+pub(crate) fn lack_up(source: &Source<'_, '_>) -> Option<u32>
+    requires { IsRead source.now }
+    ensures { result ≡ up_lack (message source.now) }
+{
+    match first_lack(source, request_rules()) {
+        None => lack_of_roles(source),
+        Some(tag) => Some(tag),
+    }
+}
+
+/// Appends the content of FIX 5.0 SP2 of a request.
 ///
 /// # Errors
 ///
-/// `Tag` exactly where FIX 5.0 SP2 cannot say what the field of this tag says: OrdType(40),
-/// TimeInForce(59), OrderCapacity(528), and last PartyRole(452); `NoMemory` for want of memory.
-/// Then `out` is unchanged.
-pub(crate) fn put_up(
-    alloc: Global,
-    table: &'static Table<Kind>,
-    fields: &Fields<'_>,
-    out: &mut Vec<u8>,
-) -> Result<(), Lack>
-    requires { IsAsked (code_table kind_of table.now) fields.now }
-    ensures ok { OnOk result (Appends up fields.now None out.old.items out.new.items) }
-    ensures lack { IfErr result (Lacks up fields.now) }
-    ensures err { OnErr result (out.new.items ≡ out.old.items) }
+/// `Tag` exactly where FIX 5.0 SP2 cannot say what the field of this tag says, as [`lack_up`] has
+/// it; `NoMemory` for want of memory. What stood in `out` stays, and a part may stand behind it.
+pub(crate) fn put_up(source: &Source<'_, '_>, out: &mut Vec<u8>) -> Result<(), Lack>
+    requires { IsRead source.now }
+    ensures ok { OnOk result
+        (Appends up source.now.fields.now None out.old.items out.new.items) }
+    ensures lack { IfErr result (Lacks up source.now.fields.now) }
 {
-    let parties = read_lines(alloc, fields)?;
-    let has_terms = has_terms(table.letter);
-    let source = Source {
-        fields,
-        table,
-        besides: Besides { parties, has_terms },
-    };
-    let start = out.len();
-    put_rules(&source, request_rules(), out)?;
-    if lacks_role(has_terms, source.besides.parties.as_slice()) {
-        out.truncate(start);
-        Err(Lack::Tag(452))
-    } else {
-        Ok(())
+    put_rules(source, request_rules(), out)?;
+    match lack_of_roles(source) {
+        None => Ok(()),
+        Some(tag) => Err(Lack::Tag(tag)),
     }
 }
 

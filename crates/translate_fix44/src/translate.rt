@@ -1,28 +1,24 @@
 //! Translating bodies from FIX 4.4 and to it.
 
-ghost use Rattle.std.specs.Prelude.{◌≡◌, ◌++◌, ℕ, List, IfErr, None, OnErr, OnOk, Some};
+ghost use Rattle.std.specs.Prelude.{◌≡◌, ◌++◌, ℕ, List, IfErr, None, OnErr, OnOk};
 ghost use Rattle.field_groups.specs.Field.{Field, field_bytes};
-ghost use Rattle.message_tables.specs.CodeTables.{table_of as code_table};
-ghost use Rattle.row_values.specs.CodeKinds.{kind_of};
 ghost use Rattle.first_faults.specs.Gives.{IsCleanIf};
-ghost use Rattle.dict_fix44.specs.Message.{refusal44, refusal_table_of, request_table_of};
+ghost use Rattle.dict_fix44.specs.Message.{refusal44, refusal_table_of};
 ghost use Rattle.translation.specs.Bodies.{Goes, IsRefused, IsTranslation};
-ghost use Rattle.translation.specs.Going.{Appends, IsOtherOf, Refuses, StayBack};
+ghost use Rattle.translation.specs.Going.{Appends, AreGone, IsOtherOf, Refuses, StayBack};
 ghost use Rattle.translation.specs.Header.{carried_field, carried_tags, type_of};
 ghost use Rattle.translation.specs.Writing.{put as put_tags};
 ghost use Rattle.report_translate.specs.Refusals.{IsFaultyRefusal, IsGoodRefusal};
-ghost use Rattle.translate_fix44.specs.Put.{IsAsked, IsReport};
 ghost use Rattle.translate_fix44.specs.Translation.{IsRefusedByCheck, direction, down, up};
 
-use crate::putting::{put_down, put_up};
+use crate::asking::good_request;
+use crate::putting::{lack_up, put_down, put_up};
 use dict_fix44::{RequestTables, refusal_table};
-use field_groups::{Fields, Split, split};
-use first_faults::{Indexed, good_fields, good_fields_by};
+use field_groups::{Fields, Split, split, split_into};
+use first_faults::good_fields;
 use frame_grammar::{FrameError, Kind, write_frame};
-use message_tables::Table;
 use order_meaning::Fault;
 use reports_fix50::ReportTables;
-use row_values::Kind as RowKind;
 use std::alloc::{AllocError, Global};
 use translation::{HeadDown, TranslateError, check_lengths, faulty, lacking, msg_type, write_head};
 
@@ -48,44 +44,8 @@ impl Way {
     }
 }
 
-/// Appends the content of FIX 5.0 SP2 of a request whose fields are at no fault.
-fn put_asked(
-    alloc: Global,
-    table: &'static Table<RowKind>,
-    fields: &Fields<'_>,
-    out: &mut Vec<u8>,
-) -> Result<(), TranslateError>
-    requires { IsAsked (code_table kind_of table.now) fields.now }
-    ensures ok { OnOk result (Appends up fields.now None out.old.items out.new.items) }
-    ensures refused { IfErr result (StayBack up fields.now None) }
-{
-    match put_up(alloc, table, fields, out) {
-        Ok(()) => Ok(()),
-        Err(lack) => Err(lacking(lack)),
-    }
-}
-
-/// Appends the content of the request of a table that stands for the fields of a body.
-#[tactic(auto, using(crate::proofs::Judged::of_table))]
-fn put_by(
-    alloc: Global,
-    table: &Indexed,
-    split: &Split<'_>,
-    out: &mut Vec<u8>,
-) -> Result<(), TranslateError>
-    requires { Some table.now ≡ request_table_of (type_of split.now.fields) }
-    ensures ok { OnOk result
-        (Appends up split.now.fields split.now.fault out.old.items out.new.items) }
-    ensures refused { IfErr result (StayBack up split.now.fields split.now.fault) }
-{
-    match good_fields_by(table, split) {
-        Err(fault) => Err(faulty(fault)),
-        Ok(fields) => put_asked(alloc, table.table(), fields, out),
-    }
-}
-
 /// Appends the content of FIX 5.0 SP2 of the request that stands for the fields of a body.
-#[tactic(auto, using(crate::proofs::Judged::of_request))]
+#[tactic(auto, using(crate::proofs::Judged::of_source))]
 fn put_request(
     alloc: Global,
     tables: &RequestTables,
@@ -96,21 +56,31 @@ fn put_request(
         (Appends up split.now.fields split.now.fault out.old.items out.new.items) }
     ensures refused { IfErr result (StayBack up split.now.fields split.now.fault) }
 {
-    match tables.get(msg_type(&split.fields)) {
-        None => Err(TranslateError::Faulty(Fault::NotSupported)),
-        Some(table) => put_by(alloc, table, split, out),
+    match good_request(alloc, tables, split) {
+        Err(fault) => Err(faulty(fault)),
+        Ok(source) => match put_up(&source, out) {
+            Ok(()) => Ok(()),
+            Err(lack) => Err(lacking(lack)),
+        },
     }
 }
 
-/// Appends the content of FIX 4.4 of a report whose fields are at no fault.
-fn put_told(alloc: Global, fields: &Fields<'_>, out: &mut Vec<u8>) -> Result<(), TranslateError>
-    requires { IsReport fields.now }
-    ensures ok { OnOk result (Appends down fields.now None out.old.items out.new.items) }
-    ensures refused { IfErr result (StayBack down fields.now None) }
+/// Whether the request that stands for the fields of a body becomes one of FIX 5.0 SP2.
+#[tactic(auto, using(crate::proofs::Judged::of_source))]
+fn check_request(
+    alloc: Global,
+    tables: &RequestTables,
+    split: &Split<'_>,
+) -> Result<(), TranslateError>
+    ensures ok { OnOk result (AreGone up split.now.fields split.now.fault) }
+    ensures refused { IfErr result (StayBack up split.now.fields split.now.fault) }
 {
-    match put_down(alloc, fields, out) {
-        Ok(()) => Ok(()),
-        Err(lack) => Err(lacking(lack)),
+    match good_request(alloc, tables, split) {
+        Err(fault) => Err(faulty(fault)),
+        Ok(source) => match lack_up(&source) {
+            None => Ok(()),
+            Some(tag) => Err(TranslateError::Lacking(tag)),
+        },
     }
 }
 
@@ -128,7 +98,10 @@ fn put_report(
 {
     match tables.good(msg_type(&split.fields), split) {
         Err(fault) => Err(faulty(fault)),
-        Ok(fields) => put_told(alloc, fields, out),
+        Ok(fields) => match put_down(alloc, fields, out) {
+            Ok(()) => Ok(()),
+            Err(lack) => Err(lacking(lack)),
+        },
     }
 }
 
@@ -269,7 +242,8 @@ impl Translator44 {
         ensures refused { IfErr result (IsRefused (direction way) body.now) }
         ensures err { OnErr result (out.new.items ≡ out.old.items) }
     {
-        let split = split(self.alloc, body)?;
+        let mut split = Split::new(self.alloc);
+        split_into(body, &mut split)?;
         write(way, self.alloc, &self.tables, &split, &mut self.other)?;
         match write_frame(way.kind(), &self.other, out) {
             Ok(()) => Ok(()),
@@ -288,8 +262,8 @@ impl Translator44 {
         ensures ok { OnOk result ((fields : List Field) × Goes up body.now fields) }
         ensures refused { IfErr result (IsRefusedByCheck body.now) }
     {
-        let split = split(self.alloc, body)?;
-        self.other.clear();
-        put_request(self.alloc, &self.tables.requests, &split, &mut self.other)
+        let mut split = Split::new(self.alloc);
+        split_into(body, &mut split)?;
+        check_request(self.alloc, &self.tables.requests, &split)
     }
 }

@@ -4,6 +4,7 @@ ghost use Rattle.std.specs.Prelude.{◌≡◌, ◌++◌, OnOk};
 ghost use Rattle.std.specs.Io.{StartsWith};
 ghost use Rattle.std.specs.Option.{option_map};
 ghost use Rattle.field_groups.specs.Field.{body_of};
+ghost use Rattle.rule_rows.specs.ByRules.{lack_if};
 ghost use Rattle.translate_fix44.specs.declared.rules.Own.TheVariants as rules;
 ghost use Rattle.translate_fix44.specs.CodeRules.{coded, firm_of, lacks, writes};
 ghost use Rattle.translate_fix44.specs.Rules.{is_market_or_limit, lacks_close, turn};
@@ -14,7 +15,7 @@ use message_tables::Lookup;
 use order_meaning::{Lack, Lines};
 use report_rules::{party, put_code_if, put_month, put_told, put_within};
 use request_rules::{is_unlisted, put_parties};
-use rule_rows::{OwnRule, code_of, number_of, put_text};
+use rule_rows::{Lacking, OwnRule, code_of, number_of, put_text};
 use std::alloc::AllocError;
 
 /// What the rules read beside the fields.
@@ -99,46 +100,70 @@ fn lacks_close(ord_type: Option<u8>, time: Option<u8>) -> bool
     }
 }
 
+/// The tag, where something cannot be said.
+fn lack_if(lacks: bool, tag: u32) -> Option<u32>
+    ensures { result ≡ lack_if lacks tag }
+{
+    if lacks { Some(tag) } else { None }
+}
+
+impl Lacking<Besides> for Own {
+    ghost lacks = { lacks };
+
+    #[inline(always)]
+    fn lack(&self, source: &Source<'_, '_>) -> Option<u32> {
+        let fields = source.fields;
+        match self {
+            Own::Original => match fields.value(41) {
+                None => Some(41),
+                Some(_) => None,
+            },
+            Own::Turned(tag, listed, turns) => {
+                lack_if(is_unlisted(listed, turned(source, *tag, *turns)), *tag)
+            }
+            Own::AtClose => {
+                let ord_type = code_of(fields.value(40));
+                lack_if(lacks_close(ord_type, code_of(fields.value(59))), 59)
+            }
+            _ => None,
+        }
+    }
+}
+
+/// Appends what a rule says that lacks nothing.
+fn say(source: &Source<'_, '_>, rule: &Own, out: &mut Vec<u8>) -> Appended
+    ensures done { OnOk result (out.new.items
+        ≡ out.old.items ++ body_of (writes source.now rule.now)) }
+    ensures kept { StartsWith out.new.items out.old.items }
+{
+    let fields = source.fields;
+    match rule {
+        Own::Month => put_month(out, fields),
+        Own::HandlInst => put_hand_inst(source, out),
+        Own::Original => put_text(out, 41, fields.value(41)),
+        Own::Turned(tag, _, turns) => put_code_if(out, *tag, turned(source, *tag, *turns)),
+        Own::AtClose => put_text(out, 59, fields.value(59)),
+        Own::Parties => {
+            let parties = &source.besides.parties;
+            put_parties(out, party(parties, 3), party(parties, 1), firm(source))
+        }
+        Own::PartyOf(_) => Ok(()),
+        Own::Within(tag, last, other) => {
+            put_within(out, *tag, *last, *other, number_of(fields.value(*tag)))
+        }
+        Own::Told(is_report) => put_told(out, fields, *is_report),
+    }
+}
+
 impl OwnRule<Besides> for Own {
     ghost writes = { writes };
 
     ghost lacks = { lacks };
 
     fn put(&self, source: &Source<'_, '_>, out: &mut Vec<u8>) -> Result<(), Lack> {
-        let fields = source.fields;
-        match self {
-            Own::Month => Ok(put_month(out, fields)?),
-            Own::HandlInst => Ok(put_hand_inst(source, out)?),
-            Own::Original => match fields.value(41) {
-                None => Err(Lack::Tag(41)),
-                Some(id) => Ok(put_field(out, 41, id)?),
-            },
-            Own::Turned(tag, listed, turns) => {
-                let code = turned(source, *tag, *turns);
-                if is_unlisted(listed, code) {
-                    Err(Lack::Tag(*tag))
-                } else {
-                    Ok(put_code_if(out, *tag, code)?)
-                }
-            }
-            Own::AtClose => {
-                let time = fields.value(59);
-                if lacks_close(code_of(fields.value(40)), code_of(time)) {
-                    Err(Lack::Tag(59))
-                } else {
-                    Ok(put_text(out, 59, time)?)
-                }
-            }
-            Own::Parties => {
-                let parties = &source.besides.parties;
-                Ok(put_parties(out, party(parties, 3), party(parties, 1), firm(source))?)
-            }
-            Own::PartyOf(_) => Ok(()),
-            Own::Within(tag, last, other) => {
-                let reason = number_of(fields.value(*tag));
-                Ok(put_within(out, *tag, *last, *other, reason)?)
-            }
-            Own::Told(is_report) => Ok(put_told(out, fields, *is_report)?),
+        match self.lack(source) {
+            Some(tag) => Err(Lack::Tag(tag)),
+            None => Ok(say(source, self, out)?),
         }
     }
 }

@@ -1,4 +1,4 @@
-use Rattle.std.proofs.Common.{◌++◌, ◌∙◌, ℕ, List, ap, subst, sym}
+use Rattle.std.proofs.Common.{◌++◌, ◌∙◌, ℕ, List, subst, sym}
 use Rattle.std.proofs.lemmas.Result.{err_from_is_err_and}
 use Rattle.frame_grammar.specs.declared.frame.Kind.{Kind}
 use Rattle.frame_grammar.specs.Frame.{IsFrame, IsWritable, frame_of}
@@ -9,22 +9,22 @@ use Rattle.translate_fix44.proofs.translate.Translator44.translate.Goals as goal
 
 pub write_frame-requires : goal.write_frame-requires
 write_frame-requires c =
-    let split = c.in_ok-split.split in
+    let split = c.split_into.new.split in
     let P : List ℕ → Type 0 = λ bytes. IsWritable bytes in
     subst P (sym c.deref.ensures.value) (can_be_written (direction c.args.way) split.fields
-    split.fault c.args.body.now c.in_ok-split.ensures (fair c.args.way) c.write.new.other.items
+    split.fault c.args.body.now c.in_ok-split_into.ensures (fair c.args.way) c.write.new.other.items
     c.in_ok-write.ensures.ok)
 
 pub returns-in-Ok-clause-ok : goal.returns-in-Ok-clause-ok
 returns-in-Ok-clause-ok c =
-    let split = c.in_ok-split.split in
+    let split = c.split_into.new.split in
     let d = direction c.args.way in
     let other = c.write.new.other.items in
     let P : Kind → Type 0 = λ k. IsFrame k c.deref.result.now (frame_of k c.deref.result.now) in
     let Q : List ℕ → Type 0 = λ b. IsFrame d.kind b (frame_of d.kind b) in
     let frame = subst Q c.deref.ensures.value (subst P c.kind.ensures c.in-Ok.ensures.frame) in (
       frame_of d.kind other,
-      translation d split.fields split.fault c.args.body.now c.in_ok-split.ensures
+      translation d split.fields split.fault c.args.body.now c.in_ok-split_into.ensures
           (fair c.args.way) other c.in_ok-write.ensures.ok frame,
       c.in-Ok.ensures.ok ∙ (λ i. c.args.out.now.items
           ++ frame_of (c.kind.ensures i) (c.deref.ensures.value i)),
@@ -32,9 +32,9 @@ returns-in-Ok-clause-ok c =
 
 pub returns-in_err-write-clause-refused : goal.returns-in_err-write-clause-refused
 returns-in_err-write-clause-refused c =
-    let split = c.in_ok-split.split in
+    let split = c.split_into.new.split in
     let p = err_from_is_err_and
     c.from_residual-in_err-write.result c.from_residual-in_err-write.ensures.1 in
     rw (p.1, p.2) (refused (direction c.args.way) split.fields split.fault c.args.body.now
-    c.in_ok-split.ensures (fair c.args.way) c.in_err-write.field-0.0
+    c.in_ok-split_into.ensures (fair c.args.way) c.in_err-write.field-0.0
     c.in_err-write.ensures.refused)
