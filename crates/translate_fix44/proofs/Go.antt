@@ -33,7 +33,6 @@ use Rattle.sound_laws.proofs.Each.{◌&◌, none_each}
 use Rattle.sound_laws.proofs.Stages.{item_tags}
 use Rattle.sound_laws.proofs.PlainFields.{clear_fields}
 use Rattle.sound_laws.proofs.RowsSaid.{is_code_of}
-use Rattle.sound_laws.proofs.TableFits as fits
 use Rattle.sound_laws.proofs.TableFits.{table_fits}
 use Rattle.rule_rows.specs.ByRules.{At, by_rules, content_by, has_place, lack_by, outline_of}
 use Rattle.rule_rows.proofs.Looked as looked

@@ -16,7 +16,7 @@ use Rattle.refusal_parts.specs.Once.{once, once_by}
 use Rattle.dict_fix44.specs.Message.{refusal44, refusal_table_of}
 use Rattle.translation.specs.Errors.{error_of_fault}
 use Rattle.translation.specs.Header.{type_of}
-use Rattle.translation.specs.Judged.{AreGood, AreGoodBy}
+use Rattle.translation.specs.Judged.{AreGoodBy}
 use Rattle.translation.proofs.Judged.{clean_is, fault_by}
 use Rattle.report_translate.specs.Refusals.{HasFault, IsFaultyRefusal, IsGoodRefusal}
 
