@@ -1,6 +1,6 @@
 //! The core: what the gateway knows between events, and what it decides at one.
 
-ghost use Rattle.std.specs.Prelude.{◌≡◌, ℕ, ◌≤◌, ◌<◌, ◌-◌, ◌++◌, List, [], length, take};
+ghost use Rattle.std.specs.Prelude.{◌≡◌, ◌↔◌, ℕ, ◌≤◌, ◌<◌, ◌-◌, ◌++◌, List, [], length, take};
 ghost use Rattle.std.specs.Prelude.{Some, None, Ok, IfOk, OnOk, OnErr, IfSome, unwrap_or, true};
 ghost use Rattle.std.specs.Option.{option_to_list};
 ghost use Rattle.message_tables.specs.Tables.{value_at};
@@ -159,9 +159,11 @@ impl Core {
     /// Whether a tick of a side at this moment does nothing: no message is said, nothing is hung
     /// up, and both sessions stay as they are. It takes no memory, and is a quick [`Core::plan`].
     pub fn rests(&self, side: Side, now: u64) -> bool
-        ensures { result ≡ true → (entries : List Entry) →
+        ensures rests { result ≡ true → (entries : List Entry) →
             Decides Answers self.now.config.names self.now.config.window entries
             (sessions_in self.now) (Tick side) now (Ok (no_change self.now)) }
+        ensures only { step (session_of side (sessions_in self.now)) table.Tick now
+            ≡ Ok (table.does [] (session_of side (sessions_in self.now))) → result ≡ true }
     {
         rests(self.session(side), now)
     }
@@ -216,7 +218,7 @@ fn is_calm(session: &Session, now: u64) -> bool
 
 // Whether a tick does nothing and changes nothing.
 fn rests(session: &Session, now: u64) -> bool
-    ensures { result ≡ true →
+    ensures { result ≡ true ↔
         step session.now table.Tick now ≡ Ok (table.does [] session.now) }
 {
     if is_calm(session, now) {

@@ -8,7 +8,7 @@ pub returns-then-stands : goal.returns-then-stands
 returns-then-stands c =
     elim c.if-rests.branch [
       | goal.then-rests w ↦ λ venue told. rested (seen c.args.self.now) c.args.side c.args.now told
-          (c.rests.ensures w.if-rests.true (last_day c.args.self.now.journal.entries))
+          (c.rests.ensures.rests w.if-rests.true (last_day c.args.self.now.journal.entries))
           (w.stands.ensures (sym w.value-is ∙ c.if-stands.true))
           (c.stands-then-stands.ensures venue)
       | goal.else-rests w ↦ absurd (cc (w.value-is, c.if-stands.true))
