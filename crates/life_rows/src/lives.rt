@@ -175,26 +175,7 @@ fn taps_words(alloc: Global, taps: &[Box<dyn Tap>]) -> Result<String, AllocError
     Ok(text)
 }
 
-// What taps counted, and those that are left once those that failed are cleared away.
-fn counts(alloc: Global, taps: &mut Vec<Box<dyn Tap>>) -> Result<String, AllocError> {
-    let words = taps_words(alloc, taps)?;
-    clear(taps);
-    let left = taps_words(alloc, taps)?;
-    format!(in alloc; "{words} left{left}")
-}
-
-// A life whose entries these taps see, and behind it the same.
-fn seen(
-    alloc: Global,
-    disk: &mut MemDisk,
-    asked: &Asked<'_>,
-    taps: &mut Vec<Box<dyn Tap>>,
-) -> Result<(Lived, String), AllocError> {
-    let lived = timed(alloc, disk, asked, taps)?;
-    Ok((lived, counts(alloc, taps)?))
-}
-
-/// The same of a life with three taps: one that keeps the entries, one of which this call fails,
+/// A life with three taps: one that keeps the entries, one of which this call fails,
 /// and one that counts totals. Behind it stands what they counted, and what those that are left
 /// once those that failed are cleared away.
 pub(crate) fn tapped(
@@ -207,5 +188,10 @@ pub(crate) fn tapped(
     taps.push(Box::new(alloc, KeepTap::new(alloc, Vec::new(alloc)))?)?;
     taps.push(Box::new(alloc, KeepTap::new(alloc, vec![in alloc; call]?))?)?;
     taps.push(Box::new(alloc, TotalsTap::new())?)?;
-    seen(alloc, disk, asked, &mut taps)
+    let lived = timed(alloc, disk, asked, &mut taps)?;
+    let mut words = taps_words(alloc, &taps)?;
+    clear(&mut taps);
+    words.push_str(" left")?;
+    words.push_str(&taps_words(alloc, &taps)?)?;
+    Ok((lived, words))
 }
