@@ -111,7 +111,7 @@ impl World {
     // A call on the core.
     fn planned(&mut self, alloc: Global, call: &str, given: &str) -> Result<String, AllocError> {
         match &mut self.loaded {
-            Some((journal, core)) => core_answer(alloc, core, journal, call, given),
+            Some(loaded) => core_answer(alloc, &mut loaded.1, &loaded.0, call, given),
             None => format!(in alloc; "no core"),
         }
     }
