@@ -10,7 +10,6 @@ enum Part {
     Dictionaries,
     Journals,
     Sessions,
-    Lives,
 }
 
 /// The part of a name.
@@ -20,7 +19,6 @@ fn part_of(name: &str) -> Option<Part> {
         "dictionaries" => Some(Part::Dictionaries),
         "journals" => Some(Part::Journals),
         "sessions" => Some(Part::Sessions),
-        "lives" => Some(Part::Lives),
         _ => None,
     }
 }
@@ -33,7 +31,6 @@ pub(crate) struct Calls {
     dictionaries: dictionary_rows::Calls,
     journals: journal_rows::World,
     sessions: session_rows::World,
-    lives: life_rows::Calls,
 }
 
 impl Calls {
@@ -45,7 +42,6 @@ impl Calls {
             dictionaries: dictionary_rows::Calls,
             journals: journal_rows::World::new(alloc),
             sessions: session_rows::World::new(alloc),
-            lives: life_rows::Calls::new(alloc),
         }
     }
 
@@ -72,7 +68,6 @@ impl Calls {
             Part::Dictionaries => self.dictionaries.answer(alloc, call, given),
             Part::Journals => self.journals.answer(alloc, call, given),
             Part::Sessions => self.sessions.answer(alloc, call, given),
-            Part::Lives => self.lives.answer(alloc, call, given),
         }
     }
 }
@@ -92,7 +87,6 @@ impl Answers for Calls {
             Part::Dictionaries => self.dictionaries.signs(),
             Part::Journals => self.journals.signs(),
             Part::Sessions => self.sessions.signs(),
-            Part::Lives => self.lives.signs(),
         }
     }
 }

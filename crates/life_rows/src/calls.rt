@@ -8,14 +8,14 @@ use std::alloc::{AllocError, Global};
 
 /// What the rows before have left: of the lives, and of the runs of the program.
 #[derive(Drop)]
-pub struct Calls {
+pub(crate) struct Calls {
     world: World,
     runs: Runs,
 }
 
 impl Calls {
     /// No life, and no run.
-    pub fn new(alloc: Global) -> Calls {
+    pub(crate) fn new(alloc: Global) -> Calls {
         Calls {
             world: World::new(alloc),
             runs: Runs::new(alloc),

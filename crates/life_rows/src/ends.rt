@@ -38,7 +38,7 @@ fn status_lines(alloc: Global, status: Status) -> Result<String, AllocError> {
 /// # Errors
 ///
 /// `AllocError` for want of memory.
-pub fn all_statuses(alloc: Global) -> Result<String, AllocError> {
+pub(crate) fn all_statuses(alloc: Global) -> Result<String, AllocError> {
     let mut text = String::new(alloc);
     for status in &STATUSES {
         let lines = status_lines(alloc, *status)?;

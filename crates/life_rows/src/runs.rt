@@ -237,7 +237,7 @@ impl Runs {
 }
 
 /// What `--help` puts.
-pub fn help(alloc: Global) -> Result<String, AllocError> {
+pub(crate) fn help(alloc: Global) -> Result<String, AllocError> {
     let words = words_of(alloc, "fixgate --help")?;
     let mut sink = MemSink::new(alloc, Vec::new(alloc));
     let mut disk = MemDisk::new(alloc, Vec::new(alloc), Vec::new(alloc));
