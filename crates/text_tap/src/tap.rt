@@ -4,6 +4,7 @@ ghost use Rattle.std.specs.Prelude.{◌≡◌, [], None, false, is_err, Err};
 ghost use Rattle.outside.specs.Bytes.{PutAppends};
 ghost use Rattle.pair_entries.specs.Payload.{IsEntry};
 ghost use Rattle.drop_taps.specs.Tap.{tally_after, entries_alone, HasTapCause};
+ghost use Rattle.drop_taps.specs.declared.tap.TapFailed.TheVariants as failures;
 ghost use Rattle.text_tap.specs.TextLines.{text_lines};
 
 use crate::text::put_text_lines;
@@ -16,7 +17,7 @@ use std::alloc::Global;
 /// with its kind, its ClOrdID(11) and its ExecID(17), and for each Reject(3), Logout(5) and
 /// BusinessMessageReject(j), with all of its fields. Nothing is put for an entry without one.
 ///
-/// It fails only where the sink fails, or for want of memory.
+/// It fails only where the sink fails, or for want of memory. In the second case nothing is put.
 #[derive(Debug, Drop)]
 pub struct TextTap<O> {
     sink: O,
@@ -52,6 +53,7 @@ impl<O: Sink> TextTap<O> {
     pub(crate) fn put(&mut self, entry: &Entry) -> Result<(), TapFailed>
         ensures lines { PutAppends (O.bytes self.old.sink) (O.bytes self.new.sink) result
             (text_lines entry.now) }
+        ensures memory { result ≡ Err failures.NoMemory → self.new.sink ≡ self.old.sink }
         ensures entries { self.new.entries ≡ self.old.entries }
         ensures cause { HasTapCause (O.faults self.old.sink) (O.faults self.new.sink) result }
     {
@@ -84,6 +86,7 @@ impl<O: Sink + Drop> Tap for TextTap<O> {
         requires entry { IsEntry entry.now }
         ensures lines { PutAppends (O.bytes self.old.sink) (O.bytes self.new.sink) result
             (text_lines entry.now) }
+        ensures memory { result ≡ Err failures.NoMemory → self.new.sink ≡ self.old.sink }
         ensures tally { entries_alone self.new.entries
             ≡ tally_after false result entry.now (entries_alone self.old.entries) }
         ensures failed { self.new.failed ≡ is_err result }
