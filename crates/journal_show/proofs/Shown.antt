@@ -4,6 +4,7 @@ use Rattle.std.proofs.Common.{Some, None, IfSome, Result, Ok, Err}
 use Rattle.std.specs.declared.option.Option.{Option}
 use Rattle.std.specs.Option.{ForSome}
 use Rattle.outside.specs.Bytes.{PutAppends}
+use Rattle.pair_entries.specs.declared.entry.Entry.{Entry}
 use Rattle.pair_journal.specs.State.{JournalState}
 use Rattle.pair_journal.specs.Calls.{Looks}
 use Rattle.pair_journal.specs.Journal.{JournalOf, Born}
@@ -28,12 +29,14 @@ born_shows bytes old new journal (Err errors.NoMemory) born put reads =
     inr (Born journal.names journal.entries, born, tt, put)
 
 pub shown_born : {T : Type 0} (told old new : Option (List ℕ)) (found : Option JournalState)
-    (journal : JournalState) (result : Result T ShowError)
+    (journal : JournalState) (result : Result T ShowError) (read : List Entry)
     → found ≡ Some journal → IfSome told (λ b. Looks b (Ok found))
-    → ForSome told (λ b. PutAppends old new result (lines_from 1 journal.entries))
+    → PutAppends old new result (lines_from 1 read) → ForSome told (λ b. read ≡ journal.entries)
     → ForSome told (λ b. (at : ℕ) → result ≢ Err (errors.JournalRefused at))
     → IfSome told (λ b. Shows b result old new)
-shown_born None old new found journal result is looks put reads = tt
-shown_born (Some b) old new found journal result is looks put reads =
+shown_born None old new found journal result read is looks put same reads = tt
+shown_born (Some b) old new found journal result read is looks put same reads =
     born_shows b old new journal result
-    (subst (λ (f : Option JournalState). Looks b (Ok f)) is looks) (put b refl) (reads b refl)
+    (subst (λ (f : Option JournalState). Looks b (Ok f)) is looks)
+    (subst (λ (es : List Entry). PutAppends old new result (lines_from 1 es)) (same b refl) put)
+    (reads b refl)

@@ -3,7 +3,7 @@ use Rattle.std.specs.Prelude.{◌≡◌, ◌≢◌, ◌⊎◌, ℕ, ◌+◌, ◌
 use Rattle.std.specs.Prelude.{Result, Ok, Err}
 use Rattle.std.specs.declared.option.Option.{Option}
 use Rattle.std.specs.Io.KnownBytes.{Appends}
-use Rattle.outside.specs.Bytes.{AppendsFront}
+use Rattle.outside.specs.Bytes.{AppendsFront, PutAppends}
 use Rattle.outside.specs.Causes.{Rose}
 use Rattle.pair_entries.specs.declared.entry.Entry.{Entry}
 use Rattle.pair_journal.specs.declared.error.JournalError.{JournalError}
@@ -51,6 +51,12 @@ Shows bytes (Err errors.OutputFault) old new = PutsFront bytes old new
 Shows bytes (Err (errors.JournalRefused at)) old new =
     JournalOf bytes (Refused at) × Appends old new []
 Shows bytes (Err other) old new = Appends old new [] ⊎ PutsFront bytes old new
+
+-- WHATEVER THE DISK TELLS, what was put is what is printed of some journal, or of none yet: all of
+-- it at `Ok`, and a front of it at an error.
+abbrev pub PutsLines : {T : Type 0} → Result T ShowError → Option (List ℕ) → Option (List ℕ)
+    → Type 0
+PutsLines result old new = (reading : Reading) × PutAppends old new result (shown reading)
 
 -- The count of faults of what fails by this error. It never falls: it has risen where that is the
 -- answer, and else it stands still.

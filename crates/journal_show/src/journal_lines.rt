@@ -1,7 +1,7 @@
 //! The lines of a journal: its entries are read one by one, and the line of each is put.
 
-ghost use Rattle.std.specs.Prelude.{◌≡◌, ◌≢◌, ◌+◌, ◌<◌, ◌^◌, ℕ, length, Some, Err, IfSome, OnOk};
-ghost use Rattle.std.specs.Prelude.{OnErr};
+ghost use Rattle.std.specs.Prelude.{◌≡◌, ◌≢◌, ◌+◌, ◌<◌, ◌^◌, ℕ, List, length, Some, Err, IfSome};
+ghost use Rattle.std.specs.Prelude.{OnOk, OnErr};
 ghost use Rattle.std.specs.List.{slice_get};
 ghost use Rattle.std.specs.Option.{ForSome};
 ghost use Rattle.outside.specs.Bytes.{PutAppends};
@@ -12,7 +12,7 @@ ghost use Rattle.pair_journal.specs.Journal.{JournalOf, Born};
 ghost use Rattle.pair_journal.specs.Walks.{IsUpTo};
 ghost use Rattle.entry_lines.specs.EntryLine.{entry_line};
 ghost use Rattle.journal_show.specs.declared.journal_lines.ShowError.TheVariants as errors;
-ghost use Rattle.journal_show.specs.JournalLines.{lines_from, Shows, FailsBy, show_error};
+ghost use Rattle.journal_show.specs.JournalLines.{lines_from, Shows, PutsLines, FailsBy, show_error};
 
 use entry_lines::EntryLine;
 use outside::{Disk, Sink};
@@ -81,9 +81,9 @@ fn put_entry<D: Disk, O: Sink>(
     requires stands { ForSome (D.bytes disk.old) (λ b.
         JournalOf b (Born journal.now.names journal.now.entries)) }
     requires walk { IsUpTo (D.bytes disk.old) journal.now.entries index walk.old }
-    ensures line { ForSome (D.bytes disk.old) (λ b. (entry : Entry) →
-        slice_get journal.now.entries index ≡ Some entry →
-        PutAppends (O.bytes out.old) (O.bytes out.new) result (entry_line (1 + index) entry)) }
+    ensures line { (entry : Entry)
+        × PutAppends (O.bytes out.old) (O.bytes out.new) result (entry_line (1 + index) entry)
+        × ForSome (D.bytes disk.old) (λ b. slice_get journal.now.entries index ≡ Some entry) }
     ensures walk { OnOk result
         (IsUpTo (D.bytes disk.new) journal.now.entries (index + 1) walk.new) }
     ensures reads { ForSome (D.bytes disk.old) (λ b. (at : ℕ) →
@@ -101,8 +101,9 @@ fn put_entry<D: Disk, O: Sink>(
 fn put_entries<D: Disk, O: Sink>(journal: &Look, disk: &mut D, out: &mut O) -> Result<(), ShowError>
     requires stands { ForSome (D.bytes disk.old) (λ b.
         JournalOf b (Born journal.now.names journal.now.entries)) }
-    ensures lines { ForSome (D.bytes disk.old) (λ b. PutAppends (O.bytes out.old) (O.bytes out.new)
-        result (lines_from 1 journal.now.entries)) }
+    ensures lines { (read : List Entry)
+        × PutAppends (O.bytes out.old) (O.bytes out.new) result (lines_from 1 read)
+        × ForSome (D.bytes disk.old) (λ b. read ≡ journal.now.entries) }
     ensures reads { ForSome (D.bytes disk.old) (λ b. (at : ℕ) →
         result ≢ Err (errors.JournalRefused at)) }
     ensures only_read { OnlyReads D.bytes D.image disk.old disk.new }
@@ -124,10 +125,11 @@ fn put_entries<D: Disk, O: Sink>(journal: &Look, disk: &mut D, out: &mut O) -> R
 /// `JournalRefused` exactly where the bytes are refused at that place, where the disk tells them,
 /// and then nothing was put; `DiskFault` and `OutputFault` only where the count of faults of the
 /// disk or of the sink rose in this call; `NoMemory`. What was put is then nothing or a front of
-/// the lines.
+/// the lines. Of a disk that tells nothing, as a file, they are those of the entries that were read.
 pub fn show<D: Disk, O: Sink>(alloc: Global, disk: &mut D, out: &mut O) -> Result<(), ShowError>
     ensures shows { IfSome (D.bytes disk.old) (λ b.
         Shows b result (O.bytes out.old) (O.bytes out.new)) }
+    ensures puts { PutsLines result (O.bytes out.old) (O.bytes out.new) }
     ensures refused_puts_nothing { ForSome (D.bytes disk.old) (λ b. (at : ℕ) →
         result ≡ Err (errors.JournalRefused at) → out.new ≡ out.old) }
     ensures only_read { OnlyReads D.bytes D.image disk.old disk.new }
